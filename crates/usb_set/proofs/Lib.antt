@@ -1,0 +1,13 @@
+pub mod Bytes
+pub mod Tests
+pub mod Last
+pub mod ByteByByte
+pub mod Stands
+pub mod Growth
+pub mod Sound
+pub mod Complete
+pub mod Items
+pub mod Layouts
+pub mod Exact
+pub mod Feeds
+pub mod Sets

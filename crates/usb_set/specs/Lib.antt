@@ -1,0 +1,10 @@
+pub mod Lending
+pub mod Layout
+pub mod Encoding
+pub mod Numbers
+pub mod Faults
+pub mod Reading
+pub mod Scanning
+pub mod Decoding
+pub mod Feeding
+pub mod Verdict

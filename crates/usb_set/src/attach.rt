@@ -1,0 +1,124 @@
+//! The tree with one more descriptor.
+ghost use Rattle.std.specs.Prelude.{◌≡◌, ◌≤◌, ◌<◌, length, OnOk, IfOk};
+ghost use Rattle.usb_set.specs.Reading.{configuration_of, setting_of, endpoint_of, endpoint_with_raw, setting_with_raw, setting_with_endpoint, set_with_raw, attach, with_last};
+
+use crate::sequence::Sequence;
+use crate::tree::{Configuration, Endpoint, Raw, SetKind, Setting};
+use std::alloc::{AllocError, Global};
+
+pub(crate) fn read_configuration(alloc: Global, bytes: &[u8]) -> Result<Configuration, AllocError>
+    requires { 9 ≤ length bytes.now }
+    ensures { IfOk result (λ c. c ≡ configuration_of bytes.now) }
+{
+    let kind = if bytes[1] == 2 { SetKind::Configuration } else { SetKind::OtherSpeed };
+    Ok(Configuration {
+        kind,
+        declared_interfaces: bytes[4],
+        value: bytes[5],
+        text: bytes[6],
+        attributes: bytes[7],
+        power: bytes[8],
+        tail: Sequence::from_vec(Vec::from_slice(alloc, &bytes[9..])?),
+        extras: Sequence::new(alloc),
+        settings: Sequence::new(alloc),
+    })
+}
+
+fn read_setting(alloc: Global, body: &[u8]) -> Result<Setting, AllocError>
+    requires { 7 ≤ length body.now }
+    ensures { IfOk result (λ s. s ≡ setting_of body.now) }
+{
+    Ok(Setting {
+        number: body[0],
+        alternate: body[1],
+        declared_endpoints: body[2],
+        class: body[3],
+        subclass: body[4],
+        protocol: body[5],
+        text: body[6],
+        tail: Sequence::from_vec(Vec::from_slice(alloc, &body[7..])?),
+        extras: Sequence::new(alloc),
+        endpoints: Sequence::new(alloc),
+    })
+}
+
+fn read_endpoint(alloc: Global, body: &[u8]) -> Result<Endpoint, AllocError>
+    requires { 5 ≤ length body.now }
+    ensures { IfOk result (λ e. e ≡ endpoint_of body.now) }
+{
+    Ok(Endpoint {
+        address: body[0],
+        attributes: body[1],
+        max_packet: u16::from(body[2]) + 256 * u16::from(body[3]),
+        interval: body[4],
+        tail: Sequence::from_vec(Vec::from_slice(alloc, &body[5..])?),
+        extras: Sequence::new(alloc),
+    })
+}
+
+#[tactic(auto, unfolding(crate::specs::Reading::endpoint_with_raw))]
+fn add_to_endpoint(e: &mut Endpoint, raw: Raw) -> Result<(), AllocError>
+    ensures { OnOk result (e.new ≡ endpoint_with_raw raw e.old) }
+{
+    e.extras.push(raw)?;
+    Ok(())
+}
+
+#[tactic(auto, unfolding(crate::specs::Reading::setting_with_endpoint))]
+fn add_endpoint(s: &mut Setting, endpoint: Endpoint) -> Result<(), AllocError>
+    ensures { OnOk result (s.new ≡ setting_with_endpoint endpoint s.old) }
+{
+    s.endpoints.push(endpoint)?;
+    Ok(())
+}
+
+#[tactic(auto, using(crate::proofs::Last::with_last_is), unfolding(crate::specs::Reading::setting_with_raw))]
+fn add_to_setting(s: &mut Setting, raw: Raw) -> Result<(), AllocError>
+    ensures { OnOk result (s.new ≡ setting_with_raw raw s.old) }
+{
+    let count = s.endpoints.len();
+    if count == 0 {
+        s.extras.push(raw)?;
+    } else {
+        add_to_endpoint(s.endpoints.at_mut(count - 1), raw)?;
+    }
+    Ok(())
+}
+
+#[tactic(auto, using(crate::proofs::Last::with_last_is), unfolding(crate::specs::Reading::set_with_raw))]
+fn add_to_set(c: &mut Configuration, raw: Raw) -> Result<(), AllocError>
+    ensures { OnOk result (c.new ≡ set_with_raw raw c.old) }
+{
+    let count = c.settings.len();
+    if count == 0 {
+        c.extras.push(raw)?;
+    } else {
+        add_to_setting(c.settings.at_mut(count - 1), raw)?;
+    }
+    Ok(())
+}
+
+#[tactic(auto, using(crate::proofs::Last::with_last_is), unfolding(crate::specs::Reading::attach))]
+pub(crate) fn add(alloc: Global, c: &mut Configuration, kind: u8, body: &[u8]) -> Result<(), AllocError>
+    requires interface { kind ≡ 4 → 7 ≤ length body.now }
+    requires endpoint { kind ≡ 5 → 5 ≤ length body.now }
+    requires belongs { kind ≡ 5 → 0 < length c.old.settings }
+    ensures { OnOk result (c.new ≡ attach c.old (record { kind = kind; body = body.now })) }
+{
+    match kind {
+        4 => {
+            let setting = read_setting(alloc, body)?;
+            c.settings.push(setting)?;
+        }
+        5 => {
+            let endpoint = read_endpoint(alloc, body)?;
+            let count = c.settings.len();
+            add_endpoint(c.settings.at_mut(count - 1), endpoint)?;
+        }
+        _ => {
+            let body = Sequence::from_vec(Vec::from_slice(alloc, body)?);
+            add_to_set(c, Raw { kind, body })?;
+        }
+    }
+    Ok(())
+}

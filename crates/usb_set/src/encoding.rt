@@ -1,0 +1,57 @@
+//! A set as its bytes.
+ghost use Rattle.std.specs.Prelude.{◌≡◌, ℕ, List, IfErr, IfOk, None, Some};
+ghost use Rattle.usb_set.specs.Encoding.{HasLength, Refuses, refusal_of};
+ghost use Rattle.usb_set.specs.Layout.{Layout};
+
+use crate::fault::EncodeFault;
+use crate::known::known_bytes;
+use crate::lengths::{TOO_LONG, set_len};
+use crate::limits::{is_long_set, is_typed_set};
+use crate::tree::Configuration;
+use crate::writing::put_set;
+use std::alloc::Global;
+
+/// The bytes of a set, with their count as wTotalLength (USB 2.0, 9.6.3). Its count of interfaces
+/// and those of endpoints are written as declared.
+///
+/// # Errors
+///
+/// `Tail`, `RawKind` or `TooLong`, the first that holds, exactly where the set has no bytes;
+/// `Memory` where it has bytes and a growth was refused.
+pub fn encode(alloc: Global, c: &Configuration) -> Result<Vec<u8>, EncodeFault>
+    ensures ok { IfOk result (λ b. Layout c.now b.items) }
+    ensures refused { IfErr result (λ fault. Refuses c.now fault) }
+    // A set with a reason has no layout.
+    ensures only { (b : List ℕ) → Layout c.now b → refusal_of c.now ≡ None }
+{
+    let total = total_length(c)?;
+    let mut out = Vec::with_capacity(alloc, usize::from(total))?;
+    put_set(&mut out, c, total)?;
+    known_bytes(out.as_slice());
+    Ok(out)
+}
+
+/// Why [`encode`] refuses the set for another cause than memory, if it does. Takes no memory.
+pub fn refusal(c: &Configuration) -> Option<EncodeFault>
+    ensures { result ≡ refusal_of c.now }
+{
+    total_length(c).err()
+}
+
+/// wTotalLength of the set, or why it has no bytes.
+fn total_length(c: &Configuration) -> Result<u16, EncodeFault>
+    ensures ok { IfOk result (HasLength c.now) }
+    ensures refused { IfErr result (λ fault. refusal_of c.now ≡ Some fault) }
+{
+    if is_long_set(c) {
+        return Err(EncodeFault::Tail);
+    }
+    if is_typed_set(c) {
+        return Err(EncodeFault::RawKind);
+    }
+    let total = set_len(c);
+    if total >= TOO_LONG {
+        return Err(EncodeFault::TooLong);
+    }
+    Ok(total as u16)
+}

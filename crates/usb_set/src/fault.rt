@@ -1,0 +1,149 @@
+//! Why a set could not be read, or written.
+ghost use Rattle.std.specs.Prelude.{◌≡◌, Some};
+ghost use Rattle.usb_set.specs.Numbers.{encode_number_of, encode_text, fault_text, number_of, why_text};
+ghost use Rattle.usb_set.specs.declared.fault.EncodeFault.TheVariants.{Memory};
+
+use std::alloc::AllocError;
+use std::error::Error;
+use std::fmt;
+
+/// What is wrong with the bytes of a set. Of several cases that hold the first is told.
+#[derive(Clone, Copy, Debug, PartialEq, Eq, Hash)]
+pub enum SetWhy {
+    /// The first bLength is below 9.
+    HeaderLength,
+    /// The first bDescriptorType is neither 2 nor 7.
+    HeaderKind,
+    /// wTotalLength is below the first bLength.
+    Total,
+    /// A later bLength is below 2.
+    ItemLength,
+    /// A later descriptor would end past wTotalLength.
+    Over,
+    /// A later descriptor has type 2 or 7.
+    Nested,
+    /// An interface descriptor with a bLength below 9, or an endpoint descriptor below 7.
+    ItemShort,
+    /// An endpoint descriptor before any interface descriptor.
+    Stray,
+    /// The bytes ended before the set was whole.
+    Truncated,
+    /// A growth was refused.
+    Memory,
+}
+
+impl SetWhy {
+    /// The fault's number, from 1 to 10, in the order in which the cases are taken.
+    pub fn number(self) -> u8
+        ensures { result ≡ number_of self }
+    {
+        match self {
+            SetWhy::HeaderLength => 1,
+            SetWhy::HeaderKind => 2,
+            SetWhy::Total => 3,
+            SetWhy::ItemLength => 4,
+            SetWhy::Over => 5,
+            SetWhy::Nested => 6,
+            SetWhy::ItemShort => 7,
+            SetWhy::Stray => 8,
+            SetWhy::Truncated => 9,
+            SetWhy::Memory => 10,
+        }
+    }
+}
+
+impl fmt::Display for SetWhy {
+    ghost output = { λ why. Some (why_text why) };
+
+    fn fmt<W: fmt::Write>(&self, f: &mut fmt::Formatter<W>) -> fmt::Result {
+        match self {
+            SetWhy::HeaderLength => write!(f, "the first bLength is below 9"),
+            SetWhy::HeaderKind => write!(f, "the first descriptor is no configuration"),
+            SetWhy::Total => write!(f, "wTotalLength is below the first bLength"),
+            SetWhy::ItemLength => write!(f, "a bLength is below 2"),
+            SetWhy::Over => write!(f, "a descriptor ends past wTotalLength"),
+            SetWhy::Nested => write!(f, "a configuration inside a set"),
+            SetWhy::ItemShort => write!(f, "an interface or endpoint descriptor is too short"),
+            SetWhy::Stray => write!(f, "an endpoint before any interface"),
+            SetWhy::Truncated => write!(f, "the bytes end before the set does"),
+            SetWhy::Memory => write!(f, "out of memory"),
+        }
+    }
+}
+
+impl Error for SetWhy {}
+
+/// A fault, and the place where it is.
+#[derive(Clone, Copy, Debug, PartialEq, Eq, Hash)]
+pub struct SetFault {
+    /// The place, in bytes from the first byte of the set: that of bLength, bDescriptorType or
+    /// wTotalLength in the first descriptor, else that of the descriptor at fault; of `Truncated` the
+    /// count of bytes taken.
+    pub at: u32,
+    /// What is wrong there.
+    pub why: SetWhy,
+}
+
+impl fmt::Display for SetFault {
+    ghost output = { λ fault. Some (fault_text fault) };
+
+    fn fmt<W: fmt::Write>(&self, f: &mut fmt::Formatter<W>) -> fmt::Result {
+        let why = self.why;
+        let at = self.at;
+        write!(f, "{why} at {at}")
+    }
+}
+
+impl Error for SetFault {}
+
+/// Why a set has no bytes. Of several that hold the first is told, and `Memory` only where none of
+/// the others holds.
+#[derive(Clone, Copy, Debug, PartialEq, Eq, Hash)]
+pub enum EncodeFault {
+    /// A descriptor would be over 255 bytes: the tail of a configuration or an interface is over 246
+    /// bytes, that of an endpoint over 248, or the body of a raw descriptor over 253.
+    Tail,
+    /// A raw descriptor has type 2, 4, 5 or 7.
+    RawKind,
+    /// The set would be over 65,535 bytes.
+    TooLong,
+    /// A growth was refused.
+    Memory,
+}
+
+impl EncodeFault {
+    /// The fault's number, from 1 to 4, in the order in which the cases are taken.
+    pub fn number(self) -> u8
+        ensures { result ≡ encode_number_of self }
+    {
+        match self {
+            EncodeFault::Tail => 1,
+            EncodeFault::RawKind => 2,
+            EncodeFault::TooLong => 3,
+            EncodeFault::Memory => 4,
+        }
+    }
+}
+
+impl fmt::Display for EncodeFault {
+    ghost output = { λ fault. Some (encode_text fault) };
+
+    fn fmt<W: fmt::Write>(&self, f: &mut fmt::Formatter<W>) -> fmt::Result {
+        match self {
+            EncodeFault::Tail => write!(f, "a descriptor would be over 255 bytes"),
+            EncodeFault::RawKind => write!(f, "a raw descriptor of a type that a set reads"),
+            EncodeFault::TooLong => write!(f, "the set would be over 65535 bytes"),
+            EncodeFault::Memory => write!(f, "out of memory"),
+        }
+    }
+}
+
+impl Error for EncodeFault {}
+
+impl From<AllocError> for EncodeFault {
+    ghost from_gives = { λ _ fault. fault ≡ Memory };
+
+    fn from(_e: AllocError) -> EncodeFault {
+        EncodeFault::Memory
+    }
+}

@@ -1,0 +1,73 @@
+//! How many bytes a set takes, counted up to one past what wTotalLength can say.
+ghost use Rattle.std.specs.Prelude.{◌≡◌, ◌+◌, ◌≤◌, length, min, false};
+ghost use Rattle.std.specs.List.{flat_map, list_any};
+ghost use Rattle.usb_set.specs.Layout.{endpoint_bytes, has_long_descriptor, is_endpoint_long, is_raw_long, is_setting_long, raw_descriptor, set_bytes, setting_bytes};
+
+use crate::tree::{Configuration, Endpoint, Raw, Setting};
+
+/// One more than wTotalLength can say. Sums stop there, so that none overflows.
+pub(crate) const TOO_LONG: usize = 65536;
+
+#[tactic(auto, using(crate::proofs::Tests::none_at))]
+fn raws_len(start: usize, raws: &[Raw]) -> usize
+    requires start { start ≤ 65536 }
+    requires short { list_any is_raw_long raws.now ≡ false }
+    ensures { result ≡ min (start + length (flat_map raw_descriptor raws.now)) 65536 }
+{
+    let mut total = start;
+    for raw in raws {
+        total = (total + 2 + raw.body.len()).min(TOO_LONG);
+    }
+    total
+}
+
+fn endpoint_len(start: usize, e: &Endpoint) -> usize
+    requires start { start ≤ 65536 }
+    requires short { is_endpoint_long e.now ≡ false }
+    ensures { result ≡ min (start + length (endpoint_bytes e.now)) 65536 }
+{
+    raws_len((start + 7 + e.tail.len()).min(TOO_LONG), e.extras.as_slice())
+}
+
+#[tactic(auto, using(crate::proofs::Tests::none_at))]
+fn endpoints_len(start: usize, endpoints: &[Endpoint]) -> usize
+    requires start { start ≤ 65536 }
+    requires short { list_any is_endpoint_long endpoints.now ≡ false }
+    ensures { result ≡ min (start + length (flat_map endpoint_bytes endpoints.now)) 65536 }
+{
+    let mut total = start;
+    for endpoint in endpoints {
+        total = endpoint_len(total, endpoint);
+    }
+    total
+}
+
+fn setting_len(start: usize, s: &Setting) -> usize
+    requires start { start ≤ 65536 }
+    requires short { is_setting_long s.now ≡ false }
+    ensures { result ≡ min (start + length (setting_bytes s.now)) 65536 }
+{
+    let head = (start + 9 + s.tail.len()).min(TOO_LONG);
+    endpoints_len(raws_len(head, s.extras.as_slice()), s.endpoints.as_slice())
+}
+
+#[tactic(auto, using(crate::proofs::Tests::none_at))]
+fn settings_len(start: usize, settings: &[Setting]) -> usize
+    requires start { start ≤ 65536 }
+    requires short { list_any is_setting_long settings.now ≡ false }
+    ensures { result ≡ min (start + length (flat_map setting_bytes settings.now)) 65536 }
+{
+    let mut total = start;
+    for setting in settings {
+        total = setting_len(total, setting);
+    }
+    total
+}
+
+pub(crate) fn set_len(c: &Configuration) -> usize
+    requires { has_long_descriptor c.now ≡ false }
+    ensures { result ≡ min (length (set_bytes c.now 0)) 65536 }
+{
+    let head = 9 + c.tail.len();
+    settings_len(raws_len(head, c.extras.as_slice()), c.settings.as_slice())
+}

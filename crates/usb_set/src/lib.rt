@@ -1,0 +1,30 @@
+//! Configuration sets of USB 2.0: a configuration descriptor and all that follows it, as a tree.
+//!
+//! A device hands out each of its configurations as one run of bytes, the configuration descriptor
+//! first, then interface, endpoint, class and vendor descriptors (USB 2.0, 9.4.3 and 9.6.3 to 9.6.6).
+//! This crate reads such a set in pieces of any length ([`Decoder`]), keeps each of its bytes in
+//! plain data ([`Configuration`]), and writes it again ([`encode`]).
+//!
+//! - What the bytes of a set are is `specs/Layout.antt`; what is wrong with bytes, and where, is
+//!   `specs/Faults.antt`. The decoder's answers are those of these two, whatever the pieces.
+//! - The module [`laws`] states what holds of layouts and faults, whoever reads them.
+#![tactic(auto)]
+
+mod attach;
+mod decoder;
+mod encoding;
+mod fault;
+mod known;
+pub mod laws;
+mod lengths;
+mod limits;
+mod scan;
+mod sequence;
+mod tree;
+mod writing;
+
+pub use decoder::{Decoder, Progress};
+pub use encoding::{encode, refusal};
+pub use fault::{EncodeFault, SetFault, SetWhy};
+pub use sequence::Sequence;
+pub use tree::{Configuration, Endpoint, Raw, SetKind, Setting};

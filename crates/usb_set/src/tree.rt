@@ -1,0 +1,88 @@
+//! What a configuration set says, as a tree of plain data.
+use crate::sequence::Sequence;
+
+/// Which descriptor a set begins with.
+#[derive(Clone, Copy, Debug, PartialEq, Eq)]
+pub enum SetKind {
+    /// A configuration descriptor, type 2 (USB 2.0, 9.6.3).
+    Configuration,
+    /// An other-speed configuration descriptor, type 7 (USB 2.0, 9.6.4).
+    OtherSpeed,
+}
+
+/// A descriptor that is kept as it stands: a class or vendor descriptor, or one of a type that this
+/// crate gives no meaning. In a set its type is none of 2, 4, 5 and 7.
+#[derive(Clone, Debug, Drop, PartialEq, Eq)]
+pub struct Raw {
+    /// bDescriptorType.
+    pub kind: u8,
+    /// The bytes after bLength and bDescriptorType, at most 253.
+    pub body: Sequence<u8>,
+}
+
+/// An endpoint descriptor, and the raw descriptors that follow it (USB 2.0, 9.6.6).
+#[derive(Clone, Debug, Drop, PartialEq, Eq)]
+pub struct Endpoint {
+    /// bEndpointAddress: bits 3..0 the number, bit 7 one for IN.
+    pub address: u8,
+    /// bmAttributes: bits 1..0 the transfer type.
+    pub attributes: u8,
+    /// wMaxPacketSize, in bytes in bits 10..0.
+    pub max_packet: u16,
+    /// bInterval, in frames or microframes.
+    pub interval: u8,
+    /// The bytes after the seven that the standard defines, at most 248.
+    pub tail: Sequence<u8>,
+    /// The raw descriptors between this one and the next endpoint or interface, in order.
+    pub extras: Sequence<Raw>,
+}
+
+/// An interface at one of its alternate settings: its descriptor, the raw descriptors that follow
+/// it, and its endpoints (USB 2.0, 9.6.5).
+#[derive(Clone, Debug, Drop, PartialEq, Eq)]
+pub struct Setting {
+    /// bInterfaceNumber.
+    pub number: u8,
+    /// bAlternateSetting.
+    pub alternate: u8,
+    /// bNumEndpoints, as declared: it may differ from the count of `endpoints`.
+    pub declared_endpoints: u8,
+    /// bInterfaceClass.
+    pub class: u8,
+    /// bInterfaceSubClass.
+    pub subclass: u8,
+    /// bInterfaceProtocol.
+    pub protocol: u8,
+    /// iInterface, the index of a string descriptor, or 0.
+    pub text: u8,
+    /// The bytes after the nine that the standard defines, at most 246.
+    pub tail: Sequence<u8>,
+    /// The raw descriptors between this one and its first endpoint, in order.
+    pub extras: Sequence<Raw>,
+    /// The endpoints, in order.
+    pub endpoints: Sequence<Endpoint>,
+}
+
+/// A whole set: its first descriptor, the raw descriptors that follow it, and its settings (USB 2.0,
+/// 9.6.3 and 9.6.4). wTotalLength is not kept, since it is the count of the set's bytes.
+#[derive(Clone, Debug, Drop, PartialEq, Eq)]
+pub struct Configuration {
+    /// Which descriptor the set begins with.
+    pub kind: SetKind,
+    /// bNumInterfaces, as declared: it may differ from the count of distinct interface numbers.
+    pub declared_interfaces: u8,
+    /// bConfigurationValue, the argument of SET_CONFIGURATION.
+    pub value: u8,
+    /// iConfiguration, the index of a string descriptor, or 0.
+    pub text: u8,
+    /// bmAttributes: bit 7 one, bit 6 self-powered, bit 5 remote wakeup.
+    pub attributes: u8,
+    /// bMaxPower, in units of 2 mA.
+    pub power: u8,
+    /// The bytes after the nine that the standard defines, at most 246.
+    pub tail: Sequence<u8>,
+    /// The raw descriptors between this one and the first interface, in order.
+    pub extras: Sequence<Raw>,
+    /// The interfaces at their alternate settings, in order.
+    pub settings: Sequence<Setting>,
+}
