@@ -11,3 +11,4 @@ pub mod Layouts
 pub mod Exact
 pub mod Feeds
 pub mod Sets
+pub mod ReadBack

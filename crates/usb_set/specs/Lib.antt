@@ -8,3 +8,4 @@ pub mod Scanning
 pub mod Decoding
 pub mod Feeding
 pub mod Verdict
+pub mod ReadingBack

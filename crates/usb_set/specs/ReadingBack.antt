@@ -1,0 +1,13 @@
+-- What a decoder does at the end of a layout.
+use Rattle.std.specs.Prelude.{◌≡◌, ℕ, List, length, Result, Ok, Err, ◌⊎◌}
+use Rattle.usb_set.specs.declared.tree.Configuration.{Configuration}
+use Rattle.usb_set.specs.declared.fault.SetFault.{SetFault}
+use Rattle.usb_set.specs.declared.decoder.Progress.{Progress}
+use Rattle.usb_set.specs.declared.decoder.Progress.TheVariants.{Done}
+use Rattle.usb_set.specs.Decoding.{Decoding, has, refused}
+use Rattle.usb_set.specs.Feeding.{out_of_memory}
+
+-- the whole piece is taken and the decoder has the set, or a growth was refused
+abbrev pub ReadsBack : Configuration → List ℕ → Result Progress SetFault → Decoding → Type 0
+ReadsBack c piece result new =
+    ((result ≡ Ok (Done (length piece))) × (new ≡ has c)) ⊎ ((result ≡ Err out_of_memory) × (new ≡ refused out_of_memory))
