@@ -1,7 +1,7 @@
 -- A set with one more descriptor has that descriptor's bytes behind its own.
-use Rattle.std.proofs.Common.{◌≡◌, ◌≢◌, ℕ, zero, suc, ◌+◌, ◌-◌, ◌*◌, ◌/◌, ◌%◌, ◌<◌, ◌≤◌, Bool, true, false, cond, ltb, eqb, ◌||◌, List, [], ◌∷◌, ◌++◌, length, drop, get_or, Option, Some, None, refl, sym, ap, subst, ◌∙◌, append_assoc, length-append, length-drop, ◌⊎◌, arith, inl, inr}
+use Rattle.std.proofs.Common.{◌≡◌, ℕ, suc, ◌+◌, ◌*◌, ◌/◌, ◌%◌, ◌<◌, ◌≤◌, Bool, true, false, cond, ltb, eqb, ◌||◌, List, [], ◌∷◌, ◌++◌, length, drop, None, refl, sym, ap, subst, ◌∙◌, append_assoc, length-append, length-drop, ◌⊎◌, arith, inl, inr}
 use Rattle.std.specs.List.{flat_map, list_any, AllByRecursion}
-use Rattle.std.proofs.lemmas.Bool.{ltb-false, le-ltb, eqb-true, eqb-false, ne_eqb, eq-eqb, cond-true, cond-false, cases_Bool, cases_eq, or_parts, or_from, or_right}
+use Rattle.std.proofs.lemmas.Bool.{le-ltb, eqb-true, ne_eqb, eq-eqb, cond-true, cond-false, cases_Bool, cases_eq, or_parts, or_from, or_right}
 use Rattle.std.proofs.lemmas.Bool.Decides.{nat_tests}
 use Rattle.std.proofs.lemmas.List.{append-nil, nil_from_length}
 use Rattle.std.proofs.lemmas.List.Concat.{flat_map-append}
@@ -10,7 +10,7 @@ use Rattle.usb_set.specs.declared.tree.Raw.{Raw}
 use Rattle.usb_set.specs.declared.tree.Endpoint.{Endpoint}
 use Rattle.usb_set.specs.declared.tree.Setting.{Setting}
 use Rattle.usb_set.specs.declared.tree.Configuration.{Configuration}
-use Rattle.usb_set.specs.Layout.{little_endian, descriptor, raw_descriptor, endpoint_descriptor, endpoint_bytes, interface_descriptor, setting_bytes, configuration_descriptor, set_bytes, IsByte, is_raw_long, is_endpoint_long, is_setting_long, has_long_descriptor, is_raw_typed, is_endpoint_typed, is_setting_typed, has_typed_raw}
+use Rattle.usb_set.specs.Layout.{descriptor, raw_descriptor, endpoint_descriptor, endpoint_bytes, interface_descriptor, setting_bytes, configuration_descriptor, set_bytes, IsByte, is_raw_long, is_endpoint_long, is_setting_long, has_long_descriptor, is_raw_typed, is_endpoint_typed, is_setting_typed, has_typed_raw}
 use Rattle.usb_set.specs.Faults.{item_fault, is_interface}
 use Rattle.usb_set.specs.Reading.{with_last, setting_of, endpoint_of, endpoint_with_raw, setting_with_raw, setting_with_endpoint, set_with_raw, attach, has_setting}
 
@@ -73,14 +73,14 @@ unfolding setting_with_raw
 setting_bytes-raw r s =
     elim (cases_Bool (eqb (length s.endpoints) 0)) [
       | inl y ↦
-        ap setting_bytes (cond-true (eqb (length s.endpoints) 0) _ _ y)
-        ∙ ap (λ (zs : List ℕ). (interface_descriptor s ++ zs) ++ flat_map endpoint_bytes s.endpoints) (flat_map-snoc raw_descriptor s.extras r)
-        ∙ settle (interface_descriptor s) (flat_map raw_descriptor s.extras) (flat_map endpoint_bytes s.endpoints) (raw_descriptor r) (ap (flat_map endpoint_bytes) (no_length s.endpoints y))
+          ap setting_bytes (cond-true (eqb (length s.endpoints) 0) _ _ y)
+          ∙ ap (λ (zs : List ℕ). (interface_descriptor s ++ zs) ++ flat_map endpoint_bytes s.endpoints) (flat_map-snoc raw_descriptor s.extras r)
+          ∙ settle (interface_descriptor s) (flat_map raw_descriptor s.extras) (flat_map endpoint_bytes s.endpoints) (raw_descriptor r) (ap (flat_map endpoint_bytes) (no_length s.endpoints y))
       | inr n ↦
-        ap setting_bytes (cond-false (eqb (length s.endpoints) 0) _ _ n)
-        ∙ ap (λ (zs : List ℕ). (interface_descriptor s ++ flat_map raw_descriptor s.extras) ++ zs)
+          ap setting_bytes (cond-false (eqb (length s.endpoints) 0) _ _ n)
+          ∙ ap (λ (zs : List ℕ). (interface_descriptor s ++ flat_map raw_descriptor s.extras) ++ zs)
           (flat_map-with_last endpoint_bytes (endpoint_with_raw r) (raw_descriptor r) (endpoint_bytes-raw r) s.endpoints (some_length s.endpoints n))
-        ∙ sym (append_assoc (interface_descriptor s ++ flat_map raw_descriptor s.extras) (flat_map endpoint_bytes s.endpoints) (raw_descriptor r))
+          ∙ sym (append_assoc (interface_descriptor s ++ flat_map raw_descriptor s.extras) (flat_map endpoint_bytes s.endpoints) (raw_descriptor r))
     ]
 
 setting_bytes-endpoint : (e : Endpoint) (s : Setting) → setting_bytes (setting_with_endpoint e s) ≡ setting_bytes s ++ endpoint_bytes e
@@ -96,14 +96,14 @@ unfolding set_with_raw
 set_bytes-raw r c total =
     elim (cases_Bool (eqb (length c.settings) 0)) [
       | inl y ↦
-        ap (λ (x : Configuration). set_bytes x total) (cond-true (eqb (length c.settings) 0) _ _ y)
-        ∙ ap (λ (zs : List ℕ). (configuration_descriptor c total ++ zs) ++ flat_map setting_bytes c.settings) (flat_map-snoc raw_descriptor c.extras r)
-        ∙ settle (configuration_descriptor c total) (flat_map raw_descriptor c.extras) (flat_map setting_bytes c.settings) (raw_descriptor r) (ap (flat_map setting_bytes) (no_length c.settings y))
+          ap (λ (x : Configuration). set_bytes x total) (cond-true (eqb (length c.settings) 0) _ _ y)
+          ∙ ap (λ (zs : List ℕ). (configuration_descriptor c total ++ zs) ++ flat_map setting_bytes c.settings) (flat_map-snoc raw_descriptor c.extras r)
+          ∙ settle (configuration_descriptor c total) (flat_map raw_descriptor c.extras) (flat_map setting_bytes c.settings) (raw_descriptor r) (ap (flat_map setting_bytes) (no_length c.settings y))
       | inr n ↦
-        ap (λ (x : Configuration). set_bytes x total) (cond-false (eqb (length c.settings) 0) _ _ n)
-        ∙ ap (λ (zs : List ℕ). (configuration_descriptor c total ++ flat_map raw_descriptor c.extras) ++ zs)
+          ap (λ (x : Configuration). set_bytes x total) (cond-false (eqb (length c.settings) 0) _ _ n)
+          ∙ ap (λ (zs : List ℕ). (configuration_descriptor c total ++ flat_map raw_descriptor c.extras) ++ zs)
           (flat_map-with_last setting_bytes (setting_with_raw r) (raw_descriptor r) (setting_bytes-raw r) c.settings (some_length c.settings n))
-        ∙ sym (append_assoc (configuration_descriptor c total ++ flat_map raw_descriptor c.extras) (flat_map setting_bytes c.settings) (raw_descriptor r))
+          ∙ sym (append_assoc (configuration_descriptor c total ++ flat_map raw_descriptor c.extras) (flat_map setting_bytes c.settings) (raw_descriptor r))
     ]
 
 -- ---- what a descriptor without fault has
@@ -169,15 +169,15 @@ attach-raw c kind body n4 n5 = cond-false (eqb kind 4) _ _ (ne_eqb kind 4 n4) �
 
 setting_some : (c : Configuration) → has_setting c ≡ true → 0 < length c.settings
 setting_some c e = elim (cases_Bool (eqb (length c.settings) 0)) [
-    | inl y ↦ absurd (let h : false ≡ true = sym (cond-true (eqb (length c.settings) 0) false true y) ∙ e in cc)
-    | inr n ↦ some_length c.settings n
-  ]
+  | inl y ↦ absurd (let h : false ≡ true = sym (cond-true (eqb (length c.settings) 0) false true y) ∙ e in cc)
+  | inr n ↦ some_length c.settings n
+]
 
 kind_cases : (kind : ℕ) → (kind ≡ 4) ⊎ ((kind ≡ 5) ⊎ ((kind ≡ 4 → ⊥) × (kind ≡ 5 → ⊥)))
 kind_cases kind = elim (cases_eq kind 4) [
-    | inl y ↦ inl y
-    | inr n ↦ elim (cases_eq kind 5) [ inl y ↦ inr (inl y) | inr m ↦ inr (inr (n, m)) ]
-  ]
+  | inl y ↦ inl y
+  | inr n ↦ elim (cases_eq kind 5) [ inl y ↦ inr (inl y) | inr m ↦ inr (inr (n, m)) ]
+]
 
 pub set_bytes-attach : (c : Configuration) (total room : ℕ) (item : Raw) → item_fault room (has_setting c) (raw_descriptor item) ≡ None → AllByRecursion IsByte item.body
     → set_bytes (attach c item) total ≡ set_bytes c total ++ raw_descriptor item
@@ -185,24 +185,24 @@ set_bytes-attach c total room item fine fits =
     let shown : item_fault room (has_setting c) ((2 + length item.body) ∷ item.kind ∷ item.body) ≡ None = fine in
     elim (kind_cases item.kind) [
       | inl four ↦
-        let long : 7 ≤ length item.body = omega (arith, fault_interface room (has_setting c) (2 + length item.body) item.kind item.body shown four) in
-        ap (λ (x : Configuration). set_bytes x total) (attach-interface c item.kind item.body four)
-        ∙ ap (λ (zs : List ℕ). (configuration_descriptor c total ++ flat_map raw_descriptor c.extras) ++ zs) (flat_map-snoc setting_bytes c.settings (setting_of item.body))
-        ∙ sym (append_assoc (configuration_descriptor c total ++ flat_map raw_descriptor c.extras) (flat_map setting_bytes c.settings) (setting_bytes (setting_of item.body)))
-        ∙ ap (λ (zs : List ℕ). set_bytes c total ++ zs) (interface_item item.body long)
-        ∙ ap (λ n. set_bytes c total ++ descriptor n item.body) (sym four)
+          let long : 7 ≤ length item.body = omega (arith, fault_interface room (has_setting c) (2 + length item.body) item.kind item.body shown four) in
+          ap (λ (x : Configuration). set_bytes x total) (attach-interface c item.kind item.body four)
+          ∙ ap (λ (zs : List ℕ). (configuration_descriptor c total ++ flat_map raw_descriptor c.extras) ++ zs) (flat_map-snoc setting_bytes c.settings (setting_of item.body))
+          ∙ sym (append_assoc (configuration_descriptor c total ++ flat_map raw_descriptor c.extras) (flat_map setting_bytes c.settings) (setting_bytes (setting_of item.body)))
+          ∙ ap (λ (zs : List ℕ). set_bytes c total ++ zs) (interface_item item.body long)
+          ∙ ap (λ n. set_bytes c total ++ descriptor n item.body) (sym four)
       | inr other ↦ elim other [
-          | inl five ↦
+        | inl five ↦
             let long : 5 ≤ length item.body = omega (arith, fault_endpoint room (has_setting c) (2 + length item.body) item.kind item.body shown five) in
             let some : 0 < length c.settings = setting_some c (fault_belongs room (has_setting c) (2 + length item.body) item.kind item.body shown five) in
             ap (λ (x : Configuration). set_bytes x total) (attach-endpoint c item.kind item.body five)
             ∙ ap (λ (zs : List ℕ). (configuration_descriptor c total ++ flat_map raw_descriptor c.extras) ++ zs)
-              (flat_map-with_last setting_bytes (setting_with_endpoint (endpoint_of item.body)) (endpoint_bytes (endpoint_of item.body)) (setting_bytes-endpoint (endpoint_of item.body)) c.settings some)
+            (flat_map-with_last setting_bytes (setting_with_endpoint (endpoint_of item.body)) (endpoint_bytes (endpoint_of item.body)) (setting_bytes-endpoint (endpoint_of item.body)) c.settings some)
             ∙ sym (append_assoc (configuration_descriptor c total ++ flat_map raw_descriptor c.extras) (flat_map setting_bytes c.settings) (endpoint_bytes (endpoint_of item.body)))
             ∙ ap (λ (zs : List ℕ). set_bytes c total ++ zs) (endpoint_item item.body long fits)
             ∙ ap (λ n. set_bytes c total ++ descriptor n item.body) (sym five)
-          | inr neither ↦ ap (λ (x : Configuration). set_bytes x total) (attach-raw c item.kind item.body neither.0 neither.1) ∙ set_bytes-raw item c total
-        ]
+        | inr neither ↦ ap (λ (x : Configuration). set_bytes x total) (attach-raw c item.kind item.body neither.0 neither.1) ∙ set_bytes-raw item c total
+      ]
     ]
 
 -- ---- no descriptor is too long, and no raw one has a type of its own
@@ -214,10 +214,10 @@ setting_long-raw r h s long =
     let inner = or_parts (ltb 246 (length s.tail)) (list_any is_raw_long s.extras) outer.0 in
     elim (cases_Bool (eqb (length s.endpoints) 0)) [
       | inl y ↦ ap is_setting_long (cond-true (eqb (length s.endpoints) 0) _ _ y)
-        ∙ or_from (ltb 246 (length s.tail) || list_any is_raw_long (s.extras ++ r ∷ [])) (list_any is_endpoint_long s.endpoints)
+          ∙ or_from (ltb 246 (length s.tail) || list_any is_raw_long (s.extras ++ r ∷ [])) (list_any is_endpoint_long s.endpoints)
           (or_from (ltb 246 (length s.tail)) (list_any is_raw_long (s.extras ++ r ∷ [])) inner.0 (list_any-snoc is_raw_long s.extras r inner.1 h)) outer.1
       | inr n ↦ ap is_setting_long (cond-false (eqb (length s.endpoints) 0) _ _ n)
-        ∙ or_from (ltb 246 (length s.tail) || list_any is_raw_long s.extras) (list_any is_endpoint_long (with_last (endpoint_with_raw r) s.endpoints))
+          ∙ or_from (ltb 246 (length s.tail) || list_any is_raw_long s.extras) (list_any is_endpoint_long (with_last (endpoint_with_raw r) s.endpoints))
           outer.0 (list_any-with_last is_endpoint_long (endpoint_with_raw r) (is_endpoint_long-raw r h) s.endpoints outer.1)
     ]
 
@@ -227,9 +227,9 @@ setting_typed-raw r h s typed =
     let parts = or_parts (list_any is_raw_typed s.extras) (list_any is_endpoint_typed s.endpoints) typed in
     elim (cases_Bool (eqb (length s.endpoints) 0)) [
       | inl y ↦ ap is_setting_typed (cond-true (eqb (length s.endpoints) 0) _ _ y)
-        ∙ or_from (list_any is_raw_typed (s.extras ++ r ∷ [])) (list_any is_endpoint_typed s.endpoints) (list_any-snoc is_raw_typed s.extras r parts.0 h) parts.1
+          ∙ or_from (list_any is_raw_typed (s.extras ++ r ∷ [])) (list_any is_endpoint_typed s.endpoints) (list_any-snoc is_raw_typed s.extras r parts.0 h) parts.1
       | inr n ↦ ap is_setting_typed (cond-false (eqb (length s.endpoints) 0) _ _ n)
-        ∙ or_from (list_any is_raw_typed s.extras) (list_any is_endpoint_typed (with_last (endpoint_with_raw r) s.endpoints))
+          ∙ or_from (list_any is_raw_typed s.extras) (list_any is_endpoint_typed (with_last (endpoint_with_raw r) s.endpoints))
           parts.0 (list_any-with_last is_endpoint_typed (endpoint_with_raw r) (is_endpoint_typed-raw r h) s.endpoints parts.1)
     ]
 
@@ -242,9 +242,9 @@ pub record IsLegal (c : Configuration) : Type 0 where
 pub legal_from : (c : Configuration) → ltb 246 (length c.tail) ≡ false → list_any is_raw_long c.extras ≡ false → list_any is_setting_long c.settings ≡ false
     → list_any is_raw_typed c.extras ≡ false → list_any is_setting_typed c.settings ≡ false → IsLegal c
 legal_from c tail long longs typed typeds = record {
-    within_255 = or_from (ltb 246 (length c.tail) || list_any is_raw_long c.extras) (list_any is_setting_long c.settings) (or_from (ltb 246 (length c.tail)) (list_any is_raw_long c.extras) tail long) longs;
-    raws_are_raw = or_from (list_any is_raw_typed c.extras) (list_any is_setting_typed c.settings) typed typeds
-  }
+  within_255 = or_from (ltb 246 (length c.tail) || list_any is_raw_long c.extras) (list_any is_setting_long c.settings) (or_from (ltb 246 (length c.tail)) (list_any is_raw_long c.extras) tail long) longs;
+  raws_are_raw = or_from (list_any is_raw_typed c.extras) (list_any is_setting_typed c.settings) typed typeds;
+}
 
 pub not_long : (n m : ℕ) → n ≤ m → ltb m n ≡ false
 not_long n m le = le-ltb m n le
@@ -264,8 +264,8 @@ legal-raw c r legal long typed =
           (legal_from (record c { extras = c.extras ++ r ∷ [] }) inner.0 (list_any-snoc is_raw_long c.extras r inner.1 long) outer.1 (list_any-snoc is_raw_typed c.extras r types.0 typed) types.1)
       | inr n ↦ subst IsLegal (sym (cond-false (eqb (length c.settings) 0) (record c { extras = c.extras ++ r ∷ [] }) (record c { settings = with_last (setting_with_raw r) c.settings }) n))
           (legal_from (record c { settings = with_last (setting_with_raw r) c.settings }) inner.0 inner.1
-            (list_any-with_last is_setting_long (setting_with_raw r) (setting_long-raw r long) c.settings outer.1) types.0
-            (list_any-with_last is_setting_typed (setting_with_raw r) (setting_typed-raw r typed) c.settings types.1))
+          (list_any-with_last is_setting_long (setting_with_raw r) (setting_long-raw r long) c.settings outer.1) types.0
+          (list_any-with_last is_setting_typed (setting_with_raw r) (setting_typed-raw r typed) c.settings types.1))
     ]
 
 setting_long-endpoint : (e : Endpoint) → is_endpoint_long e ≡ false → (s : Setting) → is_setting_long s ≡ false → is_setting_long (setting_with_endpoint e s) ≡ false
@@ -288,23 +288,23 @@ legal-attach c room item legal fine short =
     let types = or_parts (list_any is_raw_typed c.extras) (list_any is_setting_typed c.settings) legal.raws_are_raw in
     elim (kind_cases item.kind) [
       | inl four ↦
-        let s = setting_of item.body in
-        subst IsLegal (sym (attach-interface c item.kind item.body four))
+          let s = setting_of item.body in
+          subst IsLegal (sym (attach-interface c item.kind item.body four))
           (legal_from (record c { settings = c.settings ++ setting_of item.body ∷ [] }) inner.0 inner.1
-            (list_any-snoc is_setting_long c.settings (setting_of item.body) outer.1
-              (or_from (ltb 246 (length (drop 7 item.body)) || false) false (or_from (ltb 246 (length (drop 7 item.body))) false (not_long (length (drop 7 item.body)) 246 (omega (arith, length-drop 7 item.body))) refl) refl))
-            types.0 (list_any-snoc is_setting_typed c.settings (setting_of item.body) types.1 refl))
+          (list_any-snoc is_setting_long c.settings (setting_of item.body) outer.1
+          (or_from (ltb 246 (length (drop 7 item.body)) || false) false (or_from (ltb 246 (length (drop 7 item.body))) false (not_long (length (drop 7 item.body)) 246 (omega (arith, length-drop 7 item.body))) refl) refl))
+          types.0 (list_any-snoc is_setting_typed c.settings (setting_of item.body) types.1 refl))
       | inr other ↦ elim other [
-          | inl five ↦
+        | inl five ↦
             let long : is_endpoint_long (endpoint_of item.body) ≡ false = or_from (ltb 248 (length (drop 5 item.body))) false (not_long (length (drop 5 item.body)) 248 (omega (arith, length-drop 5 item.body))) refl in
             subst IsLegal (sym (attach-endpoint c item.kind item.body five))
-              (legal_from (record c { settings = with_last (setting_with_endpoint (endpoint_of item.body)) c.settings }) inner.0 inner.1
-                (list_any-with_last is_setting_long (setting_with_endpoint (endpoint_of item.body)) (setting_long-endpoint (endpoint_of item.body) long) c.settings outer.1) types.0
-                (list_any-with_last is_setting_typed (setting_with_endpoint (endpoint_of item.body)) (setting_typed-endpoint (endpoint_of item.body) refl) c.settings types.1))
-          | inr neither ↦ subst IsLegal (sym (attach-raw c item.kind item.body neither.0 neither.1))
-              (legal-raw c item legal (not_long (length item.body) 253 short)
-                (not_typed item.kind item.body (fault_two room (has_setting c) (2 + length item.body) item.kind item.body shown) neither.0 neither.1 (fault_seven room (has_setting c) (2 + length item.body) item.kind item.body shown)))
-        ]
+            (legal_from (record c { settings = with_last (setting_with_endpoint (endpoint_of item.body)) c.settings }) inner.0 inner.1
+            (list_any-with_last is_setting_long (setting_with_endpoint (endpoint_of item.body)) (setting_long-endpoint (endpoint_of item.body) long) c.settings outer.1) types.0
+            (list_any-with_last is_setting_typed (setting_with_endpoint (endpoint_of item.body)) (setting_typed-endpoint (endpoint_of item.body) refl) c.settings types.1))
+        | inr neither ↦ subst IsLegal (sym (attach-raw c item.kind item.body neither.0 neither.1))
+            (legal-raw c item legal (not_long (length item.body) 253 short)
+            (not_typed item.kind item.body (fault_two room (has_setting c) (2 + length item.body) item.kind item.body shown) neither.0 neither.1 (fault_seven room (has_setting c) (2 + length item.body) item.kind item.body shown)))
+      ]
     ]
 
 -- ---- an interface came before
@@ -318,7 +318,7 @@ same_settings r c =
     elim (cases_Bool (eqb (length c.settings) 0)) [
       | inl y ↦ ap has_setting (cond-true (eqb (length c.settings) 0) (record c { extras = c.extras ++ r ∷ [] }) (record c { settings = with_last (setting_with_raw r) c.settings }) y)
       | inr n ↦ ap has_setting (cond-false (eqb (length c.settings) 0) (record c { extras = c.extras ++ r ∷ [] }) (record c { settings = with_last (setting_with_raw r) c.settings }) n)
-        ∙ ap (λ n. cond (eqb n 0) false true) (length-with_last (setting_with_raw r) c.settings)
+          ∙ ap (λ n. cond (eqb n 0) false true) (length-with_last (setting_with_raw r) c.settings)
     ]
 
 not_there : (a b : Bool) → b ≡ false → a ≡ (a || b)
@@ -329,17 +329,17 @@ pub has_setting-attach : (c : Configuration) (item : Raw) → has_setting (attac
 has_setting-attach c item =
     elim (kind_cases item.kind) [
       | inl four ↦
-        ap has_setting (attach-interface c item.kind item.body four)
-        ∙ some_setting (length (c.settings ++ setting_of item.body ∷ [])) (omega (arith, length-append c.settings (setting_of item.body ∷ [])))
-        ∙ sym (or_right (has_setting c) (is_interface item) (eq-eqb item.kind 4 four))
+          ap has_setting (attach-interface c item.kind item.body four)
+          ∙ some_setting (length (c.settings ++ setting_of item.body ∷ [])) (omega (arith, length-append c.settings (setting_of item.body ∷ [])))
+          ∙ sym (or_right (has_setting c) (is_interface item) (eq-eqb item.kind 4 four))
       | inr other ↦ elim other [
-          | inl five ↦
+        | inl five ↦
             ap has_setting (attach-endpoint c item.kind item.body five)
             ∙ ap (λ n. cond (eqb n 0) false true) (length-with_last (setting_with_endpoint (endpoint_of item.body)) c.settings)
             ∙ not_there (has_setting c) (is_interface item) (ne_eqb item.kind 4 (λ h. omega arith))
-          | inr neither ↦
+        | inr neither ↦
             ap has_setting (attach-raw c item.kind item.body neither.0 neither.1)
             ∙ same_settings item c
             ∙ not_there (has_setting c) (is_interface item) (ne_eqb item.kind 4 neither.0)
-        ]
+      ]
     ]

@@ -1,18 +1,16 @@
 -- A set as its descriptors after the first, in order.
-use Rattle.std.proofs.Common.{◌≡◌, ℕ, zero, suc, ◌+◌, ◌-◌, ◌*◌, ◌/◌, ◌%◌, ◌<◌, ◌≤◌, Bool, true, false, cond, ltb, eqb, ◌||◌, List, [], ◌∷◌, ◌++◌, length, drop, get_or, Option, Some, None, refl, sym, ap, subst, ◌∙◌, append_assoc, length-append, length-drop, ◌⊎◌, arith, inl, inr}
-use Rattle.std.specs.List.{flat_map, list_any, AllByRecursion}
-use Rattle.std.proofs.lemmas.Bool.{le-ltb, eqb-true, eqb-false, ne_eqb, eq-eqb, cond-true, cond-false, cases_Bool, or_parts, or_from}
+use Rattle.std.proofs.Common.{◌≡◌, ℕ, ◌+◌, ◌*◌, ◌/◌, ◌%◌, false, eqb, ◌||◌, List, [], ◌∷◌, ◌++◌, length, refl, sym, ap, ◌∙◌, append_assoc, length-append, arith}
+use Rattle.std.specs.List.{flat_map, list_any}
+use Rattle.std.proofs.lemmas.Bool.{eqb-false, ne_eqb, eq-eqb, cond-true, cond-false, or_parts}
 use Rattle.std.proofs.lemmas.List.{append-nil}
 use Rattle.std.proofs.lemmas.List.Concat.{flat_map-append}
-use Rattle.usb_set.specs.declared.tree.SetKind.{SetKind}
-use Rattle.usb_set.specs.declared.tree.SetKind.TheVariants as kinds
 use Rattle.usb_set.specs.declared.tree.Raw.{Raw}
 use Rattle.usb_set.specs.declared.tree.Endpoint.{Endpoint}
 use Rattle.usb_set.specs.declared.tree.Setting.{Setting}
 use Rattle.usb_set.specs.declared.tree.Configuration.{Configuration}
-use Rattle.usb_set.specs.Layout.{little_endian, raw_descriptor, endpoint_bytes, setting_bytes, set_bytes, configuration_descriptor, type_number, is_raw_typed, is_endpoint_typed, is_setting_typed, has_typed_raw}
-use Rattle.usb_set.specs.Faults.{is_set_type, item_fault, is_interface, joined, AreItems}
-use Rattle.usb_set.specs.Reading.{with_last, setting_of, endpoint_of, endpoint_with_raw, setting_with_raw, setting_with_endpoint, set_with_raw, attach, has_setting, configuration_of}
+use Rattle.usb_set.specs.Layout.{little_endian, raw_descriptor, endpoint_bytes, setting_bytes, set_bytes, configuration_descriptor, is_raw_typed, is_endpoint_typed, is_setting_typed, has_typed_raw}
+use Rattle.usb_set.specs.Faults.{joined}
+use Rattle.usb_set.specs.Reading.{with_last, endpoint_of, endpoint_with_raw, setting_with_raw, setting_with_endpoint, set_with_raw, attach}
 use Rattle.usb_set.proofs.Growth.{attach-interface, attach-endpoint, attach-raw}
 use Rattle.usb_set.proofs.Complete.{attached}
 
@@ -99,7 +97,7 @@ extras_of_setting c ss s [] none e = ap (λ (x : List Raw). at_last c ss (record
 extras_of_setting c ss s (r ∷ raws) none e =
     let parts = or_parts (is_raw_typed r) (list_any is_raw_typed raws) e in
     let now : setting_with_raw r s ≡ record s { extras = s.extras ++ r ∷ [] } =
-      cond-true (eqb (length s.endpoints) 0) (record s { extras = s.extras ++ r ∷ [] }) (record s { endpoints = with_last (endpoint_with_raw r) s.endpoints }) (eq-eqb (length s.endpoints) 0 (ap length none)) in
+    cond-true (eqb (length s.endpoints) 0) (record s { extras = s.extras ++ r ∷ [] }) (record s { endpoints = with_last (endpoint_with_raw r) s.endpoints }) (eq-eqb (length s.endpoints) 0 (ap length none)) in
     ap (λ (x : Configuration). attached x raws) (raw_at_last c ss s r (untyped r parts.0) ∙ ap (at_last c ss) now)
     ∙ extras_of_setting c ss (record s { extras = s.extras ++ r ∷ [] }) raws none parts.1
     ∙ ap (λ (x : List Raw). at_last c ss (record s { extras = x })) (append_assoc s.extras (r ∷ []) raws)
@@ -112,8 +110,8 @@ extras_of_endpoint c ss s es e [] h = ap (λ (x : List Raw). at_last c ss (recor
 extras_of_endpoint c ss s es e (r ∷ raws) h =
     let parts = or_parts (is_raw_typed r) (list_any is_raw_typed raws) h in
     let now : setting_with_raw r (record s { endpoints = es ++ e ∷ [] }) ≡ record s { endpoints = es ++ record e { extras = e.extras ++ r ∷ [] } ∷ [] } =
-      cond-false (eqb (length (es ++ e ∷ [])) 0) (record s { endpoints = es ++ e ∷ []; extras = s.extras ++ r ∷ [] }) (record s { endpoints = with_last (endpoint_with_raw r) (es ++ e ∷ []) }) (snoc_some es e)
-      ∙ ap (λ (x : List Endpoint). record s { endpoints = x }) (with_last-snoc (endpoint_with_raw r) es e) in
+    cond-false (eqb (length (es ++ e ∷ [])) 0) (record s { endpoints = es ++ e ∷ []; extras = s.extras ++ r ∷ [] }) (record s { endpoints = with_last (endpoint_with_raw r) (es ++ e ∷ []) }) (snoc_some es e)
+    ∙ ap (λ (x : List Endpoint). record s { endpoints = x }) (with_last-snoc (endpoint_with_raw r) es e) in
     ap (λ (x : Configuration). attached x raws) (raw_at_last c ss (record s { endpoints = es ++ e ∷ [] }) r (untyped r parts.0) ∙ ap (at_last c ss) now)
     ∙ extras_of_endpoint c ss s es (record e { extras = e.extras ++ r ∷ [] }) raws parts.1
     ∙ ap (λ (x : List Raw). at_last c ss (record s { endpoints = es ++ record e { extras = x } ∷ [] })) (append_assoc e.extras (r ∷ []) raws)
@@ -138,7 +136,7 @@ endpoints_of_setting c ss s (e ∷ es) h =
     let parts = or_parts (is_endpoint_typed e) (list_any is_endpoint_typed es) h in
     attached-append (at_last c ss s) (endpoint_items e) (flat_map endpoint_items es)
     ∙ ap (λ (x : Configuration). attached x (flat_map endpoint_items es))
-      (ap (λ (x : Configuration). attached x e.extras) (endpoint_at_last c ss s e) ∙ extras_of_endpoint c ss s s.endpoints (record e { extras = [] }) e.extras parts.0)
+    (ap (λ (x : Configuration). attached x e.extras) (endpoint_at_last c ss s e) ∙ extras_of_endpoint c ss s s.endpoints (record e { extras = [] }) e.extras parts.0)
     ∙ endpoints_of_setting c ss (record s { endpoints = s.endpoints ++ e ∷ [] }) es parts.1
     ∙ ap (λ (x : List Endpoint). at_last c ss (record s { endpoints = x })) (append_assoc s.endpoints (e ∷ []) es)
 
@@ -167,8 +165,8 @@ extras_of_set c (r ∷ raws) none e =
     let parts = or_parts (is_raw_typed r) (list_any is_raw_typed raws) e in
     let is = untyped r parts.0 in
     ap (λ (x : Configuration). attached x raws)
-      (attach-raw c r.kind r.body is.four is.five
-        ∙ cond-true (eqb (length c.settings) 0) (record c { extras = c.extras ++ r ∷ [] }) (record c { settings = with_last (setting_with_raw r) c.settings }) (eq-eqb (length c.settings) 0 (ap length none)))
+    (attach-raw c r.kind r.body is.four is.five
+    ∙ cond-true (eqb (length c.settings) 0) (record c { extras = c.extras ++ r ∷ [] }) (record c { settings = with_last (setting_with_raw r) c.settings }) (eq-eqb (length c.settings) 0 (ap length none)))
     ∙ extras_of_set (record c { extras = c.extras ++ r ∷ [] }) raws none parts.1
     ∙ ap (λ (x : List Raw). record c { extras = x }) (append_assoc c.extras (r ∷ []) raws)
 

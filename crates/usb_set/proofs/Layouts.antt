@@ -1,9 +1,7 @@
 -- A layout is read as its set.
-use Rattle.std.proofs.Common.{◌≡◌, ℕ, zero, suc, ◌+◌, ◌-◌, ◌*◌, ◌/◌, ◌%◌, ◌<◌, ◌≤◌, Bool, true, false, cond, ltb, eqb, ◌||◌, List, [], ◌∷◌, ◌++◌, length, drop, get_or, Option, Some, None, refl, sym, ap, subst, ◌∙◌, append_assoc, length-append, ◌⊎◌, arith, inl, inr}
-use Rattle.std.specs.List.{flat_map, list_any, AllByRecursion}
-use Rattle.std.proofs.lemmas.Bool.{le-ltb, ltb-false, eqb-true, eqb-false, ne_eqb, eq-eqb, cond-true, cond-false, cases_Bool, or_parts, or_from}
-use Rattle.std.proofs.lemmas.List.{append-nil}
-use Rattle.std.proofs.lemmas.List.Folds.{list_any-append}
+use Rattle.std.proofs.Common.{◌≡◌, ℕ, suc, ◌+◌, ◌-◌, ◌*◌, ◌/◌, ◌%◌, ◌≤◌, Bool, true, false, cond, ltb, eqb, ◌||◌, List, [], ◌∷◌, ◌++◌, length, Some, None, refl, sym, ap, subst, ◌∙◌, length-append, arith, inl, inr}
+use Rattle.std.specs.List.{flat_map, list_any}
+use Rattle.std.proofs.lemmas.Bool.{le-ltb, eqb-true, ne_eqb, eq-eqb, cond-true, cond-false, cases_Bool, or_parts, or_from}
 use Rattle.usb_set.specs.declared.tree.SetKind.{SetKind}
 use Rattle.usb_set.specs.declared.tree.SetKind.TheVariants as kinds
 use Rattle.usb_set.specs.declared.tree.Raw.{Raw}
@@ -11,12 +9,12 @@ use Rattle.usb_set.specs.declared.tree.Endpoint.{Endpoint}
 use Rattle.usb_set.specs.declared.tree.Setting.{Setting}
 use Rattle.usb_set.specs.declared.tree.Configuration.{Configuration}
 use Rattle.usb_set.specs.declared.fault.SetWhy.{SetWhy}
-use Rattle.usb_set.specs.Layout.{little_endian, raw_descriptor, set_bytes, configuration_descriptor, type_number, is_raw_typed, is_endpoint_typed, is_setting_typed, has_typed_raw, Layout}
-use Rattle.usb_set.specs.Faults.{is_whole, is_set_type, least_length, header_fault, item_fault, total_of, is_interface, joined, IsHeader, AreItems, Faulty, Begins, IsOpen}
-use Rattle.usb_set.specs.Reading.{Reading, first, later, whole, faulty, reads, reading_of, goes_on, has_setting, configuration_of}
+use Rattle.usb_set.specs.Layout.{raw_descriptor, configuration_descriptor, type_number, is_raw_typed, is_endpoint_typed, is_setting_typed, has_typed_raw}
+use Rattle.usb_set.specs.Faults.{is_set_type, least_length, item_fault, total_of, is_interface, joined, IsHeader, AreItems, Begins}
+use Rattle.usb_set.specs.Reading.{Reading, later, whole, reads, reading_of, goes_on, configuration_of}
 use Rattle.usb_set.proofs.ByteByByte.{reads-whole}
-use Rattle.usb_set.proofs.Complete.{attached, reaches_there, complete_faulty}
-use Rattle.usb_set.proofs.Items.{IsUntyped, untyped, endpoint_item, endpoint_items, interface_item, setting_items, items_of, set_bytes-items, bare, items_again, two_bytes}
+use Rattle.usb_set.proofs.Complete.{attached, reaches_there}
+use Rattle.usb_set.proofs.Items.{untyped, endpoint_item, endpoint_items, interface_item, setting_items, items_of, set_bytes-items, bare, items_again, two_bytes}
 
 -- a descriptor that has no fault where it has room
 record Fine (in_setting : Bool) (item : Raw) : Type 0 where
@@ -63,7 +61,7 @@ fine_raw s r e =
     record {
       type_fits = or_from (eqb r.kind 2) (eqb r.kind 7) (ne_eqb r.kind 2 is.two) (ne_eqb r.kind 7 is.seven);
       long = subst (λ (n : ℕ). n ≤ 2 + length r.body) (sym (cond-false (eqb r.kind 4) _ _ (ne_eqb r.kind 4 is.four) ∙ cond-false (eqb r.kind 5) _ _ (ne_eqb r.kind 5 is.five))) (omega arith);
-      belongs = λ h. absurd (is.five h)
+      belongs = λ h. absurd (is.five h);
     }
 
 fine_raws : (s : Bool) (raws : List Raw) → list_any is_raw_typed raws ≡ false → AllFine s raws
@@ -86,10 +84,12 @@ fine_settings s [] e = tt
 fine_settings s (x ∷ ss) e =
     let parts = or_parts (is_setting_typed x) (list_any is_setting_typed ss) e in
     let inner = or_parts (list_any is_raw_typed x.extras) (list_any is_endpoint_typed x.endpoints) parts.0 in
-    let one : Fine s (interface_item x) = record { type_fits = refl; long = omega arith; belongs = λ h. absurd (omega arith) } in
-    (one, fine_append (s || true) (x.extras ++ flat_map endpoint_items x.endpoints) (flat_map setting_items ss)
-      (fine_append (s || true) x.extras (flat_map endpoint_items x.endpoints) (fine_raws (s || true) x.extras inner.0) (λ t f. fine_endpoints t x.endpoints (f (or_true s)) inner.1))
-      (λ t f. fine_settings t ss parts.1))
+    let one : Fine s (interface_item x) = record { type_fits = refl; long = omega arith; belongs = λ h. absurd (omega arith) } in (
+      one,
+      fine_append (s || true) (x.extras ++ flat_map endpoint_items x.endpoints) (flat_map setting_items ss)
+          (fine_append (s || true) x.extras (flat_map endpoint_items x.endpoints) (fine_raws (s || true) x.extras inner.0) (λ t f. fine_endpoints t x.endpoints (f (or_true s)) inner.1))
+          (λ t f. fine_settings t ss parts.1),
+    )
 
 fine_items : (c : Configuration) → has_typed_raw c ≡ false → AllFine false (items_of c)
 fine_items c e =
@@ -115,8 +115,8 @@ header_again c total room =
     record {
       whole = eq-eqb _ _ (omega arith);
       no_fault = cond-false (ltb (2 + suc (suc (suc (suc (suc (suc (suc (length c.tail)))))))) 9) _ _ (le-ltb _ 9 (omega arith))
-        ∙ cond-true (is_set_type (type_number c.kind)) _ _ (type_again c.kind)
-        ∙ cond-false (ltb (total % 256 + 256 * (total / 256)) (2 + suc (suc (suc (suc (suc (suc (suc (length c.tail))))))))) _ _ (le-ltb _ _ (omega (arith, two_bytes total)))
+          ∙ cond-true (is_set_type (type_number c.kind)) _ _ (type_again c.kind)
+          ∙ cond-false (ltb (total % 256 + 256 * (total / 256)) (2 + suc (suc (suc (suc (suc (suc (suc (length c.tail))))))))) _ _ (le-ltb _ _ (omega (arith, two_bytes total)));
     }
 
 pub complete_done : (b : List ℕ) (c : Configuration) (place : ℕ) → Begins b c place → reading_of b ≡ whole c place
@@ -128,9 +128,9 @@ complete_done b c place h =
     let is_total : total_of (configuration_descriptor c (length h.front)) ≡ length h.front = two_bytes (length h.front) in
     let header : IsHeader (configuration_descriptor c (length h.front)) = header_again c (length h.front) (omega arith) in
     let items : AreItems (total_of (configuration_descriptor c (length h.front)) - length (configuration_descriptor c (length h.front))) false (items_of c) =
-      are_items _ false (items_of c) (fine_items c h.layout.raws_are_raw) (omega arith) in
+    are_items _ false (items_of c) (fine_items c h.layout.raws_are_raw) (omega arith) in
     let again : attached (configuration_of (configuration_descriptor c (length h.front))) (items_of c) ≡ c =
-      ap (λ (x : Configuration). attached x (items_of c)) (configuration_again c (length h.front)) ∙ items_again c h.layout.raws_are_raw in
+    ap (λ (x : Configuration). attached x (items_of c)) (configuration_again c (length h.front)) ∙ items_again c h.layout.raws_are_raw in
     reaches_there b (configuration_descriptor c (length h.front)) (items_of c) h.rest header items (h.parts ∙ ap (λ (z : List ℕ). z ++ h.rest) bytes)
     ∙ ap (λ (x : Configuration). reads (goes_on x (total_of (configuration_descriptor c (length h.front))) (length (configuration_descriptor c (length h.front)) + length (joined (items_of c)))) h.rest) again
     ∙ ap (λ n. reads (goes_on c n (length (configuration_descriptor c (length h.front)) + length (joined (items_of c)))) h.rest) is_total

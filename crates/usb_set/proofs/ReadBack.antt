@@ -1,15 +1,14 @@
 -- What is written is read back.
-use Rattle.std.proofs.Common.{◌≡◌, ◌≢◌, ℕ, ◌+◌, ◌<◌, ◌≤◌, List, [], ◌∷◌, ◌++◌, length, Result, Ok, Err, refl, sym, ap, subst, ◌∙◌, append-nil, append_assoc, length-append, arith, ◌⊎◌, inl, inr}
+use Rattle.std.proofs.Common.{◌≡◌, ◌≢◌, ℕ, ◌+◌, List, [], ◌++◌, length, Result, Ok, Err, refl, sym, ap, ◌∙◌, append-nil, length-append, arith, inl, inr}
 use Rattle.std.proofs.lemmas.List.{nil_from_length}
 use Rattle.usb_set.specs.declared.tree.Configuration.{Configuration}
 use Rattle.usb_set.specs.declared.fault.SetFault.{SetFault}
-use Rattle.usb_set.specs.declared.fault.SetWhy.{SetWhy}
 use Rattle.usb_set.specs.declared.decoder.Progress.{Progress}
 use Rattle.usb_set.specs.declared.decoder.Progress.TheVariants.{More, Done}
 use Rattle.usb_set.specs.Layout.{set_bytes, Layout}
-use Rattle.usb_set.specs.Faults.{Begins, Faulty, IsOpen}
+use Rattle.usb_set.specs.Faults.{Begins, IsOpen}
 use Rattle.usb_set.specs.Decoding.{Decoding, gathers, has, refused}
-use Rattle.usb_set.specs.Feeding.{Answers, out_of_memory}
+use Rattle.usb_set.specs.Feeding.{Answers}
 use Rattle.usb_set.specs.ReadingBack.{ReadsBack}
 use Rattle.usb_set.proofs.Sets.{length-set_bytes}
 use Rattle.usb_set.proofs.Sound.{Begins-more, Faulty-more}
@@ -37,11 +36,11 @@ same_bytes c a b h k =
 -- before its last byte a layout is open
 pub front_open : (c : Configuration) (s more : List ℕ) → Layout c (s ++ more) → more ≢ [] → IsOpen s
 front_open c s more h some = record {
-    no_layout = λ d place begins.
+  no_layout = λ d place begins.
       let both : (d ≡ c) × (place ≡ length (s ++ more)) = one_layout (s ++ more) d c place _ (Begins-more s more d place begins) (begins_whole c (s ++ more) h) in
       some (nil_from_length more (omega (arith, both.1, begins.ends, ap length begins.parts, length-append begins.front begins.rest, length-append s more)));
-    no_fault = λ place why fault. not_both (s ++ more) c _ place why (begins_whole c (s ++ more) h) (Faulty-more s more place why fault)
-  }
+  no_fault = λ place why fault. not_both (s ++ more) c _ place why (begins_whole c (s ++ more) h) (Faulty-more s more place why fault);
+}
 
 -- the piece with the last byte makes the set
 pub reads_back : (c : Configuration) (s piece : List ℕ) (r : Result Progress SetFault) (new : Decoding) → Layout c (s ++ piece) → Answers (gathers s) piece r new → ReadsBack c piece r new

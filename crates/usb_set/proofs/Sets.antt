@@ -1,5 +1,5 @@
 -- The bytes of a whole set.
-use Rattle.std.proofs.Common.{◌≡◌, ℕ, ◌<◌, Bool, true, false, cond, ltb, List, length, Option, Some, None, refl, sym, ap, ◌∙◌, length-append, arith}
+use Rattle.std.proofs.Common.{◌≡◌, ℕ, ltb, List, length, None, ap, ◌∙◌, length-append, arith}
 use Rattle.std.specs.List.{AllByRecursion}
 use Rattle.std.proofs.lemmas.Bool.{le-ltb, cond-false}
 use Rattle.usb_set.specs.declared.tree.Configuration.{Configuration}
@@ -26,8 +26,8 @@ no_refusal c total h =
 -- a set with a layout has a length
 pub has_length : (c : Configuration) (b : List ℕ) → Layout c b → HasLength c (length b)
 has_length c b h = record {
-    within_255 = h.within_255;
-    raws_are_raw = h.raws_are_raw;
-    is_length = ap length h.bytes ∙ length-set_bytes c (length b) 0;
-    short = omega (arith, h.short)
-  }
+  within_255 = h.within_255;
+  raws_are_raw = h.raws_are_raw;
+  is_length = ap length h.bytes ∙ length-set_bytes c (length b) 0;
+  short = omega (arith, h.short);
+}

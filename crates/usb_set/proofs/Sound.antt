@@ -1,20 +1,18 @@
 -- What reading answers is so.
-use Rattle.std.proofs.Common.{◌≡◌, ℕ, zero, suc, ◌+◌, ◌-◌, ◌*◌, ◌/◌, ◌%◌, ◌<◌, ◌≤◌, Bool, true, false, cond, ltb, eqb, ◌||◌, List, [], ◌∷◌, ◌++◌, length, drop, get_or, Option, Some, None, refl, sym, ap, subst, ◌∙◌, append_assoc, length-append, length-drop, ◌⊎◌, arith, inl, inr}
-use Rattle.std.specs.List.{flat_map, list_any, AllByRecursion}
-use Rattle.std.proofs.lemmas.Bool.{ltb-false, eqb-true, eqb-false, ne_eqb, eq-eqb, cond-true, cond-false, cases_Bool, or_from}
-use Rattle.std.proofs.lemmas.Bool.Decides.{nat_tests}
+use Rattle.std.proofs.Common.{◌≡◌, ℕ, ◌+◌, ◌-◌, ◌*◌, ◌/◌, ◌%◌, ◌<◌, ◌≤◌, Bool, true, false, cond, eqb, ◌||◌, List, [], ◌∷◌, ◌++◌, length, drop, get_or, Some, None, refl, sym, ap, subst, ◌∙◌, append_assoc, length-append, length-drop, arith, inl, inr}
+use Rattle.std.specs.List.{list_any, AllByRecursion}
+use Rattle.std.proofs.lemmas.Bool.{eqb-true, eqb-false, cond-true, cond-false, cases_Bool}
 use Rattle.std.proofs.lemmas.List.{append-nil}
 use Rattle.std.proofs.lemmas.List.Folds.{list_any-append}
-use Rattle.usb_set.specs.declared.tree.SetKind.{SetKind}
 use Rattle.usb_set.specs.declared.tree.SetKind.TheVariants as kinds
 use Rattle.usb_set.specs.declared.tree.Raw.{Raw}
 use Rattle.usb_set.specs.declared.tree.Configuration.{Configuration}
 use Rattle.usb_set.specs.declared.fault.SetWhy.{SetWhy}
-use Rattle.usb_set.specs.Layout.{little_endian, raw_descriptor, set_bytes, configuration_descriptor, type_number, IsByte, Layout, has_long_descriptor}
-use Rattle.usb_set.specs.Faults.{Fault, is_whole, is_set_type, first_byte, header_fault, item_fault, total_of, is_interface, joined, IsHeader, AreItems, Reaches, FaultyItem, Faulty, Begins}
+use Rattle.usb_set.specs.Layout.{raw_descriptor, set_bytes, type_number, IsByte}
+use Rattle.usb_set.specs.Faults.{is_whole, is_set_type, first_byte, header_fault, item_fault, total_of, is_interface, joined, IsHeader, AreItems, Reaches, Faulty, Begins}
 use Rattle.usb_set.specs.Reading.{Reading, first, later, whole, faulty, step, reads, reading_of, after_first, after_later, goes_on, attach, has_setting, configuration_of}
 use Rattle.usb_set.proofs.ByteByByte.{header_fault-more, header_long, whole_length, option_cases, item_fault-first, fine_length}
-use Rattle.usb_set.proofs.Stands.{header_within, item_within, before_end}
+use Rattle.usb_set.proofs.Stands.{header_within, item_within}
 use Rattle.usb_set.proofs.Growth.{flat_map-snoc, IsLegal, set_bytes-attach, legal-attach, has_setting-attach, low_byte, high_byte, not_long, legal_from}
 
 abbrev pub AreBytes : List ℕ → Type 0
@@ -28,21 +26,21 @@ bytes-parts (x ∷ a) b h = let r = bytes-parts a b h.1 in ((h.0, r.0), r.1)
 
 pub Begins-more : (b ys : List ℕ) (c : Configuration) (place : ℕ) → Begins b c place → Begins (b ++ ys) c place
 Begins-more b ys c place h = record {
-    front = h.front;
-    rest = h.rest ++ ys;
-    parts = ap (λ (z : List ℕ). z ++ ys) h.parts ∙ append_assoc h.front h.rest ys;
-    layout = h.layout;
-    ends = h.ends
-  }
+  front = h.front;
+  rest = h.rest ++ ys;
+  parts = ap (λ (z : List ℕ). z ++ ys) h.parts ∙ append_assoc h.front h.rest ys;
+  layout = h.layout;
+  ends = h.ends;
+}
 
 Reaches-more : (b ys header : List ℕ) (items : List Raw) (place : ℕ) (rest : List ℕ) → Reaches b header items place rest → Reaches (b ++ ys) header items place (rest ++ ys)
 Reaches-more b ys header items place rest h = record {
-    is_header = h.is_header;
-    are_items = h.are_items;
-    parts = ap (λ (z : List ℕ). z ++ ys) h.parts ∙ append_assoc (header ++ joined items) rest ys;
-    ends = h.ends;
-    before_end = h.before_end
-  }
+  is_header = h.is_header;
+  are_items = h.are_items;
+  parts = ap (λ (z : List ℕ). z ++ ys) h.parts ∙ append_assoc (header ++ joined items) rest ys;
+  ends = h.ends;
+  before_end = h.before_end;
+}
 
 pub item_fault-more : (room : ℕ) (in_setting : Bool) (a b : List ℕ) (why : SetWhy) → item_fault room in_setting a ≡ Some why → item_fault room in_setting (a ++ b) ≡ Some why
 item_fault-more room in_setting [] b why e = absurd cc
@@ -53,12 +51,12 @@ item_fault-more room in_setting (len ∷ kind ∷ a) b why e = e
 pub Faulty-more : (b ys : List ℕ) (place : ℕ) (why : SetWhy) → Faulty b place why → Faulty (b ++ ys) place why
 Faulty-more b ys place why (inl e) = inl (header_fault-more b ys (place, why) e)
 Faulty-more b ys place why (inr h) = inr (record {
-    header = h.header;
-    items = h.items;
-    rest = h.rest ++ ys;
-    reaches = Reaches-more b ys h.header h.items place h.rest h.reaches;
-    fault = item_fault-more (total_of h.header - place) (list_any is_interface h.items) h.rest ys why h.fault
-  })
+  header = h.header;
+  items = h.items;
+  rest = h.rest ++ ys;
+  reaches = Reaches-more b ys h.header h.items place h.rest h.reaches;
+  fault = item_fault-more (total_of h.header - place) (list_any is_interface h.items) h.rest ys why h.fault;
+})
 
 -- ---- what holds of what was read
 
@@ -101,35 +99,35 @@ unfolding goes_on
 sound_on b header items c total place fits is_header are_items parts ends within holds =
     elim (cases_Bool (eqb place total)) [
       | inl y ↦
-        let at_end : place ≡ total = eqb-true place total y in
-        let all : length b ≡ total = omega (arith, ap length parts, length-append header (joined items)) in
-        let header_bytes : AreBytes header = (bytes-parts header (joined items) (subst AreBytes parts fits)).0 in
-        let long : 9 ≤ length header = header_long header is_header.no_fault is_header.whole in
-        let found : Begins b c place = record {
-          front = b;
-          rest = [];
-          parts = sym (append-nil b);
-          layout = record {
-            bytes = parts ∙ sym holds.bytes ∙ ap (set_bytes c) (sym all);
-            fits = fits;
-            within_255 = holds.legal.within_255;
-            raws_are_raw = holds.legal.raws_are_raw;
-            short = omega (arith, total_short header header_bytes (omega arith), holds.is_total)
-          };
-          ends = omega arith
-        } in
-        subst (Sound b) (sym (cond-true (eqb place total) (whole c place) (later c total place []) y)) found
+          let at_end : place ≡ total = eqb-true place total y in
+          let all : length b ≡ total = omega (arith, ap length parts, length-append header (joined items)) in
+          let header_bytes : AreBytes header = (bytes-parts header (joined items) (subst AreBytes parts fits)).0 in
+          let long : 9 ≤ length header = header_long header is_header.no_fault is_header.whole in
+          let found : Begins b c place = record {
+            front = b;
+            rest = [];
+            parts = sym (append-nil b);
+            layout = record {
+              bytes = parts ∙ sym holds.bytes ∙ ap (set_bytes c) (sym all);
+              fits = fits;
+              within_255 = holds.legal.within_255;
+              raws_are_raw = holds.legal.raws_are_raw;
+              short = omega (arith, total_short header header_bytes (omega arith), holds.is_total);
+            };
+            ends = omega arith;
+          } in
+          subst (Sound b) (sym (cond-true (eqb place total) (whole c place) (later c total place []) y)) found
       | inr n ↦
-        let lt : place < total = omega (arith, eqb-false place total n) in
-        let found : SoundLater b c total place [] = record {
-          header = header;
-          items = items;
-          holds = holds;
-          reaches = record { is_header = is_header; are_items = are_items; parts = parts ∙ sym (append-nil (header ++ joined items)); ends = ends; before_end = omega (arith, holds.is_total) };
-          fine = refl;
-          short = omega arith
-        } in
-        subst (Sound b) (sym (cond-false (eqb place total) (whole c place) (later c total place []) n)) found
+          let lt : place < total = omega (arith, eqb-false place total n) in
+          let found : SoundLater b c total place [] = record {
+            header = header;
+            items = items;
+            holds = holds;
+            reaches = record { is_header = is_header; are_items = are_items; parts = parts ∙ sym (append-nil (header ++ joined items)); ends = ends; before_end = omega (arith, holds.is_total) };
+            fine = refl;
+            short = omega arith;
+          } in
+          subst (Sound b) (sym (cond-false (eqb place total) (whole c place) (later c total place []) n)) found
     ]
 
 -- a descriptor that is neither too long so far nor whole goes on
@@ -186,11 +184,11 @@ header_legal (len ∷ h) fits is =
 
 holds_first : (h : List ℕ) → AreBytes h → IsHeader h → Holds h [] (configuration_of h) (total_of h)
 holds_first h fits is = record {
-    is_total = refl;
-    bytes = header_bytes h fits is (header_long h is.no_fault is.whole) ∙ sym (append-nil h);
-    legal = header_legal h fits is;
-    in_setting = refl
-  }
+  is_total = refl;
+  bytes = header_bytes h fits is (header_long h is.no_fault is.whole) ∙ sym (append-nil h);
+  legal = header_legal h fits is;
+  in_setting = refl;
+}
 
 -- ---- one more descriptor
 
@@ -204,9 +202,11 @@ AreItems-snoc room in_setting [] item h e =
     plain true = refl
     plain false = refl
 AreItems-snoc room in_setting (x ∷ items) item h e =
-    let less : room - length (joined (x ∷ items)) ≡ room - length (raw_descriptor x) - length (joined items) = omega (arith, length-append (raw_descriptor x) (joined items)) in
-    (h.0, AreItems-snoc (room - length (raw_descriptor x)) (in_setting || is_interface x) items item h.1
-      (rw (← less, regroup in_setting (is_interface x) (list_any is_interface items)) e))
+    let less : room - length (joined (x ∷ items)) ≡ room - length (raw_descriptor x) - length (joined items) = omega (arith, length-append (raw_descriptor x) (joined items)) in (
+      h.0,
+      AreItems-snoc (room - length (raw_descriptor x)) (in_setting || is_interface x) items item h.1
+          (rw (← less, regroup in_setting (is_interface x) (list_any is_interface items)) e),
+    )
   where
     regroup : (a b c : Bool) → ((a || b) || c) ≡ (a || (b || c))
     regroup true b c = refl
@@ -245,21 +245,21 @@ sound_first b cur x fits h =
     let same : b ++ x ∷ [] ≡ cur ++ x ∷ [] = ap (λ (z : List ℕ). z ++ x ∷ []) h.same in
     elim (option_cases (header_fault (cur ++ x ∷ []))) [
       | inl none ↦ elim (cases_Bool (is_whole (cur ++ x ∷ []))) [
-          | inl y ↦
+        | inl y ↦
             let header : IsHeader (cur ++ x ∷ []) = record { whole = y; no_fault = none } in
             let fits2 : AreBytes (cur ++ x ∷ []) = subst AreBytes same fits in
             let long : 9 ≤ length (cur ++ x ∷ []) = header_long (cur ++ x ∷ []) none y in
             subst (Sound (b ++ x ∷ [])) (sym (ap (after_first (cur ++ x ∷ [])) none ∙ cond-true (is_whole (cur ++ x ∷ [])) _ _ y))
-              (sound_on (b ++ x ∷ []) (cur ++ x ∷ []) [] (configuration_of (cur ++ x ∷ [])) (total_of (cur ++ x ∷ [])) (length (cur ++ x ∷ [])) fits header tt
-                (same ∙ sym (append-nil (cur ++ x ∷ []))) (omega arith)
-                (omega (arith, header_within (cur ++ x ∷ []) none (omega arith), whole_length (cur ++ x ∷ []) y)) (holds_first (cur ++ x ∷ []) fits2 header))
-          | inr n ↦
+            (sound_on (b ++ x ∷ []) (cur ++ x ∷ []) [] (configuration_of (cur ++ x ∷ [])) (total_of (cur ++ x ∷ [])) (length (cur ++ x ∷ [])) fits header tt
+            (same ∙ sym (append-nil (cur ++ x ∷ []))) (omega arith)
+            (omega (arith, header_within (cur ++ x ∷ []) none (omega arith), whole_length (cur ++ x ∷ []) y)) (holds_first (cur ++ x ∷ []) fits2 header))
+        | inr n ↦
             let found : SoundFirst (b ++ x ∷ []) (cur ++ x ∷ []) = record { same = same; fine = none; short = still_short cur x h.short (fine_nine (cur ++ x ∷ []) none) n } in
             subst (Sound (b ++ x ∷ [])) (sym (ap (after_first (cur ++ x ∷ [])) none ∙ cond-false (is_whole (cur ++ x ∷ [])) _ _ n)) found
-        ]
+      ]
       | inr some ↦
-        let found : Faulty (b ++ x ∷ []) some.0.0 some.0.1 = inl (ap header_fault same ∙ some.1) in
-        subst (Sound (b ++ x ∷ [])) (sym (ap (after_first (cur ++ x ∷ [])) some.1)) found
+          let found : Faulty (b ++ x ∷ []) some.0.0 some.0.1 = inl (ap header_fault same ∙ some.1) in
+          subst (Sound (b ++ x ∷ [])) (sym (ap (after_first (cur ++ x ∷ [])) some.1)) found
     ]
 
 sound_later : (b : List ℕ) (c : Configuration) (total place : ℕ) (cur : List ℕ) (x : ℕ) → AreBytes (b ++ x ∷ []) → SoundLater b c total place cur → Sound (b ++ x ∷ []) (step (later c total place cur) x)
@@ -269,7 +269,7 @@ sound_later b c total place cur x fits h =
     let reaches : Reaches (b ++ x ∷ []) h.header h.items place (cur ++ x ∷ []) = record { is_header = h.reaches.is_header; are_items = h.reaches.are_items; parts = parts; ends = h.reaches.ends; before_end = h.reaches.before_end } in
     elim (option_cases (item_fault (total - place) (has_setting c) (cur ++ x ∷ []))) [
       | inl none ↦ elim (cases_Bool (is_whole (cur ++ x ∷ []))) [
-          | inl y ↦
+        | inl y ↦
             let item : Raw = record { kind = get_or (cur ++ x ∷ []) 1 0; body = drop 2 (cur ++ x ∷ []) } in
             let two : 2 ≤ length (cur ++ x ∷ []) = omega (arith, fine_two (total - place) (has_setting c) (cur ++ x ∷ []) none, whole_length (cur ++ x ∷ []) y) in
             let is_item : raw_descriptor item ≡ cur ++ x ∷ [] = item_bytes (cur ++ x ∷ []) y two in
@@ -280,31 +280,38 @@ sound_later b c total place cur x fits h =
             let holds : Holds h.header (h.items ++ item ∷ []) (attach c item) total = record {
               is_total = h.holds.is_total;
               bytes = set_bytes-attach c total (total - place) item fine cur_fits.1.1 ∙ ap (λ (z : List ℕ). z ++ raw_descriptor item) h.holds.bytes
-                ∙ append_assoc h.header (joined h.items) (raw_descriptor item) ∙ ap (λ (z : List ℕ). h.header ++ z) (sym more);
+                  ∙ append_assoc h.header (joined h.items) (raw_descriptor item) ∙ ap (λ (z : List ℕ). h.header ++ z) (sym more);
               legal = legal-attach c (total - place) item h.holds.legal fine (omega (arith, cur_fits.0));
-              in_setting = has_setting-attach c item ∙ ap (λ s. s || is_interface item) h.holds.in_setting ∙ sym (snoc_any h.items item)
+              in_setting = has_setting-attach c item ∙ ap (λ s. s || is_interface item) h.holds.in_setting ∙ sym (snoc_any h.items item);
             } in
             subst (Sound (b ++ x ∷ [])) (sym (ap (after_later c total place (cur ++ x ∷ [])) none ∙ cond-true (is_whole (cur ++ x ∷ [])) _ _ y))
-              (sound_on (b ++ x ∷ []) h.header (h.items ++ item ∷ []) (attach c item) total (place + length (cur ++ x ∷ [])) fits h.reaches.is_header
-                (AreItems-snoc (total_of h.header - length h.header) false h.items item h.reaches.are_items
-                  (ap (λ n. item_fault n (list_any is_interface h.items) (raw_descriptor item)) (sym room) ∙ ap (λ s. item_fault (total - place) s (raw_descriptor item)) (sym h.holds.in_setting) ∙ fine))
-                (parts ∙ append_assoc h.header (joined h.items) (cur ++ x ∷ []) ∙ ap (λ (z : List ℕ). h.header ++ (joined h.items ++ z)) (sym is_item) ∙ ap (λ (z : List ℕ). h.header ++ z) (sym more))
-                (omega (arith, h.reaches.ends, ap length more, length-append (joined h.items) (raw_descriptor item), ap length is_item))
-                (omega (arith, item_within (total - place) (has_setting c) (cur ++ x ∷ []) none y, h.reaches.before_end, h.holds.is_total))
-                holds)
-          | inr n ↦
+            (sound_on (b ++ x ∷ []) h.header (h.items ++ item ∷ []) (attach c item) total (place + length (cur ++ x ∷ [])) fits h.reaches.is_header
+            (AreItems-snoc (total_of h.header - length h.header) false h.items item h.reaches.are_items
+            (ap (λ n. item_fault n (list_any is_interface h.items) (raw_descriptor item)) (sym room) ∙ ap (λ s. item_fault (total - place) s (raw_descriptor item)) (sym h.holds.in_setting) ∙ fine))
+            (parts ∙ append_assoc h.header (joined h.items) (cur ++ x ∷ []) ∙ ap (λ (z : List ℕ). h.header ++ (joined h.items ++ z)) (sym is_item) ∙ ap (λ (z : List ℕ). h.header ++ z) (sym more))
+            (omega (arith, h.reaches.ends, ap length more, length-append (joined h.items) (raw_descriptor item), ap length is_item))
+            (omega (arith, item_within (total - place) (has_setting c) (cur ++ x ∷ []) none y, h.reaches.before_end, h.holds.is_total))
+            holds)
+        | inr n ↦
             let found : SoundLater (b ++ x ∷ []) c total place (cur ++ x ∷ []) = record {
-              header = h.header; items = h.items; holds = h.holds; reaches = reaches; fine = none;
-              short = still_short cur x h.short (fine_two (total - place) (has_setting c) (cur ++ x ∷ []) none) n
+              header = h.header;
+              items = h.items;
+              holds = h.holds;
+              reaches = reaches;
+              fine = none;
+              short = still_short cur x h.short (fine_two (total - place) (has_setting c) (cur ++ x ∷ []) none) n;
             } in
             subst (Sound (b ++ x ∷ [])) (sym (ap (after_later c total place (cur ++ x ∷ [])) none ∙ cond-false (is_whole (cur ++ x ∷ [])) _ _ n)) found
-        ]
+      ]
       | inr some ↦
-        let found : Faulty (b ++ x ∷ []) place some.0 = inr (record {
-          header = h.header; items = h.items; rest = cur ++ x ∷ []; reaches = reaches;
-          fault = ap (λ n. item_fault (n - place) (list_any is_interface h.items) (cur ++ x ∷ [])) (sym h.holds.is_total) ∙ ap (λ s. item_fault (total - place) s (cur ++ x ∷ [])) (sym h.holds.in_setting) ∙ some.1
-        }) in
-        subst (Sound (b ++ x ∷ [])) (sym (ap (after_later c total place (cur ++ x ∷ [])) some.1)) found
+          let found : Faulty (b ++ x ∷ []) place some.0 = inr (record {
+            header = h.header;
+            items = h.items;
+            rest = cur ++ x ∷ [];
+            reaches = reaches;
+            fault = ap (λ n. item_fault (n - place) (list_any is_interface h.items) (cur ++ x ∷ [])) (sym h.holds.is_total) ∙ ap (λ s. item_fault (total - place) s (cur ++ x ∷ [])) (sym h.holds.in_setting) ∙ some.1;
+          }) in
+          subst (Sound (b ++ x ∷ [])) (sym (ap (after_later c total place (cur ++ x ∷ [])) some.1)) found
     ]
 
 sound_step : (b : List ℕ) (s : Reading) (x : ℕ) → AreBytes (b ++ x ∷ []) → Sound b s → Sound (b ++ x ∷ []) (step s x)
@@ -320,7 +327,7 @@ sound_reads b (x ∷ xs) s fits h =
     let p : (b ++ x ∷ []) ++ xs ≡ b ++ x ∷ xs = append_assoc b (x ∷ []) xs in
     let fits2 : AreBytes ((b ++ x ∷ []) ++ xs) = subst AreBytes (sym p) fits in
     subst (λ (z : List ℕ). Sound z (reads (step s x) xs)) p
-      (sound_reads (b ++ x ∷ []) xs (step s x) fits2 (sound_step b s x (bytes-parts (b ++ x ∷ []) xs fits2).0 h))
+    (sound_reads (b ++ x ∷ []) xs (step s x) fits2 (sound_step b s x (bytes-parts (b ++ x ∷ []) xs fits2).0 h))
 
 pub sound : (b : List ℕ) → AreBytes b → Sound b (reading_of b)
 sound b fits = sound_reads [] b (first []) fits (record { same = refl; fine = refl; short = omega arith })

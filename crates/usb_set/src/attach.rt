@@ -6,11 +6,16 @@ use crate::sequence::Sequence;
 use crate::tree::{Configuration, Endpoint, Raw, SetKind, Setting};
 use std::alloc::{AllocError, Global};
 
+/// The set that a first descriptor begins.
 pub(crate) fn read_configuration(alloc: Global, bytes: &[u8]) -> Result<Configuration, AllocError>
     requires { 9 ≤ length bytes.now }
     ensures { IfOk result (λ c. c ≡ configuration_of bytes.now) }
 {
-    let kind = if bytes[1] == 2 { SetKind::Configuration } else { SetKind::OtherSpeed };
+    let kind = if bytes[1] == 2 {
+        SetKind::Configuration
+    } else {
+        SetKind::OtherSpeed
+    };
     Ok(Configuration {
         kind,
         declared_interfaces: bytes[4],
@@ -24,6 +29,7 @@ pub(crate) fn read_configuration(alloc: Global, bytes: &[u8]) -> Result<Configur
     })
 }
 
+/// The setting of an interface descriptor's body.
 fn read_setting(alloc: Global, body: &[u8]) -> Result<Setting, AllocError>
     requires { 7 ≤ length body.now }
     ensures { IfOk result (λ s. s ≡ setting_of body.now) }
@@ -42,6 +48,7 @@ fn read_setting(alloc: Global, body: &[u8]) -> Result<Setting, AllocError>
     })
 }
 
+/// The endpoint of an endpoint descriptor's body.
 fn read_endpoint(alloc: Global, body: &[u8]) -> Result<Endpoint, AllocError>
     requires { 5 ≤ length body.now }
     ensures { IfOk result (λ e. e ≡ endpoint_of body.now) }
@@ -98,8 +105,14 @@ fn add_to_set(c: &mut Configuration, raw: Raw) -> Result<(), AllocError>
     Ok(())
 }
 
+/// Adds a whole descriptor, which belongs to the nearest typed one before it.
 #[tactic(auto, using(crate::proofs::Last::with_last_is), unfolding(crate::specs::Reading::attach))]
-pub(crate) fn add(alloc: Global, c: &mut Configuration, kind: u8, body: &[u8]) -> Result<(), AllocError>
+pub(crate) fn add(
+    alloc: Global,
+    c: &mut Configuration,
+    kind: u8,
+    body: &[u8],
+) -> Result<(), AllocError>
     requires interface { kind ≡ 4 → 7 ≤ length body.now }
     requires endpoint { kind ≡ 5 → 5 ≤ length body.now }
     requires belongs { kind ≡ 5 → 0 < length c.old.settings }

@@ -121,7 +121,12 @@ impl Decoder {
     pub fn finish(self) -> Result<Configuration, SetFault>
         ensures { Finishes self result }
     {
-        let Decoder { alloc: _, bytes, found, fault } = self;
+        let Decoder {
+            alloc: _,
+            bytes,
+            found,
+            fault,
+        } = self;
         if let Some(fault) = fault {
             return Err(fault);
         }

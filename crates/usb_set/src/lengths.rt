@@ -26,7 +26,10 @@ fn endpoint_len(start: usize, e: &Endpoint) -> usize
     requires short { is_endpoint_long e.now ≡ false }
     ensures { result ≡ min (start + length (endpoint_bytes e.now)) 65536 }
 {
-    raws_len((start + 7 + e.tail.len()).min(TOO_LONG), e.extras.as_slice())
+    raws_len(
+        (start + 7 + e.tail.len()).min(TOO_LONG),
+        e.extras.as_slice(),
+    )
 }
 
 #[tactic(auto, using(crate::proofs::Tests::none_at))]

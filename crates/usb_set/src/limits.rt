@@ -46,7 +46,9 @@ fn any_setting_long(settings: &[Setting]) -> bool
 pub(crate) fn is_long_set(c: &Configuration) -> bool
     ensures { result ≡ has_long_descriptor c.now }
 {
-    c.tail.len() > 246 || any_raw_long(c.extras.as_slice()) || any_setting_long(c.settings.as_slice())
+    c.tail.len() > 246
+        || any_raw_long(c.extras.as_slice())
+        || any_setting_long(c.settings.as_slice())
 }
 
 fn is_typed_raw(raw: &Raw) -> bool
@@ -64,15 +66,16 @@ fn any_raw_typed(raws: &[Raw]) -> bool
 fn any_endpoint_typed(endpoints: &[Endpoint]) -> bool
     ensures { result ≡ list_any is_endpoint_typed endpoints.now }
 {
-    endpoints.iter().any(|endpoint| any_raw_typed(endpoint.extras.as_slice()))
+    endpoints
+        .iter()
+        .any(|endpoint| any_raw_typed(endpoint.extras.as_slice()))
 }
 
 fn any_setting_typed(settings: &[Setting]) -> bool
     ensures { result ≡ list_any is_setting_typed settings.now }
 {
-    settings
-        .iter()
-        .any(|s| any_raw_typed(s.extras.as_slice()) || any_endpoint_typed(s.endpoints.as_slice()))
+    settings.iter().any(|s| any_raw_typed(s.extras.as_slice())
+        || any_endpoint_typed(s.endpoints.as_slice()))
 }
 
 pub(crate) fn is_typed_set(c: &Configuration) -> bool

@@ -4,9 +4,9 @@ ghost use Rattle.usb_set.specs.Faults.{header_fault, item_fault, total_of, first
 ghost use Rattle.usb_set.specs.Reading.{reading_of, has_setting};
 ghost use Rattle.usb_set.specs.Scanning.{Shows, Says};
 
-use crate::known::known_bytes;
 use crate::attach::{add, read_configuration};
 use crate::fault::SetWhy;
+use crate::known::known_bytes;
 use crate::tree::Configuration;
 use std::alloc::{AllocError, Global};
 
@@ -24,7 +24,8 @@ pub(crate) fn fault_in_header(bytes: &[u8]) -> Option<(usize, SetWhy)>
     match bytes {
         [len, ..] if *len < 9 => Some((0, SetWhy::HeaderLength)),
         [_, kind, ..] if !matches!(*kind, 2 | 7) => Some((1, SetWhy::HeaderKind)),
-        [len, _, low, high, ..] if usize::from(*low) + 256 * usize::from(*high) < usize::from(*len) => {
+        [len, _, low, high, ..]
+            if usize::from(*low) + 256 * usize::from(*high) < usize::from(*len) => {
             Some((2, SetWhy::Total))
         }
         _ => None,

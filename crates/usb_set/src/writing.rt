@@ -31,7 +31,15 @@ fn put_endpoint(out: &mut Vec<u8>, e: &Endpoint) -> Result<(), AllocError>
     ensures { OnOk result (out.new.items ≡ out.old.items ++ endpoint_bytes e.now) }
 {
     let [low, high] = e.max_packet.to_le_bytes();
-    out.extend_from_slice(&[e.tail.len() as u8 + 7, 5, e.address, e.attributes, low, high, e.interval])?;
+    out.extend_from_slice(&[
+        e.tail.len() as u8 + 7,
+        5,
+        e.address,
+        e.attributes,
+        low,
+        high,
+        e.interval,
+    ])?;
     out.extend_from_slice(e.tail.as_slice())?;
     put_raws(out, e.extras.as_slice())
 }

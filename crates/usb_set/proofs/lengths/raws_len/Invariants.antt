@@ -1,4 +1,4 @@
-use Rattle.std.proofs.Common.{◌≡◌, ◌+◌, ◌++◌, take, length, min}
+use Rattle.std.proofs.Common.{◌≡◌, ◌+◌, take, length, min}
 use Rattle.std.specs.List.{flat_map}
 use Rattle.usb_set.specs.Layout.{raw_descriptor}
 use Rattle.usb_set.proofs.lengths.raws_len.Given as goal

@@ -1,4 +1,4 @@
-use Rattle.std.proofs.Common.{arith, ◌≡◌, ◌++◌, ◌∙◌, ◌-◌, ◌<◌, List, ℕ, length, sym, ap, subst, Bool, not, true, false, cond}
+use Rattle.std.proofs.Common.{arith, ◌≡◌, ◌++◌, ◌∙◌, List, ℕ, sym, ap, subst, not, true}
 use Rattle.std.specs.Prelude.{is_ok}
 use Rattle.std.proofs.lemmas.Bool.{cond-true}
 use Rattle.usb_set.specs.declared.scan.Outcome.{Outcome}
@@ -27,4 +27,4 @@ returns-in-Done-clause-answer c =
     let all : c.as_slice.result.now ≡ c.self.inside.bytes.items ++ c.args.piece.now = c.as_slice.ensures.value ∙ c.extend_from_slice.ensures.items ∙ cond-true (is_ok c.extend_from_slice.result) _ _ went in
     let old : c.args.self.now ≡ gathers c.self.inside.bytes.items = sym c.self.view_is ∙ gathers_when c.self.inside.fault c.self.inside.found c.self.inside.bytes.items c.in_default.is none in
     is_done_now c.args.self.now c.self.inside.bytes.items c.args.piece.now c.as_slice.result.now c.extend_from_slice.new.self.items c.in-Done.c c.in-Done.place c.len-before.result c.self.inside.fault
-      old all open_s begins (omega (arith, c.len-before.ensures, c.self.inside.bytes.ok)) c.in_default.is
+    old all open_s begins (omega (arith, c.len-before.ensures, c.self.inside.bytes.ok)) c.in_default.is
