@@ -1,0 +1,48 @@
+-- The numbers and the lines of the program's faults.
+use Rattle.std.specs.Prelude.{ℕ, List, ◌++◌, codes, Result, Ok, Err}
+use Rattle.std.specs.Fmt.{decimal}
+use Rattle.usb_set.specs.Numbers.{number_of}
+use Rattle.usb_set.specs.declared.fault.SetFault.{SetFault}
+use Rattle.usb_set.specs.declared.fault.SetWhy.{SetWhy}
+use Rattle.usb_set.specs.declared.fault.SetWhy.TheVariants as whys
+use Rattle.usb_tool.specs.declared.fault.ToolFault.{ToolFault}
+use Rattle.usb_tool.specs.declared.fault.ToolFault.TheVariants as faults
+use Rattle.usb_tool.specs.declared.output.OutFault.{OutFault}
+use Rattle.usb_tool.specs.declared.output.OutFault.TheVariants as outs
+
+-- the number of a fault
+abbrev pub fault_number : ToolFault → ℕ
+fault_number faults.Read = 1
+fault_number faults.Write = 2
+fault_number faults.TooLarge = 3
+fault_number (faults.Set fault) = 6
+fault_number (faults.Trailing at) = 7
+fault_number faults.Memory = 8
+
+-- the line of a fault, without its line feed
+abbrev pub fault_line : ToolFault → List ℕ
+fault_line faults.Read = codes "usbdesc: read failed"
+fault_line faults.Write = codes "usbdesc: write failed"
+fault_line faults.TooLarge = codes "usbdesc: input too large"
+fault_line (faults.Set fault) =
+    codes "usbdesc: set fault " ++ decimal (number_of fault.why) ++ codes " at " ++ decimal fault.at
+fault_line (faults.Trailing at) = codes "usbdesc: trailing bytes at " ++ decimal at
+fault_line faults.Memory = codes "usbdesc: out of memory"
+
+-- a decoder's want of memory is the program's own, and any other fault is one of the set
+abbrev pub fault_by_why : SetWhy → SetFault → ToolFault
+fault_by_why whys.Memory fault = faults.Memory
+fault_by_why _ fault = faults.Set fault
+
+abbrev pub fault_of_set : SetFault → ToolFault
+fault_of_set fault = fault_by_why fault.why fault
+
+-- a listing that was not written to its end
+abbrev pub fault_of_output : OutFault → ToolFault
+fault_of_output outs.Write = faults.Write
+fault_of_output outs.Memory = faults.Memory
+
+-- the exit status: the command's own number, or 3 after a fault
+abbrev pub status_of : Result ℕ ToolFault → ℕ
+status_of (Ok number) = number
+status_of (Err fault) = 3

@@ -1,0 +1,6 @@
+pub mod Output
+pub mod Listing
+pub mod Input
+pub mod Sets
+pub mod Faults
+pub mod Shows

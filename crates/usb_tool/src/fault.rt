@@ -1,0 +1,106 @@
+//! Why a command of the program failed, and what it says of that.
+ghost use Rattle.std.specs.Prelude.{◌≡◌, Some};
+ghost use Rattle.usb_tool.specs.Faults.{fault_line, fault_number, fault_of_output, fault_of_set, status_of};
+ghost use Rattle.usb_tool.specs.declared.fault.ToolFault.TheVariants.{Memory};
+
+use crate::output::OutFault;
+use std::alloc::AllocError;
+use std::error::Error;
+use std::fmt;
+use usb_set::{SetFault, SetWhy};
+
+/// Why a command did not do its work.
+#[derive(Clone, Copy, Debug, PartialEq, Eq, Hash)]
+pub enum ToolFault {
+    /// The reader answered an error.
+    Read,
+    /// The writer answered an error, or took none of some bytes.
+    Write,
+    /// The input is longer than the command reads.
+    TooLarge,
+    /// The input is no configuration set.
+    Set(SetFault),
+    /// The input goes on after its set: the place of the first byte after it.
+    Trailing(usize),
+    /// A growth was refused.
+    Memory,
+}
+
+impl ToolFault {
+    /// The fault's number. 4 and 5 are for files and listings.
+    pub fn number(&self) -> u8
+        ensures { result ≡ fault_number self.now }
+    {
+        match self {
+            ToolFault::Read => 1,
+            ToolFault::Write => 2,
+            ToolFault::TooLarge => 3,
+            ToolFault::Set(_) => 6,
+            ToolFault::Trailing(_) => 7,
+            ToolFault::Memory => 8,
+        }
+    }
+}
+
+/// The line that the program prints on standard error, without its line feed.
+impl fmt::Display for ToolFault {
+    ghost output = { λ fault. Some (fault_line fault) };
+
+    fn fmt<W: fmt::Write>(&self, f: &mut fmt::Formatter<W>) -> fmt::Result {
+        match self {
+            ToolFault::Read => write!(f, "usbdesc: read failed"),
+            ToolFault::Write => write!(f, "usbdesc: write failed"),
+            ToolFault::TooLarge => write!(f, "usbdesc: input too large"),
+            ToolFault::Set(fault) => {
+                let number = fault.why.number();
+                let at = fault.at;
+                write!(f, "usbdesc: set fault {number} at {at}")
+            }
+            ToolFault::Trailing(at) => write!(f, "usbdesc: trailing bytes at {at}"),
+            ToolFault::Memory => write!(f, "usbdesc: out of memory"),
+        }
+    }
+}
+
+impl Error for ToolFault {}
+
+impl From<AllocError> for ToolFault {
+    ghost from_gives = { λ _ fault. fault ≡ Memory };
+
+    fn from(_e: AllocError) -> ToolFault {
+        ToolFault::Memory
+    }
+}
+
+/// Want of memory is the program's own fault, wherever it came.
+impl From<SetFault> for ToolFault {
+    ghost from_gives = { λ e fault. fault ≡ fault_of_set e };
+
+    fn from(e: SetFault) -> ToolFault {
+        match e.why {
+            SetWhy::Memory => ToolFault::Memory,
+            _ => ToolFault::Set(e),
+        }
+    }
+}
+
+impl From<OutFault> for ToolFault {
+    ghost from_gives = { λ e fault. fault ≡ fault_of_output e };
+
+    fn from(e: OutFault) -> ToolFault {
+        match e {
+            OutFault::Write => ToolFault::Write,
+            OutFault::Memory => ToolFault::Memory,
+        }
+    }
+}
+
+/// The exit status of the program: the command's own number, or 3 after a fault.
+pub fn verdict(r: &Result<u8, ToolFault>) -> u8
+    ensures { result ≡ status_of r.now }
+{
+    match r {
+        Ok(number) => *number,
+        Err(_) => 3,
+    }
+}

@@ -1,0 +1,37 @@
+//! Reading all of an input, up to a limit.
+ghost use Rattle.std.specs.Prelude.{◌<◌, ◌≤◌, length, IfErr, IfOk};
+ghost use Rattle.usb_tool.specs.Input.{ReadFails, ReadsAll};
+
+use crate::fault::ToolFault;
+use std::alloc::Global;
+use std::io::Read;
+
+/// How many bytes are asked of the reader at a time.
+const CHUNK: usize = 4096;
+
+/// All that the reader gives.
+///
+/// # Errors
+///
+/// `TooLarge` at the first byte over the limit, `Read` where the reader failed, `Memory` where a
+/// growth was refused.
+pub(crate) fn read_all<R: Read>(alloc: Global, r: &mut R, limit: usize) -> Result<Vec<u8>, ToolFault>
+    requires { limit < usize.MAX }
+    ensures all { IfOk result (λ v. ReadsAll (R.remaining r.old) (R.remaining r.new) v.items) }
+    ensures within { IfOk result (λ v. length v.items ≤ limit) }
+    ensures fault { IfErr result (ReadFails limit (R.remaining r.old) (R.remaining r.new)) }
+{
+    let mut buffer = [0u8; CHUNK];
+    let mut bytes = Vec::new(alloc);
+    while bytes.len() <= limit {
+        // One byte over the limit is enough to tell.
+        let room = (limit - bytes.len()).min(CHUNK - 1) + 1;
+        let chunk = &mut buffer[..room];
+        match r.read(chunk) {
+            Ok(0) => return Ok(bytes),
+            Ok(count) => bytes.extend_from_slice(&chunk[..count])?,
+            Err(_) => return Err(ToolFault::Read),
+        }
+    }
+    Err(ToolFault::TooLarge)
+}
