@@ -1,0 +1,7 @@
+pub mod Bytes
+pub mod Setup
+pub mod Fault
+pub mod Device
+pub mod Qualifier
+pub mod Units
+pub mod Packet

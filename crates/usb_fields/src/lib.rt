@@ -1,0 +1,38 @@
+//! Field values and packet types of USB 2.0.
+//!
+//! This crate stands on nothing but std. It has what both ends of a bus and the descriptor files speak of:
+//!
+//! * [`Setup`], the eight bytes that begin each control transfer (USB 2.0, 9.3), with the
+//!   [`Direction`], [`Class`] and [`Recipient`] that its bmRequestType codes (table 9-2);
+//! * [`DeviceDescriptor`] (9.6.1) and [`Qualifier`] (9.6.2), the descriptors of fixed length;
+//! * [`read_units`] and [`write_units`] for string descriptors and language lists (9.6.7);
+//! * [`Transaction`], [`Stage`], [`Toggle`] and [`Answer`], what passes between a host and a device
+//!   (8.4 to 8.6), and [`Speed`].
+//!
+//! Fields of two bytes are little-endian (8.1). Numbers keep the value that stands in the bytes: no field is
+//! checked for its meaning here.
+//!
+//! Reading and writing undo each other on exactly the legal bytes; [`laws`] says so, a law for each pair.
+//! Only `read_units` and `write_units` take memory.
+#![tactic(auto)]
+
+mod device;
+mod fault;
+mod field;
+pub mod laws;
+mod packet;
+mod qualifier;
+mod setup;
+mod speed;
+mod units;
+
+pub use device::DeviceDescriptor;
+pub use fault::{FieldFault, UnitFault};
+pub use packet::{Answer, Stage, Toggle, Transaction};
+pub use qualifier::Qualifier;
+pub use setup::{Class, Direction, Recipient, Setup};
+pub use speed::Speed;
+pub use units::{read_units, write_units};
+
+#[cfg(test)]
+mod tests;

@@ -1,0 +1,80 @@
+//! The device qualifier descriptor (USB 2.0, 9.6.2).
+ghost use Rattle.std.specs.Prelude.{◌≡◌, Some, IfOk, IfErr};
+
+use crate::fault::FieldFault;
+use crate::field::{word_at, word_bytes};
+
+/// bLength of a qualifier, in bytes.
+const LENGTH: u8 = 10;
+
+/// bDescriptorType DEVICE_QUALIFIER.
+const KIND: u8 = 6;
+
+/// A device qualifier: what a high-speed device would be at its other speed (USB 2.0, table 9-9).
+#[derive(Clone, Copy, Debug, PartialEq, Eq, Hash)]
+pub struct Qualifier {
+    /// bcdUSB: the release of the standard in binary-coded decimal, as 0200 hexadecimal for 2.0.
+    pub usb: u16,
+    /// bDeviceClass.
+    pub class: u8,
+    /// bDeviceSubClass.
+    pub subclass: u8,
+    /// bDeviceProtocol.
+    pub protocol: u8,
+    /// bMaxPacketSize0 at the other speed, in bytes.
+    pub packet: u8,
+    /// bNumConfigurations: how many configurations there are at the other speed.
+    pub configurations: u8,
+    /// bReserved: 0 in devices that keep the standard.
+    pub reserved: u8,
+}
+
+impl Qualifier {
+    ghost use Rattle.usb_fields.specs.Qualifier.{qualifier_bytes, qualifier_fault};
+
+    /// The qualifier that these bytes are.
+    ///
+    /// # Errors
+    ///
+    /// [`FieldFault::Length`] where the bytes are not 10 or bLength is not 10, and else
+    /// [`FieldFault::Kind`] where bDescriptorType is not 6.
+    pub fn read(b: &[u8]) -> Result<Qualifier, FieldFault>
+        ensures ok { IfOk result (λ q. b.now ≡ qualifier_bytes q) }
+        ensures err { IfErr result (λ fault. qualifier_fault b.now ≡ Some fault) }
+    {
+        if b.len() != usize::from(LENGTH) || b[0] != LENGTH {
+            return Err(FieldFault::Length);
+        }
+        if b[1] != KIND {
+            return Err(FieldFault::Kind);
+        }
+        Ok(Qualifier {
+            usb: word_at(b, 2),
+            class: b[4],
+            subclass: b[5],
+            protocol: b[6],
+            packet: b[7],
+            configurations: b[8],
+            reserved: b[9],
+        })
+    }
+
+    /// The bytes of this qualifier.
+    pub fn to_bytes(&self) -> [u8; 10]
+        ensures { result ≡ qualifier_bytes self.now }
+    {
+        let [usb_low, usb_high] = word_bytes(self.usb);
+        [
+            LENGTH,
+            KIND,
+            usb_low,
+            usb_high,
+            self.class,
+            self.subclass,
+            self.protocol,
+            self.packet,
+            self.configurations,
+            self.reserved,
+        ]
+    }
+}

@@ -1,0 +1,128 @@
+//! The setup packet of a control transfer (USB 2.0, 9.3).
+ghost use Rattle.std.specs.Prelude.{◌≡◌};
+
+use crate::field::{word_at, word_bytes};
+
+/// Which way the data stage goes (bit 7 of bmRequestType).
+#[derive(Clone, Copy, Debug, PartialEq, Eq, Hash)]
+pub enum Direction {
+    /// Host to device.
+    Out,
+    /// Device to host.
+    In,
+}
+
+/// Who defines the request (bits 6..5 of bmRequestType).
+#[derive(Clone, Copy, Debug, PartialEq, Eq, Hash)]
+pub enum Class {
+    /// The standard: chapter 9 of USB 2.0.
+    Standard,
+    /// The specification of a device class.
+    Class,
+    /// The device's vendor.
+    Vendor,
+    /// A value that the standard keeps for later.
+    Reserved,
+}
+
+/// Which part of the device a request is for (bits 4..0 of bmRequestType).
+#[derive(Clone, Copy, Debug, PartialEq, Eq, Hash)]
+pub enum Recipient {
+    /// The device as a whole.
+    Device,
+    /// An interface, named by wIndex.
+    Interface,
+    /// An endpoint, named by wIndex.
+    Endpoint,
+    /// Another part of the device.
+    Other,
+    /// A value that the standard keeps for later.
+    Reserved,
+}
+
+/// A setup packet: the eight bytes that say what a control transfer asks for (USB 2.0, table 9-2).
+#[derive(Clone, Copy, Debug, PartialEq, Eq, Hash)]
+pub struct Setup {
+    /// bmRequestType: direction, class and recipient.
+    pub request_type: u8,
+    /// bRequest: the request's code (table 9-4).
+    pub request: u8,
+    /// wValue: its meaning depends on the request.
+    pub value: u16,
+    /// wIndex: its meaning depends on the request, mostly an interface, an endpoint or a language.
+    pub index: u16,
+    /// wLength: the most bytes that the data stage may have; 0 says that there is none.
+    pub length: u16,
+}
+
+impl Setup {
+    ghost use Rattle.usb_fields.specs.Setup.{setup_bytes, setup_of, direction_of, class_of, recipient_of};
+
+    /// The setup packet that these bytes are.
+    pub fn from_bytes(b: &[u8; 8]) -> Setup
+        ensures value { result ≡ setup_of b.now }
+        ensures bytes { setup_bytes result ≡ b.now }
+    {
+        Setup {
+            request_type: b[0],
+            request: b[1],
+            value: word_at(b, 2),
+            index: word_at(b, 4),
+            length: word_at(b, 6),
+        }
+    }
+
+    /// The bytes of this packet, in the order in which they are sent.
+    pub fn to_bytes(&self) -> [u8; 8]
+        ensures { result ≡ setup_bytes self.now }
+    {
+        let [value_low, value_high] = word_bytes(self.value);
+        let [index_low, index_high] = word_bytes(self.index);
+        let [length_low, length_high] = word_bytes(self.length);
+        [
+            self.request_type,
+            self.request,
+            value_low,
+            value_high,
+            index_low,
+            index_high,
+            length_low,
+            length_high,
+        ]
+    }
+
+    /// Which way the data stage goes. Where `length` is 0 there is none, and the bit means nothing.
+    pub fn direction(&self) -> Direction
+        ensures { result ≡ direction_of self.now.request_type }
+    {
+        match self.request_type >> 7 {
+            0 => Direction::Out,
+            _ => Direction::In,
+        }
+    }
+
+    /// Who defines the request.
+    pub fn class(&self) -> Class
+        ensures { result ≡ class_of self.now.request_type }
+    {
+        match self.request_type >> 5 & 3 {
+            0 => Class::Standard,
+            1 => Class::Class,
+            2 => Class::Vendor,
+            _ => Class::Reserved,
+        }
+    }
+
+    /// Which part of the device the request is for.
+    pub fn recipient(&self) -> Recipient
+        ensures { result ≡ recipient_of self.now.request_type }
+    {
+        match self.request_type & 0x1f {
+            0 => Recipient::Device,
+            1 => Recipient::Interface,
+            2 => Recipient::Endpoint,
+            3 => Recipient::Other,
+            _ => Recipient::Reserved,
+        }
+    }
+}

@@ -1,0 +1,79 @@
+//! Strings and language lists: descriptors that hold 16-bit units (USB 2.0, 9.6.7).
+ghost use Rattle.std.specs.Prelude.{◌≡◌, ◌≤◌, ◌<◌, ◌*◌, ◌/◌, ◌%◌, length, vec_capacity, IfOk, IfErr, OnOk};
+ghost use Rattle.std.specs.List.{flat_map};
+ghost use Rattle.usb_fields.specs.Bytes.{little_endian};
+ghost use Rattle.usb_fields.specs.Units.{units_bytes, RefusesToRead, RefusesToWrite};
+
+use crate::fault::UnitFault;
+use crate::field::word_bytes;
+use std::alloc::{AllocError, Global};
+
+/// bDescriptorType STRING.
+const KIND: u8 = 3;
+
+/// The most units that a bLength can count.
+const MOST_UNITS: usize = 126;
+
+/// The units of a string or a language list: the language codes of string 0, and UTF-16 code units of
+/// any other string. They are kept as numbers.
+///
+/// # Errors
+///
+/// The first of [`UnitFault::Length`], [`UnitFault::Kind`] and [`UnitFault::Odd`] that holds;
+/// [`UnitFault::Memory`] only where none of them does.
+pub fn read_units(alloc: Global, b: &[u8]) -> Result<Vec<u16>, UnitFault>
+    ensures ok { IfOk result (λ u. b.now ≡ units_bytes u.items) }
+    ensures few { IfOk result (λ u. length u.items ≤ 126) }
+    ensures err { IfErr result (λ fault. RefusesToRead b.now fault) }
+{
+    if b.len() < 2 || usize::from(b[0]) != b.len() {
+        return Err(UnitFault::Length);
+    }
+    if b[1] != KIND {
+        return Err(UnitFault::Kind);
+    }
+    if b[0] % 2 == 1 {
+        return Err(UnitFault::Odd);
+    }
+    Ok(units_in(alloc, &b[2..])?)
+}
+
+/// The units whose bytes these are.
+fn units_in(alloc: Global, b: &[u8]) -> Result<Vec<u16>, AllocError>
+    requires { length b.now % 2 ≡ 0 }
+    ensures is { IfOk result (λ u. b.now ≡ flat_map little_endian u.items) }
+    ensures long { IfOk result (λ u. 2 * length u.items ≡ length b.now) }
+{
+    let mut units = Vec::with_capacity(alloc, b.len() / 2)?;
+    let mut rest = b;
+    while let [low, high, more @ ..] = rest {
+        units.push_reserved(u16::from_le_bytes([*low, *high]));
+        rest = more;
+    }
+    Ok(units)
+}
+
+/// The bytes of a string or a language list with these units.
+///
+/// # Errors
+///
+/// [`UnitFault::TooLong`] for more than 126 units; [`UnitFault::Memory`] only where they are not too many.
+pub fn write_units(alloc: Global, u: &[u16]) -> Result<Vec<u8>, UnitFault>
+    ensures ok { IfOk result (λ b. b.items ≡ units_bytes u.now) }
+    ensures few { OnOk result (length u.now ≤ 126) }
+    ensures err { IfErr result (λ fault. RefusesToWrite u.now fault) }
+{
+    if u.len() > MOST_UNITS {
+        return Err(UnitFault::TooLong);
+    }
+    let size = 2 + 2 * u.len();
+    let mut bytes = Vec::with_capacity(alloc, size)?;
+    bytes.push_reserved(size as u8);
+    bytes.push_reserved(KIND);
+    for unit in u {
+        let [low, high] = word_bytes(*unit);
+        bytes.push_reserved(low);
+        bytes.push_reserved(high);
+    }
+    Ok(bytes)
+}
