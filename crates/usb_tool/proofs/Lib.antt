@@ -3,3 +3,4 @@ pub mod Rows
 pub mod Lines
 pub mod Reading
 pub mod Showing
+pub mod LineLemmas

@@ -13,7 +13,7 @@ use Rattle.usb_tool.specs.Faults.{fault_by_why, fault_of_output, fault_of_set}
 use Rattle.usb_tool.specs.Input.{Left, ReadsAll}
 use Rattle.usb_tool.specs.Output.{Held}
 use Rattle.usb_tool.specs.Sets.{HasFault}
-use Rattle.usb_tool.specs.Shows.{ShowFails, ShowsFront}
+use Rattle.usb_tool.specs.Shows.{ShowFails, ShowsFront, file_limit}
 use Rattle.usb_tool.specs.declared.fault.ToolFault.{ToolFault}
 use Rattle.usb_tool.specs.declared.fault.ToolFault.TheVariants as faults
 use Rattle.usb_tool.specs.declared.output.OutFault.{OutFault}
@@ -30,7 +30,7 @@ begins_whole b c place begins h =
     subst (Layout c) (sym (begins.parts ∙ nothing_after begins.front begins.rest short)) begins.layout
 
 set_fails : (from to : Left) (held holds : Held) (b : List ℕ) (why : SetWhy) (e : SetFault) → HasFault b e ⊎ (why ≡ whys.Memory)
-    → ReadsAll from to b → Keeps held holds → ShowFails from to held holds (fault_by_why why e)
+    → ReadsAll file_limit from to b → Keeps held holds → ShowFails from to held holds (fault_by_why why e)
 set_fails from to held holds b whys.Memory e f read kept = inl kept
 set_fails from to held holds b whys.HeaderLength e (inl f) read kept = (record { bytes = b; read = read; fault = f }, kept)
 set_fails from to held holds b whys.HeaderKind e (inl f) read kept = (record { bytes = b; read = read; fault = f }, kept)
@@ -50,7 +50,7 @@ as_memory b e (inr f) = inl f
 
 -- `show` of bytes that are no set, nothing being written
 pub fails_by_set : {T : Type 0} (from to : Left) (held holds : Held) (r : Result T ToolFault) (e : SetFault) (b : List ℕ)
-    → IsErrAnd r (λ fault. fault ≡ fault_of_set e) → (e ≡ out_of_memory) ⊎ HasFault b e → ReadsAll from to b → Keeps held holds
+    → IsErrAnd r (λ fault. fault ≡ fault_of_set e) → (e ≡ out_of_memory) ⊎ HasFault b e → ReadsAll file_limit from to b → Keeps held holds
     → IfErr r (ShowFails from to held holds)
 fails_by_set from to held holds (Ok v) e b h f read kept = tt
 fails_by_set from to held holds (Err fault) e b h f read kept =

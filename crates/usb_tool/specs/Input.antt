@@ -1,5 +1,5 @@
 -- What is read of an input, of which a claim is made where the reader tells its bytes.
-use Rattle.std.specs.Prelude.{ℕ, ◌<◌, ◌≤◌, List, length, Option}
+use Rattle.std.specs.Prelude.{◌≡◌, ℕ, ◌+◌, ◌≤◌, List, length, Option}
 use Rattle.std.specs.Io.KnownBytes.{Consumes, IsAtEnd}
 use Rattle.usb_tool.specs.declared.fault.ToolFault.{ToolFault}
 use Rattle.usb_tool.specs.declared.fault.ToolFault.TheVariants as faults
@@ -8,15 +8,17 @@ use Rattle.usb_tool.specs.declared.fault.ToolFault.TheVariants as faults
 abbrev pub Left : Type 0
 Left = Option (List ℕ)
 
--- the reader gave these bytes and has no more
-abbrev pub ReadsAll : Left → Left → List ℕ → Type 0
-ReadsAll old new bytes = Consumes old new bytes × IsAtEnd new
+-- the reader gave these bytes and has no more, and they are within the limit
+pub record ReadsAll (limit : ℕ) (old new : Left) (bytes : List ℕ) : Type 0 where
+  pub read : Consumes old new bytes
+  pub ended : IsAtEnd new
+  pub within : length bytes ≤ limit
 
--- the reader gave more bytes than the limit
+-- the reader gave one byte over the limit, and no more was read
 pub record ReadsMore (limit : ℕ) (old new : Left) : Type 0 where
   pub bytes : List ℕ
   pub read : Consumes old new bytes
-  pub above : limit < length bytes
+  pub above : length bytes ≡ limit + 1
 
 -- Reading up to a limit ends with more bytes than that, a failed read, or want of memory.
 abbrev pub ReadFails : ℕ → Left → Left → ToolFault → Type 0

@@ -4,3 +4,4 @@ pub mod Input
 pub mod Sets
 pub mod Faults
 pub mod Shows
+pub mod Lines

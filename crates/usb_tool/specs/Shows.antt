@@ -11,11 +11,15 @@ use Rattle.usb_tool.specs.Sets.{HasFault}
 use Rattle.usb_tool.specs.declared.fault.ToolFault.{ToolFault}
 use Rattle.usb_tool.specs.declared.fault.ToolFault.TheVariants as faults
 
+-- The most bytes that a descriptor file can have, which is what the program reads of any input.
+abbrev pub file_limit : ℕ
+file_limit = 41584152
+
 -- all was read, it is the layout of a set, and the listing of that set was written
 pub record Shows (from to : Left) (held holds : Held) : Type 0 where
   pub bytes : List ℕ
   pub set : Configuration
-  pub read : ReadsAll from to bytes
+  pub read : ReadsAll file_limit from to bytes
   pub layout : Layout set bytes
   pub written : Appends held holds (set_text set)
 
@@ -23,27 +27,23 @@ pub record Shows (from to : Left) (held holds : Held) : Type 0 where
 pub record ShowsFront (from to : Left) (held holds : Held) : Type 0 where
   pub bytes : List ℕ
   pub set : Configuration
-  pub read : ReadsAll from to bytes
+  pub read : ReadsAll file_limit from to bytes
   pub layout : Layout set bytes
   pub written : AppendsFront held holds (set_text set)
 
 -- all was read, and it has this fault
 pub record IsFaulty (from to : Left) (e : SetFault) : Type 0 where
   pub bytes : List ℕ
-  pub read : ReadsAll from to bytes
+  pub read : ReadsAll file_limit from to bytes
   pub fault : HasFault bytes e
 
 -- all was read, and it goes on after a layout that ends at this place
 pub record Trails (from to : Left) (at : ℕ) : Type 0 where
   pub bytes : List ℕ
   pub set : Configuration
-  pub read : ReadsAll from to bytes
+  pub read : ReadsAll file_limit from to bytes
   pub layout : Layout set (take at bytes)
   pub more : at < length bytes
-
--- The most bytes that a descriptor file can have, which is what the program reads of any input.
-abbrev pub file_limit : ℕ
-file_limit = 41584152
 
 -- How `show` fails: nothing was written unless the input is a layout, and of its listing a front.
 abbrev pub ShowFails : Left → Left → Held → Held → ToolFault → Type 0

@@ -1,5 +1,5 @@
 //! Reading all of an input, up to a limit.
-ghost use Rattle.std.specs.Prelude.{◌<◌, ◌≤◌, length, IfErr, IfOk};
+ghost use Rattle.std.specs.Prelude.{◌<◌, IfErr, IfOk};
 ghost use Rattle.usb_tool.specs.Input.{ReadFails, ReadsAll};
 
 use crate::fault::ToolFault;
@@ -15,10 +15,13 @@ const CHUNK: usize = 4096;
 ///
 /// `TooLarge` at the first byte over the limit, `Read` where the reader failed, `Memory` where a
 /// growth was refused.
-pub(crate) fn read_all<R: Read>(alloc: Global, r: &mut R, limit: usize) -> Result<Vec<u8>, ToolFault>
+pub(crate) fn read_all<R: Read>(
+    alloc: Global,
+    r: &mut R,
+    limit: usize,
+) -> Result<Vec<u8>, ToolFault>
     requires { limit < usize.MAX }
-    ensures all { IfOk result (λ v. ReadsAll (R.remaining r.old) (R.remaining r.new) v.items) }
-    ensures within { IfOk result (λ v. length v.items ≤ limit) }
+    ensures all { IfOk result (λ v. ReadsAll limit (R.remaining r.old) (R.remaining r.new) v.items) }
     ensures fault { IfErr result (ReadFails limit (R.remaining r.old) (R.remaining r.new)) }
 {
     let mut buffer = [0u8; CHUNK];

@@ -3,6 +3,7 @@
 
 mod fault;
 mod input;
+mod line;
 mod listing;
 mod output;
 mod page;
@@ -10,4 +11,8 @@ mod set;
 mod show;
 
 pub use fault::{ToolFault, verdict};
+pub use line::{Line, read_line};
 pub use show::run_show;
+
+#[cfg(test)]
+mod tests;

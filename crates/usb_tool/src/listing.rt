@@ -17,7 +17,11 @@ use usb_set::{Configuration, Endpoint, Raw, SetKind, Setting};
 ///
 /// `Write` where the writer failed, `Memory` where a growth was refused. A front of the listing is
 /// written then.
-pub(crate) fn list_set<W: Write>(alloc: Global, c: &Configuration, w: &mut W) -> Result<(), OutFault>
+pub(crate) fn list_set<W: Write>(
+    alloc: Global,
+    c: &Configuration,
+    w: &mut W,
+) -> Result<(), OutFault>
     ensures text { OnOk result (Appends (W.contents w.old) (W.contents w.new) (set_text c.now)) }
     ensures front { OnErr result (AppendsFront (W.contents w.old) (W.contents w.new) (set_text c.now)) }
 {
@@ -50,7 +54,11 @@ fn list_setting<W: Write>(page: &mut Page, s: &Setting, w: &mut W) -> Result<(),
     page.pass_on(w)
 }
 
-fn list_endpoints<W: Write>(page: &mut Page, endpoints: &[Endpoint], w: &mut W) -> Result<(), OutFault>
+fn list_endpoints<W: Write>(
+    page: &mut Page,
+    endpoints: &[Endpoint],
+    w: &mut W,
+) -> Result<(), OutFault>
     ensures text { OnOk result (Puts (W.contents w.old) (W.contents w.new) page.old page.new
         (flat_map endpoint_text endpoints.now)) }
     ensures front { OnErr result (AppendsFront (W.contents w.old) (W.contents w.new)

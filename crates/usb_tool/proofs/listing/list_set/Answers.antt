@@ -11,7 +11,7 @@ returns-in_err-list_raws-clause-front g c =
     let line = rw c.in_ok-page.ensures at c.in_ok-put_configuration.ensures in
     let set = c.args.c.now in
     on_err _ (front_more _ _ [] (configuration_line set ++ flat_map raw_text set.extras) (flat_map setting_text set.settings)
-      (broken_after _ _ [] _ (configuration_line set) (flat_map raw_text set.extras) line raws))
+    (broken_after _ _ [] _ (configuration_line set) (flat_map raw_text set.extras) line raws))
 
 pub returns-in_err-list_settings-clause-front : goal.returns-in_err-list_settings-clause-front
 returns-in_err-list_settings-clause-front g c =

@@ -10,7 +10,7 @@ returns-in_err-list_raws-clause-front g c =
     let raws = rw c.as_slice.ensures at c.in_err-list_raws.ensures.front in
     let s = c.args.s.now in
     on_err _ (front_more _ _ c.args.page.now (interface_line s ++ flat_map raw_text s.extras) (flat_map endpoint_text s.endpoints)
-      (broken_after _ _ _ _ _ _ c.in_ok-put_interface.ensures raws))
+    (broken_after _ _ _ _ _ _ c.in_ok-put_interface.ensures raws))
 
 pub returns-in_err-list_endpoints-clause-front : goal.returns-in_err-list_endpoints-clause-front
 returns-in_err-list_endpoints-clause-front g c =

@@ -16,5 +16,5 @@ returns c =
     let interval : c.put_byte-3.new.self ≡ c.put_bytes.new.self ++ field_text (one_byte e.interval) = c.in_ok-put_byte-3.ensures in
     let tail : c.put_bytes-2.new.self ≡ c.put_byte-3.new.self ++ field_text e.tail = rw c.as_slice.ensures at c.in_ok-put_bytes-2.ensures in
     on_ok_weaker c.end_line.result (λ (ended : c.end_line.new.self ≡ c.put_bytes-2.new.self ++ codes "\n"). rw (ended, tail, interval, max_packet, attributes, address, word)
-      (line_put c.args.page.now (codes "endpoint")
-        (one_byte e.address ∷ one_byte e.attributes ∷ two_bytes e.max_packet ∷ one_byte e.interval ∷ e.tail ∷ []))) c.end_line.ensures
+    (line_put c.args.page.now (codes "endpoint")
+    (one_byte e.address ∷ one_byte e.attributes ∷ two_bytes e.max_packet ∷ one_byte e.interval ∷ e.tail ∷ []))) c.end_line.ensures

@@ -12,5 +12,5 @@ returns c =
     let kind : c.put_byte.new.self ≡ c.put_word.new.self ++ field_text (one_byte raw.kind) = c.in_ok-put_byte.ensures in
     let body : c.put_bytes.new.self ≡ c.put_byte.new.self ++ field_text raw.body = rw c.as_slice.ensures at c.in_ok-put_bytes.ensures in
     on_ok_weaker c.end_line.result (λ (ended : c.end_line.new.self ≡ c.put_bytes.new.self ++ codes "\n"). rw (ended, body, kind, word)
-      (line_put c.args.page.now (codes "raw")
-        (one_byte raw.kind ∷ raw.body ∷ []))) c.end_line.ensures
+    (line_put c.args.page.now (codes "raw")
+    (one_byte raw.kind ∷ raw.body ∷ []))) c.end_line.ensures

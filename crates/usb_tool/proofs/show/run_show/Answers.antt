@@ -8,7 +8,7 @@ use Rattle.usb_tool.proofs.show.run_show.Goals as goal
 pub returns-in_err-set-clause-fault : goal.returns-in_err-set-clause-fault
 returns-in_err-set-clause-fault g c =
     fails_by_set _ _ _ _ _ c.in_err-set.field-0.0 c.in_ok-bytes.bytes.items c.from_residual-in_err-set.ensures.1
-      (rw c.as_slice.ensures.value at c.in_err-set.ensures.err) c.in_ok-bytes.ensures.all (keeps_refl _)
+    (rw c.as_slice.ensures.value at c.in_err-set.ensures.err) c.in_ok-bytes.ensures.all (keeps_refl _)
 
 pub returns-in_err-list_set-clause-fault : goal.returns-in_err-list_set-clause-fault
 returns-in_err-list_set-clause-fault g c =

@@ -1,0 +1,63 @@
+//! The command line of `usbdesc`.
+ghost use Rattle.std.specs.Prelude.{◌≡◌, IfOk, IfSome};
+ghost use Rattle.clap.specs.Words.{app_of, fault_of, subcommand_of, subcommand_rows_of};
+ghost use Rattle.clap.specs.Kinds.{FailsBy};
+ghost use Rattle.usb_tool.specs.Lines.{Says, texts_of, usbdesc_app};
+
+use clap::{ArgMatches, Command, Error};
+use std::alloc::{AllocError, Global};
+
+/// What a command line asks for.
+#[derive(Clone, Copy, Debug, PartialEq, Eq, Hash)]
+pub enum Line {
+    /// The listing of the set that is the input.
+    Show,
+}
+
+/// What the words ask for, of which the first is the program's name.
+///
+/// # Errors
+///
+/// That of `clap`, whose text and kind it carries: a request for help, words that are no command, or
+/// want of memory.
+pub fn read_line(alloc: Global, words: &[String]) -> Result<Line, Error>
+    ensures line { IfOk result (λ line. Says line (subcommand_of usbdesc_app (texts_of words.now))) }
+    ensures fails { FailsBy (fault_of usbdesc_app (texts_of words.now)) result }
+{
+    let matches = parse(alloc, words)?;
+    match line_of(&matches) {
+        Some(line) => Ok(line),
+        // A subcommand is required, and there is no other.
+        None => Err(Error::from(AllocError)),
+    }
+}
+
+fn parse<'a>(alloc: Global, words: &'a [String]) -> Result<ArgMatches<'a>, Error>
+    ensures found { IfOk result (λ m. subcommand_rows_of m ≡ subcommand_of usbdesc_app (texts_of words.entry.now)) }
+    ensures fails { FailsBy (fault_of usbdesc_app (texts_of words.entry.now)) result }
+{
+    command(alloc)?.try_get_matches_from(words)
+}
+
+fn line_of(matches: &ArgMatches) -> Option<Line>
+    ensures { IfSome result (λ line. Says line (subcommand_rows_of matches.now)) }
+{
+    let (name, _) = matches.subcommand()?;
+    if name == "show" {
+        Some(Line::Show)
+    } else {
+        None
+    }
+}
+
+fn command<'a>(alloc: Global) -> Result<Command<'a>, AllocError>
+    ensures { IfOk result (λ c. app_of c ≡ usbdesc_app) }
+{
+    let show = Command::new(alloc, "show").about(
+        "Lists the configuration set on standard input, a line for each descriptor",
+    );
+    Command::new(alloc, "usbdesc")
+        .about("Lists USB 2.0 descriptors")
+        .subcommand_required(true)
+        .subcommand(show)
+}
