@@ -58,14 +58,23 @@ fn once(rt: &impl Print, alloc: Global, bytes: &[u8]) -> Result<()> {
 }
 
 /// Does the work that is asked for, and says how long it took.
-fn measure<R: Print + Clock>(rt: &R, alloc: Global, bytes: &[u8], rounds: u32, only: Option<&str>) -> Result<()> {
+fn measure<R: Print + Clock>(
+    rt: &R,
+    alloc: Global,
+    bytes: &[u8],
+    rounds: u32,
+    only: Option<&str>,
+) -> Result<()> {
     let count = bytes.len();
     for work in Work::ALL {
         if only.is_none_or(|name| name == work.name()) {
             let start = Instant::now(rt)?;
             work.run(alloc, bytes, rounds)?;
             let time = start.elapsed(rt)?;
-            println!(rt; "{work}: {count} bytes, {rounds} rounds, {} microseconds", time.as_micros())?;
+            println!(rt;
+                "{work}: {count} bytes, {rounds} rounds, {} microseconds",
+                time.as_micros()
+            )?;
         }
     }
     Ok(())

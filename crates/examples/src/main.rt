@@ -40,7 +40,10 @@ fn list<R: Files + AllocGlobal>(rt: &R, bytes: &[u8], folder: &str, name: &str) 
     let mut text = Vec::new(alloc);
     run_show(alloc, &mut reader, &mut text)?;
     let wanted = fs::read(rt, format!(in alloc; "{folder}/{name}.txt")?)?;
-    ensure!(text.as_slice() == wanted.as_slice(), "{name}: another listing");
+    ensure!(
+        text.as_slice() == wanted.as_slice(),
+        "{name}: another listing"
+    );
     Ok(text.iter().filter(|byte| **byte == b'\n').count())
 }
 

@@ -22,14 +22,20 @@ fn takes_no_byte_past_the_set(rt: HostRuntime) -> Result<(), Fail> {
         assert_eq!(rt; decoder.feed(&[*byte]), Ok(Progress::More));
         assert_eq!(rt; decoder.feed(&[]), Ok(Progress::More));
     }
-    assert_eq!(rt; decoder.feed(&HID_SET[33..]), Ok(Progress::Done { used: 1 }));
+    assert_eq!(rt;
+        decoder.feed(&HID_SET[33..]),
+        Ok(Progress::Done { used: 1 })
+    );
     for _ in 0..3u8 {
         assert_eq!(rt; decoder.feed(&[0]), Ok(Progress::Done { used: 0 }));
     }
     let mut longer = HID_SET.to_vec(rt.alloc())?;
     longer.extend_from_slice(&[0, 1, 2])?;
     let mut whole = Decoder::new(rt.alloc());
-    assert_eq!(rt; whole.feed(longer.as_slice()), Ok(Progress::Done { used: 34 }));
+    assert_eq!(rt;
+        whole.feed(longer.as_slice()),
+        Ok(Progress::Done { used: 34 })
+    );
     assert!(rt; whole.finish()? == decoder.finish()?);
     Ok(())
 }
@@ -40,11 +46,33 @@ fn reads_each_field(rt: HostRuntime) -> Result<(), Fail> {
     assert_eq!(rt; (set.declared_interfaces, set.value, set.text), (1, 1, 0));
     assert_eq!(rt; (set.attributes, set.power), (0xa0, 0x32));
     let setting = set.settings.as_slice().first().ok_or("an interface")?;
-    assert_eq!(rt; (setting.number, setting.alternate, setting.declared_endpoints), (0, 0, 1));
-    assert_eq!(rt; (setting.class, setting.subclass, setting.protocol, setting.text), (3, 1, 2, 0));
-    let raw = setting.extras.as_slice().first().ok_or("a class descriptor")?;
+    assert_eq!(rt;
+        (
+            setting.number,
+            setting.alternate,
+            setting.declared_endpoints
+        ),
+        (0, 0, 1)
+    );
+    assert_eq!(rt;
+        (
+            setting.class,
+            setting.subclass,
+            setting.protocol,
+            setting.text
+        ),
+        (3, 1, 2, 0)
+    );
+    let raw = setting
+        .extras
+        .as_slice()
+        .first()
+        .ok_or("a class descriptor")?;
     assert_eq!(rt; raw.kind, 0x21);
-    assert_eq!(rt; raw.body.as_slice(), [0x10, 0x01, 0x00, 0x01, 0x22, 0x34, 0x00].as_slice());
+    assert_eq!(rt;
+        raw.body.as_slice(),
+        [0x10, 0x01, 0x00, 0x01, 0x22, 0x34, 0x00].as_slice()
+    );
     let endpoint = setting.endpoints.as_slice().first().ok_or("an endpoint")?;
     assert_eq!(rt; (endpoint.address, endpoint.attributes), (0x81, 3));
     assert_eq!(rt; (endpoint.max_packet, endpoint.interval), (4, 10));
@@ -135,7 +163,10 @@ fn reads_the_longest_set(rt: HostRuntime) -> Result<(), Fail> {
     let bytes = encode(rt.alloc(), &set)?;
     assert_eq!(rt; bytes.len(), 65535);
     let mut decoder = Decoder::new(rt.alloc());
-    assert_eq!(rt; decoder.feed(bytes.as_slice()), Ok(Progress::Done { used: 65535 }));
+    assert_eq!(rt;
+        decoder.feed(bytes.as_slice()),
+        Ok(Progress::Done { used: 65535 })
+    );
     assert!(rt; decoder.finish()? == set);
     Ok(())
 }

@@ -91,6 +91,11 @@ fn refuses_an_endpoint_over_255_bytes(rt: HostRuntime) -> Result<(), Fail> {
 #[test]
 fn refuses_a_set_over_65535_bytes(rt: HostRuntime) -> Result<(), Fail> {
     assert_answer(&rt, rt.alloc(), &long_set(rt.alloc(), 244)?, None);
-    assert_answer(&rt, rt.alloc(), &long_set(rt.alloc(), 245)?, Some(EncodeFault::TooLong));
+    assert_answer(
+        &rt,
+        rt.alloc(),
+        &long_set(rt.alloc(), 245)?,
+        Some(EncodeFault::TooLong),
+    );
     Ok(())
 }
