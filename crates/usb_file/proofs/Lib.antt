@@ -1,0 +1,13 @@
+pub mod Cells
+pub mod Marking
+pub mod Lists
+pub mod Sets
+pub mod Parts
+pub mod Fronts
+pub mod Stages
+pub mod Texts
+pub mod Ends
+pub mod PartLaws
+pub mod Unique
+pub mod Paths
+pub mod Verdicts

@@ -1,0 +1,11 @@
+use Rattle.std.proofs.Common.{◌≡◌, ◌+◌, subst, sym, refl}
+use Rattle.usb_file.specs.FileFaults.{RefusesToRead}
+use Rattle.usb_file.specs.Reading.{ReadsText, RefusesText}
+use Rattle.usb_file.proofs.Texts.{stage_text, refused_next}
+use Rattle.usb_file.proofs.strings.read_next_text.Goals as goal
+
+pub returns-in-Err-clause-err : goal.returns-in-Err-clause-err
+returns-in-Err-clause-err c =
+    let refuses = subst (λ r. RefusesText 2 r c.in-Err.fault.at c.in-Err.fault.why) c.rest.ensures c.in-Err.ensures.err in
+    subst (λ t. RefusesToRead c.args.b.now t.at t.why) (sym c.moved.ensures)
+    (refused_next c.args.b.now c.args.f.now c.args.place c.in-Err.fault.at c.in-Err.fault.why c.args.strings.now c.requires.stage c.requires.all c.requires.due refuses)

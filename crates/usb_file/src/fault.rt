@@ -1,0 +1,113 @@
+//! Why a descriptor file could not be read, or written.
+ghost use Rattle.std.specs.Prelude.{◌≡◌};
+ghost use Rattle.usb_file.specs.Numbers.{why_number, write_number};
+
+use thiserror::Error;
+use usb_set::SetWhy;
+
+/// What is wrong with the bytes of a file.
+#[derive(Clone, Copy, Debug, Drop, Error, PartialEq, Eq)]
+pub enum FileWhy {
+    /// The first 18 bytes are no device descriptor.
+    #[error("no device descriptor")]
+    Device,
+    /// The bytes of a configuration set are at fault.
+    #[error("in a set, {0}")]
+    Set(SetWhy),
+    /// A configuration set where an other-speed set is due, or the other way round.
+    #[error("a set of the other kind")]
+    SetKind,
+    /// Ten bytes that begin as a qualifier are none.
+    #[error("no qualifier")]
+    Qualifier,
+    /// Where a language list or a string is due stands another descriptor, or a language list with no
+    /// language.
+    #[error("no string descriptor")]
+    Text,
+    /// The bytes end before the file does.
+    #[error("the bytes end before the file does")]
+    Truncated,
+    /// The bytes go on after the end of the file.
+    #[error("bytes after the end of the file")]
+    Trailing,
+    /// A growth was refused.
+    #[error("out of memory")]
+    Memory,
+}
+
+impl FileWhy {
+    /// The fault's number, from 1 to 8.
+    pub fn number(self) -> u8
+        ensures { result ≡ why_number self }
+    {
+        match self {
+            FileWhy::Device => 1,
+            FileWhy::Set(_) => 2,
+            FileWhy::SetKind => 3,
+            FileWhy::Qualifier => 4,
+            FileWhy::Text => 5,
+            FileWhy::Truncated => 6,
+            FileWhy::Trailing => 7,
+            FileWhy::Memory => 8,
+        }
+    }
+}
+
+/// A fault of a file, and the place where it is.
+#[derive(Clone, Copy, Debug, Drop, Error, PartialEq, Eq)]
+#[error("{why} at {at}")]
+pub struct FileFault {
+    /// The place, in bytes from the first byte of the file: of `Set` that of the fault in the set, of
+    /// `SetKind` that of the set's bDescriptorType, of `Truncated` the length of the file, and of every
+    /// other fault that where the part starts.
+    pub at: usize,
+    /// What is wrong there.
+    pub why: FileWhy,
+}
+
+impl FileFault {
+    /// The fault's number, from 1 to 8.
+    pub fn number(self) -> u8
+        ensures { result ≡ why_number self.why }
+    {
+        self.why.number()
+    }
+}
+
+/// Why a file has no bytes. Of several that hold the first is told, and `Memory` only where none of the
+/// others holds.
+#[derive(Clone, Copy, Debug, Drop, Error, PartialEq, Eq)]
+pub enum WriteFault {
+    /// The sets of the device, or those of its other speed, are not as many as bNumConfigurations says.
+    #[error("the sets are not as many as declared")]
+    Count,
+    /// An other-speed set among the sets of the device, or the other way round.
+    #[error("a set of the other kind")]
+    Kind,
+    /// A set has no bytes: `usb_set::refusal` tells why.
+    #[error("a set has no bytes")]
+    Layout,
+    /// The strings are not those that the file names: strings where no index is named, none where one
+    /// is, no language or over 126, not one text for each language and named index, or a text of over
+    /// 126 units.
+    #[error("the strings are not those that the file names")]
+    Texts,
+    /// A growth was refused.
+    #[error("out of memory")]
+    Memory,
+}
+
+impl WriteFault {
+    /// The fault's number, from 1 to 5, in the order in which the cases are taken.
+    pub fn number(self) -> u8
+        ensures { result ≡ write_number self }
+    {
+        match self {
+            WriteFault::Count => 1,
+            WriteFault::Kind => 2,
+            WriteFault::Layout => 3,
+            WriteFault::Texts => 4,
+            WriteFault::Memory => 5,
+        }
+    }
+}

@@ -1,0 +1,135 @@
+//! Why a file has no bytes.
+ghost use Rattle.std.specs.Prelude.{◌≡◌, ℕ, ◌≤◌, length};
+ghost use Rattle.std.specs.List.{list_any};
+ghost use Rattle.usb_set.specs.Layout.{type_number};
+ghost use Rattle.usb_file.specs.Named.{other_sets};
+ghost use Rattle.usb_file.specs.File.{has_no_layout, is_long_text, is_not_kind, other_miscounts, write_refusal, wrong_count, wrong_kind, wrong_layout, wrong_texts};
+
+use crate::fault::WriteFault;
+use crate::file::{DescriptorFile, Other, Strings};
+use crate::naming::count_named;
+use usb_set::{Configuration, Sequence, SetKind, refusal};
+
+/// The most units that a string, or languages that a language list, can have (USB 2.0, 9.6.7).
+const MOST_UNITS: usize = 126;
+
+/// Why the file has no bytes, for another cause than memory, if it has none. Takes no memory.
+pub(crate) fn why_not(f: &DescriptorFile) -> Option<WriteFault>
+    ensures { result ≡ write_refusal f.now }
+{
+    if is_wrong_count(f) {
+        return Some(WriteFault::Count);
+    }
+    if is_wrong_kind(f) {
+        return Some(WriteFault::Kind);
+    }
+    if is_wrong_layout(f) {
+        return Some(WriteFault::Layout);
+    }
+    if are_wrong_texts(count_named(f), &f.strings) {
+        return Some(WriteFault::Texts);
+    }
+    None
+}
+
+fn is_wrong_count(f: &DescriptorFile) -> bool
+    ensures { result ≡ wrong_count f.now }
+{
+    f.sets.len() != usize::from(f.device.configurations) || is_other_miscounted(&f.other)
+}
+
+fn is_other_miscounted(other: &Option<Other>) -> bool
+    ensures { result ≡ other_miscounts other.now }
+{
+    match other {
+        None => false,
+        Some(other) => other.sets.len() != usize::from(other.qualifier.configurations),
+    }
+}
+
+fn is_wrong_kind(f: &DescriptorFile) -> bool
+    ensures { result ≡ wrong_kind f.now }
+{
+    any_not_kind(f.sets.as_slice(), SetKind::Configuration)
+        || any_not_kind(sets_of(&f.other), SetKind::OtherSpeed)
+}
+
+/// The sets of the other speed.
+fn sets_of(other: &Option<Other>) -> &[Configuration]
+    ensures { result.now ≡ other_sets other.now }
+{
+    match other {
+        None => &[],
+        Some(other) => other.sets.as_slice(),
+    }
+}
+
+fn any_not_kind(sets: &[Configuration], kind: SetKind) -> bool
+    ensures { result ≡ list_any (is_not_kind kind) sets.now }
+{
+    sets.iter().any(|c| is_other_kind(c, kind))
+}
+
+/// Whether the set is of the other kind.
+pub(crate) fn is_other_kind(c: &Configuration, kind: SetKind) -> bool
+    ensures { result ≡ is_not_kind kind c.now }
+{
+    kind_number(c.kind) != kind_number(kind)
+}
+
+/// bDescriptorType of the first descriptor of a set of this kind (USB 2.0, table 9-5).
+fn kind_number(kind: SetKind) -> u8
+    ensures { result ≡ type_number kind }
+{
+    match kind {
+        SetKind::Configuration => 2,
+        SetKind::OtherSpeed => 7,
+    }
+}
+
+fn is_wrong_layout(f: &DescriptorFile) -> bool
+    ensures { result ≡ wrong_layout f.now }
+{
+    any_without_layout(f.sets.as_slice()) || any_without_layout(sets_of(&f.other))
+}
+
+fn any_without_layout(sets: &[Configuration]) -> bool
+    ensures { result ≡ list_any has_no_layout sets.now }
+{
+    sets.iter().any(|c| is_without_layout(c))
+}
+
+fn is_without_layout(c: &Configuration) -> bool
+    ensures { result ≡ has_no_layout c.now }
+{
+    refusal(c).is_some()
+}
+
+/// Whether the strings are not those of so many named indices.
+fn are_wrong_texts(count: usize, strings: &Option<Strings>) -> bool
+    requires { count ≤ 255 }
+    ensures { result ≡ wrong_texts count strings.now }
+{
+    match strings {
+        None => count != 0,
+        Some(strings) => {
+            count == 0
+                || strings.languages.is_empty()
+                || is_long(&strings.languages)
+                || any_long(strings.texts.as_slice())
+                || strings.texts.len() != strings.languages.len() * count
+        }
+    }
+}
+
+fn any_long(texts: &[Sequence<u16>]) -> bool
+    ensures { result ≡ list_any is_long_text texts.now }
+{
+    texts.iter().any(|text| is_long(text))
+}
+
+fn is_long(text: &Sequence<u16>) -> bool
+    ensures { result ≡ is_long_text text.now }
+{
+    text.len() > MOST_UNITS
+}

@@ -1,0 +1,120 @@
+//! A file as its bytes.
+ghost use Rattle.std.specs.Prelude.{◌≡◌, ◌++◌, ℕ, List, IfErr, IfOk, None, OnErr, OnOk, false};
+ghost use Rattle.std.specs.List.{list_any};
+ghost use Rattle.usb_fields.specs.Units.{units_bytes};
+ghost use Rattle.usb_file.specs.File.{File, RefusesToWrite, file_bytes, has_long_text, has_no_layout, is_long_text, other_bytes, sets_bytes, strings_bytes, texts_bytes, whole_set, write_refusal};
+ghost use Rattle.usb_file.specs.Named.{other_sets};
+
+use crate::fault::WriteFault;
+use crate::file::{DescriptorFile, Other, Strings};
+use crate::judging::why_not;
+use crate::known::known_bytes;
+use std::alloc::{AllocError, Global};
+use usb_fields::write_units;
+use usb_set::{Configuration, Sequence, encode};
+
+/// The bytes of a file: its parts one after another, each written once (USB 2.0, 9.4.3 and 9.6).
+///
+/// # Errors
+///
+/// `Count`, `Kind`, `Layout` or `Texts`, the first that holds, exactly where the file has no bytes;
+/// `Memory` where it has bytes and a growth was refused.
+pub fn write_file(alloc: Global, f: &DescriptorFile) -> Result<Vec<u8>, WriteFault>
+    ensures ok { IfOk result (λ b. File f.now b.items) }
+    ensures refused { IfErr result (λ fault. RefusesToWrite f.now fault) }
+    // A file with a reason has no bytes.
+    ensures only { (b : List ℕ) → File f.now b → write_refusal f.now ≡ None }
+{
+    if let Some(fault) = why_not(f) {
+        return Err(fault);
+    }
+    match file_of(alloc, f) {
+        Ok(out) => {
+            known_bytes(out.as_slice());
+            Ok(out)
+        }
+        Err(_) => Err(WriteFault::Memory),
+    }
+}
+
+/// The bytes of a file against which no reason stands.
+fn file_of(alloc: Global, f: &DescriptorFile) -> Result<Vec<u8>, AllocError>
+    requires { write_refusal f.now ≡ None }
+    ensures { IfOk result (λ b. b.items ≡ file_bytes f.now) }
+{
+    let mut out = Vec::new(alloc);
+    out.extend_from_slice(&f.device.to_bytes())?;
+    put_sets(alloc, &mut out, f.sets.as_slice())?;
+    put_other(alloc, &mut out, &f.other)?;
+    put_strings(alloc, &mut out, &f.strings)?;
+    Ok(out)
+}
+
+fn put_other(alloc: Global, out: &mut Vec<u8>, other: &Option<Other>) -> Result<(), AllocError>
+    requires { list_any has_no_layout (other_sets other.now) ≡ false }
+    ensures { OnOk result (out.new.items ≡ out.old.items ++ other_bytes other.now) }
+{
+    match other {
+        None => Ok(()),
+        Some(other) => {
+            out.extend_from_slice(&other.qualifier.to_bytes())?;
+            put_sets(alloc, out, other.sets.as_slice())
+        }
+    }
+}
+
+#[tactic(auto, using(usb_set::proofs::Tests::none_at))]
+fn put_sets(alloc: Global, out: &mut Vec<u8>, sets: &[Configuration]) -> Result<(), AllocError>
+    requires { list_any has_no_layout sets.now ≡ false }
+    ensures { OnOk result (out.new.items ≡ out.old.items ++ sets_bytes sets.now) }
+{
+    for c in sets {
+        put_set(alloc, out, c)?;
+    }
+    Ok(())
+}
+
+#[tactic(auto, using(crate::proofs::Sets::layout_is))]
+fn put_set(alloc: Global, out: &mut Vec<u8>, c: &Configuration) -> Result<(), AllocError>
+    requires { has_no_layout c.now ≡ false }
+    ensures { OnOk result (out.new.items ≡ out.old.items ++ whole_set c.now) }
+{
+    match encode(alloc, c) {
+        Ok(bytes) => out.extend_from_slice(bytes.as_slice()),
+        Err(_) => Err(AllocError),
+    }
+}
+
+fn put_strings(alloc: Global, out: &mut Vec<u8>, strings: &Option<Strings>) -> Result<(), AllocError>
+    requires { has_long_text strings.now ≡ false }
+    ensures { OnOk result (out.new.items ≡ out.old.items ++ strings_bytes strings.now) }
+{
+    match strings {
+        None => Ok(()),
+        Some(strings) => {
+            put_text(alloc, out, &strings.languages)?;
+            put_texts(alloc, out, strings.texts.as_slice())
+        }
+    }
+}
+
+#[tactic(auto, using(usb_set::proofs::Tests::none_at))]
+fn put_texts(alloc: Global, out: &mut Vec<u8>, texts: &[Sequence<u16>]) -> Result<(), AllocError>
+    requires { list_any is_long_text texts.now ≡ false }
+    ensures { OnOk result (out.new.items ≡ out.old.items ++ texts_bytes texts.now) }
+{
+    for text in texts {
+        put_text(alloc, out, text)?;
+    }
+    Ok(())
+}
+
+fn put_text(alloc: Global, out: &mut Vec<u8>, text: &Sequence<u16>) -> Result<(), AllocError>
+    requires { is_long_text text.now ≡ false }
+    ensures { OnOk result (out.new.items ≡ out.old.items ++ units_bytes text.now) }
+{
+    match write_units(alloc, text.as_slice()) {
+        Ok(bytes) => out.extend_from_slice(bytes.as_slice()),
+        Err(_) => Err(AllocError),
+    }
+}
