@@ -8,3 +8,5 @@ mod decoding;
 mod encoding;
 #[cfg(test)]
 mod examples;
+#[cfg(test)]
+mod files;
