@@ -2,8 +2,8 @@
 use anyhow::Result;
 use std::alloc::Global;
 use std::fmt;
+use usb_file::list_set;
 use usb_set::{Configuration, Decoder, encode};
-use usb_tool::run_show;
 
 /// One kind of work on a configuration set. Making and freeing of what it makes are part of it.
 #[derive(Clone, Copy, PartialEq, Eq)]
@@ -77,12 +77,11 @@ fn encode_again(alloc: Global, bytes: &[u8], rounds: u32) -> Result<()> {
     Ok(())
 }
 
-/// Reads the set and writes its listing, as `usbdesc show` does.
 fn list(alloc: Global, bytes: &[u8], rounds: u32) -> Result<()> {
+    let set = read(alloc, bytes, bytes.len())?;
     for _ in 0..rounds {
-        let mut reader = bytes;
         let mut text = Vec::new(alloc);
-        run_show(alloc, &mut reader, &mut text)?;
+        list_set(alloc, &set, &mut text)?;
     }
     Ok(())
 }

@@ -5,6 +5,7 @@
 use anyhow::{Result, ensure};
 use std::fs;
 use std::rt::Files;
+use usb_file::{read_file, write_file};
 use usb_set::{Decoder, encode};
 use usb_tool::run_show;
 
@@ -22,11 +23,28 @@ const SETS: [&str; 10] = [
     "ugreen-15765a",
 ];
 
+/// The descriptor files below `files/`.
+const FILES: [&str; 6] = [
+    "gadget-acm",
+    "gadget-webcam",
+    "qemu-rndis-usb-network-device",
+    "qemu-usb-hub",
+    "qemu-usb-mouse",
+    "with-everything",
+];
+
 fn main(rt: HostRuntime) -> Result<()> {
     for name in SETS {
         let bytes = fs::read(&rt, format!(in rt.alloc(); "sets/{name}.bin")?)?;
         let lines = list(&rt, bytes.as_slice(), "sets", name)?;
         write_set_again(&rt, bytes.as_slice())?;
+        let count = bytes.len();
+        println!(rt; "{name}: {count} bytes, {lines} descriptors")?;
+    }
+    for name in FILES {
+        let bytes = fs::read(&rt, format!(in rt.alloc(); "files/{name}.file")?)?;
+        let lines = list(&rt, bytes.as_slice(), "files", name)?;
+        write_again(&rt, bytes.as_slice())?;
         let count = bytes.len();
         println!(rt; "{name}: {count} bytes, {lines} descriptors")?;
     }
@@ -53,6 +71,14 @@ fn write_set_again<R: AllocGlobal>(rt: &R, bytes: &[u8]) -> Result<()> {
     decoder.feed(bytes)?;
     let set = decoder.finish()?;
     let again = encode(rt.alloc(), &set)?;
+    ensure!(again.as_slice() == bytes, "other bytes are written");
+    Ok(())
+}
+
+/// Reads the file and writes it again, to the same bytes.
+fn write_again<R: AllocGlobal>(rt: &R, bytes: &[u8]) -> Result<()> {
+    let file = read_file(rt.alloc(), bytes)?;
+    let again = write_file(rt.alloc(), &file)?;
     ensure!(again.as_slice() == bytes, "other bytes are written");
     Ok(())
 }

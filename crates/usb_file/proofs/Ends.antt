@@ -11,7 +11,7 @@ use Rattle.usb_file.specs.declared.fault.FileWhy.{FileWhy}
 use Rattle.usb_file.specs.declared.fault.FileWhy.TheVariants as files
 use Rattle.usb_file.specs.Named.{named_in}
 use Rattle.usb_file.specs.File.{File, file_bytes, wrong_count, wrong_kind, wrong_layout, wrong_texts, other_miscounts, has_long_text}
-use Rattle.usb_file.specs.FileFaults.{due, Due, a_set, a_qualifier, the_languages, a_text, the_end, text_due, begins_qualifier, after_main, StringsFollow, IsInOrder, IsFront, PartFaulty, FaultyPart, Splits, RefusesToRead}
+use Rattle.usb_file.specs.FileFaults.{due, Due, a_set, a_qualifier, the_languages, a_text, the_end, text_due, begins_qualifier, after_main, StringsFollow, IsInOrder, IsFront, PartFaulty, FaultyPart, FileFaulty, Splits, RefusesToRead}
 use Rattle.usb_file.specs.Reading.{Stage, AllSets}
 use Rattle.usb_file.proofs.Lists.{AreBytes}
 use Rattle.usb_file.proofs.Fronts.{due_main, due_after, due_other, due_strings}
@@ -57,10 +57,10 @@ text_end count None follow is =
 text_end count (Some s) follow is =
     let h = follow s refl in
     let all : length s.languages * count ≤ length s.texts =
-      elim (cases_lt (length s.texts) (length s.languages * count)) [
-        | inl below ↦ absurd (let same : a_text ≡ the_end = sym (cond-true (ltb (length s.texts) (length s.languages * count)) a_text the_end (lt-ltb _ _ below)) ∙ is in cc)
-        | inr above ↦ above
-      ] in
+    elim (cases_lt (length s.texts) (length s.languages * count)) [
+      | inl below ↦ absurd (let same : a_text ≡ the_end = sym (cond-true (ltb (length s.texts) (length s.languages * count)) a_text the_end (lt-ltb _ _ below)) ∙ is in cc)
+      | inr above ↦ above
+    ] in
     or_from _ _ (or_from _ _ (or_from (count == 0) (length s.languages == 0) (ne_eqb count 0 (λ e. absurd (omega (arith, h.named)))) (ne_eqb (length s.languages) 0 (λ e. absurd (omega (arith, h.spoken))))) h.short)
     (counted (length s.texts) (length s.languages * count) (omega (arith, h.few)))
 
@@ -108,3 +108,9 @@ pub trailing : (b : List ℕ) (f : DescriptorFile) (place : ℕ) → Stage b f p
 trailing b f place stage last long =
     let P : ℕ → Type 0 = λ n. RefusesToRead b n files.Trailing in
     subst P (omega arith) (inr (faulty_part b f place the_end 0 files.Trailing stage last (bytes_left place b long)))
+
+-- the bytes of a file are refused for want of memory alone
+pub only_memory : (b : List ℕ) → ((b : List ℕ) (f : DescriptorFile) (p : ℕ) (w : FileWhy) → File f b → FileFaulty b p w → ⊥)
+    → (f : DescriptorFile) (at : ℕ) (why : FileWhy) → RefusesToRead b at why → File f b → why ≡ files.Memory
+only_memory b not_both f at files.Memory h file = refl
+only_memory b not_both f at why h file = absurd (not_both b f at _ file h)

@@ -19,7 +19,7 @@ use Rattle.usb_file.specs.File.{whole_set, sets_bytes, other_bytes, texts_bytes,
 use Rattle.usb_file.specs.FileFaults.{Due, a_set, a_qualifier, the_languages, a_text, the_end, text_due, begins_qualifier, after_main, due, StringsFollow, IsInOrder, IsFront}
 use Rattle.usb_file.specs.Reading.{AllSets, with_set, other_with, with_qualifier, with_strings}
 use Rattle.usb_file.proofs.Lists.{flat_map-push, list_any-push, length-push, behind_main, behind_other, behind_all}
-use Rattle.usb_file.proofs.Sets.{layout_is, layout_allowed}
+use Rattle.usb_file.proofs.WholeSets.{layout_is, layout_allowed}
 
 -- with one more string
 abbrev pub text_with : List ℕ → Option Strings → Option Strings
@@ -48,7 +48,7 @@ grow_main f c p front no_other no_strings below layout kind_is =
         order = subst (λ o. IsInOrder g o f.strings) (sym no_other) (subst (λ s. IsInOrder g None s) (sym no_strings) room);
       };
       bytes = behind_main (device_bytes f.device) (sets_bytes f.sets) (sets_bytes (f.sets ++ c ∷ [])) (other_bytes f.other) (strings_bytes f.strings) p more
-        (ap other_bytes no_other) (ap strings_bytes no_strings);
+          (ap other_bytes no_other) (ap strings_bytes no_strings);
     }
 
 other_more : (o : Other) (c : Configuration) (p : List ℕ) → Layout c p → other_bytes (other_with c (Some o)) ≡ other_bytes (Some o) ++ p
@@ -63,19 +63,19 @@ grow_other f o c p front full is_other no_strings below layout kind_is =
     let g = with_set kinds.OtherSpeed c f in
     let room : length (o.sets ++ c ∷ []) ≤ o.qualifier.configurations = omega (arith, length-push o.sets c, below) in
     let kinds_of : list_any (is_not_kind kinds.OtherSpeed) (other_sets (other_with c f.other)) ≡ false =
-      subst (λ x. list_any (is_not_kind kinds.OtherSpeed) (other_sets (other_with c x)) ≡ false) (sym is_other)
-      (list_any-push (is_not_kind kinds.OtherSpeed) o.sets c (subst (λ x. list_any (is_not_kind kinds.OtherSpeed) (other_sets x) ≡ false) is_other ks.1) kind_is) in
+    subst (λ x. list_any (is_not_kind kinds.OtherSpeed) (other_sets (other_with c x)) ≡ false) (sym is_other)
+    (list_any-push (is_not_kind kinds.OtherSpeed) o.sets c (subst (λ x. list_any (is_not_kind kinds.OtherSpeed) (other_sets x) ≡ false) is_other ks.1) kind_is) in
     let layouts_of : list_any has_no_layout (other_sets (other_with c f.other)) ≡ false =
-      subst (λ x. list_any has_no_layout (other_sets (other_with c x)) ≡ false) (sym is_other)
-      (list_any-push has_no_layout o.sets c (subst (λ x. list_any has_no_layout (other_sets x) ≡ false) is_other ls.1) (layout_allowed c p layout)) in
+    subst (λ x. list_any has_no_layout (other_sets (other_with c x)) ≡ false) (sym is_other)
+    (list_any-push has_no_layout o.sets c (subst (λ x. list_any has_no_layout (other_sets x) ≡ false) is_other ls.1) (layout_allowed c p layout)) in
     let more : other_bytes (other_with c f.other) ≡ other_bytes f.other ++ p =
-      subst (λ x. other_bytes (other_with c x) ≡ other_bytes x ++ p) (sym is_other) (other_more o c p layout) in
+    subst (λ x. other_bytes (other_with c x) ≡ other_bytes x ++ p) (sym is_other) (other_more o c p layout) in
     record {
       is_front = record {
         kinds = or_from _ _ ks.0 kinds_of;
         layouts = or_from _ _ ls.0 layouts_of;
         order = subst (λ x. IsInOrder g (other_with c x) f.strings) (sym is_other)
-          (subst (λ s. IsInOrder g (other_with c (Some o)) s) (sym no_strings) (full, room));
+            (subst (λ s. IsInOrder g (other_with c (Some o)) s) (sym no_strings) (full, room));
       };
       bytes = behind_other (device_bytes f.device) (sets_bytes f.sets) (other_bytes f.other) (other_bytes (other_with c f.other)) (strings_bytes f.strings) p more (ap strings_bytes no_strings);
     }
@@ -94,7 +94,7 @@ grow_qualifier f q front full no_other no_strings =
         order = subst (λ s. IsInOrder g g.other s) (sym no_strings) (full, none);
       };
       bytes = behind_other (device_bytes f.device) (sets_bytes f.sets) (other_bytes f.other) (other_bytes g.other) (strings_bytes f.strings) (qualifier_bytes q)
-        (sym (ap (λ x. x ++ qualifier_bytes q) (ap other_bytes no_other))) (ap strings_bytes no_strings);
+          (sym (ap (λ x. x ++ qualifier_bytes q) (ap other_bytes no_other))) (ap strings_bytes no_strings);
     }
 
 order_strings : (f : DescriptorFile) (o : Option Other) (s : Strings) → AllSets f o → StringsFollow (length (named_in f)) s → IsInOrder f o (Some s)
@@ -104,9 +104,9 @@ order_strings f (Some o) s all follow = (all.0, all.1, follow)
 grow_strings : (f : DescriptorFile) (s : Strings) (p : List ℕ) → IsFront f → AllSets f f.other → StringsFollow (length (named_in f)) s
     → strings_bytes (Some s) ≡ strings_bytes f.strings ++ p → Grown f (with_strings s f) p
 grow_strings f s p front all follow more = record {
-    is_front = record { kinds = front.kinds; layouts = front.layouts; order = order_strings (with_strings s f) f.other s (all_again f.other all) follow };
-    bytes = behind_all (device_bytes f.device ++ sets_bytes f.sets ++ other_bytes f.other) (strings_bytes f.strings) (strings_bytes (Some s)) p more;
-  }
+  is_front = record { kinds = front.kinds; layouts = front.layouts; order = order_strings (with_strings s f) f.other s (all_again f.other all) follow };
+  bytes = behind_all (device_bytes f.device ++ sets_bytes f.sets ++ other_bytes f.other) (strings_bytes f.strings) (strings_bytes (Some s)) p more;
+}
   where
     all_again : (o : Option Other) → AllSets f o → AllSets (with_strings s f) o
     all_again None h = h

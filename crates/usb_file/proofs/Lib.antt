@@ -1,13 +1,15 @@
 pub mod Cells
 pub mod Marking
 pub mod Lists
-pub mod Sets
+pub mod WholeSets
 pub mod Parts
 pub mod Fronts
 pub mod Stages
 pub mod Texts
 pub mod Ends
-pub mod PartLaws
+pub mod Pages
+pub mod Rows
+pub mod Lines
 pub mod Unique
 pub mod Paths
 pub mod Verdicts

@@ -22,5 +22,5 @@ pub refuses : (kind : SetKind) (rest : List ℕ) (fault : SetFault) (new : Decod
     → told ≡ set_refusal fault.why fault.at → RefusesSet kind rest told.at told.why
 refuses kind rest fault new told h e =
     let told_of : (fault ≡ out_of_memory) ⊎ Faulty rest fault.at fault.why → (fault.why ≡ sets.Memory) ⊎ Faulty rest fault.at fault.why =
-      λ x. elim x [ inl m ↦ inl (ap (λ f. f.why) m) | inr f ↦ inr f ] in
+    λ x. elim x [ inl m ↦ inl (ap (λ f. f.why) m) | inr f ↦ inr f ] in
     subst (λ t. RefusesSet kind rest t.at t.why) (sym e) (set_refused_is kind rest fault.why fault.at (told_of h.1))

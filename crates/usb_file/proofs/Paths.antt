@@ -25,7 +25,7 @@ use Rattle.usb_file.specs.File.{whole_set, sets_bytes, other_bytes, texts_bytes,
 use Rattle.usb_file.specs.FileFaults.{Due, a_set, a_qualifier, the_languages, a_text, the_end, text_due, begins_qualifier, due, StringsFollow, IsInOrder, IsFront, Splits, PartFaulty}
 use Rattle.usb_file.specs.Reading.{AllSets, with_set, with_strings}
 use Rattle.usb_file.proofs.Lists.{AreBytes, bytes_before, bytes_behind, length-push}
-use Rattle.usb_file.proofs.PartLaws.{PartLaws}
+use Rattle.usb_file.specs.PartLaws.{PartLaws}
 use Rattle.usb_file.proofs.Fronts.{due_main, due_other, due_qualifier, due_strings}
 use Rattle.usb_file.proofs.Unique.{PartIs, IsSet, IsText, one_part, part_or_fault, append_same}
 
@@ -91,11 +91,11 @@ set_layout c h fits =
     let typed = no_some (has_typed_raw c) encoding.RawKind _ long.1 in
     let total = no_some (ltb 65535 (set_length c)) encoding.TooLong None typed.1 in
     let has : HasLength c (set_length c) = record {
-        within_255 = long.0;
-        raws_are_raw = typed.0;
-        is_length = refl;
-        short = let few = ltb-false 65535 (set_length c) total.0 in omega (arith, few);
-      } in
+      within_255 = long.0;
+      raws_are_raw = typed.0;
+      is_length = refl;
+      short = let few = ltb-false 65535 (set_length c) total.0 in omega (arith, few);
+    } in
     layout_of c (set_bytes c (set_length c)) (set_length c) has refl fits
 
 steps_main : (ss : List Configuration) (f : DescriptorFile) (tail : List ℕ) (g : DescriptorFile) (s : List ℕ) → f.other ≡ None → f.strings ≡ None
@@ -109,12 +109,12 @@ steps_main (c ∷ ss) f tail g s no_other no_strings room ks ls fits onward =
     let bytes = subst AreBytes regroup fits in
     let below : length f.sets < f.device.configurations = omega arith in
     let is : IsSet kinds.Configuration f (with_set kinds.Configuration c f) (whole_set c) =
-      record { set = c; layout = set_layout c ll.0 (bytes_before (whole_set c) (sets_bytes ss ++ tail) bytes); kind_is = kk.0; next = refl } in
+    record { set = c; layout = set_layout c ll.0 (bytes_before (whole_set c) (sets_bytes ss ++ tail) bytes); kind_is = kk.0; next = refl } in
     let step : Step f (sets_bytes (c ∷ ss) ++ tail) (with_set kinds.Configuration c f) (sets_bytes ss ++ tail) = record {
-        part = whole_set c;
-        is = subst (λ d. PartIs d f (with_set kinds.Configuration c f) (whole_set c)) (sym (due_main f (sets_bytes (c ∷ ss) ++ tail) below)) is;
-        parts = regroup;
-      } in
+      part = whole_set c;
+      is = subst (λ d. PartIs d f (with_set kinds.Configuration c f) (whole_set c)) (sym (due_main f (sets_bytes (c ∷ ss) ++ tail) below)) is;
+      parts = regroup;
+    } in
     let again = subst (λ x. Reaches (record f { sets = x }) tail g s) (sym (append_assoc f.sets (c ∷ []) ss)) onward in
     step_on f (sets_bytes (c ∷ ss) ++ tail) (with_set kinds.Configuration c f) (sets_bytes ss ++ tail) g s step
     (steps_main ss (with_set kinds.Configuration c f) tail g s no_other no_strings (omega (arith, length-push f.sets c)) kk.1 ll.1 (bytes_behind (whole_set c) (sets_bytes ss ++ tail) bytes) again)
@@ -135,12 +135,12 @@ steps_other (c ∷ ss) f o tail g s full room ks ls fits onward =
     let below : length o.sets < o.qualifier.configurations = omega arith in
     let more = record o { sets = o.sets ++ c ∷ [] } in
     let is : IsSet kinds.OtherSpeed (with_other o f) (with_other more f) (whole_set c) =
-      record { set = c; layout = set_layout c ll.0 (bytes_before (whole_set c) (sets_bytes ss ++ tail) bytes); kind_is = kk.0; next = refl } in
+    record { set = c; layout = set_layout c ll.0 (bytes_before (whole_set c) (sets_bytes ss ++ tail) bytes); kind_is = kk.0; next = refl } in
     let step : Step (with_other o f) (sets_bytes (c ∷ ss) ++ tail) (with_other more f) (sets_bytes ss ++ tail) = record {
-        part = whole_set c;
-        is = subst (λ d. PartIs d (with_other o f) (with_other more f) (whole_set c)) (sym (due_other (with_other o f) (sets_bytes (c ∷ ss) ++ tail) o full refl below)) is;
-        parts = regroup;
-      } in
+      part = whole_set c;
+      is = subst (λ d. PartIs d (with_other o f) (with_other more f) (whole_set c)) (sym (due_other (with_other o f) (sets_bytes (c ∷ ss) ++ tail) o full refl below)) is;
+      parts = regroup;
+    } in
     let again = subst (λ x. Reaches (with_other (record o { sets = x }) f) tail g s) (sym (append_assoc o.sets (c ∷ []) ss)) onward in
     step_on (with_other o f) (sets_bytes (c ∷ ss) ++ tail) (with_other more f) (sets_bytes ss ++ tail) g s step
     (steps_other ss f more tail g s full (omega (arith, length-push o.sets c)) kk.1 ll.1 (bytes_behind (whole_set c) (sets_bytes ss ++ tail) bytes) again)
@@ -161,15 +161,15 @@ steps_texts (u ∷ us) f x tail g s all room short onward =
     let below : length x.texts < length x.languages * length (named_in f) = omega arith in
     let more = record x { texts = x.texts ++ u ∷ [] } in
     let is : PartIs a_text (with_strings x f) (with_strings more f) (units_bytes u) =
-      record { units = u; bytes = refl; enough = omega arith; short = ss.0; next = refl } in
+    record { units = u; bytes = refl; enough = omega arith; short = ss.0; next = refl } in
     let turn : due (with_strings x f) (texts_bytes (u ∷ us) ++ tail) ≡ a_text =
-      due_strings (with_strings x f) (texts_bytes (u ∷ us) ++ tail) (all_again f x f.other all) (λ _ e. cc)
-      ∙ cond-true (ltb (length x.texts) (length x.languages * length (named_in f))) _ _ (lt-ltb _ _ below) in
+    due_strings (with_strings x f) (texts_bytes (u ∷ us) ++ tail) (all_again f x f.other all) (λ _ e. cc)
+    ∙ cond-true (ltb (length x.texts) (length x.languages * length (named_in f))) _ _ (lt-ltb _ _ below) in
     let step : Step (with_strings x f) (texts_bytes (u ∷ us) ++ tail) (with_strings more f) (texts_bytes us ++ tail) = record {
-        part = units_bytes u;
-        is = subst (λ d. PartIs d (with_strings x f) (with_strings more f) (units_bytes u)) (sym turn) is;
-        parts = regroup;
-      } in
+      part = units_bytes u;
+      is = subst (λ d. PartIs d (with_strings x f) (with_strings more f) (units_bytes u)) (sym turn) is;
+      parts = regroup;
+    } in
     let again = subst (λ y. Reaches (with_strings (record x { texts = y }) f) tail g s) (sym (append_assoc x.texts (u ∷ []) us)) onward in
     step_on (with_strings x f) (texts_bytes (u ∷ us) ++ tail) (with_strings more f) (texts_bytes us ++ tail) g s step
     (steps_texts us f more tail g s all (omega (arith, length-push x.texts u)) ss.1 again)
@@ -183,15 +183,15 @@ strings_path f x rest all no_strings follow =
     let few = follow.few in
     let named = follow.named in
     let is : PartIs the_languages f (with_strings bare f) (units_bytes x.languages) =
-      record { units = x.languages; bytes = refl; enough = omega arith; short = long.0; next = refl } in
+    record { units = x.languages; bytes = refl; enough = omega arith; short = long.0; next = refl } in
     let turn : due f (strings_bytes (Some x) ++ rest) ≡ the_languages =
-      due_strings f (strings_bytes (Some x) ++ rest) all (λ _ _. refl) ∙ ap (text_due (length (named_in f))) no_strings
-      ∙ cond-false (length (named_in f) == 0) _ _ (ne_eqb (length (named_in f)) 0 (λ e. absurd (omega arith))) in
+    due_strings f (strings_bytes (Some x) ++ rest) all (λ _ _. refl) ∙ ap (text_due (length (named_in f))) no_strings
+    ∙ cond-false (length (named_in f) == 0) _ _ (ne_eqb (length (named_in f)) 0 (λ e. absurd (omega arith))) in
     let step : Step f (strings_bytes (Some x) ++ rest) (with_strings bare f) (texts_bytes x.texts ++ rest) = record {
-        part = units_bytes x.languages;
-        is = subst (λ d. PartIs d f (with_strings bare f) (units_bytes x.languages)) (sym turn) is;
-        parts = append_assoc (units_bytes x.languages) (texts_bytes x.texts) rest;
-      } in
+      part = units_bytes x.languages;
+      is = subst (λ d. PartIs d f (with_strings bare f) (units_bytes x.languages)) (sym turn) is;
+      parts = append_assoc (units_bytes x.languages) (texts_bytes x.texts) rest;
+    } in
     step_on f (strings_bytes (Some x) ++ rest) (with_strings bare f) (texts_bytes x.texts ++ rest) (with_strings x f) rest step
     (steps_texts x.texts f bare rest (with_strings x f) rest all (omega arith) long.1 (here (with_strings x f) rest))
 
@@ -222,20 +222,22 @@ from_main d ss (Some o) s rest front fits =
     let full : length ss ≡ d.configurations = full_of s front.order in
     let bytes = bytes_behind (qualifier_bytes o.qualifier) (sets_bytes o.sets ++ (strings_bytes s ++ rest)) (subst AreBytes (append_assoc (qualifier_bytes o.qualifier) (sets_bytes o.sets) (strings_bytes s ++ rest)) fits) in
     let step : Step f (other_bytes (Some o) ++ (strings_bytes s ++ rest)) (with_other bare f) (sets_bytes o.sets ++ (strings_bytes s ++ rest)) = record {
-        part = qualifier_bytes o.qualifier;
-        is = subst (λ d. PartIs d f (with_other bare f) (qualifier_bytes o.qualifier)) (sym (due_qualifier f (other_bytes (Some o) ++ (strings_bytes s ++ rest)) full refl refl refl))
+      part = qualifier_bytes o.qualifier;
+      is = subst (λ d. PartIs d f (with_other bare f) (qualifier_bytes o.qualifier)) (sym (due_qualifier f (other_bytes (Some o) ++ (strings_bytes s ++ rest)) full refl refl refl))
           (record { qualifier = o.qualifier; bytes = refl; next = refl });
-        parts = append_assoc (qualifier_bytes o.qualifier) (sets_bytes o.sets) (strings_bytes s ++ rest);
-      } in
+      parts = append_assoc (qualifier_bytes o.qualifier) (sets_bytes o.sets) (strings_bytes s ++ rest);
+    } in
     step_on f (other_bytes (Some o) ++ (strings_bytes s ++ rest)) (with_other bare f) (sets_bytes o.sets ++ (strings_bytes s ++ rest)) (made d ss (Some o) s) rest step
     (steps_other o.sets f bare (strings_bytes s ++ rest) (made d ss (Some o) s) rest full (few_of s front.order) ks.1 ls.1 bytes (from_other s front.order))
   where
     full_of : (s : Option Strings) → IsInOrder (made d ss (Some o) s) (Some o) s → length ss ≡ d.configurations
     full_of None h = h.0
     full_of (Some x) h = h.0
+
     few_of : (s : Option Strings) → IsInOrder (made d ss (Some o) s) (Some o) s → 0 + length o.sets ≤ o.qualifier.configurations
     few_of None h = omega (arith, h.1)
     few_of (Some x) h = omega (arith, h.1)
+
     from_other : (s : Option Strings) → IsInOrder (made d ss (Some o) s) (Some o) s → Reaches (made d ss (Some o) None) (strings_bytes s ++ rest) (made d ss (Some o) s) rest
     from_other None h = here (made d ss (Some o) None) rest
     from_other (Some x) h = strings_path (made d ss (Some o) None) x rest (h.0, h.1) refl h.2

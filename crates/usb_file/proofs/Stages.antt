@@ -34,10 +34,10 @@ within_part rest p behind used h e = omega (arith, ap length h, length-append p 
 pub stage_next : (b : List ℕ) (f g : DescriptorFile) (place : ℕ) (p : List ℕ) (used : ℕ) → Stage b f place → Grown f g p → Part (drop place b) p used → Stage b g (place + used)
 stage_next b f g place p used stage grown part =
     let parts : b ≡ file_bytes g ++ drop (place + used) b =
-      stage.splits.parts ∙ ap (λ x. file_bytes f ++ x) part.parts ∙ sym (append_assoc (file_bytes f) p (drop used (drop place b)))
-      ∙ ap (λ x. x ++ drop used (drop place b)) (sym grown.bytes) ∙ ap (λ x. file_bytes g ++ x) (drop_more place used b) in
+    stage.splits.parts ∙ ap (λ x. file_bytes f ++ x) part.parts ∙ sym (append_assoc (file_bytes f) p (drop used (drop place b)))
+    ∙ ap (λ x. x ++ drop used (drop place b)) (sym grown.bytes) ∙ ap (λ x. file_bytes g ++ x) (drop_more place used b) in
     let ends : place + used ≡ length (file_bytes g) =
-      omega (arith, stage.ends, part.ends, ap length grown.bytes, length-append (file_bytes f) p) in
+    omega (arith, stage.ends, part.ends, ap length grown.bytes, length-append (file_bytes f) p) in
     record {
       splits = record { is_front = grown.is_front; parts = parts };
       ends = ends;
@@ -53,13 +53,13 @@ starts b f place stage = record { front = f; rest = drop place b; splits = stage
 pub faulty_part : (b : List ℕ) (f : DescriptorFile) (place : ℕ) (d : Due) (at : ℕ) (why : FileWhy) → Stage b f place → due f (drop place b) ≡ d
     → PartFaulty d (drop place b) at why → FaultyPart b (place + at) why
 faulty_part b f place d at why stage is h = record {
-    front = f;
-    rest = drop place b;
-    place = at;
-    splits = stage.splits;
-    fault = subst (λ d. PartFaulty d (drop place b) at why) (sym is) h;
-    at_is = ap (λ n. n + at) stage.ends;
-  }
+  front = f;
+  rest = drop place b;
+  place = at;
+  splits = stage.splits;
+  fault = subst (λ d. PartFaulty d (drop place b) at why) (sym is) h;
+  at_is = ap (λ n. n + at) stage.ends;
+}
 
 -- a fault that is not want of memory
 pub no_memory : (b : List ℕ) (at : ℕ) (why : FileWhy) → why ≢ files.Memory → FaultyPart b at why → RefusesToRead b at why
@@ -87,9 +87,9 @@ fixed_memory long wrong tells rest at why h not = cases (ltb (length rest) long)
 
 set_part : (rest : List ℕ) (c : Configuration) (used : ℕ) (h : Begins rest c used) → Part rest h.front used
 set_part rest c used h = record {
-    parts = h.parts ∙ ap (λ x. h.front ++ x) (sym (ap (λ n. drop n rest) (sym h.ends) ∙ ap (drop (length h.front)) h.parts ∙ drop_front h.front h.rest));
-    ends = h.ends;
-  }
+  parts = h.parts ∙ ap (λ x. h.front ++ x) (sym (ap (λ n. drop n rest) (sym h.ends) ∙ ap (drop (length h.front)) h.parts ∙ drop_front h.front h.rest));
+  ends = h.ends;
+}
 
 grown_set : (kind : SetKind) (f : DescriptorFile) (c : Configuration) (rest : List ℕ) (used : ℕ) (b : List ℕ) (place : ℕ) → Stage b f place → IsTurn kind f
     → length (sets_in kind f) < declared kind f → (h : ReadsSet kind rest c used) → Grown f (with_set kind c f) h.begins.front
@@ -148,14 +148,14 @@ refused_set kind b f place at why stage turn below h = inr (faulty_part b f plac
 pub stage_device : (b : List ℕ) (d : DeviceDescriptor) (f : DescriptorFile) → f ≡ record { device = d; sets = []; other = None; strings = None }
     → AreBytes b → 18 ≤ length b → take 18 b ≡ device_bytes d → Stage b f 18
 stage_device b d f is fits long h = subst (λ f. Stage b f 18) (sym is) (record {
-    splits = record {
-      is_front = record { kinds = refl; layouts = refl; order = omega arith };
-      parts = sym (take-append-drop 18 b) ∙ ap (λ x. x ++ drop 18 b) h;
-    };
-    ends = refl;
-    within = long;
-    fits = fits;
-  })
+  splits = record {
+    is_front = record { kinds = refl; layouts = refl; order = omega arith };
+    parts = sym (take-append-drop 18 b) ∙ ap (λ x. x ++ drop 18 b) h;
+  };
+  ends = refl;
+  within = long;
+  fits = fits;
+})
 
 -- as many sets as are declared, and no more
 pub full_main : (b : List ℕ) (f : DescriptorFile) (place : ℕ) → Stage b f place → IsTurn kinds.Configuration f → f.device.configurations ≤ length f.sets → length f.sets ≡ f.device.configurations
@@ -174,7 +174,7 @@ pub stage_qualifier : (b : List ℕ) (f g : DescriptorFile) (place : ℕ) (q : Q
 stage_qualifier b f g place q stage turn all h is =
     subst (λ g. Stage b g (place + 10)) (sym is)
     (stage_next b f (with_qualifier q f) place (qualifier_bytes q) 10 stage
-      (grow_qualifier f q stage.splits.is_front (full_main b f place stage turn all) turn.0 turn.1) (qualifier_part (drop place b) q h))
+    (grow_qualifier f q stage.splits.is_front (full_main b f place stage turn all) turn.0 turn.1) (qualifier_part (drop place b) q h))
 
 pub turn_qualifier : (b : List ℕ) (f g : DescriptorFile) (place : ℕ) (q : Qualifier) → Stage b f place → IsTurn kinds.Configuration f → f.device.configurations ≤ length f.sets
     → g ≡ with_qualifier q f → IsTurn kinds.OtherSpeed g
@@ -213,6 +213,7 @@ strings_turn_other b f place stage turn all =
     some_none : (o : Option Other) → is_some o ≡ true → o ≡ None → ⊥
     some_none None h e = cc
     some_none (Some o) h e = cc
+
     cases : (o : Option Other) → is_some o ≡ true → other_declared o ≤ length (other_sets o) → IsInOrder f o None → AllSets f o
     cases None some all order = cc
     cases (Some o) some all order = (order.0, omega (arith, order.1))

@@ -37,12 +37,12 @@ enough_there least (len ∷ kind ∷ rest) h long = ltb-false len least (or_part
 pub reads_text : (least : ℕ) (rest u : List ℕ) → is_no_text least rest ≡ false → 2 ≤ length rest → slice_index rest 0 ≤ length rest
     → take (slice_index rest 0) rest ≡ units_bytes u → length u ≤ 126 → ReadsText least rest u (slice_index rest 0)
 reads_text least rest u is_text long within h few = record {
-    parts = sym (take-append-drop (slice_index rest 0) rest) ∙ ap (λ x. x ++ drop (slice_index rest 0) rest) h;
-    ends = omega (arith, length-take (slice_index rest 0) rest, ap length h, length-units_bytes u);
-    within = within;
-    enough = enough_there least rest is_text long;
-    short = le-ltb 126 (length u) few;
-  }
+  parts = sym (take-append-drop (slice_index rest 0) rest) ∙ ap (λ x. x ++ drop (slice_index rest 0) rest) h;
+  ends = omega (arith, length-take (slice_index rest 0) rest, ap length h, length-units_bytes u);
+  within = within;
+  enough = enough_there least rest is_text long;
+  short = le-ltb 126 (length u) few;
+}
 
 -- ---- the strings of a file
 
@@ -111,4 +111,4 @@ pub refused_next : (b : List ℕ) (f : DescriptorFile) (place at : ℕ) (why : F
 refused_next b f place at why s stage all below h =
     refused_text b (with_strings s f) place at why 2 a_text stage
     (due_strings (with_strings s f) (drop place b) (all_again f s f.other all) (λ _ e. cc)
-      ∙ cond-true (ltb (length s.texts) (length s.languages * length (named_in f))) _ _ (lt-ltb _ _ below)) (λ at why x. x) h
+    ∙ cond-true (ltb (length s.texts) (length s.languages * length (named_in f))) _ _ (lt-ltb _ _ below)) (λ at why x. x) h

@@ -23,8 +23,8 @@ use Rattle.usb_file.specs.File.{whole_set, is_not_kind, is_long_text}
 use Rattle.usb_file.specs.FileFaults.{Due, a_set, a_qualifier, the_languages, a_text, the_end, is_no_text, text_fault, fixed_fault, SetFaulty, PartFaulty}
 use Rattle.usb_file.specs.Reading.{with_set, with_qualifier, with_strings}
 use Rattle.usb_file.proofs.Fronts.{text_with}
-use Rattle.usb_file.proofs.PartLaws.{PartLaws}
-use Rattle.usb_file.proofs.Sets.{layout_is}
+use Rattle.usb_file.specs.PartLaws.{PartLaws}
+use Rattle.usb_file.proofs.WholeSets.{layout_is}
 use Rattle.usb_file.proofs.Stages.{told_why}
 use Rattle.usb_file.proofs.Texts.{length-units_bytes}
 
@@ -74,7 +74,7 @@ begins_with p r c layout = record { front = p; rest = r; parts = refl; layout = 
 one_set_part : (laws : PartLaws) (kind : SetKind) (f g h : DescriptorFile) (p q r s : List ℕ) → IsSet kind f g p → IsSet kind f h q → p ++ r ≡ q ++ s → (g ≡ h) × (r ≡ s)
 one_set_part laws kind f g h p q r s x y e =
     let one = laws.one_set x.set y.set (p ++ r) (length p) (length q) (begins_with p r x.set x.layout)
-      (subst (λ b. Begins b y.set (length q)) (sym e) (begins_with q s y.set y.layout)) in
+    (subst (λ b. Begins b y.set (length q)) (sym e) (begins_with q s y.set y.layout)) in
     (x.next ∙ ap (λ c. with_set kind c f) one.0 ∙ sym y.next, (append_same p q r s one.1 e).1)
 
 one_qualifier_part : (laws : PartLaws) (f g h : DescriptorFile) (p q r s : List ℕ) → IsQualifier f g p → IsQualifier f h q → p ++ r ≡ q ++ s → (g ≡ h) × (r ≡ s)
@@ -126,7 +126,7 @@ text_fine least u r enough =
     let units = length-units_bytes u in
     cond-false (is_no_text least (units_bytes u ++ r)) _ _ (or_from _ _ (or_from (ltb (2 + 2 * length u) least) _ (le-ltb _ least enough) (even (length u))) refl)
     ∙ cond-false (ltb (length (units_bytes u ++ r)) 2 || ltb (length (units_bytes u ++ r)) (2 + 2 * length u)) _ _
-      (or_from _ _ (le-ltb _ 2 (omega arith)) (le-ltb _ (2 + 2 * length u) (omega arith)))
+    (or_from _ _ (le-ltb _ 2 (omega arith)) (le-ltb _ (2 + 2 * length u) (omega arith)))
 
 text_or_fault : (least : ℕ) (f g : DescriptorFile) (p r : List ℕ) (next_of : List ℕ → DescriptorFile) (place : ℕ) (why : FileWhy) → IsText least f g p next_of
     → text_fault least (p ++ r) ≡ Some (place, why) → ⊥
@@ -140,7 +140,7 @@ pub part_or_fault : (laws : PartLaws) (d : Due) (f g : DescriptorFile) (p r : Li
 part_or_fault laws (a_set kind) f g p r place why x h = set_or_fault laws kind f g p r place why x h
 part_or_fault laws a_qualifier f g p r place why x h =
     let fine : fixed_fault 10 (is_some (qualifier_fault (take 10 (p ++ r)))) files.Qualifier (p ++ r) ≡ None =
-      ap (λ z. fixed_fault 10 (is_some (qualifier_fault (take 10 (z ++ r)))) files.Qualifier (z ++ r)) x.bytes ∙ qualifier_fine x.qualifier r in
+    ap (λ z. fixed_fault 10 (is_some (qualifier_fault (take 10 (z ++ r)))) files.Qualifier (z ++ r)) x.bytes ∙ qualifier_fine x.qualifier r in
     let none : Option (ℕ × FileWhy) = None in
     let no : none ≡ Some (place, why) = sym fine ∙ h in
     cc

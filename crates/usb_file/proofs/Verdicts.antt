@@ -29,7 +29,7 @@ use Rattle.usb_file.specs.FileFaults.{Due, a_set, a_qualifier, the_languages, a_
 use Rattle.usb_file.specs.Reading.{AllSets, with_set, with_qualifier, with_strings}
 use Rattle.usb_file.specs.Verdict.{Verdict, is_file, is_faulty}
 use Rattle.usb_file.proofs.Lists.{AreBytes, bytes_before, bytes_behind}
-use Rattle.usb_file.proofs.PartLaws.{PartLaws}
+use Rattle.usb_file.specs.PartLaws.{PartLaws}
 use Rattle.usb_file.proofs.Fronts.{Grown, text_with, grow_main, grow_other, grow_qualifier, grow_languages, grow_text, due_main, due_other, due_qualifier, due_strings}
 use Rattle.usb_file.proofs.Texts.{length-units_bytes}
 use Rattle.usb_file.proofs.Ends as ends
@@ -42,13 +42,13 @@ grow_none : (f g : DescriptorFile) (r p : List ℕ) → IsFront f → AllSets f 
 grow_none f g r p front all none turn is =
     elim (cases_eq (length (named_in f)) 0) [
       | inl e ↦
-        let ended : due f r ≡ the_end = turn ∙ cond-true (length (named_in f) == 0) _ _ (eq-eqb _ 0 e) in
-        absurd (subst (λ d. PartIs d f g p) ended is)
+          let ended : due f r ≡ the_end = turn ∙ cond-true (length (named_in f) == 0) _ _ (eq-eqb _ 0 e) in
+          absurd (subst (λ d. PartIs d f g p) ended is)
       | inr n ↦
-        let turned : due f r ≡ the_languages = turn ∙ cond-false (length (named_in f) == 0) _ _ (ne_eqb _ 0 n) in
-        let x = subst (λ d. PartIs d f g p) turned is in
-        let enough = x.enough in
-        subst (λ p. Grown f g p) (sym x.bytes) (subst (λ g. Grown f g (units_bytes x.units)) (sym x.next)
+          let turned : due f r ≡ the_languages = turn ∙ cond-false (length (named_in f) == 0) _ _ (ne_eqb _ 0 n) in
+          let x = subst (λ d. PartIs d f g p) turned is in
+          let enough = x.enough in
+          subst (λ p. Grown f g p) (sym x.bytes) (subst (λ g. Grown f g (units_bytes x.units)) (sym x.next)
           (grow_languages f x.units front all none (omega arith) (omega arith) x.short))
     ]
 
@@ -57,14 +57,14 @@ grow_some : (f g : DescriptorFile) (r p : List ℕ) (s : Strings) → IsFront f 
 grow_some f g r p s front all some follow turn is =
     elim (cases_lt (length s.texts) (length s.languages * length (named_in f))) [
       | inl below ↦
-        let turned : due f r ≡ a_text = turn ∙ cond-true (ltb (length s.texts) (length s.languages * length (named_in f))) _ _ (lt-ltb _ _ below) in
-        let x = subst (λ d. PartIs d f g p) turned is in
-        let next : g ≡ record f { strings = Some (record s { texts = s.texts ++ x.units ∷ [] }) } = x.next ∙ ap (λ o. record f { strings = text_with x.units o }) some in
-        subst (λ p. Grown f g p) (sym x.bytes) (subst (λ g. Grown f g (units_bytes x.units)) (sym next)
+          let turned : due f r ≡ a_text = turn ∙ cond-true (ltb (length s.texts) (length s.languages * length (named_in f))) _ _ (lt-ltb _ _ below) in
+          let x = subst (λ d. PartIs d f g p) turned is in
+          let next : g ≡ record f { strings = Some (record s { texts = s.texts ++ x.units ∷ [] }) } = x.next ∙ ap (λ o. record f { strings = text_with x.units o }) some in
+          subst (λ p. Grown f g p) (sym x.bytes) (subst (λ g. Grown f g (units_bytes x.units)) (sym next)
           (grow_text f s x.units front all some follow below x.short))
       | inr above ↦
-        let ended : due f r ≡ the_end = turn ∙ cond-false (ltb (length s.texts) (length s.languages * length (named_in f))) _ _ (le-ltb _ _ above) in
-        absurd (subst (λ d. PartIs d f g p) ended is)
+          let ended : due f r ≡ the_end = turn ∙ cond-false (ltb (length s.texts) (length s.languages * length (named_in f))) _ _ (le-ltb _ _ above) in
+          absurd (subst (λ d. PartIs d f g p) ended is)
     ]
 
 pub grows : (f g : DescriptorFile) (r p : List ℕ) → IsFront f → PartIs (due f r) f g p → Grown f g p
@@ -74,34 +74,38 @@ grows f g r p front is = cases f.other f.strings refl refl front.order
     main_set eo es below =
         let x = subst (λ d. PartIs d f g p) (due_main f r below) is in
         subst (λ g. Grown f g p) (sym x.next) (grow_main f x.set p front eo es below x.layout x.kind_is)
+
     qualifier : f.other ≡ None → f.strings ≡ None → length f.sets ≡ f.device.configurations → begins_qualifier r ≡ true → Grown f g p
     qualifier eo es full begins =
         let x = subst (λ d. PartIs d f g p) (due_qualifier f r full eo es begins) is in
         subst (λ p. Grown f g p) (sym x.bytes) (subst (λ g. Grown f g (qualifier_bytes x.qualifier)) (sym x.next) (grow_qualifier f x.qualifier front full eo es))
+
     other_set : (o : Other) → f.other ≡ Some o → f.strings ≡ None → length f.sets ≡ f.device.configurations → length o.sets < o.qualifier.configurations → Grown f g p
     other_set o eo es full below =
         let x = subst (λ d. PartIs d f g p) (due_other f r o full eo below) is in
         subst (λ g. Grown f g p) (sym x.next) (grow_other f o x.set p front full eo es below x.layout x.kind_is)
+
     strings : (o : Option Other) (s : Option Strings) → f.other ≡ o → f.strings ≡ s → AllSets f o → IsInOrder f o s → (o ≡ None → s ≡ None → begins_qualifier r ≡ false) → Grown f g p
     strings o s eo es all order unless =
         let all_of : AllSets f f.other = subst (AllSets f) (sym eo) all in
         let turn : due f r ≡ text_due (length (named_in f)) f.strings = due_strings f r all_of (λ x y. unless (sym eo ∙ x) (sym es ∙ y)) in
-        by s es (ends.follows f o s order)  all_of turn
+        by s es (ends.follows f o s order) all_of turn
       where
         by : (s : Option Strings) → f.strings ≡ s → ((t : Strings) → s ≡ Some t → StringsFollow (length (named_in f)) t) → AllSets f f.other
             → due f r ≡ text_due (length (named_in f)) f.strings → Grown f g p
         by None es follow all turn = grow_none f g r p front all es (turn ∙ ap (text_due (length (named_in f))) es) is
         by (Some s) es follow all turn = grow_some f g r p s front all es (follow s refl) (turn ∙ ap (text_due (length (named_in f))) es) is
+
     cases : (o : Option Other) (s : Option Strings) → f.other ≡ o → f.strings ≡ s → IsInOrder f o s → Grown f g p
     cases None None eo es order =
         elim (cases_lt (length f.sets) f.device.configurations) [
           | inl below ↦ main_set eo es below
           | inr above ↦
-            let full : length f.sets ≡ f.device.configurations = omega (arith, order) in
-            elim (cases_Bool (begins_qualifier r)) [
-              | inl yes_begins ↦ qualifier eo es full yes_begins
-              | inr no_begins ↦ strings None None eo es full order (λ _ _. no_begins)
-            ]
+              let full : length f.sets ≡ f.device.configurations = omega (arith, order) in
+              elim (cases_Bool (begins_qualifier r)) [
+                | inl yes_begins ↦ qualifier eo es full yes_begins
+                | inr no_begins ↦ strings None None eo es full order (λ _ _. no_begins)
+              ]
         ]
     cases None (Some s) eo es order = strings None (Some s) eo es order.0 order (λ _ e. cc)
     cases (Some o) None eo es order =
@@ -129,7 +133,7 @@ set_verdict kind f r (sets.is_set c n begins) =
     elim (cases_Bool (is_not_kind kind c)) [
       | inl other ↦ is_fault 1 files.SetKind (c, n, begins, other, refl)
       | inr same ↦ is_part (with_set kind c f) begins.front begins.rest (record { set = c; layout = begins.layout; kind_is = same; next = refl }) begins.parts
-        (omega (arith, ap length begins.layout.bytes))
+          (omega (arith, ap length begins.layout.bytes))
     ]
 set_verdict kind f r (sets.is_faulty place why h) = is_fault place (files.Set why) h
 set_verdict kind f r (sets.is_open h) = is_fault (length r) files.Truncated (h, refl)
@@ -163,13 +167,13 @@ text_verdict laws d least f r next_of two fits part fault =
     elim (cases_Bool (is_no_text least r)) [
       | inl wrong ↦ is_fault 0 files.Text (fault 0 files.Text (cond-true (is_no_text least r) _ _ wrong))
       | inr right ↦
-        elim (cases_Bool (ltb (length r) 2 || ltb (length r) (slice_index r 0))) [
-          | inl short ↦ is_fault (length r) files.Truncated (fault (length r) files.Truncated
-            (cond-false (is_no_text least r) _ _ right ∙ cond-true (ltb (length r) 2 || ltb (length r) (slice_index r 0)) _ _ short))
-          | inr long ↦
-            let both = or_parts (ltb (length r) 2) (ltb (length r) (slice_index r 0)) long in
-            whole r right (ltb-false (length r) 2 both.0) (ltb-false (length r) (slice_index r 0) both.1) fits
-        ]
+          elim (cases_Bool (ltb (length r) 2 || ltb (length r) (slice_index r 0))) [
+            | inl short ↦ is_fault (length r) files.Truncated (fault (length r) files.Truncated
+                (cond-false (is_no_text least r) _ _ right ∙ cond-true (ltb (length r) 2 || ltb (length r) (slice_index r 0)) _ _ short))
+            | inr long ↦
+                let both = or_parts (ltb (length r) 2) (ltb (length r) (slice_index r 0)) long in
+                whole r right (ltb-false (length r) 2 both.0) (ltb-false (length r) (slice_index r 0) both.1) fits
+          ]
     ]
   where
     whole : (r : List ℕ) → is_no_text least r ≡ false → 2 ≤ length r → slice_index r 0 ≤ length r → AreBytes r → PartVerdict d f r
@@ -208,9 +212,9 @@ part_verdict laws the_end f r fits = end_verdict f r
 
 splits_more : (b : List ℕ) (f g : DescriptorFile) (r p t : List ℕ) → Splits b f r → Grown f g p → r ≡ p ++ t → Splits b g t
 splits_more b f g r p t splits grown e = record {
-    is_front = grown.is_front;
-    parts = splits.parts ∙ ap (λ x. file_bytes f ++ x) e ∙ sym (append_assoc (file_bytes f) p t) ∙ ap (λ x. x ++ t) (sym grown.bytes);
-  }
+  is_front = grown.is_front;
+  parts = splits.parts ∙ ap (λ x. file_bytes f ++ x) e ∙ sym (append_assoc (file_bytes f) p t) ∙ ap (λ x. x ++ t) (sym grown.bytes);
+}
 
 faulty_front : (b : List ℕ) (f : DescriptorFile) (r : List ℕ) (place : ℕ) (why : FileWhy) → Splits b f r → PartFaulty (due f r) r place why → Verdict b
 faulty_front b f r place why splits h =
@@ -230,16 +234,16 @@ from_front laws zero b f r le fits splits =
 from_front laws (suc n) b f r le fits splits =
     elim (part_verdict laws (due f r) f r (bytes_behind (file_bytes f) r (subst AreBytes splits.parts fits))) [
       | is_part g p t x e some ↦
-        from_front laws n b g t (omega (arith, ap length e, length-append p t)) fits (splits_more b f g r p t splits (grows f g r p splits.is_front x) e)
+          from_front laws n b g t (omega (arith, ap length e, length-append p t)) fits (splits_more b f g r p t splits (grows f g r p splits.is_front x) e)
       | is_fault place why h ↦ faulty_front b f r place why splits h
       | is_end e none ↦ whole_front b f r fits splits e none
     ]
 
 begun_splits : (b : List ℕ) (d : DeviceDescriptor) → device_bytes d ≡ take 18 b → Splits b (begun d) (drop 18 b)
 begun_splits b d h = record {
-    is_front = record { kinds = refl; layouts = refl; order = omega arith };
-    parts = sym (take-append-drop 18 b) ∙ ap (λ x. x ++ drop 18 b) (sym h);
-  }
+  is_front = record { kinds = refl; layouts = refl; order = omega arith };
+  parts = sym (take-append-drop 18 b) ∙ ap (λ x. x ++ drop 18 b) (sym h);
+}
 
 pub verdict : (laws : PartLaws) (b : List ℕ) → AreBytes b → Verdict b
 verdict laws b fits =
@@ -300,9 +304,9 @@ end_due count (Some s) h =
 
 pub file_splits : (f : DescriptorFile) (b : List ℕ) → File f b → Splits b f []
 file_splits f b h = record {
-    is_front = record { kinds = h.kinds; layouts = h.layouts; order = order_of f f.other f.strings (all_sets f h.counts) h.texts };
-    parts = h.bytes ∙ sym (append-nil (file_bytes f));
-  }
+  is_front = record { kinds = h.kinds; layouts = h.layouts; order = order_of f f.other f.strings (all_sets f h.counts) h.texts };
+  parts = h.bytes ∙ sym (append-nil (file_bytes f));
+}
 
 pub file_ends : (f : DescriptorFile) (b : List ℕ) → File f b → due f [] ≡ the_end
 file_ends f b h = due_strings f [] (all_sets f h.counts) (λ _ _. refl) ∙ end_due (length (named_in f)) f.strings h.texts
@@ -322,7 +326,7 @@ no_device_fault b f r at why splits h =
     let is : b ≡ device_bytes f.device ++ behind f r = splits.parts ∙ device_first f r in
     let none : Option (ℕ × FileWhy) = None in
     let fine : fixed_fault 18 (is_some (device_fault (take 18 b))) files.Device b ≡ none =
-      ap (λ x. fixed_fault 18 (is_some (device_fault (take 18 x))) files.Device x) is ∙ device_fine f.device (behind f r) in
+    ap (λ x. fixed_fault 18 (is_some (device_fault (take 18 x))) files.Device x) is ∙ device_fine f.device (behind f r) in
     let no : none ≡ Some (at, why) = sym fine ∙ h in
     cc
 
@@ -339,7 +343,7 @@ one_fault laws b p q v w fits (inl h) (inr y) = absurd (no_device_fault b y.fron
 one_fault laws b p q v w fits (inr x) (inl k) = absurd (no_device_fault b x.front x.rest q w x.splits k)
 one_fault laws b p q v w fits (inr x) (inr y) =
     let same = two_fronts laws b x.front y.front x.rest y.rest fits x.splits y.splits
-      (stuck_by_fault laws x.front x.rest x.place v x.fault) (stuck_by_fault laws y.front y.rest y.place w y.fault) in
+    (stuck_by_fault laws x.front x.rest x.place v x.fault) (stuck_by_fault laws y.front y.rest y.place w y.fault) in
     let fault = subst (λ g. PartFaulty (due g x.rest) x.rest y.place w) (sym same.0) (subst (λ r. PartFaulty (due y.front r) r y.place w) (sym same.1) y.fault) in
     let one = part_faults laws (due x.front x.rest) x.rest x.place y.place v w x.fault fault in
     (x.at_is ∙ ap (λ f. length (file_bytes f) + x.place) same.0 ∙ ap (λ n. length (file_bytes y.front) + n) one.0 ∙ sym y.at_is, one.1)

@@ -4,4 +4,10 @@ pub mod Numbers
 pub mod File
 pub mod FileFaults
 pub mod Reading
+pub mod Output
+pub mod Lines
+pub mod SetListing
+pub mod StringListing
+pub mod Listing
 pub mod Verdict
+pub mod PartLaws

@@ -1,12 +1,12 @@
 //! Why a descriptor file could not be read, or written.
-ghost use Rattle.std.specs.Prelude.{◌≡◌};
+ghost use Rattle.std.specs.Prelude.{◌≡◌, ◌+◌, ◌<◌, ◌^◌};
 ghost use Rattle.usb_file.specs.Numbers.{why_number, write_number};
 
 use thiserror::Error;
 use usb_set::SetWhy;
 
 /// What is wrong with the bytes of a file.
-#[derive(Clone, Copy, Debug, Drop, Error, PartialEq, Eq)]
+#[derive(Clone, Copy, Debug, Drop, Error, PartialEq, Eq, Hash)]
 pub enum FileWhy {
     /// The first 18 bytes are no device descriptor.
     #[error("no device descriptor")]
@@ -54,7 +54,7 @@ impl FileWhy {
 }
 
 /// A fault of a file, and the place where it is.
-#[derive(Clone, Copy, Debug, Drop, Error, PartialEq, Eq)]
+#[derive(Clone, Copy, Debug, Drop, Error, PartialEq, Eq, Hash)]
 #[error("{why} at {at}")]
 pub struct FileFault {
     /// The place, in bytes from the first byte of the file: of `Set` that of the fault in the set, of
@@ -66,6 +66,21 @@ pub struct FileFault {
 }
 
 impl FileFault {
+    pub(crate) fn new(at: usize, why: FileWhy) -> FileFault
+        ensures { result ≡ record { at = at; why = why } }
+    {
+        FileFault { at, why }
+    }
+
+    /// The fault, counted from the first byte of the file, where it was counted from its part's, which
+    /// stands at this place.
+    pub(crate) fn moved(self, place: usize) -> FileFault
+        requires { place + self.at < 2 ^ 64 }
+        ensures { result ≡ record { at = place + self.at; why = self.why } }
+    {
+        FileFault::new(place + self.at, self.why)
+    }
+
     /// The fault's number, from 1 to 8.
     pub fn number(self) -> u8
         ensures { result ≡ why_number self.why }
@@ -76,7 +91,7 @@ impl FileFault {
 
 /// Why a file has no bytes. Of several that hold the first is told, and `Memory` only where none of the
 /// others holds.
-#[derive(Clone, Copy, Debug, Drop, Error, PartialEq, Eq)]
+#[derive(Clone, Copy, Debug, Drop, Error, PartialEq, Eq, Hash)]
 pub enum WriteFault {
     /// The sets of the device, or those of its other speed, are not as many as bNumConfigurations says.
     #[error("the sets are not as many as declared")]

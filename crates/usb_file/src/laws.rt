@@ -5,6 +5,7 @@ ghost use Rattle.std.specs.List.{AllByRecursion};
 ghost use Rattle.usb_set.specs.Layout.{IsByte};
 ghost use Rattle.usb_file.specs.File.{File};
 ghost use Rattle.usb_file.specs.FileFaults.{FileFaulty};
+ghost use Rattle.usb_file.specs.PartLaws.{PartLaws};
 ghost use Rattle.usb_file.specs.Verdict.{Verdict};
 ghost use Rattle.usb_file.specs.declared.file.DescriptorFile.{DescriptorFile};
 ghost use Rattle.usb_file.specs.declared.fault.FileWhy.{FileWhy};
@@ -17,11 +18,7 @@ pub fn one_file()
     ensures read { (b : List ℕ) (f g : DescriptorFile) → File f b → File g b → f ≡ g }
     ensures written { (f : DescriptorFile) (b d : List ℕ) → File f b → File f d → b ≡ d }
 {
-    device_descriptor_round_trip();
-    qualifier_round_trip();
-    units_round_trip();
-    one_layout();
-    one_verdict();
+    part_laws();
 }
 
 /// Of all bytes exactly one holds: they are those of a file, or they show one fault at one place.
@@ -29,6 +26,13 @@ pub fn one_answer()
     ensures some { (b : List ℕ) → AllByRecursion IsByte b → Verdict b }
     ensures one_fault { (b : List ℕ) (p q : ℕ) (v w : FileWhy) → AllByRecursion IsByte b → FileFaulty b p v → FileFaulty b q w → (p ≡ q) × (v ≡ w) }
     ensures not_both { (b : List ℕ) (f : DescriptorFile) (p : ℕ) (w : FileWhy) → File f b → FileFaulty b p w → ⊥ }
+{
+    part_laws();
+}
+
+/// The laws of the parts of a file, from the crates that read and write these.
+fn part_laws()
+    ensures { PartLaws }
 {
     device_descriptor_round_trip();
     qualifier_round_trip();

@@ -76,7 +76,12 @@ fn mark_settings(marks: &mut Marks, settings: &[Setting])
 
 /// The marked ones of `count` numbers from the first on.
 #[tactic(auto, using(crate::proofs::Marking::passing_none, crate::proofs::Marking::passing_next, crate::proofs::Marking::passing_same))]
-fn marked_numbers(alloc: Global, marks: &Marks, first: usize, count: usize) -> Result<Vec<u8>, NoMemory>
+fn marked_numbers(
+    alloc: Global,
+    marks: &Marks,
+    first: usize,
+    count: usize,
+) -> Result<Vec<u8>, NoMemory>
     requires { first + count ≤ 256 }
     ensures { IfOk result (λ v. v.items ≡ passing first count (says marks.now)) }
 {

@@ -7,7 +7,7 @@ ghost use Rattle.usb_file.specs.Reading.{with_strings, AllSets, ReadsText, Refus
 use crate::fault::{FileFault, FileWhy};
 use crate::file::{DescriptorFile, Strings};
 use crate::naming::count_named;
-use crate::reading::{moved, rest};
+use crate::reading::rest;
 use std::alloc::Global;
 use usb_fields::read_units;
 use usb_set::Sequence;
@@ -37,20 +37,26 @@ fn read_text(alloc: Global, least: u8, rest: &[u8]) -> Result<(Sequence<u16>, us
     ensures small { IfErr result (λ fault. fault.at ≤ length rest.now) }
 {
     if is_other_than_text(least, rest) {
-        return Err(FileFault { at: 0, why: FileWhy::Text });
+        return Err(FileFault::new(0, FileWhy::Text));
     }
     if rest.len() < 2 || rest.len() < usize::from(rest[0]) {
-        return Err(FileFault { at: rest.len(), why: FileWhy::Truncated });
+        return Err(FileFault::new(rest.len(), FileWhy::Truncated));
     }
     let used = usize::from(rest[0]);
     match read_units(alloc, &rest[..used]) {
         Ok(units) => Ok((Sequence::from_vec(units), used)),
-        Err(_) => Err(FileFault { at: 0, why: FileWhy::Memory }),
+        Err(_) => Err(FileFault::new(0, FileWhy::Memory)),
     }
 }
 
 /// Reads the next string, and answers where it ends.
-fn read_next_text(alloc: Global, b: &[u8], f: &DescriptorFile, strings: &mut Strings, place: usize) -> Result<usize, FileFault>
+fn read_next_text(
+    alloc: Global,
+    b: &[u8],
+    f: &DescriptorFile,
+    strings: &mut Strings,
+    place: usize,
+) -> Result<usize, FileFault>
     requires stage { Stage b.now (with_strings strings.old f.now) place }
     requires all { AllSets f.now f.now.other }
     requires due { length strings.old.texts < length strings.old.languages * length (named_in f.now) }
@@ -62,14 +68,21 @@ fn read_next_text(alloc: Global, b: &[u8], f: &DescriptorFile, strings: &mut Str
     match read_text(alloc, LEAST_TEXT, rest(b, place)) {
         Ok((text, used)) => match strings.texts.push(text) {
             Ok(()) => Ok(place + used),
-            Err(_) => Err(FileFault { at: place, why: FileWhy::Memory }),
+            Err(_) => Err(FileFault::new(place, FileWhy::Memory)),
         },
-        Err(fault) => Err(moved(fault, place)),
+        Err(fault) => Err(fault.moved(place)),
     }
 }
 
 /// Reads the strings that are still due, `count` in all, and answers where they end.
-fn read_texts(alloc: Global, b: &[u8], f: &DescriptorFile, count: usize, strings: &mut Strings, place: usize) -> Result<usize, FileFault>
+fn read_texts(
+    alloc: Global,
+    b: &[u8],
+    f: &DescriptorFile,
+    count: usize,
+    strings: &mut Strings,
+    place: usize,
+) -> Result<usize, FileFault>
     requires stage { Stage b.now (with_strings strings.old f.now) place }
     requires all { AllSets f.now f.now.other }
     requires count { count ≡ length strings.old.languages * length (named_in f.now) }
@@ -85,7 +98,12 @@ fn read_texts(alloc: Global, b: &[u8], f: &DescriptorFile, count: usize, strings
 }
 
 /// Reads the language list, and answers where it ends.
-fn read_languages(alloc: Global, b: &[u8], f: &DescriptorFile, place: usize) -> Result<(Strings, usize), FileFault>
+fn read_languages(
+    alloc: Global,
+    b: &[u8],
+    f: &DescriptorFile,
+    place: usize,
+) -> Result<(Strings, usize), FileFault>
     requires stage { Stage b.now f.now place }
     requires turn { StringsTurn b.now f.now place }
     requires named { 0 < length (named_in f.now) }
@@ -95,16 +113,24 @@ fn read_languages(alloc: Global, b: &[u8], f: &DescriptorFile, place: usize) -> 
 {
     match read_text(alloc, LEAST_LANGUAGES, rest(b, place)) {
         Ok((languages, used)) => {
-            let strings = Strings { languages, texts: Sequence::new(alloc) };
+            let strings = Strings {
+                languages,
+                texts: Sequence::new(alloc),
+            };
             Ok((strings, place + used))
         }
-        Err(fault) => Err(moved(fault, place)),
+        Err(fault) => Err(fault.moved(place)),
     }
 }
 
 /// Reads the language list and the strings into the file, if an index is named, and answers where they
 /// end.
-pub(crate) fn read_strings(alloc: Global, b: &[u8], f: &mut DescriptorFile, place: usize) -> Result<usize, FileFault>
+pub(crate) fn read_strings(
+    alloc: Global,
+    b: &[u8],
+    f: &mut DescriptorFile,
+    place: usize,
+) -> Result<usize, FileFault>
     requires stage { Stage b.now f.old place }
     requires turn { StringsTurn b.now f.old place }
     ensures stage { IfOk result (λ end. Stage b.now f.new end) }

@@ -74,7 +74,7 @@ fn put_sets(alloc: Global, out: &mut Vec<u8>, sets: &[Configuration]) -> Result<
     Ok(())
 }
 
-#[tactic(auto, using(crate::proofs::Sets::layout_is))]
+#[tactic(auto, using(crate::proofs::WholeSets::layout_is))]
 fn put_set(alloc: Global, out: &mut Vec<u8>, c: &Configuration) -> Result<(), AllocError>
     requires { has_no_layout c.now ≡ false }
     ensures { OnOk result (out.new.items ≡ out.old.items ++ whole_set c.now) }
@@ -85,7 +85,11 @@ fn put_set(alloc: Global, out: &mut Vec<u8>, c: &Configuration) -> Result<(), Al
     }
 }
 
-fn put_strings(alloc: Global, out: &mut Vec<u8>, strings: &Option<Strings>) -> Result<(), AllocError>
+fn put_strings(
+    alloc: Global,
+    out: &mut Vec<u8>,
+    strings: &Option<Strings>,
+) -> Result<(), AllocError>
     requires { has_long_text strings.now ≡ false }
     ensures { OnOk result (out.new.items ≡ out.old.items ++ strings_bytes strings.now) }
 {

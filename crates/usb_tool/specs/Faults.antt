@@ -7,14 +7,19 @@ use Rattle.usb_set.specs.declared.fault.SetWhy.{SetWhy}
 use Rattle.usb_set.specs.declared.fault.SetWhy.TheVariants as whys
 use Rattle.usb_tool.specs.declared.fault.ToolFault.{ToolFault}
 use Rattle.usb_tool.specs.declared.fault.ToolFault.TheVariants as faults
-use Rattle.usb_tool.specs.declared.output.OutFault.{OutFault}
-use Rattle.usb_tool.specs.declared.output.OutFault.TheVariants as outs
+use Rattle.usb_file.specs.Numbers.{why_number}
+use Rattle.usb_file.specs.declared.fault.FileFault.{FileFault}
+use Rattle.usb_file.specs.declared.fault.FileWhy.{FileWhy}
+use Rattle.usb_file.specs.declared.fault.FileWhy.TheVariants as files
+use Rattle.usb_file.specs.declared.output.OutFault.{OutFault}
+use Rattle.usb_file.specs.declared.output.OutFault.TheVariants as outs
 
 -- the number of a fault
 abbrev pub fault_number : ToolFault → ℕ
 fault_number faults.Read = 1
 fault_number faults.Write = 2
 fault_number faults.TooLarge = 3
+fault_number (faults.File fault) = 4
 fault_number (faults.Set fault) = 6
 fault_number (faults.Trailing at) = 7
 fault_number faults.Memory = 8
@@ -24,6 +29,8 @@ abbrev pub fault_line : ToolFault → List ℕ
 fault_line faults.Read = codes "usbdesc: read failed"
 fault_line faults.Write = codes "usbdesc: write failed"
 fault_line faults.TooLarge = codes "usbdesc: input too large"
+fault_line (faults.File fault) =
+    codes "usbdesc: file fault " ++ decimal (why_number fault.why) ++ codes " at " ++ decimal fault.at
 fault_line (faults.Set fault) =
     codes "usbdesc: set fault " ++ decimal (number_of fault.why) ++ codes " at " ++ decimal fault.at
 fault_line (faults.Trailing at) = codes "usbdesc: trailing bytes at " ++ decimal at
@@ -36,6 +43,14 @@ fault_by_why _ fault = faults.Set fault
 
 abbrev pub fault_of_set : SetFault → ToolFault
 fault_of_set fault = fault_by_why fault.why fault
+
+-- want of memory as a file is read is the program's own too, and any other fault is one of the file
+abbrev pub file_fault_by_why : FileWhy → FileFault → ToolFault
+file_fault_by_why files.Memory fault = faults.Memory
+file_fault_by_why _ fault = faults.File fault
+
+abbrev pub fault_of_file : FileFault → ToolFault
+fault_of_file fault = file_fault_by_why fault.why fault
 
 -- a listing that was not written to its end
 abbrev pub fault_of_output : OutFault → ToolFault

@@ -1,5 +1,3 @@
-pub mod Output
-pub mod Listing
 pub mod Input
 pub mod Sets
 pub mod Faults

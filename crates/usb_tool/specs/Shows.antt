@@ -1,12 +1,15 @@
 -- What `show` does to its input and its output.
-use Rattle.std.specs.Prelude.{ℕ, ◌<◌, ◌⊎◌, List, length, take}
+use Rattle.std.specs.Prelude.{◌≡◌, ℕ, ◌<◌, ◌⊎◌, List, [], ◌∷◌, length, take, Bool, true, false, ◌==◌, ◌||◌}
 use Rattle.std.specs.Io.KnownBytes.{Appends, Keeps}
-use Rattle.usb_set.specs.declared.fault.SetFault.{SetFault}
 use Rattle.usb_set.specs.declared.tree.Configuration.{Configuration}
 use Rattle.usb_set.specs.Layout.{Layout}
+use Rattle.usb_file.specs.declared.file.DescriptorFile.{DescriptorFile}
+use Rattle.usb_file.specs.File.{File}
+use Rattle.usb_file.specs.FileFaults.{FileFaulty}
+use Rattle.usb_file.specs.Listing.{list_text}
+use Rattle.usb_file.specs.Output.{AppendsFront, Held}
+use Rattle.usb_file.specs.SetListing.{set_text}
 use Rattle.usb_tool.specs.Input.{Left, ReadsAll, ReadsMore}
-use Rattle.usb_tool.specs.Listing.{set_text}
-use Rattle.usb_tool.specs.Output.{AppendsFront, Held}
 use Rattle.usb_tool.specs.Sets.{HasFault}
 use Rattle.usb_tool.specs.declared.fault.ToolFault.{ToolFault}
 use Rattle.usb_tool.specs.declared.fault.ToolFault.TheVariants as faults
@@ -15,41 +18,73 @@ use Rattle.usb_tool.specs.declared.fault.ToolFault.TheVariants as faults
 abbrev pub file_limit : ℕ
 file_limit = 41584152
 
--- all was read, it is the layout of a set, and the listing of that set was written
+-- Whether bytes are read as one set: the second one is the type of a configuration descriptor or of an
+-- other-speed one (USB 2.0, table 9-5). All else is read as a file.
+abbrev pub is_one_set : List ℕ → Bool
+is_one_set [] = false
+is_one_set (len ∷ []) = false
+is_one_set (len ∷ kind ∷ rest) = (kind == 2) || (kind == 7)
+
+-- the text is the listing of the set that has these bytes
+pub record IsSetListing (b text : List ℕ) : Type 0 where
+  pub set : Configuration
+  pub layout : Layout set b
+  pub listing : text ≡ set_text set
+
+-- the text is the listing of the file that has these bytes
+pub record IsFileListing (b text : List ℕ) : Type 0 where
+  pub file : DescriptorFile
+  pub layout : File file b
+  pub listing : text ≡ list_text file
+
+-- the text is the listing of what the bytes are read as
+abbrev pub IsListing : Bool → List ℕ → List ℕ → Type 0
+IsListing true b text = IsSetListing b text
+IsListing false b text = IsFileListing b text
+
+-- the listing of the bytes was written
+pub record WritesListing (b : List ℕ) (held holds : Held) : Type 0 where
+  pub text : List ℕ
+  pub listing : IsListing (is_one_set b) b text
+  pub written : Appends held holds text
+
+-- a front of the listing of the bytes was written
+pub record WritesListingFront (b : List ℕ) (held holds : Held) : Type 0 where
+  pub text : List ℕ
+  pub listing : IsListing (is_one_set b) b text
+  pub written : AppendsFront held holds text
+
+-- the bytes go on after the layout of a set that ends at this place
+pub record GoesOn (b : List ℕ) (at : ℕ) : Type 0 where
+  pub set : Configuration
+  pub layout : Layout set (take at b)
+  pub more : at < length b
+
+-- How bytes are not shown: nothing was written where they are no set or no file, and else a front of their
+-- listing. They are told to be no set only where they are read as one, and no file only where they are not.
+abbrev pub RefusesToShow : List ℕ → Held → Held → ToolFault → Type 0
+RefusesToShow b held holds (faults.File fault) = (is_one_set b ≡ false) × FileFaulty b fault.at fault.why × Keeps held holds
+RefusesToShow b held holds (faults.Set fault) = (is_one_set b ≡ true) × HasFault b fault × Keeps held holds
+RefusesToShow b held holds (faults.Trailing at) = (is_one_set b ≡ true) × GoesOn b at × Keeps held holds
+RefusesToShow b held holds faults.Write = WritesListingFront b held holds
+RefusesToShow b held holds faults.Memory = Keeps held holds ⊎ WritesListingFront b held holds
+RefusesToShow b held holds fault = ⊥
+
+-- all was read, and its listing was written
 pub record Shows (from to : Left) (held holds : Held) : Type 0 where
   pub bytes : List ℕ
-  pub set : Configuration
   pub read : ReadsAll file_limit from to bytes
-  pub layout : Layout set bytes
-  pub written : Appends held holds (set_text set)
+  pub written : WritesListing bytes held holds
 
--- the same, but a front of the listing was written
-pub record ShowsFront (from to : Left) (held holds : Held) : Type 0 where
-  pub bytes : List ℕ
-  pub set : Configuration
-  pub read : ReadsAll file_limit from to bytes
-  pub layout : Layout set bytes
-  pub written : AppendsFront held holds (set_text set)
-
--- all was read, and it has this fault
-pub record IsFaulty (from to : Left) (e : SetFault) : Type 0 where
+-- all was read, but not shown
+pub record ReadsInVain (from to : Left) (held holds : Held) (fault : ToolFault) : Type 0 where
   pub bytes : List ℕ
   pub read : ReadsAll file_limit from to bytes
-  pub fault : HasFault bytes e
+  pub refused : RefusesToShow bytes held holds fault
 
--- all was read, and it goes on after a layout that ends at this place
-pub record Trails (from to : Left) (at : ℕ) : Type 0 where
-  pub bytes : List ℕ
-  pub set : Configuration
-  pub read : ReadsAll file_limit from to bytes
-  pub layout : Layout set (take at bytes)
-  pub more : at < length bytes
-
--- How `show` fails: nothing was written unless the input is a layout, and of its listing a front.
+-- How `show` fails: nothing was written before all was read.
 abbrev pub ShowFails : Left → Left → Held → Held → ToolFault → Type 0
 ShowFails from to held holds faults.Read = Keeps held holds
 ShowFails from to held holds faults.TooLarge = ReadsMore file_limit from to × Keeps held holds
-ShowFails from to held holds (faults.Set fault) = IsFaulty from to fault × Keeps held holds
-ShowFails from to held holds (faults.Trailing at) = Trails from to at × Keeps held holds
-ShowFails from to held holds faults.Write = ShowsFront from to held holds
-ShowFails from to held holds faults.Memory = Keeps held holds ⊎ ShowsFront from to held holds
+ShowFails from to held holds faults.Memory = Keeps held holds ⊎ ReadsInVain from to held holds faults.Memory
+ShowFails from to held holds fault = ReadsInVain from to held holds fault

@@ -1,16 +1,16 @@
 //! Why a command of the program failed, and what it says of that.
 ghost use Rattle.std.specs.Prelude.{◌≡◌, Some};
-ghost use Rattle.usb_tool.specs.Faults.{fault_line, fault_number, fault_of_output, fault_of_set, status_of};
+ghost use Rattle.usb_tool.specs.Faults.{fault_line, fault_number, fault_of_file, fault_of_output, fault_of_set, status_of};
 ghost use Rattle.usb_tool.specs.declared.fault.ToolFault.TheVariants.{Memory};
 
-use crate::output::OutFault;
 use std::alloc::AllocError;
 use std::error::Error;
 use std::fmt;
+use usb_file::{FileFault, FileWhy, OutFault};
 use usb_set::{SetFault, SetWhy};
 
 /// Why a command did not do its work.
-#[derive(Clone, Copy, Debug, PartialEq, Eq, Hash)]
+#[derive(Clone, Copy, Debug, PartialEq, Eq)]
 pub enum ToolFault {
     /// The reader answered an error.
     Read,
@@ -18,6 +18,8 @@ pub enum ToolFault {
     Write,
     /// The input is longer than the command reads.
     TooLarge,
+    /// The input is no descriptor file.
+    File(FileFault),
     /// The input is no configuration set.
     Set(SetFault),
     /// The input goes on after its set: the place of the first byte after it.
@@ -27,7 +29,7 @@ pub enum ToolFault {
 }
 
 impl ToolFault {
-    /// The fault's number. 4 and 5 are for files and listings.
+    /// The fault's number. 5 is for listings.
     pub fn number(&self) -> u8
         ensures { result ≡ fault_number self.now }
     {
@@ -35,6 +37,7 @@ impl ToolFault {
             ToolFault::Read => 1,
             ToolFault::Write => 2,
             ToolFault::TooLarge => 3,
+            ToolFault::File(_) => 4,
             ToolFault::Set(_) => 6,
             ToolFault::Trailing(_) => 7,
             ToolFault::Memory => 8,
@@ -51,6 +54,11 @@ impl fmt::Display for ToolFault {
             ToolFault::Read => write!(f, "usbdesc: read failed"),
             ToolFault::Write => write!(f, "usbdesc: write failed"),
             ToolFault::TooLarge => write!(f, "usbdesc: input too large"),
+            ToolFault::File(fault) => {
+                let number = fault.why.number();
+                let at = fault.at;
+                write!(f, "usbdesc: file fault {number} at {at}")
+            }
             ToolFault::Set(fault) => {
                 let number = fault.why.number();
                 let at = fault.at;
@@ -80,6 +88,18 @@ impl From<SetFault> for ToolFault {
         match e.why {
             SetWhy::Memory => ToolFault::Memory,
             _ => ToolFault::Set(e),
+        }
+    }
+}
+
+/// Want of memory is the program's own fault here too.
+impl From<FileFault> for ToolFault {
+    ghost from_gives = { λ e fault. fault ≡ fault_of_file e };
+
+    fn from(e: FileFault) -> ToolFault {
+        match e.why {
+            FileWhy::Memory => ToolFault::Memory,
+            _ => ToolFault::File(e),
         }
     }
 }

@@ -1,12 +1,17 @@
-//! The commands of `usbdesc` over any reader and writer.
+//! The commands of the program `usbdesc`, over any reader and writer.
+//!
+//! [`run_show`] reads a configuration set or a descriptor file to the end of its input and writes its
+//! listing, a line for each descriptor. Its contract speaks of the bytes that the reader has and of
+//! those that the writer gains, where the two tell them: `specs/Shows.antt` says what it does, fault by
+//! fault. What each line says stands in the crate `usb_file`.
+//!
+//! [`read_line`] reads the command line, [`ToolFault`] says why a command failed, and [`verdict`]
+//! gives the exit status.
 #![tactic(auto)]
 
 mod fault;
 mod input;
 mod line;
-mod listing;
-mod output;
-mod page;
 mod set;
 mod show;
 

@@ -10,7 +10,7 @@ use std::alloc::{AllocError, Global};
 /// What a command line asks for.
 #[derive(Clone, Copy, Debug, PartialEq, Eq, Hash)]
 pub enum Line {
-    /// The listing of the set that is the input.
+    /// The listing of the set or the file that is the input.
     Show,
 }
 
@@ -54,7 +54,7 @@ fn command<'a>(alloc: Global) -> Result<Command<'a>, AllocError>
     ensures { IfOk result (λ c. app_of c ≡ usbdesc_app) }
 {
     let show = Command::new(alloc, "show").about(
-        "Lists the configuration set on standard input, a line for each descriptor",
+        "Lists the configuration set or descriptor file on standard input, a line for each descriptor",
     );
     Command::new(alloc, "usbdesc")
         .about("Lists USB 2.0 descriptors")

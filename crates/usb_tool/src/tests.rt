@@ -1,3 +1,5 @@
+mod files;
+
 use crate::input::read_all;
 use crate::{ToolFault, run_show, verdict};
 use std::alloc::Global;
@@ -50,7 +52,7 @@ enum End {
 /// A writer that takes at most `step` bytes a call.
 #[derive(Drop)]
 struct Sheet {
-    bytes: [u8; 256],
+    bytes: [u8; 1024],
     filled: usize,
     step: usize,
     calls: usize,
@@ -61,7 +63,7 @@ struct Sheet {
 impl Sheet {
     fn new(step: usize, calls: usize, end: End) -> Sheet {
         Sheet {
-            bytes: [0; 256],
+            bytes: [0; 1024],
             filled: 0,
             step,
             calls,
@@ -138,7 +140,7 @@ endpoint 01 09 00c0 01 0000
         ),
     ];
     for (bytes, lines) in cases {
-        let mut sheet = Sheet::new(256, 100, End::Fails);
+        let mut sheet = Sheet::new(1024, 100, End::Fails);
         let outcome = show(rt.alloc(), bytes, &mut sheet);
         assert_eq!(rt; outcome, Ok(0));
         assert_eq!(rt; sheet.text(), lines.as_bytes());
@@ -157,7 +159,7 @@ fn changed(place: usize, byte: u8) -> [u8; 34] {
 
 /// The number and the line of the fault of bytes that are refused, of which nothing is written.
 fn refused(alloc: Global, bytes: &[u8]) -> std::result::Result<String, Fail> {
-    let mut sheet = Sheet::new(256, 100, End::Fails);
+    let mut sheet = Sheet::new(1024, 100, End::Fails);
     let outcome = show(alloc, bytes, &mut sheet);
     if !sheet.text().is_empty() {
         return Err(Fail::from("something is written"));
@@ -178,10 +180,9 @@ fn tells_what_follows_a_set(rt: HostRuntime) -> std::result::Result<(), Fail> {
 }
 
 #[test]
-fn tells_faults_of_the_first_descriptor(rt: HostRuntime) -> std::result::Result<(), Fail> {
+fn tells_faults_of_a_configuration_descriptor(rt: HostRuntime) -> std::result::Result<(), Fail> {
     let cases = [
         (0, 8, "6 usbdesc: set fault 1 at 0"),
-        (1, 3, "6 usbdesc: set fault 2 at 1"),
         (2, 8, "6 usbdesc: set fault 3 at 2"),
     ];
     for (place, byte, want) in cases {
@@ -206,7 +207,6 @@ fn tells_faults_of_later_descriptors(rt: HostRuntime) -> std::result::Result<(),
             &[9, 2, 18, 0, 0, 1, 0, 128, 50, 9, 2][..],
             "6 usbdesc: set fault 6 at 9",
         ),
-        (&[][..], "6 usbdesc: set fault 9 at 0"),
     ];
     for (bytes, want) in cases {
         let line = refused(rt.alloc(), bytes)?;
@@ -238,7 +238,7 @@ fn reads_in_any_pieces(rt: HostRuntime) {
                 step,
                 calls,
             };
-            let mut sheet = Sheet::new(256, 100, End::Fails);
+            let mut sheet = Sheet::new(1024, 100, End::Fails);
             let outcome = run_show(rt.alloc(), &mut reader, &mut sheet);
             if calls < needed {
                 assert_eq!(rt; outcome, Err(ToolFault::Read), "{step} {calls}");
@@ -276,7 +276,7 @@ fn stops_at_a_failed_write(rt: HostRuntime) {
 
 #[test]
 fn a_failed_flush_is_a_failed_write(rt: HostRuntime) {
-    let mut sheet = Sheet::new(256, 100, End::Fails);
+    let mut sheet = Sheet::new(1024, 100, End::Fails);
     sheet.flushes = false;
     assert_eq!(rt; show(rt.alloc(), &MOUSE, &mut sheet), Err(ToolFault::Write));
     assert_eq!(rt; sheet.text(), MOUSE_LINES.as_bytes());

@@ -8,5 +8,5 @@ use Rattle.usb_file.proofs.naming.named.Goals as goal
 pub returns : goal.returns
 returns c =
     let is : passing 1 255 (says c.mark_file.result) ≡ named_in c.args.f.now =
-      ap (passing 1 255) c.mark_file.ensures ∙ passing_marks 1 255 (texts_of c.args.f.now) in
+    ap (passing 1 255) c.mark_file.ensures ∙ passing_marks 1 255 (texts_of c.args.f.now) in
     subst (λ ns. IfOk c.marked_numbers.result (λ v. v.items ≡ ns)) is c.marked_numbers.ensures
