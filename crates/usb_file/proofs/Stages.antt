@@ -157,6 +157,13 @@ stage_device b d f is fits long h = subst (λ f. Stage b f 18) (sym is) (record 
   fits = fits;
 })
 
+pub refused_device : (b : List ℕ) (at : ℕ) (why : FileWhy) → fixed_fault 18 (is_some (device_fault (take 18 b))) files.Device b ≡ Some (at, why) → RefusesToRead b at why
+refused_device b at why h = cases why h (fixed_memory 18 (is_some (device_fault (take 18 b))) files.Device b at why h (λ e. cc))
+  where
+    cases : (why : FileWhy) → fixed_fault 18 (is_some (device_fault (take 18 b))) files.Device b ≡ Some (at, why) → why ≢ files.Memory → RefusesToRead b at why
+    cases files.Memory h not = absurd (not refl)
+    cases why h not = inl h
+
 -- as many sets as are declared, and no more
 pub full_main : (b : List ℕ) (f : DescriptorFile) (place : ℕ) → Stage b f place → IsTurn kinds.Configuration f → f.device.configurations ≤ length f.sets → length f.sets ≡ f.device.configurations
 full_main b f place stage turn all =
@@ -179,48 +186,3 @@ stage_qualifier b f g place q stage turn all h is =
 pub turn_qualifier : (b : List ℕ) (f g : DescriptorFile) (place : ℕ) (q : Qualifier) → Stage b f place → IsTurn kinds.Configuration f → f.device.configurations ≤ length f.sets
     → g ≡ with_qualifier q f → IsTurn kinds.OtherSpeed g
 turn_qualifier b f g place q stage turn all is = subst (IsTurn kinds.OtherSpeed) (sym is) (full_main b f place stage turn all, refl, turn.1)
-
-pub refused_qualifier : (b : List ℕ) (f : DescriptorFile) (place at : ℕ) (why : FileWhy) → Stage b f place → IsTurn kinds.Configuration f → f.device.configurations ≤ length f.sets
-    → begins_qualifier (drop place b) ≡ true → fixed_fault 10 (is_some (qualifier_fault (take 10 (drop place b)))) files.Qualifier (drop place b) ≡ Some (at, why)
-    → RefusesToRead b (place + at) why
-refused_qualifier b f place at why stage turn all begins h =
-    no_memory b (place + at) why (fixed_memory 10 (is_some (qualifier_fault (take 10 (drop place b)))) files.Qualifier (drop place b) at why h (λ e. cc))
-    (faulty_part b f place a_qualifier at why stage (due_qualifier f (drop place b) (full_main b f place stage turn all) turn.0 turn.1 begins) h)
-
--- ---- the strings are next
-
-pub strings_turn : (b : List ℕ) (f : DescriptorFile) (place : ℕ) → Stage b f place → IsTurn kinds.Configuration f → f.device.configurations ≤ length f.sets
-    → begins_qualifier (drop place b) ≡ false → StringsTurn b f place
-strings_turn b f place stage turn all begins =
-    let all_sets : AllSets f f.other = subst (AllSets f) (sym turn.0) (full_main b f place stage turn all) in
-    record {
-      all = all_sets;
-      none = turn.1;
-      next = due_strings f (drop place b) all_sets (λ _ _. begins) ∙ ap (text_due (length (named_in f))) turn.1;
-    }
-
-pub strings_turn_other : (b : List ℕ) (f : DescriptorFile) (place : ℕ) → Stage b f place → IsTurn kinds.OtherSpeed f → declared kinds.OtherSpeed f ≤ length (sets_in kinds.OtherSpeed f)
-    → StringsTurn b f place
-strings_turn_other b f place stage turn all =
-    let order : IsInOrder f f.other None = subst (λ s. IsInOrder f f.other s) turn.2 stage.splits.is_front.order in
-    let all_sets : AllSets f f.other = cases f.other turn.1 all order in
-    record {
-      all = all_sets;
-      none = turn.2;
-      next = due_strings f (drop place b) all_sets (λ e _. absurd (some_none f.other turn.1 e)) ∙ ap (text_due (length (named_in f))) turn.2;
-    }
-  where
-    some_none : (o : Option Other) → is_some o ≡ true → o ≡ None → ⊥
-    some_none None h e = cc
-    some_none (Some o) h e = cc
-
-    cases : (o : Option Other) → is_some o ≡ true → other_declared o ≤ length (other_sets o) → IsInOrder f o None → AllSets f o
-    cases None some all order = cc
-    cases (Some o) some all order = (order.0, omega (arith, order.1))
-
-pub refused_device : (b : List ℕ) (at : ℕ) (why : FileWhy) → fixed_fault 18 (is_some (device_fault (take 18 b))) files.Device b ≡ Some (at, why) → RefusesToRead b at why
-refused_device b at why h = cases why h (fixed_memory 18 (is_some (device_fault (take 18 b))) files.Device b at why h (λ e. cc))
-  where
-    cases : (why : FileWhy) → fixed_fault 18 (is_some (device_fault (take 18 b))) files.Device b ≡ Some (at, why) → why ≢ files.Memory → RefusesToRead b at why
-    cases files.Memory h not = absurd (not refl)
-    cases why h not = inl h

@@ -28,60 +28,11 @@ length-units (x ∷ u) = omega (arith, length-units u)
 pub length-units_bytes : (u : List ℕ) → length (units_bytes u) ≡ 2 + 2 * length u
 length-units_bytes u = omega (arith, length-units u)
 
-enough_there : (least : ℕ) (rest : List ℕ) → is_no_text least rest ≡ false → 2 ≤ length rest → least ≤ slice_index rest 0
-enough_there least [] h long = absurd (omega arith)
-enough_there least (len ∷ []) h long = absurd (omega arith)
-enough_there least (len ∷ kind ∷ rest) h long = ltb-false len least (or_parts (ltb len least) _ (or_parts _ _ h).0).0
-
--- the bytes up to bLength are those of these units
-pub reads_text : (least : ℕ) (rest u : List ℕ) → is_no_text least rest ≡ false → 2 ≤ length rest → slice_index rest 0 ≤ length rest
-    → take (slice_index rest 0) rest ≡ units_bytes u → length u ≤ 126 → ReadsText least rest u (slice_index rest 0)
-reads_text least rest u is_text long within h few = record {
-  parts = sym (take-append-drop (slice_index rest 0) rest) ∙ ap (λ x. x ++ drop (slice_index rest 0) rest) h;
-  ends = omega (arith, length-take (slice_index rest 0) rest, ap length h, length-units_bytes u);
-  within = within;
-  enough = enough_there least rest is_text long;
-  short = le-ltb 126 (length u) few;
-}
-
 -- ---- the strings of a file
-
-units_part : (least : ℕ) (rest u : List ℕ) (used : ℕ) → ReadsText least rest u used → Part rest (units_bytes u) used
-units_part least rest u used h = record { parts = h.parts; ends = omega (arith, length-units_bytes u, h.ends) }
-
-pub stage_languages : (b : List ℕ) (f : DescriptorFile) (place : ℕ) (u : List ℕ) (used : ℕ) (s : Strings) → Stage b f place → StringsTurn b f place → 0 < length (named_in f)
-    → ReadsText 4 (drop place b) u used → s ≡ record { languages = u; texts = [] } → Stage b (with_strings s f) (place + used)
-stage_languages b f place u used s stage turn named h is =
-    let spoken : 0 < length u = omega (arith, h.ends, h.enough) in
-    subst (λ s. Stage b (with_strings s f) (place + used)) (sym is)
-    (stage_next b f _ place (units_bytes u) used stage (grow_languages f u stage.splits.is_front turn.all turn.none named spoken h.short) (units_part 4 (drop place b) u used h))
-
--- strings in a front
-pub strings_follow : (f : DescriptorFile) (o : Option Other) (s : Strings) → IsInOrder f o (Some s) → StringsFollow (length (named_in f)) s
-strings_follow f None s h = h.1
-strings_follow f (Some o) s h = h.2
 
 all_again : (f : DescriptorFile) (s : Strings) (o : Option Other) → AllSets f o → AllSets (with_strings s f) o
 all_again f s None h = h
 all_again f s (Some o) h = h
-
-pub stage_text : (b : List ℕ) (f : DescriptorFile) (place : ℕ) (s t : Strings) (u : List ℕ) (used : ℕ) → Stage b (with_strings s f) place → AllSets f f.other
-    → length s.texts < length s.languages * length (named_in f) → ReadsText 2 (drop place b) u used → t ≡ record s { texts = s.texts ++ u ∷ [] }
-    → Stage b (with_strings t f) (place + used)
-stage_text b f place s t u used stage all below h is =
-    let g = with_strings s f in
-    let follow = strings_follow g f.other s stage.splits.is_front.order in
-    subst (λ t. Stage b (with_strings t f) (place + used)) (sym is)
-    (stage_next b g _ place (units_bytes u) used stage (grow_text g s u stage.splits.is_front (all_again f s f.other all) refl follow below h.short) (units_part 2 (drop place b) u used h))
-
--- after all strings the file ends
-pub last_text : (f : DescriptorFile) (s : Strings) (rest : List ℕ) → AllSets f f.other → length s.languages * length (named_in f) ≤ length s.texts → due (with_strings s f) rest ≡ the_end
-last_text f s rest all h =
-    due_strings (with_strings s f) rest (all_again f s f.other all) (λ _ e. cc)
-    ∙ cond-false (ltb (length s.texts) (length s.languages * length (named_in f))) _ _ (le-ltb _ _ h)
-
-pub last_none : (b : List ℕ) (f : DescriptorFile) (place : ℕ) → StringsTurn b f place → length (named_in f) ≡ 0 → due f (drop place b) ≡ the_end
-last_none b f place turn none = turn.next ∙ cond-true (length (named_in f) == 0) _ _ (eq-eqb (length (named_in f)) 0 none)
 
 -- ---- faults
 

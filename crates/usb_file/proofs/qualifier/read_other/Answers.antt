@@ -2,7 +2,7 @@ use Rattle.std.proofs.Common.{◌≡◌, ◌+◌, length, subst, sym, ap, ◌∙
 use Rattle.usb_fields.specs.Qualifier.{qualifier_bytes}
 use Rattle.usb_file.specs.FileFaults.{RefusesToRead}
 use Rattle.usb_file.specs.Reading.{Stage, StringsTurn, with_qualifier}
-use Rattle.usb_file.proofs.Stages.{stage_qualifier, turn_qualifier, refused_qualifier, strings_turn, strings_turn_other}
+use Rattle.usb_file.proofs.Stages.{stage_qualifier, turn_qualifier}
 use Rattle.usb_file.proofs.qualifier.read_other.Goals as goal
 
 pub read_sets-requires-clause-stage : goal.read_sets-requires-clause-stage

@@ -1,7 +1,7 @@
 use Rattle.std.proofs.Common.{◌≡◌, ◌+◌, subst, sym, refl, ap, List, []}
 use Rattle.usb_file.specs.FileFaults.{RefusesToRead}
 use Rattle.usb_file.specs.Reading.{Stage, ReadsText, RefusesText}
-use Rattle.usb_file.proofs.Texts.{stage_languages, refused_languages}
+use Rattle.usb_file.proofs.Texts.{refused_languages}
 use Rattle.usb_file.proofs.strings.read_languages.Goals as goal
 
 pub returns-in-Err-clause-err : goal.returns-in-Err-clause-err

@@ -1,7 +1,7 @@
 use Rattle.std.proofs.Common.{◌≡◌, ◌+◌, subst, sym, refl}
 use Rattle.usb_file.specs.FileFaults.{RefusesToRead}
 use Rattle.usb_file.specs.Reading.{ReadsText, RefusesText}
-use Rattle.usb_file.proofs.Texts.{stage_text, refused_next}
+use Rattle.usb_file.proofs.Texts.{refused_next}
 use Rattle.usb_file.proofs.strings.read_next_text.Goals as goal
 
 pub returns-in-Err-clause-err : goal.returns-in-Err-clause-err
