@@ -1,8 +1,7 @@
 -- The end of a file.
-use Rattle.std.proofs.Common.{◌≡◌, ◌≢◌, ℕ, zero, suc, cond, ltb, eqb, ◌+◌, ◌*◌, ◌<◌, ◌≤◌, ◌⊎◌, inl, inr, Bool, true, false, not, ◌||◌, ◌==◌, nat_lt, List, [], ◌∷◌, ◌++◌, length, drop, Option, Some, None, refl, ap, sym, subst, ◌∙◌, arith}
+use Rattle.std.proofs.Common.{◌≡◌, ℕ, zero, suc, ltb, ◌*◌, ◌<◌, ◌≤◌, inl, inr, false, not, ◌||◌, ◌==◌, List, [], ◌∷◌, length, drop, Option, Some, None, refl, sym, subst, ◌∙◌, arith}
 use Rattle.std.proofs.lemmas.List.{append-nil}
-use Rattle.std.proofs.lemmas.Bool.{eqb-true, eqb-false, eq-eqb, ne_eqb, ltb-true, ltb-false, lt-ltb, le-ltb, or_parts, or_from, cond-true, cond-false, cases_Bool, cases_eq, cases_lt, not_from_true}
-use Rattle.usb_set.specs.declared.tree.SetKind.{SetKind}
+use Rattle.std.proofs.lemmas.Bool.{eq-eqb, ne_eqb, lt-ltb, or_from, cond-true, cond-false, cases_eq, cases_lt, not_from_true}
 use Rattle.usb_set.specs.declared.tree.SetKind.TheVariants as kinds
 use Rattle.usb_file.specs.declared.file.DescriptorFile.{DescriptorFile}
 use Rattle.usb_file.specs.declared.file.Other.{Other}
@@ -10,12 +9,12 @@ use Rattle.usb_file.specs.declared.file.Strings.{Strings}
 use Rattle.usb_file.specs.declared.fault.FileWhy.{FileWhy}
 use Rattle.usb_file.specs.declared.fault.FileWhy.TheVariants as files
 use Rattle.usb_file.specs.Named.{named_in}
-use Rattle.usb_file.specs.File.{File, file_bytes, wrong_count, wrong_kind, wrong_layout, wrong_texts, other_miscounts, has_long_text}
-use Rattle.usb_file.specs.FileFaults.{due, Due, a_set, a_qualifier, the_languages, a_text, the_end, text_due, begins_qualifier, after_main, StringsFollow, IsInOrder, IsFront, PartFaulty, FaultyPart, FileFaulty, Splits, RefusesToRead}
+use Rattle.usb_file.specs.File.{File, file_bytes, wrong_count, wrong_texts, other_miscounts}
+use Rattle.usb_file.specs.FileFaults.{due, a_set, the_languages, a_text, the_end, text_due, begins_qualifier, StringsFollow, IsInOrder, PartFaulty, FileFaulty, Splits, RefusesToRead}
 use Rattle.usb_file.specs.Reading.{Stage, AllSets}
 use Rattle.usb_file.proofs.Lists.{AreBytes}
-use Rattle.usb_file.proofs.Fronts.{due_main, due_after, due_other, due_strings}
-use Rattle.usb_file.proofs.Stages.{faulty_part, no_memory}
+use Rattle.usb_file.proofs.Fronts.{due_main, due_other, due_strings}
+use Rattle.usb_file.proofs.Stages.{faulty_part}
 
 -- ---- where the file ends, all is there
 

@@ -1,13 +1,12 @@
 -- Fronts of files, and the parts that come next.
-use Rattle.std.proofs.Common.{◌≡◌, ℕ, zero, suc, ◌+◌, ◌*◌, ◌<◌, ◌≤◌, ◌⊎◌, inl, inr, Bool, true, false, not, cond, ltb, eqb, ◌||◌, ◌==◌, nat_lt, List, [], ◌∷◌, ◌++◌, length, Option, Some, None, refl, ap, sym, subst, ◌∙◌, arith, append_assoc, length-append}
-use Rattle.std.specs.List.{list_any, flat_map}
+use Rattle.std.proofs.Common.{◌≡◌, ℕ, ◌*◌, ◌<◌, ◌≤◌, true, false, ltb, List, [], ◌∷◌, ◌++◌, length, Option, Some, None, refl, ap, sym, subst, ◌∙◌, arith, append_assoc}
+use Rattle.std.specs.List.{list_any}
 use Rattle.std.proofs.lemmas.List.{append-nil}
-use Rattle.std.proofs.lemmas.Bool.{lt-ltb, le-ltb, ltb-true, ltb-false, eqb-true, eqb-false, eq-eqb, ne_eqb, or_parts, or_from, cond-true, cond-false, cases_Bool, cases_lt}
+use Rattle.std.proofs.lemmas.Bool.{lt-ltb, le-ltb, or_parts, or_from, cond-true, cond-false}
 use Rattle.usb_fields.specs.declared.qualifier.Qualifier.{Qualifier}
 use Rattle.usb_fields.specs.Qualifier.{qualifier_bytes}
 use Rattle.usb_fields.specs.Device.{device_bytes}
 use Rattle.usb_fields.specs.Units.{units_bytes}
-use Rattle.usb_set.specs.declared.tree.SetKind.{SetKind}
 use Rattle.usb_set.specs.declared.tree.SetKind.TheVariants as kinds
 use Rattle.usb_set.specs.declared.tree.Configuration.{Configuration}
 use Rattle.usb_set.specs.Layout.{Layout}
@@ -15,8 +14,8 @@ use Rattle.usb_file.specs.declared.file.DescriptorFile.{DescriptorFile}
 use Rattle.usb_file.specs.declared.file.Other.{Other}
 use Rattle.usb_file.specs.declared.file.Strings.{Strings}
 use Rattle.usb_file.specs.Named.{named_in, other_sets}
-use Rattle.usb_file.specs.File.{whole_set, sets_bytes, other_bytes, texts_bytes, strings_bytes, file_bytes, is_not_kind, has_no_layout, is_long_text, has_long_text, wrong_kind, wrong_layout}
-use Rattle.usb_file.specs.FileFaults.{Due, a_set, a_qualifier, the_languages, a_text, the_end, text_due, begins_qualifier, after_main, due, StringsFollow, IsInOrder, IsFront}
+use Rattle.usb_file.specs.File.{whole_set, sets_bytes, other_bytes, texts_bytes, strings_bytes, file_bytes, is_not_kind, has_no_layout, is_long_text}
+use Rattle.usb_file.specs.FileFaults.{a_set, a_qualifier, text_due, begins_qualifier, after_main, due, StringsFollow, IsInOrder, IsFront}
 use Rattle.usb_file.specs.Reading.{AllSets, with_set, other_with, with_qualifier, with_strings}
 use Rattle.usb_file.proofs.Lists.{flat_map-push, list_any-push, length-push, behind_main, behind_other, behind_all}
 use Rattle.usb_file.proofs.WholeSets.{layout_is, layout_allowed}

@@ -4,10 +4,6 @@ use Rattle.std.specs.Prelude.{OnErr}
 use Rattle.std.specs.Io.KnownBytes.{Appends, Keeps}
 use Rattle.usb_file.specs.Output.{AppendsFront, Held, Puts}
 
-pub appends_nil : (a : Held) → Appends a a []
-appends_nil None = tt
-appends_nil (Some x) = sym (append-nil x)
-
 pub appends_more : (a b c : Held) (s t : List ℕ) → Appends a b s → Appends b c t → Appends a c (s ++ t)
 appends_more None b c s t p q = tt
 appends_more (Some x) None c s t p q = absurd p
@@ -24,10 +20,6 @@ pub keeps_refl : (a : Held) → Keeps a a
 keeps_refl None = tt
 keeps_refl (Some x) = refl
 
--- nothing of the text was written yet
-pub front_none : (a : Held) (text : List ℕ) → AppendsFront a a text
-front_none a text = record { front = []; rest = text; parts = refl; written = appends_nil a }
-
 -- a front of a text is one of a longer text
 pub front_longer : (a b : Held) (text more : List ℕ) → AppendsFront a b text → AppendsFront a b (text ++ more)
 front_longer a b text more f = record {
@@ -36,10 +28,6 @@ front_longer a b text more f = record {
   parts = ap (λ l. l ++ more) f.parts ∙ append_assoc f.front f.rest more;
   written = f.written;
 }
-
--- a page that nothing was written of
-pub puts_none : (a : Held) (page text : List ℕ) → Puts a a page (page ++ text) text
-puts_none a page text = record { front = []; parts = refl; written = appends_nil a }
 
 -- one text put after another
 pub puts_more : (a b c : Held) (page mid rest s t : List ℕ) → Puts a b page mid s → Puts b c mid rest t → Puts a c page rest (s ++ t)
@@ -75,10 +63,6 @@ broken_after a b page mid s t e p = record {
   written = p.written;
 }
 
--- what is left when a text was put and the page then written whole
-pub puts_whole : (a b c : Held) (rest text : List ℕ) → Puts a b [] rest text → Appends b c rest → Appends a c text
-puts_whole a b c rest text p w = subst (Appends a c) (sym p.parts) (appends_more a b c p.front rest p.written w)
-
 pub puts_whole_front : (a b c : Held) (rest text : List ℕ) → Puts a b [] rest text → AppendsFront b c rest → AppendsFront a c text
 puts_whole_front a b c rest text p w = record {
   front = p.front ++ w.front;
@@ -93,23 +77,12 @@ pub record WritesFrom (old new : Held) (bytes rest : List ℕ) : Type 0 where
   pub parts : bytes ≡ done ++ rest
   pub written : Appends old new done
 
-pub from_start : (a : Held) (bytes : List ℕ) → WritesFrom a a bytes bytes
-from_start a bytes = record { done = []; parts = refl; written = appends_nil a }
-
 pub from_next : (a b c : Held) (bytes rest : List ℕ) (n : ℕ) → WritesFrom a b bytes rest → Appends b c (take n rest) → WritesFrom a c bytes (drop n rest)
 from_next a b c bytes rest n p w = record {
   done = p.done ++ take n rest;
   parts = p.parts ∙ ap (λ l. p.done ++ l) (sym (take-append-drop n rest)) ∙ sym (append_assoc p.done (take n rest) (drop n rest));
   written = appends_more a b c p.done (take n rest) p.written w;
 }
-
-pub from_stopped : (a b c : Held) (bytes rest : List ℕ) → WritesFrom a b bytes rest → Keeps b c → AppendsFront a c bytes
-from_stopped a b c bytes rest p k =
-    record { front = p.done; rest = rest; parts = p.parts; written = appends_kept a b c p.done p.written k }
-
-pub from_end : (a b : Held) (bytes rest : List ℕ) → WritesFrom a b bytes rest → rest ≡ [] → Appends a b bytes
-from_end a b bytes rest p e =
-    subst (Appends a b) (sym (p.parts ∙ ap (λ l. p.done ++ l) e ∙ append-nil p.done)) p.written
 
 -- a page that was passed on after a text was put
 pub puts_passed : (a b c : Held) (page mid rest text : List ℕ) → Puts a b page mid text → Puts b c mid rest [] → Puts a c page rest text

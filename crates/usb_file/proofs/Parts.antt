@@ -1,12 +1,11 @@
 -- The parts of a file.
-use Rattle.std.proofs.Common.{◌≡◌, ℕ, zero, suc, ◌+◌, ◌*◌, ◌<◌, ◌≤◌, ◌⊎◌, inl, inr, List, [], ◌∷◌, ◌++◌, length, drop, Bool, true, false, ◌||◌, nat_lt, Option, Some, None, Ok, Err, refl, ap, sym, subst, ◌∙◌, arith, append_assoc, length-append}
-use Rattle.std.specs.List.{list_any, flat_map}
+use Rattle.std.proofs.Common.{◌≡◌, ℕ, ◌⊎◌, inl, inr, List, [], Err, refl, ap, sym, subst}
 use Rattle.usb_set.specs.declared.tree.SetKind.{SetKind}
 use Rattle.usb_set.specs.declared.fault.SetFault.{SetFault}
 use Rattle.usb_set.specs.declared.fault.SetWhy.{SetWhy}
 use Rattle.usb_set.specs.declared.fault.SetWhy.TheVariants as sets
-use Rattle.usb_set.specs.Faults.{Begins, Faulty}
-use Rattle.usb_set.specs.Decoding.{Decoding, gathers}
+use Rattle.usb_set.specs.Faults.{Faulty}
+use Rattle.usb_set.specs.Decoding.{Decoding}
 use Rattle.usb_set.specs.Feeding.{Feeds, out_of_memory}
 use Rattle.usb_file.specs.declared.fault.FileFault.{FileFault}
 use Rattle.usb_file.specs.Reading.{RefusesSet, set_refusal}

@@ -1,17 +1,15 @@
 -- Fronts of the same bytes lie on one path, which grows part by part.
-use Rattle.std.proofs.Common.{◌≡◌, ◌≢◌, ℕ, zero, suc, cond, ltb, eqb, ◌+◌, ◌*◌, ◌<◌, ◌≤◌, ◌⊎◌, inl, inr, Bool, true, false, not, ◌||◌, ◌==◌, nat_lt, List, [], ◌∷◌, ◌++◌, length, Option, Some, None, refl, ap, sym, subst, ◌∙◌, arith, append_assoc, length-append}
+use Rattle.std.proofs.Common.{◌≡◌, ℕ, zero, suc, cond, ltb, ◌+◌, ◌*◌, ◌<◌, ◌≤◌, Bool, true, false, ◌==◌, List, [], ◌∷◌, ◌++◌, length, Option, Some, None, refl, ap, sym, subst, ◌∙◌, arith, append_assoc}
 use Rattle.std.specs.Prelude.{is_some}
 use Rattle.std.specs.List.{list_any}
 use Rattle.std.proofs.lemmas.List.{append-nil}
-use Rattle.std.proofs.lemmas.Bool.{ltb-false, le-ltb, lt-ltb, ne_eqb, or_parts, or_from, cond-true, cond-false, cases_Bool, not_from_false}
+use Rattle.std.proofs.lemmas.Bool.{ltb-false, lt-ltb, ne_eqb, or_parts, cond-true, cond-false}
 use Rattle.usb_fields.specs.declared.device.DeviceDescriptor.{DeviceDescriptor}
 use Rattle.usb_fields.specs.Device.{device_bytes}
 use Rattle.usb_fields.specs.Qualifier.{qualifier_bytes}
 use Rattle.usb_fields.specs.Units.{units_bytes}
-use Rattle.usb_set.specs.declared.tree.SetKind.{SetKind}
 use Rattle.usb_set.specs.declared.tree.SetKind.TheVariants as kinds
 use Rattle.usb_set.specs.declared.tree.Configuration.{Configuration}
-use Rattle.usb_set.specs.declared.fault.EncodeFault.{EncodeFault}
 use Rattle.usb_set.specs.declared.fault.EncodeFault.TheVariants as encoding
 use Rattle.usb_set.specs.Layout.{Layout, set_bytes, has_long_descriptor, has_typed_raw}
 use Rattle.usb_set.specs.Encoding.{set_length, HasLength}
@@ -21,13 +19,13 @@ use Rattle.usb_file.specs.declared.file.Other.{Other}
 use Rattle.usb_file.specs.declared.file.Strings.{Strings}
 use Rattle.usb_file.specs.declared.fault.FileWhy.{FileWhy}
 use Rattle.usb_file.specs.Named.{named_in, other_sets}
-use Rattle.usb_file.specs.File.{whole_set, sets_bytes, other_bytes, texts_bytes, strings_bytes, file_bytes, is_not_kind, has_no_layout, is_long_text, has_long_text}
-use Rattle.usb_file.specs.FileFaults.{Due, a_set, a_qualifier, the_languages, a_text, the_end, text_due, begins_qualifier, due, StringsFollow, IsInOrder, IsFront, Splits, PartFaulty}
+use Rattle.usb_file.specs.File.{whole_set, sets_bytes, other_bytes, texts_bytes, strings_bytes, file_bytes, is_not_kind, has_no_layout, is_long_text}
+use Rattle.usb_file.specs.FileFaults.{the_languages, a_text, the_end, text_due, due, StringsFollow, IsInOrder, IsFront, Splits, PartFaulty}
 use Rattle.usb_file.specs.Reading.{AllSets, with_set, with_strings}
 use Rattle.usb_file.proofs.Lists.{AreBytes, bytes_before, bytes_behind, length-push}
 use Rattle.usb_file.specs.PartLaws.{PartLaws}
 use Rattle.usb_file.proofs.Fronts.{due_main, due_other, due_qualifier, due_strings}
-use Rattle.usb_file.proofs.Unique.{PartIs, IsSet, IsText, one_part, part_or_fault, append_same}
+use Rattle.usb_file.proofs.Unique.{PartIs, IsSet, one_part, part_or_fault, append_same}
 
 -- ---- steps
 

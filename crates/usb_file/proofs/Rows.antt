@@ -1,5 +1,5 @@
 -- On texts that are put for each element of a list in turn.
-use Rattle.std.proofs.Common.{◌≡◌, ℕ, ◌+◌, ◌≤◌, zero, suc, List, [], ◌∷◌, ◌++◌, drop, take, length, Some, slice_get, refl, sym, ap, ◌∙◌, subst, add-one, append_assoc, append-nil, take_all}
+use Rattle.std.proofs.Common.{◌≡◌, ℕ, ◌+◌, zero, suc, List, [], ◌∷◌, ◌++◌, drop, take, Some, slice_get, refl, sym, ap, ◌∙◌, subst, add-one, append_assoc, append-nil}
 use Rattle.std.specs.List.{flat_map}
 use Rattle.usb_file.specs.Output.{AppendsFront, Held, Puts}
 use Rattle.usb_file.proofs.Pages.{front_longer, puts_broken, puts_more}
@@ -32,7 +32,3 @@ row_broken a b c page mid f xs i x h p q =
     let here = ap (λ l. page ++ l) (sym (take_next f xs i x h)) in
     let whole = append_assoc page (flat_map f (take (i + 1) xs)) (flat_map f (drop (i + 1) xs)) ∙ ap (λ l. page ++ l) (sym (take_rest f xs (i + 1))) in
     subst (AppendsFront a c) whole (front_longer a c (page ++ flat_map f (take (i + 1) xs)) (flat_map f (drop (i + 1) xs)) (subst (AppendsFront a c) here short))
-
-pub rows_all : {X : Type 0} (a b : Held) (page rest : List ℕ) (f : X → List ℕ) (xs : List X) (i : ℕ) → length xs ≤ i
-    → Puts a b page rest (flat_map f (take i xs)) → Puts a b page rest (flat_map f xs)
-rows_all a b page rest f xs i h p = subst (λ l. Puts a b page rest (flat_map f l)) (take_all i xs h) p

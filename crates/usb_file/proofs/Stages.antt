@@ -1,11 +1,11 @@
 -- How far a file was read.
-use Rattle.std.proofs.Common.{◌≡◌, ◌≢◌, ℕ, cond, ltb, take, ◌+◌, ◌<◌, ◌≤◌, ◌⊎◌, inl, inr, Bool, true, false, ◌||◌, List, [], ◌∷◌, ◌++◌, length, drop, Option, Some, None, refl, ap, sym, subst, ◌∙◌, arith, append_assoc, length-append}
+use Rattle.std.proofs.Common.{◌≡◌, ◌≢◌, ℕ, cond, ltb, take, ◌+◌, ◌<◌, ◌≤◌, inl, inr, Bool, true, false, List, [], ◌++◌, length, drop, Option, Some, None, refl, ap, sym, subst, ◌∙◌, arith, append_assoc, length-append}
 use Rattle.std.specs.Prelude.{is_some}
 use Rattle.std.proofs.lemmas.List.{take-append-drop}
 use Rattle.usb_fields.specs.declared.device.DeviceDescriptor.{DeviceDescriptor}
 use Rattle.usb_fields.specs.declared.qualifier.Qualifier.{Qualifier}
 use Rattle.usb_fields.specs.Device.{device_bytes, device_fault}
-use Rattle.usb_fields.specs.Qualifier.{qualifier_bytes, qualifier_fault}
+use Rattle.usb_fields.specs.Qualifier.{qualifier_bytes}
 use Rattle.usb_set.specs.declared.tree.SetKind.{SetKind}
 use Rattle.usb_set.specs.declared.tree.SetKind.TheVariants as kinds
 use Rattle.usb_set.specs.declared.tree.Configuration.{Configuration}
@@ -14,13 +14,12 @@ use Rattle.usb_file.specs.declared.file.DescriptorFile.{DescriptorFile}
 use Rattle.usb_file.specs.declared.file.Other.{Other}
 use Rattle.usb_file.specs.declared.fault.FileWhy.{FileWhy}
 use Rattle.usb_file.specs.declared.fault.FileWhy.TheVariants as files
-use Rattle.usb_file.specs.declared.fault.FileFault.{FileFault}
-use Rattle.usb_file.specs.File.{file_bytes, is_not_kind}
-use Rattle.usb_file.specs.FileFaults.{due, Due, a_set, a_qualifier, text_due, begins_qualifier, fixed_fault, IsInOrder, FileFaulty, PartFaulty, SetFaulty, Splits, FaultyPart, IsPartStart, RefusesToRead}
-use Rattle.usb_file.specs.Named.{named_in, other_sets}
-use Rattle.usb_file.specs.Reading.{Stage, other_declared, sets_in, declared, with_set, other_with, with_qualifier, AllSets, IsTurn, StringsTurn, ReadsSet, RefusesSet}
-use Rattle.usb_file.proofs.Lists.{AreBytes, drop_front, drop_more, length-push, bytes_behind}
-use Rattle.usb_file.proofs.Fronts.{Grown, grow_main, grow_other, grow_qualifier, due_main, due_other, due_qualifier, due_strings}
+use Rattle.usb_file.specs.File.{file_bytes}
+use Rattle.usb_file.specs.FileFaults.{due, Due, a_set, fixed_fault, IsInOrder, PartFaulty, FaultyPart, IsPartStart, RefusesToRead}
+use Rattle.usb_file.specs.Named.{other_sets}
+use Rattle.usb_file.specs.Reading.{Stage, other_declared, sets_in, declared, with_set, other_with, with_qualifier, IsTurn, ReadsSet, RefusesSet}
+use Rattle.usb_file.proofs.Lists.{AreBytes, drop_front, drop_more, length-push}
+use Rattle.usb_file.proofs.Fronts.{Grown, grow_main, grow_other, grow_qualifier, due_main, due_other}
 
 -- bytes that begin with a part, and those behind it
 pub record Part (rest p : List ℕ) (used : ℕ) : Type 0 where

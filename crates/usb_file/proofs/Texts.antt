@@ -1,9 +1,8 @@
 -- Strings, read one after another.
-use Rattle.std.proofs.Common.{◌≡◌, ◌≢◌, ℕ, zero, suc, cond, ltb, eqb, take, ◌+◌, ◌*◌, ◌%◌, ◌<◌, ◌≤◌, ◌⊎◌, inl, inr, Bool, true, false, not, ◌||◌, ◌==◌, nat_lt, List, [], ◌∷◌, ◌++◌, length, drop, Option, Some, None, refl, ap, sym, subst, ◌∙◌, arith, append_assoc, length-append}
+use Rattle.std.proofs.Common.{◌≡◌, ◌≢◌, ℕ, cond, ltb, ◌+◌, ◌*◌, ◌<◌, Bool, true, false, ◌||◌, ◌==◌, List, [], ◌∷◌, length, drop, Option, Some, None, refl, subst, ◌∙◌, arith}
 use Rattle.std.specs.Prelude.{slice_index}
 use Rattle.std.specs.List.{flat_map}
-use Rattle.std.proofs.lemmas.List.{take-append-drop, append-nil, length-take}
-use Rattle.std.proofs.lemmas.Bool.{ltb-false, le-ltb, lt-ltb, or_parts, cond-true, cond-false, cond_both, cases_Bool, eq-eqb, ne_eqb}
+use Rattle.std.proofs.lemmas.Bool.{lt-ltb, cond-true, cond-false, ne_eqb}
 use Rattle.usb_fields.specs.Bytes.{little_endian}
 use Rattle.usb_fields.specs.Units.{units_bytes}
 use Rattle.usb_file.specs.declared.file.DescriptorFile.{DescriptorFile}
@@ -12,12 +11,10 @@ use Rattle.usb_file.specs.declared.file.Strings.{Strings}
 use Rattle.usb_file.specs.declared.fault.FileWhy.{FileWhy}
 use Rattle.usb_file.specs.declared.fault.FileWhy.TheVariants as files
 use Rattle.usb_file.specs.Named.{named_in}
-use Rattle.usb_file.specs.File.{is_long_text}
-use Rattle.usb_file.specs.FileFaults.{due, Due, the_languages, a_text, the_end, text_due, is_no_text, text_fault, StringsFollow, IsInOrder, PartFaulty, FaultyPart, IsPartStart, RefusesToRead}
-use Rattle.usb_file.specs.Reading.{Stage, StringsTurn, AllSets, with_strings, ReadsText, RefusesText}
-use Rattle.usb_file.proofs.Lists.{length-push}
-use Rattle.usb_file.proofs.Fronts.{Grown, grow_languages, grow_text, due_strings}
-use Rattle.usb_file.proofs.Stages.{Part, stage_next, starts, faulty_part, no_memory, told_why}
+use Rattle.usb_file.specs.FileFaults.{due, Due, the_languages, a_text, is_no_text, text_fault, PartFaulty, IsPartStart, RefusesToRead}
+use Rattle.usb_file.specs.Reading.{Stage, StringsTurn, AllSets, with_strings, RefusesText}
+use Rattle.usb_file.proofs.Fronts.{due_strings}
+use Rattle.usb_file.proofs.Stages.{starts, faulty_part, no_memory, told_why}
 
 -- ---- one string descriptor
 

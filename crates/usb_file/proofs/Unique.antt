@@ -1,31 +1,22 @@
 -- The parts of a file, each of which is read in one way.
-use Rattle.std.proofs.Common.{◌≡◌, ◌≢◌, ℕ, zero, suc, cond, ltb, eqb, take, ◌+◌, ◌*◌, ◌%◌, ◌<◌, ◌≤◌, ◌⊎◌, inl, inr, Bool, true, false, not, ◌||◌, ◌==◌, nat_lt, List, [], ◌∷◌, ◌++◌, length, drop, Option, Some, None, refl, ap, sym, subst, ◌∙◌, arith, append_assoc, length-append}
-use Rattle.std.specs.Prelude.{slice_index, is_some}
-use Rattle.std.proofs.lemmas.List.{append_cancel_left}
-use Rattle.std.proofs.lemmas.Bool.{le-ltb, eqb-true, ne_eqb, or_from, cond-true, cond-false, not_from_true}
-use Rattle.usb_fields.specs.declared.device.DeviceDescriptor.{DeviceDescriptor}
+use Rattle.std.proofs.Common.{◌≡◌, ℕ, ltb, take, ◌+◌, ◌*◌, ◌%◌, ◌≤◌, true, false, ◌||◌, ◌==◌, List, [], ◌∷◌, ◌++◌, length, Option, Some, None, refl, ap, sym, subst, ◌∙◌, arith, length-append}
+use Rattle.std.specs.Prelude.{is_some}
+use Rattle.std.proofs.lemmas.Bool.{le-ltb, ne_eqb, or_from, cond-false}
 use Rattle.usb_fields.specs.declared.qualifier.Qualifier.{Qualifier}
-use Rattle.usb_fields.specs.Device.{device_bytes}
 use Rattle.usb_fields.specs.Qualifier.{qualifier_bytes, qualifier_fault}
 use Rattle.usb_fields.specs.Units.{units_bytes}
 use Rattle.usb_set.specs.declared.tree.SetKind.{SetKind}
-use Rattle.usb_set.specs.declared.tree.SetKind.TheVariants as kinds
 use Rattle.usb_set.specs.declared.tree.Configuration.{Configuration}
-use Rattle.usb_set.specs.declared.fault.SetWhy.{SetWhy}
 use Rattle.usb_set.specs.Layout.{Layout}
-use Rattle.usb_set.specs.Faults.{Begins, Faulty, IsOpen}
+use Rattle.usb_set.specs.Faults.{Begins}
 use Rattle.usb_file.specs.declared.file.DescriptorFile.{DescriptorFile}
-use Rattle.usb_file.specs.declared.file.Other.{Other}
-use Rattle.usb_file.specs.declared.file.Strings.{Strings}
 use Rattle.usb_file.specs.declared.fault.FileWhy.{FileWhy}
 use Rattle.usb_file.specs.declared.fault.FileWhy.TheVariants as files
-use Rattle.usb_file.specs.File.{whole_set, is_not_kind, is_long_text}
+use Rattle.usb_file.specs.File.{is_not_kind, is_long_text}
 use Rattle.usb_file.specs.FileFaults.{Due, a_set, a_qualifier, the_languages, a_text, the_end, is_no_text, text_fault, fixed_fault, SetFaulty, PartFaulty}
 use Rattle.usb_file.specs.Reading.{with_set, with_qualifier, with_strings}
 use Rattle.usb_file.proofs.Fronts.{text_with}
 use Rattle.usb_file.specs.PartLaws.{PartLaws}
-use Rattle.usb_file.proofs.WholeSets.{layout_is}
-use Rattle.usb_file.proofs.Stages.{told_why}
 use Rattle.usb_file.proofs.Texts.{length-units_bytes}
 
 -- ---- parts

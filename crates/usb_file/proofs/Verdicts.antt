@@ -1,22 +1,16 @@
 -- What bytes are, part by part.
-use Rattle.std.proofs.Common.{◌≡◌, ◌≢◌, ℕ, zero, suc, cond, ltb, eqb, take, drop, ◌+◌, ◌*◌, ◌%◌, ◌<◌, ◌≤◌, ◌⊎◌, inl, inr, Bool, true, false, not, ◌||◌, ◌==◌, nat_lt, List, [], ◌∷◌, ◌++◌, length, Option, Some, None, refl, ap, sym, subst, ◌∙◌, arith, append_assoc, length-append}
+use Rattle.std.proofs.Common.{◌≡◌, ℕ, zero, suc, cond, ltb, take, drop, ◌+◌, ◌*◌, ◌%◌, ◌<◌, ◌≤◌, inl, inr, true, false, not, ◌||◌, ◌==◌, List, [], ◌∷◌, ◌++◌, length, Option, Some, None, refl, ap, sym, subst, ◌∙◌, arith, append_assoc, length-append}
 use Rattle.std.specs.Prelude.{is_some, slice_index}
-use Rattle.std.specs.List.{list_any, AllByRecursion}
 use Rattle.std.proofs.lemmas.List.{append-nil, take-append-drop, length-take}
 use Rattle.std.proofs.lemmas.List.Elements.{All-from_recursion}
-use Rattle.std.proofs.lemmas.Bool.{ltb-false, ltb-true, le-ltb, lt-ltb, ne_eqb, eq-eqb, eqb-true, eqb-false, not-false, not_from_true, or_parts, or_from, cond-true, cond-false, cases_Bool, cases_lt, cases_eq}
+use Rattle.std.proofs.lemmas.Bool.{ltb-false, le-ltb, lt-ltb, ne_eqb, eq-eqb, eqb-true, eqb-false, not-false, not_from_true, or_parts, or_from, cond-true, cond-false, cases_Bool, cases_lt, cases_eq}
 use Rattle.usb_fields.specs.Bytes as fields
 use Rattle.usb_fields.specs.declared.device.DeviceDescriptor.{DeviceDescriptor}
-use Rattle.usb_fields.specs.declared.qualifier.Qualifier.{Qualifier}
 use Rattle.usb_fields.specs.declared.fault.FieldFault.{FieldFault}
 use Rattle.usb_fields.specs.Device.{device_bytes, device_fault}
 use Rattle.usb_fields.specs.Qualifier.{qualifier_bytes, qualifier_fault}
 use Rattle.usb_fields.specs.Units.{units_bytes, unit_fault}
 use Rattle.usb_set.specs.declared.tree.SetKind.{SetKind}
-use Rattle.usb_set.specs.declared.tree.SetKind.TheVariants as kinds
-use Rattle.usb_set.specs.declared.tree.Configuration.{Configuration}
-use Rattle.usb_set.specs.Layout.{Layout, set_bytes}
-use Rattle.usb_set.specs.Faults.{Begins}
 use Rattle.usb_set.specs.Verdict as sets
 use Rattle.usb_file.specs.declared.file.DescriptorFile.{DescriptorFile}
 use Rattle.usb_file.specs.declared.file.Other.{Other}
@@ -24,17 +18,17 @@ use Rattle.usb_file.specs.declared.file.Strings.{Strings}
 use Rattle.usb_file.specs.declared.fault.FileWhy.{FileWhy}
 use Rattle.usb_file.specs.declared.fault.FileWhy.TheVariants as files
 use Rattle.usb_file.specs.Named.{named_in}
-use Rattle.usb_file.specs.File.{File, file_bytes, is_not_kind, is_long_text, has_long_text, wrong_count, wrong_texts, other_miscounts}
-use Rattle.usb_file.specs.FileFaults.{Due, a_set, a_qualifier, the_languages, a_text, the_end, text_due, begins_qualifier, due, is_no_text, text_fault, fixed_fault, PartFaulty, StringsFollow, IsInOrder, IsFront, Splits, FaultyPart, FileFaulty}
-use Rattle.usb_file.specs.Reading.{AllSets, with_set, with_qualifier, with_strings}
+use Rattle.usb_file.specs.File.{File, file_bytes, is_not_kind, has_long_text, wrong_count, wrong_texts, other_miscounts}
+use Rattle.usb_file.specs.FileFaults.{Due, a_set, a_qualifier, the_languages, a_text, the_end, text_due, begins_qualifier, due, is_no_text, text_fault, fixed_fault, PartFaulty, StringsFollow, IsInOrder, IsFront, Splits, FileFaulty}
+use Rattle.usb_file.specs.Reading.{AllSets, with_set, with_qualifier}
 use Rattle.usb_file.specs.Verdict.{Verdict, is_file, is_faulty}
 use Rattle.usb_file.proofs.Lists.{AreBytes, bytes_before, bytes_behind}
 use Rattle.usb_file.specs.PartLaws.{PartLaws}
 use Rattle.usb_file.proofs.Fronts.{Grown, text_with, grow_main, grow_other, grow_qualifier, grow_languages, grow_text, due_main, due_other, due_qualifier, due_strings}
 use Rattle.usb_file.proofs.Texts.{length-units_bytes}
 use Rattle.usb_file.proofs.Ends as ends
-use Rattle.usb_file.proofs.Unique.{PartIs, IsSet, IsQualifier, IsText, told_same, part_faults}
-use Rattle.usb_file.proofs.Paths.{IsStuck, two_fronts, stuck_by_fault, stuck_at_end, device_first, behind, begun}
+use Rattle.usb_file.proofs.Unique.{PartIs, IsText, told_same, part_faults}
+use Rattle.usb_file.proofs.Paths.{two_fronts, stuck_by_fault, stuck_at_end, device_first, behind, begun}
 
 -- ---- the part that is due makes a front of a front
 

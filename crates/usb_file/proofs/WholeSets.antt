@@ -1,10 +1,9 @@
 -- Sets with their own length as wTotalLength.
-use Rattle.std.proofs.Common.{◌≡◌, ℕ, ◌≤◌, Bool, true, false, ltb, List, [], ◌∷◌, ◌++◌, length, Option, Some, None, refl, ap, sym, ◌∙◌, arith}
+use Rattle.std.proofs.Common.{◌≡◌, ℕ, false, List, length, ap, ◌∙◌}
 use Rattle.std.specs.Prelude.{is_some}
 use Rattle.usb_set.specs.declared.tree.Configuration.{Configuration}
 use Rattle.usb_set.specs.Layout.{Layout, set_bytes}
-use Rattle.usb_set.specs.Encoding.{HasLength, set_length, refusal_of}
-use Rattle.usb_set.proofs.Sets.{has_length, no_refusal, length-set_bytes}
+use Rattle.usb_set.proofs.Sets.{has_length, no_refusal}
 use Rattle.usb_file.specs.File.{whole_set, has_no_layout}
 
 -- a layout is the set with its own length

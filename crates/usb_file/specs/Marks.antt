@@ -1,5 +1,5 @@
 -- Which numbers stand in a list.
-use Rattle.std.specs.Prelude.{◌≡◌, ℕ, List, ◌==◌, ◌||◌, Bool, true, false, fold, filter, slice_index_or}
+use Rattle.std.specs.Prelude.{ℕ, List, ◌==◌, ◌||◌, Bool, false, filter, slice_index_or}
 use Rattle.std.specs.List.{list_any, range_with_len}
 
 -- whether the number stands in the list

@@ -1,5 +1,5 @@
 -- The parts of a file, read one after another.
-use Rattle.std.specs.Prelude.{◌≡◌, ℕ, ◌+◌, ◌*◌, ◌≤◌, List, [], ◌∷◌, ◌++◌, length, drop, Bool, true, false, Option, Some, None, is_some}
+use Rattle.std.specs.Prelude.{◌≡◌, ℕ, ◌+◌, ◌*◌, ◌≤◌, List, [], ◌∷◌, ◌++◌, length, drop, true, false, Option, Some, None, is_some}
 use Rattle.std.specs.List.{AllByRecursion}
 use Rattle.usb_fields.specs.declared.qualifier.Qualifier.{Qualifier}
 use Rattle.usb_fields.specs.Units.{units_bytes}
@@ -18,7 +18,7 @@ use Rattle.usb_file.specs.declared.fault.FileWhy.TheVariants as files
 use Rattle.usb_file.specs.declared.fault.FileFault.{FileFault}
 use Rattle.usb_file.specs.Named.{named_in, other_sets}
 use Rattle.usb_file.specs.File.{file_bytes, is_not_kind, is_long_text}
-use Rattle.usb_file.specs.FileFaults.{Splits, Due, due, the_end, text_due, SetFaulty, text_fault}
+use Rattle.usb_file.specs.FileFaults.{Splits, due, text_due, SetFaulty, text_fault}
 
 -- the bytes up to this place are those of the file so far
 pub record Stage (b : List ℕ) (f : DescriptorFile) (place : ℕ) : Type 0 where

@@ -130,7 +130,8 @@ impl Page {
     }
 }
 
-/// A length and two digits more for each of so many bytes, if there is such a length.
+/// A length and two digits more for each of so many bytes, if there is such a length. There is for all
+/// bytes that a memory can hold.
 fn with_digits(len: usize, bytes: usize) -> Option<usize>
     ensures { IfSome result (λ end. end ≡ len + 2 * bytes) }
 {

@@ -1,12 +1,8 @@
 -- What the command of `usbdesc` is.
 use Rattle.std.proofs.Common.{refl, true, ◌≡◌}
-use Rattle.clap.specs.Words.{is_simple, is_simple_and_free}
+use Rattle.clap.specs.Words.{is_simple_and_free}
 use Rattle.clap.proofs.OnLiterals.{clap_on_literals}
 use Rattle.usb_tool.specs.Lines.{usbdesc_app}
-
-pub usbdesc_simple : is_simple usbdesc_app ≡ true
-unfolding clap_on_literals
-usbdesc_simple = refl
 
 pub usbdesc_free : is_simple_and_free usbdesc_app ≡ true
 unfolding clap_on_literals

@@ -1,7 +1,7 @@
 -- On how `show` ends.
-use Rattle.std.proofs.Common.{◌≡◌, ℕ, ◌≤◌, ◌⊎◌, Bool, true, false, List, [], ◌∷◌, ◌++◌, length, Result, Ok, Err, refl, sym, ap, ◌∙◌, subst, inl, inr, arith, append-nil, length-append}
+use Rattle.std.proofs.Common.{◌≡◌, ℕ, ◌≤◌, ◌⊎◌, true, List, [], ◌∷◌, ◌++◌, length, Result, Ok, Err, refl, sym, ap, ◌∙◌, subst, inl, inr, arith, append-nil, length-append}
 use Rattle.std.specs.Prelude.{IfErr, IsErrAnd}
-use Rattle.std.specs.Io.KnownBytes.{Appends, Keeps}
+use Rattle.std.specs.Io.KnownBytes.{Keeps}
 use Rattle.usb_set.specs.declared.fault.SetFault.{SetFault}
 use Rattle.usb_set.specs.declared.fault.SetWhy.{SetWhy}
 use Rattle.usb_set.specs.declared.fault.SetWhy.TheVariants as whys
@@ -11,7 +11,7 @@ use Rattle.usb_set.specs.Feeding.{out_of_memory}
 use Rattle.usb_set.specs.Layout.{Layout}
 use Rattle.usb_file.specs.declared.output.OutFault.{OutFault}
 use Rattle.usb_file.specs.declared.output.OutFault.TheVariants as outs
-use Rattle.usb_file.specs.Output.{AppendsFront, Held}
+use Rattle.usb_file.specs.Output.{Held}
 use Rattle.usb_file.specs.SetListing.{set_text}
 use Rattle.usb_file.proofs.Pages.{front_whole}
 use Rattle.usb_tool.specs.Faults.{fault_by_why, fault_of_output, fault_of_set}

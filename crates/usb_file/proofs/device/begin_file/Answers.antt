@@ -1,4 +1,4 @@
-use Rattle.std.proofs.Common.{◌≡◌, ap, Some, None, refl, List}
+use Rattle.std.proofs.Common.{ap, None, List}
 use Rattle.usb_set.specs.declared.tree.Configuration.{Configuration}
 use Rattle.usb_file.specs.declared.file.DescriptorFile.{DescriptorFile}
 use Rattle.usb_file.proofs.Stages.{stage_device, refused_device}

@@ -1,4 +1,4 @@
-use Rattle.std.proofs.Common.{◌≡◌, subst, ap, ◌∙◌, length}
+use Rattle.std.proofs.Common.{◌≡◌, ap, ◌∙◌, length}
 use Rattle.usb_file.specs.Marks.{passing, says}
 use Rattle.usb_file.specs.Named.{texts_of, named_in}
 use Rattle.usb_file.proofs.Marking.{passing_marks}

@@ -1,7 +1,6 @@
-use Rattle.std.proofs.Common.{◌≡◌, ◌+◌, length, subst, sym, ap, ◌∙◌, take, Some, refl}
+use Rattle.std.proofs.Common.{◌≡◌, subst, ap, take, Some, refl}
 use Rattle.usb_fields.specs.Qualifier.{qualifier_bytes}
-use Rattle.usb_file.specs.FileFaults.{RefusesToRead}
-use Rattle.usb_file.specs.Reading.{Stage, StringsTurn, with_qualifier}
+use Rattle.usb_file.specs.Reading.{with_qualifier}
 use Rattle.usb_file.proofs.Stages.{stage_qualifier, turn_qualifier}
 use Rattle.usb_file.proofs.qualifier.read_other.Goals as goal
 

@@ -1,7 +1,7 @@
-use Rattle.std.proofs.Common.{◌≡◌, ◌+◌, length, subst, sym, ap, ◌∙◌}
+use Rattle.std.proofs.Common.{◌+◌, length, subst, sym, ap, ◌∙◌}
 use Rattle.usb_file.specs.FileFaults.{RefusesToRead}
 use Rattle.usb_file.specs.Reading.{Stage, IsTurn, ReadsSet, RefusesSet, sets_in, declared}
-use Rattle.usb_file.proofs.Stages.{stage_set, turn_set, more_set, same_declared, refused_set, starts}
+use Rattle.usb_file.proofs.Stages.{stage_set, turn_set, more_set, same_declared, refused_set}
 use Rattle.usb_file.proofs.sets.read_next_set.Goals as goal
 
 pub returns-in-Ok-push_set-clause-stage : goal.returns-in-Ok-push_set-clause-stage

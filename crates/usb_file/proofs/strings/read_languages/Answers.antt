@@ -1,6 +1,6 @@
-use Rattle.std.proofs.Common.{◌≡◌, ◌+◌, subst, sym, refl, ap, List, []}
+use Rattle.std.proofs.Common.{subst, sym}
 use Rattle.usb_file.specs.FileFaults.{RefusesToRead}
-use Rattle.usb_file.specs.Reading.{Stage, ReadsText, RefusesText}
+use Rattle.usb_file.specs.Reading.{RefusesText}
 use Rattle.usb_file.proofs.Texts.{refused_languages}
 use Rattle.usb_file.proofs.strings.read_languages.Goals as goal
 

@@ -1,6 +1,6 @@
-use Rattle.std.proofs.Common.{◌≡◌, ◌+◌, subst, sym, refl}
+use Rattle.std.proofs.Common.{subst, sym}
 use Rattle.usb_file.specs.FileFaults.{RefusesToRead}
-use Rattle.usb_file.specs.Reading.{ReadsText, RefusesText}
+use Rattle.usb_file.specs.Reading.{RefusesText}
 use Rattle.usb_file.proofs.Texts.{refused_next}
 use Rattle.usb_file.proofs.strings.read_next_text.Goals as goal
 
