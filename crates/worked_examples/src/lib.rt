@@ -1,5 +1,5 @@
-//! Tests of the public functions of the other crates, on values from outside: sets and files worked
-//! by hand from the tables of USB 2.0, 9.5 and 9.6.
+//! Tests of the public functions of `usb_set`, on configuration sets worked by hand from the tables of
+//! USB 2.0, 9.5 and 9.6.
 #![tactic(auto)]
 
 #[cfg(test)]
@@ -8,5 +8,3 @@ mod decoding;
 mod encoding;
 #[cfg(test)]
 mod examples;
-#[cfg(test)]
-mod files;
