@@ -1,17 +1,18 @@
 -- The bytes of a whole set.
 use Rattle.std.proofs.Common.{◌≡◌, ℕ, ltb, List, length, None, ap, ◌∙◌, length-append, arith}
-use Rattle.std.specs.List.{AllByRecursion}
 use Rattle.std.proofs.lemmas.Bool.{le-ltb, cond-false}
 use Rattle.usb_set.specs.declared.tree.Configuration.{Configuration}
-use Rattle.usb_set.specs.Layout.{set_bytes, IsByte, Layout, has_long_descriptor, has_typed_raw}
-use Rattle.usb_set.specs.Encoding.{HasLength, refusal_of, set_length}
+use Rattle.usb_set.specs.Bytes.{AreBytes}
+use Rattle.usb_set.specs.Layout.{set_bytes, Layout, has_long_descriptor, has_typed_raw}
+use Rattle.usb_set.specs.Encoding.{refusal_of, set_length}
+use Rattle.usb_set.specs.inside.Lengths.{HasLength}
 
 -- wTotalLength takes two bytes, whatever it is
 pub length-set_bytes : (c : Configuration) (m n : ℕ) → length (set_bytes c m) ≡ length (set_bytes c n)
 length-set_bytes c m n = simp length-append
 
 -- what is written for a set against which no reason stands is its layout
-pub layout_of : (c : Configuration) (b : List ℕ) (total : ℕ) → HasLength c total → b ≡ set_bytes c total → AllByRecursion IsByte b → Layout c b
+pub layout_of : (c : Configuration) (b : List ℕ) (total : ℕ) → HasLength c total → b ≡ set_bytes c total → AreBytes b → Layout c b
 layout_of c b total h is fits =
     let same : length b ≡ total = omega (arith, ap length is, length-set_bytes c total 0, h.is_length) in
     record { bytes = rw same is; fits = fits; within_255 = h.within_255; raws_are_raw = h.raws_are_raw; short = omega (arith, h.short) }

@@ -1,22 +1,21 @@
 -- What reading answers is so.
 use Rattle.std.proofs.Common.{◌≡◌, ℕ, ◌+◌, ◌-◌, ◌*◌, ◌/◌, ◌%◌, ◌<◌, ◌≤◌, Bool, true, false, cond, eqb, ◌||◌, List, [], ◌∷◌, ◌++◌, length, drop, get_or, Some, None, refl, sym, ap, subst, ◌∙◌, append_assoc, length-append, length-drop, arith, inl, inr}
-use Rattle.std.specs.List.{list_any, AllByRecursion}
-use Rattle.std.proofs.lemmas.Bool.{eqb-true, eqb-false, cond-true, cond-false, cases_Bool}
+use Rattle.std.specs.List.{flat_map, list_any}
+use Rattle.std.proofs.lemmas.Bool.{eqb-true, eqb-false, cond-true, cond-false, cases_Bool, or_from}
 use Rattle.std.proofs.lemmas.List.{append-nil}
 use Rattle.std.proofs.lemmas.List.Folds.{list_any-append}
 use Rattle.usb_set.specs.declared.tree.SetKind.TheVariants as kinds
-use Rattle.usb_set.specs.declared.tree.Raw.{Raw}
 use Rattle.usb_set.specs.declared.tree.Configuration.{Configuration}
 use Rattle.usb_set.specs.declared.fault.SetWhy.{SetWhy}
-use Rattle.usb_set.specs.Layout.{raw_descriptor, set_bytes, type_number, IsByte}
-use Rattle.usb_set.specs.Faults.{is_whole, is_set_type, first_byte, header_fault, item_fault, total_of, is_interface, joined, IsHeader, AreItems, Reaches, Faulty, Begins}
-use Rattle.usb_set.specs.Reading.{Reading, first, later, whole, faulty, step, reads, reading_of, after_first, after_later, goes_on, attach, has_setting, configuration_of}
+use Rattle.usb_set.specs.Bytes.{AreBytes}
+use Rattle.usb_set.specs.Descriptors.{Descriptor, descriptor_bytes, configuration_descriptor, type_number}
+use Rattle.usb_set.specs.Layout.{later_descriptors, set_bytes, is_long}
+use Rattle.usb_set.specs.Faults.{is_whole, is_set_type, header_fault, item_fault, total_of, is_interface, joined, IsHeader, AreItems, Reaches, Faulty, Begins}
+use Rattle.usb_set.specs.inside.Scanning.{first_byte}
+use Rattle.usb_set.specs.inside.Reading.{Reading, first, later, whole, faulty, step, reads, reading_of, after_first, after_later, goes_on, attach, has_setting, configuration_of}
 use Rattle.usb_set.proofs.ByteByByte.{header_fault-more, header_long, whole_length, option_cases, item_fault-first, fine_length}
 use Rattle.usb_set.proofs.Stands.{header_within, item_within}
-use Rattle.usb_set.proofs.Growth.{flat_map-snoc, IsLegal, set_bytes-attach, legal-attach, has_setting-attach, low_byte, high_byte, not_long, legal_from}
-
-abbrev pub AreBytes : List ℕ → Type 0
-AreBytes b = AllByRecursion IsByte b
+use Rattle.usb_set.proofs.Growth.{flat_map-snoc, IsLegal, later_descriptors-attach, attach-head, legal-attach, has_setting-attach, low_byte, high_byte, not_long}
 
 pub bytes-parts : (a b : List ℕ) → AreBytes (a ++ b) → AreBytes a × AreBytes b
 bytes-parts [] b h = (tt, h)
@@ -33,7 +32,7 @@ Begins-more b ys c place h = record {
   ends = h.ends;
 }
 
-Reaches-more : (b ys header : List ℕ) (items : List Raw) (place : ℕ) (rest : List ℕ) → Reaches b header items place rest → Reaches (b ++ ys) header items place (rest ++ ys)
+Reaches-more : (b ys header : List ℕ) (items : List Descriptor) (place : ℕ) (rest : List ℕ) → Reaches b header items place rest → Reaches (b ++ ys) header items place (rest ++ ys)
 Reaches-more b ys header items place rest h = record {
   is_header = h.is_header;
   are_items = h.are_items;
@@ -66,15 +65,20 @@ pub record SoundFirst (b cur : List ℕ) : Type 0 where
   pub short : length cur < first_byte cur
 
 -- the set so far is that of the header and the items
-pub record Holds (header : List ℕ) (items : List Raw) (c : Configuration) (total : ℕ) : Type 0 where
+pub record Holds (header : List ℕ) (items : List Descriptor) (c : Configuration) (total : ℕ) : Type 0 where
   pub is_total : total ≡ total_of header
-  pub bytes : set_bytes c total ≡ header ++ joined items
+  pub head : descriptor_bytes (configuration_descriptor c total) ≡ header
+  pub later : later_descriptors c ≡ items
   pub legal : IsLegal c
   pub in_setting : has_setting c ≡ list_any is_interface items
 
+pub bytes_held : (header : List ℕ) (items : List Descriptor) (c : Configuration) (total : ℕ) → Holds header items c total → set_bytes c total ≡ header ++ joined items
+bytes_held header items c total h =
+    ap (λ (z : List ℕ). z ++ flat_map descriptor_bytes (later_descriptors c)) h.head ∙ ap (λ (z : List Descriptor). header ++ flat_map descriptor_bytes z) h.later
+
 pub record SoundLater (b : List ℕ) (c : Configuration) (total place : ℕ) (cur : List ℕ) : Type 0 where
   pub header : List ℕ
-  pub items : List Raw
+  pub items : List Descriptor
   pub holds : Holds header items c total
   pub reaches : Reaches b header items place cur
   pub fine : item_fault (total - place) (has_setting c) cur ≡ None
@@ -93,7 +97,7 @@ total_short (a ∷ b ∷ []) fits n = absurd (omega arith)
 total_short (a ∷ b ∷ c ∷ []) fits n = absurd (omega arith)
 total_short (a ∷ b ∷ c ∷ d ∷ rest) fits n = omega (arith, fits.1.1.0, fits.1.1.1.0)
 
-sound_on : (b header : List ℕ) (items : List Raw) (c : Configuration) (total place : ℕ) → AreBytes b → IsHeader header → AreItems (total_of header - length header) false items → b ≡ header ++ joined items
+sound_on : (b header : List ℕ) (items : List Descriptor) (c : Configuration) (total place : ℕ) → AreBytes b → IsHeader header → AreItems (total_of header - length header) false items → b ≡ header ++ joined items
     → place ≡ length header + length (joined items) → place ≤ total → Holds header items c total → Sound b (goes_on c total place)
 unfolding goes_on
 sound_on b header items c total place fits is_header are_items parts ends within holds =
@@ -108,7 +112,7 @@ sound_on b header items c total place fits is_header are_items parts ends within
             rest = [];
             parts = sym (append-nil b);
             layout = record {
-              bytes = parts ∙ sym holds.bytes ∙ ap (set_bytes c) (sym all);
+              bytes = parts ∙ sym (bytes_held header items c total holds) ∙ ap (set_bytes c) (sym all);
               fits = fits;
               within_255 = holds.legal.within_255;
               raws_are_raw = holds.legal.raws_are_raw;
@@ -155,15 +159,14 @@ header_type len kind low high rest e =
     no_type len kind low high rest n e = grind arith
 
 header_bytes-9 : (len kind low high i v t a p : ℕ) (tail : List ℕ) → low < 256 → len ≡ 2 + (7 + length tail) → type_number (cond (eqb kind 2) kinds.Configuration kinds.OtherSpeed) ≡ kind
-    → set_bytes (configuration_of (len ∷ kind ∷ low ∷ high ∷ i ∷ v ∷ t ∷ a ∷ p ∷ tail)) (low + 256 * high) ≡ len ∷ kind ∷ low ∷ high ∷ i ∷ v ∷ t ∷ a ∷ p ∷ tail
+    → descriptor_bytes (configuration_descriptor (configuration_of (len ∷ kind ∷ low ∷ high ∷ i ∷ v ∷ t ∷ a ∷ p ∷ tail)) (low + 256 * high)) ≡ len ∷ kind ∷ low ∷ high ∷ i ∷ v ∷ t ∷ a ∷ p ∷ tail
 header_bytes-9 len kind low high i v t a p tail lt is_len is_kind =
-    append-nil _ ∙ append-nil _
-    ∙ ap (λ n. n ∷ type_number (cond (eqb kind 2) kinds.Configuration kinds.OtherSpeed) ∷ (low + 256 * high) % 256 ∷ (low + 256 * high) / 256 ∷ i ∷ v ∷ t ∷ a ∷ p ∷ tail) (omega (arith, is_len))
+    ap (λ n. n ∷ type_number (cond (eqb kind 2) kinds.Configuration kinds.OtherSpeed) ∷ (low + 256 * high) % 256 ∷ (low + 256 * high) / 256 ∷ i ∷ v ∷ t ∷ a ∷ p ∷ tail) (omega (arith, is_len))
     ∙ ap (λ n. len ∷ n ∷ (low + 256 * high) % 256 ∷ (low + 256 * high) / 256 ∷ i ∷ v ∷ t ∷ a ∷ p ∷ tail) is_kind
     ∙ ap (λ n. len ∷ kind ∷ n ∷ (low + 256 * high) / 256 ∷ i ∷ v ∷ t ∷ a ∷ p ∷ tail) (low_byte low high lt)
     ∙ ap (λ n. len ∷ kind ∷ low ∷ n ∷ i ∷ v ∷ t ∷ a ∷ p ∷ tail) (high_byte low high lt)
 
-header_bytes : (h : List ℕ) → AreBytes h → IsHeader h → 9 ≤ length h → set_bytes (configuration_of h) (total_of h) ≡ h
+header_bytes : (h : List ℕ) → AreBytes h → IsHeader h → 9 ≤ length h → descriptor_bytes (configuration_descriptor (configuration_of h) (total_of h)) ≡ h
 header_bytes [] fits is n = absurd (omega arith)
 header_bytes (a ∷ []) fits is n = absurd (omega arith)
 header_bytes (a ∷ b ∷ []) fits is n = absurd (omega arith)
@@ -180,31 +183,37 @@ header_legal : (h : List ℕ) → AreBytes h → IsHeader h → IsLegal (configu
 header_legal [] fits is = absurd (let e = is.whole in cc)
 header_legal (len ∷ h) fits is =
     let n : length (len ∷ h) ≡ len = whole_length (len ∷ h) is.whole in
-    legal_from (configuration_of (len ∷ h)) (not_long (length (drop 9 (len ∷ h))) 246 (omega (arith, fits.0, length-drop 9 (len ∷ h)))) refl refl refl refl
+    let c = configuration_of (len ∷ h) in
+    record {
+      within_255 = or_from (is_long (configuration_descriptor (configuration_of (len ∷ h)) 0)) false
+          (not_long (length (configuration_descriptor (configuration_of (len ∷ h)) 0).body) 253 (omega (arith, fits.0, length-drop 9 (len ∷ h)))) refl;
+      raws_are_raw = refl;
+    }
 
 holds_first : (h : List ℕ) → AreBytes h → IsHeader h → Holds h [] (configuration_of h) (total_of h)
 holds_first h fits is = record {
   is_total = refl;
-  bytes = header_bytes h fits is (header_long h is.no_fault is.whole) ∙ sym (append-nil h);
+  head = header_bytes h fits is (header_long h is.no_fault is.whole);
+  later = refl;
   legal = header_legal h fits is;
   in_setting = refl;
 }
 
 -- ---- one more descriptor
 
-AreItems-snoc : (room : ℕ) (in_setting : Bool) (items : List Raw) (item : Raw) → AreItems room in_setting items
-    → item_fault (room - length (joined items)) (in_setting || list_any is_interface items) (raw_descriptor item) ≡ None → AreItems room in_setting (items ++ item ∷ [])
+AreItems-snoc : (room : ℕ) (in_setting : Bool) (items : List Descriptor) (item : Descriptor) → AreItems room in_setting items
+    → item_fault (room - length (joined items)) (in_setting || list_any is_interface items) (descriptor_bytes item) ≡ None → AreItems room in_setting (items ++ item ∷ [])
 AreItems-snoc room in_setting [] item h e =
     let all : room ≡ room - length (joined []) = omega arith in
-    (ap (λ s. item_fault room s (raw_descriptor item)) (plain in_setting) ∙ ap (λ n. item_fault n (in_setting || false) (raw_descriptor item)) all ∙ e, tt)
+    (ap (λ s. item_fault room s (descriptor_bytes item)) (plain in_setting) ∙ ap (λ n. item_fault n (in_setting || false) (descriptor_bytes item)) all ∙ e, tt)
   where
     plain : (s : Bool) → s ≡ (s || false)
     plain true = refl
     plain false = refl
 AreItems-snoc room in_setting (x ∷ items) item h e =
-    let less : room - length (joined (x ∷ items)) ≡ room - length (raw_descriptor x) - length (joined items) = omega (arith, length-append (raw_descriptor x) (joined items)) in (
+    let less : room - length (joined (x ∷ items)) ≡ room - length (descriptor_bytes x) - length (joined items) = omega (arith, length-append (descriptor_bytes x) (joined items)) in (
       h.0,
-      AreItems-snoc (room - length (raw_descriptor x)) (in_setting || is_interface x) items item h.1
+      AreItems-snoc (room - length (descriptor_bytes x)) (in_setting || is_interface x) items item h.1
           (rw (← less, regroup in_setting (is_interface x) (list_any is_interface items)) e),
     )
   where
@@ -212,14 +221,14 @@ AreItems-snoc room in_setting (x ∷ items) item h e =
     regroup true b c = refl
     regroup false b c = refl
 
-snoc_any : (items : List Raw) (item : Raw) → list_any is_interface (items ++ item ∷ []) ≡ (list_any is_interface items || is_interface item)
+snoc_any : (items : List Descriptor) (item : Descriptor) → list_any is_interface (items ++ item ∷ []) ≡ (list_any is_interface items || is_interface item)
 snoc_any items item = list_any-append is_interface items (item ∷ []) ∙ ap (λ s. list_any is_interface items || s) (plain (is_interface item))
   where
     plain : (s : Bool) → (s || false) ≡ s
     plain true = refl
     plain false = refl
 
-item_bytes : (cur : List ℕ) → is_whole cur ≡ true → 2 ≤ length cur → raw_descriptor (record { kind = get_or cur 1 0; body = drop 2 cur }) ≡ cur
+item_bytes : (cur : List ℕ) → is_whole cur ≡ true → 2 ≤ length cur → descriptor_bytes (record { kind = get_or cur 1 0; body = drop 2 cur }) ≡ cur
 item_bytes [] e n = absurd (omega arith)
 item_bytes (len ∷ []) e n = absurd (omega arith)
 item_bytes (len ∷ kind ∷ body) e n = ap (λ x. x ∷ kind ∷ body) (omega (arith, eqb-true (length (kind ∷ body) + 1) len e))
@@ -270,26 +279,26 @@ sound_later b c total place cur x fits h =
     elim (option_cases (item_fault (total - place) (has_setting c) (cur ++ x ∷ []))) [
       | inl none ↦ elim (cases_Bool (is_whole (cur ++ x ∷ []))) [
         | inl y ↦
-            let item : Raw = record { kind = get_or (cur ++ x ∷ []) 1 0; body = drop 2 (cur ++ x ∷ []) } in
+            let item : Descriptor = record { kind = get_or (cur ++ x ∷ []) 1 0; body = drop 2 (cur ++ x ∷ []) } in
             let two : 2 ≤ length (cur ++ x ∷ []) = omega (arith, fine_two (total - place) (has_setting c) (cur ++ x ∷ []) none, whole_length (cur ++ x ∷ []) y) in
-            let is_item : raw_descriptor item ≡ cur ++ x ∷ [] = item_bytes (cur ++ x ∷ []) y two in
-            let cur_fits : AreBytes (raw_descriptor item) = subst AreBytes (sym is_item) (bytes-parts (h.header ++ joined h.items) (cur ++ x ∷ []) (subst AreBytes parts fits)).1 in
-            let fine : item_fault (total - place) (has_setting c) (raw_descriptor item) ≡ None = ap (item_fault (total - place) (has_setting c)) is_item ∙ none in
+            let is_item : descriptor_bytes item ≡ cur ++ x ∷ [] = item_bytes (cur ++ x ∷ []) y two in
+            let cur_fits : AreBytes (descriptor_bytes item) = subst AreBytes (sym is_item) (bytes-parts (h.header ++ joined h.items) (cur ++ x ∷ []) (subst AreBytes parts fits)).1 in
+            let fine : item_fault (total - place) (has_setting c) (descriptor_bytes item) ≡ None = ap (item_fault (total - place) (has_setting c)) is_item ∙ none in
             let room : total - place ≡ total_of h.header - length h.header - length (joined h.items) = omega (arith, h.holds.is_total, h.reaches.ends) in
-            let more : joined (h.items ++ item ∷ []) ≡ joined h.items ++ raw_descriptor item = flat_map-snoc raw_descriptor h.items item in
+            let more : joined (h.items ++ item ∷ []) ≡ joined h.items ++ descriptor_bytes item = flat_map-snoc descriptor_bytes h.items item in
             let holds : Holds h.header (h.items ++ item ∷ []) (attach c item) total = record {
               is_total = h.holds.is_total;
-              bytes = set_bytes-attach c total (total - place) item fine cur_fits.1.1 ∙ ap (λ (z : List ℕ). z ++ raw_descriptor item) h.holds.bytes
-                  ∙ append_assoc h.header (joined h.items) (raw_descriptor item) ∙ ap (λ (z : List ℕ). h.header ++ z) (sym more);
-              legal = legal-attach c (total - place) item h.holds.legal fine (omega (arith, cur_fits.0));
+              head = ap descriptor_bytes (attach-head c item total) ∙ h.holds.head;
+              later = later_descriptors-attach c (total - place) item fine cur_fits.1.1 ∙ ap (λ (z : List Descriptor). z ++ item ∷ []) h.holds.later;
+              legal = legal-attach c (total - place) item h.holds.legal fine cur_fits.1.1 (omega (arith, cur_fits.0));
               in_setting = has_setting-attach c item ∙ ap (λ s. s || is_interface item) h.holds.in_setting ∙ sym (snoc_any h.items item);
             } in
             subst (Sound (b ++ x ∷ [])) (sym (ap (after_later c total place (cur ++ x ∷ [])) none ∙ cond-true (is_whole (cur ++ x ∷ [])) _ _ y))
             (sound_on (b ++ x ∷ []) h.header (h.items ++ item ∷ []) (attach c item) total (place + length (cur ++ x ∷ [])) fits h.reaches.is_header
             (AreItems-snoc (total_of h.header - length h.header) false h.items item h.reaches.are_items
-            (ap (λ n. item_fault n (list_any is_interface h.items) (raw_descriptor item)) (sym room) ∙ ap (λ s. item_fault (total - place) s (raw_descriptor item)) (sym h.holds.in_setting) ∙ fine))
+            (ap (λ n. item_fault n (list_any is_interface h.items) (descriptor_bytes item)) (sym room) ∙ ap (λ s. item_fault (total - place) s (descriptor_bytes item)) (sym h.holds.in_setting) ∙ fine))
             (parts ∙ append_assoc h.header (joined h.items) (cur ++ x ∷ []) ∙ ap (λ (z : List ℕ). h.header ++ (joined h.items ++ z)) (sym is_item) ∙ ap (λ (z : List ℕ). h.header ++ z) (sym more))
-            (omega (arith, h.reaches.ends, ap length more, length-append (joined h.items) (raw_descriptor item), ap length is_item))
+            (omega (arith, h.reaches.ends, ap length more, length-append (joined h.items) (descriptor_bytes item), ap length is_item))
             (omega (arith, item_within (total - place) (has_setting c) (cur ++ x ∷ []) none y, h.reaches.before_end, h.holds.is_total))
             holds)
         | inr n ↦

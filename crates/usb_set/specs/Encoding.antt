@@ -5,7 +5,7 @@ use Rattle.usb_set.specs.declared.fault.EncodeFault.{EncodeFault}
 use Rattle.usb_set.specs.declared.fault.EncodeFault.TheVariants.{Tail, RawKind, TooLong, Memory}
 use Rattle.usb_set.specs.Layout.{set_bytes, has_long_descriptor, has_typed_raw}
 
--- how many bytes the set has: wTotalLength takes two, whatever it is
+-- how many bytes the set has
 abbrev pub set_length : Configuration → ℕ
 set_length c = length (set_bytes c 0)
 
@@ -16,13 +16,6 @@ refusal_of c =
     else if has_typed_raw c then Some RawKind
     else if nat_lt 65535 (set_length c) then Some TooLong
     else None
-
--- no reason stands against the set, and it has this many bytes
-pub record HasLength (c : Configuration) (total : ℕ) : Type 0 where
-  pub within_255 : has_long_descriptor c ≡ false
-  pub raws_are_raw : has_typed_raw c ≡ false
-  pub is_length : total ≡ set_length c
-  pub short : total < 65536
 
 -- Want of memory is told of sets that have bytes, and else the first reason.
 abbrev pub Refuses : Configuration → EncodeFault → Type 0

@@ -1,11 +1,13 @@
 pub mod Lending
+pub mod Bytes
+pub mod Descriptors
+pub mod Parts
 pub mod Layout
 pub mod Encoding
-pub mod Numbers
 pub mod Faults
-pub mod Reading
-pub mod Scanning
 pub mod Decoding
 pub mod Feeding
-pub mod Verdict
+pub mod Judgement
 pub mod ReadingBack
+pub mod Numbers
+pub mod inside

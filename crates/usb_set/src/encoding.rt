@@ -1,12 +1,13 @@
 //! A set as its bytes.
 ghost use Rattle.std.specs.Prelude.{◌≡◌, ℕ, List, IfErr, IfOk, None, Some};
-ghost use Rattle.usb_set.specs.Encoding.{HasLength, Refuses, refusal_of};
+ghost use Rattle.usb_set.specs.Encoding.{Refuses, refusal_of};
 ghost use Rattle.usb_set.specs.Layout.{Layout};
+ghost use Rattle.usb_set.specs.inside.Lengths.{HasLength};
 
 use crate::fault::EncodeFault;
 use crate::known::known_bytes;
 use crate::lengths::{TOO_LONG, set_len};
-use crate::limits::{is_long_set, is_typed_set};
+use crate::limits::{has_long_descriptor, has_typed_raw};
 use crate::tree::Configuration;
 use crate::writing::put_set;
 use std::alloc::Global;
@@ -20,7 +21,7 @@ use std::alloc::Global;
 /// `Memory` where it has bytes and a growth was refused.
 pub fn encode(alloc: Global, c: &Configuration) -> Result<Vec<u8>, EncodeFault>
     ensures ok { IfOk result (λ b. Layout c.now b.items) }
-    ensures refused { IfErr result (λ fault. Refuses c.now fault) }
+    ensures err { IfErr result (λ fault. Refuses c.now fault) }
     // A set with a reason has no layout.
     ensures only { (b : List ℕ) → Layout c.now b → refusal_of c.now ≡ None }
 {
@@ -41,12 +42,12 @@ pub fn refusal(c: &Configuration) -> Option<EncodeFault>
 /// wTotalLength of the set, or why it has no bytes.
 fn total_length(c: &Configuration) -> Result<u16, EncodeFault>
     ensures ok { IfOk result (HasLength c.now) }
-    ensures refused { IfErr result (λ fault. refusal_of c.now ≡ Some fault) }
+    ensures err { IfErr result (λ fault. refusal_of c.now ≡ Some fault) }
 {
-    if is_long_set(c) {
+    if has_long_descriptor(c) {
         return Err(EncodeFault::Tail);
     }
-    if is_typed_set(c) {
+    if has_typed_raw(c) {
         return Err(EncodeFault::RawKind);
     }
     let total = set_len(c);

@@ -1,6 +1,6 @@
 //! Why a set could not be read, or written.
 ghost use Rattle.std.specs.Prelude.{◌≡◌, Some};
-ghost use Rattle.usb_set.specs.Numbers.{encode_number_of, encode_text, fault_text, number_of, why_text};
+ghost use Rattle.usb_set.specs.Numbers.{encode_number, encode_message, fault_message, why_number, why_message};
 ghost use Rattle.usb_set.specs.declared.fault.EncodeFault.TheVariants.{Memory};
 
 use std::alloc::AllocError;
@@ -22,7 +22,8 @@ pub enum SetWhy {
     Over,
     /// A later descriptor has type 2 or 7.
     Nested,
-    /// An interface descriptor with a bLength below 9, or an endpoint descriptor below 7.
+    /// An interface descriptor with a bLength below 9, an endpoint descriptor below 7, or an interface
+    /// association descriptor below 8.
     ItemShort,
     /// An endpoint descriptor before any interface descriptor.
     Stray,
@@ -35,7 +36,7 @@ pub enum SetWhy {
 impl SetWhy {
     /// The fault's number, from 1 to 10, in the order in which the cases are taken.
     pub fn number(self) -> u8
-        ensures { result ≡ number_of self }
+        ensures { result ≡ why_number self }
     {
         match self {
             SetWhy::HeaderLength => 1,
@@ -53,7 +54,7 @@ impl SetWhy {
 }
 
 impl fmt::Display for SetWhy {
-    ghost output = { λ why. Some (why_text why) };
+    ghost output = { λ why. Some (why_message why) };
 
     fn fmt<W: fmt::Write>(&self, f: &mut fmt::Formatter<W>) -> fmt::Result {
         match self {
@@ -63,7 +64,10 @@ impl fmt::Display for SetWhy {
             SetWhy::ItemLength => write!(f, "a bLength is below 2"),
             SetWhy::Over => write!(f, "a descriptor ends past wTotalLength"),
             SetWhy::Nested => write!(f, "a configuration inside a set"),
-            SetWhy::ItemShort => write!(f, "an interface or endpoint descriptor is too short"),
+            SetWhy::ItemShort => write!(
+                f,
+                "an interface, endpoint or association descriptor is too short"
+            ),
             SetWhy::Stray => write!(f, "an endpoint before any interface"),
             SetWhy::Truncated => write!(f, "the bytes end before the set does"),
             SetWhy::Memory => write!(f, "out of memory"),
@@ -84,8 +88,17 @@ pub struct SetFault {
     pub why: SetWhy,
 }
 
+impl SetFault {
+    /// The number of what is wrong, from 1 to 10: [`SetWhy::number`].
+    pub fn number(self) -> u8
+        ensures { result ≡ why_number self.why }
+    {
+        self.why.number()
+    }
+}
+
 impl fmt::Display for SetFault {
-    ghost output = { λ fault. Some (fault_text fault) };
+    ghost output = { λ fault. Some (fault_message fault) };
 
     fn fmt<W: fmt::Write>(&self, f: &mut fmt::Formatter<W>) -> fmt::Result {
         let why = self.why;
@@ -101,9 +114,10 @@ impl Error for SetFault {}
 #[derive(Clone, Copy, Debug, PartialEq, Eq, Hash)]
 pub enum EncodeFault {
     /// A descriptor would be over 255 bytes: the tail of a configuration or an interface is over 246
-    /// bytes, that of an endpoint over 248, or the body of a raw descriptor over 253.
+    /// bytes, that of an association over 247, that of an endpoint over 248, or the body of a raw
+    /// descriptor over 253.
     Tail,
-    /// A raw descriptor has type 2, 4, 5 or 7.
+    /// A raw descriptor has type 2, 4, 5, 7 or 11.
     RawKind,
     /// The set would be over 65,535 bytes.
     TooLong,
@@ -114,7 +128,7 @@ pub enum EncodeFault {
 impl EncodeFault {
     /// The fault's number, from 1 to 4, in the order in which the cases are taken.
     pub fn number(self) -> u8
-        ensures { result ≡ encode_number_of self }
+        ensures { result ≡ encode_number self }
     {
         match self {
             EncodeFault::Tail => 1,
@@ -126,7 +140,7 @@ impl EncodeFault {
 }
 
 impl fmt::Display for EncodeFault {
-    ghost output = { λ fault. Some (encode_text fault) };
+    ghost output = { λ fault. Some (encode_message fault) };
 
     fn fmt<W: fmt::Write>(&self, f: &mut fmt::Formatter<W>) -> fmt::Result {
         match self {

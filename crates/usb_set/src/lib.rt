@@ -10,7 +10,7 @@
 //! - The module [`laws`] states what holds of layouts and faults, whoever reads them.
 #![tactic(auto)]
 
-mod attach;
+mod attaching;
 mod decoder;
 mod encoding;
 mod fault;
@@ -27,4 +27,4 @@ pub use decoder::{Decoder, Progress};
 pub use encoding::{encode, refusal};
 pub use fault::{EncodeFault, SetFault, SetWhy};
 pub use sequence::Sequence;
-pub use tree::{Configuration, Endpoint, Raw, SetKind, Setting};
+pub use tree::{Association, Configuration, Endpoint, Extra, Raw, SetKind, Setting};

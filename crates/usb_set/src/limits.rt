@@ -1,66 +1,74 @@
 //! Whether the descriptors of a set fit their bLength, and keep their bDescriptorType.
 ghost use Rattle.std.specs.Prelude.{◌≡◌};
 ghost use Rattle.std.specs.List.{list_any};
-ghost use Rattle.usb_set.specs.Layout.{has_long_descriptor, has_typed_raw, is_endpoint_long, is_endpoint_typed, is_raw_long, is_raw_typed, is_setting_long, is_setting_typed};
+ghost use Rattle.usb_set.specs.Layout.{has_long_descriptor, has_typed_raw, is_typed, is_typed_raw};
+ghost use Rattle.usb_set.specs.inside.Trees.{is_endpoint_long, is_endpoint_typed, is_extra_long, is_setting_long, is_setting_typed};
 
-use crate::tree::{Configuration, Endpoint, Raw, Setting};
+use crate::tree::{Configuration, Endpoint, Extra, Setting};
 
-fn is_long_raw(raw: &Raw) -> bool
-    ensures { result ≡ is_raw_long raw.now }
+fn is_extra_long(extra: &Extra) -> bool
+    ensures { result ≡ is_extra_long extra.now }
 {
-    raw.body.len() > 253
+    match extra {
+        Extra::Raw(raw) => raw.body.len() > 253,
+        Extra::Association(association) => association.tail.len() > 247,
+    }
 }
 
-fn any_raw_long(raws: &[Raw]) -> bool
-    ensures { result ≡ list_any is_raw_long raws.now }
+fn any_extra_long(extras: &[Extra]) -> bool
+    ensures { result ≡ list_any is_extra_long extras.now }
 {
-    raws.iter().any(|raw| is_long_raw(raw))
+    extras.iter().any(|extra| is_extra_long(extra))
 }
 
-fn is_long_endpoint(endpoint: &Endpoint) -> bool
+fn is_endpoint_long(endpoint: &Endpoint) -> bool
     ensures { result ≡ is_endpoint_long endpoint.now }
 {
-    endpoint.tail.len() > 248 || any_raw_long(endpoint.extras.as_slice())
+    endpoint.tail.len() > 248 || any_extra_long(endpoint.extras.as_slice())
 }
 
 fn any_endpoint_long(endpoints: &[Endpoint]) -> bool
     ensures { result ≡ list_any is_endpoint_long endpoints.now }
 {
-    endpoints.iter().any(|endpoint| is_long_endpoint(endpoint))
+    endpoints.iter().any(|endpoint| is_endpoint_long(endpoint))
 }
 
-pub(crate) fn is_long_setting(setting: &Setting) -> bool
+fn is_setting_long(setting: &Setting) -> bool
     ensures { result ≡ is_setting_long setting.now }
 {
     setting.tail.len() > 246
-        || any_raw_long(setting.extras.as_slice())
+        || any_extra_long(setting.extras.as_slice())
         || any_endpoint_long(setting.endpoints.as_slice())
 }
 
 fn any_setting_long(settings: &[Setting]) -> bool
     ensures { result ≡ list_any is_setting_long settings.now }
 {
-    settings.iter().any(|setting| is_long_setting(setting))
+    settings.iter().any(|setting| is_setting_long(setting))
 }
 
-pub(crate) fn is_long_set(c: &Configuration) -> bool
+#[tactic(auto, using(crate::proofs::Trees::has_long_is))]
+pub(crate) fn has_long_descriptor(c: &Configuration) -> bool
     ensures { result ≡ has_long_descriptor c.now }
 {
     c.tail.len() > 246
-        || any_raw_long(c.extras.as_slice())
+        || any_extra_long(c.extras.as_slice())
         || any_setting_long(c.settings.as_slice())
 }
 
-fn is_typed_raw(raw: &Raw) -> bool
-    ensures { result ≡ is_raw_typed raw.now }
+fn is_typed_raw(extra: &Extra) -> bool
+    ensures { result ≡ is_typed_raw extra.now }
 {
-    matches!(raw.kind, 2 | 4 | 5 | 7)
+    match extra {
+        Extra::Raw(raw) => matches!(raw.kind, 2 | 4 | 5 | 7 | 11),
+        Extra::Association(_) => false,
+    }
 }
 
-fn any_raw_typed(raws: &[Raw]) -> bool
-    ensures { result ≡ list_any is_raw_typed raws.now }
+fn any_typed_raw(extras: &[Extra]) -> bool
+    ensures { result ≡ list_any is_typed_raw extras.now }
 {
-    raws.iter().any(|raw| is_typed_raw(raw))
+    extras.iter().any(|extra| is_typed_raw(extra))
 }
 
 fn any_endpoint_typed(endpoints: &[Endpoint]) -> bool
@@ -68,18 +76,24 @@ fn any_endpoint_typed(endpoints: &[Endpoint]) -> bool
 {
     endpoints
         .iter()
-        .any(|endpoint| any_raw_typed(endpoint.extras.as_slice()))
+        .any(|endpoint| any_typed_raw(endpoint.extras.as_slice()))
+}
+
+fn is_setting_typed(setting: &Setting) -> bool
+    ensures { result ≡ is_setting_typed setting.now }
+{
+    any_typed_raw(setting.extras.as_slice()) || any_endpoint_typed(setting.endpoints.as_slice())
 }
 
 fn any_setting_typed(settings: &[Setting]) -> bool
     ensures { result ≡ list_any is_setting_typed settings.now }
 {
-    settings.iter().any(|s| any_raw_typed(s.extras.as_slice())
-        || any_endpoint_typed(s.endpoints.as_slice()))
+    settings.iter().any(|setting| is_setting_typed(setting))
 }
 
-pub(crate) fn is_typed_set(c: &Configuration) -> bool
+#[tactic(auto, using(crate::proofs::Trees::has_typed_is))]
+pub(crate) fn has_typed_raw(c: &Configuration) -> bool
     ensures { result ≡ has_typed_raw c.now }
 {
-    any_raw_typed(c.extras.as_slice()) || any_setting_typed(c.settings.as_slice())
+    any_typed_raw(c.extras.as_slice()) || any_setting_typed(c.settings.as_slice())
 }

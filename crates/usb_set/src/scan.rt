@@ -1,10 +1,10 @@
 //! A set's bytes, read from the first one on.
 ghost use Rattle.std.specs.Prelude.{◌≡◌, ◌≤◌, ◌<◌, length, IfSome, IfNone, IfOk};
-ghost use Rattle.usb_set.specs.Faults.{header_fault, item_fault, total_of, first_byte, SplitsDescriptor};
-ghost use Rattle.usb_set.specs.Reading.{reading_of, has_setting};
-ghost use Rattle.usb_set.specs.Scanning.{Shows, Says};
+ghost use Rattle.usb_set.specs.Faults.{header_fault, item_fault, total_of};
+ghost use Rattle.usb_set.specs.inside.Reading.{reading_of, has_setting};
+ghost use Rattle.usb_set.specs.inside.Scanning.{Says, Shows, SplitsDescriptor, first_byte};
 
-use crate::attach::{add, read_configuration};
+use crate::attaching::{attach, read_configuration};
 use crate::fault::SetWhy;
 use crate::known::known_bytes;
 use crate::tree::Configuration;
@@ -52,6 +52,7 @@ pub(crate) fn fault_in_item(room: usize, in_setting: bool, bytes: &[u8]) -> Opti
         2 | 7 => Some(SetWhy::Nested),
         4 if len < 9 => Some(SetWhy::ItemShort),
         5 if len < 7 => Some(SetWhy::ItemShort),
+        11 if len < 8 => Some(SetWhy::ItemShort),
         5 if !in_setting => Some(SetWhy::Stray),
         _ => None,
     }
@@ -108,7 +109,7 @@ pub(crate) fn scan(alloc: Global, bytes: &[u8]) -> Result<Outcome, AllocError>
         let Some((item, after)) = split_descriptor(rest) else {
             return Ok(Outcome::More);
         };
-        add(alloc, &mut c, item[1], &item[2..])?;
+        attach(alloc, &mut c, item[1], &item[2..])?;
         place += item.len();
         rest = after;
     }

@@ -11,7 +11,7 @@ pub enum SetKind {
 }
 
 /// A descriptor that is kept as it stands: a class or vendor descriptor, or one of a type that this
-/// crate gives no meaning. In a set its type is none of 2, 4, 5 and 7.
+/// crate gives no meaning. In a set its type is none of 2, 4, 5, 7 and 11.
 #[derive(Clone, Debug, Drop, PartialEq, Eq)]
 pub struct Raw {
     /// bDescriptorType.
@@ -20,7 +20,36 @@ pub struct Raw {
     pub body: Sequence<u8>,
 }
 
-/// An endpoint descriptor, and the raw descriptors that follow it (USB 2.0, 9.6.6).
+/// An interface association descriptor: interfaces with consecutive numbers that make one function
+/// (Interface Association Descriptor ECN to USB 2.0, 9.X.Y).
+#[derive(Clone, Debug, Drop, PartialEq, Eq)]
+pub struct Association {
+    /// bFirstInterface, the number of the function's first interface.
+    pub first: u8,
+    /// bInterfaceCount, of the function's interfaces.
+    pub count: u8,
+    /// bFunctionClass.
+    pub class: u8,
+    /// bFunctionSubClass.
+    pub subclass: u8,
+    /// bFunctionProtocol.
+    pub protocol: u8,
+    /// iFunction, the index of a string descriptor, or 0.
+    pub text: u8,
+    /// The bytes after the eight that the standard defines, at most 247.
+    pub tail: Sequence<u8>,
+}
+
+/// A descriptor that belongs to the configuration, the setting or the endpoint before it.
+#[derive(Clone, Debug, Drop, PartialEq, Eq)]
+pub enum Extra {
+    /// One that is kept as it stands.
+    Raw(Raw),
+    /// An interface association descriptor, type 11. It owns nothing.
+    Association(Association),
+}
+
+/// An endpoint descriptor, and the extras that follow it (USB 2.0, 9.6.6).
 #[derive(Clone, Debug, Drop, PartialEq, Eq)]
 pub struct Endpoint {
     /// bEndpointAddress: bits 3..0 the number, bit 7 one for IN.
@@ -33,12 +62,12 @@ pub struct Endpoint {
     pub interval: u8,
     /// The bytes after the seven that the standard defines, at most 248.
     pub tail: Sequence<u8>,
-    /// The raw descriptors between this one and the next endpoint or interface, in order.
-    pub extras: Sequence<Raw>,
+    /// The descriptors between this one and the next endpoint or interface, in order.
+    pub extras: Sequence<Extra>,
 }
 
-/// An interface at one of its alternate settings: its descriptor, the raw descriptors that follow
-/// it, and its endpoints (USB 2.0, 9.6.5).
+/// An interface at one of its alternate settings: its descriptor, the extras that follow it, and its
+/// endpoints (USB 2.0, 9.6.5).
 #[derive(Clone, Debug, Drop, PartialEq, Eq)]
 pub struct Setting {
     /// bInterfaceNumber.
@@ -57,14 +86,14 @@ pub struct Setting {
     pub text: u8,
     /// The bytes after the nine that the standard defines, at most 246.
     pub tail: Sequence<u8>,
-    /// The raw descriptors between this one and its first endpoint, in order.
-    pub extras: Sequence<Raw>,
+    /// The descriptors between this one and its first endpoint, in order.
+    pub extras: Sequence<Extra>,
     /// The endpoints, in order.
     pub endpoints: Sequence<Endpoint>,
 }
 
-/// A whole set: its first descriptor, the raw descriptors that follow it, and its settings (USB 2.0,
-/// 9.6.3 and 9.6.4). wTotalLength is not kept, since it is the count of the set's bytes.
+/// A whole set: its first descriptor, the extras that follow it, and its settings (USB 2.0, 9.6.3 and
+/// 9.6.4). wTotalLength is not kept, since it is the count of the set's bytes.
 #[derive(Clone, Debug, Drop, PartialEq, Eq)]
 pub struct Configuration {
     /// Which descriptor the set begins with.
@@ -81,8 +110,8 @@ pub struct Configuration {
     pub power: u8,
     /// The bytes after the nine that the standard defines, at most 246.
     pub tail: Sequence<u8>,
-    /// The raw descriptors between this one and the first interface, in order.
-    pub extras: Sequence<Raw>,
+    /// The descriptors between this one and the first interface, in order.
+    pub extras: Sequence<Extra>,
     /// The interfaces at their alternate settings, in order.
     pub settings: Sequence<Setting>,
 }

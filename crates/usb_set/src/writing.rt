@@ -1,27 +1,57 @@
 //! Each part of a set, added to the end of its bytes.
-ghost use Rattle.std.specs.Prelude.{◌≡◌, ◌++◌, OnOk, false};
+ghost use Rattle.std.specs.Prelude.{◌≡◌, ◌≤◌, ◌++◌, OnOk, false, length};
 ghost use Rattle.std.specs.List.{flat_map, list_any};
-ghost use Rattle.usb_set.specs.Layout.{endpoint_bytes, has_long_descriptor, is_endpoint_long, is_raw_long, is_setting_long, raw_descriptor, set_bytes, setting_bytes, type_number};
+ghost use Rattle.usb_set.specs.Descriptors.{association_descriptor, descriptor_bytes, raw_descriptor, type_number};
+ghost use Rattle.usb_set.specs.Layout.{has_long_descriptor, set_bytes};
+ghost use Rattle.usb_set.specs.inside.Trees.{endpoint_bytes, extra_bytes, is_endpoint_long, is_extra_long, is_setting_long, is_tree_long, setting_bytes, tree_bytes};
 
-use crate::tree::{Configuration, Endpoint, Raw, SetKind, Setting};
+use crate::tree::{Association, Configuration, Endpoint, Extra, Raw, SetKind, Setting};
 use std::alloc::AllocError;
 
 fn put_raw(out: &mut Vec<u8>, raw: &Raw) -> Result<(), AllocError>
-    requires { is_raw_long raw.now ≡ false }
-    ensures { OnOk result (out.new.items ≡ out.old.items ++ raw_descriptor raw.now) }
+    requires { length raw.now.body ≤ 253 }
+    ensures { OnOk result (out.new.items ≡ out.old.items ++ descriptor_bytes (raw_descriptor raw.now)) }
 {
     out.extend_from_slice(&[raw.body.len() as u8 + 2, raw.kind])?;
     out.extend_from_slice(raw.body.as_slice())?;
     Ok(())
 }
 
-#[tactic(auto, using(crate::proofs::Tests::none_at))]
-fn put_raws(out: &mut Vec<u8>, raws: &[Raw]) -> Result<(), AllocError>
-    requires { list_any is_raw_long raws.now ≡ false }
-    ensures { OnOk result (out.new.items ≡ out.old.items ++ flat_map raw_descriptor raws.now) }
+fn put_association(out: &mut Vec<u8>, a: &Association) -> Result<(), AllocError>
+    requires { length a.now.tail ≤ 247 }
+    ensures { OnOk result (out.new.items ≡ out.old.items ++ descriptor_bytes (association_descriptor a.now)) }
 {
-    for raw in raws {
-        put_raw(out, raw)?;
+    out.extend_from_slice(&[
+        a.tail.len() as u8 + 8,
+        11,
+        a.first,
+        a.count,
+        a.class,
+        a.subclass,
+        a.protocol,
+        a.text,
+    ])?;
+    out.extend_from_slice(a.tail.as_slice())?;
+    Ok(())
+}
+
+fn put_extra(out: &mut Vec<u8>, extra: &Extra) -> Result<(), AllocError>
+    requires { is_extra_long extra.now ≡ false }
+    ensures { OnOk result (out.new.items ≡ out.old.items ++ extra_bytes extra.now) }
+{
+    match extra {
+        Extra::Raw(raw) => put_raw(out, raw),
+        Extra::Association(association) => put_association(out, association),
+    }
+}
+
+#[tactic(auto, using(crate::proofs::Tests::none_at))]
+fn put_extras(out: &mut Vec<u8>, extras: &[Extra]) -> Result<(), AllocError>
+    requires { list_any is_extra_long extras.now ≡ false }
+    ensures { OnOk result (out.new.items ≡ out.old.items ++ flat_map extra_bytes extras.now) }
+{
+    for extra in extras {
+        put_extra(out, extra)?;
     }
     Ok(())
 }
@@ -41,7 +71,7 @@ fn put_endpoint(out: &mut Vec<u8>, e: &Endpoint) -> Result<(), AllocError>
         e.interval,
     ])?;
     out.extend_from_slice(e.tail.as_slice())?;
-    put_raws(out, e.extras.as_slice())
+    put_extras(out, e.extras.as_slice())
 }
 
 #[tactic(auto, using(crate::proofs::Tests::none_at))]
@@ -55,7 +85,7 @@ fn put_endpoints(out: &mut Vec<u8>, endpoints: &[Endpoint]) -> Result<(), AllocE
     Ok(())
 }
 
-pub(crate) fn put_setting(out: &mut Vec<u8>, s: &Setting) -> Result<(), AllocError>
+fn put_setting(out: &mut Vec<u8>, s: &Setting) -> Result<(), AllocError>
     requires { is_setting_long s.now ≡ false }
     ensures { OnOk result (out.new.items ≡ out.old.items ++ setting_bytes s.now) }
 {
@@ -72,12 +102,12 @@ pub(crate) fn put_setting(out: &mut Vec<u8>, s: &Setting) -> Result<(), AllocErr
     ];
     out.extend_from_slice(&head)?;
     out.extend_from_slice(s.tail.as_slice())?;
-    put_raws(out, s.extras.as_slice())?;
+    put_extras(out, s.extras.as_slice())?;
     put_endpoints(out, s.endpoints.as_slice())
 }
 
 #[tactic(auto, using(crate::proofs::Tests::none_at))]
-pub(crate) fn put_settings(out: &mut Vec<u8>, settings: &[Setting]) -> Result<(), AllocError>
+fn put_settings(out: &mut Vec<u8>, settings: &[Setting]) -> Result<(), AllocError>
     requires { list_any is_setting_long settings.now ≡ false }
     ensures { OnOk result (out.new.items ≡ out.old.items ++ flat_map setting_bytes settings.now) }
 {
@@ -96,9 +126,9 @@ fn type_byte(kind: SetKind) -> u8
     }
 }
 
-pub(crate) fn put_set(out: &mut Vec<u8>, c: &Configuration, total: u16) -> Result<(), AllocError>
-    requires { has_long_descriptor c.now ≡ false }
-    ensures { OnOk result (out.new.items ≡ out.old.items ++ set_bytes c.now total) }
+fn put_tree(out: &mut Vec<u8>, c: &Configuration, total: u16) -> Result<(), AllocError>
+    requires { is_tree_long c.now ≡ false }
+    ensures { OnOk result (out.new.items ≡ out.old.items ++ tree_bytes c.now total) }
 {
     let [low, high] = total.to_le_bytes();
     let head = [
@@ -114,6 +144,15 @@ pub(crate) fn put_set(out: &mut Vec<u8>, c: &Configuration, total: u16) -> Resul
     ];
     out.extend_from_slice(&head)?;
     out.extend_from_slice(c.tail.as_slice())?;
-    put_raws(out, c.extras.as_slice())?;
+    put_extras(out, c.extras.as_slice())?;
     put_settings(out, c.settings.as_slice())
+}
+
+/// The bytes of the whole set, with this number as wTotalLength.
+#[tactic(auto, using(crate::proofs::Trees::has_long_is, crate::proofs::Trees::set_bytes_is))]
+pub(crate) fn put_set(out: &mut Vec<u8>, c: &Configuration, total: u16) -> Result<(), AllocError>
+    requires { has_long_descriptor c.now ≡ false }
+    ensures { OnOk result (out.new.items ≡ out.old.items ++ set_bytes c.now total) }
+{
+    put_tree(out, c, total)
 }

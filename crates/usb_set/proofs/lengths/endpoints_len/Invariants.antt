@@ -1,6 +1,6 @@
 use Rattle.std.proofs.Common.{◌≡◌, ◌+◌, take, length, min}
 use Rattle.std.specs.List.{flat_map}
-use Rattle.usb_set.specs.Layout.{endpoint_bytes}
+use Rattle.usb_set.specs.inside.Trees.{endpoint_bytes}
 use Rattle.usb_set.proofs.lengths.endpoints_len.Given as goal
 
 abbrev pub invariant-loop-endpoint : goal.invariant-loop-endpoint

@@ -4,7 +4,7 @@ use Rattle.std.proofs.lemmas.Bool.{cond-true}
 use Rattle.usb_set.specs.declared.scan.Outcome.{Outcome}
 use Rattle.usb_set.specs.Faults.{Begins, IsOpen}
 use Rattle.usb_set.specs.Decoding.{gathers}
-use Rattle.usb_set.specs.Scanning.{Says}
+use Rattle.usb_set.specs.inside.Scanning.{Says}
 use Rattle.usb_set.proofs.Exact.{ends_in_piece}
 use Rattle.usb_set.proofs.Feeds.{open_when, gathers_when, is_done_now}
 use Rattle.usb_set.proofs.decoder.Decoder.feed.Goals as goal

@@ -1,8 +1,8 @@
-use Rattle.usb_set.proofs.Exact.{not_both, one_fault, verdict}
-use Rattle.usb_set.proofs.laws.one_verdict.Goals as goal
+use Rattle.usb_set.proofs.Exact.{not_both, one_fault, judgement}
+use Rattle.usb_set.proofs.laws.one_judgement.Goals as goal
 
 pub returns-clause-some : goal.returns-clause-some
-returns-clause-some c = verdict
+returns-clause-some c = judgement
 
 pub returns-clause-one_fault : goal.returns-clause-one_fault
 returns-clause-one_fault c = one_fault

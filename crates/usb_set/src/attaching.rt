@@ -1,9 +1,9 @@
 //! The tree with one more descriptor.
 ghost use Rattle.std.specs.Prelude.{◌≡◌, ◌≤◌, ◌<◌, length, OnOk, IfOk};
-ghost use Rattle.usb_set.specs.Reading.{configuration_of, setting_of, endpoint_of, endpoint_with_raw, setting_with_raw, setting_with_endpoint, set_with_raw, attach, with_last};
+ghost use Rattle.usb_set.specs.inside.Reading.{association_of, attach, configuration_of, endpoint_of, endpoint_with_extra, extra_of, set_with_extra, setting_of, setting_with_endpoint, setting_with_extra, with_last};
 
 use crate::sequence::Sequence;
-use crate::tree::{Configuration, Endpoint, Raw, SetKind, Setting};
+use crate::tree::{Association, Configuration, Endpoint, Extra, Raw, SetKind, Setting};
 use std::alloc::{AllocError, Global};
 
 /// The set that a first descriptor begins.
@@ -63,15 +63,44 @@ fn read_endpoint(alloc: Global, body: &[u8]) -> Result<Endpoint, AllocError>
     })
 }
 
-#[tactic(auto, unfolding(crate::specs::Reading::endpoint_with_raw))]
-fn add_to_endpoint(e: &mut Endpoint, raw: Raw) -> Result<(), AllocError>
-    ensures { OnOk result (e.new ≡ endpoint_with_raw raw e.old) }
+/// The association of an interface association descriptor's body.
+fn read_association(alloc: Global, body: &[u8]) -> Result<Association, AllocError>
+    requires { 6 ≤ length body.now }
+    ensures { IfOk result (λ a. a ≡ association_of body.now) }
 {
-    e.extras.push(raw)?;
+    Ok(Association {
+        first: body[0],
+        count: body[1],
+        class: body[2],
+        subclass: body[3],
+        protocol: body[4],
+        text: body[5],
+        tail: Sequence::from_vec(Vec::from_slice(alloc, &body[6..])?),
+    })
+}
+
+/// The extra of a descriptor that is neither an interface's nor an endpoint's.
+fn read_extra(alloc: Global, kind: u8, body: &[u8]) -> Result<Extra, AllocError>
+    requires { kind ≡ 11 → 6 ≤ length body.now }
+    ensures { IfOk result (λ x. x ≡ extra_of (record { kind = kind; body = body.now })) }
+{
+    if kind == 11 {
+        let association = read_association(alloc, body)?;
+        return Ok(Extra::Association(association));
+    }
+    let body = Sequence::from_vec(Vec::from_slice(alloc, body)?);
+    Ok(Extra::Raw(Raw { kind, body }))
+}
+
+#[tactic(auto, unfolding(crate::specs::inside::Reading::endpoint_with_extra))]
+fn add_to_endpoint(e: &mut Endpoint, extra: Extra) -> Result<(), AllocError>
+    ensures { OnOk result (e.new ≡ endpoint_with_extra extra e.old) }
+{
+    e.extras.push(extra)?;
     Ok(())
 }
 
-#[tactic(auto, unfolding(crate::specs::Reading::setting_with_endpoint))]
+#[tactic(auto, unfolding(crate::specs::inside::Reading::setting_with_endpoint))]
 fn add_endpoint(s: &mut Setting, endpoint: Endpoint) -> Result<(), AllocError>
     ensures { OnOk result (s.new ≡ setting_with_endpoint endpoint s.old) }
 {
@@ -79,35 +108,35 @@ fn add_endpoint(s: &mut Setting, endpoint: Endpoint) -> Result<(), AllocError>
     Ok(())
 }
 
-#[tactic(auto, using(crate::proofs::Last::with_last_is), unfolding(crate::specs::Reading::setting_with_raw))]
-fn add_to_setting(s: &mut Setting, raw: Raw) -> Result<(), AllocError>
-    ensures { OnOk result (s.new ≡ setting_with_raw raw s.old) }
+#[tactic(auto, using(crate::proofs::Last::with_last_is), unfolding(crate::specs::inside::Reading::setting_with_extra))]
+fn add_to_setting(s: &mut Setting, extra: Extra) -> Result<(), AllocError>
+    ensures { OnOk result (s.new ≡ setting_with_extra extra s.old) }
 {
     let count = s.endpoints.len();
     if count == 0 {
-        s.extras.push(raw)?;
+        s.extras.push(extra)?;
     } else {
-        add_to_endpoint(s.endpoints.at_mut(count - 1), raw)?;
+        add_to_endpoint(s.endpoints.at_mut(count - 1), extra)?;
     }
     Ok(())
 }
 
-#[tactic(auto, using(crate::proofs::Last::with_last_is), unfolding(crate::specs::Reading::set_with_raw))]
-fn add_to_set(c: &mut Configuration, raw: Raw) -> Result<(), AllocError>
-    ensures { OnOk result (c.new ≡ set_with_raw raw c.old) }
+#[tactic(auto, using(crate::proofs::Last::with_last_is), unfolding(crate::specs::inside::Reading::set_with_extra))]
+fn add_to_set(c: &mut Configuration, extra: Extra) -> Result<(), AllocError>
+    ensures { OnOk result (c.new ≡ set_with_extra extra c.old) }
 {
     let count = c.settings.len();
     if count == 0 {
-        c.extras.push(raw)?;
+        c.extras.push(extra)?;
     } else {
-        add_to_setting(c.settings.at_mut(count - 1), raw)?;
+        add_to_setting(c.settings.at_mut(count - 1), extra)?;
     }
     Ok(())
 }
 
 /// Adds a whole descriptor, which belongs to the nearest typed one before it.
-#[tactic(auto, using(crate::proofs::Last::with_last_is), unfolding(crate::specs::Reading::attach))]
-pub(crate) fn add(
+#[tactic(auto, using(crate::proofs::Last::with_last_is), unfolding(crate::specs::inside::Reading::attach))]
+pub(crate) fn attach(
     alloc: Global,
     c: &mut Configuration,
     kind: u8,
@@ -115,6 +144,7 @@ pub(crate) fn add(
 ) -> Result<(), AllocError>
     requires interface { kind ≡ 4 → 7 ≤ length body.now }
     requires endpoint { kind ≡ 5 → 5 ≤ length body.now }
+    requires association { kind ≡ 11 → 6 ≤ length body.now }
     requires belongs { kind ≡ 5 → 0 < length c.old.settings }
     ensures { OnOk result (c.new ≡ attach c.old (record { kind = kind; body = body.now })) }
 {
@@ -129,8 +159,8 @@ pub(crate) fn add(
             add_endpoint(c.settings.at_mut(count - 1), endpoint)?;
         }
         _ => {
-            let body = Sequence::from_vec(Vec::from_slice(alloc, body)?);
-            add_to_set(c, Raw { kind, body })?;
+            let extra = read_extra(alloc, kind, body)?;
+            add_to_set(c, extra)?;
         }
     }
     Ok(())

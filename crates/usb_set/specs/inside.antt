@@ -1,0 +1,5 @@
+-- What only the functions and proofs of this crate cite.
+pub mod Reading
+pub mod Scanning
+pub mod Lengths
+pub mod Trees
