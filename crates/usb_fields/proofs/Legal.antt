@@ -1,7 +1,6 @@
 -- What bytes without a fault are.
-use Rattle.std.proofs.Common.{◌≡◌, ℕ, zero, suc, ◌+◌, ◌/◌, ◌%◌, ◌<◌, List, [], ◌∷◌, length, get_or, None, refl, ap, subst, arith}
+use Rattle.std.proofs.Common.{◌≡◌, ℕ, zero, suc, ◌+◌, List, [], ◌∷◌, length, get_or, None, refl, ap, subst, arith}
 use Rattle.std.proofs.lemmas.Bool.Decides.{nat_tests}
-use Rattle.usb_fields.specs.Bytes.{AreBytes, little_endian, little_endian_at}
 use Rattle.usb_fields.specs.Fault.{field_fault}
 
 -- the list has this length, and a descriptor's bLength and bDescriptorType
@@ -37,12 +36,3 @@ cells_of_all (x ∷ b) = let rest = cells_after x b (length b) 0 in let all = ce
 
 pub all_cells : (b : List ℕ) (n : ℕ) → length b ≡ n → cells b 0 n ≡ b
 all_cells b n long = subst (λ k. cells b 0 k ≡ b) long (cells_of_all b)
-
--- a 16-bit field is written as it was read
-pub written_word : (b : List ℕ) (at : ℕ) → AreBytes b → at + 1 < length b → little_endian (little_endian_at b at) ≡ get_or b at 0 ∷ get_or b (at + 1) 0 ∷ []
-written_word b at bytes within =
-    let low : get_or b at 0 < 256 = bytes at 0 (omega arith) in
-    let high : get_or b (at + 1) 0 < 256 = bytes (at + 1) 0 within in
-    let written_low : little_endian_at b at % 256 ≡ get_or b at 0 = omega arith in
-    let written_high : little_endian_at b at / 256 ≡ get_or b (at + 1) 0 = omega arith in
-    cc

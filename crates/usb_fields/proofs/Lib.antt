@@ -1,2 +1,4 @@
 pub mod Legal
 pub mod UnitLemmas
+pub mod PacketLemmas
+pub mod KeptLemmas

@@ -1,9 +1,9 @@
 -- Laws of the bytes of a list of units.
-use Rattle.std.proofs.Common.{◌≡◌, ℕ, suc, ◌+◌, ◌*◌, ◌/◌, ◌%◌, ◌<◌, ◌≤◌, List, [], ◌∷◌, length, get_or, None, refl, arith}
+use Rattle.std.proofs.Common.{◌≡◌, ℕ, ◌+◌, ◌*◌, ◌/◌, ◌%◌, ◌<◌, ◌≤◌, List, [], ◌∷◌, length, get_or, None, refl, arith}
 use Rattle.std.proofs.lemmas.Bool.Decides.{nat_tests}
 use Rattle.std.proofs.lemmas.Grind.{common_steps}
 use Rattle.std.specs.List.{flat_map}
-use Rattle.usb_fields.specs.Bytes.{AreBytes, little_endian}
+use Rattle.usb_base.specs.Bytes.{AreBytes, little_endian}
 use Rattle.usb_fields.specs.Units.{units_bytes, unit_fault}
 
 length-flat_map : (u : List ℕ) → length (flat_map little_endian u) ≡ 2 * length u
@@ -38,19 +38,16 @@ units_in [] = []
 units_in (low ∷ []) = []
 units_in (low ∷ high ∷ b) = (low + 256 * high) ∷ units_in b
 
-bytes_after : (x : ℕ) (b : List ℕ) → AreBytes (x ∷ b) → AreBytes b
-bytes_after x b bytes = λ k d within. bytes (suc k) d (omega arith)
-
 -- bytes of even number are written again as they were read
 written_units : (b : List ℕ) → AreBytes b → length b % 2 ≡ 0 → (flat_map little_endian (units_in b) ≡ b) × (2 * length (units_in b) ≡ length b)
 written_units [] bytes even = (refl, refl)
 written_units (low ∷ []) bytes even = absurd (omega arith)
 written_units (low ∷ high ∷ b) bytes even =
-    let first : low < 256 = bytes 0 0 (omega arith) in
-    let second : high < 256 = bytes 1 0 (omega arith) in
+    let first : low < 256 = bytes.0 in
+    let second : high < 256 = bytes.1.0 in
     let written_low : (low + 256 * high) % 256 ≡ low = omega arith in
     let written_high : (low + 256 * high) / 256 ≡ high = omega arith in
-    let rest = written_units b (bytes_after high b (bytes_after low (high ∷ b) bytes)) (omega arith) in
+    let rest = written_units b bytes.1.1 (omega arith) in
     let more = rest.0 in
     (cc, omega (arith, rest.1))
 
@@ -78,8 +75,8 @@ legal_units b bytes none = legal b bytes (is_units b none)
     legal [] bytes is = absurd (omega (arith, is.two))
     legal (size ∷ []) bytes is = absurd (omega (arith, is.two))
     legal (size ∷ kind ∷ b) bytes is =
-        let small : size < 256 = bytes 0 0 (omega arith) in
-        let units = written_units b (bytes_after kind b (bytes_after size (kind ∷ b) bytes)) (omega (arith, is.even)) in
+        let small : size < 256 = bytes.0 in
+        let units = written_units b bytes.1.1 (omega (arith, is.even)) in
         let same = units.0 in
         let long : 2 * length (units_in b) ≡ length b = units.1 in
         let counted : size ≡ 2 + 2 * length (units_in b) = omega (arith, is.size_byte) in

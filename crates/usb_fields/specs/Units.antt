@@ -1,7 +1,7 @@
 -- Strings and language lists (USB 2.0, 9.6.7).
 use Rattle.std.specs.Prelude.{◌≡◌, ℕ, ◌+◌, ◌*◌, ◌%◌, ◌<◌, ◌≤◌, List, ◌∷◌, length, slice_index, nat_lt, ◌==◌, ◌||◌, not, if◌then◌else◌, Option, Some, None}
 use Rattle.std.specs.List.{flat_map}
-use Rattle.usb_fields.specs.Bytes.{little_endian}
+use Rattle.usb_base.specs.Bytes.{little_endian}
 use Rattle.usb_fields.specs.declared.fault.UnitFault.{UnitFault}
 use Rattle.usb_fields.specs.declared.fault.UnitFault.TheVariants as units
 
@@ -18,14 +18,14 @@ unit_fault b =
     else None
 
 -- reading these bytes may be refused by this fault: the first that holds, or want of memory where none does
-abbrev pub RefusesToRead : List ℕ → UnitFault → Type 0
-RefusesToRead b units.Memory = unit_fault b ≡ None
-RefusesToRead b fault = unit_fault b ≡ Some fault
+abbrev pub ReadUnitsFails : List ℕ → UnitFault → Type 0
+ReadUnitsFails b units.Memory = unit_fault b ≡ None
+ReadUnitsFails b fault = unit_fault b ≡ Some fault
 
 -- writing these units may be refused by this fault: they are too many, or want of memory where they are not
-abbrev pub RefusesToWrite : List ℕ → UnitFault → Type 0
-RefusesToWrite u units.Length = ⊥
-RefusesToWrite u units.Kind = ⊥
-RefusesToWrite u units.Odd = ⊥
-RefusesToWrite u units.TooLong = 126 < length u
-RefusesToWrite u units.Memory = length u ≤ 126
+abbrev pub WriteUnitsFails : List ℕ → UnitFault → Type 0
+WriteUnitsFails u units.Length = ⊥
+WriteUnitsFails u units.Kind = ⊥
+WriteUnitsFails u units.Odd = ⊥
+WriteUnitsFails u units.TooLong = 126 < length u
+WriteUnitsFails u units.Memory = length u ≤ 126

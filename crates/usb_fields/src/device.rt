@@ -11,6 +11,12 @@ const LENGTH: u8 = 18;
 const KIND: u8 = 1;
 
 /// A device descriptor: what a device is, apart from its configurations (USB 2.0, table 9-8).
+///
+/// ```rust
+/// let device = DeviceDescriptor::read(&bytes)?;
+/// println!(rt; "{:04x}:{:04x}", device.vendor, device.product)?;
+/// assert_eq!(rt; device.to_bytes(), bytes);
+/// ```
 #[derive(Clone, Copy, Debug, PartialEq, Eq, Hash)]
 pub struct DeviceDescriptor {
     /// bcdUSB: the release of the standard in binary-coded decimal, as 0200 hexadecimal for 2.0.

@@ -4,7 +4,12 @@ ghost use Rattle.std.specs.Prelude.{◌≡◌, Some};
 use std::alloc::AllocError;
 use std::{error, fmt};
 
-/// Why bytes are no device descriptor, or no qualifier: the first of these that holds.
+/// Why bytes are no device descriptor, or no qualifier: the first of these that holds. Its `Display` is a
+/// message for people.
+///
+/// ```rust
+/// assert_eq!(rt; Qualifier::read(&[10, 6]), Err(FieldFault::Length));
+/// ```
 #[derive(Clone, Copy, Debug, PartialEq, Eq, Hash)]
 pub enum FieldFault {
     /// The bytes are not as many as the descriptor has, or bLength is another number.
@@ -14,7 +19,7 @@ pub enum FieldFault {
 }
 
 impl FieldFault {
-    ghost use Rattle.usb_fields.specs.Fault.{field_fault_number};
+    ghost use Rattle.usb_fields.specs.Numbers.{field_fault_number};
 
     /// The fault's number, 1 or 2: a lower one is tested first.
     pub fn number(self) -> u8
@@ -28,9 +33,9 @@ impl FieldFault {
 }
 
 impl fmt::Display for FieldFault {
-    ghost use Rattle.usb_fields.specs.Fault.{field_fault_text};
+    ghost use Rattle.usb_fields.specs.Numbers.{field_fault_message};
 
-    ghost output = { λ fault. Some (field_fault_text fault) };
+    ghost output = { λ fault. Some (field_fault_message fault) };
 
     fn fmt<W: fmt::Write>(&self, f: &mut fmt::Formatter<W>) -> fmt::Result {
         match self {
@@ -42,7 +47,12 @@ impl fmt::Display for FieldFault {
 
 impl error::Error for FieldFault {}
 
-/// Why a string or a language list is not read, or not written: the first of these that holds.
+/// Why a string or a language list is not read, or not written: the first of these that holds. Its `Display`
+/// is a message for people.
+///
+/// ```rust
+/// assert_eq!(rt; read_units(alloc, &[3, 3, 0x41]), Err(UnitFault::Odd));
+/// ```
 #[derive(Clone, Copy, Debug, PartialEq, Eq, Hash)]
 pub enum UnitFault {
     /// There are fewer than two bytes, or bLength is not the number of bytes.
@@ -58,7 +68,7 @@ pub enum UnitFault {
 }
 
 impl UnitFault {
-    ghost use Rattle.usb_fields.specs.Fault.{unit_fault_number};
+    ghost use Rattle.usb_fields.specs.Numbers.{unit_fault_number};
 
     /// The fault's number, 1 to 5: a lower one is tested first.
     pub fn number(self) -> u8
@@ -75,9 +85,9 @@ impl UnitFault {
 }
 
 impl fmt::Display for UnitFault {
-    ghost use Rattle.usb_fields.specs.Fault.{unit_fault_text};
+    ghost use Rattle.usb_fields.specs.Numbers.{unit_fault_message};
 
-    ghost output = { λ fault. Some (unit_fault_text fault) };
+    ghost output = { λ fault. Some (unit_fault_message fault) };
 
     fn fmt<W: fmt::Write>(&self, f: &mut fmt::Formatter<W>) -> fmt::Result {
         match self {

@@ -1,6 +1,6 @@
 //! Fields of two bytes, low byte first (USB 2.0, 8.1).
 ghost use Rattle.std.specs.Prelude.{◌≡◌, ◌+◌, ◌<◌, [], ◌∷◌, length, slice_index};
-ghost use Rattle.usb_fields.specs.Bytes.{little_endian, little_endian_at};
+ghost use Rattle.usb_base.specs.Bytes.{little_endian, little_endian_at};
 
 /// The 16-bit field whose low byte stands at `at`.
 pub(crate) fn word_at(b: &[u8], at: usize) -> u16

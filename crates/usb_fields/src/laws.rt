@@ -2,14 +2,16 @@
 //!
 //! For each format reading and writing undo each other on exactly the legal bytes. The functions of these laws
 //! do nothing: what they say stands in their contracts.
-ghost use Rattle.std.specs.Prelude.{◌≡◌, ◌≤◌, ◌↔◌, ℕ, List, length, None, IsTrue};
-ghost use Rattle.usb_fields.specs.Bytes.{AreBytes};
+ghost use Rattle.std.specs.Prelude.{◌≡◌, ◌<◌, ◌≤◌, ◌↔◌, ℕ, List, length, None, IsTrue};
+ghost use Rattle.usb_base.specs.Bytes.{AreBytes};
 ghost use Rattle.usb_fields.specs.Device.{device_bytes, device_fault};
 ghost use Rattle.usb_fields.specs.Packet.{reply_of, sent_of};
+ghost use Rattle.usb_fields.specs.Packets.{joined, kept, packets, repeated};
 ghost use Rattle.usb_fields.specs.Qualifier.{qualifier_bytes, qualifier_fault};
 ghost use Rattle.usb_fields.specs.Setup.{setup_bytes, setup_of};
 ghost use Rattle.usb_fields.specs.Units.{unit_fault, units_bytes};
 ghost use Rattle.usb_fields.specs.declared.device.DeviceDescriptor.{DeviceDescriptor};
+ghost use Rattle.usb_fields.specs.declared.packet.Toggle.TheVariants.{Data1};
 ghost use Rattle.usb_fields.specs.declared.qualifier.Qualifier.{Qualifier};
 ghost use Rattle.usb_fields.specs.declared.setup.Setup.{Setup};
 
@@ -50,6 +52,16 @@ pub fn units_round_trip()
     ensures taken { (u : List ℕ) → unit_fault (units_bytes u) ≡ None }
     ensures one_list { (u v : List ℕ) → units_bytes u ≡ units_bytes v → u ≡ v }
     ensures written { (b : List ℕ) → AreBytes b → unit_fault b ≡ None → (u : List ℕ) × (length u ≤ 126) × (units_bytes u ≡ b) }
+{}
+
+/// What both ends of a data stage rest on: the packets that a device cuts its answer into are what its host
+/// puts together (USB 2.0, 8.5.3 and 8.6).
+pub fn packets_of_a_data_stage()
+    // The packets join to the bytes that they were cut from.
+    ensures join { (bytes : List ℕ) (size limit : ℕ) → 0 < size → length bytes ≤ limit → joined (packets bytes size limit) ≡ bytes }
+
+    // Where each packet comes once or more, in order, each is kept once.
+    ensures kept_once { (bytes : List ℕ) (size limit : ℕ) (again : List ℕ) → kept (repeated (packets bytes size limit) Data1 again) Data1 ≡ packets bytes size limit }
 {}
 
 /// Two answers are equal exactly where they say the same, wherever their bytes lie.

@@ -1,6 +1,6 @@
 //! Field values and packet types of USB 2.0.
 //!
-//! This crate stands on nothing but std. It has what both ends of a bus and the descriptor files speak of:
+//! It has what both ends of a bus and the descriptor files speak of:
 //!
 //! * [`Setup`], the eight bytes that begin each control transfer (USB 2.0, 9.3), with the
 //!   [`Direction`], [`Class`] and [`Recipient`] that its bmRequestType codes (table 9-2);
@@ -12,7 +12,8 @@
 //! Fields of two bytes are little-endian (8.1). Numbers keep the value that stands in the bytes: no field is
 //! checked for its meaning here.
 //!
-//! Reading and writing undo each other on exactly the legal bytes; [`laws`] says so, a law for each pair.
+//! Reading and writing undo each other on exactly the legal bytes; [`laws`] says so, a law for each pair. It
+//! also has the law of the packets of a data stage, on which both ends rest.
 //! Only `read_units` and `write_units` take memory.
 #![tactic(auto)]
 

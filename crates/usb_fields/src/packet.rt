@@ -36,6 +36,13 @@ pub enum Stage<'a> {
 }
 
 /// One transaction with endpoint zero, as the host begins it.
+///
+/// ```rust
+/// let transaction = Transaction {
+///     address: 5,
+///     stage: Stage::Setup(setup.to_bytes()),
+/// };
+/// ```
 #[derive(Clone, Copy, Debug, PartialEq, Eq, Hash)]
 pub struct Transaction<'a> {
     /// The device's address, 0 to 127.
@@ -45,6 +52,14 @@ pub struct Transaction<'a> {
 }
 
 /// What comes back in a transaction.
+///
+/// ```rust
+/// match answer {
+///     Answer::Data(toggle, bytes) => take(toggle, bytes),
+///     Answer::Nak => ask_again(),
+///     _ => give_up(),
+/// }
+/// ```
 #[derive(Clone, Copy, Debug, PartialEq, Eq, Hash)]
 pub enum Answer<'a> {
     /// ACK: the data was taken.

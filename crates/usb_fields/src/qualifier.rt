@@ -11,6 +11,11 @@ const LENGTH: u8 = 10;
 const KIND: u8 = 6;
 
 /// A device qualifier: what a high-speed device would be at its other speed (USB 2.0, table 9-9).
+///
+/// ```rust
+/// let qualifier = Qualifier::read(&[10, 6, 0x00, 0x02, 0, 0, 0, 64, 1, 0])?;
+/// assert_eq!(rt; (qualifier.usb, qualifier.packet, qualifier.configurations), (0x0200, 64, 1));
+/// ```
 #[derive(Clone, Copy, Debug, PartialEq, Eq, Hash)]
 pub struct Qualifier {
     /// bcdUSB: the release of the standard in binary-coded decimal, as 0200 hexadecimal for 2.0.

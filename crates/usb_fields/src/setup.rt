@@ -41,6 +41,12 @@ pub enum Recipient {
 }
 
 /// A setup packet: the eight bytes that say what a control transfer asks for (USB 2.0, table 9-2).
+///
+/// ```rust
+/// // GET_DESCRIPTOR of the device descriptor, 18 bytes.
+/// let setup = Setup::from_bytes(&[0x80, 0x06, 0x00, 0x01, 0x00, 0x00, 0x12, 0x00]);
+/// assert_eq!(rt; (setup.direction(), setup.value, setup.length), (Direction::In, 0x0100, 18));
+/// ```
 #[derive(Clone, Copy, Debug, PartialEq, Eq, Hash)]
 pub struct Setup {
     /// bmRequestType: direction, class and recipient.

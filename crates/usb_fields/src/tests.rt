@@ -131,11 +131,15 @@ fn writes_units(rt: HostRuntime) -> Result<(), Fail> {
 
 #[test]
 fn says_why(rt: HostRuntime) -> Result<(), Fail> {
-    assert_eq!(rt;
-        (FieldFault::Length.number(), FieldFault::Kind.number()),
-        (1, 2)
-    );
-    for (fault, number, text) in [
+    for (fault, number, message) in [
+        (FieldFault::Length, 1, "the length is not the descriptor's"),
+        (FieldFault::Kind, 2, "the type is not the descriptor's"),
+    ] {
+        assert_eq!(rt; fault.number(), number);
+        let shown = format!(in rt.alloc(); "{fault}")?;
+        assert_eq!(rt; shown.as_str(), message);
+    }
+    for (fault, number, message) in [
         (UnitFault::Length, 1, "the length is not that of the bytes"),
         (UnitFault::Kind, 2, "the type is not that of a string"),
         (UnitFault::Odd, 3, "the length is odd"),
@@ -144,7 +148,7 @@ fn says_why(rt: HostRuntime) -> Result<(), Fail> {
     ] {
         assert_eq!(rt; fault.number(), number);
         let shown = format!(in rt.alloc(); "{fault}")?;
-        assert_eq!(rt; shown.as_str(), text);
+        assert_eq!(rt; shown.as_str(), message);
     }
     Ok(())
 }

@@ -1,8 +1,8 @@
 //! Strings and language lists: descriptors that hold 16-bit units (USB 2.0, 9.6.7).
 ghost use Rattle.std.specs.Prelude.{◌≡◌, ◌≤◌, ◌<◌, ◌*◌, ◌/◌, ◌%◌, length, vec_capacity, IfOk, IfErr, OnOk};
 ghost use Rattle.std.specs.List.{flat_map};
-ghost use Rattle.usb_fields.specs.Bytes.{little_endian};
-ghost use Rattle.usb_fields.specs.Units.{units_bytes, RefusesToRead, RefusesToWrite};
+ghost use Rattle.usb_base.specs.Bytes.{little_endian};
+ghost use Rattle.usb_fields.specs.Units.{units_bytes, ReadUnitsFails, WriteUnitsFails};
 
 use crate::fault::UnitFault;
 use crate::field::word_bytes;
@@ -17,6 +17,11 @@ const MOST_UNITS: usize = 126;
 /// The units of a string or a language list: the language codes of string 0, and UTF-16 code units of
 /// any other string. They are kept as numbers.
 ///
+/// ```rust
+/// let languages = read_units(alloc, &[4, 3, 0x09, 0x04])?;
+/// assert_eq!(rt; languages.as_slice(), [0x0409].as_slice());
+/// ```
+///
 /// # Errors
 ///
 /// The first of [`UnitFault::Length`], [`UnitFault::Kind`] and [`UnitFault::Odd`] that holds;
@@ -24,7 +29,7 @@ const MOST_UNITS: usize = 126;
 pub fn read_units(alloc: Global, b: &[u8]) -> Result<Vec<u16>, UnitFault>
     ensures ok { IfOk result (λ u. b.now ≡ units_bytes u.items) }
     ensures few { IfOk result (λ u. length u.items ≤ 126) }
-    ensures err { IfErr result (λ fault. RefusesToRead b.now fault) }
+    ensures err { IfErr result (λ fault. ReadUnitsFails b.now fault) }
 {
     if b.len() < 2 || usize::from(b[0]) != b.len() {
         return Err(UnitFault::Length);
@@ -55,13 +60,18 @@ fn units_in(alloc: Global, b: &[u8]) -> Result<Vec<u16>, AllocError>
 
 /// The bytes of a string or a language list with these units.
 ///
+/// ```rust
+/// let bytes = write_units(alloc, &[0x0048, 0x0069])?;
+/// assert_eq!(rt; bytes.as_slice(), [6, 3, 0x48, 0x00, 0x69, 0x00].as_slice());
+/// ```
+///
 /// # Errors
 ///
 /// [`UnitFault::TooLong`] for more than 126 units; [`UnitFault::Memory`] only where they are not too many.
 pub fn write_units(alloc: Global, u: &[u16]) -> Result<Vec<u8>, UnitFault>
     ensures ok { IfOk result (λ b. b.items ≡ units_bytes u.now) }
     ensures few { OnOk result (length u.now ≤ 126) }
-    ensures err { IfErr result (λ fault. RefusesToWrite u.now fault) }
+    ensures err { IfErr result (λ fault. WriteUnitsFails u.now fault) }
 {
     if u.len() > MOST_UNITS {
         return Err(UnitFault::TooLong);

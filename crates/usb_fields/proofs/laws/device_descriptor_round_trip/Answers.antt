@@ -1,15 +1,16 @@
 use Rattle.std.proofs.Common.{get_or, arith}
-use Rattle.usb_fields.specs.Bytes.{little_endian_at}
-use Rattle.usb_fields.proofs.Legal.{headed, all_cells, written_word}
+use Rattle.usb_base.specs.Bytes.{little_endian_at}
+use Rattle.usb_base.proofs.ByteLemmas.{written_field}
+use Rattle.usb_fields.proofs.Legal.{headed, all_cells}
 use Rattle.usb_fields.proofs.laws.device_descriptor_round_trip.Goals as goal
 
 pub returns-clause-written : goal.returns-clause-written
 returns-clause-written c = λ b bytes none.
     let head = headed 18 1 b none in
-    let usb = written_word b 2 bytes (omega arith) in
-    let vendor = written_word b 8 bytes (omega arith) in
-    let product = written_word b 10 bytes (omega arith) in
-    let release = written_word b 12 bytes (omega arith) in
+    let usb = written_field b 2 bytes (omega arith) in
+    let vendor = written_field b 8 bytes (omega arith) in
+    let product = written_field b 10 bytes (omega arith) in
+    let release = written_field b 12 bytes (omega arith) in
     let cells = all_cells b 18 head.long in (
       record {
         usb = little_endian_at b 2;

@@ -1,9 +1,14 @@
 -- Bytes, and the fields of two bytes (USB 2.0, 8.1).
-use Rattle.std.specs.Prelude.{ℕ, ◌+◌, ◌*◌, ◌/◌, ◌%◌, ◌<◌, List, [], ◌∷◌, slice_index, All}
+use Rattle.std.specs.Prelude.{ℕ, ◌+◌, ◌*◌, ◌/◌, ◌%◌, ◌<◌, List, [], ◌∷◌, slice_index}
+use Rattle.std.specs.List.{AllByRecursion}
+
+-- a number that one byte holds
+abbrev pub IsByte : ℕ → Type 0
+IsByte x = x < 256
 
 -- each of these numbers is a byte
 abbrev pub AreBytes : List ℕ → Type 0
-AreBytes b = All (λ x. x < 256) b
+AreBytes b = AllByRecursion IsByte b
 
 -- the two bytes of a 16-bit number, the low byte first
 abbrev pub little_endian : ℕ → List ℕ
