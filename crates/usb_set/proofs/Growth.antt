@@ -1,5 +1,5 @@
 -- A set with one more descriptor has it behind its own.
-use Rattle.std.proofs.Common.{◌≡◌, ℕ, suc, ◌+◌, ◌*◌, ◌/◌, ◌%◌, ◌<◌, ◌≤◌, Bool, true, false, cond, ltb, eqb, ◌||◌, List, [], ◌∷◌, ◌++◌, length, map, None, refl, sym, ap, subst, ◌∙◌, append_assoc, length-append, ◌⊎◌, arith, inl, inr}
+use Rattle.std.proofs.Common.{◌≡◌, ℕ, suc, ◌+◌, ◌*◌, ◌/◌, ◌%◌, ◌<◌, ◌≤◌, Bool, true, false, cond, ltb, eqb, ◌||◌, List, [], ◌∷◌, ◌++◌, length, map, None, refl, sym, ap, ◌∙◌, append_assoc, length-append, ◌⊎◌, arith, inl, inr}
 use Rattle.std.specs.List.{flat_map, list_any}
 use Rattle.std.proofs.lemmas.Bool.{le-ltb, eqb-true, ne_eqb, eq-eqb, cond-true, cond-false, cases_Bool, cases_eq, or_parts, or_from, or_right}
 use Rattle.std.proofs.lemmas.Bool.Decides.{nat_tests}
@@ -11,12 +11,13 @@ use Rattle.usb_set.specs.declared.tree.Extra.TheVariants as extras
 use Rattle.usb_set.specs.declared.tree.Endpoint.{Endpoint}
 use Rattle.usb_set.specs.declared.tree.Setting.{Setting}
 use Rattle.usb_set.specs.declared.tree.Configuration.{Configuration}
-use Rattle.usb_set.specs.Bytes.{AreBytes}
+use Rattle.usb_base.specs.Bytes.{AreBytes}
 use Rattle.usb_set.specs.Descriptors.{Descriptor, descriptor_bytes, extra_descriptor, endpoint_descriptor, interface_descriptor, configuration_descriptor}
 use Rattle.usb_set.specs.Parts.{setting_extras, extras_of}
-use Rattle.usb_set.specs.Layout.{endpoint_descriptors, setting_descriptors, later_descriptors, is_long, has_long_descriptor, is_typed, is_typed_raw, has_typed_raw}
+use Rattle.usb_set.specs.Layout.{endpoint_descriptors, setting_descriptors, later_descriptors, is_long, has_long_descriptor, is_typed_raw, has_typed_raw}
+use Rattle.usb_set.specs.WithoutAssociations.{association_of}
 use Rattle.usb_set.specs.Faults.{item_fault, is_interface}
-use Rattle.usb_set.specs.inside.Reading.{with_last, association_of, extra_of, setting_of, endpoint_of, endpoint_with_extra, setting_with_extra, setting_with_endpoint, set_with_extra, attach, has_setting}
+use Rattle.usb_set.specs.inside.Reading.{with_last, extra_of, setting_of, endpoint_of, endpoint_with_extra, setting_with_extra, setting_with_endpoint, set_with_extra, attach, has_setting}
 
 -- ---- lists
 

@@ -3,7 +3,6 @@ use Rattle.std.proofs.Common.{◌≡◌, ℕ, ◌+◌, ◌*◌, ◌/◌, ◌%◌
 use Rattle.std.specs.List.{flat_map, list_any}
 use Rattle.std.proofs.lemmas.Bool.{eqb-false, ne_eqb, eq-eqb, cond-true, cond-false, or_parts}
 use Rattle.std.proofs.lemmas.List.{append-nil}
-use Rattle.usb_set.specs.declared.tree.Raw.{Raw}
 use Rattle.usb_set.specs.declared.tree.Extra.{Extra}
 use Rattle.usb_set.specs.declared.tree.Extra.TheVariants as extras
 use Rattle.usb_set.specs.declared.tree.Endpoint.{Endpoint}
@@ -11,7 +10,7 @@ use Rattle.usb_set.specs.declared.tree.Setting.{Setting}
 use Rattle.usb_set.specs.declared.tree.Configuration.{Configuration}
 use Rattle.usb_set.specs.Descriptors.{Descriptor, raw_descriptor, association_descriptor, extra_descriptor, endpoint_descriptor, interface_descriptor}
 use Rattle.usb_set.specs.Layout.{endpoint_descriptors, setting_descriptors, later_descriptors, is_typed, is_typed_raw, has_typed_raw}
-use Rattle.usb_set.specs.inside.Reading.{with_last, extra_of, endpoint_of, endpoint_with_extra, setting_with_extra, setting_with_endpoint, set_with_extra, attach}
+use Rattle.usb_set.specs.inside.Reading.{with_last, endpoint_of, endpoint_with_extra, setting_with_extra, setting_with_endpoint, set_with_extra, attach}
 use Rattle.usb_set.specs.inside.Trees.{is_endpoint_typed, is_setting_typed}
 use Rattle.usb_set.proofs.Growth.{attach-interface, attach-endpoint, attach-extra}
 use Rattle.usb_set.proofs.Trees.{typed_parts, setting_typed_parts}

@@ -10,7 +10,7 @@ use Rattle.usb_set.specs.declared.tree.Endpoint.{Endpoint}
 use Rattle.usb_set.specs.declared.tree.Setting.{Setting}
 use Rattle.usb_set.specs.declared.tree.Configuration.{Configuration}
 use Rattle.usb_set.specs.declared.fault.SetWhy.{SetWhy}
-use Rattle.usb_set.specs.Descriptors.{Descriptor, descriptor_bytes, raw_descriptor, extra_descriptor, endpoint_descriptor, interface_descriptor, configuration_descriptor, type_number}
+use Rattle.usb_set.specs.Descriptors.{Descriptor, descriptor_bytes, extra_descriptor, endpoint_descriptor, interface_descriptor, configuration_descriptor, type_number}
 use Rattle.usb_set.specs.Layout.{endpoint_descriptors, setting_descriptors, later_descriptors, is_typed_raw, has_typed_raw}
 use Rattle.usb_set.specs.inside.Trees.{is_endpoint_typed, is_setting_typed}
 use Rattle.usb_set.specs.Faults.{is_set_type, least_length, item_fault, total_of, is_interface, joined, IsHeader, AreItems, Begins}

@@ -1,4 +1,3 @@
-pub mod Bytes
 pub mod Tests
 pub mod Last
 pub mod ByteByByte
@@ -13,3 +12,4 @@ pub mod Exact
 pub mod Feeds
 pub mod Sets
 pub mod ReadBack
+pub mod Lifting

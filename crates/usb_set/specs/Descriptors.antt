@@ -1,7 +1,7 @@
 -- The descriptors of a configuration set, one by one (USB 2.0, 9.5 and 9.6.3 to 9.6.6, and its ECN on
 -- interface associations, 9.X.Y).
-use Rattle.std.specs.Prelude.{ℕ, ◌+◌, List, [], ◌∷◌, ◌++◌, length}
-use Rattle.usb_set.specs.Bytes.{little_endian}
+use Rattle.std.specs.Prelude.{ℕ, ◌+◌, List, ◌∷◌, ◌++◌, length}
+use Rattle.usb_base.specs.Bytes.{little_endian}
 use Rattle.usb_set.specs.declared.tree.SetKind.{SetKind}
 use Rattle.usb_set.specs.declared.tree.SetKind.TheVariants as kinds
 use Rattle.usb_set.specs.declared.tree.Raw.{Raw}

@@ -1,10 +1,9 @@
 -- The bytes of a configuration set (USB 2.0, 9.4.3 and 9.5).
 use Rattle.std.specs.Prelude.{◌≡◌, ℕ, ◌≤◌, List, ◌∷◌, ◌++◌, length, map, Bool, false, nat_lt, ◌==◌, ◌||◌}
 use Rattle.std.specs.List.{flat_map, list_any}
-use Rattle.usb_set.specs.Bytes.{AreBytes}
+use Rattle.usb_base.specs.Bytes.{AreBytes}
 use Rattle.usb_set.specs.Descriptors.{Descriptor, descriptor_bytes, extra_descriptor, endpoint_descriptor, interface_descriptor, configuration_descriptor}
 use Rattle.usb_set.specs.Parts.{extras_of}
-use Rattle.usb_set.specs.declared.tree.Raw.{Raw}
 use Rattle.usb_set.specs.declared.tree.Extra.{Extra}
 use Rattle.usb_set.specs.declared.tree.Extra.TheVariants as extras
 use Rattle.usb_set.specs.declared.tree.Endpoint.{Endpoint}

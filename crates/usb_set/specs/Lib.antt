@@ -1,8 +1,8 @@
-pub mod Lending
-pub mod Bytes
 pub mod Descriptors
 pub mod Parts
 pub mod Layout
+pub mod WithoutAssociations
+pub mod Endpoints
 pub mod Encoding
 pub mod Faults
 pub mod Decoding

@@ -1,10 +1,11 @@
 //! The tree with one more descriptor.
 ghost use Rattle.std.specs.Prelude.{◌≡◌, ◌≤◌, ◌<◌, length, OnOk, IfOk};
-ghost use Rattle.usb_set.specs.inside.Reading.{association_of, attach, configuration_of, endpoint_of, endpoint_with_extra, extra_of, set_with_extra, setting_of, setting_with_endpoint, setting_with_extra, with_last};
+ghost use Rattle.usb_set.specs.WithoutAssociations.{association_of};
+ghost use Rattle.usb_set.specs.inside.Reading.{attach, configuration_of, endpoint_of, endpoint_with_extra, extra_of, set_with_extra, setting_of, setting_with_endpoint, setting_with_extra, with_last};
 
-use crate::sequence::Sequence;
 use crate::tree::{Association, Configuration, Endpoint, Extra, Raw, SetKind, Setting};
 use std::alloc::{AllocError, Global};
+use usb_base::Sequence;
 
 /// The set that a first descriptor begins.
 pub(crate) fn read_configuration(alloc: Global, bytes: &[u8]) -> Result<Configuration, AllocError>

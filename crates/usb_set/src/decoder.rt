@@ -2,11 +2,11 @@
 ghost use Rattle.std.specs.Prelude.{◌≡◌, []};
 
 use crate::fault::{SetFault, SetWhy};
-use crate::known::known_bytes;
 use crate::scan::{Outcome, judge};
 use crate::tree::Configuration;
 use std::alloc::Global;
 use std::marker::Model;
+use usb_base::known_bytes;
 
 /// How far a set was read.
 #[derive(Clone, Copy, Debug, PartialEq, Eq)]

@@ -5,12 +5,12 @@ ghost use Rattle.usb_set.specs.Layout.{Layout};
 ghost use Rattle.usb_set.specs.inside.Lengths.{HasLength};
 
 use crate::fault::EncodeFault;
-use crate::known::known_bytes;
 use crate::lengths::{TOO_LONG, set_len};
 use crate::limits::{has_long_descriptor, has_typed_raw};
 use crate::tree::Configuration;
 use crate::writing::put_set;
 use std::alloc::Global;
+use usb_base::known_bytes;
 
 /// The bytes of a set, with their count as wTotalLength (USB 2.0, 9.6.3). Its count of interfaces
 /// and those of endpoints are written as declared.

@@ -13,18 +13,18 @@
 mod attaching;
 mod decoder;
 mod encoding;
+mod endpoint;
 mod fault;
-mod known;
 pub mod laws;
 mod lengths;
 mod limits;
 mod scan;
-mod sequence;
 mod tree;
 mod writing;
 
 pub use decoder::{Decoder, Progress};
 pub use encoding::{encode, refusal};
+pub use endpoint::{EndpointDirection, TransferType};
 pub use fault::{EncodeFault, SetFault, SetWhy};
-pub use sequence::Sequence;
 pub use tree::{Association, Configuration, Endpoint, Extra, Raw, SetKind, Setting};
+pub use usb_base::Sequence;

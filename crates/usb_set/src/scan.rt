@@ -6,9 +6,9 @@ ghost use Rattle.usb_set.specs.inside.Scanning.{Says, Shows, SplitsDescriptor, f
 
 use crate::attaching::{attach, read_configuration};
 use crate::fault::SetWhy;
-use crate::known::known_bytes;
 use crate::tree::Configuration;
 use std::alloc::{AllocError, Global};
+use usb_base::known_bytes;
 
 /// What bytes say of a set.
 #[derive(Debug, Drop)]

@@ -1,8 +1,8 @@
 //! What a configuration set says, as a tree of plain data.
-use crate::sequence::Sequence;
+use usb_base::Sequence;
 
 /// Which descriptor a set begins with.
-#[derive(Clone, Copy, Debug, PartialEq, Eq)]
+#[derive(Clone, Copy, Debug, PartialEq, Eq, Hash)]
 pub enum SetKind {
     /// A configuration descriptor, type 2 (USB 2.0, 9.6.3).
     Configuration,
@@ -12,7 +12,7 @@ pub enum SetKind {
 
 /// A descriptor that is kept as it stands: a class or vendor descriptor, or one of a type that this
 /// crate gives no meaning. In a set its type is none of 2, 4, 5, 7 and 11.
-#[derive(Clone, Debug, Drop, PartialEq, Eq)]
+#[derive(Clone, Debug, Drop, PartialEq, Eq, Hash)]
 pub struct Raw {
     /// bDescriptorType.
     pub kind: u8,
@@ -22,7 +22,7 @@ pub struct Raw {
 
 /// An interface association descriptor: interfaces with consecutive numbers that make one function
 /// (Interface Association Descriptor ECN to USB 2.0, 9.X.Y).
-#[derive(Clone, Debug, Drop, PartialEq, Eq)]
+#[derive(Clone, Debug, Drop, PartialEq, Eq, Hash)]
 pub struct Association {
     /// bFirstInterface, the number of the function's first interface.
     pub first: u8,
@@ -41,7 +41,7 @@ pub struct Association {
 }
 
 /// A descriptor that belongs to the configuration, the setting or the endpoint before it.
-#[derive(Clone, Debug, Drop, PartialEq, Eq)]
+#[derive(Clone, Debug, Drop, PartialEq, Eq, Hash)]
 pub enum Extra {
     /// One that is kept as it stands.
     Raw(Raw),
@@ -50,7 +50,7 @@ pub enum Extra {
 }
 
 /// An endpoint descriptor, and the extras that follow it (USB 2.0, 9.6.6).
-#[derive(Clone, Debug, Drop, PartialEq, Eq)]
+#[derive(Clone, Debug, Drop, PartialEq, Eq, Hash)]
 pub struct Endpoint {
     /// bEndpointAddress: bits 3..0 the number, bit 7 one for IN.
     pub address: u8,
@@ -68,7 +68,7 @@ pub struct Endpoint {
 
 /// An interface at one of its alternate settings: its descriptor, the extras that follow it, and its
 /// endpoints (USB 2.0, 9.6.5).
-#[derive(Clone, Debug, Drop, PartialEq, Eq)]
+#[derive(Clone, Debug, Drop, PartialEq, Eq, Hash)]
 pub struct Setting {
     /// bInterfaceNumber.
     pub number: u8,
@@ -94,7 +94,7 @@ pub struct Setting {
 
 /// A whole set: its first descriptor, the extras that follow it, and its settings (USB 2.0, 9.6.3 and
 /// 9.6.4). wTotalLength is not kept, since it is the count of the set's bytes.
-#[derive(Clone, Debug, Drop, PartialEq, Eq)]
+#[derive(Clone, Debug, Drop, PartialEq, Eq, Hash)]
 pub struct Configuration {
     /// Which descriptor the set begins with.
     pub kind: SetKind,
