@@ -4,6 +4,7 @@ pub mod ByteByByte
 pub mod Stands
 pub mod Growth
 pub mod Trees
+pub mod Measures
 pub mod Sound
 pub mod Complete
 pub mod Items

@@ -3,3 +3,5 @@ pub mod Reading
 pub mod Scanning
 pub mod Lengths
 pub mod Trees
+pub mod Measuring
+pub mod Writing

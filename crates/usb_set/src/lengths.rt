@@ -1,30 +1,50 @@
-//! How many bytes a set takes, counted up to one past what wTotalLength can say.
-ghost use Rattle.std.specs.Prelude.{◌≡◌, ◌+◌, ◌≤◌, length, min, false};
+//! One pass over a set, which judges its descriptors and counts their bytes.
+ghost use Rattle.std.specs.Prelude.{◌≡◌, ◌+◌, ◌≤◌, length, false, nat_lt};
 ghost use Rattle.std.specs.List.{flat_map, list_any};
-ghost use Rattle.usb_set.specs.Layout.{has_long_descriptor, set_bytes};
-ghost use Rattle.usb_set.specs.inside.Trees.{endpoint_bytes, extra_bytes, is_endpoint_long, is_extra_long, is_setting_long, is_tree_long, setting_bytes, tree_bytes};
+ghost use Rattle.usb_set.specs.Layout.{has_long_descriptor, has_typed_raw, is_typed_raw, set_bytes};
+ghost use Rattle.usb_set.specs.inside.Measuring.{measured};
+ghost use Rattle.usb_set.specs.inside.Trees.{endpoint_bytes, extra_bytes, is_endpoint_long, is_endpoint_typed, is_extra_long, is_setting_long, is_setting_typed, is_tree_long, is_tree_typed, setting_bytes, tree_bytes};
 
+use crate::limits::is_typed;
 use crate::tree::{Configuration, Endpoint, Extra, Setting};
 
-/// One more than wTotalLength can say. Sums stop there, so that none overflows.
+/// One more than wTotalLength can say: what a set comes to that has no bytes.
 pub(crate) const TOO_LONG: usize = 65536;
 
-fn extra_len(start: usize, extra: &Extra) -> usize
+/// The count after a descriptor of `fixed` bytes and a tail, which may have `limit` bytes.
+fn descriptor_len(start: usize, fixed: usize, tail: usize, limit: usize) -> usize
     requires start { start ≤ 65536 }
-    requires short { is_extra_long extra.now ≡ false }
-    ensures { result ≡ min (start + length (extra_bytes extra.now)) 65536 }
+    requires fixed { fixed ≤ 9 }
+    requires limit { limit ≤ 253 }
+    ensures { result ≡ measured start (nat_lt limit tail) false (fixed + tail) }
 {
-    match extra {
-        Extra::Raw(raw) => (start + 2 + raw.body.len()).min(TOO_LONG),
-        Extra::Association(association) => (start + 8 + association.tail.len()).min(TOO_LONG),
+    if tail > limit {
+        TOO_LONG
+    } else {
+        (start + fixed + tail).min(TOO_LONG)
     }
 }
 
-#[tactic(auto, using(crate::proofs::Tests::none_at))]
+fn extra_len(start: usize, extra: &Extra) -> usize
+    requires { start ≤ 65536 }
+    ensures { result ≡ measured start (is_extra_long extra.now) (is_typed_raw extra.now) (length (extra_bytes extra.now)) }
+{
+    match extra {
+        Extra::Raw(raw) => {
+            if is_typed(raw.kind) {
+                TOO_LONG
+            } else {
+                descriptor_len(start, 2, raw.body.len(), 253)
+            }
+        }
+        Extra::Association(association) => descriptor_len(start, 8, association.tail.len(), 247),
+    }
+}
+
+#[tactic(auto, using(crate::proofs::Measures::measured_then))]
 fn extras_len(start: usize, extras: &[Extra]) -> usize
-    requires start { start ≤ 65536 }
-    requires short { list_any is_extra_long extras.now ≡ false }
-    ensures { result ≡ min (start + length (flat_map extra_bytes extras.now)) 65536 }
+    requires { start ≤ 65536 }
+    ensures { result ≡ measured start (list_any is_extra_long extras.now) (list_any is_typed_raw extras.now) (length (flat_map extra_bytes extras.now)) }
 {
     let mut total = start;
     for extra in extras {
@@ -33,22 +53,18 @@ fn extras_len(start: usize, extras: &[Extra]) -> usize
     total
 }
 
+#[tactic(auto, using(crate::proofs::Measures::measured_then))]
 fn endpoint_len(start: usize, e: &Endpoint) -> usize
-    requires start { start ≤ 65536 }
-    requires short { is_endpoint_long e.now ≡ false }
-    ensures { result ≡ min (start + length (endpoint_bytes e.now)) 65536 }
+    requires { start ≤ 65536 }
+    ensures { result ≡ measured start (is_endpoint_long e.now) (is_endpoint_typed e.now) (length (endpoint_bytes e.now)) }
 {
-    extras_len(
-        (start + 7 + e.tail.len()).min(TOO_LONG),
-        e.extras.as_slice(),
-    )
+    extras_len(descriptor_len(start, 7, e.tail.len(), 248), &e.extras)
 }
 
-#[tactic(auto, using(crate::proofs::Tests::none_at))]
+#[tactic(auto, using(crate::proofs::Measures::measured_then))]
 fn endpoints_len(start: usize, endpoints: &[Endpoint]) -> usize
-    requires start { start ≤ 65536 }
-    requires short { list_any is_endpoint_long endpoints.now ≡ false }
-    ensures { result ≡ min (start + length (flat_map endpoint_bytes endpoints.now)) 65536 }
+    requires { start ≤ 65536 }
+    ensures { result ≡ measured start (list_any is_endpoint_long endpoints.now) (list_any is_endpoint_typed endpoints.now) (length (flat_map endpoint_bytes endpoints.now)) }
 {
     let mut total = start;
     for endpoint in endpoints {
@@ -57,23 +73,19 @@ fn endpoints_len(start: usize, endpoints: &[Endpoint]) -> usize
     total
 }
 
+#[tactic(auto, using(crate::proofs::Measures::measured_then))]
 fn setting_len(start: usize, s: &Setting) -> usize
-    requires start { start ≤ 65536 }
-    requires short { is_setting_long s.now ≡ false }
-    ensures { result ≡ min (start + length (setting_bytes s.now)) 65536 }
+    requires { start ≤ 65536 }
+    ensures { result ≡ measured start (is_setting_long s.now) (is_setting_typed s.now) (length (setting_bytes s.now)) }
 {
-    let head = (start + 9 + s.tail.len()).min(TOO_LONG);
-    endpoints_len(
-        extras_len(head, s.extras.as_slice()),
-        s.endpoints.as_slice(),
-    )
+    let head = descriptor_len(start, 9, s.tail.len(), 246);
+    endpoints_len(extras_len(head, &s.extras), &s.endpoints)
 }
 
-#[tactic(auto, using(crate::proofs::Tests::none_at))]
+#[tactic(auto, using(crate::proofs::Measures::measured_then))]
 fn settings_len(start: usize, settings: &[Setting]) -> usize
-    requires start { start ≤ 65536 }
-    requires short { list_any is_setting_long settings.now ≡ false }
-    ensures { result ≡ min (start + length (flat_map setting_bytes settings.now)) 65536 }
+    requires { start ≤ 65536 }
+    ensures { result ≡ measured start (list_any is_setting_long settings.now) (list_any is_setting_typed settings.now) (length (flat_map setting_bytes settings.now)) }
 {
     let mut total = start;
     for setting in settings {
@@ -82,19 +94,17 @@ fn settings_len(start: usize, settings: &[Setting]) -> usize
     total
 }
 
+#[tactic(auto, using(crate::proofs::Measures::measured_then))]
 fn tree_len(c: &Configuration) -> usize
-    requires { is_tree_long c.now ≡ false }
-    ensures { result ≡ min (length (tree_bytes c.now 0)) 65536 }
+    ensures { result ≡ measured 0 (is_tree_long c.now) (is_tree_typed c.now) (length (tree_bytes c.now 0)) }
 {
-    let head = 9 + c.tail.len();
-    settings_len(extras_len(head, c.extras.as_slice()), c.settings.as_slice())
+    let head = descriptor_len(0, 9, c.tail.len(), 246);
+    settings_len(extras_len(head, &c.extras), &c.settings)
 }
 
-/// How many bytes the set has, or [`TOO_LONG`] if that is more.
-#[tactic(auto, using(crate::proofs::Trees::has_long_is, crate::proofs::Trees::set_bytes_is))]
+/// How many bytes the set has, or [`TOO_LONG`] where something stands against it.
 pub(crate) fn set_len(c: &Configuration) -> usize
-    requires { has_long_descriptor c.now ≡ false }
-    ensures { result ≡ min (length (set_bytes c.now 0)) 65536 }
+    ensures { result ≡ measured 0 (has_long_descriptor c.now) (has_typed_raw c.now) (length (set_bytes c.now 0)) }
 {
     tree_len(c)
 }

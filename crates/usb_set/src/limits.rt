@@ -24,7 +24,7 @@ fn any_extra_long(extras: &[Extra]) -> bool
 fn is_endpoint_long(endpoint: &Endpoint) -> bool
     ensures { result ≡ is_endpoint_long endpoint.now }
 {
-    endpoint.tail.len() > 248 || any_extra_long(endpoint.extras.as_slice())
+    endpoint.tail.len() > 248 || any_extra_long(&endpoint.extras)
 }
 
 fn any_endpoint_long(endpoints: &[Endpoint]) -> bool
@@ -37,8 +37,8 @@ fn is_setting_long(setting: &Setting) -> bool
     ensures { result ≡ is_setting_long setting.now }
 {
     setting.tail.len() > 246
-        || any_extra_long(setting.extras.as_slice())
-        || any_endpoint_long(setting.endpoints.as_slice())
+        || any_extra_long(&setting.extras)
+        || any_endpoint_long(&setting.endpoints)
 }
 
 fn any_setting_long(settings: &[Setting]) -> bool
@@ -51,16 +51,21 @@ fn any_setting_long(settings: &[Setting]) -> bool
 pub(crate) fn has_long_descriptor(c: &Configuration) -> bool
     ensures { result ≡ has_long_descriptor c.now }
 {
-    c.tail.len() > 246
-        || any_extra_long(c.extras.as_slice())
-        || any_setting_long(c.settings.as_slice())
+    c.tail.len() > 246 || any_extra_long(&c.extras) || any_setting_long(&c.settings)
+}
+
+/// Whether a set gives the type a meaning.
+pub(crate) fn is_typed(kind: u8) -> bool
+    ensures { result ≡ is_typed kind }
+{
+    matches!(kind, 2 | 4 | 5 | 7 | 11)
 }
 
 fn is_typed_raw(extra: &Extra) -> bool
     ensures { result ≡ is_typed_raw extra.now }
 {
     match extra {
-        Extra::Raw(raw) => matches!(raw.kind, 2 | 4 | 5 | 7 | 11),
+        Extra::Raw(raw) => is_typed(raw.kind),
         Extra::Association(_) => false,
     }
 }
@@ -76,13 +81,13 @@ fn any_endpoint_typed(endpoints: &[Endpoint]) -> bool
 {
     endpoints
         .iter()
-        .any(|endpoint| any_typed_raw(endpoint.extras.as_slice()))
+        .any(|endpoint| any_typed_raw(&endpoint.extras))
 }
 
 fn is_setting_typed(setting: &Setting) -> bool
     ensures { result ≡ is_setting_typed setting.now }
 {
-    any_typed_raw(setting.extras.as_slice()) || any_endpoint_typed(setting.endpoints.as_slice())
+    any_typed_raw(&setting.extras) || any_endpoint_typed(&setting.endpoints)
 }
 
 fn any_setting_typed(settings: &[Setting]) -> bool
@@ -95,5 +100,5 @@ fn any_setting_typed(settings: &[Setting]) -> bool
 pub(crate) fn has_typed_raw(c: &Configuration) -> bool
     ensures { result ≡ has_typed_raw c.now }
 {
-    any_typed_raw(c.extras.as_slice()) || any_setting_typed(c.settings.as_slice())
+    any_typed_raw(&c.extras) || any_setting_typed(&c.settings)
 }

@@ -1,27 +1,39 @@
-//! Each part of a set, added to the end of its bytes.
-ghost use Rattle.std.specs.Prelude.{◌≡◌, ◌≤◌, ◌++◌, OnOk, false, length};
+//! Each part of a set, written into a buffer that has room for it.
+ghost use Rattle.std.specs.Prelude.{◌≡◌, ◌≤◌, length, false};
 ghost use Rattle.std.specs.List.{flat_map, list_any};
-ghost use Rattle.usb_set.specs.Descriptors.{association_descriptor, descriptor_bytes, raw_descriptor, type_number};
+ghost use Rattle.usb_set.specs.Descriptors.{association_descriptor, configuration_descriptor, descriptor_bytes, endpoint_descriptor, interface_descriptor, raw_descriptor, type_number};
 ghost use Rattle.usb_set.specs.Layout.{has_long_descriptor, set_bytes};
 ghost use Rattle.usb_set.specs.inside.Trees.{endpoint_bytes, extra_bytes, is_endpoint_long, is_extra_long, is_setting_long, is_tree_long, setting_bytes, tree_bytes};
+ghost use Rattle.usb_set.specs.inside.Writing.{HasRoom, Puts};
 
 use crate::tree::{Association, Configuration, Endpoint, Extra, Raw, SetKind, Setting};
-use std::alloc::AllocError;
 
-fn put_raw(out: &mut Vec<u8>, raw: &Raw) -> Result<(), AllocError>
-    requires { length raw.now.body ≤ 253 }
-    ensures { OnOk result (out.new.items ≡ out.old.items ++ descriptor_bytes (raw_descriptor raw.now)) }
+/// Writes the bytes at this place. Each function here answers where what it wrote ends.
+fn put_bytes(out: &mut [u8], at: usize, bytes: &[u8]) -> usize
+    requires { HasRoom out.old at bytes.now }
+    ensures { Puts out.old at bytes.now out.new result }
 {
-    out.extend_from_slice(&[raw.body.len() as u8 + 2, raw.kind])?;
-    out.extend_from_slice(raw.body.as_slice())?;
-    Ok(())
+    let end = at + bytes.len();
+    out[at..end].copy_from_slice(bytes);
+    end
 }
 
-fn put_association(out: &mut Vec<u8>, a: &Association) -> Result<(), AllocError>
-    requires { length a.now.tail ≤ 247 }
-    ensures { OnOk result (out.new.items ≡ out.old.items ++ descriptor_bytes (association_descriptor a.now)) }
+fn put_raw(out: &mut [u8], at: usize, raw: &Raw) -> usize
+    requires short { length raw.now.body ≤ 253 }
+    requires room { HasRoom out.old at (descriptor_bytes (raw_descriptor raw.now)) }
+    ensures { Puts out.old at (descriptor_bytes (raw_descriptor raw.now)) out.new result }
 {
-    out.extend_from_slice(&[
+    let head = [raw.body.len() as u8 + 2, raw.kind];
+    let tail_at = put_bytes(out, at, &head);
+    put_bytes(out, tail_at, &raw.body)
+}
+
+fn put_association(out: &mut [u8], at: usize, a: &Association) -> usize
+    requires short { length a.now.tail ≤ 247 }
+    requires room { HasRoom out.old at (descriptor_bytes (association_descriptor a.now)) }
+    ensures { Puts out.old at (descriptor_bytes (association_descriptor a.now)) out.new result }
+{
+    let head = [
         a.tail.len() as u8 + 8,
         11,
         a.first,
@@ -30,38 +42,42 @@ fn put_association(out: &mut Vec<u8>, a: &Association) -> Result<(), AllocError>
         a.subclass,
         a.protocol,
         a.text,
-    ])?;
-    out.extend_from_slice(a.tail.as_slice())?;
-    Ok(())
+    ];
+    let tail_at = put_bytes(out, at, &head);
+    put_bytes(out, tail_at, &a.tail)
 }
 
-fn put_extra(out: &mut Vec<u8>, extra: &Extra) -> Result<(), AllocError>
-    requires { is_extra_long extra.now ≡ false }
-    ensures { OnOk result (out.new.items ≡ out.old.items ++ extra_bytes extra.now) }
+fn put_extra(out: &mut [u8], at: usize, extra: &Extra) -> usize
+    requires short { is_extra_long extra.now ≡ false }
+    requires room { HasRoom out.old at (extra_bytes extra.now) }
+    ensures { Puts out.old at (extra_bytes extra.now) out.new result }
 {
     match extra {
-        Extra::Raw(raw) => put_raw(out, raw),
-        Extra::Association(association) => put_association(out, association),
+        Extra::Raw(raw) => put_raw(out, at, raw),
+        Extra::Association(association) => put_association(out, at, association),
     }
 }
 
 #[tactic(auto, using(crate::proofs::Tests::none_at))]
-fn put_extras(out: &mut Vec<u8>, extras: &[Extra]) -> Result<(), AllocError>
-    requires { list_any is_extra_long extras.now ≡ false }
-    ensures { OnOk result (out.new.items ≡ out.old.items ++ flat_map extra_bytes extras.now) }
+fn put_extras(out: &mut [u8], at: usize, extras: &[Extra]) -> usize
+    requires short { list_any is_extra_long extras.now ≡ false }
+    requires room { HasRoom out.old at (flat_map extra_bytes extras.now) }
+    ensures { Puts out.old at (flat_map extra_bytes extras.now) out.new result }
 {
+    let mut end = at;
     for extra in extras {
-        put_extra(out, extra)?;
+        end = put_extra(out, end, extra);
     }
-    Ok(())
+    end
 }
 
-fn put_endpoint(out: &mut Vec<u8>, e: &Endpoint) -> Result<(), AllocError>
-    requires { is_endpoint_long e.now ≡ false }
-    ensures { OnOk result (out.new.items ≡ out.old.items ++ endpoint_bytes e.now) }
+fn put_endpoint_descriptor(out: &mut [u8], at: usize, e: &Endpoint) -> usize
+    requires short { length e.now.tail ≤ 248 }
+    requires room { HasRoom out.old at (descriptor_bytes (endpoint_descriptor e.now)) }
+    ensures { Puts out.old at (descriptor_bytes (endpoint_descriptor e.now)) out.new result }
 {
     let [low, high] = e.max_packet.to_le_bytes();
-    out.extend_from_slice(&[
+    let head = [
         e.tail.len() as u8 + 7,
         5,
         e.address,
@@ -69,25 +85,37 @@ fn put_endpoint(out: &mut Vec<u8>, e: &Endpoint) -> Result<(), AllocError>
         low,
         high,
         e.interval,
-    ])?;
-    out.extend_from_slice(e.tail.as_slice())?;
-    put_extras(out, e.extras.as_slice())
+    ];
+    let tail_at = put_bytes(out, at, &head);
+    put_bytes(out, tail_at, &e.tail)
+}
+
+fn put_endpoint(out: &mut [u8], at: usize, e: &Endpoint) -> usize
+    requires short { is_endpoint_long e.now ≡ false }
+    requires room { HasRoom out.old at (endpoint_bytes e.now) }
+    ensures { Puts out.old at (endpoint_bytes e.now) out.new result }
+{
+    let extras_at = put_endpoint_descriptor(out, at, e);
+    put_extras(out, extras_at, &e.extras)
 }
 
 #[tactic(auto, using(crate::proofs::Tests::none_at))]
-fn put_endpoints(out: &mut Vec<u8>, endpoints: &[Endpoint]) -> Result<(), AllocError>
-    requires { list_any is_endpoint_long endpoints.now ≡ false }
-    ensures { OnOk result (out.new.items ≡ out.old.items ++ flat_map endpoint_bytes endpoints.now) }
+fn put_endpoints(out: &mut [u8], at: usize, endpoints: &[Endpoint]) -> usize
+    requires short { list_any is_endpoint_long endpoints.now ≡ false }
+    requires room { HasRoom out.old at (flat_map endpoint_bytes endpoints.now) }
+    ensures { Puts out.old at (flat_map endpoint_bytes endpoints.now) out.new result }
 {
+    let mut end = at;
     for endpoint in endpoints {
-        put_endpoint(out, endpoint)?;
+        end = put_endpoint(out, end, endpoint);
     }
-    Ok(())
+    end
 }
 
-fn put_setting(out: &mut Vec<u8>, s: &Setting) -> Result<(), AllocError>
-    requires { is_setting_long s.now ≡ false }
-    ensures { OnOk result (out.new.items ≡ out.old.items ++ setting_bytes s.now) }
+fn put_interface_descriptor(out: &mut [u8], at: usize, s: &Setting) -> usize
+    requires short { length s.now.tail ≤ 246 }
+    requires room { HasRoom out.old at (descriptor_bytes (interface_descriptor s.now)) }
+    ensures { Puts out.old at (descriptor_bytes (interface_descriptor s.now)) out.new result }
 {
     let head = [
         s.tail.len() as u8 + 9,
@@ -100,21 +128,31 @@ fn put_setting(out: &mut Vec<u8>, s: &Setting) -> Result<(), AllocError>
         s.protocol,
         s.text,
     ];
-    out.extend_from_slice(&head)?;
-    out.extend_from_slice(s.tail.as_slice())?;
-    put_extras(out, s.extras.as_slice())?;
-    put_endpoints(out, s.endpoints.as_slice())
+    let tail_at = put_bytes(out, at, &head);
+    put_bytes(out, tail_at, &s.tail)
+}
+
+fn put_setting(out: &mut [u8], at: usize, s: &Setting) -> usize
+    requires short { is_setting_long s.now ≡ false }
+    requires room { HasRoom out.old at (setting_bytes s.now) }
+    ensures { Puts out.old at (setting_bytes s.now) out.new result }
+{
+    let extras_at = put_interface_descriptor(out, at, s);
+    let endpoints_at = put_extras(out, extras_at, &s.extras);
+    put_endpoints(out, endpoints_at, &s.endpoints)
 }
 
 #[tactic(auto, using(crate::proofs::Tests::none_at))]
-fn put_settings(out: &mut Vec<u8>, settings: &[Setting]) -> Result<(), AllocError>
-    requires { list_any is_setting_long settings.now ≡ false }
-    ensures { OnOk result (out.new.items ≡ out.old.items ++ flat_map setting_bytes settings.now) }
+fn put_settings(out: &mut [u8], at: usize, settings: &[Setting]) -> usize
+    requires short { list_any is_setting_long settings.now ≡ false }
+    requires room { HasRoom out.old at (flat_map setting_bytes settings.now) }
+    ensures { Puts out.old at (flat_map setting_bytes settings.now) out.new result }
 {
+    let mut end = at;
     for setting in settings {
-        put_setting(out, setting)?;
+        end = put_setting(out, end, setting);
     }
-    Ok(())
+    end
 }
 
 fn type_byte(kind: SetKind) -> u8
@@ -126,9 +164,10 @@ fn type_byte(kind: SetKind) -> u8
     }
 }
 
-fn put_tree(out: &mut Vec<u8>, c: &Configuration, total: u16) -> Result<(), AllocError>
-    requires { is_tree_long c.now ≡ false }
-    ensures { OnOk result (out.new.items ≡ out.old.items ++ tree_bytes c.now total) }
+fn put_configuration_descriptor(out: &mut [u8], at: usize, c: &Configuration, total: u16) -> usize
+    requires short { length c.now.tail ≤ 246 }
+    requires room { HasRoom out.old at (descriptor_bytes (configuration_descriptor c.now total)) }
+    ensures { Puts out.old at (descriptor_bytes (configuration_descriptor c.now total)) out.new result }
 {
     let [low, high] = total.to_le_bytes();
     let head = [
@@ -142,17 +181,25 @@ fn put_tree(out: &mut Vec<u8>, c: &Configuration, total: u16) -> Result<(), Allo
         c.attributes,
         c.power,
     ];
-    out.extend_from_slice(&head)?;
-    out.extend_from_slice(c.tail.as_slice())?;
-    put_extras(out, c.extras.as_slice())?;
-    put_settings(out, c.settings.as_slice())
+    let tail_at = put_bytes(out, at, &head);
+    put_bytes(out, tail_at, &c.tail)
 }
 
-/// The bytes of the whole set, with this number as wTotalLength.
-#[tactic(auto, using(crate::proofs::Trees::has_long_is, crate::proofs::Trees::set_bytes_is))]
-pub(crate) fn put_set(out: &mut Vec<u8>, c: &Configuration, total: u16) -> Result<(), AllocError>
-    requires { has_long_descriptor c.now ≡ false }
-    ensures { OnOk result (out.new.items ≡ out.old.items ++ set_bytes c.now total) }
+fn put_tree(out: &mut [u8], at: usize, c: &Configuration, total: u16) -> usize
+    requires short { is_tree_long c.now ≡ false }
+    requires room { HasRoom out.old at (tree_bytes c.now total) }
+    ensures { Puts out.old at (tree_bytes c.now total) out.new result }
 {
-    put_tree(out, c, total)
+    let extras_at = put_configuration_descriptor(out, at, c, total);
+    let settings_at = put_extras(out, extras_at, &c.extras);
+    put_settings(out, settings_at, &c.settings)
+}
+
+/// Fills the buffer with the bytes of the whole set, with this number as wTotalLength.
+pub(crate) fn put_set(out: &mut [u8], c: &Configuration, total: u16)
+    requires short { has_long_descriptor c.now ≡ false }
+    requires room { length out.old ≡ length (set_bytes c.now total) }
+    ensures { out.new ≡ set_bytes c.now total }
+{
+    put_tree(out, 0, c, total);
 }
