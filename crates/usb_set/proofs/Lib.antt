@@ -10,6 +10,7 @@ pub mod Complete
 pub mod Items
 pub mod Layouts
 pub mod Exact
+pub mod Stepping
 pub mod Feeds
 pub mod Sets
 pub mod ReadBack

@@ -7,7 +7,7 @@ use Rattle.usb_set.specs.declared.decoder.Progress.{Progress}
 use Rattle.usb_set.specs.declared.decoder.Progress.TheVariants.{More, Done}
 use Rattle.usb_set.specs.Layout.{set_bytes, Layout}
 use Rattle.usb_set.specs.Faults.{Begins, IsOpen}
-use Rattle.usb_set.specs.Decoding.{Decoding, gathers, has, refused}
+use Rattle.usb_set.specs.Decoding.{Decoding, gathers, has}
 use Rattle.usb_set.specs.Feeding.{Answers}
 use Rattle.usb_set.specs.ReadingBack.{ReadsBack}
 use Rattle.usb_set.proofs.Sets.{length-set_bytes}
@@ -43,11 +43,11 @@ front_open c s more h some = record {
 }
 
 -- the piece with the last byte makes the set
-pub reads_back : (c : Configuration) (s piece : List ℕ) (r : Result Progress SetFault) (new : Decoding) → Layout c (s ++ piece) → Answers (gathers s) piece r new → ReadsBack c piece r new
+pub reads_back : (c : Configuration) (s piece : List ℕ) (r : Result Progress SetFault) (new : Decoding) → Layout c (s ++ piece) → Answers (gathers s) piece r new → ReadsBack c s piece r new
 reads_back c s piece (Ok More) new h a = absurd (a.0.no_layout c _ (begins_whole c (s ++ piece) h))
 reads_back c s piece (Ok (Done used)) new h (d, begins, within, is) =
     let both : (d ≡ c) × (length s + used ≡ length (s ++ piece)) = one_layout (s ++ piece) d c _ _ begins (begins_whole c (s ++ piece) h) in
     let all : used ≡ length piece = omega (arith, both.1, length-append s piece) in
     inl (ap (λ n. Ok (Done n)) all, is ∙ ap has both.0)
-reads_back c s piece (Err fault) new h (is, inl memory) = inr (ap Err memory, is ∙ ap refused memory)
+reads_back c s piece (Err fault) new h (is, inl wants) = inr (fault, refl, is, wants)
 reads_back c s piece (Err fault) new h (is, inr shown) = absurd (not_both (s ++ piece) c _ fault.at fault.why (begins_whole c (s ++ piece) h) shown)

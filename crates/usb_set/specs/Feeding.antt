@@ -1,16 +1,27 @@
 -- What a decoder does with a piece.
-use Rattle.std.specs.Prelude.{◌≡◌, ◌≤◌, ◌+◌, ℕ, List, [], ◌++◌, length, Result, Ok, Err, ◌⊎◌}
+use Rattle.std.specs.Prelude.{◌≡◌, ◌≤◌, ◌<◌, ◌+◌, true, ℕ, List, [], ◌++◌, length, Result, Ok, Err, ◌⊎◌}
 use Rattle.usb_set.specs.declared.tree.Configuration.{Configuration}
 use Rattle.usb_set.specs.declared.fault.SetFault.{SetFault}
 use Rattle.usb_set.specs.declared.fault.SetWhy.TheVariants.{Memory, Truncated}
 use Rattle.usb_set.specs.declared.decoder.Progress.{Progress}
 use Rattle.usb_set.specs.declared.decoder.Progress.TheVariants.{More, Done}
-use Rattle.usb_set.specs.Faults.{Begins, Faulty, IsOpen}
+use Rattle.usb_set.specs.Descriptors.{Descriptor}
+use Rattle.usb_set.specs.Faults.{is_whole, Reaches, Begins, Faulty, IsOpen}
 use Rattle.usb_set.specs.Decoding.{Decoding, gathers, has, refused}
 
--- a growth was refused, which is told at the set's first byte
-abbrev pub out_of_memory : SetFault
-out_of_memory = record { at = 0; why = Memory }
+-- From this place on these bytes stand, and a descriptor starts there: the first one, or one behind
+-- whole ones without fault.
+abbrev pub StartsAt : List ℕ → ℕ → List ℕ → Type 0
+StartsAt b place rest = ((place ≡ 0) × (rest ≡ b)) ⊎ ((header : List ℕ) × (items : List Descriptor) × Reaches b header items place rest)
+
+-- Memory is wanting for a whole descriptor, and is told at its place: its last byte came with the piece.
+pub record WantsMemory (s piece : List ℕ) (fault : SetFault) : Type 0 where
+  pub why : fault.why ≡ Memory
+  pub item : List ℕ
+  pub rest : List ℕ
+  pub starts : StartsAt (s ++ piece) fault.at (item ++ rest)
+  pub whole : is_whole item ≡ true
+  pub in_piece : length s < fault.at + length item
 
 -- The answer to a piece after these bytes: more where the join is open; done where a front of it is
 -- a layout that ends in the piece; the fault that the join shows; or want of memory.
@@ -19,7 +30,7 @@ Feeds s piece (Ok More) new = IsOpen (s ++ piece) × (new ≡ gathers (s ++ piec
 Feeds s piece (Ok (Done used)) new =
     (c : Configuration) × Begins (s ++ piece) c (length s + used) × (used ≤ length piece) × (new ≡ has c)
 Feeds s piece (Err fault) new =
-    (new ≡ refused fault) × ((fault ≡ out_of_memory) ⊎ Faulty (s ++ piece) fault.at fault.why)
+    (new ≡ refused fault) × (WantsMemory s piece fault ⊎ Faulty (s ++ piece) fault.at fault.why)
 
 -- the answer of any decoder: one that ended stays as it is
 abbrev pub Answers : Decoding → List ℕ → Result Progress SetFault → Decoding → Type 0
@@ -38,3 +49,9 @@ abbrev pub Finishes : Decoding → Result Configuration SetFault → Type 0
 Finishes (gathers s) result = result ≡ Err (record { at = length s; why = Truncated })
 Finishes (has c) result = result ≡ Ok c
 Finishes (refused fault) result = result ≡ Err fault
+
+-- what one call reads from the front of some bytes: a set of so many of them, or why there is none
+abbrev pub ReadsSet : List ℕ → Result (Configuration × ℕ) SetFault → Type 0
+ReadsSet b (Ok set) = Begins b set.0 set.1
+ReadsSet b (Err fault) =
+    ((fault ≡ record { at = length b; why = Truncated }) × IsOpen b) ⊎ (Faulty b fault.at fault.why ⊎ WantsMemory [] b fault)

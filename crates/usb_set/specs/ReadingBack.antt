@@ -5,9 +5,10 @@ use Rattle.usb_set.specs.declared.fault.SetFault.{SetFault}
 use Rattle.usb_set.specs.declared.decoder.Progress.{Progress}
 use Rattle.usb_set.specs.declared.decoder.Progress.TheVariants.{Done}
 use Rattle.usb_set.specs.Decoding.{Decoding, has, refused}
-use Rattle.usb_set.specs.Feeding.{out_of_memory}
+use Rattle.usb_set.specs.Feeding.{WantsMemory}
 
--- the whole piece is taken and the decoder has the set, or a growth was refused
-abbrev pub ReadsBack : Configuration → List ℕ → Result Progress SetFault → Decoding → Type 0
-ReadsBack c piece result new =
-    ((result ≡ Ok (Done (length piece))) × (new ≡ has c)) ⊎ ((result ≡ Err out_of_memory) × (new ≡ refused out_of_memory))
+-- after these bytes the whole piece is taken and the decoder has the set, or a growth was refused
+abbrev pub ReadsBack : Configuration → List ℕ → List ℕ → Result Progress SetFault → Decoding → Type 0
+ReadsBack c s piece result new =
+    ((result ≡ Ok (Done (length piece))) × (new ≡ has c))
+    ⊎ ((fault : SetFault) × (result ≡ Err fault) × (new ≡ refused fault) × WantsMemory s piece fault)

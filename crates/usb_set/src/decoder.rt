@@ -1,15 +1,15 @@
 //! A set that comes in pieces.
 ghost use Rattle.std.specs.Prelude.{◌≡◌, []};
 
-use crate::fault::{SetFault, SetWhy};
-use crate::scan::{Outcome, judge};
+use crate::fault::SetFault;
+use crate::reader::Reader;
 use crate::tree::Configuration;
 use std::alloc::Global;
 use std::marker::Model;
 use usb_base::known_bytes;
 
 /// How far a set was read.
-#[derive(Clone, Copy, Debug, PartialEq, Eq)]
+#[derive(Clone, Copy, Debug, PartialEq, Eq, Hash)]
 pub enum Progress {
     /// The whole piece was taken, and the set goes on.
     More,
@@ -20,35 +20,35 @@ pub enum Progress {
     },
 }
 
-/// The only answer that [`Decoder::feed`] gives where a growth was refused.
-const OUT_OF_MEMORY: SetFault = SetFault {
-    at: 0,
-    why: SetWhy::Memory,
-};
-
 /// Reads one configuration set from pieces of any length (USB 2.0, 9.4.3 and 9.6.3).
 ///
 /// It takes exactly the bytes that wTotalLength counts, and refuses a set at the first byte that
 /// shows a fault. What it answers depends on the join of all pieces so far and not on how they were
 /// cut. A decoder that refused answers the same refusal from then on.
 ///
-/// It gathers the bytes that it takes, and reads them from the first one on at each piece.
+/// It holds the tree so far and the descriptor that the end of a piece has cut, and no other byte.
+///
+/// ```text
+/// let mut decoder = Decoder::new(alloc);
+/// decoder.feed(&[9, 2, 9, 0, 0])?; // More
+/// decoder.feed(&[1, 0, 128, 50, 255])?; // Done { used: 4 }
+/// let set = decoder.finish()?; // no interfaces, value 1, attributes 80, 100 mA
+/// ```
 #[derive(Drop)]
 pub struct Decoder {
-    alloc: Global,
-    bytes: Vec<u8>,
-    found: Option<Configuration>,
+    reader: Reader,
     fault: Option<SetFault>,
 }
 
 impl Model for Decoder {
-    ghost use Rattle.usb_set.specs.Decoding.{Decoding, IsSound, decoding_of};
+    ghost use Rattle.usb_set.specs.Decoding.{Decoding};
+    ghost use Rattle.usb_set.specs.inside.Holding.{HoldsSound, decoding_of};
 
     ghost Value = { Decoding };
 
-    ghost view = { λ d. decoding_of d.fault d.found d.bytes.items };
+    ghost view = { λ d. decoding_of d.fault d.reader };
 
-    ghost invariant = { λ d. IsSound (decoding_of d.fault d.found d.bytes.items) };
+    ghost invariant = { λ d. HoldsSound d.fault d.reader };
 }
 
 impl Decoder {
@@ -60,9 +60,7 @@ impl Decoder {
         ensures { result ≡ gathers [] }
     {
         Decoder {
-            alloc,
-            bytes: Vec::new(alloc),
-            found: None,
+            reader: Reader::new(alloc),
             fault: None,
         }
     }
@@ -72,7 +70,8 @@ impl Decoder {
     ///
     /// # Errors
     ///
-    /// The fault that the bytes taken so far and this piece show, or `Memory` at 0.
+    /// The fault that the bytes taken so far and this piece show, or `Memory` at the place of a
+    /// descriptor that ends in this piece.
     pub fn feed(&mut self, piece: &[u8]) -> Result<Progress, SetFault>
         ensures answer { Answers self.old piece.now result self.new }
         ensures empty { IsNothingNew self.old piece.now result self.new }
@@ -80,40 +79,24 @@ impl Decoder {
         if let Some(fault) = self.fault {
             return Err(fault);
         }
-        if self.found.is_some() {
+        if self.reader.is_done() {
             return Ok(Progress::Done { used: 0 });
         }
         if piece.is_empty() {
             return Ok(Progress::More);
         }
-        let before = self.bytes.len();
-        if self.bytes.extend_from_slice(piece).is_err() {
-            self.fault = Some(OUT_OF_MEMORY);
-            return Err(OUT_OF_MEMORY);
-        }
-        let Ok(outcome) = judge(self.alloc, self.bytes.as_slice()) else {
-            self.fault = Some(OUT_OF_MEMORY);
-            return Err(OUT_OF_MEMORY);
-        };
-        match outcome {
-            Outcome::More => Ok(Progress::More),
-            Outcome::Fault(place, why) => {
-                let fault = SetFault {
-                    at: place as u32,
-                    why,
-                };
+        known_bytes(piece);
+        match self.reader.read(piece) {
+            Ok(progress) => Ok(progress),
+            Err(fault) => {
+                self.reader.clear();
                 self.fault = Some(fault);
                 Err(fault)
-            }
-            Outcome::Done(c, place) => {
-                let used = place - before;
-                self.found = Some(c);
-                Ok(Progress::Done { used })
             }
         }
     }
 
-    /// The set, where it was read to its end.
+    /// The set, where it was read to its end. Takes no memory.
     ///
     /// # Errors
     ///
@@ -121,24 +104,10 @@ impl Decoder {
     pub fn finish(self) -> Result<Configuration, SetFault>
         ensures { Finishes self result }
     {
-        let Decoder {
-            alloc: _,
-            bytes,
-            found,
-            fault,
-        } = self;
-        if let Some(fault) = fault {
-            return Err(fault);
-        }
-        match found {
-            Some(c) => Ok(c),
-            None => {
-                known_bytes(bytes.as_slice());
-                Err(SetFault {
-                    at: bytes.len() as u32,
-                    why: SetWhy::Truncated,
-                })
-            }
+        let Decoder { reader, fault } = self;
+        match fault {
+            Some(fault) => Err(fault),
+            None => reader.finish(),
         }
     }
 }

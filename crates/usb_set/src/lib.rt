@@ -11,6 +11,7 @@
 #![tactic(auto)]
 
 mod attaching;
+mod checking;
 mod decoder;
 mod encoding;
 mod endpoint;
@@ -18,8 +19,10 @@ mod fault;
 pub mod laws;
 mod lengths;
 mod limits;
-mod scan;
+mod partial;
+mod reader;
 mod tree;
+mod whole_set;
 mod writing;
 
 pub use decoder::{Decoder, Progress};
@@ -28,3 +31,4 @@ pub use endpoint::{EndpointDirection, TransferType};
 pub use fault::{EncodeFault, SetFault, SetWhy};
 pub use tree::{Association, Configuration, Endpoint, Extra, Raw, SetKind, Setting};
 pub use usb_base::Sequence;
+pub use whole_set::read_set;

@@ -1,23 +1,12 @@
-//! A set's bytes, read from the first one on.
-ghost use Rattle.std.specs.Prelude.{◌≡◌, ◌≤◌, ◌<◌, length, IfSome, IfNone, IfOk};
+//! What the bytes of one descriptor show.
+ghost use Rattle.std.specs.Prelude.{◌≡◌, ◌≤◌, ◌<◌, length, IfSome, IfNone};
 ghost use Rattle.usb_set.specs.Faults.{header_fault, item_fault, total_of};
-ghost use Rattle.usb_set.specs.inside.Reading.{reading_of, has_setting};
-ghost use Rattle.usb_set.specs.inside.Scanning.{Says, Shows, SplitsDescriptor, first_byte};
+ghost use Rattle.usb_set.specs.inside.Reading.{SplitsDescriptor, first_byte, has_setting};
 
-use crate::attaching::{attach, read_configuration};
 use crate::fault::SetWhy;
 use crate::tree::Configuration;
-use std::alloc::{AllocError, Global};
-use usb_base::known_bytes;
 
-/// What bytes say of a set.
-#[derive(Debug, Drop)]
-pub(crate) enum Outcome {
-    More,
-    Done(Configuration, usize),
-    Fault(usize, SetWhy),
-}
-
+/// The first fault that the first descriptor's bytes show, and its place.
 pub(crate) fn fault_in_header(bytes: &[u8]) -> Option<(usize, SetWhy)>
     ensures { result ≡ header_fault bytes.now }
 {
@@ -32,6 +21,7 @@ pub(crate) fn fault_in_header(bytes: &[u8]) -> Option<(usize, SetWhy)>
     }
 }
 
+/// The first fault that a later descriptor's bytes show, with `room` bytes of the set left.
 pub(crate) fn fault_in_item(room: usize, in_setting: bool, bytes: &[u8]) -> Option<SetWhy>
     ensures { result ≡ item_fault room in_setting bytes.now }
 {
@@ -59,10 +49,11 @@ pub(crate) fn fault_in_item(room: usize, in_setting: bool, bytes: &[u8]) -> Opti
 }
 
 /// The descriptor that the bytes begin with, and what follows it, if it is whole.
-fn split_descriptor(bytes: &[u8]) -> Option<(&[u8], &[u8])>
+pub(crate) fn split_descriptor(bytes: &[u8]) -> Option<(&[u8], &[u8])>
     requires { 1 < first_byte bytes.now }
     ensures some { IfSome result (λ p. SplitsDescriptor bytes.now p.0.now p.1.now) }
     ensures none { IfNone result (length bytes.now < first_byte bytes.now) }
+    ensures short { IfNone result (length bytes.now < 255) }
 {
     let [len, ..] = bytes else {
         return None;
@@ -74,6 +65,7 @@ fn split_descriptor(bytes: &[u8]) -> Option<(&[u8], &[u8])>
     Some(bytes.split_at(len))
 }
 
+/// wTotalLength of the first descriptor.
 pub(crate) fn total_length(header: &[u8]) -> usize
     requires { 4 ≤ length header.now }
     ensures value { result ≡ total_of header.now }
@@ -82,44 +74,9 @@ pub(crate) fn total_length(header: &[u8]) -> usize
     usize::from(header[2]) + 256 * usize::from(header[3])
 }
 
+/// Whether an endpoint would belong to a setting.
 pub(crate) fn is_in_setting(c: &Configuration) -> bool
     ensures { result ≡ has_setting c.now }
 {
     !c.settings.is_empty()
-}
-
-/// What the bytes say.
-pub(crate) fn scan(alloc: Global, bytes: &[u8]) -> Result<Outcome, AllocError>
-    ensures { IfOk result (λ s. Shows s (reading_of bytes.now)) }
-{
-    if let Some((place, why)) = fault_in_header(bytes) {
-        return Ok(Outcome::Fault(place, why));
-    }
-    let Some((header, mut rest)) = split_descriptor(bytes) else {
-        return Ok(Outcome::More);
-    };
-    let total = total_length(header);
-    let mut c = read_configuration(alloc, header)?;
-    let mut place = header.len();
-    while place < total {
-        let room = total - place;
-        if let Some(why) = fault_in_item(room, is_in_setting(&c), rest) {
-            return Ok(Outcome::Fault(place, why));
-        }
-        let Some((item, after)) = split_descriptor(rest) else {
-            return Ok(Outcome::More);
-        };
-        attach(alloc, &mut c, item[1], &item[2..])?;
-        place += item.len();
-        rest = after;
-    }
-    Ok(Outcome::Done(c, place))
-}
-
-/// What the bytes are: a set and what follows it, a fault, or neither yet.
-pub(crate) fn judge(alloc: Global, bytes: &[u8]) -> Result<Outcome, AllocError>
-    ensures { IfOk result (λ s. Says s bytes.now) }
-{
-    known_bytes(bytes);
-    scan(alloc, bytes)
 }

@@ -1,0 +1,133 @@
+//! A set of which some descriptors were read.
+ghost use Rattle.std.specs.Prelude.{◌≡◌, ◌≤◌, [], true, None, OnOk, IfErr};
+ghost use Rattle.usb_set.specs.Faults.{is_whole};
+ghost use Rattle.usb_set.specs.inside.Reading.{first};
+ghost use Rattle.usb_set.specs.inside.Stepping.{InWork, IsStart, IsWanting, fault_at, is_done, past, place_of, whole_tree};
+
+use crate::attaching::{attach, read_configuration};
+use crate::checking::{fault_in_header, fault_in_item, is_in_setting, total_length};
+use crate::fault::{SetFault, SetWhy};
+use crate::tree::Configuration;
+use std::alloc::Global;
+use std::marker::Model;
+
+/// The tree so far, wTotalLength, and where the next descriptor starts. Before the first descriptor
+/// there is no tree.
+#[derive(Drop)]
+pub(crate) struct Partial {
+    tree: Option<Configuration>,
+    total: usize,
+    place: usize,
+}
+
+impl Model for Partial {
+    ghost use Rattle.usb_set.specs.inside.Reading.{Reading};
+    ghost use Rattle.usb_set.specs.inside.Stepping.{IsStart, partial_of};
+
+    ghost Value = { Reading };
+
+    ghost view = { λ p. partial_of p.tree p.total p.place };
+
+    ghost invariant = { λ p. IsStart (partial_of p.tree p.total p.place) };
+}
+
+/// Memory is wanting for the descriptor at this place.
+fn out_of_memory(place: usize) -> SetFault
+    requires { place ≤ 65535 }
+    ensures { IsWanting place result }
+{
+    SetFault {
+        at: place as u32,
+        why: SetWhy::Memory,
+    }
+}
+
+impl Partial {
+    /// Nothing read yet.
+    pub(crate) fn new() -> Partial
+        ensures { result ≡ first [] }
+    {
+        Partial {
+            tree: None,
+            total: 0,
+            place: 0,
+        }
+    }
+
+    /// Whether all of wTotalLength was read.
+    pub(crate) fn is_done(&self) -> bool
+        ensures { result ≡ is_done self.now }
+    {
+        self.tree.is_some() && self.place == self.total
+    }
+
+    /// Where the descriptor in work starts.
+    pub(crate) fn place(&self) -> usize
+        ensures value { result ≡ place_of self.now }
+        ensures bound { result ≤ 65535 }
+    {
+        match &self.tree {
+            None => 0,
+            Some(_) => self.place,
+        }
+    }
+
+    /// The fault that the bytes of the descriptor in work show, as many as are there.
+    pub(crate) fn fault_in(&self, bytes: &[u8]) -> Option<SetFault>
+        requires { InWork self.now }
+        ensures { result ≡ fault_at self.now bytes.now }
+    {
+        match &self.tree {
+            None => {
+                let (place, why) = fault_in_header(bytes)?;
+                Some(SetFault {
+                    at: place as u32,
+                    why,
+                })
+            }
+            Some(c) => {
+                let why = fault_in_item(self.total - self.place, is_in_setting(c), bytes)?;
+                Some(SetFault {
+                    at: self.place as u32,
+                    why,
+                })
+            }
+        }
+    }
+
+    /// Adds a whole descriptor.
+    pub(crate) fn grow(&mut self, alloc: Global, item: &[u8]) -> Result<(), SetFault>
+        requires work { InWork self.old }
+        requires fine { fault_at self.old item.now ≡ None }
+        requires whole { is_whole item.now ≡ true }
+        ensures ok { OnOk result (self.new ≡ past self.old item.now) }
+        ensures err { IfErr result (IsWanting (place_of self.old)) }
+        ensures start { IsStart self.new }
+    {
+        match &mut self.tree {
+            None => {
+                let Ok(c) = read_configuration(alloc, item) else {
+                    return Err(out_of_memory(0));
+                };
+                self.total = total_length(item);
+                self.place = item.len();
+                self.tree = Some(c);
+            }
+            Some(c) => {
+                let Ok(()) = attach(alloc, c, item[1], &item[2..]) else {
+                    return Err(out_of_memory(self.place));
+                };
+                self.place += item.len();
+            }
+        }
+        Ok(())
+    }
+
+    /// The tree, if all of it was read.
+    pub(crate) fn into_whole(self) -> Option<Configuration>
+        ensures { result ≡ whole_tree self }
+    {
+        let Partial { tree, total, place } = self;
+        if place == total { tree } else { None }
+    }
+}

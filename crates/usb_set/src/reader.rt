@@ -1,0 +1,173 @@
+//! Reading a set descriptor by descriptor.
+ghost use Rattle.std.specs.Prelude.{◌≡◌, ◌≤◌, ◌+◌, ◌<◌, [], ◌++◌, length, Ok, Err};
+ghost use Rattle.arrayvec.specs.ArrayVec.{array_vec_len};
+ghost use Rattle.usb_set.specs.inside.Reading.{first};
+ghost use Rattle.usb_set.specs.inside.Stepping.{InWork, Reads, Steps, current_of, ends_as, is_done};
+
+use crate::checking::split_descriptor;
+use crate::decoder::Progress;
+use crate::fault::{SetFault, SetWhy};
+use crate::partial::Partial;
+use crate::tree::Configuration;
+use arrayvec::ArrayVec;
+use std::alloc::Global;
+use std::marker::Model;
+
+/// What the descriptor in work met in the bytes that follow.
+#[derive(Clone, Copy, Debug)]
+pub(crate) enum Step {
+    /// Its end, behind so many of them.
+    Took(usize),
+    /// The end of the bytes.
+    Cut,
+    /// A fault, or want of memory.
+    Refused(SetFault),
+}
+
+/// The descriptors read so far, and those bytes of the next one that earlier pieces brought.
+#[derive(Drop)]
+pub(crate) struct Reader {
+    alloc: Global,
+    partial: Partial,
+    current: ArrayVec<u8, 255>,
+}
+
+impl Model for Reader {
+    ghost use Rattle.usb_set.specs.inside.Reading.{Reading};
+    ghost use Rattle.usb_set.specs.inside.Stepping.{GoesOn, with_current};
+
+    ghost Value = { Reading };
+
+    ghost view = { λ r. with_current r.partial r.current.items };
+
+    ghost invariant = { λ r. GoesOn (with_current r.partial r.current.items) };
+}
+
+/// Adds bytes of the descriptor in work.
+fn keep(current: &mut ArrayVec<u8, 255>, bytes: &[u8])
+    requires { array_vec_len current.old + length bytes.now ≤ 255 }
+    ensures { current.new.items ≡ current.old.items ++ bytes.now }
+{
+    let _kept = current.try_extend_from_slice(bytes);
+}
+
+impl Reader {
+    /// Nothing read yet.
+    pub(crate) fn new(alloc: Global) -> Reader
+        ensures { result ≡ first [] }
+    {
+        Reader {
+            alloc,
+            partial: Partial::new(),
+            current: ArrayVec::new(),
+        }
+    }
+
+    /// Whether the set is whole.
+    pub(crate) fn is_done(&self) -> bool
+        ensures { result ≡ is_done self.now }
+    {
+        self.partial.is_done()
+    }
+
+    /// Reads on, to the set's end or to that of the piece.
+    pub(crate) fn read(&mut self, piece: &[u8]) -> Result<Progress, SetFault>
+        requires { InWork self.old }
+        ensures { Reads self.old piece.now result self.new }
+    {
+        let mut used = 0;
+        while used < piece.len() {
+            match self.step(&piece[used..]) {
+                Step::Took(count) => used += count,
+                Step::Cut => return Ok(Progress::More),
+                Step::Refused(fault) => return Err(fault),
+            }
+            if self.is_done() {
+                return Ok(Progress::Done { used });
+            }
+        }
+        Ok(Progress::More)
+    }
+
+    /// Reads on, to the end of the descriptor in work or to that of the bytes.
+    fn step(&mut self, bytes: &[u8]) -> Step
+        requires { InWork self.old }
+        ensures { Steps self.old bytes.now result self.new }
+    {
+        if self.current.is_empty() {
+            self.step_in_piece(bytes)
+        } else {
+            self.step_in_buffer(bytes)
+        }
+    }
+
+    /// A descriptor of which no earlier piece had a byte is read where it stands.
+    fn step_in_piece(&mut self, bytes: &[u8]) -> Step
+        requires work { InWork self.old }
+        requires empty { current_of self.old ≡ [] }
+        ensures { Steps self.old bytes.now result self.new }
+    {
+        if let Some(fault) = self.partial.fault_in(bytes) {
+            return Step::Refused(fault);
+        }
+        let Some((item, _)) = split_descriptor(bytes) else {
+            keep(&mut self.current, bytes);
+            return Step::Cut;
+        };
+        if let Err(fault) = self.partial.grow(self.alloc, item) {
+            return Step::Refused(fault);
+        }
+        Step::Took(item.len())
+    }
+
+    /// A descriptor that the end of an earlier piece cut is put together first.
+    fn step_in_buffer(&mut self, bytes: &[u8]) -> Step
+        requires work { InWork self.old }
+        requires some { 0 < length (current_of self.old) }
+        ensures { Steps self.old bytes.now result self.new }
+    {
+        let len = usize::from(self.current.as_slice()[0]);
+        let count = (len - self.current.len()).min(bytes.len());
+        keep(&mut self.current, &bytes[..count]);
+        if let Some(fault) = self.partial.fault_in(self.current.as_slice()) {
+            self.current.clear();
+            return Step::Refused(fault);
+        }
+        if self.current.len() < len {
+            return Step::Cut;
+        }
+        let grown = self.partial.grow(self.alloc, self.current.as_slice());
+        self.current.clear();
+        if let Err(fault) = grown {
+            return Step::Refused(fault);
+        }
+        Step::Took(count)
+    }
+
+    /// Lets go of all that was read.
+    pub(crate) fn clear(&mut self)
+        ensures { self.new ≡ first [] }
+    {
+        self.partial = Partial::new();
+        self.current.clear();
+    }
+
+    /// The set, or that the bytes ended before it was whole.
+    pub(crate) fn finish(self) -> Result<Configuration, SetFault>
+        ensures { result ≡ ends_as self }
+    {
+        let Reader {
+            alloc: _,
+            partial,
+            current,
+        } = self;
+        let at = (partial.place() + current.len()) as u32;
+        match partial.into_whole() {
+            Some(c) => Ok(c),
+            None => Err(SetFault {
+                at,
+                why: SetWhy::Truncated,
+            }),
+        }
+    }
+}
