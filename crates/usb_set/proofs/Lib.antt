@@ -13,5 +13,6 @@ pub mod Exact
 pub mod Stepping
 pub mod Feeds
 pub mod Sets
+pub mod Unrefused
 pub mod ReadBack
 pub mod Lifting
