@@ -1,84 +1,61 @@
-//! Goes through the examples: each is listed as `usbdesc show` lists it, its listing is compared with
-//! the one beside it, and it is written again to the same bytes.
+//! Goes through what the file `list` of `data/` names: files of rows, each of which says what is asked for
+//! and what must come, and examples, beside each of which lies its listing. It stops at the first that
+//! differs. `data/README.md` says how rows are written.
 #![tactic(auto)]
 
-use anyhow::{Result, ensure};
+mod answers;
+mod fields;
+mod files;
+mod messages;
+mod program;
+mod real;
+mod row;
+mod sets;
+mod streams;
+mod tree;
+mod words;
+
+use anyhow::{Context, Result, bail, ensure};
+use real::Kind;
+use row::rows_of;
 use std::fs;
 use std::rt::Files;
-use usb_file::{read_file, write_file};
-use usb_set::{Decoder, encode};
-use usb_tool::run_show;
-
-/// The configuration sets below `sets/`.
-const SETS: [&str; 10] = [
-    "altos-cdc-stm",
-    "framework16-keyboard",
-    "hantek-6022-fs",
-    "hid-one-endpoint",
-    "linux-gadget-uac2",
-    "linux-gadget-webcam",
-    "linux-roothub-hs",
-    "logitech-bolt",
-    "qemu-usb-ccid-fs",
-    "ugreen-15765a",
-];
-
-/// The descriptor files below `files/`.
-const FILES: [&str; 6] = [
-    "gadget-acm",
-    "gadget-webcam",
-    "qemu-rndis-usb-network-device",
-    "qemu-usb-hub",
-    "qemu-usb-mouse",
-    "with-everything",
-];
 
 fn main(rt: HostRuntime) -> Result<()> {
-    for name in SETS {
-        let bytes = fs::read(&rt, format!(in rt.alloc(); "sets/{name}.bin")?)?;
-        let lines = list(&rt, bytes.as_slice(), "sets", name)?;
-        write_set_again(&rt, bytes.as_slice())?;
-        let count = bytes.len();
-        println!(rt; "{name}: {count} bytes, {lines} descriptors")?;
-    }
-    for name in FILES {
-        let bytes = fs::read(&rt, format!(in rt.alloc(); "files/{name}.file")?)?;
-        let lines = list(&rt, bytes.as_slice(), "files", name)?;
-        write_again(&rt, bytes.as_slice())?;
-        let count = bytes.len();
-        println!(rt; "{name}: {count} bytes, {lines} descriptors")?;
+    let list = fs::read_to_string(&rt, "list")?;
+    for line in list.as_str().lines() {
+        if line.is_empty() || line.starts_with('#') {
+            continue;
+        }
+        let told = go_through(&rt, line).context(format_args!("{line}"))?;
+        println!(rt; "{line}: {told}")?;
     }
     Ok(())
 }
 
-/// How many lines the example's listing has, which is that of the file beside it.
-fn list<R: Files + AllocGlobal>(rt: &R, bytes: &[u8], folder: &str, name: &str) -> Result<usize> {
+/// Goes through what a line of the list names, and says how much there was.
+fn go_through<R: Files + AllocGlobal>(rt: &R, line: &str) -> Result<String> {
+    let (kind, name) = line.split_once(' ').context("a line of one word")?;
+    if kind == "rows" {
+        rows(rt, name)
+    } else if kind == "set" {
+        real::go_through(rt, Kind::Set, name)
+    } else if kind == "file" {
+        real::go_through(rt, Kind::File, name)
+    } else {
+        bail!("neither rows nor an example")
+    }
+}
+
+/// Goes through a file of rows.
+fn rows<R: Files + AllocGlobal>(rt: &R, name: &str) -> Result<String> {
     let alloc = rt.alloc();
-    let mut reader = bytes;
-    let mut text = Vec::new(alloc);
-    run_show(alloc, &mut reader, &mut text)?;
-    let wanted = fs::read(rt, format!(in alloc; "{folder}/{name}.txt")?)?;
-    ensure!(
-        text.as_slice() == wanted.as_slice(),
-        "{name}: another listing"
-    );
-    Ok(text.iter().filter(|byte| **byte == b'\n').count())
-}
-
-/// Reads the set and writes it again, to the same bytes.
-fn write_set_again<R: AllocGlobal>(rt: &R, bytes: &[u8]) -> Result<()> {
-    let mut decoder = Decoder::new(rt.alloc());
-    decoder.feed(bytes)?;
-    let set = decoder.finish()?;
-    let again = encode(rt.alloc(), &set)?;
-    ensure!(again.as_slice() == bytes, "other bytes are written");
-    Ok(())
-}
-
-/// Reads the file and writes it again, to the same bytes.
-fn write_again<R: AllocGlobal>(rt: &R, bytes: &[u8]) -> Result<()> {
-    let file = read_file(rt.alloc(), bytes)?;
-    let again = write_file(rt.alloc(), &file)?;
-    ensure!(again.as_slice() == bytes, "other bytes are written");
-    Ok(())
+    let text = fs::read_to_string(rt, name)?;
+    let rows = rows_of(alloc, text.as_str())?;
+    for row in rows.iter() {
+        let line = row.line;
+        let got = answers::answer(alloc, row).context(format_args!("line {line}"))?;
+        ensure!(got == row.wanted, "line {line}: {}", got.words);
+    }
+    Ok(format!(in alloc; "{} rows", rows.len())?)
 }

@@ -7,18 +7,38 @@ use Rattle.usb_fields.specs.declared.qualifier.Qualifier.{Qualifier}
 use Rattle.usb_fields.specs.Qualifier.{qualifier_bytes}
 use Rattle.usb_fields.specs.Device.{device_bytes}
 use Rattle.usb_fields.specs.Units.{units_bytes}
+use Rattle.usb_set.specs.declared.tree.SetKind.{SetKind}
 use Rattle.usb_set.specs.declared.tree.SetKind.TheVariants as kinds
 use Rattle.usb_set.specs.declared.tree.Configuration.{Configuration}
 use Rattle.usb_set.specs.Layout.{Layout}
-use Rattle.usb_file.specs.declared.file.DescriptorFile.{DescriptorFile}
-use Rattle.usb_file.specs.declared.file.Other.{Other}
-use Rattle.usb_file.specs.declared.file.Strings.{Strings}
-use Rattle.usb_file.specs.Named.{named_in, other_sets}
-use Rattle.usb_file.specs.File.{whole_set, sets_bytes, other_bytes, texts_bytes, strings_bytes, file_bytes, is_not_kind, has_no_layout, is_long_text}
-use Rattle.usb_file.specs.FileFaults.{a_set, a_qualifier, text_due, begins_qualifier, after_main, due, StringsFollow, IsInOrder, IsFront}
-use Rattle.usb_file.specs.Reading.{AllSets, with_set, other_with, with_qualifier, with_strings}
+use Rattle.usb_file_data.specs.declared.file.DescriptorFile.{DescriptorFile}
+use Rattle.usb_file_data.specs.declared.file.Other.{Other}
+use Rattle.usb_file_data.specs.declared.file.Strings.{Strings}
+use Rattle.usb_file_data.specs.Named.{named_indices, other_sets}
+use Rattle.usb_file_data.specs.File.{whole_set, sets_bytes, other_bytes, texts_bytes, strings_bytes, file_bytes, is_other_kind, has_no_layout, is_long_string}
 use Rattle.usb_file.proofs.Lists.{flat_map-push, list_any-push, length-push, behind_main, behind_other, behind_all}
 use Rattle.usb_file.proofs.WholeSets.{layout_is, layout_allowed}
+use Rattle.usb_file.specs.Front.{StringsFollow, IsInOrder, IsFront, AllSets}
+use Rattle.usb_file.specs.FileFaults.{a_set, a_qualifier, begins_qualifier}
+use Rattle.usb_file.specs.inside.Next.{next_string, next_after_main, next_part}
+
+-- with one more set of the other speed
+abbrev pub other_with : Configuration → Option Other → Option Other
+other_with c None = None
+other_with c (Some o) = Some (record o { sets = o.sets ++ c ∷ [] })
+
+-- with one more set of this kind
+abbrev pub with_set : SetKind → Configuration → DescriptorFile → DescriptorFile
+with_set kinds.Configuration c f = record f { sets = f.sets ++ c ∷ [] }
+with_set kinds.OtherSpeed c f = record f { other = other_with c f.other }
+
+-- with this qualifier and no set of the other speed yet
+abbrev pub with_qualifier : Qualifier → DescriptorFile → DescriptorFile
+with_qualifier q f = record f { other = Some (record { qualifier = q; sets = [] }) }
+
+-- with these strings
+abbrev pub with_strings : Strings → DescriptorFile → DescriptorFile
+with_strings s f = record f { strings = Some s }
 
 -- with one more string
 abbrev pub text_with : List ℕ → Option Strings → Option Strings
@@ -33,16 +53,16 @@ pub record Grown (f g : DescriptorFile) (p : List ℕ) : Type 0 where
 -- ---- the next part
 
 pub grow_main : (f : DescriptorFile) (c : Configuration) (p : List ℕ) → IsFront f → f.other ≡ None → f.strings ≡ None → length f.sets < f.device.configurations
-    → Layout c p → is_not_kind kinds.Configuration c ≡ false → Grown f (with_set kinds.Configuration c f) p
+    → Layout c p → is_other_kind kinds.Configuration c ≡ false → Grown f (with_set kinds.Configuration c f) p
 grow_main f c p front no_other no_strings below layout kind_is =
-    let ks = or_parts (list_any (is_not_kind kinds.Configuration) f.sets) (list_any (is_not_kind kinds.OtherSpeed) (other_sets f.other)) front.kinds in
+    let ks = or_parts (list_any (is_other_kind kinds.Configuration) f.sets) (list_any (is_other_kind kinds.OtherSpeed) (other_sets f.other)) front.kinds in
     let ls = or_parts (list_any has_no_layout f.sets) (list_any has_no_layout (other_sets f.other)) front.layouts in
     let g = with_set kinds.Configuration c f in
     let room : length (f.sets ++ c ∷ []) ≤ f.device.configurations = omega (arith, length-push f.sets c, below) in
     let more : sets_bytes (f.sets ++ c ∷ []) ≡ sets_bytes f.sets ++ p = flat_map-push whole_set f.sets c ∙ ap (λ x. sets_bytes f.sets ++ x) (sym (layout_is c p layout)) in
     record {
       is_front = record {
-        kinds = or_from _ _ (list_any-push (is_not_kind kinds.Configuration) f.sets c ks.0 kind_is) ks.1;
+        kinds = or_from _ _ (list_any-push (is_other_kind kinds.Configuration) f.sets c ks.0 kind_is) ks.1;
         layouts = or_from _ _ (list_any-push has_no_layout f.sets c ls.0 (layout_allowed c p layout)) ls.1;
         order = subst (λ o. IsInOrder g o f.strings) (sym no_other) (subst (λ s. IsInOrder g None s) (sym no_strings) room);
       };
@@ -55,15 +75,15 @@ other_more o c p layout =
     ap (λ x. qualifier_bytes o.qualifier ++ x) (flat_map-push whole_set o.sets c ∙ ap (λ x. sets_bytes o.sets ++ x) (sym (layout_is c p layout)))
 
 pub grow_other : (f : DescriptorFile) (o : Other) (c : Configuration) (p : List ℕ) → IsFront f → length f.sets ≡ f.device.configurations → f.other ≡ Some o → f.strings ≡ None
-    → length o.sets < o.qualifier.configurations → Layout c p → is_not_kind kinds.OtherSpeed c ≡ false → Grown f (with_set kinds.OtherSpeed c f) p
+    → length o.sets < o.qualifier.configurations → Layout c p → is_other_kind kinds.OtherSpeed c ≡ false → Grown f (with_set kinds.OtherSpeed c f) p
 grow_other f o c p front full is_other no_strings below layout kind_is =
-    let ks = or_parts (list_any (is_not_kind kinds.Configuration) f.sets) (list_any (is_not_kind kinds.OtherSpeed) (other_sets f.other)) front.kinds in
+    let ks = or_parts (list_any (is_other_kind kinds.Configuration) f.sets) (list_any (is_other_kind kinds.OtherSpeed) (other_sets f.other)) front.kinds in
     let ls = or_parts (list_any has_no_layout f.sets) (list_any has_no_layout (other_sets f.other)) front.layouts in
     let g = with_set kinds.OtherSpeed c f in
     let room : length (o.sets ++ c ∷ []) ≤ o.qualifier.configurations = omega (arith, length-push o.sets c, below) in
-    let kinds_of : list_any (is_not_kind kinds.OtherSpeed) (other_sets (other_with c f.other)) ≡ false =
-    subst (λ x. list_any (is_not_kind kinds.OtherSpeed) (other_sets (other_with c x)) ≡ false) (sym is_other)
-    (list_any-push (is_not_kind kinds.OtherSpeed) o.sets c (subst (λ x. list_any (is_not_kind kinds.OtherSpeed) (other_sets x) ≡ false) is_other ks.1) kind_is) in
+    let kinds_of : list_any (is_other_kind kinds.OtherSpeed) (other_sets (other_with c f.other)) ≡ false =
+    subst (λ x. list_any (is_other_kind kinds.OtherSpeed) (other_sets (other_with c x)) ≡ false) (sym is_other)
+    (list_any-push (is_other_kind kinds.OtherSpeed) o.sets c (subst (λ x. list_any (is_other_kind kinds.OtherSpeed) (other_sets x) ≡ false) is_other ks.1) kind_is) in
     let layouts_of : list_any has_no_layout (other_sets (other_with c f.other)) ≡ false =
     subst (λ x. list_any has_no_layout (other_sets (other_with c x)) ≡ false) (sym is_other)
     (list_any-push has_no_layout o.sets c (subst (λ x. list_any has_no_layout (other_sets x) ≡ false) is_other ls.1) (layout_allowed c p layout)) in
@@ -82,7 +102,7 @@ grow_other f o c p front full is_other no_strings below layout kind_is =
 pub grow_qualifier : (f : DescriptorFile) (q : Qualifier) → IsFront f → length f.sets ≡ f.device.configurations → f.other ≡ None → f.strings ≡ None
     → Grown f (with_qualifier q f) (qualifier_bytes q)
 grow_qualifier f q front full no_other no_strings =
-    let ks = or_parts (list_any (is_not_kind kinds.Configuration) f.sets) (list_any (is_not_kind kinds.OtherSpeed) (other_sets f.other)) front.kinds in
+    let ks = or_parts (list_any (is_other_kind kinds.Configuration) f.sets) (list_any (is_other_kind kinds.OtherSpeed) (other_sets f.other)) front.kinds in
     let ls = or_parts (list_any has_no_layout f.sets) (list_any has_no_layout (other_sets f.other)) front.layouts in
     let g = with_qualifier q f in
     let none : 0 ≤ q.configurations = omega arith in
@@ -96,11 +116,11 @@ grow_qualifier f q front full no_other no_strings =
           (sym (ap (λ x. x ++ qualifier_bytes q) (ap other_bytes no_other))) (ap strings_bytes no_strings);
     }
 
-order_strings : (f : DescriptorFile) (o : Option Other) (s : Strings) → AllSets f o → StringsFollow (length (named_in f)) s → IsInOrder f o (Some s)
+order_strings : (f : DescriptorFile) (o : Option Other) (s : Strings) → AllSets f o → StringsFollow (length (named_indices f)) s → IsInOrder f o (Some s)
 order_strings f None s all follow = (all, follow)
 order_strings f (Some o) s all follow = (all.0, all.1, follow)
 
-grow_strings : (f : DescriptorFile) (s : Strings) (p : List ℕ) → IsFront f → AllSets f f.other → StringsFollow (length (named_in f)) s
+pub grow_strings : (f : DescriptorFile) (s : Strings) (p : List ℕ) → IsFront f → AllSets f f.other → StringsFollow (length (named_indices f)) s
     → strings_bytes (Some s) ≡ strings_bytes f.strings ++ p → Grown f (with_strings s f) p
 grow_strings f s p front all follow more = record {
   is_front = record { kinds = front.kinds; layouts = front.layouts; order = order_strings (with_strings s f) f.other s (all_again f.other all) follow };
@@ -111,57 +131,57 @@ grow_strings f s p front all follow more = record {
     all_again None h = h
     all_again (Some o) h = h
 
-pub grow_languages : (f : DescriptorFile) (u : List ℕ) → IsFront f → AllSets f f.other → f.strings ≡ None → 0 < length (named_in f) → 0 < length u → is_long_text u ≡ false
+pub grow_languages : (f : DescriptorFile) (u : List ℕ) → IsFront f → AllSets f f.other → f.strings ≡ None → 0 < length (named_indices f) → 0 < length u → is_long_string u ≡ false
     → Grown f (with_strings (record { languages = u; texts = [] }) f) (units_bytes u)
 grow_languages f u front all no_strings named spoken short =
     grow_strings f (record { languages = u; texts = [] }) (units_bytes u) front all
-    (record { named = named; spoken = spoken; few = omega arith; short = or_from (is_long_text u) false short refl })
+    (record { named = named; spoken = spoken; few = omega arith; short = or_from (is_long_string u) false short refl })
     (append-nil (units_bytes u) ∙ sym (ap (λ x. x ++ units_bytes u) (ap strings_bytes no_strings)))
 
 pub text_more : (s : Strings) (u : List ℕ) → strings_bytes (text_with u (Some s)) ≡ strings_bytes (Some s) ++ units_bytes u
 text_more s u = ap (λ x. units_bytes s.languages ++ x) (flat_map-push units_bytes s.texts u) ∙ sym (append_assoc (units_bytes s.languages) (texts_bytes s.texts) (units_bytes u))
 
-pub grow_text : (f : DescriptorFile) (s : Strings) (u : List ℕ) → IsFront f → AllSets f f.other → f.strings ≡ Some s → StringsFollow (length (named_in f)) s
-    → length s.texts < length s.languages * length (named_in f) → is_long_text u ≡ false
+pub grow_text : (f : DescriptorFile) (s : Strings) (u : List ℕ) → IsFront f → AllSets f f.other → f.strings ≡ Some s → StringsFollow (length (named_indices f)) s
+    → length s.texts < length s.languages * length (named_indices f) → is_long_string u ≡ false
     → Grown f (with_strings (record s { texts = s.texts ++ u ∷ [] }) f) (units_bytes u)
 grow_text f s u front all is_strings follow below short =
-    let long = or_parts (is_long_text s.languages) (list_any is_long_text s.texts) follow.short in
+    let long = or_parts (is_long_string s.languages) (list_any is_long_string s.texts) follow.short in
     grow_strings f (record s { texts = s.texts ++ u ∷ [] }) (units_bytes u) front all
     (record {
       named = follow.named;
       spoken = follow.spoken;
       few = omega (arith, length-push s.texts u, below);
-      short = or_from _ _ long.0 (list_any-push is_long_text s.texts u long.1 short);
+      short = or_from _ _ long.0 (list_any-push is_long_string s.texts u long.1 short);
     })
     (text_more s u ∙ sym (ap (λ x. strings_bytes x ++ units_bytes u) is_strings))
 
 -- ---- what is due
 
-pub due_main : (f : DescriptorFile) (rest : List ℕ) → length f.sets < f.device.configurations → due f rest ≡ a_set kinds.Configuration
+pub due_main : (f : DescriptorFile) (rest : List ℕ) → length f.sets < f.device.configurations → next_part f rest ≡ a_set kinds.Configuration
 due_main f rest below = cond-true (ltb (length f.sets) f.device.configurations) _ _ (lt-ltb _ _ below)
 
 pub due_after : (f : DescriptorFile) (rest : List ℕ) (o : Option Other) (s : Option Strings) → length f.sets ≡ f.device.configurations → f.other ≡ o → f.strings ≡ s
-    → due f rest ≡ after_main f o s rest
+    → next_part f rest ≡ next_after_main f o s rest
 due_after f rest o s full is_other is_strings =
     cond-false (ltb (length f.sets) f.device.configurations) _ _ (le-ltb _ _ (omega (arith, full)))
-    ∙ ap (λ x. after_main f x f.strings rest) is_other ∙ ap (λ x. after_main f o x rest) is_strings
+    ∙ ap (λ x. next_after_main f x f.strings rest) is_other ∙ ap (λ x. next_after_main f o x rest) is_strings
 
 pub due_other : (f : DescriptorFile) (rest : List ℕ) (o : Other) → length f.sets ≡ f.device.configurations → f.other ≡ Some o
-    → length o.sets < o.qualifier.configurations → due f rest ≡ a_set kinds.OtherSpeed
+    → length o.sets < o.qualifier.configurations → next_part f rest ≡ a_set kinds.OtherSpeed
 due_other f rest o full is_other below =
     due_after f rest (Some o) f.strings full is_other refl ∙ cond-true (ltb (length o.sets) o.qualifier.configurations) _ _ (lt-ltb _ _ below)
 
 pub due_qualifier : (f : DescriptorFile) (rest : List ℕ) → length f.sets ≡ f.device.configurations → f.other ≡ None → f.strings ≡ None
-    → begins_qualifier rest ≡ true → due f rest ≡ a_qualifier
+    → begins_qualifier rest ≡ true → next_part f rest ≡ a_qualifier
 due_qualifier f rest full no_other no_strings begins = due_after f rest None None full no_other no_strings ∙ cond-true (begins_qualifier rest) _ _ begins
 
 -- after all sets come the strings
 pub due_strings : (f : DescriptorFile) (rest : List ℕ) → AllSets f f.other → (f.other ≡ None → f.strings ≡ None → begins_qualifier rest ≡ false)
-    → due f rest ≡ text_due (length (named_in f)) f.strings
+    → next_part f rest ≡ next_string (length (named_indices f)) f.strings
 due_strings f rest all unless = cases f.other f.strings refl refl all unless
   where
     cases : (o : Option Other) (s : Option Strings) → f.other ≡ o → f.strings ≡ s → AllSets f o → (o ≡ None → s ≡ None → begins_qualifier rest ≡ false)
-        → due f rest ≡ text_due (length (named_in f)) s
+        → next_part f rest ≡ next_string (length (named_indices f)) s
     cases None None eo es all unless = due_after f rest None None all eo es ∙ cond-false (begins_qualifier rest) _ _ (unless refl refl)
     cases None (Some s) eo es all unless = due_after f rest None (Some s) all eo es
     cases (Some o) s eo es all unless =

@@ -14,25 +14,28 @@ use Rattle.usb_set.specs.declared.fault.EncodeFault.TheVariants as encoding
 use Rattle.usb_set.specs.Layout.{Layout, set_bytes, has_long_descriptor, has_typed_raw}
 use Rattle.usb_set.specs.Encoding.{set_length, HasLength}
 use Rattle.usb_set.proofs.Sets.{layout_of}
-use Rattle.usb_file.specs.declared.file.DescriptorFile.{DescriptorFile}
-use Rattle.usb_file.specs.declared.file.Other.{Other}
-use Rattle.usb_file.specs.declared.file.Strings.{Strings}
+use Rattle.usb_file_data.specs.declared.file.DescriptorFile.{DescriptorFile}
+use Rattle.usb_file_data.specs.declared.file.Other.{Other}
+use Rattle.usb_file_data.specs.declared.file.Strings.{Strings}
 use Rattle.usb_file.specs.declared.fault.FileWhy.{FileWhy}
-use Rattle.usb_file.specs.Named.{named_in, other_sets}
-use Rattle.usb_file.specs.File.{whole_set, sets_bytes, other_bytes, texts_bytes, strings_bytes, file_bytes, is_not_kind, has_no_layout, is_long_text}
-use Rattle.usb_file.specs.FileFaults.{the_languages, a_text, the_end, text_due, due, StringsFollow, IsInOrder, IsFront, Splits, PartFaulty}
-use Rattle.usb_file.specs.Reading.{AllSets, with_set, with_strings}
-use Rattle.usb_file.proofs.Lists.{AreBytes, bytes_before, bytes_behind, length-push}
-use Rattle.usb_file.specs.PartLaws.{PartLaws}
+use Rattle.usb_file_data.specs.Named.{named_indices, other_sets}
+use Rattle.usb_file_data.specs.File.{whole_set, sets_bytes, other_bytes, texts_bytes, strings_bytes, file_bytes, is_other_kind, has_no_layout, is_long_string}
+use Rattle.usb_base.specs.Bytes.{AreBytes}
+use Rattle.usb_file.proofs.Lists.{bytes_before, bytes_behind, length-push}
+use Rattle.usb_file.specs.inside.PartLaws.{PartLaws}
 use Rattle.usb_file.proofs.Fronts.{due_main, due_other, due_qualifier, due_strings}
 use Rattle.usb_file.proofs.Unique.{PartIs, IsSet, one_part, part_or_fault, append_same}
+use Rattle.usb_file.specs.Front.{StringsFollow, IsInOrder, IsFront, Splits, AllSets}
+use Rattle.usb_file.specs.FileFaults.{the_languages, a_string, the_end, PartFaulty}
+use Rattle.usb_file.specs.inside.Next.{next_string, next_part}
+use Rattle.usb_file.proofs.Fronts.{with_set, with_strings}
 
 -- ---- steps
 
 -- the bytes left begin with the part that is due, which makes of the first file so far the second
 pub record Step (f : DescriptorFile) (r : List ℕ) (g : DescriptorFile) (s : List ℕ) : Type 0 where
   pub part : List ℕ
-  pub is : PartIs (due f r) f g part
+  pub is : PartIs (next_part f r) f g part
   pub parts : r ≡ part ++ s
 
 pub record Through (P : DescriptorFile → List ℕ → Type 0) (f : DescriptorFile) (r : List ℕ) : Type 0 where
@@ -60,7 +63,7 @@ abbrev pub IsStuck : DescriptorFile → List ℕ → Type 0
 IsStuck f r = (g : DescriptorFile) (s : List ℕ) → Step f r g s → ⊥
 
 one_step : (laws : PartLaws) (f : DescriptorFile) (r : List ℕ) (g : DescriptorFile) (s : List ℕ) (h : DescriptorFile) (t : List ℕ) → Step f r g s → Step f r h t → (g ≡ h) × (s ≡ t)
-one_step laws f r g s h t x y = one_part laws (due f r) f g h x.part y.part s t x.is y.is (sym x.parts ∙ y.parts)
+one_step laws f r g s h t x y = one_part laws (next_part f r) f g h x.part y.part s t x.is y.is (sym x.parts ∙ y.parts)
 
 stuck_along : (f g : DescriptorFile) (r s : List ℕ) → f ≡ g → r ≡ s → IsStuck g s → IsStuck f r
 stuck_along f g r s e k stuck = subst (λ x. IsStuck x r) (sym e) (subst (λ x. IsStuck g x) (sym k) stuck)
@@ -97,11 +100,11 @@ set_layout c h fits =
     layout_of c (set_bytes c (set_length c)) (set_length c) has refl fits
 
 steps_main : (ss : List Configuration) (f : DescriptorFile) (tail : List ℕ) (g : DescriptorFile) (s : List ℕ) → f.other ≡ None → f.strings ≡ None
-    → length f.sets + length ss ≤ f.device.configurations → list_any (is_not_kind kinds.Configuration) ss ≡ false → list_any has_no_layout ss ≡ false
+    → length f.sets + length ss ≤ f.device.configurations → list_any (is_other_kind kinds.Configuration) ss ≡ false → list_any has_no_layout ss ≡ false
     → AreBytes (sets_bytes ss ++ tail) → Reaches (record f { sets = f.sets ++ ss }) tail g s → Reaches f (sets_bytes ss ++ tail) g s
 steps_main [] f tail g s no_other no_strings room ks ls fits onward = subst (λ x. Reaches (record f { sets = x }) tail g s) (append-nil f.sets) onward
 steps_main (c ∷ ss) f tail g s no_other no_strings room ks ls fits onward =
-    let kk = or_parts (is_not_kind kinds.Configuration c) (list_any (is_not_kind kinds.Configuration) ss) ks in
+    let kk = or_parts (is_other_kind kinds.Configuration c) (list_any (is_other_kind kinds.Configuration) ss) ks in
     let ll = or_parts (has_no_layout c) (list_any has_no_layout ss) ls in
     let regroup : sets_bytes (c ∷ ss) ++ tail ≡ whole_set c ++ (sets_bytes ss ++ tail) = append_assoc (whole_set c) (sets_bytes ss) tail in
     let bytes = subst AreBytes regroup fits in
@@ -122,11 +125,11 @@ abbrev with_other : Other → DescriptorFile → DescriptorFile
 with_other o f = record f { other = Some o }
 
 steps_other : (ss : List Configuration) (f : DescriptorFile) (o : Other) (tail : List ℕ) (g : DescriptorFile) (s : List ℕ) → length f.sets ≡ f.device.configurations
-    → length o.sets + length ss ≤ o.qualifier.configurations → list_any (is_not_kind kinds.OtherSpeed) ss ≡ false → list_any has_no_layout ss ≡ false
+    → length o.sets + length ss ≤ o.qualifier.configurations → list_any (is_other_kind kinds.OtherSpeed) ss ≡ false → list_any has_no_layout ss ≡ false
     → AreBytes (sets_bytes ss ++ tail) → Reaches (with_other (record o { sets = o.sets ++ ss }) f) tail g s → Reaches (with_other o f) (sets_bytes ss ++ tail) g s
 steps_other [] f o tail g s full room ks ls fits onward = subst (λ x. Reaches (with_other (record o { sets = x }) f) tail g s) (append-nil o.sets) onward
 steps_other (c ∷ ss) f o tail g s full room ks ls fits onward =
-    let kk = or_parts (is_not_kind kinds.OtherSpeed c) (list_any (is_not_kind kinds.OtherSpeed) ss) ks in
+    let kk = or_parts (is_other_kind kinds.OtherSpeed c) (list_any (is_other_kind kinds.OtherSpeed) ss) ks in
     let ll = or_parts (has_no_layout c) (list_any has_no_layout ss) ls in
     let regroup : sets_bytes (c ∷ ss) ++ tail ≡ whole_set c ++ (sets_bytes ss ++ tail) = append_assoc (whole_set c) (sets_bytes ss) tail in
     let bytes = subst AreBytes regroup fits in
@@ -150,19 +153,19 @@ all_again f x None h = h
 all_again f x (Some o) h = h
 
 steps_texts : (us : List (List ℕ)) (f : DescriptorFile) (x : Strings) (tail : List ℕ) (g : DescriptorFile) (s : List ℕ) → AllSets f f.other
-    → length x.texts + length us ≤ length x.languages * length (named_in f) → list_any is_long_text us ≡ false
+    → length x.texts + length us ≤ length x.languages * length (named_indices f) → list_any is_long_string us ≡ false
     → Reaches (with_strings (record x { texts = x.texts ++ us }) f) tail g s → Reaches (with_strings x f) (texts_bytes us ++ tail) g s
 steps_texts [] f x tail g s all room short onward = subst (λ y. Reaches (with_strings (record x { texts = y }) f) tail g s) (append-nil x.texts) onward
 steps_texts (u ∷ us) f x tail g s all room short onward =
-    let ss = or_parts (is_long_text u) (list_any is_long_text us) short in
+    let ss = or_parts (is_long_string u) (list_any is_long_string us) short in
     let regroup : texts_bytes (u ∷ us) ++ tail ≡ units_bytes u ++ (texts_bytes us ++ tail) = append_assoc (units_bytes u) (texts_bytes us) tail in
-    let below : length x.texts < length x.languages * length (named_in f) = omega arith in
+    let below : length x.texts < length x.languages * length (named_indices f) = omega arith in
     let more = record x { texts = x.texts ++ u ∷ [] } in
-    let is : PartIs a_text (with_strings x f) (with_strings more f) (units_bytes u) =
+    let is : PartIs a_string (with_strings x f) (with_strings more f) (units_bytes u) =
     record { units = u; bytes = refl; enough = omega arith; short = ss.0; next = refl } in
-    let turn : due (with_strings x f) (texts_bytes (u ∷ us) ++ tail) ≡ a_text =
+    let turn : next_part (with_strings x f) (texts_bytes (u ∷ us) ++ tail) ≡ a_string =
     due_strings (with_strings x f) (texts_bytes (u ∷ us) ++ tail) (all_again f x f.other all) (λ _ e. cc)
-    ∙ cond-true (ltb (length x.texts) (length x.languages * length (named_in f))) _ _ (lt-ltb _ _ below) in
+    ∙ cond-true (ltb (length x.texts) (length x.languages * length (named_indices f))) _ _ (lt-ltb _ _ below) in
     let step : Step (with_strings x f) (texts_bytes (u ∷ us) ++ tail) (with_strings more f) (texts_bytes us ++ tail) = record {
       part = units_bytes u;
       is = subst (λ d. PartIs d (with_strings x f) (with_strings more f) (units_bytes u)) (sym turn) is;
@@ -172,19 +175,19 @@ steps_texts (u ∷ us) f x tail g s all room short onward =
     step_on (with_strings x f) (texts_bytes (u ∷ us) ++ tail) (with_strings more f) (texts_bytes us ++ tail) g s step
     (steps_texts us f more tail g s all (omega (arith, length-push x.texts u)) ss.1 again)
 
-strings_path : (f : DescriptorFile) (x : Strings) (rest : List ℕ) → AllSets f f.other → f.strings ≡ None → StringsFollow (length (named_in f)) x
+strings_path : (f : DescriptorFile) (x : Strings) (rest : List ℕ) → AllSets f f.other → f.strings ≡ None → StringsFollow (length (named_indices f)) x
     → Reaches f (strings_bytes (Some x) ++ rest) (with_strings x f) rest
 strings_path f x rest all no_strings follow =
     let bare : Strings = record { languages = x.languages; texts = [] } in
-    let long = or_parts (is_long_text x.languages) (list_any is_long_text x.texts) follow.short in
+    let long = or_parts (is_long_string x.languages) (list_any is_long_string x.texts) follow.short in
     let spoken = follow.spoken in
     let few = follow.few in
     let named = follow.named in
     let is : PartIs the_languages f (with_strings bare f) (units_bytes x.languages) =
     record { units = x.languages; bytes = refl; enough = omega arith; short = long.0; next = refl } in
-    let turn : due f (strings_bytes (Some x) ++ rest) ≡ the_languages =
-    due_strings f (strings_bytes (Some x) ++ rest) all (λ _ _. refl) ∙ ap (text_due (length (named_in f))) no_strings
-    ∙ cond-false (length (named_in f) == 0) _ _ (ne_eqb (length (named_in f)) 0 (λ e. absurd (omega arith))) in
+    let turn : next_part f (strings_bytes (Some x) ++ rest) ≡ the_languages =
+    due_strings f (strings_bytes (Some x) ++ rest) all (λ _ _. refl) ∙ ap (next_string (length (named_indices f))) no_strings
+    ∙ cond-false (length (named_indices f) == 0) _ _ (ne_eqb (length (named_indices f)) 0 (λ e. absurd (omega arith))) in
     let step : Step f (strings_bytes (Some x) ++ rest) (with_strings bare f) (texts_bytes x.texts ++ rest) = record {
       part = units_bytes x.languages;
       is = subst (λ d. PartIs d f (with_strings bare f) (units_bytes x.languages)) (sym turn) is;
@@ -213,7 +216,7 @@ from_main : (d : DeviceDescriptor) (ss : List Configuration) (o : Option Other) 
 from_main d ss None None rest front fits = here (made d ss None None) rest
 from_main d ss None (Some x) rest front fits = strings_path (made d ss None None) x rest front.order.0 refl front.order.1
 from_main d ss (Some o) s rest front fits =
-    let ks = or_parts (list_any (is_not_kind kinds.Configuration) ss) (list_any (is_not_kind kinds.OtherSpeed) o.sets) front.kinds in
+    let ks = or_parts (list_any (is_other_kind kinds.Configuration) ss) (list_any (is_other_kind kinds.OtherSpeed) o.sets) front.kinds in
     let ls = or_parts (list_any has_no_layout ss) (list_any has_no_layout o.sets) front.layouts in
     let bare : Other = record { qualifier = o.qualifier; sets = [] } in
     let f = made d ss None None in
@@ -248,7 +251,7 @@ few_sets f (Some o) (Some x) h = omega (arith, h.0)
 
 pub front_path : (f : DescriptorFile) (rest : List ℕ) → IsFront f → AreBytes (behind f rest) → Reaches (begun f.device) (behind f rest) f rest
 front_path f rest front fits =
-    let ks = or_parts (list_any (is_not_kind kinds.Configuration) f.sets) (list_any (is_not_kind kinds.OtherSpeed) (other_sets f.other)) front.kinds in
+    let ks = or_parts (list_any (is_other_kind kinds.Configuration) f.sets) (list_any (is_other_kind kinds.OtherSpeed) (other_sets f.other)) front.kinds in
     let ls = or_parts (list_any has_no_layout f.sets) (list_any has_no_layout (other_sets f.other)) front.layouts in
     let tail = other_bytes f.other ++ (strings_bytes f.strings ++ rest) in
     let few = few_sets f f.other f.strings front.order in
@@ -274,9 +277,9 @@ two_fronts laws b f g r s fits x y i j =
     let path = subst (λ d. Reaches (begun d) (behind f r) g s) (sym device) (subst (λ t. Reaches (begun g.device) t g s) (sym same.1) path_g) in
     meet laws path_f.count path.count (begun f.device) (behind f r) f r g s path_f.path path.path i j
 
-pub stuck_by_fault : (laws : PartLaws) (f : DescriptorFile) (r : List ℕ) (place : ℕ) (why : FileWhy) → PartFaulty (due f r) r place why → IsStuck f r
+pub stuck_by_fault : (laws : PartLaws) (f : DescriptorFile) (r : List ℕ) (place : ℕ) (why : FileWhy) → PartFaulty (next_part f r) r place why → IsStuck f r
 stuck_by_fault laws f r place why h g s step =
-    part_or_fault laws (due f r) f g step.part s place why step.is (subst (λ z. PartFaulty (due f r) z place why) step.parts h)
+    part_or_fault laws (next_part f r) f g step.part s place why step.is (subst (λ z. PartFaulty (next_part f r) z place why) step.parts h)
 
-pub stuck_at_end : (f : DescriptorFile) (r : List ℕ) → due f r ≡ the_end → IsStuck f r
+pub stuck_at_end : (f : DescriptorFile) (r : List ℕ) → next_part f r ≡ the_end → IsStuck f r
 stuck_at_end f r is g s step = subst (λ d. PartIs d f g step.part) is step.is

@@ -1,34 +1,38 @@
--- On texts that are put for each element of a list in turn.
-use Rattle.std.proofs.Common.{◌≡◌, ℕ, ◌+◌, zero, suc, List, [], ◌∷◌, ◌++◌, drop, take, Some, slice_get, refl, sym, ap, ◌∙◌, subst, add-one, append_assoc, append-nil}
-use Rattle.std.specs.List.{flat_map}
-use Rattle.usb_file.specs.Output.{AppendsFront, Held, Puts}
-use Rattle.usb_file.proofs.Pages.{front_longer, puts_broken, puts_more}
+-- Sets and strings, read one after another.
+use Rattle.std.proofs.Common.{◌≡◌, ℕ, ◌+◌, ◌≤◌, List, [], ◌∷◌, ◌++◌, length, drop, ap, sym, ◌∙◌, arith, length-append}
+use Rattle.std.proofs.lemmas.List.{length-drop}
+use Rattle.usb_set.specs.declared.tree.SetKind.{SetKind}
+use Rattle.usb_set.specs.declared.tree.Configuration.{Configuration}
+use Rattle.usb_file_data.specs.File.{whole_set, has_no_layout, is_other_kind}
+use Rattle.usb_file.specs.inside.Reading.{ReadsNextSet, ReadsSets}
+use Rattle.usb_file.proofs.Lists.{drop_front, drop_more, length-push, list_any-push, reads_more}
+use Rattle.usb_file.proofs.WholeSets.{layout_is, layout_allowed}
 
--- the texts of the elements up to x, and that of x
-take_next : {X : Type 0} (f : X → List ℕ) (xs : List X) (i : ℕ) (x : X) → slice_get xs i ≡ Some x
-    → flat_map f (take (i + 1) xs) ≡ flat_map f (take i xs) ++ f x
-take_next f [] zero x h = cc
-take_next f [] (suc i) x h = cc
-take_next f (y ∷ ys) zero x h = let same : y ≡ x = cc in append-nil (f y) ∙ ap f same
-take_next f (y ∷ ys) (suc i) x h =
-    rw add-one (rw add-one at (ap (λ l. f y ++ l) (take_next f ys i x h)) ∙ sym (append_assoc (f y) (flat_map f (take i ys)) (f x)))
+-- a part that is read from a place lies within the bytes
+within_all : (b p : List ℕ) (place end : ℕ) → place ≤ length b → drop place b ≡ p ++ drop end b → end ≡ place + length p → end ≤ length b
+within_all b p place end within parts ends = omega (arith, ap length parts, length-append p (drop end b), length-drop place b)
 
--- and those after x
-take_rest : {X : Type 0} (f : X → List ℕ) (xs : List X) (i : ℕ) → flat_map f xs ≡ flat_map f (take i xs) ++ flat_map f (drop i xs)
-take_rest f [] zero = refl
-take_rest f [] (suc i) = refl
-take_rest f (y ∷ ys) zero = refl
-take_rest f (y ∷ ys) (suc i) = ap (λ l. f y ++ l) (take_rest f ys i) ∙ sym (append_assoc (f y) (flat_map f (take i ys)) (flat_map f (drop i ys)))
+behind_front : (rest p after : List ℕ) (used : ℕ) → rest ≡ p ++ after → length p ≡ used → rest ≡ p ++ drop used rest
+behind_front rest p after used parts ends =
+    parts ∙ ap (λ x. p ++ x) (sym (ap (λ n. drop n rest) (sym ends) ∙ ap (drop (length p)) parts ∙ drop_front p after))
 
-pub row_put : {X : Type 0} (a b c : Held) (page mid rest : List ℕ) (f : X → List ℕ) (xs : List X) (i : ℕ) (x : X) → slice_get xs i ≡ Some x
-    → Puts a b page mid (flat_map f (take i xs)) → Puts b c mid rest (f x) → Puts a c page rest (flat_map f (take (i + 1) xs))
-row_put a b c page mid rest f xs i x h p q =
-    subst (Puts a c page rest) (sym (take_next f xs i x h)) (puts_more a b c page mid rest (flat_map f (take i xs)) (f x) p q)
+-- ---- sets
 
-pub row_broken : {X : Type 0} (a b c : Held) (page mid : List ℕ) (f : X → List ℕ) (xs : List X) (i : ℕ) (x : X) → slice_get xs i ≡ Some x
-    → Puts a b page mid (flat_map f (take i xs)) → AppendsFront b c (mid ++ f x) → AppendsFront a c (page ++ flat_map f xs)
-row_broken a b c page mid f xs i x h p q =
-    let short = puts_broken a b c page mid (flat_map f (take i xs)) (f x) p q in
-    let here = ap (λ l. page ++ l) (sym (take_next f xs i x h)) in
-    let whole = append_assoc page (flat_map f (take (i + 1) xs)) (flat_map f (drop (i + 1) xs)) ∙ ap (λ l. page ++ l) (sym (take_rest f xs (i + 1))) in
-    subst (AppendsFront a c) whole (front_longer a c (page ++ flat_map f (take (i + 1) xs)) (flat_map f (drop (i + 1) xs)) (subst (AppendsFront a c) here short))
+pub next_set : (kind : SetKind) (b : List ℕ) (start : ℕ) (old : List Configuration) (mid : ℕ) (new : List Configuration) (end : ℕ) → ReadsSets kind b start old mid
+    → ReadsNextSet kind b mid old new end → ReadsSets kind b start new end
+next_set kind b start old mid new end h next =
+    let c = next.set in
+    let used = next.reads.count in
+    let begins = next.reads.holds.begins in
+    let whole = layout_is c begins.front begins.layout in
+    let parts : drop mid b ≡ whole_set c ++ drop end b =
+    behind_front (drop mid b) begins.front begins.rest used begins.parts begins.ends ∙ ap (λ x. begins.front ++ x) (drop_more mid used b)
+    ∙ ap (λ n. begins.front ++ drop n b) (sym next.reads.at_is) ∙ ap (λ p. p ++ drop end b) whole in
+    let ends : end ≡ mid + length (whole_set c) = omega (arith, next.reads.at_is, begins.ends, ap length whole) in
+    let all = reads_more whole_set b start old mid c end h.all parts ends (within_all b (whole_set c) mid end h.all.within parts ends) in
+    let kinds = list_any-push (is_other_kind kind) old c h.kinds next.reads.holds.kind_is in
+    let layouts = list_any-push has_no_layout old c h.layouts (layout_allowed c begins.front begins.layout) in
+    rw next.grown (record { all = all; kinds = kinds; layouts = layouts })
+
+pub one_more : {A : Type 0} (old new : List A) (x : A) → new ≡ old ++ x ∷ [] → length new ≡ length old + 1
+one_more old new x grown = ap length grown ∙ length-push old x

@@ -9,22 +9,22 @@ use Rattle.usb_set.specs.declared.tree.SetKind.{SetKind}
 use Rattle.usb_set.specs.declared.tree.Configuration.{Configuration}
 use Rattle.usb_set.specs.Layout.{Layout}
 use Rattle.usb_set.specs.Faults.{Begins}
-use Rattle.usb_file.specs.declared.file.DescriptorFile.{DescriptorFile}
+use Rattle.usb_file_data.specs.declared.file.DescriptorFile.{DescriptorFile}
 use Rattle.usb_file.specs.declared.fault.FileWhy.{FileWhy}
 use Rattle.usb_file.specs.declared.fault.FileWhy.TheVariants as files
-use Rattle.usb_file.specs.File.{is_not_kind, is_long_text}
-use Rattle.usb_file.specs.FileFaults.{Due, a_set, a_qualifier, the_languages, a_text, the_end, is_no_text, text_fault, fixed_fault, SetFaulty, PartFaulty}
-use Rattle.usb_file.specs.Reading.{with_set, with_qualifier, with_strings}
+use Rattle.usb_file_data.specs.File.{is_other_kind, is_long_string}
 use Rattle.usb_file.proofs.Fronts.{text_with}
-use Rattle.usb_file.specs.PartLaws.{PartLaws}
-use Rattle.usb_file.proofs.Texts.{length-units_bytes}
+use Rattle.usb_file.specs.inside.PartLaws.{PartLaws}
+use Rattle.usb_file.proofs.Units.{length-units_bytes}
+use Rattle.usb_file.specs.FileFaults.{NextPart, a_set, a_qualifier, the_languages, a_string, the_end, is_no_string, string_fault, fixed_fault, SetFaulty, PartFaulty}
+use Rattle.usb_file.proofs.Fronts.{with_set, with_qualifier, with_strings}
 
 -- ---- parts
 
 pub record IsSet (kind : SetKind) (f g : DescriptorFile) (p : List ℕ) : Type 0 where
   pub set : Configuration
   pub layout : Layout set p
-  pub kind_is : is_not_kind kind set ≡ false
+  pub kind_is : is_other_kind kind set ≡ false
   pub next : g ≡ with_set kind set f
 
 pub record IsQualifier (f g : DescriptorFile) (p : List ℕ) : Type 0 where
@@ -36,15 +36,15 @@ pub record IsText (least : ℕ) (f g : DescriptorFile) (p : List ℕ) (next_of :
   pub units : List ℕ
   pub bytes : p ≡ units_bytes units
   pub enough : least ≤ 2 + 2 * length units
-  pub short : is_long_text units ≡ false
+  pub short : is_long_string units ≡ false
   pub next : g ≡ next_of units
 
 -- the part that is due is these bytes, and makes of the first file so far the second
-abbrev pub PartIs : Due → DescriptorFile → DescriptorFile → List ℕ → Type 0
+abbrev pub PartIs : NextPart → DescriptorFile → DescriptorFile → List ℕ → Type 0
 PartIs (a_set kind) f g p = IsSet kind f g p
 PartIs a_qualifier f g p = IsQualifier f g p
 PartIs the_languages f g p = IsText 4 f g p (λ u. with_strings (record { languages = u; texts = [] }) f)
-PartIs a_text f g p = IsText 2 f g p (λ u. record f { strings = text_with u f.strings })
+PartIs a_string f g p = IsText 2 f g p (λ u. record f { strings = text_with u f.strings })
 PartIs the_end f g p = ⊥
 
 pub append_same : (a c r s : List ℕ) → length a ≡ length c → a ++ r ≡ c ++ s → (a ≡ c) × (r ≡ s)
@@ -87,11 +87,11 @@ one_text_part laws least f g h p q r s next_of x y e =
     let one = laws.one_list x.units y.units same.0 in
     (x.next ∙ ap next_of one ∙ sym y.next, same.1)
 
-pub one_part : (laws : PartLaws) (d : Due) (f g h : DescriptorFile) (p q r s : List ℕ) → PartIs d f g p → PartIs d f h q → p ++ r ≡ q ++ s → (g ≡ h) × (r ≡ s)
+pub one_part : (laws : PartLaws) (d : NextPart) (f g h : DescriptorFile) (p q r s : List ℕ) → PartIs d f g p → PartIs d f h q → p ++ r ≡ q ++ s → (g ≡ h) × (r ≡ s)
 one_part laws (a_set kind) f g h p q r s x y e = one_set_part laws kind f g h p q r s x y e
 one_part laws a_qualifier f g h p q r s x y e = one_qualifier_part laws f g h p q r s x y e
 one_part laws the_languages f g h p q r s x y e = one_text_part laws 4 f g h p q r s _ x y e
-one_part laws a_text f g h p q r s x y e = one_text_part laws 2 f g h p q r s _ x y e
+one_part laws a_string f g h p q r s x y e = one_text_part laws 2 f g h p q r s _ x y e
 one_part laws the_end f g h p q r s x y e = absurd x
 
 -- ---- no part is at fault
@@ -100,7 +100,7 @@ set_or_fault : (laws : PartLaws) (kind : SetKind) (f g : DescriptorFile) (p r : 
 set_or_fault laws kind f g p r place (files.Set why) x h = laws.not_both (p ++ r) x.set (length p) place why (begins_with p r x.set x.layout) h
 set_or_fault laws kind f g p r place files.SetKind x h =
     let one = laws.one_set x.set h.0 (p ++ r) (length p) h.1 (begins_with p r x.set x.layout) h.2 in
-    let differs : false ≡ true = sym x.kind_is ∙ ap (is_not_kind kind) one.0 ∙ h.3 in
+    let differs : false ≡ true = sym x.kind_is ∙ ap (is_other_kind kind) one.0 ∙ h.3 in
     cc
 set_or_fault laws kind f g p r place files.Truncated x h = h.0.no_layout x.set (length p) (begins_with p r x.set x.layout)
 set_or_fault laws kind f g p r place why x h = h
@@ -111,23 +111,23 @@ qualifier_fine q r = cond-false (ltb (length (qualifier_bytes q ++ r)) 10) _ _ (
 even : (n : ℕ) → ((2 + 2 * n) % 2 == 1) ≡ false
 even n = ne_eqb ((2 + 2 * n) % 2) 1 (λ e. absurd (omega arith))
 
-text_fine : (least : ℕ) (u r : List ℕ) → least ≤ 2 + 2 * length u → text_fault least (units_bytes u ++ r) ≡ None
+text_fine : (least : ℕ) (u r : List ℕ) → least ≤ 2 + 2 * length u → string_fault least (units_bytes u ++ r) ≡ None
 text_fine least u r enough =
     let long = length-append (units_bytes u) r in
     let units = length-units_bytes u in
-    cond-false (is_no_text least (units_bytes u ++ r)) _ _ (or_from _ _ (or_from (ltb (2 + 2 * length u) least) _ (le-ltb _ least enough) (even (length u))) refl)
+    cond-false (is_no_string least (units_bytes u ++ r)) _ _ (or_from _ _ (or_from (ltb (2 + 2 * length u) least) _ (le-ltb _ least enough) (even (length u))) refl)
     ∙ cond-false (ltb (length (units_bytes u ++ r)) 2 || ltb (length (units_bytes u ++ r)) (2 + 2 * length u)) _ _
     (or_from _ _ (le-ltb _ 2 (omega arith)) (le-ltb _ (2 + 2 * length u) (omega arith)))
 
 text_or_fault : (least : ℕ) (f g : DescriptorFile) (p r : List ℕ) (next_of : List ℕ → DescriptorFile) (place : ℕ) (why : FileWhy) → IsText least f g p next_of
-    → text_fault least (p ++ r) ≡ Some (place, why) → ⊥
+    → string_fault least (p ++ r) ≡ Some (place, why) → ⊥
 text_or_fault least f g p r next_of place why x h =
-    let fine : text_fault least (p ++ r) ≡ None = ap (λ z. text_fault least (z ++ r)) x.bytes ∙ text_fine least x.units r x.enough in
+    let fine : string_fault least (p ++ r) ≡ None = ap (λ z. string_fault least (z ++ r)) x.bytes ∙ text_fine least x.units r x.enough in
     let none : Option (ℕ × FileWhy) = None in
     let no : none ≡ Some (place, why) = sym fine ∙ h in
     cc
 
-pub part_or_fault : (laws : PartLaws) (d : Due) (f g : DescriptorFile) (p r : List ℕ) (place : ℕ) (why : FileWhy) → PartIs d f g p → PartFaulty d (p ++ r) place why → ⊥
+pub part_or_fault : (laws : PartLaws) (d : NextPart) (f g : DescriptorFile) (p r : List ℕ) (place : ℕ) (why : FileWhy) → PartIs d f g p → PartFaulty d (p ++ r) place why → ⊥
 part_or_fault laws (a_set kind) f g p r place why x h = set_or_fault laws kind f g p r place why x h
 part_or_fault laws a_qualifier f g p r place why x h =
     let fine : fixed_fault 10 (is_some (qualifier_fault (take 10 (p ++ r)))) files.Qualifier (p ++ r) ≡ None =
@@ -136,7 +136,7 @@ part_or_fault laws a_qualifier f g p r place why x h =
     let no : none ≡ Some (place, why) = sym fine ∙ h in
     cc
 part_or_fault laws the_languages f g p r place why x h = text_or_fault 4 f g p r _ place why x h
-part_or_fault laws a_text f g p r place why x h = text_or_fault 2 f g p r _ place why x h
+part_or_fault laws a_string f g p r place why x h = text_or_fault 2 f g p r _ place why x h
 part_or_fault laws the_end f g p r place why x h = x
 
 -- ---- one fault
@@ -163,10 +163,10 @@ told_same p q v w o h k =
     let pairs : found ≡ told = cc in
     (ap (λ (x : ℕ × FileWhy). x.0) pairs, ap (λ (x : ℕ × FileWhy). x.1) pairs)
 
-pub part_faults : (laws : PartLaws) (d : Due) (rest : List ℕ) (p q : ℕ) (v w : FileWhy) → PartFaulty d rest p v → PartFaulty d rest q w → (p ≡ q) × (v ≡ w)
+pub part_faults : (laws : PartLaws) (d : NextPart) (rest : List ℕ) (p q : ℕ) (v w : FileWhy) → PartFaulty d rest p v → PartFaulty d rest q w → (p ≡ q) × (v ≡ w)
 part_faults laws (a_set kind) rest p q v w x y = set_faults laws kind rest p q v w x y
 part_faults laws a_qualifier rest p q v w x y = told_same p q v w _ x y
 part_faults laws the_languages rest p q v w x y = told_same p q v w _ x y
-part_faults laws a_text rest p q v w x y = told_same p q v w _ x y
+part_faults laws a_string rest p q v w x y = told_same p q v w _ x y
 part_faults laws the_end [] p q v w x y = absurd x
 part_faults laws the_end (z ∷ rest) p q v w x y = (x.0 ∙ sym y.0, x.1 ∙ sym y.1)

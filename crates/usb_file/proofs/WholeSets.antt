@@ -4,7 +4,7 @@ use Rattle.std.specs.Prelude.{is_some}
 use Rattle.usb_set.specs.declared.tree.Configuration.{Configuration}
 use Rattle.usb_set.specs.Layout.{Layout, set_bytes}
 use Rattle.usb_set.proofs.Sets.{has_length, no_refusal}
-use Rattle.usb_file.specs.File.{whole_set, has_no_layout}
+use Rattle.usb_file_data.specs.File.{whole_set, has_no_layout}
 
 -- a layout is the set with its own length
 pub layout_is : (c : Configuration) (b : List ℕ) → Layout c b → b ≡ whole_set c

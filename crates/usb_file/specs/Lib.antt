@@ -1,13 +1,5 @@
-pub mod Marks
-pub mod Named
-pub mod Numbers
-pub mod File
+pub mod Front
 pub mod FileFaults
-pub mod Reading
-pub mod Output
-pub mod Lines
-pub mod SetListing
-pub mod StringListing
-pub mod Listing
-pub mod Verdict
-pub mod PartLaws
+pub mod FileOrFault
+pub mod Numbers
+pub mod inside

@@ -1,17 +1,16 @@
 //! What holds of files and faults, whoever reads the bytes. Each law is the contract of a function that
 //! does nothing.
 ghost use Rattle.std.specs.Prelude.{◌≡◌, ℕ, List};
-ghost use Rattle.std.specs.List.{AllByRecursion};
-ghost use Rattle.usb_set.specs.Layout.{IsByte};
-ghost use Rattle.usb_file.specs.File.{File};
+ghost use Rattle.usb_base.specs.Bytes.{AreBytes};
+ghost use Rattle.usb_file_data.specs.File.{File};
 ghost use Rattle.usb_file.specs.FileFaults.{FileFaulty};
-ghost use Rattle.usb_file.specs.PartLaws.{PartLaws};
-ghost use Rattle.usb_file.specs.Verdict.{Verdict};
-ghost use Rattle.usb_file.specs.declared.file.DescriptorFile.{DescriptorFile};
+ghost use Rattle.usb_file.specs.inside.PartLaws.{PartLaws};
+ghost use Rattle.usb_file.specs.FileOrFault.{FileOrFault};
+ghost use Rattle.usb_file_data.specs.declared.file.DescriptorFile.{DescriptorFile};
 ghost use Rattle.usb_file.specs.declared.fault.FileWhy.{FileWhy};
 
 use usb_fields::laws::{device_descriptor_round_trip, qualifier_round_trip, units_round_trip};
-use usb_set::laws::{one_layout, one_verdict};
+use usb_set::laws::{one_layout, one_judgement};
 
 /// Bytes are those of one file at most, and a file has one list of bytes at most.
 pub fn one_file()
@@ -23,8 +22,8 @@ pub fn one_file()
 
 /// Of all bytes exactly one holds: they are those of a file, or they show one fault at one place.
 pub fn one_answer()
-    ensures some { (b : List ℕ) → AllByRecursion IsByte b → Verdict b }
-    ensures one_fault { (b : List ℕ) (p q : ℕ) (v w : FileWhy) → AllByRecursion IsByte b → FileFaulty b p v → FileFaulty b q w → (p ≡ q) × (v ≡ w) }
+    ensures some { (b : List ℕ) → AreBytes b → FileOrFault b }
+    ensures one_fault { (b : List ℕ) (p q : ℕ) (v w : FileWhy) → AreBytes b → FileFaulty b p v → FileFaulty b q w → (p ≡ q) × (v ≡ w) }
     ensures not_both { (b : List ℕ) (f : DescriptorFile) (p : ℕ) (w : FileWhy) → File f b → FileFaulty b p w → ⊥ }
 {
     part_laws();
@@ -38,5 +37,5 @@ fn part_laws()
     qualifier_round_trip();
     units_round_trip();
     one_layout();
-    one_verdict();
+    one_judgement();
 }

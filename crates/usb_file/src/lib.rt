@@ -7,37 +7,23 @@
 //! strings a file names. [`list`] writes a file as text, a line for each descriptor, and [`list_set`] one
 //! set alone.
 //!
-//! - What the bytes of a file are is `specs/File.antt`; what is wrong with bytes, and where, is
-//!   `specs/FileFaults.antt`; which strings are named is `specs/Named.antt`.
-//! - What a listing is is `specs/Listing.antt`, with the lines of a set in `specs/SetListing.antt`, those of
-//!   the strings in `specs/StringListing.antt`, and the form of a line in `specs/Lines.antt`.
+//! - The data, what its bytes are and which strings it names stand in the crate usb_file_data, the
+//!   listings in usb_listing; all their public calls and types are named here too.
+//! - What is wrong with bytes, and where, is `specs/FileFaults.antt`.
 //! - The module [`laws`] states what holds of files and faults, whoever reads them.
 #![tactic(auto)]
 
 mod device;
 mod fault;
-mod file;
-mod judging;
-mod known;
 pub mod laws;
-mod listing;
-mod marks;
-mod naming;
-mod output;
-mod page;
-mod qualifier;
+mod other;
 mod reading;
-mod set_listing;
 mod sets;
-mod string_listing;
 mod strings;
 mod writing;
 
-pub use fault::{FileFault, FileWhy, WriteFault};
-pub use file::{DescriptorFile, Other, Strings};
-pub use listing::list;
-pub use naming::{NoMemory, named};
-pub use output::OutFault;
+pub use fault::{FileFault, FileWhy};
 pub use reading::read_file;
-pub use set_listing::list_set;
+pub use usb_file_data::{DescriptorFile, NoMemory, Other, Strings, WriteFault, named};
+pub use usb_listing::{OutFault, list, list_set};
 pub use writing::write_file;

@@ -1,19 +1,20 @@
 //! A file, read part by part.
 ghost use Rattle.std.specs.Prelude.{◌≡◌, ◌≤◌, IfErr, IfOk, drop, length};
-ghost use Rattle.usb_file.specs.File.{File};
-ghost use Rattle.usb_file.specs.FileFaults.{RefusesToRead};
+ghost use Rattle.usb_file_data.specs.File.{File};
+ghost use Rattle.usb_file.specs.FileFaults.{ReadRefused};
 ghost use Rattle.usb_file.specs.declared.fault.FileWhy.TheVariants as files;
-ghost use Rattle.usb_file.specs.declared.file.DescriptorFile.{DescriptorFile};
+ghost use Rattle.usb_file_data.specs.declared.file.DescriptorFile.{DescriptorFile};
 
-use crate::device::{DEVICE_LENGTH, begin_file};
+use crate::device::{DEVICE_LENGTH, read_device};
 use crate::fault::{FileFault, FileWhy};
-use crate::file::DescriptorFile;
 use crate::laws::one_answer;
-use crate::qualifier::read_other;
+use crate::other::read_other;
 use crate::sets::read_sets;
 use crate::strings::read_strings;
 use std::alloc::Global;
-use usb_set::SetKind;
+use usb_base::known_bytes;
+use usb_file_data::{DescriptorFile, count_named};
+use usb_set::{Sequence, SetKind};
 
 /// The file that the bytes are (USB 2.0, 9.4.3 and 9.6). Each set is read where it stands: the decoder is
 /// handed the bytes from the set's first one on.
@@ -24,7 +25,7 @@ use usb_set::SetKind;
 /// starts.
 pub fn read_file(alloc: Global, b: &[u8]) -> Result<DescriptorFile, FileFault>
     ensures ok { IfOk result (λ f. File f b.now) }
-    ensures refused { IfErr result (λ fault. RefusesToRead b.now fault.at fault.why) }
+    ensures err { IfErr result (λ fault. ReadRefused b.now fault.at fault.why) }
     // The bytes of a file are refused for want of memory alone.
     ensures only { IfErr result (λ fault. (f : DescriptorFile) → File f b.now → fault.why ≡ files.Memory) }
 {
@@ -35,12 +36,23 @@ pub fn read_file(alloc: Global, b: &[u8]) -> Result<DescriptorFile, FileFault>
 /// The file, read part by part.
 fn read_parts(alloc: Global, b: &[u8]) -> Result<DescriptorFile, FileFault>
     ensures ok { IfOk result (λ f. File f b.now) }
-    ensures refused { IfErr result (λ fault. RefusesToRead b.now fault.at fault.why) }
+    ensures err { IfErr result (λ fault. ReadRefused b.now fault.at fault.why) }
 {
-    let mut f = begin_file(alloc, b)?;
-    let main_end = read_sets(alloc, b, SetKind::Configuration, &mut f, DEVICE_LENGTH)?;
-    let other_end = read_other(alloc, b, &mut f, main_end)?;
-    let end = read_strings(alloc, b, &mut f, other_end)?;
+    known_bytes(b);
+    let device = read_device(b)?;
+    let mut sets = Sequence::new(alloc);
+    let declared = device.configurations;
+    let kind = SetKind::Configuration;
+    let main_end = read_sets(alloc, b, DEVICE_LENGTH, kind, declared, &mut sets)?;
+    let (other, other_end) = read_other(alloc, b, main_end)?;
+    let mut f = DescriptorFile {
+        device,
+        sets,
+        other,
+        strings: None,
+    };
+    let (strings, end) = read_strings(alloc, b, other_end, count_named(&f))?;
+    f.strings = strings;
     if end < b.len() {
         return Err(FileFault::new(end, FileWhy::Trailing));
     }

@@ -2,15 +2,13 @@
 ghost use Rattle.std.specs.Prelude.{◌≡◌, ◌++◌, ℕ, List, IfErr, IfOk, None, OnErr, OnOk, false};
 ghost use Rattle.std.specs.List.{list_any};
 ghost use Rattle.usb_fields.specs.Units.{units_bytes};
-ghost use Rattle.usb_file.specs.File.{File, RefusesToWrite, file_bytes, has_long_text, has_no_layout, is_long_text, other_bytes, sets_bytes, strings_bytes, texts_bytes, whole_set, write_refusal};
-ghost use Rattle.usb_file.specs.Named.{other_sets};
+ghost use Rattle.usb_file_data.specs.File.{File, WriteRefused, file_bytes, has_long_string, has_no_layout, is_long_string, other_bytes, sets_bytes, strings_bytes, texts_bytes, whole_set, write_refusal};
+ghost use Rattle.usb_file_data.specs.Named.{other_sets};
 
-use crate::fault::WriteFault;
-use crate::file::{DescriptorFile, Other, Strings};
-use crate::judging::why_not;
-use crate::known::known_bytes;
 use std::alloc::{AllocError, Global};
+use usb_base::known_bytes;
 use usb_fields::write_units;
+use usb_file_data::{DescriptorFile, Other, Strings, WriteFault, known_bytes, write_refusal};
 use usb_set::{Configuration, Sequence, encode};
 
 /// The bytes of a file: its parts one after another, each written once (USB 2.0, 9.4.3 and 9.6).
@@ -21,11 +19,11 @@ use usb_set::{Configuration, Sequence, encode};
 /// `Memory` where it has bytes and a growth was refused.
 pub fn write_file(alloc: Global, f: &DescriptorFile) -> Result<Vec<u8>, WriteFault>
     ensures ok { IfOk result (λ b. File f.now b.items) }
-    ensures refused { IfErr result (λ fault. RefusesToWrite f.now fault) }
+    ensures err { IfErr result (λ fault. WriteRefused f.now fault) }
     // A file with a reason has no bytes.
     ensures only { (b : List ℕ) → File f.now b → write_refusal f.now ≡ None }
 {
-    if let Some(fault) = why_not(f) {
+    if let Some(fault) = write_refusal(f) {
         return Err(fault);
     }
     match file_of(alloc, f) {
@@ -90,7 +88,7 @@ fn put_strings(
     out: &mut Vec<u8>,
     strings: &Option<Strings>,
 ) -> Result<(), AllocError>
-    requires { has_long_text strings.now ≡ false }
+    requires { has_long_string strings.now ≡ false }
     ensures { OnOk result (out.new.items ≡ out.old.items ++ strings_bytes strings.now) }
 {
     match strings {
@@ -104,7 +102,7 @@ fn put_strings(
 
 #[tactic(auto, using(usb_set::proofs::Tests::none_at))]
 fn put_texts(alloc: Global, out: &mut Vec<u8>, texts: &[Sequence<u16>]) -> Result<(), AllocError>
-    requires { list_any is_long_text texts.now ≡ false }
+    requires { list_any is_long_string texts.now ≡ false }
     ensures { OnOk result (out.new.items ≡ out.old.items ++ texts_bytes texts.now) }
 {
     for text in texts {
@@ -114,7 +112,7 @@ fn put_texts(alloc: Global, out: &mut Vec<u8>, texts: &[Sequence<u16>]) -> Resul
 }
 
 fn put_text(alloc: Global, out: &mut Vec<u8>, text: &Sequence<u16>) -> Result<(), AllocError>
-    requires { is_long_text text.now ≡ false }
+    requires { is_long_string text.now ≡ false }
     ensures { OnOk result (out.new.items ≡ out.old.items ++ units_bytes text.now) }
 {
     match write_units(alloc, text.as_slice()) {

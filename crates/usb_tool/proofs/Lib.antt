@@ -1,2 +1,4 @@
 pub mod Showing
 pub mod LineLemmas
+pub mod Running
+pub mod Intakes

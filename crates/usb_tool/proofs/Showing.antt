@@ -9,13 +9,13 @@ use Rattle.usb_set.specs.declared.tree.Configuration.{Configuration}
 use Rattle.usb_set.specs.Faults.{Begins}
 use Rattle.usb_set.specs.Feeding.{out_of_memory}
 use Rattle.usb_set.specs.Layout.{Layout}
-use Rattle.usb_file.specs.declared.output.OutFault.{OutFault}
-use Rattle.usb_file.specs.declared.output.OutFault.TheVariants as outs
-use Rattle.usb_file.specs.Output.{Held}
-use Rattle.usb_file.specs.SetListing.{set_text}
-use Rattle.usb_file.proofs.Pages.{front_whole}
+use Rattle.usb_listing.specs.declared.output.OutFault.{OutFault}
+use Rattle.usb_listing.specs.declared.output.OutFault.TheVariants as outs
+use Rattle.usb_listing.specs.Output.{Held}
+use Rattle.usb_listing.specs.SetListing.{set_lines}
+use Rattle.usb_listing.proofs.Pages.{front_whole, keeps_refl}
 use Rattle.usb_tool.specs.Faults.{fault_by_why, fault_of_output, fault_of_set}
-use Rattle.usb_tool.specs.Sets.{HasFault}
+use Rattle.usb_tool.specs.inside.Intake.{IsNoSet}
 use Rattle.usb_tool.specs.Shows.{IsListing, RefusesToShow, WritesListing, WritesListingFront, is_one_set}
 use Rattle.usb_tool.specs.declared.fault.ToolFault.{ToolFault}
 use Rattle.usb_tool.specs.declared.fault.ToolFault.TheVariants as faults
@@ -31,42 +31,23 @@ begins_whole b c place begins h =
     subst (Layout c) (sym (begins.parts ∙ nothing_after begins.front begins.rest short)) begins.layout
 
 -- the listing of bytes that are read as a set
-pub set_listed : (b : List ℕ) (c : Configuration) → is_one_set b ≡ true → Layout c b → IsListing (is_one_set b) b (set_text c)
-set_listed b c one layout = subst (λ one. IsListing one b (set_text c)) (sym one) (record { set = c; layout = layout; listing = refl })
-
-set_fails : (b : List ℕ) (held holds : Held) (why : SetWhy) (e : SetFault) → HasFault b e ⊎ (why ≡ whys.Memory)
-    → is_one_set b ≡ true → Keeps held holds → RefusesToShow b held holds (fault_by_why why e)
-set_fails b held holds whys.Memory e f one kept = inl kept
-set_fails b held holds whys.HeaderLength e (inl f) one kept = (one, f, kept)
-set_fails b held holds whys.HeaderKind e (inl f) one kept = (one, f, kept)
-set_fails b held holds whys.Total e (inl f) one kept = (one, f, kept)
-set_fails b held holds whys.ItemLength e (inl f) one kept = (one, f, kept)
-set_fails b held holds whys.Over e (inl f) one kept = (one, f, kept)
-set_fails b held holds whys.Nested e (inl f) one kept = (one, f, kept)
-set_fails b held holds whys.ItemShort e (inl f) one kept = (one, f, kept)
-set_fails b held holds whys.Stray e (inl f) one kept = (one, f, kept)
-set_fails b held holds whys.Truncated e (inl f) one kept = (one, f, kept)
-set_fails b held holds why e (inr memory) one kept =
-    subst (λ w. RefusesToShow b held holds (fault_by_why w e)) (sym memory) (inl kept)
-
-as_memory : (b : List ℕ) (e : SetFault) → (e ≡ out_of_memory) ⊎ HasFault b e → HasFault b e ⊎ (e.why ≡ whys.Memory)
-as_memory b e (inl h) = inr (ap (λ (x : SetFault). x.why) h)
-as_memory b e (inr f) = inl f
+pub set_listed : (b : List ℕ) (c : Configuration) → is_one_set b ≡ true → Layout c b → IsListing (is_one_set b) b (set_lines c)
+set_listed b c one layout = subst (λ one. IsListing one b (set_lines c)) (sym one) (record { set = c; layout = layout; listing = refl })
 
 -- bytes that are no set, nothing being written
-pub fails_by_set : {T : Type 0} (b : List ℕ) (held holds : Held) (r : Result T ToolFault) (e : SetFault)
-    → IsErrAnd r (λ fault. fault ≡ fault_of_set e) → (e ≡ out_of_memory) ⊎ HasFault b e → is_one_set b ≡ true → Keeps held holds
-    → IfErr r (RefusesToShow b held holds)
-fails_by_set b held holds (Ok v) e h f one kept = tt
-fails_by_set b held holds (Err fault) e h f one kept =
-    subst (RefusesToShow b held holds) (sym h) (set_fails b held holds e.why e (as_memory b e f) one kept)
+pub no_set_is_refused : (b : List ℕ) (held : Held) (e : ToolFault) → IsNoSet b e → is_one_set b ≡ true → RefusesToShow b held held e
+no_set_is_refused b held (faults.Set fault) h one = (one, h, keeps_refl held)
+no_set_is_refused b held (faults.Trailing at) h one = (one, h, keeps_refl held)
+no_set_is_refused b held faults.Memory h one = inl (keeps_refl held)
+no_set_is_refused b held faults.Read h one = elim h [ ]
+no_set_is_refused b held faults.Write h one = elim h [ ]
+no_set_is_refused b held faults.TooLarge h one = elim h [ ]
+no_set_is_refused b held (faults.File fault) h one = elim h [ ]
 
 -- bytes whose listing was not written to its end
-pub fails_by_output : {T : Type 0} (b : List ℕ) (held holds : Held) (r : Result T ToolFault) (o : OutFault)
-    → IsErrAnd r (λ fault. fault ≡ fault_of_output o) → WritesListingFront b held holds → IfErr r (RefusesToShow b held holds)
-fails_by_output b held holds (Ok v) o h p = tt
-fails_by_output b held holds (Err fault) outs.Write h p = subst (RefusesToShow b held holds) (sym h) p
-fails_by_output b held holds (Err fault) outs.Memory h p = subst (RefusesToShow b held holds) (sym h) (inr p)
+pub output_is_refused : (b : List ℕ) (held holds : Held) (o : OutFault) → WritesListingFront b held holds → RefusesToShow b held holds (fault_of_output o)
+output_is_refused b held holds outs.Write p = p
+output_is_refused b held holds outs.Memory p = inr p
 
 -- the whole listing is a front of itself
 pub shown_front : (b : List ℕ) (a c d : Held) → WritesListing b a c → Keeps c d → WritesListingFront b a d

@@ -11,8 +11,8 @@ use Rattle.usb_file.specs.Numbers.{why_number}
 use Rattle.usb_file.specs.declared.fault.FileFault.{FileFault}
 use Rattle.usb_file.specs.declared.fault.FileWhy.{FileWhy}
 use Rattle.usb_file.specs.declared.fault.FileWhy.TheVariants as files
-use Rattle.usb_file.specs.declared.output.OutFault.{OutFault}
-use Rattle.usb_file.specs.declared.output.OutFault.TheVariants as outs
+use Rattle.usb_listing.specs.declared.output.OutFault.{OutFault}
+use Rattle.usb_listing.specs.declared.output.OutFault.TheVariants as outs
 
 -- the number of a fault
 abbrev pub fault_number : ToolFault → ℕ

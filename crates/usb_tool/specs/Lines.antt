@@ -17,10 +17,10 @@ usbdesc_app = with_subcommand (requiring (new_app (codes "usbdesc"))) (new_app (
 abbrev pub IsNamed : Text → Option (Text × List Row) → Type 0
 IsNamed name found = option_map (λ p. p.0) found ≡ Some name
 
--- the line is that of the subcommand that was found
-abbrev pub Says : Line → Option (Text × List Row) → Type 0
-Says lines.Show found = IsNamed (codes "show") found
+-- the line is what the subcommand that was found asks for
+abbrev pub Asks : Line → Option (Text × List Row) → Type 0
+Asks lines.Show found = IsNamed (codes "show") found
 
--- the words as texts
-abbrev pub texts_of : List (String Global) → List Text
-texts_of = map (λ s. string_bytes s)
+-- the words as clap sees them
+abbrev pub word_texts : List (String Global) → List Text
+word_texts = map (λ s. string_bytes s)

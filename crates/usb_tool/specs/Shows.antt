@@ -1,16 +1,16 @@
 -- What `show` does to its input and its output.
-use Rattle.std.specs.Prelude.{◌≡◌, ℕ, ◌<◌, ◌⊎◌, List, [], ◌∷◌, length, take, Bool, true, false, ◌==◌, ◌||◌}
+use Rattle.std.specs.Prelude.{◌≡◌, ℕ, ◌⊎◌, List, [], ◌∷◌, Bool, true, false, ◌==◌, ◌||◌}
 use Rattle.std.specs.Io.KnownBytes.{Appends, Keeps}
 use Rattle.usb_set.specs.declared.tree.Configuration.{Configuration}
 use Rattle.usb_set.specs.Layout.{Layout}
-use Rattle.usb_file.specs.declared.file.DescriptorFile.{DescriptorFile}
-use Rattle.usb_file.specs.File.{File}
+use Rattle.usb_file_data.specs.declared.file.DescriptorFile.{DescriptorFile}
+use Rattle.usb_file_data.specs.File.{File}
 use Rattle.usb_file.specs.FileFaults.{FileFaulty}
-use Rattle.usb_file.specs.Listing.{list_text}
-use Rattle.usb_file.specs.Output.{AppendsFront, Held}
-use Rattle.usb_file.specs.SetListing.{set_text}
-use Rattle.usb_tool.specs.Input.{Left, ReadsAll, ReadsMore}
-use Rattle.usb_tool.specs.Sets.{HasFault}
+use Rattle.usb_listing.specs.Listing.{file_lines}
+use Rattle.usb_listing.specs.Output.{AppendsFront, Held}
+use Rattle.usb_listing.specs.SetListing.{set_lines}
+use Rattle.usb_tool.specs.Input.{Left, ReadsAll, ReadsMore, ReadsSome}
+use Rattle.usb_tool.specs.Sets.{GoesOn, HasFault}
 use Rattle.usb_tool.specs.declared.fault.ToolFault.{ToolFault}
 use Rattle.usb_tool.specs.declared.fault.ToolFault.TheVariants as faults
 
@@ -29,13 +29,13 @@ is_one_set (len ∷ kind ∷ rest) = (kind == 2) || (kind == 7)
 pub record IsSetListing (b text : List ℕ) : Type 0 where
   pub set : Configuration
   pub layout : Layout set b
-  pub listing : text ≡ set_text set
+  pub listing : text ≡ set_lines set
 
 -- the text is the listing of the file that has these bytes
 pub record IsFileListing (b text : List ℕ) : Type 0 where
   pub file : DescriptorFile
   pub layout : File file b
-  pub listing : text ≡ list_text file
+  pub listing : text ≡ file_lines file
 
 -- the text is the listing of what the bytes are read as
 abbrev pub IsListing : Bool → List ℕ → List ℕ → Type 0
@@ -54,12 +54,6 @@ pub record WritesListingFront (b : List ℕ) (held holds : Held) : Type 0 where
   pub listing : IsListing (is_one_set b) b text
   pub written : AppendsFront held holds text
 
--- the bytes go on after the layout of a set that ends at this place
-pub record GoesOn (b : List ℕ) (at : ℕ) : Type 0 where
-  pub set : Configuration
-  pub layout : Layout set (take at b)
-  pub more : at < length b
-
 -- How bytes are not shown: nothing was written where they are no set or no file, and else a front of their
 -- listing. They are told to be no set only where they are read as one, and no file only where they are not.
 abbrev pub RefusesToShow : List ℕ → Held → Held → ToolFault → Type 0
@@ -71,7 +65,7 @@ RefusesToShow b held holds faults.Memory = Keeps held holds ⊎ WritesListingFro
 RefusesToShow b held holds fault = ⊥
 
 -- all was read, and its listing was written
-pub record Shows (from to : Left) (held holds : Held) : Type 0 where
+pub record Shown (from to : Left) (held holds : Held) : Type 0 where
   pub bytes : List ℕ
   pub read : ReadsAll file_limit from to bytes
   pub written : WritesListing bytes held holds
@@ -82,9 +76,11 @@ pub record ReadsInVain (from to : Left) (held holds : Held) (fault : ToolFault) 
   pub read : ReadsAll file_limit from to bytes
   pub refused : RefusesToShow bytes held holds fault
 
--- How `show` fails: nothing was written before all was read.
+-- How `show` fails: nothing was written before all was read, and at most the limit was read before a read or a
+-- growth failed.
 abbrev pub ShowFails : Left → Left → Held → Held → ToolFault → Type 0
-ShowFails from to held holds faults.Read = Keeps held holds
+ShowFails from to held holds faults.Read = ReadsSome file_limit from to × Keeps held holds
 ShowFails from to held holds faults.TooLarge = ReadsMore file_limit from to × Keeps held holds
-ShowFails from to held holds faults.Memory = Keeps held holds ⊎ ReadsInVain from to held holds faults.Memory
+ShowFails from to held holds faults.Memory =
+    (ReadsSome file_limit from to × Keeps held holds) ⊎ ReadsInVain from to held holds faults.Memory
 ShowFails from to held holds fault = ReadsInVain from to held holds fault

@@ -10,7 +10,7 @@ use usb_file::{FileFault, FileWhy, OutFault};
 use usb_set::{SetFault, SetWhy};
 
 /// Why a command did not do its work.
-#[derive(Clone, Copy, Debug, PartialEq, Eq)]
+#[derive(Clone, Copy, Debug, PartialEq, Eq, Hash)]
 pub enum ToolFault {
     /// The reader answered an error.
     Read,

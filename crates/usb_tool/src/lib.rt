@@ -5,18 +5,22 @@
 //! those that the writer gains, where the two tell them: `specs/Shows.antt` says what it does, fault by
 //! fault. What each line says stands in the crate `usb_file`.
 //!
-//! [`read_line`] reads the command line, [`ToolFault`] says why a command failed, and [`verdict`]
-//! gives the exit status.
+//! [`run`] is the whole program over any standard streams: [`read_line`] reads its command line,
+//! [`ToolFault`] says why a command failed, and [`verdict`] gives the exit status. What a run does is
+//! `specs/Runs.antt`.
 #![tactic(auto)]
 
 mod fault;
 mod input;
+mod intake;
 mod line;
-mod set;
+mod program;
+mod set_intake;
 mod show;
 
 pub use fault::{ToolFault, verdict};
 pub use line::{Line, read_line};
+pub use program::run;
 pub use show::run_show;
 
 #[cfg(test)]

@@ -2,7 +2,7 @@
 ghost use Rattle.std.specs.Prelude.{◌≡◌, IfOk, IfSome};
 ghost use Rattle.clap.specs.Words.{app_of, fault_of, subcommand_of, subcommand_rows_of};
 ghost use Rattle.clap.specs.Kinds.{FailsBy};
-ghost use Rattle.usb_tool.specs.Lines.{Says, texts_of, usbdesc_app};
+ghost use Rattle.usb_tool.specs.Lines.{Asks, word_texts, usbdesc_app};
 
 use clap::{ArgMatches, Command, Error};
 use std::alloc::{AllocError, Global};
@@ -21,8 +21,8 @@ pub enum Line {
 /// That of `clap`, whose text and kind it carries: a request for help, words that are no command, or
 /// want of memory.
 pub fn read_line(alloc: Global, words: &[String]) -> Result<Line, Error>
-    ensures line { IfOk result (λ line. Says line (subcommand_of usbdesc_app (texts_of words.now))) }
-    ensures fails { FailsBy (fault_of usbdesc_app (texts_of words.now)) result }
+    ensures line { IfOk result (λ line. Asks line (subcommand_of usbdesc_app (word_texts words.now))) }
+    ensures fails { FailsBy (fault_of usbdesc_app (word_texts words.now)) result }
 {
     let matches = parse(alloc, words)?;
     match line_of(&matches) {
@@ -33,14 +33,14 @@ pub fn read_line(alloc: Global, words: &[String]) -> Result<Line, Error>
 }
 
 fn parse<'a>(alloc: Global, words: &'a [String]) -> Result<ArgMatches<'a>, Error>
-    ensures found { IfOk result (λ m. subcommand_rows_of m ≡ subcommand_of usbdesc_app (texts_of words.entry.now)) }
-    ensures fails { FailsBy (fault_of usbdesc_app (texts_of words.entry.now)) result }
+    ensures found { IfOk result (λ m. subcommand_rows_of m ≡ subcommand_of usbdesc_app (word_texts words.entry.now)) }
+    ensures fails { FailsBy (fault_of usbdesc_app (word_texts words.entry.now)) result }
 {
     command(alloc)?.try_get_matches_from(words)
 }
 
 fn line_of(matches: &ArgMatches) -> Option<Line>
-    ensures { IfSome result (λ line. Says line (subcommand_rows_of matches.now)) }
+    ensures { IfSome result (λ line. Asks line (subcommand_rows_of matches.now)) }
 {
     let (name, _) = matches.subcommand()?;
     if name == "show" {
@@ -50,12 +50,27 @@ fn line_of(matches: &ArgMatches) -> Option<Line>
     }
 }
 
+/// What stands below the help of `show`.
+const SHOW_HELP: &str = "\
+Input:
+  One configuration set where the second byte is 2 or 7: what a device answers when it is
+  asked for a configuration. Any other input is a descriptor file: the device descriptor,
+  its configuration sets, a qualifier and its other-speed sets where there is another speed,
+  and where a string is named the languages and the strings.
+
+Exit status:
+  0  the listing is written
+  2  the command line is no command
+  3  reading, the input or writing is at fault; standard error says how";
+
 fn command<'a>(alloc: Global) -> Result<Command<'a>, AllocError>
     ensures { IfOk result (λ c. app_of c ≡ usbdesc_app) }
 {
-    let show = Command::new(alloc, "show").about(
-        "Lists the configuration set or descriptor file on standard input, a line for each descriptor",
-    );
+    let show = Command::new(alloc, "show")
+        .about(
+            "Lists the configuration set or descriptor file on standard input, a line for each descriptor",
+        )
+        .after_help(SHOW_HELP);
     Command::new(alloc, "usbdesc")
         .about("Lists USB 2.0 descriptors")
         .subcommand_required(true)

@@ -1,10 +1,12 @@
 //! The command `show`.
-ghost use Rattle.std.specs.Prelude.{◌≡◌, true, false, IfErr, IfOk, OnOk};
-ghost use Rattle.usb_tool.specs.Shows.{RefusesToShow, ShowFails, Shows, WritesListing, is_one_set};
+ghost use Rattle.std.specs.Prelude.{◌≡◌, ℕ, List, length, true, false, IfErr, IfOk, OnOk};
+ghost use Rattle.usb_tool.specs.inside.Intake.{IsFed, IsIntake};
+ghost use Rattle.usb_tool.specs.Shows.{RefusesToShow, ShowFails, Shown, WritesListing, is_one_set};
 
 use crate::fault::ToolFault;
-use crate::input::read_all;
-use crate::set::read_set;
+use crate::input::read_input;
+use crate::intake::Intake;
+use crate::set_intake::SetIntake;
 use std::alloc::Global;
 use std::io::{Read, Write};
 use usb_file::{list, list_set, read_file};
@@ -25,61 +27,63 @@ const FILE_LIMIT: usize = 41_584_152;
 /// `Memory` where a growth was refused; a front of the listing, or nothing, is written then.
 pub fn run_show<R: Read, W: Write>(alloc: Global, r: &mut R, w: &mut W) -> Result<u8, ToolFault>
     ensures number { IfOk result (λ number. number ≡ 0) }
-    ensures shown { OnOk result (Shows (R.remaining r.old) (R.remaining r.new) (W.contents w.old) (W.contents w.new)) }
-    ensures fault { IfErr result (ShowFails (R.remaining r.old) (R.remaining r.new) (W.contents w.old) (W.contents w.new)) }
+    ensures shown { OnOk result (Shown (R.remaining r.old) (R.remaining r.new) (W.contents w.old) (W.contents w.new)) }
+    ensures err { IfErr result (ShowFails (R.remaining r.old) (R.remaining r.new) (W.contents w.old) (W.contents w.new)) }
 {
-    let bytes = read_all(alloc, r, FILE_LIMIT)?;
-    show_bytes(alloc, bytes.as_slice(), w)?;
+    let (intake, count) = read_input(alloc, r, FILE_LIMIT)?;
+    show_input(alloc, intake, count, w)?;
     Ok(0)
 }
 
-/// Writes the listing of the bytes, and flushes the writer.
-fn show_bytes<W: Write>(alloc: Global, bytes: &[u8], w: &mut W) -> Result<(), ToolFault>
-    ensures shown { OnOk result (WritesListing bytes.now (W.contents w.old) (W.contents w.new)) }
-    ensures fault { IfErr result (RefusesToShow bytes.now (W.contents w.old) (W.contents w.new)) }
+/// Writes the listing of an input of so many bytes, and flushes the writer.
+fn show_input<W: Write>(
+    alloc: Global,
+    intake: Intake,
+    count: usize,
+    w: &mut W,
+) -> Result<(), ToolFault>
+    ensures shown { OnOk result ((b : List ℕ) → count ≡ length b → IsIntake intake b → WritesListing b (W.contents w.old) (W.contents w.new)) }
+    ensures err { IfErr result (λ fault. (b : List ℕ) → count ≡ length b → IsIntake intake b → RefusesToShow b (W.contents w.old) (W.contents w.new) fault) }
 {
-    list_bytes(alloc, bytes, w)?;
+    list_input(alloc, intake, count, w)?;
     match w.flush() {
         Ok(()) => Ok(()),
         Err(_) => Err(ToolFault::Write),
     }
 }
 
-fn list_bytes<W: Write>(alloc: Global, bytes: &[u8], w: &mut W) -> Result<(), ToolFault>
-    ensures shown { OnOk result (WritesListing bytes.now (W.contents w.old) (W.contents w.new)) }
-    ensures fault { IfErr result (RefusesToShow bytes.now (W.contents w.old) (W.contents w.new)) }
+fn list_input<W: Write>(
+    alloc: Global,
+    intake: Intake,
+    count: usize,
+    w: &mut W,
+) -> Result<(), ToolFault>
+    ensures shown { OnOk result ((b : List ℕ) → count ≡ length b → IsIntake intake b → WritesListing b (W.contents w.old) (W.contents w.new)) }
+    ensures err { IfErr result (λ fault. (b : List ℕ) → count ≡ length b → IsIntake intake b → RefusesToShow b (W.contents w.old) (W.contents w.new) fault) }
 {
-    if is_set(bytes) {
-        list_as_set(alloc, bytes, w)
-    } else {
-        list_as_file(alloc, bytes, w)
+    match intake {
+        Intake::Set(set) => list_as_set(alloc, set, count, w),
+        Intake::File(bytes) => list_as_file(alloc, bytes.as_slice(), w),
     }
 }
 
-/// Whether the bytes are to be read as one set.
-fn is_set(bytes: &[u8]) -> bool
-    ensures { result ≡ is_one_set bytes.now }
+fn list_as_set<W: Write>(
+    alloc: Global,
+    set: SetIntake,
+    count: usize,
+    w: &mut W,
+) -> Result<(), ToolFault>
+    ensures shown { OnOk result ((b : List ℕ) → count ≡ length b → IsFed set b → is_one_set b ≡ true → WritesListing b (W.contents w.old) (W.contents w.new)) }
+    ensures err { IfErr result (λ fault. (b : List ℕ) → count ≡ length b → IsFed set b → is_one_set b ≡ true → RefusesToShow b (W.contents w.old) (W.contents w.new) fault) }
 {
-    matches!(bytes, [_, 2 | 7, ..])
-}
-
-fn list_as_set<W: Write>(alloc: Global, bytes: &[u8], w: &mut W) -> Result<(), ToolFault>
-    requires { is_one_set bytes.now ≡ true }
-    ensures shown { OnOk result (WritesListing bytes.now (W.contents w.old) (W.contents w.new)) }
-    ensures fault { IfErr result (RefusesToShow bytes.now (W.contents w.old) (W.contents w.new)) }
-{
-    let (set, used) = read_set(alloc, bytes)?;
-    if used < bytes.len() {
-        return Err(ToolFault::Trailing(used));
-    }
+    let set = set.finish(count)?;
     list_set(alloc, &set, w)?;
     Ok(())
 }
 
 fn list_as_file<W: Write>(alloc: Global, bytes: &[u8], w: &mut W) -> Result<(), ToolFault>
-    requires { is_one_set bytes.now ≡ false }
-    ensures shown { OnOk result (WritesListing bytes.now (W.contents w.old) (W.contents w.new)) }
-    ensures fault { IfErr result (RefusesToShow bytes.now (W.contents w.old) (W.contents w.new)) }
+    ensures shown { OnOk result (is_one_set bytes.now ≡ false → WritesListing bytes.now (W.contents w.old) (W.contents w.new)) }
+    ensures err { IfErr result (λ fault. is_one_set bytes.now ≡ false → RefusesToShow bytes.now (W.contents w.old) (W.contents w.new) fault) }
 {
     let file = read_file(alloc, bytes)?;
     list(alloc, &file, w)?;

@@ -1,5 +1,5 @@
 use Rattle.std.proofs.Common.{sym, ◌∙◌}
-use Rattle.usb_file.proofs.Verdicts.{one_file}
+use Rattle.usb_file.proofs.Complete.{one_file}
 use Rattle.usb_file.proofs.laws.one_file.Goals as goal
 
 pub returns-clause-read : goal.returns-clause-read

@@ -10,7 +10,7 @@ returns c =
       one_list = c.units_round_trip.ensures.one_list;
       units_written = c.units_round_trip.ensures.written;
       one_set = c.one_layout.ensures.begins;
-      one_fault = c.one_verdict.ensures.one_fault;
-      not_both = c.one_verdict.ensures.not_both;
-      some = c.one_verdict.ensures.some;
+      one_fault = c.one_judgement.ensures.one_fault;
+      not_both = c.one_judgement.ensures.not_both;
+      some = c.one_judgement.ensures.some;
     }

@@ -1,9 +1,9 @@
-use Rattle.std.proofs.Common.{◌≡◌, ◌-◌, length}
-use Rattle.usb_file.specs.Reading.{Stage, with_strings}
+use Rattle.std.proofs.Common.{◌-◌, ◌≤◌, length}
+use Rattle.usb_file.specs.inside.Reading.{ReadsTexts}
 use Rattle.usb_file.proofs.strings.read_texts.Given as goal
 
 abbrev pub invariant-texts : goal.invariant-texts
-invariant-texts l = Stage l.b (with_strings l.strings l.f) l.end × (l.strings.languages ≡ l.fn.strings.languages)
+invariant-texts l = ReadsTexts l.b l.place l.texts l.end × (length l.texts ≤ l.due)
 
 abbrev pub decreases-texts : goal.decreases-texts
-decreases-texts l = l.count - length l.strings.texts
+decreases-texts l = l.due - length l.texts

@@ -1,5 +1,5 @@
 use Rattle.std.proofs.Common.{◌≡◌, ◌++◌, take}
-use Rattle.usb_file.specs.File.{sets_bytes}
+use Rattle.usb_file_data.specs.File.{sets_bytes}
 use Rattle.usb_file.proofs.writing.put_sets.Given as goal
 
 abbrev pub invariant-loop-c : goal.invariant-loop-c

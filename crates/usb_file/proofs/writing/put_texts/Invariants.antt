@@ -1,5 +1,5 @@
 use Rattle.std.proofs.Common.{◌≡◌, ◌++◌, take}
-use Rattle.usb_file.specs.File.{texts_bytes}
+use Rattle.usb_file_data.specs.File.{texts_bytes}
 use Rattle.usb_file.proofs.writing.put_texts.Given as goal
 
 abbrev pub invariant-loop-text : goal.invariant-loop-text

@@ -1,0 +1,59 @@
+//! The examples: each is listed as the text beside it says, and written again to the same bytes.
+use anyhow::{Result, ensure};
+use std::alloc::Global;
+use std::fs;
+use std::rt::Files;
+use usb_file::{read_file, write_file};
+use usb_set::{Decoder, encode};
+use usb_tool::run_show;
+
+/// What an example is.
+#[derive(Clone, Copy, PartialEq, Eq)]
+pub(crate) enum Kind {
+    Set,
+    File,
+}
+
+/// Goes through one example, and says how many bytes it has and how many descriptors.
+pub(crate) fn go_through<R: Files + AllocGlobal>(rt: &R, kind: Kind, name: &str) -> Result<String> {
+    let alloc = rt.alloc();
+    let ending = match kind {
+        Kind::Set => "bin",
+        Kind::File => "file",
+    };
+    let bytes = fs::read(rt, format!(in alloc; "{name}.{ending}")?)?;
+    let wanted = fs::read(rt, format!(in alloc; "{name}.txt")?)?;
+    let text = list(alloc, bytes.as_slice())?;
+    ensure!(text.as_slice() == wanted.as_slice(), "another listing");
+    match kind {
+        Kind::Set => write_set_again(alloc, bytes.as_slice())?,
+        Kind::File => write_file_again(alloc, bytes.as_slice())?,
+    }
+    let lines = text.iter().filter(|byte| **byte == b'\n').count();
+    Ok(format!(in alloc; "{} bytes, {lines} descriptors", bytes.len())?)
+}
+
+fn list(alloc: Global, bytes: &[u8]) -> Result<Vec<u8>> {
+    let mut reader = bytes;
+    let mut text = Vec::new(alloc);
+    run_show(alloc, &mut reader, &mut text)?;
+    Ok(text)
+}
+
+/// Reads the set and writes it again, to the same bytes.
+fn write_set_again(alloc: Global, bytes: &[u8]) -> Result<()> {
+    let mut decoder = Decoder::new(alloc);
+    decoder.feed(bytes)?;
+    let set = decoder.finish()?;
+    let again = encode(alloc, &set)?;
+    ensure!(again.as_slice() == bytes, "other bytes are written");
+    Ok(())
+}
+
+/// Reads the file and writes it again, to the same bytes.
+fn write_file_again(alloc: Global, bytes: &[u8]) -> Result<()> {
+    let file = read_file(alloc, bytes)?;
+    let again = write_file(alloc, &file)?;
+    ensure!(again.as_slice() == bytes, "other bytes are written");
+    Ok(())
+}

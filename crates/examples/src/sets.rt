@@ -1,0 +1,209 @@
+//! Rows on configuration sets.
+use crate::tree::set_of;
+use crate::words::bytes_of;
+use anyhow::{Context, Result, ensure};
+use std::alloc::Global;
+use usb_set::{Configuration, Decoder, Progress, SetFault, encode, refusal};
+
+/// The lengths of the pieces in which each set is fed.
+const LENGTHS: [usize; 8] = [1, 2, 3, 64, 254, 255, 256, 65_535];
+
+/// A set of at most this many bytes is also cut in two at each place.
+const SHORT: usize = 1000;
+
+/// What the pieces of a set come to: the set and its length, or a fault.
+type Read = std::result::Result<(Configuration, usize), SetFault>;
+
+/// How many bytes the set has that the bytes begin with, or their fault; whichever way they are cut.
+pub(crate) fn set(alloc: Global, words: &[String]) -> Result<String> {
+    let bytes = bytes_of(alloc, words)?;
+    let whole = read(alloc, bytes.as_slice(), bytes.len())?;
+    for length in LENGTHS {
+        let again = read(alloc, bytes.as_slice(), length)?;
+        ensure!(
+            again == whole,
+            "pieces of {length} bytes give another answer"
+        );
+    }
+    if bytes.len() <= SHORT {
+        cut_everywhere(alloc, bytes.as_slice(), &whole)?;
+    }
+    match whole {
+        Ok((set, length)) => {
+            write_again(alloc, bytes.as_slice().get(..length), &set)?;
+            Ok(format!(in alloc; "done {length}")?)
+        }
+        Err(fault) => Ok(format!(in alloc; "fault {} at {}", fault.why.number(), fault.at)?),
+    }
+}
+
+/// Writes the set to the bytes from which it was read.
+fn write_again(alloc: Global, bytes: Option<&[u8]>, set: &Configuration) -> Result<()> {
+    ensure!(refusal(set).is_none(), "the encoder would refuse it");
+    let again = encode(alloc, set)?;
+    ensure!(bytes == Some(again.as_slice()), "other bytes are written");
+    Ok(())
+}
+
+/// What the bytes come to in pieces of this length.
+fn read(alloc: Global, bytes: &[u8], length: usize) -> Result<Read> {
+    let mut reading = Reading::new(alloc);
+    for piece in bytes.chunks(length.max(1)) {
+        reading.take(piece)?;
+    }
+    reading.finish()
+}
+
+/// Reads the bytes in two pieces, cut at each place.
+fn cut_everywhere(alloc: Global, bytes: &[u8], whole: &Read) -> Result<()> {
+    for place in 0..=bytes.len() {
+        let (front, rest) = bytes.split_at(place);
+        let mut reading = Reading::new(alloc);
+        reading.take(front)?;
+        reading.take(rest)?;
+        ensure!(
+            reading.finish()? == *whole,
+            "cut at {place} they give another answer"
+        );
+    }
+    Ok(())
+}
+
+/// A decoder with what it has answered so far.
+#[derive(Drop)]
+struct Reading {
+    decoder: Decoder,
+    length: usize,
+    fault: Option<SetFault>,
+}
+
+impl Reading {
+    fn new(alloc: Global) -> Reading {
+        Reading {
+            decoder: Decoder::new(alloc),
+            length: 0,
+            fault: None,
+        }
+    }
+
+    /// Feeds a piece. While the set is open, an empty piece changes nothing; after a fault none does.
+    fn take(&mut self, piece: &[u8]) -> Result<()> {
+        match self.decoder.feed(piece) {
+            Ok(Progress::More) => {
+                self.length = self.length.saturating_add(piece.len());
+                ensure!(
+                    self.decoder.feed(&[]) == Ok(Progress::More),
+                    "an empty piece is answered so"
+                );
+            }
+            Ok(Progress::Done { used }) => self.length = self.length.saturating_add(used),
+            Err(fault) => {
+                ensure!(
+                    self.fault.is_none_or(|first| first == fault),
+                    "a fault is forgotten"
+                );
+                self.fault = Some(fault);
+            }
+        }
+        Ok(())
+    }
+
+    fn finish(self) -> Result<Read> {
+        let length = self.length;
+        let read = self.decoder.finish();
+        if let Some(fault) = self.fault {
+            ensure!(
+                read.as_ref().err() == Some(&fault),
+                "a fault is forgotten at the end"
+            );
+        }
+        Ok(read.map(|set| (set, length)))
+    }
+}
+
+/// What each piece is answered with, the first word being their length: equal answers in a row are counted.
+pub(crate) fn feed(alloc: Global, words: &[String]) -> Result<String> {
+    let (length, words) = words.split_first().context("no length of the pieces")?;
+    let length = length.parse::<usize>()?.max(1);
+    let bytes = bytes_of(alloc, words)?;
+    let mut decoder = Decoder::new(alloc);
+    let mut told = Told::new(alloc);
+    for piece in bytes.chunks(length) {
+        told.add(match decoder.feed(piece) {
+            Ok(Progress::More) => format!(in alloc; "more")?,
+            Ok(Progress::Done { used }) => format!(in alloc; "done {used}")?,
+            Err(fault) => format!(in alloc; "fault {} at {}", fault.why.number(), fault.at)?,
+        })?;
+    }
+    told.finish()
+}
+
+/// Answers in a row, counted.
+#[derive(Drop)]
+struct Told {
+    text: String,
+    last: String,
+    count: u32,
+    alloc: Global,
+}
+
+impl Told {
+    fn new(alloc: Global) -> Told {
+        Told {
+            text: String::new(alloc),
+            last: String::new(alloc),
+            count: 0,
+            alloc,
+        }
+    }
+
+    fn add(&mut self, answer: String) -> Result<()> {
+        if answer != self.last {
+            self.close()?;
+            self.last = answer;
+            self.count = 0;
+        }
+        self.count = self.count.saturating_add(1);
+        Ok(())
+    }
+
+    /// Puts the last answer and its count behind the text.
+    fn close(&mut self) -> Result<()> {
+        if self.count > 0 {
+            if !self.text.is_empty() {
+                self.text.push_str(", ")?;
+            }
+            let times = format!(in self.alloc; "{} {}", self.count, self.last)?;
+            self.text.push_str(times.as_str())?;
+        }
+        Ok(())
+    }
+
+    fn finish(mut self) -> Result<String> {
+        self.close()?;
+        Ok(self.text)
+    }
+}
+
+/// The bytes of the set that the lines say, or why it has none, which `refusal` tells as well.
+pub(crate) fn encode_lines(alloc: Global, lines: &str) -> Result<String> {
+    let set = set_of(alloc, lines)?;
+    let outcome = encode(alloc, &set);
+    let refused = refusal(&set);
+    match outcome {
+        Ok(bytes) => {
+            ensure!(
+                refused.is_none(),
+                "a refusal is told of a set that has bytes"
+            );
+            let mut decoder = Decoder::new(alloc);
+            decoder.feed(bytes.as_slice())?;
+            ensure!(decoder.finish()? == set, "another set is read back");
+            Ok(hex::encode(alloc, bytes.as_slice())?)
+        }
+        Err(fault) => {
+            ensure!(refused == Some(fault), "another refusal is told");
+            Ok(format!(in alloc; "fault {}", fault.number())?)
+        }
+    }
+}

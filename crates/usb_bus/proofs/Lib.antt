@@ -1,0 +1,6 @@
+mod OtherStages
+mod DataStage
+mod Keeps
+mod Cutting
+mod Attempts
+mod Talks

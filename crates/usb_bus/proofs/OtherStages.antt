@@ -1,0 +1,151 @@
+-- A transaction outside the data stage keeps the two ends coupled.
+use Rattle.std.proofs.Common.{◌≡◌, ℕ, ◌+◌, ◌*◌, ◌/◌, ◌%◌, ◌<◌, ◌≤◌, ◌==◌, Bool, false, if◌then◌else◌, List, [], length, refl, sym, arith, inl, subst}
+use Rattle.std.proofs.lemmas.Bool.Decides.{nat_tests}
+use Rattle.usb_fields.specs.declared.packet.Toggle.{Toggle}
+use Rattle.usb_fields.specs.declared.packet.Toggle.TheVariants.{Data1}
+use Rattle.usb_fields.specs.declared.setup.Setup.{Setup as SetupPacket}
+use Rattle.usb_fields.specs.declared.setup.Direction.TheVariants as directions
+use Rattle.usb_fields.specs.Packet.{AckReply, NoReply}
+use Rattle.usb_fields.specs.Packets.{packets}
+use Rattle.usb_fields.specs.Setup.{setup_of, setup_bytes, direction_of}
+use Rattle.usb_host.specs.declared.stage.TransferStage.{TransferStage}
+use Rattle.usb_host.specs.declared.stage.TransferStage.TheVariants.{Setup, DataIn, DataOut, StatusOut, StatusIn}
+use Rattle.usb_host.specs.Transfer.{stage_after_setup}
+use Rattle.usb_device.specs.declared.state.State.{State}
+use Rattle.usb_device.specs.Requests.{Outcome, Bytes, Done, Refused}
+use Rattle.usb_device.specs.Step.{DeviceStage, Served, replies, begun}
+use Rattle.usb_device.specs.Step as device
+use Rattle.usb_bus.specs.declared.fate.Fate.{Fate}
+use Rattle.usb_bus.specs.declared.fate.Fate.TheVariants.{Pass, Busy, LostDown, LostUp, LostAck}
+use Rattle.usb_bus.specs.Fates.{lost, busy, ack_lost}
+use Rattle.usb_bus.specs.Bus.{Ends, HostEnd, step, hears, with_ack}
+use Rattle.usb_bus.specs.Coupled.{Stages, IsReading, Coupled, IsAnswering, IsCut}
+
+-- a setup packet comes as it was sent
+pub setup_of-setup_bytes : (q : SetupPacket) → setup_of (setup_bytes q) ≡ q
+setup_of-setup_bytes q =
+    let value : q.value % 256 + 256 * (q.value / 256) ≡ q.value = omega arith in
+    let index : q.index % 256 + 256 * (q.index / 256) ≡ q.index = omega arith in
+    let length : q.length % 256 + 256 * (q.length / 256) ≡ q.length = omega arith in
+    rw (value, index, length) refl
+
+-- where bytes are asked for, the data stage follows
+stage_after_setup-in : (q : SetupPacket) → 0 < q.length → direction_of q.request_type ≡ directions.In → stage_after_setup q ≡ DataIn
+stage_after_setup-in q some to_host =
+    let asked : (q.length == 0) ≡ false = grind (arith, nat_tests) in
+    rw (asked, to_host) refl
+
+module _ (answer : State → SetupPacket → Outcome) (cut : ℕ) (s : State) (q : SetupPacket) (size naks : ℕ) where
+  abbrev pub host_at : TransferStage → Toggle → List ℕ → ℕ → ℕ → HostEnd
+  host_at stage awaited got strikes nak_count =
+      record {
+        transfer = record {
+          address = s.address;
+          packet = size;
+          naks = naks;
+          request = q;
+          stage = stage;
+          awaited = awaited;
+          kept = length got;
+          strikes = strikes;
+          nak_count = nak_count;
+        };
+        got = got;
+      }
+
+  -- the device in the state d, which is s or the next one
+  abbrev pub both_at : State → TransferStage → DeviceStage → Toggle → List ℕ → ℕ → ℕ → Bool → Ends
+  both_at d stage at awaited got strikes nak_count pending =
+      record {
+        host = host_at stage awaited got strikes nak_count;
+        device = record { state = d; stage = at; pending = pending };
+      }
+
+  abbrev pub both : TransferStage → DeviceStage → Toggle → List ℕ → ℕ → ℕ → Bool → Ends
+  both stage at awaited got strikes nak_count pending = both_at s stage at awaited got strikes nak_count pending
+
+  abbrev pub Goal : ℕ → ℕ → ℕ → Fate → Ends → Type 0
+  Goal l b a fate e =
+      let e' = step answer cut fate e in
+      Coupled answer cut s q size naks (l + lost fate) (b + busy fate) (a + ack_lost fate) e'.host e'.device
+
+  pub status_out_all : (l b a : ℕ) (fate : Fate) (at : DeviceStage) (awaited : Toggle) (got : List ℕ) (strikes nak_count : ℕ) (pending : Bool) →
+      Stages answer cut s q size naks l b a StatusOut at awaited got strikes s → nak_count ≤ b →
+      Goal l b a fate (both StatusOut at awaited got strikes nak_count pending)
+  status_out_all l b a fate at awaited got strikes nak_count pending e r = grind (arith, nat_tests)
+
+  pub data_out_all : (l b a : ℕ) (fate : Fate) (at : DeviceStage) (awaited : Toggle) (got : List ℕ) (strikes nak_count : ℕ) (pending : Bool) →
+      Stages answer cut s q size naks l b a DataOut at awaited got strikes s → nak_count ≤ b →
+      Goal l b a fate (both DataOut at awaited got strikes nak_count pending)
+  data_out_all l b a fate at awaited got strikes nak_count pending e r = grind (arith, nat_tests)
+
+  pub data_in_halted : (l b a : ℕ) (fate : Fate) (awaited : Toggle) (got : List ℕ) (strikes nak_count : ℕ) (pending : Bool) →
+      Stages answer cut s q size naks l b a DataIn device.Halted awaited got strikes s → nak_count ≤ b →
+      Goal l b a fate (both DataIn device.Halted awaited got strikes nak_count pending)
+  data_in_halted l b a fate awaited got strikes nak_count pending e r = grind (arith, nat_tests)
+
+  pub status_in_halted : (l b a : ℕ) (fate : Fate) (awaited : Toggle) (got : List ℕ) (strikes nak_count : ℕ) (pending : Bool) →
+      Stages answer cut s q size naks l b a StatusIn device.Halted awaited got strikes s → nak_count ≤ b →
+      Goal l b a fate (both StatusIn device.Halted awaited got strikes nak_count pending)
+  status_in_halted l b a fate awaited got strikes nak_count pending e r = grind (arith, nat_tests)
+
+  pub status_in : (l b a : ℕ) (fate : Fate) (asked : SetupPacket) (carried : Bool) (awaited : Toggle) (got : List ℕ) (strikes nak_count : ℕ) (pending : Bool) (d : State) →
+      IsAnswering answer s q →
+      Stages answer cut s q size naks l b a StatusIn (device.StatusIn asked carried) awaited got strikes d → nak_count ≤ b →
+      Goal l b a fate (both_at d StatusIn (device.StatusIn asked carried) awaited got strikes nak_count pending)
+  status_in l b a fate asked carried awaited got strikes nak_count pending d w e r = grind (arith, nat_tests)
+
+  -- a SETUP that the device reads as x
+  abbrev served_setup : SetupPacket → DeviceStage → Served
+  served_setup x at =
+      if s.address == s.address then replies AckReply s (begun x (answer s x)) false else replies NoReply s at false
+
+  abbrev carried_setup : SetupPacket → DeviceStage → Bool → Fate → Served
+  carried_setup x at pending Pass = with_ack answer cut (served_setup x at)
+  carried_setup x at pending Busy = with_ack answer cut (served_setup x at)
+  carried_setup x at pending LostDown = record { reply = NoReply; device = record { state = s; stage = at; pending = pending } }
+  carried_setup x at pending LostUp = record { reply = NoReply; device = (served_setup x at).device }
+  carried_setup x at pending LostAck = served_setup x at
+
+  abbrev SetupGoal : ℕ → ℕ → ℕ → Fate → SetupPacket → DeviceStage → ℕ → ℕ → Bool → Type 0
+  SetupGoal l b a fate x at strikes nak_count pending =
+      let r = carried_setup x at pending fate in
+      Coupled answer cut s q size naks (l + lost fate) (b + busy fate) (a + ack_lost fate)
+      (hears (host_at Setup Data1 [] strikes nak_count) r.reply) r.device
+
+  setup_by : (l b a : ℕ) (fate : Fate) (at : DeviceStage) (strikes nak_count : ℕ) (pending : Bool) (outcome : Outcome) →
+      answer s q ≡ outcome →
+      IsAnswering answer s q → ((bytes : List ℕ) → answer s q ≡ Bytes bytes → IsCut cut size q.length bytes) →
+      strikes ≤ l → nak_count ≤ b →
+      SetupGoal l b a fate q at strikes nak_count pending
+  setup_by l b a fate at strikes nak_count pending (Bytes bytes) e w c o r =
+      let at_start : IsReading answer cut s q size naks (l + lost fate) bytes q.length 0 Data1 [] 0 s = record {
+        same_state = refl;
+        answered = e;
+        wants = refl;
+        left = packets bytes cut q.length;
+        due = (c bytes e).due;
+        joins = (c bytes e).joins;
+        ahead = inl (refl, refl);
+        owed = grind arith;
+      } in
+      let asked = w.bytes bytes e in
+      let stage = stage_after_setup-in q asked.0 asked.1 in
+      grind (arith, nat_tests)
+  setup_by l b a fate at strikes nak_count pending (Done next) e w c o r = grind (arith, nat_tests, w.done next e)
+  setup_by l b a fate at strikes nak_count pending Refused e w c o r = grind (arith, nat_tests)
+
+  pub setup_all : (l b a : ℕ) (fate : Fate) (at : DeviceStage) (strikes nak_count : ℕ) (pending : Bool) →
+      IsAnswering answer s q → ((bytes : List ℕ) → answer s q ≡ Bytes bytes → IsCut cut size q.length bytes) →
+      strikes ≤ l → nak_count ≤ b →
+      Goal l b a fate (both Setup at Data1 [] strikes nak_count pending)
+  setup_all l b a Pass at strikes nak_count pending w c o r =
+      subst (λ x. SetupGoal l b a Pass x at strikes nak_count pending) (sym (setup_of-setup_bytes q)) (setup_by l b a Pass at strikes nak_count pending (answer s q) refl w c o r)
+  setup_all l b a Busy at strikes nak_count pending w c o r =
+      subst (λ x. SetupGoal l b a Busy x at strikes nak_count pending) (sym (setup_of-setup_bytes q)) (setup_by l b a Busy at strikes nak_count pending (answer s q) refl w c o r)
+  setup_all l b a LostDown at strikes nak_count pending w c o r =
+      subst (λ x. SetupGoal l b a LostDown x at strikes nak_count pending) (sym (setup_of-setup_bytes q)) (setup_by l b a LostDown at strikes nak_count pending (answer s q) refl w c o r)
+  setup_all l b a LostUp at strikes nak_count pending w c o r =
+      subst (λ x. SetupGoal l b a LostUp x at strikes nak_count pending) (sym (setup_of-setup_bytes q)) (setup_by l b a LostUp at strikes nak_count pending (answer s q) refl w c o r)
+  setup_all l b a LostAck at strikes nak_count pending w c o r =
+      subst (λ x. SetupGoal l b a LostAck x at strikes nak_count pending) (sym (setup_of-setup_bytes q)) (setup_by l b a LostAck at strikes nak_count pending (answer s q) refl w c o r)

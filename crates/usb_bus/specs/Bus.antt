@@ -1,0 +1,70 @@
+-- One transaction between a host and a device, under a fate.
+use Rattle.std.specs.Prelude.{ℕ, Bool, true, false, if◌then◌else◌, List, [], ◌∷◌, ◌++◌, Option, Some, None}
+use Rattle.usb_fields.specs.declared.setup.Setup.{Setup}
+use Rattle.usb_fields.specs.Packet.{Sent, Reply, AckReply, NakReply, StallReply, DataReply, NoReply}
+use Rattle.usb_host.specs.Transfer.{TransferView, Hearing, Goes, Brings, Completes, Fails, Taken, taken, due}
+use Rattle.usb_device.specs.declared.state.State.{State}
+use Rattle.usb_device.specs.Requests.{Outcome}
+use Rattle.usb_device.specs.Step.{DeviceView, Served, served, acked}
+use Rattle.usb_bus.specs.declared.fate.Fate.{Fate}
+use Rattle.usb_bus.specs.declared.fate.Fate.TheVariants.{Pass, Busy, LostDown, LostUp, LostAck}
+
+-- the host's end: its transfer, and the bytes that the transfer brought
+pub record HostEnd : Type 0 where
+  pub transfer : TransferView
+  pub got : List ℕ
+
+pub record Ends : Type 0 where
+  pub host : HostEnd
+  pub device : DeviceView
+
+-- whether a reply is a data packet, which the host acknowledges
+abbrev pub is_data : Reply → Bool
+is_data AckReply = false
+is_data NakReply = false
+is_data StallReply = false
+is_data (DataReply toggle bytes) = true
+is_data NoReply = false
+
+-- the bytes, and those that came
+abbrev pub with_heard : List ℕ → Hearing → List ℕ
+with_heard got Goes = got
+with_heard got (Brings bytes) = got ++ bytes
+with_heard got Completes = got
+with_heard got (Fails why) = got
+
+abbrev pub host_after : List ℕ → Taken → HostEnd
+host_after got t = record { transfer = t.transfer; got = with_heard got t.heard }
+
+-- the host hears a reply
+abbrev pub hears : HostEnd → Reply → HostEnd
+hears h reply = host_after h.got (taken h.transfer reply)
+
+-- for any answers to requests, and any packet size of the device
+module _ (answer : State → Setup → Outcome) (packet : ℕ) where
+  -- the host's ACK arrives, where the reply is data
+  abbrev pub with_ack : Served → Served
+  with_ack r = record { reply = r.reply; device = if is_data r.reply then acked answer packet r.device else r.device }
+
+  -- What comes back of a transaction under a fate, and the device after it.
+  abbrev pub carried : DeviceView → Sent → Fate → Served
+  carried d sent Pass = with_ack (served answer packet d sent true)
+  carried d sent Busy = with_ack (served answer packet d sent false)
+  carried d sent LostDown = record { reply = NoReply; device = d }
+  carried d sent LostUp = record { reply = NoReply; device = (served answer packet d sent true).device }
+  carried d sent LostAck = served answer packet d sent true
+
+  -- a transaction, if one is due
+  abbrev pub exchanged : HostEnd → DeviceView → Option Sent → Fate → Ends
+  exchanged h d None fate = record { host = h; device = d }
+  exchanged h d (Some sent) fate =
+      let r = carried d sent fate in record { host = hears h r.reply; device = r.device }
+
+  -- the transaction that the transfer is due
+  abbrev pub step : Fate → Ends → Ends
+  step fate e = exchanged e.host e.device (due e.host.transfer) fate
+
+  -- transactions under these fates
+  abbrev pub run : List Fate → Ends → Ends
+  run [] e = e
+  run (f ∷ fates) e = run fates (step f e)

@@ -1,0 +1,41 @@
+-- What a bus does to transactions, counted.
+use Rattle.std.specs.Prelude.{ℕ, ◌+◌, List, [], ◌∷◌}
+use Rattle.usb_bus.specs.declared.fate.Fate.{Fate}
+use Rattle.usb_bus.specs.declared.fate.Fate.TheVariants.{Pass, Busy, LostDown, LostUp, LostAck}
+
+-- 1 where a packet or a handshake is lost
+abbrev pub lost : Fate → ℕ
+lost Pass = 0
+lost Busy = 0
+lost LostDown = 1
+lost LostUp = 1
+lost LostAck = 1
+
+-- 1 where the device is not ready
+abbrev pub busy : Fate → ℕ
+busy Pass = 0
+busy Busy = 1
+busy LostDown = 0
+busy LostUp = 0
+busy LostAck = 0
+
+-- 1 where the host's ACK is lost
+abbrev pub ack_lost : Fate → ℕ
+ack_lost Pass = 0
+ack_lost Busy = 0
+ack_lost LostDown = 0
+ack_lost LostUp = 0
+ack_lost LostAck = 1
+
+-- how many are lost, busy, and lost ACKs
+abbrev pub losses : List Fate → ℕ
+losses [] = 0
+losses (f ∷ fates) = lost f + losses fates
+
+abbrev pub busies : List Fate → ℕ
+busies [] = 0
+busies (f ∷ fates) = busy f + busies fates
+
+abbrev pub acks_lost : List Fate → ℕ
+acks_lost [] = 0
+acks_lost (f ∷ fates) = ack_lost f + acks_lost fates

@@ -1,0 +1,19 @@
+//! What holds of two ends over a bus that loses packets and handshakes.
+//!
+//! The functions of these laws do nothing: what they say stands in their contracts.
+ghost use Rattle.usb_bus.specs.Laws.{StaysCoupled, AttemptsHaveCauses, TalksHaveCauses};
+
+/// A transfer begun at the device's address: whatever the bus loses, both ends stay coupled.
+pub fn a_transfer_stays_coupled()
+    ensures { StaysCoupled }
+{}
+
+/// Transfers by a plan, with no bus reset between them: a failed attempt has a cause.
+pub fn an_attempt_has_causes()
+    ensures { AttemptsHaveCauses }
+{}
+
+/// Requests one after another, with no bus reset between them: a talk that stops has a cause.
+pub fn a_talk_has_causes()
+    ensures { TalksHaveCauses }
+{}

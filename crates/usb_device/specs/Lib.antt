@@ -1,0 +1,7 @@
+pub mod States
+pub mod Descriptors
+pub mod Requests
+pub mod Step
+pub mod Accepted
+pub mod View
+pub mod inside

@@ -1,0 +1,36 @@
+-- What a device keeps from one request to the next (USB 2.0, 9.1.1 and 9.4).
+use Rattle.std.specs.Prelude.{ℕ, ◌+◌, ◌*◌, ◌/◌, ◌%◌, ◌^◌, ◌==◌, ◌&&◌, Bool, false, not, List, replicate, bit_or, bit_and}
+use Rattle.std.specs.Int.{bit_at, bit_not, w32}
+use Rattle.usb_device.specs.declared.state.State.{State}
+
+-- the alternate setting 0 for each interface number
+unfoldable pub first_alternates : List ℕ
+first_alternates = replicate 256 0
+
+-- the state of a new device, and of one that was reset
+abbrev pub zero : State
+zero = record { address = 0; selected = 0; alternates = first_alternates; halts = 0; wakeup = false }
+
+-- in the Address or the Configured state: past the Default state, in which a device answers at address 0 (9.1.1.4)
+abbrev pub has_address : State → Bool
+has_address s = not (s.address == 0)
+
+-- in the Configured state: with an address and a configuration (9.1.1.5)
+abbrev pub is_configured : State → Bool
+is_configured s = has_address s && not (s.selected == 0)
+
+-- the place in the halts of the endpoint with this address: that of its number, and 16 places on where it is IN
+abbrev pub halt_place : ℕ → ℕ
+halt_place endpoint = endpoint % 16 + 16 * (endpoint / 128 % 2)
+
+-- whether the endpoint is halted, as a bit
+abbrev pub halt_of : ℕ → ℕ → ℕ
+halt_of halts endpoint = bit_at halts (halt_place endpoint)
+
+-- the halts with that of the endpoint
+abbrev pub with_halt : ℕ → ℕ → ℕ
+with_halt halts endpoint = bit_or halts (2 ^ halt_place endpoint)
+
+-- the halts without that of the endpoint
+abbrev pub without_halt : ℕ → ℕ → ℕ
+without_halt halts endpoint = bit_and halts (bit_not w32 (2 ^ halt_place endpoint))

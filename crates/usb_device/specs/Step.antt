@@ -1,0 +1,138 @@
+-- A device's end of control transfers: what it answers to a transaction, and where it stands then (USB 2.0, 8.5.3 and
+-- 9.2.6). For any answers to requests, and any packet size of endpoint zero.
+use Rattle.std.specs.Prelude.{ℕ, suc, ◌==◌, ◌||◌, Bool, true, false, List, [], ◌∷◌, drop, if◌then◌else◌}
+use Rattle.usb_fields.specs.declared.packet.Toggle.{Toggle}
+use Rattle.usb_fields.specs.declared.packet.Toggle.TheVariants.{Data0, Data1}
+use Rattle.usb_fields.specs.declared.setup.Setup.{Setup}
+use Rattle.usb_fields.specs.Setup.{setup_of}
+use Rattle.usb_fields.specs.Packet.{Token, SetupToken, InToken, OutToken, Sent, Reply, AckReply, NakReply, StallReply, DataReply, NoReply}
+use Rattle.usb_fields.specs.Packets.{packets, toggle_of}
+use Rattle.usb_device.specs.declared.state.State.{State}
+use Rattle.usb_device.specs.States.{zero}
+use Rattle.usb_device.specs.Requests.{Outcome, Bytes, Done, Refused}
+
+-- Where a device stands in a transfer: in none, in one that it refuses, in a data stage that answers with these bytes
+-- to a request for `limit` bytes, of whose packets `acked` were acknowledged, in the status stage that follows it, past
+-- that, or in the status stage of this request, which was carried out there or not yet.
+pub data DeviceStage : Type 0 where
+  Idle : DeviceStage
+  Halted : DeviceStage
+  Sending : (bytes : List ℕ) (limit acked : ℕ) → DeviceStage
+  StatusOut : DeviceStage
+  Over : DeviceStage
+  StatusIn : (request : Setup) (carried_out : Bool) → DeviceStage
+
+-- what changes in a device: its state, its stage, and whether its last answer waits for an ACK
+pub record DeviceView : Type 0 where
+  pub state : State
+  pub stage : DeviceStage
+  pub pending : Bool
+
+-- the reply to a transaction, and the device after it
+pub record Served : Type 0 where
+  pub reply : Reply
+  pub device : DeviceView
+
+abbrev pub replies : Reply → State → DeviceStage → Bool → Served
+replies reply s stage pending = record { reply = reply; device = record { state = s; stage = stage; pending = pending } }
+
+-- a STALL, until the next SETUP (8.5.3.4)
+abbrev pub stalls : State → Served
+stalls s = replies StallReply s Halted false
+
+-- a new device, and one after a bus reset
+abbrev pub new_device : DeviceView
+new_device = record { state = zero; stage = Idle; pending = false }
+
+-- a SETUP begins a transfer by its answer, whatever came before it
+abbrev pub begun : Setup → Outcome → DeviceStage
+begun q (Bytes bytes) = Sending bytes q.length 0
+begun q (Done next) = StatusIn q false
+begun q Refused = Halted
+
+-- the state after a request
+abbrev pub carried_out : State → Outcome → State
+carried_out s (Bytes bytes) = s
+carried_out s (Done next) = next
+carried_out s Refused = s
+
+-- whether the request is SET_ADDRESS, which a device carries out after the status stage and not before (9.4.6)
+abbrev pub is_set_address : Setup → Bool
+is_set_address q = q.request == 5
+
+-- IN in the data stage: the first of the packets that are left
+abbrev pub next_packet : State → DeviceStage → ℕ → List (List ℕ) → Served
+next_packet s stage k [] = stalls s
+next_packet s stage k (p ∷ rest) = replies (DataReply (toggle_of k) p) s stage true
+
+-- OUT after a data stage: DATA0 is a packet that came again, an empty DATA1 the status stage, which also says that the
+-- last packet came (8.5.3.1)
+abbrev pub status_out : State → DeviceStage → Toggle → List ℕ → Served
+status_out s stage Data0 bytes = replies AckReply s stage false
+status_out s stage Data1 [] = replies AckReply s Over false
+status_out s stage Data1 (byte ∷ bytes) = stalls s
+
+-- OUT, by the stage
+abbrev pub served_out : State → DeviceStage → Toggle → List ℕ → Served
+served_out s Idle toggle bytes = stalls s
+served_out s Halted toggle bytes = stalls s
+served_out s (Sending b m k) toggle bytes = status_out s (Sending b m k) toggle bytes
+served_out s StatusOut toggle bytes = status_out s StatusOut toggle bytes
+served_out s Over toggle bytes = status_out s Over toggle bytes
+served_out s (StatusIn q carried) toggle bytes = stalls s
+
+-- the stage after the ACK of packet k, by the packets that are left after it
+abbrev pub next_stage : List ℕ → ℕ → ℕ → List (List ℕ) → DeviceStage
+next_stage bytes limit k [] = StatusOut
+next_stage bytes limit k (p ∷ rest) = Sending bytes limit (suc k)
+
+module _ (answer : State → Setup → Outcome) (packet : ℕ) where
+  -- the state in the status stage: the request is carried out at the first empty packet, SET_ADDRESS excepted
+  abbrev pub status_state : State → Setup → Bool → State
+  status_state s q carried = if carried || is_set_address q then s else carried_out s (answer s q)
+
+  -- IN, by the stage
+  abbrev pub served_in : State → DeviceStage → Served
+  served_in s Idle = stalls s
+  served_in s Halted = stalls s
+  served_in s (Sending b m k) = next_packet s (Sending b m k) k (drop k (packets b packet m))
+  served_in s StatusOut = stalls s
+  served_in s Over = stalls s
+  served_in s (StatusIn q carried) = replies (DataReply Data1 []) (status_state s q carried) (StatusIn q true) true
+
+  -- a transaction to the device's address, by its token: a SETUP is taken whether the device is ready or not, and else
+  -- a device that isn't ready answers NAK (8.5.3.1 and 8.4.6.4)
+  abbrev pub served_here : DeviceView → Token → Bool → Served
+  served_here d (SetupToken b) ready = replies AckReply d.state (begun (setup_of b) (answer d.state (setup_of b))) false
+  served_here d InToken false = replies NakReply d.state d.stage false
+  served_here d InToken true = served_in d.state d.stage
+  served_here d (OutToken toggle bytes) false = replies NakReply d.state d.stage false
+  served_here d (OutToken toggle bytes) true = served_out d.state d.stage toggle bytes
+
+  -- a transaction: nothing comes back from a device at another address
+  abbrev pub served : DeviceView → Sent → Bool → Served
+  served d sent ready =
+      if sent.address == d.state.address then served_here d sent.token ready else replies NoReply d.state d.stage false
+
+  -- the stage after the ACK of what was sent
+  abbrev pub acked_stage : DeviceStage → DeviceStage
+  acked_stage Idle = Idle
+  acked_stage Halted = Halted
+  acked_stage (Sending b m k) = next_stage b m k (drop (suc k) (packets b packet m))
+  acked_stage StatusOut = StatusOut
+  acked_stage Over = Over
+  acked_stage (StatusIn q carried) = Idle
+
+  -- and the state: with the status stage done a new address holds
+  abbrev pub acked_state : State → DeviceStage → State
+  acked_state s Idle = s
+  acked_state s Halted = s
+  acked_state s (Sending b m k) = s
+  acked_state s StatusOut = s
+  acked_state s Over = s
+  acked_state s (StatusIn q carried) = if is_set_address q then carried_out s (answer s q) else s
+
+  -- the host's ACK of a data packet counts once, and only right after that packet
+  abbrev pub acked : DeviceView → DeviceView
+  acked d =
+      if d.pending then record { state = acked_state d.state d.stage; stage = acked_stage d.stage; pending = false } else d

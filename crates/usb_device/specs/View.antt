@@ -1,0 +1,26 @@
+-- What callers see of a description and of a device.
+use Rattle.std.specs.Prelude.{Bool}
+use Rattle.usb_fields.specs.declared.speed.Speed.{Speed}
+use Rattle.usb_fields.specs.Packet.{Sent}
+use Rattle.usb_file_data.specs.declared.file.DescriptorFile.{DescriptorFile}
+use Rattle.usb_device.specs.Requests.{answer}
+use Rattle.usb_device.specs.Step.{DeviceView, Served, served, acked}
+
+-- the descriptors of a device, and the speed that it runs at
+pub record Described : Type 0 where
+  pub file : DescriptorFile
+  pub speed : Speed
+
+-- a device: its description, which stays, and what changes
+pub record View : Type 0 where
+  pub description : Described
+  pub device : DeviceView
+
+-- a transaction with a device that has these descriptors: requests are answered by the table, in packets of
+-- bMaxPacketSize0 (9.6.1)
+abbrev pub served_by : DescriptorFile → DeviceView → Sent → Bool → Served
+served_by f d sent ready = served (answer f) f.device.packet d sent ready
+
+-- the host's ACK of its data packet
+abbrev pub acked_by : DescriptorFile → DeviceView → DeviceView
+acked_by f d = acked (answer f) f.device.packet d

@@ -1,0 +1,8 @@
+pub mod Places
+pub mod Images
+pub mod Descriptions
+pub mod Responses
+pub mod Stages
+pub mod Reactions
+pub mod Devices
+pub mod Lending

@@ -1,0 +1,98 @@
+//! A device.
+ghost use Rattle.std.specs.Prelude.{◌≡◌};
+ghost use Rattle.std.specs.Borrow.{sem};
+
+use crate::description::Description;
+use crate::endpoint_zero::{EndpointZero, Reaction};
+use crate::state::State;
+use std::marker::Model;
+use usb_fields::{Answer, Transaction};
+
+/// A device on the bus: it answers each transaction as USB 2.0 says, by its description. It takes no
+/// memory: the bytes of an [`Answer::Data`] are lent from the description, or from the two bytes that a
+/// device keeps for a status.
+#[derive(Drop)]
+pub struct Device<'d> {
+    description: &'d Description,
+    endpoint_zero: EndpointZero,
+}
+
+impl<'d> Model for Device<'d> {
+    ghost use Rattle.usb_device.specs.View.{View};
+
+    ghost Value = { View };
+
+    ghost use Rattle.usb_device.specs.inside.Devices.{view_of, IsDevice};
+
+    ghost view = { view_of };
+
+    ghost invariant = { IsDevice };
+}
+
+impl<'d> Device<'d> {
+    ghost use Rattle.usb_fields.specs.Packet.{reply_of, sent_of};
+    ghost use Rattle.usb_device.specs.Step.{new_device};
+    ghost use Rattle.usb_device.specs.View.{acked_by, served_by};
+    ghost use Rattle.usb_device.specs.inside.Lending.{EndsAs};
+    ghost use Rattle.usb_device.specs.inside.Reactions.{packet_due, reply_with};
+
+    /// A device in the Default state, and in no transfer.
+    pub fn new(d: &'d Description) -> Device<'d>
+        ensures { result ≡ record { description = d.now; device = new_device } }
+    {
+        Device {
+            description: d,
+            endpoint_zero: EndpointZero::new(d),
+        }
+    }
+
+    /// A bus reset: the device is as a new one (USB 2.0, 9.1.1.3).
+    pub fn reset(&mut self)
+        ensures { self.new ≡ record self.old { device = new_device } }
+    {
+        self.endpoint_zero = EndpointZero::new(self.description);
+    }
+
+    /// One transaction. Where `ready` is false the device has no time now: it answers NAK, but to a SETUP,
+    /// which every device has to take (USB 2.0, 8.5.3.1).
+    pub fn serve<'a>(&'a mut self, t: &Transaction, ready: bool) -> Answer<'a>
+        ensures answer { reply_of result ≡ (served_by self.entry.now.description.file self.entry.now.device (sent_of t.now) ready).reply }
+        ensures* after { sem 𝓛 (EndsAs self.entry (record self.old { device = (served_by self.old.description.file self.old.device (sent_of t.now) ready).device })) }
+    {
+        match self.react(t, ready) {
+            Reaction::Ack => Answer::Ack,
+            Reaction::Nak => Answer::Nak,
+            Reaction::Stall => Answer::Stall,
+            Reaction::Packet(toggle) => Answer::Data(toggle, self.packet()),
+            Reaction::Silence => Answer::Silence,
+        }
+    }
+
+    fn react(&mut self, t: &Transaction<'_>, ready: bool) -> Reaction
+        ensures reply { reply_with (packet_due self.new.description.file.device.packet self.new.device.stage) result ≡ (served_by self.old.description.file self.old.device (sent_of t.now) ready).reply }
+        ensures device { self.new ≡ record self.old { device = (served_by self.old.description.file self.old.device (sent_of t.now) ready).device } }
+    {
+        self.endpoint_zero.serve(self.description, t, ready)
+    }
+
+    fn packet(&self) -> &[u8]
+        ensures { result.now ≡ packet_due self.now.description.file.device.packet self.now.device.stage }
+    {
+        self.endpoint_zero.packet(self.description)
+    }
+
+    /// The host's ACK of the data packet that [`Device::serve`] answered right before. Anywhere else, and a
+    /// second time, it changes nothing.
+    pub fn acked(&mut self)
+        ensures { self.new ≡ record self.old { device = acked_by self.old.description.file self.old.device } }
+    {
+        self.endpoint_zero.acked(self.description);
+    }
+
+    /// The state.
+    pub fn state(&self) -> State
+        ensures { result ≡ self.now.device.state }
+    {
+        self.endpoint_zero.state()
+    }
+}

@@ -1,0 +1,352 @@
+//! The table of standard requests: a function for each row (USB 2.0, 9.4).
+ghost use Rattle.std.specs.Prelude.{◌≡◌, ◌∷◌, [], if◌then◌else◌};
+
+use crate::description::Description;
+use crate::response::{Change, Response};
+use crate::state::State;
+use crate::{halts, selected};
+use usb_fields::{Class, Direction, Recipient, Setup};
+use usb_set::Setting;
+
+/// A request, and the device that it is made to.
+#[derive(Clone, Copy)]
+pub(crate) struct Request<'r> {
+    pub(crate) description: &'r Description,
+    pub(crate) state: &'r State,
+    pub(crate) setup: Setup,
+}
+
+impl<'r> Request<'r> {
+    ghost use Rattle.usb_device.specs.Requests.{answer, clear_feature, does, feature_of, get_configuration, get_descriptor, get_interface, get_status, halt_feature, is_device, is_interface, names_alternate, names_endpoint, names_endpoint_zero, names_interface, row, selected_settings, set_address, set_configuration, set_feature, set_interface, status_of_device, status_of_endpoint, status_of_interface, tells, wakeup_feature};
+    ghost use Rattle.usb_fields.specs.Setup.{recipient_of};
+    ghost use Rattle.usb_device.specs.inside.Responses.{changed, says, AsksFor};
+
+    /// The answer.
+    #[tactic(auto, unfolding(crate::specs::Requests::answer, crate::specs::Requests::answer_of))]
+    pub(crate) fn respond(&self) -> Response
+        ensures answer { says self.now result ≡ answer self.now.description.now.file self.now.state.now self.now.setup }
+        ensures asked { AsksFor self.now result }
+    {
+        match self.setup.class() {
+            Class::Standard => self.by_request(),
+            _ => Response::Refused,
+        }
+    }
+
+    /// The answer to a standard request, by bRequest (table 9-4).
+    fn by_request(&self) -> Response
+        ensures answer { says self.now result ≡ row self.now.description.now.file self.now.state.now self.now.setup }
+        ensures asked { AsksFor self.now result }
+    {
+        match self.setup.request {
+            0 => self.get_status(),
+            1 => self.change_feature(false),
+            3 => self.change_feature(true),
+            5 => self.set_address(),
+            6 => self.get_descriptor(),
+            8 => self.get_configuration(),
+            9 => self.set_configuration(),
+            10 => self.get_interface(),
+            11 => self.set_interface(),
+            _ => Response::Refused,
+        }
+    }
+
+    /// GET_STATUS (9.4.5).
+    fn get_status(&self) -> Response
+        ensures answer { says self.now result ≡ get_status self.now.description.now.file self.now.state.now self.now.setup }
+        ensures asked { AsksFor self.now result }
+    {
+        if self.setup.value != 0 {
+            return Response::Refused;
+        }
+        match self.setup.recipient() {
+            Recipient::Device => self.status_of_device(),
+            Recipient::Interface => self.status_of_interface(),
+            Recipient::Endpoint => self.status_of_endpoint(),
+            Recipient::Other | Recipient::Reserved => Response::Refused,
+        }
+    }
+
+    /// Bit 0 self-powered, bit 1 remote wakeup (figure 9-4).
+    fn status_of_device(&self) -> Response
+        ensures answer { says self.now result ≡ status_of_device self.now.description.now.file self.now.state.now self.now.setup }
+        ensures asked { AsksFor self.now result }
+    {
+        if !self.state.has_address() || self.setup.index != 0 {
+            return Response::Refused;
+        }
+        let attributes = selected::attributes(self.description.file(), self.state);
+        self.status(attributes / 64 % 2 + 2 * u8::from(self.state.wakeup))
+    }
+
+    /// Two zero bytes (figure 9-5).
+    fn status_of_interface(&self) -> Response
+        ensures answer { says self.now result ≡ status_of_interface self.now.description.now.file self.now.state.now self.now.setup }
+        ensures asked { AsksFor self.now result }
+    {
+        if self.state.is_configured() && self.names_interface() {
+            self.status(0)
+        } else {
+            Response::Refused
+        }
+    }
+
+    /// Bit 0 the endpoint's halt (figure 9-6).
+    fn status_of_endpoint(&self) -> Response
+        ensures answer { says self.now result ≡ status_of_endpoint self.now.description.now.file self.now.state.now self.now.setup }
+        ensures asked { AsksFor self.now result }
+    {
+        if self.names_endpoint_zero() {
+            return if self.state.has_address() {
+                self.status(0)
+            } else {
+                Response::Refused
+            };
+        }
+        match self.endpoint() {
+            Some(endpoint) if self.state.is_configured() => self.status(halts::halt_bit(
+                self.state.halts,
+                endpoint,
+            )),
+            _ => Response::Refused,
+        }
+    }
+
+    /// CLEAR_FEATURE and SET_FEATURE (9.4.1 and 9.4.9).
+    fn change_feature(&self, on: bool) -> Response
+        ensures answer { says self.now result ≡ feature_of (recipient_of self.now.setup.request_type) on self.now.description.now.file self.now.state.now self.now.setup }
+        ensures asked { AsksFor self.now result }
+    {
+        match self.setup.recipient() {
+            Recipient::Device => self.change_wakeup(on),
+            Recipient::Endpoint => self.change_halt(on),
+            Recipient::Interface | Recipient::Other | Recipient::Reserved => Response::Refused,
+        }
+    }
+
+    /// DEVICE_REMOTE_WAKEUP is feature 1 (table 9-6).
+    fn change_wakeup(&self, on: bool) -> Response
+        ensures answer { says self.now result ≡ wakeup_feature on self.now.description.now.file self.now.state.now self.now.setup }
+        ensures asked { AsksFor self.now result }
+    {
+        if self.state.has_address()
+            && self.setup.value == 1
+            && self.setup.index == 0
+            && selected::any_can_wake(self.description.file().sets.as_slice())
+        {
+            self.done(Change::Wakeup(on))
+        } else {
+            Response::Refused
+        }
+    }
+
+    /// ENDPOINT_HALT is feature 0 (table 9-6).
+    fn change_halt(&self, on: bool) -> Response
+        ensures answer { says self.now result ≡ halt_feature on self.now.description.now.file self.now.state.now self.now.setup }
+        ensures asked { AsksFor self.now result }
+    {
+        if !self.state.is_configured() || self.setup.value != 0 || self.names_endpoint_zero() {
+            return Response::Refused;
+        }
+        match self.endpoint() {
+            Some(endpoint) => self.done(Change::Halts(halts::changed(
+                self.state.halts,
+                endpoint,
+                on,
+            ))),
+            None => Response::Refused,
+        }
+    }
+
+    /// SET_ADDRESS (9.4.6).
+    fn set_address(&self) -> Response
+        ensures answer { says self.now result ≡ set_address self.now.description.now.file self.now.state.now self.now.setup }
+        ensures asked { AsksFor self.now result }
+    {
+        if self.is_to_device()
+            && !self.state.is_configured()
+            && self.setup.value < 128
+            && self.setup.index == 0
+        {
+            self.done(Change::Address(self.setup.value as u8))
+        } else {
+            Response::Refused
+        }
+    }
+
+    /// GET_DESCRIPTOR (9.4.3).
+    fn get_descriptor(&self) -> Response
+        ensures answer { says self.now result ≡ get_descriptor self.now.description.now.file self.now.state.now self.now.setup }
+        ensures asked { AsksFor self.now result }
+    {
+        if !self.is_to_device() {
+            return Response::Refused;
+        }
+        let [index, kind] = self.setup.value.to_le_bytes();
+        match self.description.find(kind, index, self.setup.index) {
+            Some(_) if self.setup.length == 0 => Response::Done(Change::Nothing),
+            Some(place) => match self.setup.direction() {
+                Direction::In => Response::Descriptor(place),
+                Direction::Out => Response::Refused,
+            },
+            None => Response::Refused,
+        }
+    }
+
+    /// GET_CONFIGURATION (9.4.2).
+    fn get_configuration(&self) -> Response
+        ensures answer { says self.now result ≡ get_configuration self.now.description.now.file self.now.state.now self.now.setup }
+        ensures asked { AsksFor self.now result }
+    {
+        if self.is_to_device()
+            && self.state.has_address()
+            && self.setup.value == 0
+            && self.setup.index == 0
+        {
+            self.byte(self.state.selected)
+        } else {
+            Response::Refused
+        }
+    }
+
+    /// SET_CONFIGURATION (9.4.7).
+    fn set_configuration(&self) -> Response
+        ensures answer { says self.now result ≡ set_configuration self.now.description.now.file self.now.state.now self.now.setup }
+        ensures asked { AsksFor self.now result }
+    {
+        if !self.is_to_device() || !self.state.has_address() || self.setup.index != 0 {
+            return Response::Refused;
+        }
+        if self.setup.value >= 256 {
+            return Response::Refused;
+        }
+        let value = self.setup.value as u8;
+        if value == 0 || selected::any_with_value(self.description.file().sets.as_slice(), value) {
+            self.done(Change::Configuration(value))
+        } else {
+            Response::Refused
+        }
+    }
+
+    /// GET_INTERFACE (9.4.4).
+    fn get_interface(&self) -> Response
+        ensures answer { says self.now result ≡ get_interface self.now.description.now.file self.now.state.now self.now.setup }
+        ensures asked { AsksFor self.now result }
+    {
+        if self.is_to_interface()
+            && self.state.is_configured()
+            && self.setup.value == 0
+            && self.names_interface()
+        {
+            self.byte(self.state.alternates[usize::from(self.setup.index)])
+        } else {
+            Response::Refused
+        }
+    }
+
+    /// SET_INTERFACE (9.4.10).
+    fn set_interface(&self) -> Response
+        ensures answer { says self.now result ≡ set_interface self.now.description.now.file self.now.state.now self.now.setup }
+        ensures asked { AsksFor self.now result }
+    {
+        if !self.is_to_interface() || !self.state.is_configured() {
+            return Response::Refused;
+        }
+        if self.setup.index >= 256 || self.setup.value >= 256 {
+            return Response::Refused;
+        }
+        let number = self.setup.index as u8;
+        let alternate = self.setup.value as u8;
+        let settings = self.settings();
+        if !selected::has_alternate(settings, number, alternate) {
+            return Response::Refused;
+        }
+        let halts = halts::without_interface(self.state.halts, settings, number);
+        self.done(Change::Alternate(number, alternate, halts))
+    }
+
+    /// What is done where no data stage is asked for.
+    fn done(&self, change: Change) -> Response
+        ensures answer { says self.now result ≡ does self.now.setup (changed self.now.state.now change) }
+        ensures asked { AsksFor self.now result }
+    {
+        if self.setup.length == 0 {
+            Response::Done(change)
+        } else {
+            Response::Refused
+        }
+    }
+
+    /// A byte, where one is asked for.
+    fn byte(&self, byte: u8) -> Response
+        ensures answer { says self.now result ≡ tells self.now.setup (byte ∷ []) }
+        ensures asked { AsksFor self.now result }
+    {
+        match self.setup.direction() {
+            Direction::In if self.setup.length == 1 => Response::Byte(byte),
+            _ => Response::Refused,
+        }
+    }
+
+    /// A status with this first byte, where two are asked for.
+    fn status(&self, first: u8) -> Response
+        ensures answer { says self.now result ≡ tells self.now.setup (first ∷ 0 ∷ []) }
+        ensures asked { AsksFor self.now result }
+    {
+        match self.setup.direction() {
+            Direction::In if self.setup.length == 2 => Response::Status(first),
+            _ => Response::Refused,
+        }
+    }
+
+    /// Whether the recipient is the device.
+    fn is_to_device(&self) -> bool
+        ensures { result ≡ is_device (recipient_of self.now.setup.request_type) }
+    {
+        matches!(self.setup.recipient(), Recipient::Device)
+    }
+
+    /// Whether the recipient is an interface.
+    fn is_to_interface(&self) -> bool
+        ensures { result ≡ is_interface (recipient_of self.now.setup.request_type) }
+    {
+        matches!(self.setup.recipient(), Recipient::Interface)
+    }
+
+    /// The settings of the selected configuration.
+    fn settings(&self) -> &'r [Setting]
+        ensures { result.now ≡ selected_settings self.now.description.now.file self.now.state.now }
+    {
+        selected::settings(self.description.file(), self.state)
+    }
+
+    /// Whether wIndex is an interface of the selected configuration.
+    fn names_interface(&self) -> bool
+        ensures { result ≡ names_interface self.now.description.now.file self.now.state.now self.now.setup.index }
+    {
+        self.setup.index < 256 && selected::has_interface(self.settings(), self.setup.index as u8)
+    }
+
+    /// Whether wIndex is endpoint zero.
+    fn names_endpoint_zero(&self) -> bool
+        ensures { result ≡ names_endpoint_zero self.now.setup.index }
+    {
+        self.setup.index == 0 || self.setup.index == 0x80
+    }
+
+    /// wIndex, where it is an endpoint of a setting that is chosen in the selected configuration.
+    fn endpoint(&self) -> Option<u8>
+        ensures { result ≡ (if names_endpoint self.now.description.now.file self.now.state.now self.now.setup.index then Some self.now.setup.index else None) }
+    {
+        if self.setup.index >= 256 {
+            return None;
+        }
+        let address = self.setup.index as u8;
+        if selected::has_chosen_endpoint(self.settings(), &self.state.alternates, address) {
+            Some(address)
+        } else {
+            None
+        }
+    }
+}

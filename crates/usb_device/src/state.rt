@@ -1,0 +1,75 @@
+//! What a device keeps from one request to the next.
+ghost use Rattle.std.specs.Prelude.{◌≡◌};
+
+use crate::response::Change;
+
+/// The state of a device (USB 2.0, 9.1.1): with address 0 it is in the Default state, with another
+/// address and no configuration in the Address state, and with both in the Configured state.
+#[derive(Clone, Copy, Debug, PartialEq, Eq)]
+pub struct State {
+    /// The address that the device answers at, 0 to 127.
+    pub address: u8,
+    /// bConfigurationValue of the selected configuration, or 0 for none.
+    pub selected: u8,
+    /// The chosen alternate setting of each interface, by interface number.
+    pub alternates: [u8; 256],
+    /// The halted endpoints: bit n for endpoint n OUT, bit 16 + n for endpoint n IN.
+    pub halts: u32,
+    /// Whether remote wakeup is enabled.
+    pub wakeup: bool,
+}
+
+impl State {
+    ghost use Rattle.usb_device.specs.States.{zero, has_address, is_configured};
+    ghost use Rattle.usb_device.specs.inside.Responses.{changed};
+
+    /// The state of a new device, and of one after a bus reset.
+    #[tactic(auto, unfolding(crate::specs::States::first_alternates))]
+    pub(crate) fn zero() -> State
+        ensures { result ≡ zero }
+    {
+        State {
+            address: 0,
+            selected: 0,
+            alternates: [0; 256],
+            halts: 0,
+            wakeup: false,
+        }
+    }
+
+    /// Whether the device is past the Default state.
+    pub(crate) fn has_address(&self) -> bool
+        ensures { result ≡ has_address self.now }
+    {
+        self.address != 0
+    }
+
+    /// Whether the device is in the Configured state.
+    pub(crate) fn is_configured(&self) -> bool
+        ensures { result ≡ is_configured self.now }
+    {
+        self.has_address() && self.selected != 0
+    }
+
+    /// Carries out what a request asks for.
+    #[tactic(auto, unfolding(crate::specs::States::first_alternates))]
+    pub(crate) fn change(&mut self, change: Change)
+        ensures { self.new ≡ changed self.old change }
+    {
+        match change {
+            Change::Nothing => {}
+            Change::Address(address) => self.address = address,
+            Change::Configuration(value) => {
+                self.selected = value;
+                self.alternates = [0; 256];
+                self.halts = 0;
+            }
+            Change::Wakeup(on) => self.wakeup = on,
+            Change::Halts(halts) => self.halts = halts,
+            Change::Alternate(number, alternate, halts) => {
+                self.alternates[usize::from(number)] = alternate;
+                self.halts = halts;
+            }
+        }
+    }
+}

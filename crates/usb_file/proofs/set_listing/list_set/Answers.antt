@@ -1,8 +1,0 @@
-use Rattle.std.proofs.lemmas.Result.{on_err_weaker}
-use Rattle.usb_file.proofs.Pages.{puts_whole_front}
-use Rattle.usb_file.proofs.set_listing.list_set.Goals as goal
-
-pub returns-clause-front : goal.returns-clause-front
-returns-clause-front g c =
-    let listed = rw c.in_ok-page.ensures at c.in_ok-list_configuration.ensures.text in
-    on_err_weaker c.finish.result (puts_whole_front _ _ _ _ _ listed) c.finish.ensures.front

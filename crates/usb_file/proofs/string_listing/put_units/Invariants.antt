@@ -1,7 +1,0 @@
-use Rattle.std.proofs.Common.{◌≡◌, ◌++◌, take}
-use Rattle.std.specs.List.{flat_map}
-use Rattle.usb_file.specs.StringListing.{unit_text}
-use Rattle.usb_file.proofs.string_listing.put_units.Given as goal
-
-abbrev pub invariant-loop-unit : goal.invariant-loop-unit
-invariant-loop-unit l = l.page ≡ l.initial.page ++ flat_map unit_text (take l.unit-index l.units)

@@ -1,0 +1,4 @@
+-- What only the functions and proofs of this crate cite.
+pub mod Next
+pub mod Reading
+pub mod PartLaws

@@ -1,0 +1,161 @@
+-- The parts of a file, read one after another.
+use Rattle.std.specs.Prelude.{◌≡◌, ℕ, ◌+◌, ◌*◌, ◌<◌, ◌≤◌, List, [], ◌∷◌, ◌++◌, length, drop, take, true, false, Option, Some, None, is_some}
+use Rattle.std.specs.List.{flat_map, list_any}
+use Rattle.usb_fields.specs.declared.qualifier.Qualifier.{Qualifier}
+use Rattle.usb_fields.specs.Qualifier.{qualifier_bytes, qualifier_fault}
+use Rattle.usb_fields.specs.Units.{units_bytes}
+use Rattle.usb_set.specs.declared.tree.SetKind.{SetKind}
+use Rattle.usb_set.specs.declared.tree.SetKind.TheVariants as kinds
+use Rattle.usb_set.specs.declared.tree.Configuration.{Configuration}
+use Rattle.usb_set.specs.declared.fault.SetWhy.{SetWhy}
+use Rattle.usb_set.specs.declared.fault.SetWhy.TheVariants as sets
+use Rattle.usb_base.specs.Bytes.{AreBytes}
+use Rattle.usb_set.specs.Faults.{Begins}
+use Rattle.usb_file_data.specs.declared.file.DescriptorFile.{DescriptorFile}
+use Rattle.usb_file_data.specs.declared.file.Other.{Other}
+use Rattle.usb_file_data.specs.declared.file.Strings.{Strings}
+use Rattle.usb_file.specs.declared.fault.FileWhy.{FileWhy}
+use Rattle.usb_file.specs.declared.fault.FileWhy.TheVariants as files
+use Rattle.usb_file.specs.declared.fault.FileFault.{FileFault}
+use Rattle.usb_file_data.specs.File.{file_bytes, whole_set, has_no_layout, is_other_kind, is_long_string}
+use Rattle.usb_file.specs.Front.{Splits}
+use Rattle.usb_file.specs.FileFaults.{SetFaulty, begins_qualifier, fixed_fault, string_fault}
+
+-- the bytes up to this place are those of the file so far
+pub record ReadSoFar (b : List ℕ) (f : DescriptorFile) (place : ℕ) : Type 0 where
+  pub splits : Splits b f (drop place b)
+  pub ends : place ≡ length (file_bytes f)
+  pub within : place ≤ length b
+  pub fits : AreBytes b
+
+-- so many bytes behind a place something holds
+pub record Behind (place : ℕ) (P : ℕ → Type 0) (at : ℕ) : Type 0 where
+  pub count : ℕ
+  pub holds : P count
+  pub at_is : at ≡ place + count
+
+-- between these places stand these elements, one after another
+pub record ReadsAll {A : Type 0} (bytes_of : A → List ℕ) (b : List ℕ) (start : ℕ) (items : List A) (end : ℕ) : Type 0 where
+  pub parts : drop start b ≡ flat_map bytes_of items ++ drop end b
+  pub ends : end ≡ start + length (flat_map bytes_of items)
+  pub within : end ≤ length b
+
+-- ---- sets
+
+-- the bytes begin with a set of this kind, of so many bytes
+pub record ReadsSet (kind : SetKind) (rest : List ℕ) (c : Configuration) (used : ℕ) : Type 0 where
+  pub begins : Begins rest c used
+  pub kind_is : is_other_kind kind c ≡ false
+
+-- the fault of a set as a fault of the file, from the set's start: want of memory is told there
+abbrev pub set_refusal : SetWhy → ℕ → FileFault
+set_refusal sets.Memory at = record { at = 0; why = files.Memory }
+set_refusal why at = record { at = at; why = files.Set why }
+
+-- want of memory at the start, or the fault of a set of this kind
+abbrev pub SetRefused : SetKind → List ℕ → ℕ → FileWhy → Type 0
+SetRefused kind rest at files.Memory = at ≡ 0
+SetRefused kind rest at why = SetFaulty kind rest at why
+
+-- one more set of this kind was read
+pub record ReadsNextSet (kind : SetKind) (b : List ℕ) (place : ℕ) (old new : List Configuration) (end : ℕ) : Type 0 where
+  pub set : Configuration
+  pub reads : Behind place (ReadsSet kind (drop place b) set) end
+  pub grown : new ≡ old ++ set ∷ []
+
+-- between these places stand these sets, all of this kind
+pub record ReadsSets (kind : SetKind) (b : List ℕ) (start : ℕ) (sets : List Configuration) (end : ℕ) : Type 0 where
+  pub all : ReadsAll whole_set b start sets end
+  pub kinds : list_any (is_other_kind kind) sets ≡ false
+  pub layouts : list_any has_no_layout sets ≡ false
+
+-- Of so many sets that are declared the next one after these was refused: want of memory is told where it
+-- starts.
+pub record SetsRefused (kind : SetKind) (declared : ℕ) (b : List ℕ) (start : ℕ) (sets : List Configuration) (at : ℕ) (why : FileWhy) : Type 0 where
+  pub end : ℕ
+  pub reads : ReadsSets kind b start sets end
+  pub few : length sets < declared
+  pub refused : Behind end (λ n. SetRefused kind (drop end b) n why) at
+
+-- ---- the other speed
+
+-- a qualifier stands at this place
+pub record ReadsQualifier (b : List ℕ) (place : ℕ) (q : Qualifier) : Type 0 where
+  pub bytes : take 10 (drop place b) ≡ qualifier_bytes q
+  pub long : 10 ≤ length (drop place b)
+
+-- the bytes at this place are no qualifier
+abbrev pub QualifierRefused : List ℕ → ℕ → ℕ → FileWhy → Type 0
+QualifierRefused b place at why =
+    Behind place (λ n. fixed_fault 10 (is_some (qualifier_fault (take 10 (drop place b)))) files.Qualifier (drop place b) ≡ Some (n, why)) at
+
+-- between these places stands the other speed: the qualifier and all its sets
+pub record ReadsSpeed (b : List ℕ) (place : ℕ) (o : Other) (end : ℕ) : Type 0 where
+  pub begins : begins_qualifier (drop place b) ≡ true
+  pub qualifier : ReadsQualifier b place o.qualifier
+  pub sets : ReadsSets kinds.OtherSpeed b (place + 10) o.sets end
+  pub all : length o.sets ≡ o.qualifier.configurations
+
+-- the other speed, if a qualifier begins at this place
+abbrev pub ReadsOther : List ℕ → ℕ → Option Other → ℕ → Type 0
+ReadsOther b place None end = (begins_qualifier (drop place b) ≡ false) × (end ≡ place)
+ReadsOther b place (Some o) end = ReadsSpeed b place o end
+
+-- a qualifier begins at this place, and it or one of its sets was refused
+pub data OtherRefused (b : List ℕ) (place at : ℕ) (why : FileWhy) : Type 0 where
+  no_qualifier : begins_qualifier (drop place b) ≡ true → QualifierRefused b place at why → OtherRefused b place at why
+  no_set : (q : Qualifier) (ss : List Configuration) → begins_qualifier (drop place b) ≡ true → ReadsQualifier b place q
+      → SetsRefused kinds.OtherSpeed q.configurations b (place + 10) ss at why → OtherRefused b place at why
+
+-- ---- strings
+
+-- the bytes begin with a string descriptor of at least so many bytes, which has these units
+pub record ReadsString (least : ℕ) (rest : List ℕ) (units : List ℕ) (used : ℕ) : Type 0 where
+  pub parts : rest ≡ units_bytes units ++ drop used rest
+  pub ends : used ≡ 2 + 2 * length units
+  pub within : used ≤ length rest
+  pub enough : least ≤ used
+  pub short : is_long_string units ≡ false
+
+-- want of memory at the start, or the fault of a string descriptor of at least so many bytes
+abbrev pub StringRefused : ℕ → List ℕ → ℕ → FileWhy → Type 0
+StringRefused least rest at files.Memory = at ≡ 0
+StringRefused least rest at why = string_fault least rest ≡ Some (at, why)
+
+-- one more string was read
+pub record ReadsNextText (b : List ℕ) (place : ℕ) (old new : List (List ℕ)) (end : ℕ) : Type 0 where
+  pub units : List ℕ
+  pub reads : Behind place (ReadsString 2 (drop place b) units) end
+  pub grown : new ≡ old ++ units ∷ []
+
+-- between these places stand these strings
+pub record ReadsTexts (b : List ℕ) (start : ℕ) (texts : List (List ℕ)) (end : ℕ) : Type 0 where
+  pub all : ReadsAll units_bytes b start texts end
+  pub short : list_any is_long_string texts ≡ false
+
+-- Of so many strings that are due the next one after these was refused: want of memory is told where it
+-- starts.
+pub record TextsRefused (due : ℕ) (b : List ℕ) (start : ℕ) (texts : List (List ℕ)) (at : ℕ) (why : FileWhy) : Type 0 where
+  pub end : ℕ
+  pub reads : ReadsTexts b start texts end
+  pub few : length texts < due
+  pub refused : Behind end (λ n. StringRefused 2 (drop end b) n why) at
+
+-- between these places stand the language list and one string for each language and each of so many indices
+pub record ReadsLanguages (count : ℕ) (b : List ℕ) (place : ℕ) (s : Strings) (end : ℕ) : Type 0 where
+  pub named : 0 < count
+  pub start : ℕ
+  pub languages : Behind place (ReadsString 4 (drop place b) s.languages) start
+  pub texts : ReadsTexts b start s.texts end
+  pub all : length s.texts ≡ length s.languages * count
+
+-- the strings, if any of so many indices is named
+abbrev pub ReadsStrings : ℕ → List ℕ → ℕ → Option Strings → ℕ → Type 0
+ReadsStrings count b place None end = (count ≡ 0) × (end ≡ place)
+ReadsStrings count b place (Some s) end = ReadsLanguages count b place s end
+
+-- an index is named, and the language list or a string was refused
+pub data StringsRefused (count : ℕ) (b : List ℕ) (place at : ℕ) (why : FileWhy) : Type 0 where
+  no_languages : 0 < count → Behind place (λ n. StringRefused 4 (drop place b) n why) at → StringsRefused count b place at why
+  no_text : (languages : List ℕ) (start : ℕ) (texts : List (List ℕ)) → 0 < count → Behind place (ReadsString 4 (drop place b) languages) start
+      → TextsRefused (length languages * count) b start texts at why → StringsRefused count b place at why

@@ -1,0 +1,4 @@
+pub mod Named
+pub mod File
+pub mod Numbers
+pub mod inside

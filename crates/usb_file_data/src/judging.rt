@@ -1,0 +1,135 @@
+//! Why a file has no bytes.
+ghost use Rattle.std.specs.Prelude.{◌≡◌, ℕ, ◌≤◌, length};
+ghost use Rattle.std.specs.List.{list_any};
+ghost use Rattle.usb_set.specs.Descriptors.{type_number};
+ghost use Rattle.usb_file_data.specs.Named.{other_sets};
+ghost use Rattle.usb_file_data.specs.File.{has_no_layout, is_long_string, is_other_kind, is_other_miscounted, write_refusal, has_wrong_count, has_wrong_kind, has_wrong_layout, are_wrong_strings};
+
+use crate::fault::WriteFault;
+use crate::file::{DescriptorFile, Other, Strings};
+use crate::naming::count_named;
+use usb_set::{Configuration, Sequence, SetKind, refusal};
+
+/// The most units that a string, or languages that a language list, can have (USB 2.0, 9.6.7).
+const MOST_UNITS: usize = 126;
+
+/// Why the file has no bytes, for another cause than memory, if it has none. Takes no memory.
+pub fn write_refusal(f: &DescriptorFile) -> Option<WriteFault>
+    ensures { result ≡ write_refusal f.now }
+{
+    if has_wrong_count(f) {
+        return Some(WriteFault::Count);
+    }
+    if has_wrong_kind(f) {
+        return Some(WriteFault::Kind);
+    }
+    if has_wrong_layout(f) {
+        return Some(WriteFault::Layout);
+    }
+    if are_wrong_strings(count_named(f), &f.strings) {
+        return Some(WriteFault::Texts);
+    }
+    None
+}
+
+fn has_wrong_count(f: &DescriptorFile) -> bool
+    ensures { result ≡ has_wrong_count f.now }
+{
+    f.sets.len() != usize::from(f.device.configurations) || is_other_miscounted(&f.other)
+}
+
+fn is_other_miscounted(other: &Option<Other>) -> bool
+    ensures { result ≡ is_other_miscounted other.now }
+{
+    match other {
+        None => false,
+        Some(other) => other.sets.len() != usize::from(other.qualifier.configurations),
+    }
+}
+
+fn has_wrong_kind(f: &DescriptorFile) -> bool
+    ensures { result ≡ has_wrong_kind f.now }
+{
+    any_other_kind(&f.sets, SetKind::Configuration)
+        || any_other_kind(sets_of(&f.other), SetKind::OtherSpeed)
+}
+
+/// The sets of the other speed.
+fn sets_of(other: &Option<Other>) -> &[Configuration]
+    ensures { result.now ≡ other_sets other.now }
+{
+    match other {
+        None => &[],
+        Some(other) => &other.sets,
+    }
+}
+
+fn any_other_kind(sets: &[Configuration], kind: SetKind) -> bool
+    ensures { result ≡ list_any (is_other_kind kind) sets.now }
+{
+    sets.iter().any(|c| is_other_kind(c, kind))
+}
+
+/// Whether the set is of the other kind.
+pub fn is_other_kind(c: &Configuration, kind: SetKind) -> bool
+    ensures { result ≡ is_other_kind kind c.now }
+{
+    kind_number(c.kind) != kind_number(kind)
+}
+
+/// bDescriptorType of the first descriptor of a set of this kind (USB 2.0, table 9-5).
+fn kind_number(kind: SetKind) -> u8
+    ensures { result ≡ type_number kind }
+{
+    match kind {
+        SetKind::Configuration => 2,
+        SetKind::OtherSpeed => 7,
+    }
+}
+
+fn has_wrong_layout(f: &DescriptorFile) -> bool
+    ensures { result ≡ has_wrong_layout f.now }
+{
+    any_without_layout(&f.sets) || any_without_layout(sets_of(&f.other))
+}
+
+fn any_without_layout(sets: &[Configuration]) -> bool
+    ensures { result ≡ list_any has_no_layout sets.now }
+{
+    sets.iter().any(|c| has_no_layout(c))
+}
+
+fn has_no_layout(c: &Configuration) -> bool
+    ensures { result ≡ has_no_layout c.now }
+{
+    refusal(c).is_some()
+}
+
+/// Whether the strings are not those of so many named indices.
+fn are_wrong_strings(count: usize, strings: &Option<Strings>) -> bool
+    requires { count ≤ 255 }
+    ensures { result ≡ are_wrong_strings count strings.now }
+{
+    match strings {
+        None => count != 0,
+        Some(strings) => {
+            count == 0
+                || strings.languages.is_empty()
+                || is_long_string(&strings.languages)
+                || any_long_string(&strings.texts)
+                || strings.texts.len() != strings.languages.len() * count
+        }
+    }
+}
+
+fn any_long_string(texts: &[Sequence<u16>]) -> bool
+    ensures { result ≡ list_any is_long_string texts.now }
+{
+    texts.iter().any(|text| is_long_string(text))
+}
+
+fn is_long_string(text: &Sequence<u16>) -> bool
+    ensures { result ≡ is_long_string text.now }
+{
+    text.len() > MOST_UNITS
+}

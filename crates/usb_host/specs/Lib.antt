@@ -1,0 +1,6 @@
+pub mod Why
+pub mod Limits
+pub mod Transfer
+pub mod Bound
+pub mod Heard
+pub mod inside

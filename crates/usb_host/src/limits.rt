@@ -1,0 +1,103 @@
+//! What a host bears.
+ghost use Rattle.std.specs.Prelude.{◌≡◌, IfOk, IfErr, OnOk, Some, None};
+
+use std::marker::Model;
+use std::{error, fmt};
+
+/// The highest address of a device (USB 2.0, 8.3.2.1).
+const LAST_ADDRESS: u8 = 127;
+
+/// The most attempts that may be asked for.
+const MOST_ATTEMPTS: u8 = 8;
+
+/// What a host bears, and the address that it gives to the device.
+///
+/// ```
+/// let limits = Limits::new(1, 16, 3)?;
+/// assert_eq!(Limits::new(128, 16, 3), Err(LimitFault::Address));
+/// ```
+#[derive(Clone, Copy, Debug, PartialEq, Eq, Hash)]
+pub struct Limits {
+    address: u8,
+    naks: u16,
+    attempts: u8,
+}
+
+impl Model for Limits {
+    ghost use Rattle.usb_host.specs.Limits.{LimitView, IsInRange};
+
+    ghost Value = { LimitView };
+
+    ghost view = { λ l. record { address = l.address; naks = l.naks; attempts = l.attempts } };
+
+    ghost invariant = { λ l. IsInRange l.address l.attempts };
+
+    ghost inverse = { λ v. record { address = v.address; naks = v.naks; attempts = v.attempts } };
+}
+
+impl Limits {
+    ghost use Rattle.usb_host.specs.Limits.{limit_fault};
+
+    /// Limits with the address that the device gets, the number of NAKs without progress that a transfer bears, and
+    /// the number of attempts.
+    ///
+    /// # Errors
+    ///
+    /// [`LimitFault::Address`] where the address is not 1 to 127, and else [`LimitFault::Attempts`] where the
+    /// attempts are not 1 to 8.
+    pub fn new(address: u8, naks: u16, attempts: u8) -> Result<Limits, LimitFault>
+        ensures value { IfOk result (λ l. l ≡ record { address = address; naks = naks; attempts = attempts }) }
+        ensures ok { OnOk result (limit_fault address attempts ≡ None) }
+        ensures err { IfErr result (λ fault. limit_fault address attempts ≡ Some fault) }
+    {
+        if address == 0 || address > LAST_ADDRESS {
+            return Err(LimitFault::Address);
+        }
+        if attempts == 0 || attempts > MOST_ATTEMPTS {
+            return Err(LimitFault::Attempts);
+        }
+        Ok(Limits {
+            address,
+            naks,
+            attempts,
+        })
+    }
+}
+
+/// Why limits are refused: the first of these that holds.
+#[derive(Clone, Copy, Debug, PartialEq, Eq, Hash)]
+pub enum LimitFault {
+    /// The address is not 1 to 127.
+    Address,
+    /// The attempts are not 1 to 8.
+    Attempts,
+}
+
+impl LimitFault {
+    ghost use Rattle.usb_host.specs.Limits.{limit_fault_number};
+
+    /// The fault's number, 1 or 2: a lower one is tested first.
+    pub fn number(self) -> u8
+        ensures { result ≡ limit_fault_number self }
+    {
+        match self {
+            LimitFault::Address => 1,
+            LimitFault::Attempts => 2,
+        }
+    }
+}
+
+impl fmt::Display for LimitFault {
+    ghost use Rattle.usb_host.specs.Limits.{limit_fault_message};
+
+    ghost output = { λ fault. Some (limit_fault_message fault) };
+
+    fn fmt<W: fmt::Write>(&self, f: &mut fmt::Formatter<W>) -> fmt::Result {
+        match self {
+            LimitFault::Address => f.write_str("the address is not 1 to 127"),
+            LimitFault::Attempts => f.write_str("the attempts are not 1 to 8"),
+        }
+    }
+}
+
+impl error::Error for LimitFault {}

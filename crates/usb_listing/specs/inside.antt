@@ -1,0 +1,2 @@
+-- What only the functions and proofs of this crate cite.
+pub mod Pages

@@ -1,0 +1,18 @@
+//! Listings: a descriptor file, or one set, as text with a line for each descriptor.
+//!
+//! [`list`] writes the listing of a file, and [`list_set`] that of one set alone.
+//!
+//! What a listing is is `specs/Listing.antt`, with the lines of a set in `specs/SetListing.antt`, those of
+//! the strings in `specs/StringListing.antt`, and the form of a line in `specs/Lines.antt`.
+#![tactic(auto)]
+
+mod listed;
+mod listing;
+mod output;
+mod page;
+mod set_listing;
+mod string_listing;
+
+pub use listing::list;
+pub use output::OutFault;
+pub use set_listing::list_set;

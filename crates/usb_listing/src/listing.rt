@@ -1,0 +1,87 @@
+//! The listing of a descriptor file, a line for each descriptor.
+ghost use Rattle.std.specs.Prelude.{◌≡◌, ◌++◌, OnErr, OnOk};
+ghost use Rattle.std.specs.Io.KnownBytes.{Appends};
+ghost use Rattle.usb_listing.specs.Listing.{device_line, file_lines, other_lines, qualifier_line};
+ghost use Rattle.usb_listing.specs.Output.{AppendsFront};
+ghost use Rattle.usb_listing.specs.inside.Pages.{Puts};
+
+use crate::listed::list_all;
+use crate::output::OutFault;
+use crate::page::Page;
+use crate::string_listing::list_strings;
+use std::alloc::{AllocError, Global};
+use std::io::Write;
+use usb_fields::{DeviceDescriptor, Qualifier};
+use usb_file_data::{DescriptorFile, Other};
+
+/// Writes the listing of the file: a line for each descriptor, in the order of the file. A file that has
+/// no bytes is listed too, as what it says.
+///
+/// # Errors
+///
+/// `Write` where the writer failed, `Memory` where a growth was refused. A front of the listing is
+/// written then.
+pub fn list<W: Write>(alloc: Global, f: &DescriptorFile, w: &mut W) -> Result<(), OutFault>
+    ensures ok { OnOk result (Appends (W.contents w.old) (W.contents w.new) (file_lines f.now)) }
+    ensures err { OnErr result (AppendsFront (W.contents w.old) (W.contents w.new) (file_lines f.now)) }
+{
+    let mut page = Page::new(alloc)?;
+    list_file(&mut page, f, w)?;
+    page.finish(w)
+}
+
+fn list_file<W: Write>(page: &mut Page, f: &DescriptorFile, w: &mut W) -> Result<(), OutFault>
+    ensures ok { OnOk result (Puts (W.contents w.old) (W.contents w.new) page.old page.new (file_lines f.now)) }
+    ensures err { OnErr result (AppendsFront (W.contents w.old) (W.contents w.new) (page.old ++ file_lines f.now)) }
+{
+    put_device(page, &f.device)?;
+    list_all(page, f.sets.as_slice(), w)?;
+    list_other(page, &f.other, w)?;
+    list_strings(page, &f.strings, w)
+}
+
+fn list_other<W: Write>(page: &mut Page, other: &Option<Other>, w: &mut W) -> Result<(), OutFault>
+    ensures ok { OnOk result (Puts (W.contents w.old) (W.contents w.new) page.old page.new (other_lines other.now)) }
+    ensures err { OnErr result (AppendsFront (W.contents w.old) (W.contents w.new) (page.old ++ other_lines other.now)) }
+{
+    match other {
+        None => Ok(()),
+        Some(other) => {
+            put_qualifier(page, &other.qualifier)?;
+            list_all(page, other.sets.as_slice(), w)
+        }
+    }
+}
+
+fn put_device(page: &mut Page, d: &DeviceDescriptor) -> Result<(), AllocError>
+    ensures { OnOk result (page.new ≡ page.old ++ device_line d.now) }
+{
+    page.put_word("device")?;
+    page.put_number(d.usb)?;
+    page.put_byte(d.class)?;
+    page.put_byte(d.subclass)?;
+    page.put_byte(d.protocol)?;
+    page.put_byte(d.packet)?;
+    page.put_number(d.vendor)?;
+    page.put_number(d.product)?;
+    page.put_number(d.release)?;
+    page.put_byte(d.maker_text)?;
+    page.put_byte(d.product_text)?;
+    page.put_byte(d.serial_text)?;
+    page.put_byte(d.configurations)?;
+    page.end_line()
+}
+
+fn put_qualifier(page: &mut Page, q: &Qualifier) -> Result<(), AllocError>
+    ensures { OnOk result (page.new ≡ page.old ++ qualifier_line q.now) }
+{
+    page.put_word("qualifier")?;
+    page.put_number(q.usb)?;
+    page.put_byte(q.class)?;
+    page.put_byte(q.subclass)?;
+    page.put_byte(q.protocol)?;
+    page.put_byte(q.packet)?;
+    page.put_byte(q.configurations)?;
+    page.put_byte(q.reserved)?;
+    page.end_line()
+}

@@ -1,0 +1,150 @@
+//! Lines on their way to a writer, a few kilobytes at a time.
+ghost use Rattle.std.specs.Prelude.{◌≡◌, ◌+◌, ◌*◌, [], ◌∷◌, ◌++◌, codes, IfErr, IfOk, IfSome, OnErr, OnOk};
+ghost use Rattle.hex.specs.Hex.{encode_lower};
+ghost use Rattle.usb_listing.specs.Lines.{written_field, one_byte, two_bytes};
+ghost use Rattle.usb_listing.specs.StringListing.{is_plain, written_unit};
+ghost use Rattle.std.specs.Io.KnownBytes.{Appends};
+ghost use Rattle.usb_listing.specs.Output.{AppendsFront};
+ghost use Rattle.usb_listing.specs.inside.Pages.{Puts};
+
+use crate::output::{OutFault, write_all};
+use std::alloc::{AllocError, Global};
+use std::io::Write;
+use std::marker::Model;
+
+/// How many bytes a page has room for at first.
+const ROOM: usize = 4096;
+
+/// A page that holds this many bytes is passed on. It is looked at after three lines at most beside the
+/// device's: those of an interface, an endpoint and a raw descriptor, or of a qualifier, the languages and
+/// a string. In a file that has bytes none of them takes more than 640, so its page never grows.
+const FULL: usize = 2048;
+
+/// Lines that the writer has not got yet.
+#[derive(Drop)]
+pub(crate) struct Page {
+    bytes: Vec<u8>,
+}
+
+impl Model for Page {
+    ghost use Rattle.std.specs.Prelude.{ℕ, List};
+
+    ghost Value = { List ℕ };
+
+    ghost view = { λ p. p.bytes.items };
+}
+
+impl Page {
+    /// An empty page.
+    pub(crate) fn new(alloc: Global) -> Result<Page, AllocError>
+        ensures { IfOk result (λ page. page ≡ []) }
+    {
+        Ok(Page {
+            bytes: Vec::with_capacity(alloc, ROOM)?,
+        })
+    }
+
+    /// Puts a word as it stands: the first one of a line, or a quote.
+    pub(crate) fn put_word(&mut self, word: &str) -> Result<(), AllocError>
+        ensures { OnOk result (self.new ≡ self.old ++ word.now) }
+    {
+        self.bytes.extend_from_slice(word.as_bytes())
+    }
+
+    /// Puts a field of one byte.
+    pub(crate) fn put_byte(&mut self, value: u8) -> Result<(), AllocError>
+        ensures { OnOk result (self.new ≡ self.old ++ written_field (one_byte value)) }
+    {
+        let mut field = [b' ', 0, 0];
+        // Two digits are room for one byte.
+        let _ = hex::encode_to_slice([value], &mut field[1..]);
+        self.bytes.extend_from_slice(&field)
+    }
+
+    /// Puts a field of any number of bytes.
+    pub(crate) fn put_bytes(&mut self, value: &[u8]) -> Result<(), AllocError>
+        ensures { OnOk result (self.new ≡ self.old ++ written_field value.now) }
+    {
+        if value.is_empty() {
+            return self.bytes.extend_from_slice(b" -");
+        }
+        self.bytes.push(b' ')?;
+        let start = self.bytes.len();
+        let Some(end) = with_digits(start, value.len()) else {
+            return Err(AllocError);
+        };
+        self.bytes.resize(end, 0)?;
+        let _ = hex::encode_to_slice(value, &mut self.bytes.as_mut_slice()[start..]);
+        Ok(())
+    }
+
+    /// Puts a field of two bytes, the high one first.
+    pub(crate) fn put_number(&mut self, value: u16) -> Result<(), AllocError>
+        ensures { OnOk result (self.new ≡ self.old ++ written_field (two_bytes value)) }
+    {
+        let mut field = [b' ', 0, 0, 0, 0];
+        // Four digits are room for two bytes.
+        let _ = hex::encode_to_slice(value.to_be_bytes(), &mut field[1..]);
+        self.bytes.extend_from_slice(&field)
+    }
+
+    /// Puts a unit of a string: its character, or a backslash and four digits.
+    #[tactic(auto, unfolding(crate::specs::StringListing::written_unit))]
+    pub(crate) fn put_unit(&mut self, unit: u16) -> Result<(), AllocError>
+        ensures { OnOk result (self.new ≡ self.old ++ written_unit unit) }
+    {
+        if is_plain(unit) {
+            self.bytes.push(unit as u8)?;
+            return Ok(());
+        }
+        let mut escape = [b'\\', 0, 0, 0, 0];
+        let _ = hex::encode_to_slice(unit.to_be_bytes(), &mut escape[1..]);
+        self.bytes.extend_from_slice(&escape)
+    }
+
+    /// Ends the line.
+    pub(crate) fn end_line(&mut self) -> Result<(), AllocError>
+        ensures { OnOk result (self.new ≡ self.old ++ codes "\n") }
+    {
+        self.bytes.push(b'\n')?;
+        Ok(())
+    }
+
+    /// Writes the page and empties it, where it is full.
+    pub(crate) fn pass_on<W: Write>(&mut self, w: &mut W) -> Result<(), OutFault>
+        ensures ok { OnOk result (Puts (W.contents w.old) (W.contents w.new) self.old self.new []) }
+        ensures err { OnErr result (AppendsFront (W.contents w.old) (W.contents w.new) self.old) }
+        ensures why { IfErr result (λ fault. fault ≡ OutFault.Write) }
+    {
+        if self.bytes.len() >= FULL {
+            write_all(w, self.bytes.as_slice())?;
+            self.bytes.clear();
+        }
+        Ok(())
+    }
+
+    /// Writes what the page holds.
+    pub(crate) fn finish<W: Write>(self, w: &mut W) -> Result<(), OutFault>
+        ensures ok { OnOk result (Appends (W.contents w.old) (W.contents w.new) self) }
+        ensures err { OnErr result (AppendsFront (W.contents w.old) (W.contents w.new) self) }
+        ensures why { IfErr result (λ fault. fault ≡ OutFault.Write) }
+    {
+        write_all(w, self.bytes.as_slice())
+    }
+}
+
+/// A length and two digits more for each of so many bytes, if there is such a length. There is for all
+/// bytes that a memory can hold.
+fn with_digits(len: usize, bytes: usize) -> Option<usize>
+    ensures { IfSome result (λ end. end ≡ len + 2 * bytes) }
+{
+    bytes.checked_mul(2)?.checked_add(len)
+}
+
+/// Whether a unit is written as the character that it is: a printable one of ASCII that is neither the
+/// quote, which ends a string, nor the backslash, which begins an escape.
+fn is_plain(unit: u16) -> bool
+    ensures { result ≡ is_plain unit }
+{
+    (0x20..=0x7e).contains(&unit) && unit != 0x22 && unit != 0x5c
+}

@@ -1,0 +1,79 @@
+//! The listing of a device's languages and strings.
+ghost use Rattle.std.specs.Prelude.{◌≡◌, ◌++◌, map, OnErr, OnOk};
+ghost use Rattle.std.specs.List.{flat_map};
+ghost use Rattle.usb_listing.specs.Output.{AppendsFront};
+ghost use Rattle.usb_listing.specs.inside.Pages.{Puts};
+ghost use Rattle.usb_listing.specs.Lines.{written_field, two_bytes};
+ghost use Rattle.usb_listing.specs.StringListing.{languages_line, string_line, strings_lines, written_unit};
+
+use crate::listed::{Listed, list_all};
+use crate::output::OutFault;
+use crate::page::Page;
+use std::alloc::AllocError;
+use std::io::Write;
+use usb_file_data::Strings;
+use usb_set::Sequence;
+
+/// Puts the languages' line and those of the strings, if there are any.
+pub(crate) fn list_strings<W: Write>(
+    page: &mut Page,
+    strings: &Option<Strings>,
+    w: &mut W,
+) -> Result<(), OutFault>
+    ensures ok { OnOk result (Puts (W.contents w.old) (W.contents w.new) page.old page.new (strings_lines strings.now)) }
+    ensures err { OnErr result (AppendsFront (W.contents w.old) (W.contents w.new) (page.old ++ strings_lines strings.now)) }
+{
+    match strings {
+        None => Ok(()),
+        Some(strings) => {
+            put_languages(page, strings.languages.as_slice())?;
+            list_all(page, strings.texts.as_slice(), w)
+        }
+    }
+}
+
+impl Listed for Sequence<u16> {
+    ghost use Rattle.usb_listing.specs.StringListing.{string_line};
+
+    ghost lines = { string_line };
+
+    fn list<W: Write>(&self, page: &mut Page, w: &mut W) -> Result<(), OutFault> {
+        put_string(page, self.as_slice())?;
+        page.pass_on(w)
+    }
+}
+
+fn put_string(page: &mut Page, units: &[u16]) -> Result<(), AllocError>
+    ensures { OnOk result (page.new ≡ page.old ++ string_line units.now) }
+{
+    page.put_word("string \"")?;
+    put_units(page, units)?;
+    page.put_word("\"")?;
+    page.end_line()
+}
+
+fn put_units(page: &mut Page, units: &[u16]) -> Result<(), AllocError>
+    ensures { OnOk result (page.new ≡ page.old ++ flat_map written_unit units.now) }
+{
+    for unit in units {
+        page.put_unit(*unit)?;
+    }
+    Ok(())
+}
+
+fn put_languages(page: &mut Page, languages: &[u16]) -> Result<(), AllocError>
+    ensures { OnOk result (page.new ≡ page.old ++ languages_line languages.now) }
+{
+    page.put_word("languages")?;
+    put_numbers(page, languages)?;
+    page.end_line()
+}
+
+fn put_numbers(page: &mut Page, numbers: &[u16]) -> Result<(), AllocError>
+    ensures { OnOk result (page.new ≡ page.old ++ flat_map written_field (map two_bytes numbers.now)) }
+{
+    for number in numbers {
+        page.put_number(*number)?;
+    }
+    Ok(())
+}

@@ -1,0 +1,11 @@
+pub mod DigitLemmas
+pub mod DecodeLemmas
+pub mod ValueLemmas
+pub mod WordLemmas
+pub mod QuoteLemmas
+pub mod FieldLemmas
+pub mod UnitLemmas
+pub mod ItemLemmas
+pub mod ReadLemmas
+pub mod SaysLemmas
+pub mod PrintableLemmas

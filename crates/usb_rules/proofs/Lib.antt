@@ -1,0 +1,6 @@
+pub mod Joining
+pub mod Cells
+pub mod Running
+pub mod Owning
+pub mod Pairing
+pub mod Surveying

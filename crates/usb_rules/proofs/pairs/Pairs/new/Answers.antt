@@ -1,0 +1,9 @@
+use Rattle.std.proofs.Common.{replicate, false}
+use Rattle.usb_rules.specs.inside.Pairs.{tells}
+use Rattle.usb_rules.proofs.Cells.{funext}
+use Rattle.usb_rules.proofs.Pairing.{none_of_rows}
+use Rattle.usb_rules.proofs.pairs.Pairs.new.Goals as goal
+
+pub returns : goal.returns
+unfolding tells
+returns c = funext _ _ (λ n. funext _ _ (λ a. none_of_rows 256 256 n a))

@@ -1,0 +1,96 @@
+-- All that breaks a rule in a file: rule by rule, and in each rule by part, set, setting and endpoint.
+use Rattle.std.specs.Prelude.{ℕ, List, [], ◌∷◌, ◌++◌, length, ◌==◌, Bool, Option, Some, None}
+use Rattle.usb_set.specs.declared.tree.Endpoint.{Endpoint}
+use Rattle.usb_set.specs.declared.tree.Setting.{Setting}
+use Rattle.usb_set.specs.declared.tree.Configuration.{Configuration}
+use Rattle.usb_file_data.specs.declared.file.DescriptorFile.{DescriptorFile}
+use Rattle.usb_file_data.specs.declared.file.Other.{Other}
+use Rattle.usb_rules.specs.declared.finding.Part.{Part}
+use Rattle.usb_rules.specs.declared.finding.Part.TheVariants as parts
+use Rattle.usb_rules.specs.declared.finding.Finding.{Finding}
+use Rattle.usb_rules.specs.Places.{when, finding, at_each, at_each_after, in_sets, in_parts}
+use Rattle.usb_rules.specs.Rules.{wrong_interface_count, has_number_gap, repeats_setting, lacks_default_setting, wrong_endpoint_count, wrong_address, repeats_address, shares_address, wrong_attributes, wrong_value, wrong_device, wrong_qualifier, wrong_packet_size}
+
+-- a rule that a set breaks as a whole
+abbrev pub of_set : ℕ → (Configuration → Bool) → Part → ℕ → Configuration → List Finding
+of_set rule breaks part i c = when (breaks c) (finding rule part i 0 0)
+
+-- a rule that each setting breaks by itself
+abbrev pub of_settings : ℕ → (Setting → Bool) → Part → ℕ → Configuration → List Finding
+of_settings rule breaks part i c = at_each (λ j s. when (breaks s) (finding rule part i j 0)) 0 c.settings
+
+-- a rule that each setting breaks by itself or with those before it
+abbrev pub of_settings_after : ℕ → (List Setting → Setting → Bool) → Part → ℕ → Configuration → List Finding
+of_settings_after rule breaks part i c = at_each_after (λ before j s. when (breaks before s) (finding rule part i j 0)) [] 0 c.settings
+
+-- V1 to V9 and V12 in one set
+abbrev pub interface_counts : Part → ℕ → Configuration → List Finding
+interface_counts = of_set 1 wrong_interface_count
+
+abbrev pub number_gaps : Part → ℕ → Configuration → List Finding
+number_gaps = of_set 2 has_number_gap
+
+abbrev pub repeated_settings : Part → ℕ → Configuration → List Finding
+repeated_settings = of_settings_after 3 repeats_setting
+
+abbrev pub missing_default_settings : Part → ℕ → Configuration → List Finding
+missing_default_settings part i c = of_settings_after 4 (lacks_default_setting c.settings) part i c
+
+abbrev pub endpoint_counts : Part → ℕ → Configuration → List Finding
+endpoint_counts = of_settings 5 wrong_endpoint_count
+
+abbrev pub addresses_in : Part → ℕ → ℕ → Setting → List Finding
+addresses_in part i j s = at_each (λ k e. when (wrong_address e.address) (finding 6 part i j k)) 0 s.endpoints
+
+abbrev pub addresses : Part → ℕ → Configuration → List Finding
+addresses part i c = at_each (addresses_in part i) 0 c.settings
+
+abbrev pub repeated_in_setting : Part → ℕ → ℕ → Setting → List Finding
+repeated_in_setting part i j s = at_each_after (λ before k e. when (repeats_address before e) (finding 7 part i j k)) [] 0 s.endpoints
+
+abbrev pub repeated_addresses : Part → ℕ → Configuration → List Finding
+repeated_addresses part i c = at_each (repeated_in_setting part i) 0 c.settings
+
+abbrev pub shared_addresses : Part → ℕ → Configuration → List Finding
+shared_addresses part i c =
+    at_each_after (λ before j s. at_each (λ k e. when (shares_address before s e) (finding 8 part i j k)) 0 s.endpoints) [] 0 c.settings
+
+abbrev pub attributes : Part → ℕ → Configuration → List Finding
+attributes = of_set 9 wrong_attributes
+
+abbrev pub packet_sizes_in : Part → ℕ → ℕ → Setting → List Finding
+packet_sizes_in part i j s = at_each (λ k e. when (wrong_packet_size e.max_packet) (finding 12 part i j k)) 0 s.endpoints
+
+abbrev pub packet_sizes : Part → ℕ → Configuration → List Finding
+packet_sizes part i c = at_each (packet_sizes_in part i) 0 c.settings
+
+-- V10 in a part: a finding where it has no set, and one for each wrong value
+abbrev pub values : Part → List Configuration → List Finding
+values part sets =
+    when (length sets == 0) (finding 10 part 0 0 0)
+    ++ at_each_after (λ before i c. when (wrong_value before c) (finding 10 part i 0 0)) [] 0 sets
+
+-- V11 in the qualifier, where there is one
+abbrev pub of_qualifier : Option Other → List Finding
+of_qualifier None = []
+of_qualifier (Some other) = when (wrong_qualifier other.qualifier) (finding 11 parts.Other 0 0 0)
+
+-- V11 in a file
+abbrev pub descriptors : DescriptorFile → List Finding
+descriptors f = when (wrong_device f.device) (finding 11 parts.Device 0 0 0) ++ of_qualifier f.other
+
+-- what `check` tells of a file
+abbrev pub findings : DescriptorFile → List Finding
+findings f =
+    in_parts (in_sets interface_counts) f
+    ++ in_parts (in_sets number_gaps) f
+    ++ in_parts (in_sets repeated_settings) f
+    ++ in_parts (in_sets missing_default_settings) f
+    ++ in_parts (in_sets endpoint_counts) f
+    ++ in_parts (in_sets addresses) f
+    ++ in_parts (in_sets repeated_addresses) f
+    ++ in_parts (in_sets shared_addresses) f
+    ++ in_parts (in_sets attributes) f
+    ++ in_parts values f
+    ++ descriptors f
+    ++ in_parts (in_sets packet_sizes) f

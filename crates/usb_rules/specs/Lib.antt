@@ -1,0 +1,5 @@
+pub mod FindingLine
+pub mod Places
+pub mod Rules
+pub mod Findings
+pub mod inside

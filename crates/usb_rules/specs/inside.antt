@@ -1,0 +1,6 @@
+pub mod SetRules
+pub mod Marks
+pub mod Running
+pub mod Owners
+pub mod Pairs
+pub mod Alternates

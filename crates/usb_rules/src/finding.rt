@@ -1,0 +1,77 @@
+//! What breaks a rule, and where.
+ghost use Rattle.std.specs.Prelude.{Some};
+ghost use Rattle.usb_rules.specs.FindingLine.{finding_line, part_word};
+
+use std::fmt;
+
+/// A part of a descriptor file.
+#[derive(Clone, Copy, Debug, PartialEq, Eq, Hash)]
+pub enum Part {
+    /// The device descriptor.
+    Device,
+    /// The configuration sets of the speed that the device runs at.
+    Main,
+    /// The device qualifier, with the sets of the other speed.
+    Other,
+}
+
+impl fmt::Display for Part {
+    ghost output = { λ part. Some (part_word part) };
+
+    fn fmt<W: fmt::Write>(&self, f: &mut fmt::Formatter<W>) -> fmt::Result {
+        match self {
+            Part::Device => write!(f, "device"),
+            Part::Main => write!(f, "main"),
+            Part::Other => write!(f, "other"),
+        }
+    }
+}
+
+/// A broken rule at its place. Numbers that a rule does not use are 0.
+#[derive(Clone, Copy, Debug, PartialEq, Eq, Hash)]
+pub struct Finding {
+    /// The number of the rule, from 1.
+    pub rule: u8,
+    /// The part that breaks it.
+    pub part: Part,
+    /// The set's number in its part, from 0.
+    pub set: usize,
+    /// The setting's number in its set, from 0.
+    pub setting: usize,
+    /// The endpoint's number in its setting, from 0.
+    pub endpoint: usize,
+}
+
+impl Finding {
+    ghost use Rattle.std.specs.Prelude.{◌≡◌};
+    ghost use Rattle.usb_rules.specs.Places.{finding};
+
+    /// The rule's finding at the set, the setting and the endpoint of these numbers.
+    pub(crate) fn at(rule: u8, part: Part, set: usize, setting: usize, endpoint: usize) -> Finding
+        ensures { result ≡ finding rule part set setting endpoint }
+    {
+        Finding {
+            rule,
+            part,
+            set,
+            setting,
+            endpoint,
+        }
+    }
+}
+
+/// The line that the program prints for a finding, without its line feed.
+impl fmt::Display for Finding {
+    ghost output = { λ finding. Some (finding_line finding) };
+
+    fn fmt<W: fmt::Write>(&self, f: &mut fmt::Formatter<W>) -> fmt::Result {
+        let Finding {
+            rule,
+            part,
+            set,
+            setting,
+            endpoint,
+        } = *self;
+        write!(f, "V{rule} {part} {set} {setting} {endpoint}")
+    }
+}

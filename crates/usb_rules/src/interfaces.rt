@@ -1,0 +1,53 @@
+//! V1 and V2: how many interface numbers a set has, and which.
+ghost use Rattle.std.specs.Prelude.{◌≡◌, ◌++◌, OnOk, not};
+ghost use Rattle.std.specs.List.{list_any, range_with_len};
+ghost use Rattle.usb_rules.specs.Findings.{interface_counts, number_gaps};
+ghost use Rattle.usb_rules.specs.inside.Alternates.{IsSurvey, reads, seen};
+
+use crate::alternates::Alternates;
+use crate::finding::{Finding, Part};
+use crate::push::push_when;
+use crate::survey::Survey;
+use std::alloc::AllocError;
+use usb_set::Configuration;
+
+pub(crate) fn check_interface_count(
+    out: &mut Vec<Finding>,
+    survey: &Survey,
+    part: Part,
+    set: usize,
+    c: &Configuration,
+) -> Result<(), AllocError>
+    requires { IsSurvey survey.now c.now.settings }
+    ensures { OnOk result (out.new.items ≡ out.old.items ++ interface_counts part set c.now) }
+{
+    push_when(
+        out,
+        usize::from(c.declared_interfaces) != survey.count,
+        Finding::at(1, part, set, 0, 0),
+    )
+}
+
+pub(crate) fn check_number_gap(
+    out: &mut Vec<Finding>,
+    survey: &Survey,
+    part: Part,
+    set: usize,
+    c: &Configuration,
+) -> Result<(), AllocError>
+    requires { IsSurvey survey.now c.now.settings }
+    ensures { OnOk result (out.new.items ≡ out.old.items ++ number_gaps part set c.now) }
+{
+    push_when(
+        out,
+        misses_one(&survey.next, survey.count),
+        Finding::at(2, part, set, 0, 0),
+    )
+}
+
+/// Whether one of 0 to `count` - 1 is no interface number.
+fn misses_one(next: &Alternates, count: usize) -> bool
+    ensures { result ≡ list_any (λ n. not (seen (reads next.now) n)) (range_with_len 0 count) }
+{
+    (0..count).any(|n| !next.has(n))
+}

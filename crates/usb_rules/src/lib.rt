@@ -1,0 +1,31 @@
+//! The rules of chapter 9 of USB 2.0 that the descriptors of a device keep among themselves.
+//!
+//! A file can be read and yet be wrong: counts that do not count, settings that stand twice, addresses
+//! that two interfaces claim. [`check`] tells all of that at once, each [`Finding`] at its place.
+//!
+//! - What breaks each rule is `specs/Rules.antt`; in which order findings come is `specs/Findings.antt`.
+#![tactic(auto)]
+
+mod alternates;
+mod attributes;
+mod checking;
+mod counts;
+mod default_setting;
+mod device;
+mod endpoint;
+mod finding;
+mod interfaces;
+mod lists;
+mod marks;
+mod owners;
+mod pairs;
+mod push;
+mod repeated_address;
+mod repeated_setting;
+mod set;
+mod shared_address;
+mod survey;
+mod value;
+
+pub use checking::{NoMemory, check};
+pub use finding::{Finding, Part};

@@ -1,0 +1,30 @@
+//! Lists that grow under a condition.
+ghost use Rattle.std.specs.Prelude.{◌≡◌, ◌++◌, OnOk};
+ghost use Rattle.usb_rules.specs.Places.{when};
+
+use crate::finding::Finding;
+use std::alloc::AllocError;
+
+/// Adds the finding where the test holds.
+pub(crate) fn push_when(
+    out: &mut Vec<Finding>,
+    holds: bool,
+    finding: Finding,
+) -> Result<(), AllocError>
+    ensures { OnOk result (out.new.items ≡ out.old.items ++ when holds finding) }
+{
+    if holds {
+        out.push(finding)?;
+    }
+    Ok(())
+}
+
+/// Moves the findings of the list after those that are there.
+pub(crate) fn put_after(out: &mut Vec<Finding>, more: &mut Vec<Finding>) -> Result<(), AllocError>
+    ensures { OnOk result (out.new.items ≡ out.old.items ++ more.old.items) }
+{
+    if more.is_empty() {
+        return Ok(());
+    }
+    out.append(more)
+}

@@ -1,0 +1,51 @@
+//! V3: no alternate setting of an interface twice.
+ghost use Rattle.std.specs.Prelude.{◌≡◌, ◌++◌, OnOk};
+ghost use Rattle.usb_rules.specs.Findings.{repeated_settings};
+ghost use Rattle.usb_rules.specs.inside.Alternates.{IsSurvey};
+ghost use Rattle.usb_rules.specs.inside.Pairs.{none_yet, pairing};
+
+use crate::finding::{Finding, Part};
+use crate::pairs::Pairs;
+use crate::push::push_when;
+use crate::survey::Survey;
+use std::alloc::AllocError;
+use usb_set::{Configuration, Setting};
+
+pub(crate) fn check_repeated_settings(
+    out: &mut Vec<Finding>,
+    survey: &Survey,
+    part: Part,
+    set: usize,
+    c: &Configuration,
+) -> Result<(), AllocError>
+    requires { IsSurvey survey.now c.now.settings }
+    ensures { OnOk result (out.new.items ≡ out.old.items ++ repeated_settings part set c.now) }
+{
+    if survey.plain {
+        return Ok(());
+    }
+    tell_repeated(out, part, set, c.settings.as_slice())
+}
+
+/// Kept apart, so that only sets that need the large table pay for it.
+#[cold]
+#[inline(never)]
+fn tell_repeated(
+    out: &mut Vec<Finding>,
+    part: Part,
+    set: usize,
+    settings: &[Setting],
+) -> Result<(), AllocError>
+    ensures { OnOk result (out.new.items ≡ out.old.items ++ pairing part set none_yet 0 settings.now) }
+{
+    let mut seen = Pairs::new();
+    for (setting, s) in settings.iter().enumerate() {
+        push_when(
+            out,
+            seen.has(s.number, s.alternate),
+            Finding::at(3, part, set, setting, 0),
+        )?;
+        seen.add(s.number, s.alternate);
+    }
+    Ok(())
+}

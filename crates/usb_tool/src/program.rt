@@ -1,0 +1,58 @@
+//! What the program does, from the words of its command line to its exit status.
+ghost use Rattle.std.specs.Prelude.{◌≡◌};
+ghost use Rattle.clap.specs.Values.{kind_of};
+ghost use Rattle.usb_tool.specs.Faults.{status_of};
+ghost use Rattle.usb_tool.specs.Runs.{KeepsUnlessHelp, Runs, line_status};
+
+use crate::fault::{ToolFault, verdict};
+use crate::line::{Line, read_line};
+use crate::show::run_show;
+use clap::Error;
+use std::alloc::Global;
+use std::io::{Read, Write};
+
+/// The exit status of a command line that asks for nothing that the program does.
+const USAGE: u8 = 2;
+
+/// Carries out what the words ask for, of which the first is the program's name: `r` is standard input, `w`
+/// standard output and `e` standard error. The result is the exit status: 0 where the command did its work
+/// or help was asked for, 2 where the words are no command, and 3 where the command failed, whose fault's
+/// line is then written to `e`. What cannot be written to `e` is lost.
+pub fn run<R: Read, W: Write, E: Write>(
+    alloc: Global,
+    words: &[String],
+    r: &mut R,
+    w: &mut W,
+    e: &mut E,
+) -> u8
+    ensures { Runs words.now (R.remaining r.old) (R.remaining r.new) (W.contents w.old) (W.contents w.new) result }
+{
+    match read_line(alloc, words) {
+        Ok(Line::Show) => finish(&run_show(alloc, r, w), e),
+        Err(error) => explain(&error, w, e),
+    }
+}
+
+/// The exit status of a command, after the line of its fault.
+fn finish<E: Write>(outcome: &Result<u8, ToolFault>, e: &mut E) -> u8
+    ensures { result ≡ status_of outcome.now }
+{
+    if let Err(fault) = outcome {
+        let _ = writeln!(e, "{fault}");
+    }
+    verdict(outcome)
+}
+
+/// The exit status of a line that names no command, after what `clap` says of it.
+fn explain<W: Write, E: Write>(error: &Error, w: &mut W, e: &mut E) -> u8
+    ensures status { result ≡ line_status (kind_of error.now) }
+    ensures output { KeepsUnlessHelp (kind_of error.now) (W.contents w.old) (W.contents w.new) }
+{
+    if error.use_stderr() {
+        let _ = write!(e, "{error}");
+        USAGE
+    } else {
+        let _ = write!(w, "{error}");
+        0
+    }
+}
