@@ -5,7 +5,7 @@ pub mod Units
 pub mod Fronts
 pub mod Next
 pub mod Ends
-pub mod Parts
+pub mod SetFaults
 pub mod Rows
 pub mod Assembly
 pub mod Unique

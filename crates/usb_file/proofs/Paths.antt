@@ -12,7 +12,8 @@ use Rattle.usb_set.specs.declared.tree.SetKind.TheVariants as kinds
 use Rattle.usb_set.specs.declared.tree.Configuration.{Configuration}
 use Rattle.usb_set.specs.declared.fault.EncodeFault.TheVariants as encoding
 use Rattle.usb_set.specs.Layout.{Layout, set_bytes, has_long_descriptor, has_typed_raw}
-use Rattle.usb_set.specs.Encoding.{set_length, HasLength}
+use Rattle.usb_set.specs.Encoding.{set_length}
+use Rattle.usb_set.specs.inside.Lengths.{HasLength}
 use Rattle.usb_set.proofs.Sets.{layout_of}
 use Rattle.usb_file_data.specs.declared.file.DescriptorFile.{DescriptorFile}
 use Rattle.usb_file_data.specs.declared.file.Other.{Other}

@@ -10,7 +10,7 @@ ghost use Rattle.usb_file_data.specs.declared.file.DescriptorFile.{DescriptorFil
 ghost use Rattle.usb_file.specs.declared.fault.FileWhy.{FileWhy};
 
 use usb_fields::laws::{device_descriptor_round_trip, qualifier_round_trip, units_round_trip};
-use usb_set::laws::{one_layout, one_judgement};
+use usb_set::laws::{one_judgement, one_layout};
 
 /// Bytes are those of one file at most, and a file has one list of bytes at most.
 pub fn one_file()

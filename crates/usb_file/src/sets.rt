@@ -6,7 +6,7 @@ use crate::fault::{FileFault, FileWhy};
 use crate::reading::rest;
 use std::alloc::Global;
 use usb_file_data::is_other_kind;
-use usb_set::{Configuration, Decoder, Progress, Sequence, SetKind, SetWhy};
+use usb_set::{Configuration, Sequence, SetKind, SetWhy, read_set};
 
 /// Reads as many sets of this kind as are declared, and answers where they end.
 pub(crate) fn read_sets(
@@ -43,7 +43,7 @@ fn read_next_set(
     ensures err { IfErr result (λ fault. Behind place (λ n. SetRefused kind (drop place b.now) n fault.why) fault.at) }
     ensures same { IfErr result (λ fault. sets.new ≡ sets.old) }
 {
-    match read_set(alloc, kind, rest(b, place)) {
+    match read_one_set(alloc, kind, rest(b, place)) {
         Ok((c, used)) => match sets.push(c) {
             Ok(()) => Ok(place + used),
             Err(_) => Err(FileFault::new(place, FileWhy::Memory)),
@@ -52,36 +52,37 @@ fn read_next_set(
     }
 }
 
-/// The set that the bytes begin with, and how many bytes it has; or a fault, its place counted from the
-/// first of these bytes.
-fn read_set(alloc: Global, kind: SetKind, rest: &[u8]) -> Result<(Configuration, usize), FileFault>
+/// The set of this kind that the bytes begin with, and how many bytes it has; or a fault, its place
+/// counted from the first of these bytes.
+fn read_one_set(
+    alloc: Global,
+    kind: SetKind,
+    rest: &[u8],
+) -> Result<(Configuration, usize), FileFault>
     ensures ok { IfOk result (λ p. ReadsSet kind rest.now p.0 p.1) }
     ensures err { IfErr result (λ fault. SetRefused kind rest.now fault.at fault.why) }
-    ensures small { IfErr result (λ fault. fault.at ≤ length rest.now + 2 ^ 32) }
+    ensures small { IfErr result (λ fault. fault.at < 2 ^ 32) }
 {
-    let mut decoder = Decoder::new(alloc);
-    match decoder.feed(rest) {
-        Ok(Progress::More) => Err(FileFault::new(rest.len(), FileWhy::Truncated)),
-        Err(fault) => Err(set_refused(fault.why, fault.at)),
-        Ok(Progress::Done { used }) => match decoder.finish() {
-            Ok(c) => {
-                if is_other_kind(&c, kind) {
-                    return Err(FileFault::new(1, FileWhy::SetKind));
-                }
-                Ok((c, used))
+    match read_set(alloc, rest) {
+        Ok((c, used)) => {
+            if is_other_kind(&c, kind) {
+                return Err(FileFault::new(1, FileWhy::SetKind));
             }
-            Err(fault) => Err(set_refused(fault.why, fault.at)),
-        },
+            Ok((c, used))
+        }
+        Err(fault) => Err(set_refusal(fault.why, fault.at)),
     }
 }
 
-/// The decoder's fault as a fault of the file, from the set's start: want of memory is told there.
-fn set_refused(why: SetWhy, at: u32) -> FileFault
+/// The fault of a set as one of the file, its place counted from the set's start: want of memory is told
+/// there.
+fn set_refusal(why: SetWhy, at: u32) -> FileFault
     ensures is { result ≡ set_refusal why at }
     ensures small { result.at < 2 ^ 32 }
 {
     match why {
         SetWhy::Memory => FileFault::new(0, FileWhy::Memory),
+        SetWhy::Truncated => FileFault::new(at as usize, FileWhy::Truncated),
         why => FileFault::new(at as usize, FileWhy::Set(why)),
     }
 }

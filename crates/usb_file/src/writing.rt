@@ -8,7 +8,7 @@ ghost use Rattle.usb_file_data.specs.Named.{other_sets};
 use std::alloc::{AllocError, Global};
 use usb_base::known_bytes;
 use usb_fields::write_units;
-use usb_file_data::{DescriptorFile, Other, Strings, WriteFault, known_bytes, write_refusal};
+use usb_file_data::{DescriptorFile, Other, Strings, WriteFault, write_refusal};
 use usb_set::{Configuration, Sequence, encode};
 
 /// The bytes of a file: its parts one after another, each written once (USB 2.0, 9.4.3 and 9.6).
@@ -28,7 +28,7 @@ pub fn write_file(alloc: Global, f: &DescriptorFile) -> Result<Vec<u8>, WriteFau
     }
     match file_of(alloc, f) {
         Ok(out) => {
-            known_bytes(out.as_slice());
+            known_bytes(&out);
             Ok(out)
         }
         Err(_) => Err(WriteFault::Memory),
@@ -42,7 +42,7 @@ fn file_of(alloc: Global, f: &DescriptorFile) -> Result<Vec<u8>, AllocError>
 {
     let mut out = Vec::new(alloc);
     out.extend_from_slice(&f.device.to_bytes())?;
-    put_sets(alloc, &mut out, f.sets.as_slice())?;
+    put_sets(alloc, &mut out, &f.sets)?;
     put_other(alloc, &mut out, &f.other)?;
     put_strings(alloc, &mut out, &f.strings)?;
     Ok(out)
@@ -56,7 +56,7 @@ fn put_other(alloc: Global, out: &mut Vec<u8>, other: &Option<Other>) -> Result<
         None => Ok(()),
         Some(other) => {
             out.extend_from_slice(&other.qualifier.to_bytes())?;
-            put_sets(alloc, out, other.sets.as_slice())
+            put_sets(alloc, out, &other.sets)
         }
     }
 }
@@ -78,7 +78,7 @@ fn put_set(alloc: Global, out: &mut Vec<u8>, c: &Configuration) -> Result<(), Al
     ensures { OnOk result (out.new.items ≡ out.old.items ++ whole_set c.now) }
 {
     match encode(alloc, c) {
-        Ok(bytes) => out.extend_from_slice(bytes.as_slice()),
+        Ok(bytes) => out.extend_from_slice(&bytes),
         Err(_) => Err(AllocError),
     }
 }
@@ -95,7 +95,7 @@ fn put_strings(
         None => Ok(()),
         Some(strings) => {
             put_text(alloc, out, &strings.languages)?;
-            put_texts(alloc, out, strings.texts.as_slice())
+            put_texts(alloc, out, &strings.texts)
         }
     }
 }
@@ -115,8 +115,8 @@ fn put_text(alloc: Global, out: &mut Vec<u8>, text: &Sequence<u16>) -> Result<()
     requires { is_long_string text.now ≡ false }
     ensures { OnOk result (out.new.items ≡ out.old.items ++ units_bytes text.now) }
 {
-    match write_units(alloc, text.as_slice()) {
-        Ok(bytes) => out.extend_from_slice(bytes.as_slice()),
+    match write_units(alloc, text) {
+        Ok(bytes) => out.extend_from_slice(&bytes),
         Err(_) => Err(AllocError),
     }
 }

@@ -47,9 +47,11 @@ pub record ReadsSet (kind : SetKind) (rest : List ℕ) (c : Configuration) (used
   pub begins : Begins rest c used
   pub kind_is : is_other_kind kind c ≡ false
 
--- the fault of a set as a fault of the file, from the set's start: want of memory is told there
+-- The fault of a set as one of the file, from the set's start: want of memory is told there, and bytes that
+-- end too early end the file.
 abbrev pub set_refusal : SetWhy → ℕ → FileFault
 set_refusal sets.Memory at = record { at = 0; why = files.Memory }
+set_refusal sets.Truncated at = record { at = at; why = files.Truncated }
 set_refusal why at = record { at = at; why = files.Set why }
 
 -- want of memory at the start, or the fault of a set of this kind
