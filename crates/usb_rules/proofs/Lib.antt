@@ -4,3 +4,4 @@ pub mod Running
 pub mod Owning
 pub mod Pairing
 pub mod Surveying
+pub mod Telling

@@ -3,13 +3,14 @@ use Rattle.std.specs.Prelude.{ℕ, List, [], ◌∷◌, ◌++◌, length, ◌==�
 use Rattle.usb_set.specs.declared.tree.Endpoint.{Endpoint}
 use Rattle.usb_set.specs.declared.tree.Setting.{Setting}
 use Rattle.usb_set.specs.declared.tree.Configuration.{Configuration}
+use Rattle.usb_set.specs.Parts.{associations_of}
 use Rattle.usb_file_data.specs.declared.file.DescriptorFile.{DescriptorFile}
 use Rattle.usb_file_data.specs.declared.file.Other.{Other}
 use Rattle.usb_rules.specs.declared.finding.Part.{Part}
 use Rattle.usb_rules.specs.declared.finding.Part.TheVariants as parts
 use Rattle.usb_rules.specs.declared.finding.Finding.{Finding}
 use Rattle.usb_rules.specs.Places.{when, finding, at_each, at_each_after, in_sets, in_parts}
-use Rattle.usb_rules.specs.Rules.{wrong_interface_count, has_number_gap, repeats_setting, lacks_default_setting, wrong_endpoint_count, wrong_address, repeats_address, shares_address, wrong_attributes, wrong_value, wrong_device, wrong_qualifier, wrong_packet_size}
+use Rattle.usb_rules.specs.Rules.{wrong_interface_count, has_number_gap, repeats_setting, lacks_default_setting, wrong_endpoint_count, wrong_address, repeats_address, shares_address, wrong_attributes, wrong_value, wrong_device, wrong_qualifier, wrong_packet_size, binds_missing_interface}
 
 -- a rule that a set breaks as a whole
 abbrev pub of_set : ℕ → (Configuration → Bool) → Part → ℕ → Configuration → List Finding
@@ -64,6 +65,10 @@ packet_sizes_in part i j s = at_each (λ k e. when (wrong_packet_size e.max_pack
 abbrev pub packet_sizes : Part → ℕ → Configuration → List Finding
 packet_sizes part i c = at_each (packet_sizes_in part i) 0 c.settings
 
+-- V13 in one set: the place is the number of the association among all of the set, in the order of the bytes
+abbrev pub associations : Part → ℕ → Configuration → List Finding
+associations part i c = at_each (λ k a. when (binds_missing_interface c.settings a) (finding 13 part i k 0)) 0 (associations_of c)
+
 -- V10 in a part: a finding where it has no set, and one for each wrong value
 abbrev pub values : Part → List Configuration → List Finding
 values part sets =
@@ -94,3 +99,4 @@ findings f =
     ++ in_parts values f
     ++ descriptors f
     ++ in_parts (in_sets packet_sizes) f
+    ++ in_parts (in_sets associations) f

@@ -3,6 +3,7 @@ use Rattle.std.specs.Prelude.{ℕ, ◌+◌, List, [], ◌∷◌, map, length, Bo
 use Rattle.std.specs.List.{list_any, range_with_len}
 use Rattle.usb_fields.specs.declared.device.DeviceDescriptor.{DeviceDescriptor}
 use Rattle.usb_fields.specs.declared.qualifier.Qualifier.{Qualifier}
+use Rattle.usb_set.specs.declared.tree.Association.{Association}
 use Rattle.usb_set.specs.declared.tree.Endpoint.{Endpoint}
 use Rattle.usb_set.specs.declared.tree.Setting.{Setting}
 use Rattle.usb_set.specs.declared.tree.Configuration.{Configuration}
@@ -101,3 +102,10 @@ wrong_qualifier q = wrong_packet q.packet || ((q.class == 0) && not (q.subclass 
 -- V12. wMaxPacketSize has a one in the reserved bits 15 to 13 (9.6.6).
 abbrev pub wrong_packet_size : ℕ → Bool
 wrong_packet_size max_packet = not (bit_and max_packet 0xe000 == 0)
+
+-- V13. An interface association binds no interface (bInterfaceCount is 0) or one that the set doesn't have: a
+-- number from bFirstInterface to bFirstInterface + bInterfaceCount - 1, reckoned without wrapping at 256, is no
+-- interface number (engineering change notice on interface association descriptors, table 9-Z).
+abbrev pub binds_missing_interface : List Setting → Association → Bool
+binds_missing_interface settings a =
+    (a.count == 0) || list_any (λ n. not (stands_in (map number_of settings) n)) (range_with_len a.first a.count)

@@ -1,6 +1,7 @@
 pub mod SetRules
 pub mod Marks
 pub mod Running
+pub mod Telling
 pub mod Owners
 pub mod Pairs
 pub mod Alternates

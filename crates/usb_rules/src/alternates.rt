@@ -1,5 +1,6 @@
 //! A number for each interface number.
-ghost use Rattle.std.specs.Prelude.{◌≡◌};
+ghost use Rattle.std.specs.Prelude.{◌≡◌, ◌-◌, not};
+ghost use Rattle.std.specs.List.{list_any, range_with_len};
 ghost use Rattle.usb_rules.specs.inside.Alternates.{raised, reads, seen, zeros};
 
 use std::marker::Model;
@@ -41,6 +42,13 @@ impl Alternates {
         ensures { result ≡ seen (reads self.now) number }
     {
         number < 256 && self.next[number] != 0
+    }
+
+    /// Whether one of the numbers from `first` to before `end` is no interface number that stood.
+    pub(crate) fn misses(&self, first: usize, end: usize) -> bool
+        ensures { result ≡ list_any (λ n. not (seen (reads self.now) n)) (range_with_len first (end - first)) }
+    {
+        (first..end).any(|n| !self.has(n))
     }
 
     pub(crate) fn set(&mut self, number: u8, next: u16)

@@ -38,5 +38,6 @@ pub fn check(alloc: Global, f: &DescriptorFile) -> Result<Vec<Finding>, NoMemory
     check_values(&mut out, f)?;
     check_descriptors(&mut out, f)?;
     put_after(&mut out, &mut found.packet_sizes)?;
+    put_after(&mut out, &mut found.associations)?;
     Ok(out)
 }

@@ -1,10 +1,8 @@
 //! V1 and V2: how many interface numbers a set has, and which.
-ghost use Rattle.std.specs.Prelude.{◌≡◌, ◌++◌, OnOk, not};
-ghost use Rattle.std.specs.List.{list_any, range_with_len};
+ghost use Rattle.std.specs.Prelude.{◌≡◌, ◌++◌, OnOk};
 ghost use Rattle.usb_rules.specs.Findings.{interface_counts, number_gaps};
-ghost use Rattle.usb_rules.specs.inside.Alternates.{IsSurvey, reads, seen};
+ghost use Rattle.usb_rules.specs.inside.Alternates.{IsSurvey};
 
-use crate::alternates::Alternates;
 use crate::finding::{Finding, Part};
 use crate::push::push_when;
 use crate::survey::Survey;
@@ -40,14 +38,7 @@ pub(crate) fn check_number_gap(
 {
     push_when(
         out,
-        misses_one(&survey.next, survey.count),
+        survey.next.misses(0, survey.count),
         Finding::at(2, part, set, 0, 0),
     )
-}
-
-/// Whether one of 0 to `count` - 1 is no interface number.
-fn misses_one(next: &Alternates, count: usize) -> bool
-    ensures { result ≡ list_any (λ n. not (seen (reads next.now) n)) (range_with_len 0 count) }
-{
-    (0..count).any(|n| !next.has(n))
 }

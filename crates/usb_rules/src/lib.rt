@@ -7,6 +7,7 @@
 #![tactic(auto)]
 
 mod alternates;
+mod association;
 mod attributes;
 mod checking;
 mod counts;

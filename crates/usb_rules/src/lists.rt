@@ -19,6 +19,7 @@ pub(crate) struct SetFindings {
     pub(crate) shared_addresses: Vec<Finding>,
     pub(crate) attributes: Vec<Finding>,
     pub(crate) packet_sizes: Vec<Finding>,
+    pub(crate) associations: Vec<Finding>,
 }
 
 impl SetFindings {
@@ -37,6 +38,7 @@ impl SetFindings {
             shared_addresses: Vec::new(alloc),
             attributes: Vec::new(alloc),
             packet_sizes: Vec::new(alloc),
+            associations: Vec::new(alloc),
         }
     }
 }

@@ -3,6 +3,7 @@ ghost use Rattle.std.specs.Prelude.{OnOk};
 ghost use Rattle.usb_rules.specs.Places.{in_parts, in_sets};
 ghost use Rattle.usb_rules.specs.inside.SetRules.{Grew, found_by};
 
+use crate::association::check_associations;
 use crate::attributes::check_attributes;
 use crate::counts::check_endpoint_counts;
 use crate::default_setting::check_default_settings;
@@ -56,5 +57,6 @@ fn check_set(
     check_repeated_addresses(&mut found.repeated_addresses, part, set, c)?;
     check_shared_addresses(&mut found.shared_addresses, part, set, c)?;
     check_attributes(&mut found.attributes, part, set, c)?;
+    check_associations(&mut found.associations, &survey, part, set, c)?;
     Ok(())
 }

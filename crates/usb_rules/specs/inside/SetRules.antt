@@ -4,7 +4,7 @@ use Rattle.usb_set.specs.declared.tree.Configuration.{Configuration}
 use Rattle.usb_rules.specs.declared.finding.Part.{Part}
 use Rattle.usb_rules.specs.declared.finding.Finding.{Finding}
 use Rattle.usb_rules.specs.declared.lists.SetFindings.{SetFindings}
-use Rattle.usb_rules.specs.Findings.{interface_counts, number_gaps, repeated_settings, missing_default_settings, endpoint_counts, addresses, repeated_addresses, shared_addresses, attributes, packet_sizes}
+use Rattle.usb_rules.specs.Findings.{interface_counts, number_gaps, repeated_settings, missing_default_settings, endpoint_counts, addresses, repeated_addresses, shared_addresses, attributes, packet_sizes, associations}
 
 pub data SetRule : Type 0 where
   InterfaceCounts : SetRule
@@ -17,6 +17,7 @@ pub data SetRule : Type 0 where
   SharedAddresses : SetRule
   Attributes : SetRule
   PacketSizes : SetRule
+  Associations : SetRule
 
 -- what breaks a rule in a set
 abbrev pub found_by : SetRule → Part → ℕ → Configuration → List Finding
@@ -30,6 +31,7 @@ found_by RepeatedAddresses = repeated_addresses
 found_by SharedAddresses = shared_addresses
 found_by Attributes = attributes
 found_by PacketSizes = packet_sizes
+found_by Associations = associations
 
 -- the list of a rule
 abbrev pub list_of : SetRule → SetFindings → List Finding
@@ -43,6 +45,7 @@ list_of RepeatedAddresses found = found.repeated_addresses.items
 list_of SharedAddresses found = found.shared_addresses.items
 list_of Attributes found = found.attributes.items
 list_of PacketSizes found = found.packet_sizes.items
+list_of Associations found = found.associations.items
 
 -- each list grew by what is given for its rule
 abbrev pub Grew : (SetRule → List Finding) → SetFindings → SetFindings → Type 0

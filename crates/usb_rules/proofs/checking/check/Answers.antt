@@ -1,7 +1,7 @@
 use Rattle.std.proofs.Common.{◌≡◌}
 use Rattle.usb_rules.specs.Places.{in_parts, in_sets}
 use Rattle.usb_rules.specs.inside.SetRules.{SetRule, found_by, list_of}
-use Rattle.usb_rules.specs.inside.SetRules.SetRule.{InterfaceCounts, NumberGaps, RepeatedSettings, MissingDefaultSettings, EndpointCounts, Addresses, RepeatedAddresses, SharedAddresses, Attributes, PacketSizes}
+use Rattle.usb_rules.specs.inside.SetRules.SetRule.{InterfaceCounts, NumberGaps, RepeatedSettings, MissingDefaultSettings, EndpointCounts, Addresses, RepeatedAddresses, SharedAddresses, Attributes, PacketSizes, Associations}
 use Rattle.usb_rules.proofs.Joining.{from_none}
 use Rattle.usb_rules.proofs.checking.check.Goals as goal
 
@@ -19,6 +19,7 @@ returns c =
     let of_8 = lists SharedAddresses in
     let of_9 = lists Attributes in
     let of_10 = lists PacketSizes in
+    let of_11 = lists Associations in
     let put_1 = c.in_ok-put_after.ensures in
     let put_2 = c.in_ok-put_after-2.ensures in
     let put_3 = c.in_ok-put_after-3.ensures in
@@ -29,6 +30,7 @@ returns c =
     let put_8 = c.in_ok-put_after-8.ensures in
     let put_9 = c.in_ok-put_after-9.ensures in
     let put_10 = c.in_ok-put_after-10.ensures in
+    let put_11 = c.in_ok-put_after-11.ensures in
     let told_values = c.in_ok-check_values.ensures in
     let told_descriptors = c.in_ok-check_descriptors.ensures in
     let first : c.put_after.new.out.items ≡ c.check_all_sets.new.found.interface_counts.items =
