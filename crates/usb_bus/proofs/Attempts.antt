@@ -9,22 +9,24 @@ use Rattle.usb_host.specs.declared.stage.TransferStage.TheVariants.{Setup, Compl
 use Rattle.usb_device.specs.declared.state.State.{State}
 use Rattle.usb_device.specs.Requests.{Outcome}
 use Rattle.usb_device.specs.Step.{DeviceView, carried_out}
+use Rattle.usb_bus.specs.declared.reply.Reply.{Reply}
+use Rattle.usb_bus.specs.declared.reply.Reply.TheVariants as replied
 use Rattle.usb_bus.specs.declared.fate.Fate.{Fate}
 use Rattle.usb_bus.specs.Fates.{lost, busy, ack_lost, losses, busies, acks_lost}
 use Rattle.usb_bus.specs.Bus.{HostEnd, step}
 use Rattle.usb_bus.specs.Coupled.{Stages}
-use Rattle.usb_bus.specs.Attempt.{Report, Declined, Plan, Phase, Running, Succeeded, Broken, Attempt, reported, proceed, advance, attempt_step, attempt_run, Follows, IsTogether, Sound}
+use Rattle.usb_bus.specs.Attempt.{Plan, Phase, Running, Succeeded, Broken, Attempt, reply_from, proceed, advance, attempt_step, attempt_run, Follows, IsTogether, Sound}
 use Rattle.usb_bus.proofs.Keeps.{keeps}
 
-module _ (plan : List Report → Plan) (naks : ℕ) (answer : State → SetupPacket → Outcome) (cut : ℕ) (loose : Bool) (all : List Report) (last : State) where
+module _ (plan : List Reply → Plan) (naks : ℕ) (answer : State → SetupPacket → Outcome) (cut : ℕ) (loose : Bool) (all : List Reply) (last : State) where
   abbrev pub Holds : ℕ → ℕ → ℕ → Attempt → Type 0
-  Holds l b a x = Sound plan naks answer cut loose all last l b a x.reports x.phase x.device
+  Holds l b a x = Sound plan naks answer cut loose all last l b a x.replies x.phase x.device
 
   -- the next transfer of the plan begins, both ends at one address
-  pub next_begins : (l b a : ℕ) (s : State) (reports todo : List Report) (d : DeviceView) → d.state ≡ s →
-      Follows plan naks answer cut loose all last s reports todo → Holds l b a (proceed plan naks reports d)
-  next_begins l b a s reports [] d e f = rw f.0 (f.2, inl (e ∙ f.1))
-  next_begins l b a s reports (r ∷ todo) d e (packet, (q, (planned, front, ends, follows))) =
+  pub next_begins : (l b a : ℕ) (s : State) (replies todo : List Reply) (d : DeviceView) → d.state ≡ s →
+      Follows plan naks answer cut loose all last s replies todo → Holds l b a (proceed plan naks replies d)
+  next_begins l b a s replies [] d e f = rw f.0 (f.2, inl (e ∙ f.1))
+  next_begins l b a s replies (r ∷ todo) d e (packet, (q, (planned, front, ends, follows))) =
       rw planned.begins
       (inl (record {
         s = s;
@@ -48,82 +50,82 @@ module _ (plan : List Report → Plan) (naks : ℕ) (answer : State → SetupPac
       }))
 
   -- the device stayed at its old address d, and the host goes on at the new one
-  lost_begins : (l b a : ℕ) (s : State) (reports todo : List Report) (d : DeviceView) → 0 < a → s.address ≢ d.state.address →
+  lost_begins : (l b a : ℕ) (s : State) (replies todo : List Reply) (d : DeviceView) → 0 < a → s.address ≢ d.state.address →
       s ≡ record d.state { address = s.address } → (todo ≡ [] → loose ≡ true) →
-      Follows plan naks answer cut loose all last s reports todo → Holds l b a (proceed plan naks reports d)
-  lost_begins l b a s reports [] d z ne away ok f = rw f.0 (f.2, inr (z, ok refl, subst (λ x. x ≡ record d.state { address = x.address }) f.1 away))
-  lost_begins l b a s reports (r ∷ todo) d z ne away ok (packet, (q, (planned, front, ends, follows))) =
+      Follows plan naks answer cut loose all last s replies todo → Holds l b a (proceed plan naks replies d)
+  lost_begins l b a s replies [] d z ne away ok f = rw f.0 (f.2, inr (z, ok refl, subst (λ x. x ≡ record d.state { address = x.address }) f.1 away))
+  lost_begins l b a s replies (r ∷ todo) d z ne away ok (packet, (q, (planned, front, ends, follows))) =
       rw planned.begins (inr (record { asks = refl; elsewhere = ne; cost = z; todo = r ∷ todo; front = front }))
 
   -- the transfer of t has ended with the expected reply
-  ended_well : (l b a : ℕ) (reports : List Report) (h : HostEnd) (d : DeviceView) (r : Report) (t : IsTogether plan naks answer cut loose all last l b a reports h d) →
-      r ≡ t.r → d.state ≡ carried_out t.s (answer t.s t.q) → Holds l b a (proceed plan naks (reports ++ r ∷ []) d)
-  ended_well l b a reports h d r t er ed =
-      rw er (next_begins l b a (carried_out t.s (answer t.s t.q)) (reports ++ t.r ∷ []) t.todo d ed t.follows)
+  ended_well : (l b a : ℕ) (replies : List Reply) (h : HostEnd) (d : DeviceView) (r : Reply) (t : IsTogether plan naks answer cut loose all last l b a replies h d) →
+      r ≡ t.r → d.state ≡ carried_out t.s (answer t.s t.q) → Holds l b a (proceed plan naks (replies ++ r ∷ []) d)
+  ended_well l b a replies h d r t er ed =
+      rw er (next_begins l b a (carried_out t.s (answer t.s t.q)) (replies ++ t.r ∷ []) t.todo d ed t.follows)
 
-  completes : (l b a : ℕ) (reports : List Report) (h : HostEnd) (d : DeviceView) (t : IsTogether plan naks answer cut loose all last l b a reports h d) →
+  completes : (l b a : ℕ) (replies : List Reply) (h : HostEnd) (d : DeviceView) (t : IsTogether plan naks answer cut loose all last l b a replies h d) →
       Stages answer cut t.s t.q t.packet naks l b a Completed d.stage h.transfer.awaited h.got h.transfer.strikes d.state →
-      Holds l b a (proceed plan naks (reports ++ reported h ∷ []) d)
-  completes l b a reports h d t (inl (e, ed)) =
+      Holds l b a (proceed plan naks (replies ++ reply_from h ∷ []) d)
+  completes l b a replies h d t (inl (e, ed)) =
       let some : 0 < t.q.length = (t.planned.answering.bytes h.got e).0 in
       let same_wants : h.transfer.request.length ≡ t.q.length = ap (λ x. x.length) t.coupled.request in
-      let as_r = t.planned.report in
-      let rep : reported h ≡ t.r = grind (arith, nat_tests) in
+      let as_r = t.planned.reply in
+      let rep : reply_from h ≡ t.r = grind (arith, nat_tests) in
       let st : d.state ≡ carried_out t.s (answer t.s t.q) = rw e ed in
-      ended_well l b a reports h d (reported h) t rep st
-  completes l b a reports h d t (inr (next, (e, moved))) =
+      ended_well l b a replies h d (reply_from h) t rep st
+  completes l b a replies h d t (inr (next, (e, moved))) =
       let none : t.q.length ≡ 0 = t.planned.answering.done next e in
       let same_wants : h.transfer.request.length ≡ t.q.length = ap (λ x. x.length) t.coupled.request in
-      let as_r = t.planned.report in
-      let rep : reported h ≡ t.r = grind (arith, nat_tests) in
+      let as_r = t.planned.reply in
+      let rep : reply_from h ≡ t.r = grind (arith, nat_tests) in
       let after : carried_out t.s (answer t.s t.q) ≡ next = rw e refl in
       elim moved [
-        | inl ed ↦ ended_well l b a reports h d (reported h) t rep (ed ∙ sym after)
+        | inl ed ↦ ended_well l b a replies h d (reply_from h) t rep (ed ∙ sym after)
         | inr (ed, is, z) ↦
             let away : next ≡ record d.state { address = next.address } = rw ed (t.planned.address next e is) in
             (elim (eqb_tells next.address t.s.address) [
               | inl here ↦
                   let here' : next.address ≡ d.state.address = here.1 ∙ ap (λ x. x.address) (sym ed) in
                   let st : next ≡ d.state = away ∙ ap (λ x. record d.state { address = x }) here' in
-                  ended_well l b a reports h d (reported h) t rep (sym st ∙ sym after)
+                  ended_well l b a replies h d (reply_from h) t rep (sym st ∙ sym after)
               | inr there ↦
                   let off : next.address ≢ d.state.address = rw ed there.1 in
-                  rw rep (lost_begins l b a (carried_out t.s (answer t.s t.q)) (reports ++ t.r ∷ []) t.todo d z (rw after off) (rw after away) (t.ends is) t.follows)
+                  rw rep (lost_begins l b a (carried_out t.s (answer t.s t.q)) (replies ++ t.r ∷ []) t.todo d z (rw after off) (rw after away) (t.ends is) t.follows)
             ])
       ]
 
-  together_at : (l b a : ℕ) (reports : List Report) (h : HostEnd) (hs : TransferStage) (d : DeviceView) → h.transfer.stage ≡ hs →
-      IsTogether plan naks answer cut loose all last l b a reports h d → Holds l b a (advance plan naks reports h hs d)
-  together_at l b a reports h Completed d e t =
-      completes l b a reports h d t
+  together_at : (l b a : ℕ) (replies : List Reply) (h : HostEnd) (hs : TransferStage) (d : DeviceView) → h.transfer.stage ≡ hs →
+      IsTogether plan naks answer cut loose all last l b a replies h d → Holds l b a (advance plan naks replies h hs d)
+  together_at l b a replies h Completed d e t =
+      completes l b a replies h d t
       (subst (λ x. Stages answer cut t.s t.q t.packet naks l b a x d.stage h.transfer.awaited h.got h.transfer.strikes d.state) e t.coupled.stages)
-  together_at l b a reports h (Failed NoAnswer) d e t =
+  together_at l b a replies h (Failed NoAnswer) d e t =
       let st = subst (λ x. Stages answer cut t.s t.q t.packet naks l b a x d.stage h.transfer.awaited h.got h.transfer.strikes d.state) e t.coupled.stages in
       (inl st, (t.r ∷ t.todo, t.front))
-  together_at l b a reports h (Failed Busy) d e t =
+  together_at l b a replies h (Failed Busy) d e t =
       let st = subst (λ x. Stages answer cut t.s t.q t.packet naks l b a x d.stage h.transfer.awaited h.got h.transfer.strikes d.state) e t.coupled.stages in
       (st, (t.r ∷ t.todo, t.front))
-  together_at l b a reports h (Failed Stalled) d e t =
+  together_at l b a replies h (Failed Stalled) d e t =
       let st = subst (λ x. Stages answer cut t.s t.q t.packet naks l b a x d.stage h.transfer.awaited h.got h.transfer.strikes d.state) e t.coupled.stages in
-      let as_r = t.planned.report in
-      ended_well l b a reports h d Declined t (grind arith) (grind arith)
-  together_at l b a reports h (Failed TooLong) d e t =
+      let as_r = t.planned.reply in
+      ended_well l b a replies h d replied.Refused t (grind arith) (grind arith)
+  together_at l b a replies h (Failed TooLong) d e t =
       absurd (subst (λ x. Stages answer cut t.s t.q t.packet naks l b a x d.stage h.transfer.awaited h.got h.transfer.strikes d.state) e t.coupled.stages)
-  together_at l b a reports h (Failed Unexpected) d e t =
+  together_at l b a replies h (Failed Unexpected) d e t =
       absurd (subst (λ x. Stages answer cut t.s t.q t.packet naks l b a x d.stage h.transfer.awaited h.got h.transfer.strikes d.state) e t.coupled.stages)
-  together_at l b a reports h (Failed Malformed) d e t =
+  together_at l b a replies h (Failed Malformed) d e t =
       absurd (subst (λ x. Stages answer cut t.s t.q t.packet naks l b a x d.stage h.transfer.awaited h.got h.transfer.strikes d.state) e t.coupled.stages)
-  together_at l b a reports h (Failed Memory) d e t =
+  together_at l b a replies h (Failed Memory) d e t =
       absurd (subst (λ x. Stages answer cut t.s t.q t.packet naks l b a x d.stage h.transfer.awaited h.got h.transfer.strikes d.state) e t.coupled.stages)
-  together_at l b a reports h _ d e t = inl t
+  together_at l b a replies h _ d e t = inl t
 
-  silent_after : (l b a : ℕ) (reports : List Report) (h : HostEnd) (hs : TransferStage) (d : DeviceView) (t todo : List Report) →
-      h.transfer.stage ≡ hs → (hs ≡ Setup) ⊎ (hs ≡ Failed NoAnswer) → h.transfer.address ≢ d.state.address → 0 < a → reports ++ todo ≡ all →
-      Holds l b a (advance plan naks reports h hs d)
-  silent_after l b a reports h Setup d t todo e w ne z front =
+  silent_after : (l b a : ℕ) (replies : List Reply) (h : HostEnd) (hs : TransferStage) (d : DeviceView) (t todo : List Reply) →
+      h.transfer.stage ≡ hs → (hs ≡ Setup) ⊎ (hs ≡ Failed NoAnswer) → h.transfer.address ≢ d.state.address → 0 < a → replies ++ todo ≡ all →
+      Holds l b a (advance plan naks replies h hs d)
+  silent_after l b a replies h Setup d t todo e w ne z front =
       inr (record { asks = e; elsewhere = ne; cost = z; todo = todo; front = front })
-  silent_after l b a reports h (Failed NoAnswer) d t todo e w ne z front = (inr z, (todo, front))
-  silent_after l b a reports h _ d t todo e w ne z front = absurd (grind arith)
+  silent_after l b a replies h (Failed NoAnswer) d t todo e w ne z front = (inr z, (todo, front))
+  silent_after l b a replies h _ d t todo e w ne z front = absurd (grind arith)
 
   -- the host's end in the stage Setup
   abbrev asking : ℕ → ℕ → ℕ → SetupPacket → TransferStage → Toggle → ℕ → ℕ → ℕ → List ℕ → HostEnd
@@ -160,12 +162,12 @@ module _ (plan : List Report → Plan) (naks : ℕ) (answer : State → SetupPac
       subst (λ x. IsQuiet fate (asking t.address t.packet t.naks t.request x t.awaited t.kept t.strikes t.nak_count h.got) d) (sym is)
       (silent_at fate t.address t.packet t.naks t.request t.awaited t.kept t.strikes t.nak_count h.got d ne)
 
-  pub attempt_keeps : (l b a : ℕ) (fate : Fate) (reports : List Report) (phase : Phase) (d : DeviceView) →
-      Sound plan naks answer cut loose all last l b a reports phase d →
-      Holds (l + lost fate) (b + busy fate) (a + ack_lost fate) (attempt_step plan naks answer cut fate reports phase d)
-  attempt_keeps l b a fate reports (Running h) d (inl t) =
+  pub attempt_keeps : (l b a : ℕ) (fate : Fate) (replies : List Reply) (phase : Phase) (d : DeviceView) →
+      Sound plan naks answer cut loose all last l b a replies phase d →
+      Holds (l + lost fate) (b + busy fate) (a + ack_lost fate) (attempt_step plan naks answer cut fate replies phase d)
+  attempt_keeps l b a fate replies (Running h) d (inl t) =
       let e = step answer cut fate (record { host = h; device = d }) in
-      together_at (l + lost fate) (b + busy fate) (a + ack_lost fate) reports e.host e.host.transfer.stage e.device refl
+      together_at (l + lost fate) (b + busy fate) (a + ack_lost fate) replies e.host e.host.transfer.stage e.device refl
       (record {
         s = t.s;
         r = t.r;
@@ -178,25 +180,25 @@ module _ (plan : List Report → Plan) (naks : ℕ) (answer : State → SetupPac
         follows = t.follows;
         coupled = keeps answer cut t.s t.q t.packet naks t.planned.answering t.planned.is_cut l b a fate (record { host = h; device = d }) t.coupled;
       })
-  attempt_keeps l b a fate reports (Running h) d (inr t) =
+  attempt_keeps l b a fate replies (Running h) d (inr t) =
       let e = step answer cut fate (record { host = h; device = d }) in
       let quiet = silent_step fate h d t.asks t.elsewhere in
       let off : e.host.transfer.address ≢ e.device.state.address = rw (quiet.1, quiet.2) t.elsewhere in
-      silent_after (l + lost fate) (b + busy fate) (a + ack_lost fate) reports e.host e.host.transfer.stage e.device [] t.todo refl quiet.0 off
+      silent_after (l + lost fate) (b + busy fate) (a + ack_lost fate) replies e.host e.host.transfer.stage e.device [] t.todo refl quiet.0 off
       (let z = t.cost in omega arith) t.front
-  attempt_keeps l b a fate reports Succeeded d h = (h.0, elim h.1 [ inl e ↦ inl e | inr (z, ok, e) ↦ inr (omega arith, ok, e) ])
-  attempt_keeps l b a fate reports (Broken NoAnswer) d h = (elim h.0 [ inl e ↦ inl (omega arith) | inr e ↦ inr (omega arith) ], h.1)
-  attempt_keeps l b a fate reports (Broken Busy) d h = (let x = h.0 in omega arith, h.1)
-  attempt_keeps l b a fate reports (Broken Stalled) d h = absurd h
-  attempt_keeps l b a fate reports (Broken TooLong) d h = absurd h
-  attempt_keeps l b a fate reports (Broken Unexpected) d h = absurd h
-  attempt_keeps l b a fate reports (Broken Malformed) d h = absurd h
-  attempt_keeps l b a fate reports (Broken Memory) d h = absurd h
+  attempt_keeps l b a fate replies Succeeded d h = (h.0, elim h.1 [ inl e ↦ inl e | inr (z, ok, e) ↦ inr (omega arith, ok, e) ])
+  attempt_keeps l b a fate replies (Broken NoAnswer) d h = (elim h.0 [ inl e ↦ inl (omega arith) | inr e ↦ inr (omega arith) ], h.1)
+  attempt_keeps l b a fate replies (Broken Busy) d h = (let x = h.0 in omega arith, h.1)
+  attempt_keeps l b a fate replies (Broken Stalled) d h = absurd h
+  attempt_keeps l b a fate replies (Broken TooLong) d h = absurd h
+  attempt_keeps l b a fate replies (Broken Unexpected) d h = absurd h
+  attempt_keeps l b a fate replies (Broken Malformed) d h = absurd h
+  attempt_keeps l b a fate replies (Broken Memory) d h = absurd h
 
   pub attempt_all : (l b a : ℕ) (fates : List Fate) (x : Attempt) → Holds l b a x →
       Holds (l + losses fates) (b + busies fates) (a + acks_lost fates) (attempt_run plan naks answer cut fates x)
   attempt_all l b a [] x h = rw (add-zero l, add-zero b, add-zero a) h
   attempt_all l b a (f ∷ fates) x h =
       rw (← add_assoc l (lost f) (losses fates), ← add_assoc b (busy f) (busies fates), ← add_assoc a (ack_lost f) (acks_lost fates))
-      (attempt_all (l + lost f) (b + busy f) (a + ack_lost f) fates (attempt_step plan naks answer cut f x.reports x.phase x.device)
-      (attempt_keeps l b a f x.reports x.phase x.device h))
+      (attempt_all (l + lost f) (b + busy f) (a + ack_lost f) fates (attempt_step plan naks answer cut f x.replies x.phase x.device)
+      (attempt_keeps l b a f x.replies x.phase x.device h))

@@ -4,3 +4,7 @@ mod Keeps
 mod Cutting
 mod Attempts
 mod Talks
+mod Leading
+mod TableLemmas
+mod Runs
+mod Conversing

@@ -5,17 +5,18 @@ use Rattle.usb_fields.specs.declared.setup.Setup.{Setup as SetupPacket}
 use Rattle.usb_device.specs.declared.state.State.{State}
 use Rattle.usb_device.specs.Requests.{Outcome, Bytes, Done, Refused}
 use Rattle.usb_device.specs.Step.{is_set_address, carried_out}
-use Rattle.usb_bus.specs.Attempt.{Report, Follows, report_of}
-use Rattle.usb_bus.specs.Talk.{Place, followed, onward, reached, asked_at, talk_plan, reports_to, state_after, IsTable}
+use Rattle.usb_bus.specs.declared.reply.Reply.{Reply}
+use Rattle.usb_bus.specs.Attempt.{Follows, reply_to}
+use Rattle.usb_bus.specs.Talk.{Place, followed, onward, reached, asked_at, talk_plan, replies_to, state_after, IsTable}
 use Rattle.usb_bus.proofs.Cutting.{packets_cut}
 
-reached_append : (p : Place) (rs : List Report) (r : Report) → reached p (rs ++ r ∷ []) ≡ onward (reached p rs).left (reached p rs).address r
+pub reached_append : (p : Place) (rs : List Reply) (r : Reply) → reached p (rs ++ r ∷ []) ≡ onward (reached p rs).left (reached p rs).address r
 reached_append p [] r = refl
 reached_append p (x ∷ rs) r = reached_append (onward p.left p.address x) rs r
 
-module _ (answer : State → SetupPacket → Outcome) (table : IsTable answer) (n naks : ℕ) (pos : 0 < n) (start : Place) (all : List Report) (last : State) where
+module _ (answer : State → SetupPacket → Outcome) (table : IsTable answer) (n naks : ℕ) (pos : 0 < n) (start : Place) (all : List Reply) (last : State) where
   -- the host goes where the device went
-  goes_along : (s : State) (q : SetupPacket) (a : Outcome) → answer s q ≡ a → followed q (report_of a) s.address ≡ (carried_out s a).address
+  goes_along : (s : State) (q : SetupPacket) (a : Outcome) → answer s q ≡ a → followed q (reply_to a) s.address ≡ (carried_out s a).address
   goes_along s q (Bytes b) e = refl
   goes_along s q Refused e = refl
   goes_along s q (Done t) e = by_kind (is_set_address q) refl
@@ -27,15 +28,15 @@ module _ (answer : State → SetupPacket → Outcome) (table : IsTable answer) (
           low ∙ ap (λ x. x.address) (sym goes.1)
       by_kind false i = sym (table.stays s q t e i)
 
-  pub talk_follows : (qs : List SetupPacket) (s : State) (reports : List Report) →
-      reached start reports ≡ record { left = qs; address = s.address } → reports ++ reports_to answer s qs ≡ all → state_after answer s qs ≡ last →
-      Follows (talk_plan n start) naks answer n true all last s reports (reports_to answer s qs)
-  talk_follows [] s reports at whole end =
-      (ap (λ p. asked_at n p.address p.left) at, end, sym (append-nil reports) ∙ whole)
-  talk_follows (q ∷ qs) s reports at whole end =
-      let r = report_of (answer s q) in
-      let on : reached start (reports ++ r ∷ []) ≡ record { left = qs; address = (carried_out s (answer s q)).address } =
-      reached_append start reports r ∙ ap (λ p. onward p.left p.address r) at
+  pub talk_follows : (qs : List SetupPacket) (s : State) (replies : List Reply) →
+      reached start replies ≡ record { left = qs; address = s.address } → replies ++ replies_to answer s qs ≡ all → state_after answer s qs ≡ last →
+      Follows (talk_plan n start) naks answer n true all last s replies (replies_to answer s qs)
+  talk_follows [] s replies at whole end =
+      (ap (λ p. asked_at n p.address p.left) at, end, sym (append-nil replies) ∙ whole)
+  talk_follows (q ∷ qs) s replies at whole end =
+      let r = reply_to (answer s q) in
+      let on : reached start (replies ++ r ∷ []) ≡ record { left = qs; address = (carried_out s (answer s q)).address } =
+      reached_append start replies r ∙ ap (λ p. onward p.left p.address r) at
       ∙ ap (λ x. let y : Place = record { left = qs; address = x } in y) (goes_along s q (answer s q) refl) in (
         n,
         (
@@ -49,12 +50,12 @@ module _ (answer : State → SetupPacket → Outcome) (table : IsTable answer) (
                 stays = λ t e i. table.stays s q t e i;
               };
               is_cut = λ b e. (let t = table.bytes s q b e in packets_cut b n q.length pos t.2 t.0);
-              report = refl;
+              reply = refl;
               address = λ t e i. (let g = (table.goes s q t e i).1 in rw g refl);
             },
             whole,
             (λ i e. refl),
-            talk_follows qs (carried_out s (answer s q)) (reports ++ r ∷ []) on (rw append_assoc whole) end,
+            talk_follows qs (carried_out s (answer s q)) (replies ++ r ∷ []) on (rw append_assoc whole) end,
           ),
         ),
       )

@@ -4,12 +4,13 @@ use Rattle.usb_fields.specs.declared.setup.Setup.{Setup as SetupPacket}
 use Rattle.usb_device.specs.declared.state.State.{State}
 use Rattle.usb_device.specs.Requests.{Outcome, Bytes}
 use Rattle.usb_device.specs.Step.{DeviceView, new_device}
+use Rattle.usb_bus.specs.declared.reply.Reply.{Reply}
 use Rattle.usb_bus.specs.declared.fate.Fate.{Fate}
 use Rattle.usb_bus.specs.Fates.{losses, busies, acks_lost}
 use Rattle.usb_bus.specs.Bus.{run}
 use Rattle.usb_bus.specs.Coupled.{Coupled, IsAnswering, IsCut}
-use Rattle.usb_bus.specs.Attempt.{Report, Plan, Follows, Sound, begins, attempt_run, proceed}
-use Rattle.usb_bus.specs.Talk.{talk_plan, reports_to, state_after, IsTable}
+use Rattle.usb_bus.specs.Attempt.{Plan, Follows, Sound, begins, attempt_run, proceed}
+use Rattle.usb_bus.specs.Talk.{talk_plan, replies_to, state_after, IsTable}
 
 -- A transfer begun at the device's address stays coupled over every list of fates.
 abbrev pub StaysCoupled : Type 0
@@ -21,17 +22,17 @@ StaysCoupled =
     Coupled answer cut d.state q size naks (losses fates) (busies fates) (acks_lost fates) e.host e.device)
 
 -- Where each transfer of a plan is answered as expected, then over every list of fates: an attempt that succeeds has read
--- all the reports and left the device in the last state, its address apart, where an ACK was lost; one that fails has had
+-- all the replies and left the device in the last state, its address apart, where an ACK was lost; one that fails has had
 -- three losses, or the ACK of a SET_ADDRESS lost, or more Busy than NAKs are borne.
 abbrev pub AttemptsHaveCauses : Type 0
 AttemptsHaveCauses =
-    (plan : List Report → Plan) (naks : ℕ) (answer : State → SetupPacket → Outcome) (cut : ℕ) (loose : Bool) (all : List Report) (last : State)
+    (plan : List Reply → Plan) (naks : ℕ) (answer : State → SetupPacket → Outcome) (cut : ℕ) (loose : Bool) (all : List Reply) (last : State)
     (d : DeviceView) (fates : List Fate) → Follows plan naks answer cut loose all last d.state [] all →
     (let x = attempt_run plan naks answer cut fates (proceed plan naks [] d) in
-    Sound plan naks answer cut loose all last (losses fates) (busies fates) (acks_lost fates) x.reports x.phase x.device)
+    Sound plan naks answer cut loose all last (losses fates) (busies fates) (acks_lost fates) x.replies x.phase x.device)
 
--- A talk, over every list of fates: where it ends, all reports are those of the table, and so is the state, its address
--- apart where an ACK was lost; where it stops, the reports so far are the first ones, and three losses, a lost ACK or more
+-- A talk, over every list of fates: where it ends, all replies are those of the table, and so is the state, its address
+-- apart where an ACK was lost; where it stops, the replies so far are the first ones, and three losses, a lost ACK or more
 -- Busy than NAKs are borne are the cause.
 abbrev pub TalksHaveCauses : Type 0
 TalksHaveCauses =
@@ -39,5 +40,5 @@ TalksHaveCauses =
     (let zero_state = new_device.state in
     let plan = talk_plan packet (record { left = qs; address = 0 }) in
     let x = attempt_run plan naks answer packet fates (proceed plan naks [] new_device) in
-    Sound plan naks answer packet true (reports_to answer zero_state qs) (state_after answer zero_state qs)
-    (losses fates) (busies fates) (acks_lost fates) x.reports x.phase x.device)
+    Sound plan naks answer packet true (replies_to answer zero_state qs) (state_after answer zero_state qs)
+    (losses fates) (busies fates) (acks_lost fates) x.replies x.phase x.device)

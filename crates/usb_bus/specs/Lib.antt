@@ -3,4 +3,7 @@ pub mod Bus
 pub mod Coupled
 pub mod Attempt
 pub mod Talk
+pub mod Run
+pub mod Converse
 pub mod Laws
+pub mod inside

@@ -6,7 +6,9 @@ use Rattle.usb_fields.specs.Setup.{direction_of}
 use Rattle.usb_device.specs.declared.state.State.{State}
 use Rattle.usb_device.specs.Requests.{Outcome, Bytes, Done}
 use Rattle.usb_device.specs.Step.{is_set_address, carried_out}
-use Rattle.usb_bus.specs.Attempt.{Report, Read, Did, Declined, Plan, Begin, Success, report_of}
+use Rattle.usb_bus.specs.declared.reply.Reply.{Reply}
+use Rattle.usb_bus.specs.declared.reply.Reply.TheVariants as replied
+use Rattle.usb_bus.specs.Attempt.{Plan, Begin, Success, reply_to}
 
 -- the requests that are left, and the address that the next one goes to
 pub record Place : Type 0 where
@@ -14,18 +16,18 @@ pub record Place : Type 0 where
   pub address : ℕ
 
 -- a SET_ADDRESS that was done is followed to the low 7 bits of its wValue
-abbrev pub followed : SetupPacket → Report → ℕ → ℕ
-followed q Did address = if is_set_address q then q.value % 128 else address
-followed q Declined address = address
-followed q (Read b) address = address
+abbrev pub followed : SetupPacket → Reply → ℕ → ℕ
+followed q replied.Done address = if is_set_address q then q.value % 128 else address
+followed q replied.Refused address = address
+followed q (replied.Bytes b) address = address
 
--- past the first request, which was reported so
-abbrev pub onward : List SetupPacket → ℕ → Report → Place
+-- past the first request, which was reply_from so
+abbrev pub onward : List SetupPacket → ℕ → Reply → Place
 onward [] address r = record { left = []; address = address }
 onward (q ∷ qs) address r = record { left = qs; address = followed q r address }
 
--- past the requests that were reported
-abbrev pub reached : Place → List Report → Place
+-- past the requests that were reply_from
+abbrev pub reached : Place → List Reply → Place
 reached p [] = p
 reached p (r ∷ rs) = reached (onward p.left p.address r) rs
 
@@ -34,14 +36,14 @@ asked_at packet address [] = Success
 asked_at packet address (q ∷ qs) = Begin address packet q
 
 -- the plan of a talk, from a place on, at this packet size
-abbrev pub talk_plan : ℕ → Place → List Report → Plan
-talk_plan packet start reports = let p = reached start reports in asked_at packet p.address p.left
+abbrev pub talk_plan : ℕ → Place → List Reply → Plan
+talk_plan packet start replies = let p = reached start replies in asked_at packet p.address p.left
 
 module _ (answer : State → SetupPacket → Outcome) where
-  -- the reports where each request is answered in turn, each answer giving the next state
-  abbrev pub reports_to : State → List SetupPacket → List Report
-  reports_to s [] = []
-  reports_to s (q ∷ qs) = report_of (answer s q) ∷ reports_to (carried_out s (answer s q)) qs
+  -- the replies where each request is answered in turn, each answer giving the next state
+  abbrev pub replies_to : State → List SetupPacket → List Reply
+  replies_to s [] = []
+  replies_to s (q ∷ qs) = reply_to (answer s q) ∷ replies_to (carried_out s (answer s q)) qs
 
   -- and the last state
   abbrev pub state_after : State → List SetupPacket → State

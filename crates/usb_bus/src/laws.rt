@@ -1,6 +1,9 @@
 //! What holds of two ends over a bus that loses packets and handshakes.
 //!
 //! The functions of these laws do nothing: what they say stands in their contracts.
+ghost use Rattle.usb_device.specs.Requests.{answer};
+ghost use Rattle.usb_file_data.specs.declared.file.DescriptorFile.{DescriptorFile};
+ghost use Rattle.usb_bus.specs.Talk.{IsTable};
 ghost use Rattle.usb_bus.specs.Laws.{StaysCoupled, AttemptsHaveCauses, TalksHaveCauses};
 
 /// A transfer begun at the device's address: whatever the bus loses, both ends stay coupled.
@@ -16,4 +19,11 @@ pub fn an_attempt_has_causes()
 /// Requests one after another, with no bus reset between them: a talk that stops has a cause.
 pub fn a_talk_has_causes()
     ensures { TalksHaveCauses }
+{}
+
+/// The device's answers to requests are a table that these laws are about: bytes go to the host and are no more than
+/// it asked for, what is only done has no data stage, and SET_ADDRESS changes the address and nothing else does.
+#[tactic(auto, using(crate::proofs::TableLemmas::table_kept))]
+pub fn a_device_keeps_its_table()
+    ensures { (f : DescriptorFile) → IsTable (answer f) }
 {}

@@ -1,7 +1,7 @@
 -- Each reply leaves fewer transactions.
 use Rattle.std.proofs.Common.{◌≡◌, ℕ, zero, suc, ◌+◌, ◌-◌, ◌*◌, ◌/◌, ◌<◌, ◌≤◌, ◌==◌, ◌||◌, nat_lt, Bool, true, false, if◌then◌else◌, IsSome, List, [], ◌∷◌, length, refl, sym, arith, inl, inr}
 use Rattle.std.proofs.lemmas.Bool.Decides.{nat_tests, leb_tells, eqb_tells}
-use Rattle.std.proofs.Math.Nat.{mul-le-mul_right, add-div_right}
+use Rattle.std.proofs.Math.Nat.{mul-le-mul_right, add-div_right, div-le_self}
 use Rattle.usb_fields.specs.Packet.{Reply, AckReply, NakReply, StallReply, DataReply, NoReply}
 use Rattle.usb_fields.specs.Packets.{is_same_toggle}
 use Rattle.usb_fields.specs.Setup.{direction_of}
@@ -171,3 +171,10 @@ left-begun address packet naks q =
     let whole : q.length - 0 ≡ q.length = omega arith in
     let product : (naks + 3) * (q.length / packet + 3) ≡ (q.length / packet + 3) * (naks + 3) = grind arith in
     rw (whole, product) (omega arith)
+
+-- few, for the widths of the limit and of wLength
+pub most_transactions-few : (packet naks : ℕ) (q : SetupPacket) → naks < 65536 → q.length < 65536 → most_transactions packet naks q < 8589934592
+most_transactions-few packet naks q n l =
+    let whole : q.length / packet ≤ q.length = div-le_self q.length packet in
+    let left : (naks + 3) * (q.length / packet + 3) ≤ 65538 * (q.length / packet + 3) = mul-le-mul_right (q.length / packet + 3) (omega arith) in
+    omega (arith, left, whole)

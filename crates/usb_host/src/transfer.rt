@@ -1,5 +1,5 @@
 //! One control transfer, driven reply by reply (USB 2.0, 8.5.3).
-ghost use Rattle.std.specs.Prelude.{IsSome, ◌≡◌, ◌<◌, ◌≤◌, ◌+◌};
+ghost use Rattle.std.specs.Prelude.{IsSome, ◌≡◌, ◌<◌, ◌≤◌, ◌+◌, ◌^◌};
 ghost use Rattle.usb_fields.specs.Packet.{reply_of};
 ghost use Rattle.usb_host.specs.Transfer.{stage_after_setup};
 
@@ -64,6 +64,7 @@ impl Transfer {
         requires { 0 < packet }
         ensures view { result ≡ begun address packet naks s }
         ensures most { left result ≤ most_transactions packet naks s }
+        ensures few { left result < 2 ^ 33 }
     {
         Transfer {
             address,

@@ -1,0 +1,125 @@
+//! Three requests under every list of six fates.
+use anyhow::{Context, Result};
+use std::alloc::{AllocError, Global};
+use usb_bus::{Fate, converse};
+use usb_device::Description;
+use usb_fields::{Setup, Speed};
+use usb_file::read_file;
+use usb_host::Why;
+
+/// A boot mouse with packets of eight bytes.
+const FILE: [u8; 52] = [
+    0x12, 0x01, 0x10, 0x01, 0x00, 0x00, 0x00, 0x08, 0x34, 0x12, 0x78, 0x56, 0x00, 0x01, 0x00, 0x00,
+    0x00, 0x01, 0x09, 0x02, 0x22, 0x00, 0x01, 0x01, 0x00, 0xa0, 0x32, 0x09, 0x04, 0x00, 0x00, 0x01,
+    0x03, 0x01, 0x02, 0x00, 0x09, 0x21, 0x10, 0x01, 0x00, 0x01, 0x22, 0x34, 0x00, 0x07, 0x05, 0x81,
+    0x03, 0x04, 0x00, 0x0a,
+];
+
+/// SET_ADDRESS 5, GET_DESCRIPTOR of the device, SET_CONFIGURATION 1.
+const REQUESTS: [[u8; 8]; 3] = [
+    [0x00, 0x05, 0x05, 0x00, 0x00, 0x00, 0x00, 0x00],
+    [0x80, 0x06, 0x00, 0x01, 0x00, 0x00, 0x12, 0x00],
+    [0x00, 0x09, 0x01, 0x00, 0x00, 0x00, 0x00, 0x00],
+];
+
+const FATES: [Fate; 5] = [
+    Fate::Pass,
+    Fate::Busy,
+    Fate::LostDown,
+    Fate::LostUp,
+    Fate::LostAck,
+];
+
+/// The number of lists of six fates.
+const LISTS: u32 = 15625;
+
+/// What came of all talks together.
+#[derive(Clone, Copy)]
+struct Totals {
+    ended: u32,
+    no_answer: u32,
+    busy: u32,
+    transactions: u32,
+    replies: u32,
+    addressed: u32,
+    configured: u32,
+}
+
+/// The totals of all lists of six fates, a line for each limit of NAKs.
+pub fn totals_text(alloc: Global) -> Result<String> {
+    let file = read_file(alloc, &FILE).context("the descriptors of a mouse")?;
+    let description = Description::new(alloc, file, Speed::Full).context("a mouse")?;
+    let mut text = String::new(alloc);
+    for naks in [0, 2] {
+        let totals = totals_of(alloc, &description, naks)?;
+        text.push_str(line(alloc, naks, totals)?.as_str())?;
+    }
+    Ok(text)
+}
+
+fn line(alloc: Global, naks: u16, t: Totals) -> Result<String, AllocError> {
+    let ends = format!(in alloc; "{} ended, {} with no answer, {} busy", t.ended, t.no_answer, t.busy)?;
+    let sums = format!(in alloc; "{} transactions, {} replies", t.transactions, t.replies)?;
+    let states = format!(in alloc; "{} at address 5, {} configured", t.addressed, t.configured)?;
+    format!(in alloc; "naks {naks}: {ends}, {sums}, {states}\n")
+}
+
+fn totals_of(alloc: Global, description: &Description, naks: u16) -> Result<Totals, AllocError> {
+    let mut totals = Totals {
+        ended: 0,
+        no_answer: 0,
+        busy: 0,
+        transactions: 0,
+        replies: 0,
+        addressed: 0,
+        configured: 0,
+    };
+    for number in 0..LISTS {
+        add_talk(alloc, description, naks, number, &mut totals)?;
+    }
+    Ok(totals)
+}
+
+/// Makes the requests under the list of fates that has this number, and counts what came of them.
+fn add_talk(
+    alloc: Global,
+    description: &Description,
+    naks: u16,
+    number: u32,
+    totals: &mut Totals,
+) -> Result<(), AllocError> {
+    let requests = [
+        Setup::from_bytes(&REQUESTS[0]),
+        Setup::from_bytes(&REQUESTS[1]),
+        Setup::from_bytes(&REQUESTS[2]),
+    ];
+    let fates = fates_of(number);
+    let talk = converse(alloc, description, naks, &requests, &fates)?;
+    match talk.stopped {
+        None => count(&mut totals.ended, 1),
+        Some(Why::Busy) => count(&mut totals.busy, 1),
+        Some(_) => count(&mut totals.no_answer, 1),
+    }
+    count(&mut totals.transactions, talk.transactions as u32);
+    count(&mut totals.replies, talk.replies.len() as u32);
+    count(&mut totals.addressed, u32::from(talk.state.address == 5));
+    count(&mut totals.configured, u32::from(talk.state.selected == 1));
+    Ok(())
+}
+
+fn count(sum: &mut u32, more: u32) {
+    *sum = sum.saturating_add(more);
+}
+
+/// The list of fates that has this number: its digits to base five.
+fn fates_of(number: u32) -> [Fate; 6] {
+    let digit = |place: u32| FATES[(number / place % 5) as usize];
+    [
+        digit(1),
+        digit(5),
+        digit(25),
+        digit(125),
+        digit(625),
+        digit(3125),
+    ]
+}

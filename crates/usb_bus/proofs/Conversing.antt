@@ -1,0 +1,235 @@
+-- A talk: what its loop keeps, and what holds where it ends.
+use Rattle.std.proofs.Common.{◌≡◌, ℕ, suc, ◌+◌, ◌<◌, ◌≤◌, true, List, [], ◌∷◌, ◌++◌, length, take, drop, Option, Some, None, Result, Ok, Err, refl, sym, ap, ◌∙◌, arith, inl, inr, subst, zero-add}
+use Rattle.std.proofs.lemmas.List.{append-nil, take_at, nil_from_length, length-drop}
+use Rattle.usb_fields.specs.declared.setup.Setup.{Setup as SetupPacket}
+use Rattle.usb_file_data.specs.declared.file.DescriptorFile.{DescriptorFile}
+use Rattle.usb_host.specs.declared.why.Why.{Why}
+use Rattle.usb_host.specs.declared.why.Why.TheVariants.{NoAnswer, Busy, Stalled, TooLong, Unexpected, Malformed, Memory}
+use Rattle.usb_host.specs.declared.stage.TransferStage.{TransferStage}
+use Rattle.usb_host.specs.declared.stage.TransferStage.TheVariants.{Setup, DataIn, DataOut, StatusOut, StatusIn, Completed, Failed}
+use Rattle.usb_host.specs.Transfer.{TransferView, begun, due, addressed, token_due}
+use Rattle.usb_device.specs.declared.state.State.{State}
+use Rattle.usb_device.specs.Requests.{Outcome, answer}
+use Rattle.usb_device.specs.States.{zero as zero_state}
+use Rattle.usb_device.specs.Step.{DeviceView, new_device}
+use Rattle.usb_bus.specs.declared.fate.Fate.{Fate}
+use Rattle.usb_bus.specs.declared.reply.Reply.{Reply}
+use Rattle.usb_bus.specs.declared.talk.Talk.{Talk}
+use Rattle.usb_bus.specs.Fates.{losses, busies, acks_lost}
+use Rattle.usb_bus.specs.Bus.{HostEnd}
+use Rattle.usb_bus.specs.Attempt.{Plan, Attempt, Running, Succeeded, Broken, proceed, advance, attempt_run, begins, Sound}
+use Rattle.usb_bus.specs.Talk.{Place, talk_plan, reached, onward, followed, asked_at, replies_to, state_after, IsTable}
+use Rattle.usb_bus.specs.Run.{fates_used, Steps}
+use Rattle.usb_bus.specs.Converse.{first_place, talk_start, end_of, IsTalkRun, HasFirstReplies, HasLastState, HasCause}
+use Rattle.usb_bus.specs.inside.Running.{failure_of, point, Leads, settled}
+use Rattle.usb_bus.proofs.Attempts.{attempt_all, next_begins}
+use Rattle.usb_bus.proofs.Talks.{talk_follows, reached_append}
+use Rattle.usb_bus.proofs.TableLemmas.{table_kept}
+use Rattle.usb_bus.proofs.Runs.{losses-fates_used, busies-fates_used, acks_lost-fates_used, point-run, points, length-points, Steps-points}
+
+-- a talk is sound over every list of fates
+pub talk_sound : (answer : State → SetupPacket → Outcome) (packet naks : ℕ) (qs : List SetupPacket) (fates : List Fate) → 0 < packet → IsTable answer →
+    (let plan = talk_plan packet (first_place qs) in
+    let x = attempt_run plan naks answer packet fates (proceed plan naks [] new_device) in
+    Sound plan naks answer packet true (replies_to answer zero_state qs) (state_after answer zero_state qs)
+    (losses fates) (busies fates) (acks_lost fates) x.replies x.phase x.device)
+talk_sound answer packet naks qs fates pos table =
+    let begin : Place = first_place qs in
+    let plan : List Reply → Plan = talk_plan packet begin in
+    let all = replies_to answer zero_state qs in
+    let last = state_after answer zero_state qs in
+    simp zero-add at (attempt_all plan naks answer packet true all last 0 0 0 fates (proceed plan naks [] new_device)
+    (next_begins plan naks answer packet true all last 0 0 0 zero_state [] all new_device refl
+    (talk_follows answer table packet naks pos begin all last qs zero_state [] refl refl refl)))
+
+-- a transfer that has nothing due was settled
+abbrev pub settles : (List Reply → Plan) → ℕ → List Reply → DeviceView → Result Reply Why → Attempt
+settles plan naks replies d (Ok reply) = proceed plan naks (replies ++ reply ∷ []) d
+settles plan naks replies d (Err why) = record { replies = replies; phase = Broken why; device = d }
+
+advance-settled : (plan : List Reply → Plan) (naks : ℕ) (replies : List Reply) (h : HostEnd) (stage : TransferStage) (d : DeviceView) (address : ℕ)
+    (q : SetupPacket) → addressed address (token_due q stage) ≡ None →
+    advance plan naks replies h stage d ≡ settles plan naks replies d (settled h.transfer.request.length h.got (failure_of stage))
+advance-settled plan naks replies h Setup d address q e = absurd (cc)
+advance-settled plan naks replies h DataIn d address q e = absurd (cc)
+advance-settled plan naks replies h DataOut d address q e = absurd (cc)
+advance-settled plan naks replies h StatusOut d address q e = absurd (cc)
+advance-settled plan naks replies h StatusIn d address q e = absurd (cc)
+advance-settled plan naks replies h Completed d address q e = refl
+advance-settled plan naks replies h (Failed NoAnswer) d address q e = refl
+advance-settled plan naks replies h (Failed Busy) d address q e = refl
+advance-settled plan naks replies h (Failed Stalled) d address q e = refl
+advance-settled plan naks replies h (Failed TooLong) d address q e = refl
+advance-settled plan naks replies h (Failed Unexpected) d address q e = refl
+advance-settled plan naks replies h (Failed Malformed) d address q e = refl
+advance-settled plan naks replies h (Failed Memory) d address q e = refl
+
+module _ (f : DescriptorFile) (naks : ℕ) (qs : List SetupPacket) (fates : List Fate) where
+  abbrev plan : List Reply → Plan
+  plan = talk_plan f.device.packet (first_place qs)
+
+  -- the talk stands at x after so many transactions, and goes on from there
+  abbrev pub StandsAt : ℕ → Attempt → Type 0
+  StandsAt now x =
+      (m : ℕ) → point plan naks (answer f) f.device.packet fates 0 (now + m) (talk_start f.device.packet naks qs)
+      ≡ point plan naks (answer f) f.device.packet fates now m x
+
+  pub stands_first : StandsAt 0 (talk_start f.device.packet naks qs)
+  stands_first m = rw (zero-add m) refl
+
+  -- one transfer more
+  pub stands_on : (before address : ℕ) (replies : List Reply) (q : SetupPacket) (rest : List SetupPacket) (d : DeviceView) (now : ℕ) (h : HostEnd) (here : DeviceView) →
+      StandsAt before (proceed plan naks replies d) → reached (first_place qs) replies ≡ record { left = q ∷ rest; address = address } →
+      Leads (answer f) f.device.packet fates before (begins address f.device.packet naks q) d now h here →
+      due h.transfer ≡ None →
+      StandsAt now (settles plan naks replies here (settled h.transfer.request.length h.got (failure_of h.transfer.stage)))
+  stands_on before address replies q rest d now h here stands place (n, at, leads) over m =
+      let start = talk_start f.device.packet naks qs in
+      let number : now + m ≡ before + (n + m) = omega arith in
+      let running : proceed plan naks replies d ≡ record { replies = replies; phase = Running (begins address f.device.packet naks q); device = d } =
+      ap (λ p. (let x : Attempt = proceed (λ r. asked_at f.device.packet p.address p.left) naks replies d in x)) place in
+      ap (λ x. point plan naks (answer f) f.device.packet fates 0 x start) number
+      ∙ stands (n + m)
+      ∙ ap (λ x. point plan naks (answer f) f.device.packet fates before (n + m) x) running
+      ∙ leads plan naks replies m
+      ∙ ap (λ x. point plan naks (answer f) f.device.packet fates now m x)
+      (advance-settled plan naks replies h h.transfer.stage here h.transfer.address h.transfer.request over)
+
+  -- the same, as the loop has it
+  pub stands_after : (g : DescriptorFile) (size i before address : ℕ) (replies : List Reply) (q : SetupPacket) (d : DeviceView) (now : ℕ) (t : TransferView) (h : HostEnd) (here : DeviceView)
+      (failure : Option Why) → g ≡ f → size ≡ f.device.packet → StandsAt before (proceed plan naks replies d) →
+      reached (first_place qs) replies ≡ record { left = drop i qs; address = address } → drop i qs ≡ q ∷ drop (suc i) qs →
+      t ≡ begun address size naks q →
+      Leads (answer g) g.device.packet fates before (record { transfer = t; got = [] }) d now h here →
+      due h.transfer ≡ None → failure ≡ failure_of h.transfer.stage → h.transfer.request ≡ q →
+      StandsAt now (settles plan naks replies here (settled q.length h.got failure))
+  stands_after g size i before address replies q d now t h here failure file packet stands place first is leads over why request =
+      let at : reached (first_place qs) replies ≡ record { left = q ∷ drop (suc i) qs; address = address } =
+      place ∙ ap (λ x. (let p : Place = record { left = x; address = address } in p)) first in
+      let is_new : t ≡ begun address f.device.packet naks q = is ∙ ap (λ x. begun address x naks q) packet in
+      let led =
+      subst (λ x. Leads (answer f) f.device.packet fates before (record { transfer = x; got = [] }) d now h here) is_new
+      (subst (λ x. Leads (answer x) x.device.packet fates before (record { transfer = t; got = [] }) d now h here) file leads) in
+      let done = stands_on before address replies q (drop (suc i) qs) d now h here stands at led over in
+      subst (λ x. StandsAt now (settles plan naks replies here (settled x.length h.got failure))) request
+      (subst (λ x. StandsAt now (settles plan naks replies here (settled h.transfer.request.length h.got x))) (sym why) done)
+
+  -- and the next request stands first
+  pub place_on : (replies : List Reply) (q : SetupPacket) (rest : List SetupPacket) (address : ℕ) (reply : Reply) →
+      reached (first_place qs) replies ≡ record { left = q ∷ rest; address = address } →
+      reached (first_place qs) (replies ++ reply ∷ []) ≡ record { left = rest; address = followed q reply address }
+  place_on replies q rest address reply place =
+      reached_append (first_place qs) replies reply ∙ ap (λ p. onward p.left p.address reply) place
+
+  -- after the last request the talk has ended
+  pub stands_last : (now address : ℕ) (replies : List Reply) (d : DeviceView) →
+      StandsAt now (proceed plan naks replies d) → reached (first_place qs) replies ≡ record { left = []; address = address } →
+      StandsAt now (record { replies = replies; phase = Succeeded; device = d })
+  stands_last now address replies d stands place m =
+      let done : proceed plan naks replies d ≡ record { replies = replies; phase = Succeeded; device = d } =
+      ap (λ p. (let x : Attempt = proceed (λ r. asked_at f.device.packet p.address p.left) naks replies d in x)) place in
+      stands m ∙ ap (λ x. point plan naks (answer f) f.device.packet fates now m x) done
+
+  -- the same, as the loop has it
+  pub stands_ended : (i now address : ℕ) (replies : List Reply) (d : DeviceView) → StandsAt now (proceed plan naks replies d) →
+      reached (first_place qs) replies ≡ record { left = drop i qs; address = address } → length qs ≤ i →
+      StandsAt now (record { replies = replies; phase = Succeeded; device = d })
+  stands_ended i now address replies d stands place past =
+      let none : drop i qs ≡ [] = nil_from_length (drop i qs) (simp length-drop (omega arith)) in
+      stands_last now address replies d stands (place ∙ ap (λ x. (let p : Place = record { left = x; address = address } in p)) none)
+
+  -- What holds where the talk has ended.
+  module _ (talk : Talk) (d : DeviceView) (state : d.state ≡ talk.state) (pos : 0 < f.device.packet)
+      (stands : StandsAt talk.transactions (record { replies = talk.replies; phase = end_of talk.stopped; device = d })) where
+    abbrev last : Attempt
+    last = record { replies = talk.replies; phase = end_of talk.stopped; device = d }
+
+    at_end : point plan naks (answer f) f.device.packet fates 0 talk.transactions (talk_start f.device.packet naks qs) ≡ last
+    at_end =
+        let number : talk.transactions ≡ talk.transactions + 0 = omega arith in
+        ap (λ x. point plan naks (answer f) f.device.packet fates 0 x (talk_start f.device.packet naks qs)) number ∙ stands 0
+
+    pub is_run : IsTalkRun f naks qs fates talk
+    is_run =
+        let start = talk_start f.device.packet naks qs in
+        let steps = Steps-points plan naks (answer f) f.device.packet fates 0 talk.transactions start in (
+          points plan naks (answer f) f.device.packet fates 0 talk.transactions start,
+          last,
+          length-points plan naks (answer f) f.device.packet fates 0 talk.transactions start,
+          subst (λ x. Steps plan naks (answer f) f.device.packet fates 0 start
+              (points plan naks (answer f) f.device.packet fates 0 talk.transactions start) x) at_end steps,
+          refl,
+          refl,
+          state,
+        )
+
+    abbrev used : List Fate
+    used = fates_used fates talk.transactions
+
+    abbrev IsSound : Attempt → Type 0
+    IsSound x =
+        Sound plan naks (answer f) f.device.packet true (replies_to (answer f) zero_state qs) (state_after (answer f) zero_state qs)
+        (losses used) (busies used) (acks_lost used) x.replies x.phase x.device
+
+    sound : IsSound last
+    sound =
+        let run = point-run plan naks (answer f) f.device.packet fates 0 talk.transactions (talk_start f.device.packet naks qs) in
+        subst IsSound (sym run ∙ at_end) (talk_sound (answer f) f.device.packet naks qs used pos (table_kept f))
+
+    -- the same by how the talk ended
+    sound_at : (stopped : Option Why) → talk.stopped ≡ stopped → IsSound (record { replies = talk.replies; phase = end_of stopped; device = d })
+    sound_at stopped e = subst (λ x. IsSound (record { replies = talk.replies; phase = end_of x; device = d })) e sound
+
+    first_by : (all todo : List Reply) → talk.replies ++ todo ≡ all → talk.replies ≡ take (length talk.replies) all
+    first_by all todo e = rw (← e) (sym (take_at talk.replies todo (length talk.replies) refl))
+
+    replies_by : (stopped : Option Why) → talk.stopped ≡ stopped → IsSound (record { replies = talk.replies; phase = end_of stopped; device = d }) →
+        HasFirstReplies f qs talk
+    replies_by None e h = first_by (replies_to (answer f) zero_state qs) [] (append-nil talk.replies ∙ h.0)
+    replies_by (Some NoAnswer) e h = first_by (replies_to (answer f) zero_state qs) h.1.0 h.1.1
+    replies_by (Some Busy) e h = first_by (replies_to (answer f) zero_state qs) h.1.0 h.1.1
+    replies_by (Some Stalled) e h = absurd h
+    replies_by (Some TooLong) e h = absurd h
+    replies_by (Some Unexpected) e h = absurd h
+    replies_by (Some Malformed) e h = absurd h
+    replies_by (Some Memory) e h = absurd h
+
+    pub has_first_replies : HasFirstReplies f qs talk
+    has_first_replies = replies_by talk.stopped refl sound
+
+    cause_by : (stopped : Option Why) → IsSound (record { replies = talk.replies; phase = end_of stopped; device = d }) → HasCause naks used stopped
+    cause_by None h = tt
+    cause_by (Some NoAnswer) h = h.0
+    cause_by (Some Busy) h = h.0
+    cause_by (Some Stalled) h = absurd h
+    cause_by (Some TooLong) h = absurd h
+    cause_by (Some Unexpected) h = absurd h
+    cause_by (Some Malformed) h = absurd h
+    cause_by (Some Memory) h = absurd h
+
+    pub has_cause : HasCause naks used talk.stopped
+    has_cause = cause_by talk.stopped sound
+
+    pub has_last_state : talk.stopped ≡ None → HasLastState f qs fates talk
+    has_last_state e =
+        elim (sound_at None e).1 [
+          | inl same ↦ inl (sym state ∙ same)
+          | inr (cost, loose, same) ↦ inr (cost, subst (λ x. state_after (answer f) zero_state qs ≡ record x { address = (state_after (answer f) zero_state qs).address }) state same)
+        ]
+
+    ends_by : (stopped : Option Why) → HasCause naks used stopped → losses used < 3 → acks_lost used ≡ 0 → busies used ≤ naks → stopped ≡ None
+    ends_by None h few none patient = refl
+    ends_by (Some NoAnswer) h few none patient = absurd (grind arith)
+    ends_by (Some Busy) h few none patient = absurd (omega arith)
+    ends_by (Some Stalled) h few none patient = absurd h
+    ends_by (Some TooLong) h few none patient = absurd h
+    ends_by (Some Unexpected) h few none patient = absurd h
+    ends_by (Some Malformed) h few none patient = absurd h
+    ends_by (Some Memory) h few none patient = absurd h
+
+    pub ends : losses fates < 3 → acks_lost fates ≡ 0 → busies fates ≤ naks → talk.stopped ≡ None
+    ends few none patient =
+        let l = losses-fates_used fates talk.transactions in
+        let a = acks_lost-fates_used fates talk.transactions in
+        let b = busies-fates_used fates talk.transactions in
+        ends_by talk.stopped has_cause (omega arith) (omega arith) (omega arith)

@@ -1,0 +1,78 @@
+-- The transactions of one transfer, as a part of a talk.
+use Rattle.std.proofs.Common.{◌≡◌, ℕ, suc, ◌+◌, List, Option, Some, None, refl, ap, ◌∙◌, arith, zero-add}
+use Rattle.std.proofs.lemmas.Bool.Decides.{nat_tests}
+use Rattle.usb_fields.specs.Packet.{Sent, Reply as PacketReply}
+use Rattle.usb_fields.specs.declared.setup.Setup.{Setup as SetupPacket}
+use Rattle.usb_host.specs.declared.why.Why.{Why}
+use Rattle.usb_host.specs.declared.stage.TransferStage.{TransferStage}
+use Rattle.usb_host.specs.declared.stage.TransferStage.TheVariants.{Setup, DataIn, DataOut, StatusOut, StatusIn, Completed, Failed}
+use Rattle.usb_host.specs.Transfer.{TransferView, Hearing, Goes, Brings, Completes, Fails, taken_at, due, addressed, token_due}
+use Rattle.usb_device.specs.declared.state.State.{State}
+use Rattle.usb_device.specs.Requests.{Outcome}
+use Rattle.usb_device.specs.Step.{DeviceView}
+use Rattle.usb_bus.specs.declared.fate.Fate.{Fate}
+use Rattle.usb_bus.specs.declared.reply.Reply.{Reply}
+use Rattle.usb_bus.specs.Bus.{HostEnd, exchanged, step}
+use Rattle.usb_bus.specs.Attempt.{Plan, Attempt, Running, advance}
+use Rattle.usb_bus.specs.Run.{fate_at}
+use Rattle.usb_bus.specs.inside.Running.{failure_of, point, Leads}
+
+-- why a transfer fails, as it tells its caller
+abbrev pub failure_in : Hearing → Option Why
+failure_in Goes = None
+failure_in (Brings bytes) = None
+failure_in Completes = None
+failure_in (Fails why) = Some why
+
+-- what the caller is told is what the stage says
+pub failure_in-taken : (t : TransferView) (stage : TransferStage) (r : PacketReply) → t.stage ≡ stage →
+    failure_in (taken_at t stage r).heard ≡ failure_of (taken_at t stage r).transfer.stage
+failure_in-taken t Setup r e = grind (arith, nat_tests)
+failure_in-taken t DataIn r e = grind (arith, nat_tests)
+failure_in-taken t DataOut r e = grind (arith, nat_tests)
+failure_in-taken t StatusOut r e = grind (arith, nat_tests)
+failure_in-taken t StatusIn r e = grind (arith, nat_tests)
+failure_in-taken t Completed r e = grind (arith, nat_tests)
+failure_in-taken t (Failed why) r e = grind (arith, nat_tests)
+
+-- a transfer that has something due goes on
+advance-due : (plan : List Reply → Plan) (naks : ℕ) (replies : List Reply) (h : HostEnd) (stage : TransferStage) (d : DeviceView) (address : ℕ)
+    (q : SetupPacket) (sent : Sent) → addressed address (token_due q stage) ≡ Some sent →
+    advance plan naks replies h stage d ≡ record { replies = replies; phase = Running h; device = d }
+advance-due plan naks replies h Setup d address q sent e = refl
+advance-due plan naks replies h DataIn d address q sent e = refl
+advance-due plan naks replies h DataOut d address q sent e = refl
+advance-due plan naks replies h StatusOut d address q sent e = refl
+advance-due plan naks replies h StatusIn d address q sent e = refl
+advance-due plan naks replies h Completed d address q sent e = absurd (cc)
+advance-due plan naks replies h (Failed why) d address q sent e = absurd (cc)
+
+-- the first transaction of some
+pub Leads-start : (answer : State → SetupPacket → Outcome) (cut : ℕ) (fates : List Fate) (before : ℕ) (h : HostEnd) (d : DeviceView) →
+    h.transfer.stage ≡ Setup → Leads answer cut fates before h d before h d
+Leads-start answer cut fates before h d e = (0, omega arith, λ plan naks replies m. rw (zero-add m, e) refl)
+
+-- one transaction more
+pub Leads-more : (answer : State → SetupPacket → Outcome) (cut : ℕ) (fates : List Fate) (before : ℕ) (h : HostEnd) (d : DeviceView) (now : ℕ)
+    (middle : HostEnd) (there : DeviceView) (sent : Sent) (last : HostEnd) (here : DeviceView) → due middle.transfer ≡ Some sent →
+    exchanged answer cut middle there (Some sent) (fate_at fates now) ≡ record { host = last; device = here } →
+    Leads answer cut fates before h d now middle there → Leads answer cut fates before h d (suc now) last here
+Leads-more answer cut fates before h d now middle there sent last here asks goes (n, at, leads) =
+    let stepped : step answer cut (fate_at fates now) (record { host = middle; device = there }) ≡ record { host = last; device = here } =
+    rw asks goes in (
+      suc n,
+      omega arith,
+      λ plan naks replies m.
+          (let number : suc n + m ≡ n + suc m = omega arith in
+          let running = advance-due plan naks replies middle middle.transfer.stage there middle.transfer.address middle.transfer.request sent asks in
+          let start : Attempt = record { replies = replies; phase = Running h; device = d } in
+          let first : point plan naks answer cut fates before (suc n + m) start ≡ point plan naks answer cut fates before (n + suc m) start =
+          ap (λ x. point plan naks answer cut fates before x start) number in
+          let then : point plan naks answer cut fates now (suc m) (advance plan naks replies middle middle.transfer.stage there)
+          ≡ point plan naks answer cut fates now (suc m) (record { replies = replies; phase = Running middle; device = there }) =
+          ap (λ x. point plan naks answer cut fates now (suc m) x) running in
+          let on : point plan naks answer cut fates now (suc m) (record { replies = replies; phase = Running middle; device = there })
+          ≡ point plan naks answer cut fates (suc now) m (advance plan naks replies last last.transfer.stage here) =
+          ap (λ e. point plan naks answer cut fates (suc now) m (advance plan naks replies e.host e.host.transfer.stage e.device)) stepped in
+          first ∙ leads plan naks replies (suc m) ∙ then ∙ on),
+    )

@@ -1,0 +1,60 @@
+-- Runs of a talk: their points, and the fates that they use.
+use Rattle.std.proofs.Common.{◌≡◌, ℕ, zero, suc, ◌≤◌, List, [], ◌∷◌, length, drop, refl, sym, ap, ◌∙◌, arith}
+use Rattle.usb_fields.specs.declared.setup.Setup.{Setup as SetupPacket}
+use Rattle.usb_device.specs.declared.state.State.{State}
+use Rattle.usb_device.specs.Requests.{Outcome}
+use Rattle.usb_bus.specs.declared.fate.Fate.{Fate}
+use Rattle.usb_bus.specs.declared.reply.Reply.{Reply}
+use Rattle.usb_bus.specs.Fates.{losses, busies, acks_lost}
+use Rattle.usb_bus.specs.Attempt.{Plan, Attempt, attempt_step, attempt_run}
+use Rattle.usb_bus.specs.Run.{fate_at, fates_used, Steps}
+use Rattle.usb_bus.specs.inside.Running.{point}
+
+-- no more is lost than the list has, and no more is Busy
+pub losses-fates_used : (fates : List Fate) (n : ℕ) → losses (fates_used fates n) ≤ losses fates
+losses-fates_used fates zero = omega arith
+losses-fates_used [] (suc n) = (let rest = losses-fates_used [] n in omega arith)
+losses-fates_used (f ∷ fates) (suc n) = (let rest = losses-fates_used fates n in omega arith)
+
+pub busies-fates_used : (fates : List Fate) (n : ℕ) → busies (fates_used fates n) ≤ busies fates
+busies-fates_used fates zero = omega arith
+busies-fates_used [] (suc n) = (let rest = busies-fates_used [] n in omega arith)
+busies-fates_used (f ∷ fates) (suc n) = (let rest = busies-fates_used fates n in omega arith)
+
+pub acks_lost-fates_used : (fates : List Fate) (n : ℕ) → acks_lost (fates_used fates n) ≤ acks_lost fates
+acks_lost-fates_used fates zero = omega arith
+acks_lost-fates_used [] (suc n) = (let rest = acks_lost-fates_used [] n in omega arith)
+acks_lost-fates_used (f ∷ fates) (suc n) = (let rest = acks_lost-fates_used fates n in omega arith)
+
+-- the next fate, and those after it
+fates_used-drop : (k : ℕ) (fates : List Fate) (n : ℕ) → fates_used (drop k fates) (suc n) ≡ fate_at fates k ∷ fates_used (drop (suc k) fates) n
+fates_used-drop zero [] n = refl
+fates_used-drop zero (f ∷ fates) n = refl
+fates_used-drop (suc k) [] n = refl
+fates_used-drop (suc k) (f ∷ fates) n = fates_used-drop k fates n
+
+module _ (plan : List Reply → Plan) (naks : ℕ) (answer : State → SetupPacket → Outcome) (cut : ℕ) (fates : List Fate) where
+  abbrev next : ℕ → Attempt → Attempt
+  next k x = attempt_step plan naks answer cut (fate_at fates k) x.replies x.phase x.device
+
+  -- a point is that of a run under the fates that were used
+  pub point-run : (k n : ℕ) (x : Attempt) → point plan naks answer cut fates k n x ≡ attempt_run plan naks answer cut (fates_used (drop k fates) n) x
+  point-run k zero x = refl
+  point-run k (suc n) x =
+      point-run (suc k) n (next k x)
+      ∙ sym (ap (λ fs. attempt_run plan naks answer cut fs x) (fates_used-drop k fates n))
+
+  -- the points on the way
+  pub points : ℕ → ℕ → Attempt → List Attempt
+  points k zero x = []
+  points k (suc n) x = next k x ∷ points (suc k) n (next k x)
+
+  pub length-points : (k n : ℕ) (x : Attempt) → length (points k n x) ≡ n
+  unfolding points
+  length-points k zero x = refl
+  length-points k (suc n) x = ap suc (length-points (suc k) n (next k x))
+
+  pub Steps-points : (k n : ℕ) (x : Attempt) → Steps plan naks answer cut fates k x (points k n x) (point plan naks answer cut fates k n x)
+  unfolding points
+  Steps-points k zero x = refl
+  Steps-points k (suc n) x = (refl, Steps-points (suc k) n (next k x))

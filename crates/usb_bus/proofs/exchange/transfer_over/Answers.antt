@@ -1,0 +1,36 @@
+use Rattle.std.proofs.Common.{◌≡◌, ◌<◌, Some, [], refl, sym, ◌∙◌, arith, add-one, rules, subst, IsSome}
+use Rattle.usb_fields.specs.Packet.{sent_of}
+use Rattle.usb_host.specs.Transfer.{due}
+use Rattle.usb_host.specs.Bound.{left}
+use Rattle.usb_device.specs.Requests.{answer}
+use Rattle.usb_bus.specs.Bus.{HostEnd, Ends, exchanged}
+use Rattle.usb_bus.proofs.Leading.{Leads-more}
+use Rattle.usb_bus.proofs.exchange.transfer_over.Goals as goal
+
+pub loop-t-preserved : goal.loop-t-preserved
+loop-t-preserved c =
+    let file = c.args.device.now.description.file in
+    let sent = sent_of c.in-Some.t in
+    let before : HostEnd = record { transfer = c.loop-t.transfer; got = c.loop-t.bytes.items } in
+    let after : HostEnd = record { transfer = c.exchange.new.transfer; got = c.exchange.new.bytes.items } in
+    let ends : Ends = record { host = after; device = c.exchange.new.device.device } in
+    let asks : due c.loop-t.transfer ≡ Some sent = sym c.in-Some.ensures in
+    let going : IsSome (due c.loop-t.transfer) = rw asks refl in
+    let fewer : left c.exchange.new.transfer < left c.loop-t.transfer = c.in_ok-failure.ensures.fewer going in
+    let same =
+    subst (λ x. exchanged (answer x.file) x.file.device.packet before c.loop-t.device.device (Some sent) c.fate_of-fate.result ≡ ends)
+    c.loop-t.invariant.description c.in_ok-failure.ensures.ends
+    in
+    let goes =
+    subst (λ f. exchanged (answer file) file.device.packet before c.loop-t.device.device (Some sent) f ≡ ends) c.fate_of-fate.ensures same
+    in
+    record {
+      leads = rw add-one
+          (Leads-more (answer file) file.device.packet c.args.fates.now c.args.before (record { transfer = c.args.transfer.now; got = [] })
+          c.args.device.now.device c.loop-t.transactions before c.loop-t.device.device sent after c.exchange.new.device.device asks goes
+          c.loop-t.invariant.leads);
+      description = c.in_ok-failure.ensures.description ∙ c.loop-t.invariant.description;
+      request = c.in_ok-failure.ensures.request ∙ c.loop-t.invariant.request;
+      failure = search rules;
+      most = omega (arith, fewer, c.loop-t.invariant.most);
+    }

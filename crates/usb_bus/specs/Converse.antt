@@ -1,0 +1,58 @@
+-- What a talk with a device promises.
+use Rattle.std.specs.Prelude.{◌≡◌, ℕ, ◌<◌, ◌≤◌, ◌⊎◌, List, [], length, take, Option, Some, None}
+use Rattle.usb_fields.specs.declared.setup.Setup.{Setup as SetupPacket}
+use Rattle.usb_file_data.specs.declared.file.DescriptorFile.{DescriptorFile}
+use Rattle.usb_host.specs.declared.why.Why.{Why}
+use Rattle.usb_host.specs.declared.why.Why.TheVariants.{NoAnswer, Busy, Stalled, TooLong, Unexpected, Malformed, Memory}
+use Rattle.usb_device.specs.Requests.{answer}
+use Rattle.usb_device.specs.States.{zero}
+use Rattle.usb_device.specs.Step.{new_device}
+use Rattle.usb_bus.specs.declared.fate.Fate.{Fate}
+use Rattle.usb_bus.specs.declared.talk.Talk.{Talk}
+use Rattle.usb_bus.specs.Fates.{losses, busies, acks_lost}
+use Rattle.usb_bus.specs.Attempt.{Phase, Succeeded, Broken, Attempt, proceed}
+use Rattle.usb_bus.specs.Talk.{Place, talk_plan, replies_to, state_after}
+use Rattle.usb_bus.specs.Run.{Steps, fates_used}
+
+-- the requests, the first of which goes to address 0
+abbrev pub first_place : List SetupPacket → Place
+first_place requests = record { left = requests; address = 0 }
+
+-- a talk begins with a new device
+abbrev pub talk_start : ℕ → ℕ → List SetupPacket → Attempt
+talk_start packet naks requests = proceed (talk_plan packet (first_place requests)) naks [] new_device
+
+-- how a talk ends
+abbrev pub end_of : Option Why → Phase
+end_of None = Succeeded
+end_of (Some why) = Broken why
+
+-- The talk is a run of both ends: a list of points, each a pair of views, from the start on, one transaction after
+-- another under the fates in their order, as many as the talk says, to a point with its replies, its end and its state.
+abbrev pub IsTalkRun : DescriptorFile → ℕ → List SetupPacket → List Fate → Talk → Type 0
+IsTalkRun f naks requests fates talk =
+    (points : List Attempt) × (last : Attempt) × (length points ≡ talk.transactions)
+    × Steps (talk_plan f.device.packet (first_place requests)) naks (answer f) f.device.packet fates 0
+    (talk_start f.device.packet naks requests) points last
+    × (last.replies ≡ talk.replies) × (last.phase ≡ end_of talk.stopped) × (last.device.state ≡ talk.state)
+
+-- the replies are the first ones that the table gives to the requests one after another
+abbrev pub HasFirstReplies : DescriptorFile → List SetupPacket → Talk → Type 0
+HasFirstReplies f requests talk = talk.replies ≡ take (length talk.replies) (replies_to (answer f) zero requests)
+
+-- the state is the last one that the table gives; its address alone may differ, where an ACK was lost
+abbrev pub HasLastState : DescriptorFile → List SetupPacket → List Fate → Talk → Type 0
+HasLastState f requests fates talk =
+    let last = state_after (answer f) zero requests in
+    (talk.state ≡ last) ⊎ ((0 < acks_lost (fates_used fates talk.transactions)) × (last ≡ record talk.state { address = last.address }))
+
+-- a talk that stopped has a cause: no answer, after three losses or a lost ACK, or more Busy than NAKs are borne
+abbrev pub HasCause : ℕ → List Fate → Option Why → Type 0
+HasCause naks used None = Unit {0}
+HasCause naks used (Some NoAnswer) = (3 ≤ losses used) ⊎ (0 < acks_lost used)
+HasCause naks used (Some Busy) = naks < busies used
+HasCause naks used (Some Stalled) = ⊥
+HasCause naks used (Some TooLong) = ⊥
+HasCause naks used (Some Unexpected) = ⊥
+HasCause naks used (Some Malformed) = ⊥
+HasCause naks used (Some Memory) = ⊥

@@ -1,0 +1,28 @@
+-- Runs: transactions one after another, each with the next fate.
+use Rattle.std.specs.Prelude.{◌≡◌, ℕ, zero, suc, List, [], ◌∷◌, slice_get, unwrap_or}
+use Rattle.usb_fields.specs.declared.setup.Setup.{Setup as SetupPacket}
+use Rattle.usb_device.specs.declared.state.State.{State}
+use Rattle.usb_device.specs.Requests.{Outcome}
+use Rattle.usb_bus.specs.declared.fate.Fate.{Fate}
+use Rattle.usb_bus.specs.declared.fate.Fate.TheVariants.{Pass}
+use Rattle.usb_bus.specs.declared.reply.Reply.{Reply}
+use Rattle.usb_bus.specs.Attempt.{Plan, Attempt, attempt_step}
+
+-- the fate of transaction k, counted from 0: after the list's end all pass
+abbrev pub fate_at : List Fate → ℕ → Fate
+fate_at fates k = unwrap_or (slice_get fates k) Pass
+
+-- the fates of the first n transactions
+abbrev pub fates_used : List Fate → ℕ → List Fate
+fates_used fates zero = []
+fates_used [] (suc n) = Pass ∷ fates_used [] n
+fates_used (f ∷ fates) (suc n) = f ∷ fates_used fates n
+
+module _ (plan : List Reply → Plan) (naks : ℕ) (answer : State → SetupPacket → Outcome) (cut : ℕ) where
+  -- These points follow `start`, each one transaction after the one before it, from transaction k on, and the last of
+  -- them is `end`.
+  abbrev pub Steps : List Fate → ℕ → Attempt → List Attempt → Attempt → Type 0
+  Steps fates k start [] end = end ≡ start
+  Steps fates k start (x ∷ points) end =
+      (x ≡ attempt_step plan naks answer cut (fate_at fates k) start.replies start.phase start.device)
+      × Steps fates (suc k) x points end
