@@ -28,6 +28,7 @@ pub(crate) fn answer(alloc: Global, row: &Row) -> Result<Answer> {
         "failing_writes" => program::failing_writes(alloc, words)?,
         "failing_write" => program::failing_write(alloc, words)?,
         "failing_flush" => program::failing_flush(alloc, words)?,
+        "endless" => program::endless(alloc, words)?,
         "message" => messages::message(alloc, words)?,
         call => bail!("no call is named {call}"),
     };

@@ -1,7 +1,7 @@
 //! Rows on the program: what it does with words and an input, and what it makes of readers and writers that
 //! fail.
 use crate::row::Answer;
-use crate::streams::{End, Pieces, Sheet};
+use crate::streams::{End, Endless, Pieces, Sheet};
 use crate::words::bytes_of;
 use anyhow::{Context, Result, ensure};
 use std::alloc::Global;
@@ -168,5 +168,21 @@ pub(crate) fn failing_flush(alloc: Global, words: &[String]) -> Result<String> {
     match outcome {
         Ok(_) => Ok(format!(in alloc; "{status}")?),
         Err(fault) => Ok(format!(in alloc; "{status} {fault}")?),
+    }
+}
+
+/// What comes of the bytes with zeros without end behind them, of which nothing is listed, and how many bytes are
+/// read.
+pub(crate) fn endless(alloc: Global, words: &[String]) -> Result<String> {
+    let bytes = bytes_of(alloc, words)?;
+    let mut reader = Endless::new(bytes.as_slice());
+    let mut text = Vec::new(alloc);
+    let outcome = run_show(alloc, &mut reader, &mut text);
+    ensure!(text.is_empty(), "something is written");
+    let status = verdict(&outcome);
+    let given = reader.given;
+    match outcome {
+        Ok(_) => Ok(format!(in alloc; "{status}")?),
+        Err(fault) => Ok(format!(in alloc; "{status} {fault}, {given} bytes read")?),
     }
 }

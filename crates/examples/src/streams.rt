@@ -45,6 +45,35 @@ impl Read for Pieces<'_> {
     }
 }
 
+/// A reader that gives some bytes, and then zeros without end.
+#[derive(Drop)]
+pub(crate) struct Endless<'a> {
+    front: &'a [u8],
+    /// How many bytes it gave.
+    pub(crate) given: usize,
+}
+
+impl<'a> Endless<'a> {
+    pub(crate) fn new(front: &'a [u8]) -> Endless<'a> {
+        Endless { front, given: 0 }
+    }
+}
+
+impl Read for Endless<'_> {
+    fn read(&mut self, buf: &mut [u8]) -> Result<usize> {
+        let (piece, rest) = self.front.split_at(self.front.len().min(buf.len()));
+        for (to, from) in buf.iter_mut().zip(piece) {
+            *to = *from;
+        }
+        for to in buf.iter_mut().skip(piece.len()) {
+            *to = 0;
+        }
+        self.front = rest;
+        self.given = self.given.saturating_add(buf.len());
+        Ok(buf.len())
+    }
+}
+
 /// What a writer does once its calls are used up.
 #[derive(Clone, Copy, PartialEq, Eq)]
 pub(crate) enum End {

@@ -7,7 +7,7 @@ use anyhow::{Context, Result, bail};
 use std::alloc::Global;
 use usb_fields::{DeviceDescriptor, Qualifier};
 use usb_file::{DescriptorFile, Other, Strings};
-use usb_set::{Configuration, Endpoint, Raw, Sequence, SetKind, Setting};
+use usb_set::{Association, Configuration, Endpoint, Extra, Raw, Sequence, SetKind, Setting};
 
 /// The fields of a line that were not looked at yet.
 #[derive(Drop)]
@@ -104,21 +104,23 @@ impl Builder {
                 kind: fields.byte()?,
                 body: fields.bytes()?,
             };
-            self.add_raw(raw)?;
+            self.add_extra(Extra::Raw(raw))?;
+        } else if word == "association" {
+            self.add_extra(Extra::Association(association(fields)?))?;
         } else {
             return Ok(false);
         }
         Ok(true)
     }
 
-    /// Adds a raw descriptor to the nearest typed one.
-    fn add_raw(&mut self, raw: Raw) -> Result<()> {
+    /// Adds a raw descriptor or an association to the nearest descriptor that owns such.
+    fn add_extra(&mut self, extra: Extra) -> Result<()> {
         if let Some(endpoint) = &mut self.endpoint {
-            endpoint.extras.push(raw)?;
+            endpoint.extras.push(extra)?;
         } else if let Some(setting) = &mut self.setting {
-            setting.extras.push(raw)?;
+            setting.extras.push(extra)?;
         } else if let Some(set) = &mut self.set {
-            set.extras.push(raw)?;
+            set.extras.push(extra)?;
         } else {
             bail!("no set yet");
         }
@@ -228,6 +230,18 @@ fn endpoint(fields: &mut Fields<'_>) -> Result<Endpoint> {
         interval: fields.byte()?,
         tail: fields.bytes()?,
         extras: Sequence::new(fields.alloc),
+    })
+}
+
+fn association(fields: &mut Fields<'_>) -> Result<Association> {
+    Ok(Association {
+        first: fields.byte()?,
+        count: fields.byte()?,
+        class: fields.byte()?,
+        subclass: fields.byte()?,
+        protocol: fields.byte()?,
+        text: fields.byte()?,
+        tail: fields.bytes()?,
     })
 }
 

@@ -13,7 +13,7 @@ use Rattle.usb_set.specs.Decoding.{Decoding, gathers, has, refused}
 use Rattle.usb_set.specs.declared.tree.Configuration.{Configuration}
 use Rattle.usb_set.specs.Faults.{Begins, Faulty}
 use Rattle.usb_set.specs.Layout.{Layout}
-use Rattle.usb_set.specs.Feeding.{Answers, Finishes, out_of_memory}
+use Rattle.usb_set.specs.Feeding.{Answers, Finishes, WantsMemory}
 use Rattle.usb_set.proofs.Sound.{Begins-more, Faulty-more}
 use Rattle.usb_tool.specs.Input.{Left, ReadsSome}
 use Rattle.usb_tool.proofs.Showing.{begins_whole}
@@ -27,17 +27,17 @@ use Rattle.usb_tool.specs.declared.fault.ToolFault.TheVariants as faults
 front_of : {b : List ℕ} {c : Configuration} {place : ℕ} (begins : Begins b c place) → begins.front ≡ take place b
 front_of begins = sym (ap₂ take (sym begins.ends) begins.parts ∙ take-append_seam begins.front begins.rest)
 
-not_for_memory : (b : List ℕ) (fault : SetFault) → (fault ≡ out_of_memory) ⊎ Faulty b fault.at fault.why → fault.why ≢ whys.Memory
-    → Faulty b fault.at fault.why
-not_for_memory b fault (inl h) known = absurd (known (ap (λ (f : SetFault). f.why) h))
-not_for_memory b fault (inr shown) known = shown
+not_for_memory : (s piece : List ℕ) (fault : SetFault) → WantsMemory s piece fault ⊎ Faulty (s ++ piece) fault.at fault.why
+    → fault.why ≢ whys.Memory → Faulty (s ++ piece) fault.at fault.why
+not_for_memory s piece fault (inl wants) known = absurd (known wants.why)
+not_for_memory s piece fault (inr shown) known = shown
 
 -- a decoder that refuses the next piece, not for want of memory
 pub fed_fault : (old new : Decoding) (piece : List ℕ) (fault : SetFault) (end : Option ℕ) (b : List ℕ)
     → Answers old piece (Err fault) new → fault.why ≢ whys.Memory → Fed old end b → Fed new end (b ++ piece)
 fed_fault (gathers s) new piece fault None b answer known fed =
     subst (λ (d : Decoding). Fed d None (b ++ piece)) (sym answer.0)
-    (subst (λ (z : List ℕ). Faulty (z ++ piece) fault.at fault.why) fed.0 (not_for_memory _ _ answer.1 known))
+    (subst (λ (z : List ℕ). Faulty (z ++ piece) fault.at fault.why) fed.0 (not_for_memory s piece fault answer.1 known))
 fed_fault (gathers s) new piece fault (Some end) b answer known fed = elim fed [ ]
 fed_fault (has c) new piece fault (Some end) b (clash, _) known fed = cc
 fed_fault (has c) new piece fault None b answer known fed = elim fed [ ]
@@ -107,6 +107,7 @@ pub stops_early : {T : Type 0} (r : Result T ToolFault) (e : ToolFault) (limit :
 stops_early (Ok v) e limit from to h why some = tt
 stops_early (Err fault) e limit from to h (inl read) some = subst (StopsEarly limit from to) (sym (h ∙ read)) some
 stops_early (Err fault) e limit from to h (inr memory) some = subst (StopsEarly limit from to) (sym (h ∙ memory)) some
+
 -- the count of the bytes with a part of a buffer behind them
 pub counted_more : (bytes buf : List ℕ) (count read : ℕ) → count ≡ length bytes → read ≤ length buf
     → count + read ≡ length (bytes ++ take read buf)

@@ -1,7 +1,7 @@
 -- The numbers and the lines of the program's faults.
 use Rattle.std.specs.Prelude.{ℕ, List, ◌++◌, codes, Result, Ok, Err}
 use Rattle.std.specs.Fmt.{decimal}
-use Rattle.usb_set.specs.Numbers.{number_of}
+use Rattle.usb_set.specs.Numbers.{why_number as set_why_number}
 use Rattle.usb_set.specs.declared.fault.SetFault.{SetFault}
 use Rattle.usb_set.specs.declared.fault.SetWhy.{SetWhy}
 use Rattle.usb_set.specs.declared.fault.SetWhy.TheVariants as whys
@@ -32,7 +32,7 @@ fault_line faults.TooLarge = codes "usbdesc: input too large"
 fault_line (faults.File fault) =
     codes "usbdesc: file fault " ++ decimal (why_number fault.why) ++ codes " at " ++ decimal fault.at
 fault_line (faults.Set fault) =
-    codes "usbdesc: set fault " ++ decimal (number_of fault.why) ++ codes " at " ++ decimal fault.at
+    codes "usbdesc: set fault " ++ decimal (set_why_number fault.why) ++ codes " at " ++ decimal fault.at
 fault_line (faults.Trailing at) = codes "usbdesc: trailing bytes at " ++ decimal at
 fault_line faults.Memory = codes "usbdesc: out of memory"
 
