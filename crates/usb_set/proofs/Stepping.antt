@@ -2,6 +2,8 @@
 use Rattle.std.proofs.Common.{◌≡◌, ℕ, ◌+◌, ◌-◌, ◌<◌, ◌≤◌, true, false, eqb, min, List, [], ◌∷◌, ◌++◌, length, take, drop, get_or, Option, Some, None, refl, sym, ap, subst, ◌∙◌, length-append, length-drop, arith, inl, inr}
 use Rattle.std.proofs.lemmas.Bool.{cond-true, cond-false, cases_Bool, cases_lt, eqb-false, eq-eqb}
 use Rattle.std.proofs.lemmas.List.{take_all, take-append-drop, length-take-le}
+use Rattle.std.proofs.Common.{Result, Ok, Err}
+use Rattle.std.specs.Prelude.{OnOk, OnErr, is_err}
 use Rattle.usb_set.specs.declared.tree.Configuration.{Configuration}
 use Rattle.usb_set.specs.declared.fault.SetFault.{SetFault}
 use Rattle.usb_set.specs.declared.fault.SetWhy.{SetWhy}
@@ -264,3 +266,17 @@ not_done (first b) on e = tt
 not_done (later c total place b) on e = tt
 not_done (whole c place) on e = absurd cc
 not_done (faulty place why) on e = on
+
+-- ---- a growth that went, and one that was refused
+
+pub on_ok : {A E : Type 0} (r : Result A E) (P : Type 0) → is_err r ≡ false → OnOk r P → P
+on_ok (Ok x) P e h = h
+on_ok (Err x) P e h = absurd cc
+
+on_err : {A E : Type 0} (r : Result A E) (P : Type 0) → is_err r ≡ true → OnErr r P → P
+on_err (Ok x) P e h = absurd cc
+on_err (Err x) P e h = h
+
+-- the place is still that of the descriptor
+pub wanting_still : {A E : Type 0} (p new : Reading) (r : Result A E) (fault : SetFault) → is_err r ≡ true → OnErr r (place_of new ≡ place_of p) → IsWanting (place_of new) fault → IsWanting (place_of p) fault
+wanting_still p new r fault e h w = (w.0 ∙ on_err r (place_of new ≡ place_of p) e h, w.1)

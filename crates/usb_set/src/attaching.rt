@@ -7,6 +7,17 @@ use crate::tree::{Association, Configuration, Endpoint, Extra, Raw, SetKind, Set
 use std::alloc::{AllocError, Global};
 use usb_base::Sequence;
 
+/// The bytes as a list. No memory is taken where there are none.
+#[inline]
+fn read_bytes(alloc: Global, bytes: &[u8]) -> Result<Sequence<u8>, AllocError>
+    ensures { IfOk result (λ s. s ≡ bytes.now) }
+{
+    if bytes.is_empty() {
+        return Ok(Sequence::new(alloc));
+    }
+    Ok(Sequence::from_vec(Vec::from_slice(alloc, bytes)?))
+}
+
 /// The set that a first descriptor begins.
 pub(crate) fn read_configuration(alloc: Global, bytes: &[u8]) -> Result<Configuration, AllocError>
     requires { 9 ≤ length bytes.now }
@@ -24,7 +35,7 @@ pub(crate) fn read_configuration(alloc: Global, bytes: &[u8]) -> Result<Configur
         text: bytes[6],
         attributes: bytes[7],
         power: bytes[8],
-        tail: Sequence::from_vec(Vec::from_slice(alloc, &bytes[9..])?),
+        tail: read_bytes(alloc, &bytes[9..])?,
         extras: Sequence::new(alloc),
         settings: Sequence::new(alloc),
     })
@@ -43,7 +54,7 @@ fn read_setting(alloc: Global, body: &[u8]) -> Result<Setting, AllocError>
         subclass: body[4],
         protocol: body[5],
         text: body[6],
-        tail: Sequence::from_vec(Vec::from_slice(alloc, &body[7..])?),
+        tail: read_bytes(alloc, &body[7..])?,
         extras: Sequence::new(alloc),
         endpoints: Sequence::new(alloc),
     })
@@ -59,7 +70,7 @@ fn read_endpoint(alloc: Global, body: &[u8]) -> Result<Endpoint, AllocError>
         attributes: body[1],
         max_packet: u16::from(body[2]) + 256 * u16::from(body[3]),
         interval: body[4],
-        tail: Sequence::from_vec(Vec::from_slice(alloc, &body[5..])?),
+        tail: read_bytes(alloc, &body[5..])?,
         extras: Sequence::new(alloc),
     })
 }
@@ -76,7 +87,7 @@ fn read_association(alloc: Global, body: &[u8]) -> Result<Association, AllocErro
         subclass: body[3],
         protocol: body[4],
         text: body[5],
-        tail: Sequence::from_vec(Vec::from_slice(alloc, &body[6..])?),
+        tail: read_bytes(alloc, &body[6..])?,
     })
 }
 
@@ -89,7 +100,7 @@ fn read_extra(alloc: Global, kind: u8, body: &[u8]) -> Result<Extra, AllocError>
         let association = read_association(alloc, body)?;
         return Ok(Extra::Association(association));
     }
-    let body = Sequence::from_vec(Vec::from_slice(alloc, body)?);
+    let body = read_bytes(alloc, body)?;
     Ok(Extra::Raw(Raw { kind, body }))
 }
 

@@ -1,5 +1,5 @@
 //! A set of which some descriptors were read.
-ghost use Rattle.std.specs.Prelude.{◌≡◌, ◌≤◌, [], true, None, OnOk, IfErr};
+ghost use Rattle.std.specs.Prelude.{◌≡◌, ◌≤◌, [], true, None, OnOk, OnErr};
 ghost use Rattle.usb_set.specs.Faults.{is_whole};
 ghost use Rattle.usb_set.specs.inside.Reading.{first};
 ghost use Rattle.usb_set.specs.inside.Stepping.{InWork, IsStart, IsWanting, fault_at, is_done, past, place_of, whole_tree};
@@ -8,7 +8,7 @@ use crate::attaching::{attach, read_configuration};
 use crate::checking::{fault_in_header, fault_in_item, is_in_setting, total_length};
 use crate::fault::{SetFault, SetWhy};
 use crate::tree::Configuration;
-use std::alloc::Global;
+use std::alloc::{AllocError, Global};
 use std::marker::Model;
 
 /// The tree so far, wTotalLength, and where the next descriptor starts. Before the first descriptor
@@ -29,17 +29,6 @@ impl Model for Partial {
     ghost view = { λ p. partial_of p.tree p.total p.place };
 
     ghost invariant = { λ p. IsStart (partial_of p.tree p.total p.place) };
-}
-
-/// Memory is wanting for the descriptor at this place.
-fn out_of_memory(place: usize) -> SetFault
-    requires { place ≤ 65535 }
-    ensures { IsWanting place result }
-{
-    SetFault {
-        at: place as u32,
-        why: SetWhy::Memory,
-    }
 }
 
 impl Partial {
@@ -72,6 +61,16 @@ impl Partial {
         }
     }
 
+    /// Memory is wanting for the descriptor in work.
+    pub(crate) fn out_of_memory(&self) -> SetFault
+        ensures { IsWanting (place_of self.now) result }
+    {
+        SetFault {
+            at: self.place() as u32,
+            why: SetWhy::Memory,
+        }
+    }
+
     /// The fault that the bytes of the descriptor in work show, as many as are there.
     pub(crate) fn fault_in(&self, bytes: &[u8]) -> Option<SetFault>
         requires { InWork self.now }
@@ -95,28 +94,25 @@ impl Partial {
         }
     }
 
-    /// Adds a whole descriptor.
-    pub(crate) fn grow(&mut self, alloc: Global, item: &[u8]) -> Result<(), SetFault>
+    /// Adds a whole descriptor. Where a growth is refused it may be added in part.
+    #[inline(always)]
+    pub(crate) fn grow(&mut self, alloc: Global, item: &[u8]) -> Result<(), AllocError>
         requires work { InWork self.old }
         requires fine { fault_at self.old item.now ≡ None }
         requires whole { is_whole item.now ≡ true }
         ensures ok { OnOk result (self.new ≡ past self.old item.now) }
-        ensures err { IfErr result (IsWanting (place_of self.old)) }
+        ensures err { OnErr result (place_of self.new ≡ place_of self.old) }
         ensures start { IsStart self.new }
     {
         match &mut self.tree {
             None => {
-                let Ok(c) = read_configuration(alloc, item) else {
-                    return Err(out_of_memory(0));
-                };
+                let c = read_configuration(alloc, item)?;
                 self.total = total_length(item);
                 self.place = item.len();
                 self.tree = Some(c);
             }
             Some(c) => {
-                let Ok(()) = attach(alloc, c, item[1], &item[2..]) else {
-                    return Err(out_of_memory(self.place));
-                };
+                attach(alloc, c, item[1], &item[2..])?;
                 self.place += item.len();
             }
         }

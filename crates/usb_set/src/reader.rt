@@ -114,8 +114,8 @@ impl Reader {
             keep(&mut self.current, bytes);
             return Step::Cut;
         };
-        if let Err(fault) = self.partial.grow(self.alloc, item) {
-            return Step::Refused(fault);
+        if self.partial.grow(self.alloc, item).is_err() {
+            return Step::Refused(self.partial.out_of_memory());
         }
         Step::Took(item.len())
     }
@@ -138,8 +138,8 @@ impl Reader {
         }
         let grown = self.partial.grow(self.alloc, self.current.as_slice());
         self.current.clear();
-        if let Err(fault) = grown {
-            return Step::Refused(fault);
+        if grown.is_err() {
+            return Step::Refused(self.partial.out_of_memory());
         }
         Step::Took(count)
     }

@@ -2,7 +2,7 @@ use Rattle.std.proofs.Common.{◌≡◌, ◌-◌, min, get_or, inl, ◌<◌, ◌
 use Rattle.usb_set.specs.inside.Reading.{Reading, first_byte}
 use Rattle.usb_set.specs.inside.Stepping.{InWork, GoesOn, Steps, current_of, fault_at, past, with_current}
 use Rattle.usb_set.specs.declared.reader.Step.TheVariants.{Took, Cut}
-use Rattle.usb_set.proofs.Stepping.{start_on, first_is, first_stays_first, on_short, work_of, step_refused, step_cut, step_took, wants_here, takes_all, ends_here, current_with}
+use Rattle.usb_set.proofs.Stepping.{wanting_still, on_ok, first_is, first_stays_first, on_short, work_of, step_refused, step_cut, step_took, wants_here, takes_all, ends_here, current_with}
 use Rattle.usb_set.proofs.reader.Reader.step_in_buffer.Goals as goal
 
 in_work : (old p : Reading) (current : List ℕ) → with_current p current ≡ old → InWork old → InWork p
@@ -36,18 +36,8 @@ returns-then-len c =
       first_stays_first c.self.inside.current.items c.args.bytes.now (some_current c.args.self.now c.self.inside.partial c.self.inside.current.items c.self.view_is c.requires.work c.requires.some),
     )))
 
-pub invariant_of-self-in-Err : goal.invariant_of-self-in-Err
-invariant_of-self-in-Err c =
-    let P : List ℕ → Type 0 = λ z. GoesOn (with_current c.grow-grown.new.self z) in
-    subst P (sym c.clear-2.ensures) (start_on c.grow-grown.new.self c.grow-grown.ensures.start)
-
-pub invariant_of-self-2 : goal.invariant_of-self-2
-invariant_of-self-2 c =
-    let P : List ℕ → Type 0 = λ z. GoesOn (with_current c.grow-grown.new.self z) in
-    subst P (sym c.clear-2.ensures) (start_on c.grow-grown.new.self c.grow-grown.ensures.start)
-
-pub returns-in-Err : goal.returns-in-Err
-returns-in-Err c =
+pub returns-then-is_err : goal.returns-then-is_err
+returns-then-is_err c =
     let some = some_current c.args.self.now c.self.inside.partial c.self.inside.current.items c.self.view_is c.requires.work c.requires.some in
     let on : GoesOn (with_current c.self.inside.partial c.self.inside.current.items) = c.self.invariant in
     let kept : c.keep.new.current.items ≡ c.self.inside.current.items ++ take c.min-count.result c.args.bytes.now = c.keep.ensures in
@@ -55,7 +45,7 @@ returns-in-Err c =
     let ends = ends_here c.self.inside.current.items c.args.bytes.now c.from-len.result c.min-count.result (c.min-count.ensures ∙ ap (λ n. min (c.from-len.result - n) (length c.args.bytes.now)) c.len.ensures.value) len_is some
     (on_short c.self.inside.partial c.self.inside.current.items (in_work c.args.self.now c.self.inside.partial c.self.inside.current.items c.self.view_is c.requires.work) on).0
     (λ lt. omega (arith, ap length kept, c.len-2.ensures.value, c.if-len.false, lt)) in
-    inl (wants_here c.args.self.now c.self.inside.partial c.self.inside.current.items c.args.bytes.now c.min-count.result c.in-Err.fault c.self.view_is c.requires.work ends.0 ends.1 ends.2 c.in-Err.ensures.err)
+    inl (wants_here c.args.self.now c.self.inside.partial c.self.inside.current.items c.args.bytes.now c.min-count.result c.out_of_memory.result c.self.view_is c.requires.work ends.0 ends.1 ends.2 (wanting_still c.self.inside.partial c.grow-grown.new.self c.grow-grown.result c.out_of_memory.result (sym c.is_err.ensures.value ∙ c.if-is_err.true) c.grow-grown.ensures.err c.out_of_memory.ensures))
 
 pub returns : goal.returns
 returns c =
@@ -70,4 +60,4 @@ returns c =
     subst P (sym c.clear-2.ensures)
     (step_took c.args.self.now c.self.inside.partial c.grow-grown.new.self c.self.inside.current.items c.args.bytes.now c.min-count.result c.self.view_is c.requires.work
     (ap (fault_at c.self.inside.partial) (sym (c.as_slice-2.ensures.value ∙ kept)) ∙ sym c.in_default.ensures) ends.0 ends.1 ends.2
-    (c.in_default-grown.ensures.ok ∙ ap (past c.self.inside.partial) (c.as_slice-3.ensures.value ∙ kept)) c.grow-grown.ensures.start)
+    (on_ok c.grow-grown.result _ (sym c.is_err.ensures.value ∙ c.if-is_err.false) c.grow-grown.ensures.ok ∙ ap (past c.self.inside.partial) (c.as_slice-3.ensures.value ∙ kept)) c.grow-grown.ensures.start)

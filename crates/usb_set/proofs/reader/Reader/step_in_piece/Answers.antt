@@ -4,7 +4,7 @@ use Rattle.usb_set.specs.Faults.{is_whole}
 use Rattle.usb_set.specs.inside.Reading.{Reading, first_byte}
 use Rattle.usb_set.specs.inside.Stepping.{InWork, GoesOn, Steps, current_of, fault_at, past, with_current}
 use Rattle.usb_set.specs.declared.reader.Step.TheVariants.{Took, Cut}
-use Rattle.usb_set.proofs.Stepping.{work_of, current_with, start_on, step_refused, step_cut, step_took, wants_here, front_taken, whole_long, fault_front}
+use Rattle.usb_set.proofs.Stepping.{wanting_still, on_ok, work_of, current_with, step_refused, step_cut, step_took, wants_here, front_taken, whole_long, fault_front}
 use Rattle.usb_set.proofs.reader.Reader.step_in_piece.Goals as goal
 
 -- no byte of the descriptor in work was there
@@ -29,30 +29,18 @@ returns-in_default-split_descriptor c =
     (ap (λ (z : List ℕ). fault_at c.self.inside.partial (z ++ c.args.bytes.now)) none ∙ sym c.in_default.ensures)
     (let S : List ℕ → Type 0 = λ z. length (z ++ c.args.bytes.now) < first_byte (z ++ c.args.bytes.now) in subst S (sym none) c.in_default-split_descriptor.ensures.none))
 
-pub invariant_of-self-in-Err : goal.invariant_of-self-in-Err
-invariant_of-self-in-Err c =
-    let none : c.self.inside.current.items ≡ [] = nothing c.args.self.now c.self.inside.partial c.self.inside.current.items c.self.view_is c.requires.work c.requires.empty in
-    let P : List ℕ → Type 0 = λ z. GoesOn (with_current c.grow.new.self z) in
-    subst P (sym none) (start_on c.grow.new.self c.grow.ensures.start)
-
-pub returns-in-Err : goal.returns-in-Err
-returns-in-Err c =
+pub returns-then-is_err : goal.returns-then-is_err
+returns-then-is_err c =
     let none : c.self.inside.current.items ≡ [] = nothing c.args.self.now c.self.inside.partial c.self.inside.current.items c.self.view_is c.requires.work c.requires.empty in
     let parts : c.args.bytes.now ≡ c.in-Some-split_descriptor.item.now ++ c.in-Some-split_descriptor.field-0-1.now = c.in-Some-split_descriptor.ensures.some.parts in
     let front : take (length c.in-Some-split_descriptor.item.now) c.args.bytes.now ≡ c.in-Some-split_descriptor.item.now =
     ap (take (length c.in-Some-split_descriptor.item.now)) parts ∙ front_taken c.in-Some-split_descriptor.item.now c.in-Some-split_descriptor.field-0-1.now in
     let all : c.self.inside.current.items ++ take (length c.in-Some-split_descriptor.item.now) c.args.bytes.now ≡ c.in-Some-split_descriptor.item.now =
     ap (λ (z : List ℕ). z ++ take (length c.in-Some-split_descriptor.item.now) c.args.bytes.now) none ∙ front in
-    inl (wants_here c.args.self.now c.self.inside.partial c.self.inside.current.items c.args.bytes.now (length c.in-Some-split_descriptor.item.now) c.in-Err.fault c.self.view_is c.requires.work
+    inl (wants_here c.args.self.now c.self.inside.partial c.self.inside.current.items c.args.bytes.now (length c.in-Some-split_descriptor.item.now) c.out_of_memory.result c.self.view_is c.requires.work
     (ap is_whole all ∙ c.in-Some-split_descriptor.ensures.some.whole)
     (omega (arith, ap length parts, length-append c.in-Some-split_descriptor.item.now c.in-Some-split_descriptor.field-0-1.now))
-    (whole_long c.in-Some-split_descriptor.item.now c.in-Some-split_descriptor.ensures.some.whole) c.in-Err.ensures.err)
-
-pub invariant_of-self-2 : goal.invariant_of-self-2
-invariant_of-self-2 c =
-    let none : c.self.inside.current.items ≡ [] = nothing c.args.self.now c.self.inside.partial c.self.inside.current.items c.self.view_is c.requires.work c.requires.empty in
-    let P : List ℕ → Type 0 = λ z. GoesOn (with_current c.grow.new.self z) in
-    subst P (sym none) (start_on c.grow.new.self c.grow.ensures.start)
+    (whole_long c.in-Some-split_descriptor.item.now c.in-Some-split_descriptor.ensures.some.whole) (wanting_still c.self.inside.partial c.grow.new.self c.grow.result c.out_of_memory.result (sym c.is_err.ensures.value ∙ c.if-is_err.true) c.grow.ensures.err c.out_of_memory.ensures))
 
 pub returns : goal.returns
 returns c =
@@ -68,4 +56,4 @@ returns c =
     (ap (fault_at c.self.inside.partial) all ∙ fault_front c.self.inside.partial c.in-Some-split_descriptor.item.now c.in-Some-split_descriptor.field-0-1.now (sym (ap (fault_at c.self.inside.partial) parts) ∙ sym c.in_default.ensures)) (ap is_whole all ∙ c.in-Some-split_descriptor.ensures.some.whole)
     (omega (arith, ap length parts, length-append c.in-Some-split_descriptor.item.now c.in-Some-split_descriptor.field-0-1.now))
     (whole_long c.in-Some-split_descriptor.item.now c.in-Some-split_descriptor.ensures.some.whole)
-    (c.in_default-grow.ensures.ok ∙ ap (past c.self.inside.partial) (sym all)) c.grow.ensures.start)
+    (on_ok c.grow.result _ (sym c.is_err.ensures.value ∙ c.if-is_err.false) c.grow.ensures.ok ∙ ap (past c.self.inside.partial) (sym all)) c.grow.ensures.start)
