@@ -12,6 +12,12 @@ use usb_fields::Speed;
 use usb_file_data::{DescriptorFile, Strings, named};
 
 /// The descriptors of a device, checked, and encoded once.
+///
+/// ```rust
+/// let file = read_file(rt.alloc(), &bytes)?;
+/// let description = Description::new(rt.alloc(), file, Speed::Full)?;
+/// assert_eq!(rt; description.speed(), Speed::Full);
+/// ```
 #[derive(Drop)]
 pub struct Description {
     file: DescriptorFile,

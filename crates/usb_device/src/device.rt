@@ -11,6 +11,17 @@ use usb_fields::{Answer, Transaction};
 /// A device on the bus: it answers each transaction as USB 2.0 says, by its description. It takes no
 /// memory: the bytes of an [`Answer::Data`] are lent from the description, or from the two bytes that a
 /// device keeps for a status.
+///
+/// ```rust
+/// // GET_DESCRIPTOR of the first 8 bytes of the device descriptor.
+/// let mut device = Device::new(&description);
+/// let setup = Stage::Setup([0x80, 6, 0, 1, 0, 0, 8, 0]);
+/// assert_eq!(rt; device.serve(&Transaction { address: 0, stage: setup }, true), Answer::Ack);
+/// let first = [0x12, 1, 0x10, 1, 0, 0, 0, 0x40];
+/// let packet = device.serve(&Transaction { address: 0, stage: Stage::In }, true);
+/// assert_eq!(rt; packet, Answer::Data(Toggle::Data1, &first));
+/// device.acked();
+/// ```
 #[derive(Drop)]
 pub struct Device<'d> {
     description: &'d Description,

@@ -1,4 +1,16 @@
-//! The device end.
+//! A USB 2.0 device made of a descriptor file: it answers each transaction on endpoint zero as chapter 9 says.
+//!
+//! A [`Description`] is made of the descriptors and a speed, and encodes each descriptor once. A [`Device`]
+//! borrows it: [`Device::serve`] answers a transaction, and lends what it sends from the description, so that a
+//! device takes no memory and can't fail. [`Device::acked`] tells it that the host acknowledged a data packet,
+//! and [`Device::state`] what it keeps between requests.
+//!
+//! - Which descriptors make a device is `specs/Accepted.antt`.
+//! - What comes of each request is `specs/Requests.antt`, a definition for each row of the table, over
+//!   `specs/States.antt` and `specs/Descriptors.antt`.
+//! - How a device goes through a control transfer is `specs/Step.antt`, whatever the table is.
+//! - What only the functions here cite stands in `specs/inside/`: the code has an offset and a toggle where the
+//!   definition has a list of packets.
 #![tactic(auto)]
 
 mod accepting;
