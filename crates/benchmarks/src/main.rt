@@ -1,10 +1,12 @@
-//! Decodes, encodes and lists one configuration set many times over, and prints how long that took.
+//! Does one kind of work on a configuration set, or on a descriptor file of such sets, many times over, and prints
+//! how long that took.
 //!
-//! The set is standard input. The first word says how many rounds (1 where there is none), and the
-//! second one limits the run to one kind of work, so that a tool can count its instructions. With no
-//! word each kind of work is done once and no time is printed.
+//! The set is standard input. The words are the count of rounds, the name of the work, and for files how many copies
+//! of the set one has (1 where the word is left out). With no word each kind of work is done once and no time is
+//! printed. `measure` runs this program on sets of all sizes, and has its instructions counted.
 #![tactic(auto)]
 
+mod files;
 mod work;
 
 use anyhow::{Context, Result, ensure};
@@ -14,21 +16,23 @@ use std::time::Instant;
 use std::{env, io};
 use work::Work;
 
-/// The most that a set can have.
+/// The most bytes that a set can have.
 const LONGEST: usize = 65_535;
 
 fn main(rt: HostRuntime) -> Result<()> {
     let alloc = rt.alloc();
     let words = env::args(&rt)?.collect::<Vec<String>>(alloc)?;
-    let bytes = read_set(&rt, alloc)?;
-    let only = words.get(2).map(|word| word.as_str());
-    match words.get(1) {
-        None => once(&rt, alloc, bytes.as_slice()),
-        Some(rounds) => {
-            let rounds = rounds.parse::<u32>().context("the count of rounds")?;
-            measure(&rt, alloc, bytes.as_slice(), rounds, only)
-        }
-    }
+    let set = read_set(&rt, alloc)?;
+    let Some(rounds) = words.get(1) else {
+        return once(&rt, alloc, &set);
+    };
+    let rounds = rounds.parse::<u32>().context("the count of rounds")?;
+    let name = words.get(2).context("the name of the work")?;
+    let copies = match words.get(3) {
+        None => 1,
+        Some(word) => word.parse::<u32>().context("the count of sets")?,
+    };
+    measure(&rt, alloc, &set, rounds, name.as_str(), copies)
 }
 
 /// All of standard input, up to the length of the longest set.
@@ -48,28 +52,27 @@ fn read_set(rt: &impl Input, alloc: Global) -> Result<Vec<u8>> {
 }
 
 /// Does each kind of work once, and says of how many bytes.
-fn once(rt: &impl Print, alloc: Global, bytes: &[u8]) -> Result<()> {
-    let count = bytes.len();
+fn once(rt: &impl Print, alloc: Global, set: &[u8]) -> Result<()> {
     for work in Work::ALL {
-        work.run(alloc, bytes, 1)?;
+        let count = work.run(alloc, set, 1, 1)?;
         println!(rt; "{work}: {count} bytes, done")?;
     }
     Ok(())
 }
 
-/// Does the work that is asked for, and says how long it took.
+/// Does the work that is asked for, and says how long it took, with what was made before the first round.
 fn measure<R: Print + Clock>(
     rt: &R,
     alloc: Global,
-    bytes: &[u8],
+    set: &[u8],
     rounds: u32,
-    only: Option<&str>,
+    name: &str,
+    copies: u32,
 ) -> Result<()> {
-    let count = bytes.len();
     for work in Work::ALL {
-        if only.is_none_or(|name| name == work.name()) {
+        if work.name() == name {
             let start = Instant::now(rt)?;
-            work.run(alloc, bytes, rounds)?;
+            let count = work.run(alloc, set, copies, rounds)?;
             let time = start.elapsed(rt)?;
             println!(rt;
                 "{work}: {count} bytes, {rounds} rounds, {} microseconds",

@@ -1,11 +1,12 @@
 //! What is measured.
+use crate::files::file_of;
 use anyhow::Result;
 use std::alloc::Global;
-use std::fmt;
-use usb_file::list_set;
-use usb_set::{Configuration, Decoder, encode};
+use std::{fmt, result};
+use usb_file::{list_set, read_file, write_file};
+use usb_set::{Configuration, Decoder, SetFault, encode};
 
-/// One kind of work on a configuration set. Making and freeing of what it makes are part of it.
+/// One kind of work. Making and freeing of what it makes are part of it.
 #[derive(Clone, Copy, PartialEq, Eq)]
 pub(crate) enum Work {
     DecodeWhole,
@@ -13,18 +14,22 @@ pub(crate) enum Work {
     DecodeBytes,
     Encode,
     List,
+    ReadFile,
+    WriteFile,
 }
 
 impl Work {
-    pub(crate) const ALL: [Work; 5] = [
+    pub(crate) const ALL: [Work; 7] = [
         Work::DecodeWhole,
         Work::DecodePieces,
         Work::DecodeBytes,
         Work::Encode,
         Work::List,
+        Work::ReadFile,
+        Work::WriteFile,
     ];
 
-    /// The word that asks for it alone.
+    /// The word that asks for it.
     pub(crate) fn name(self) -> &'static str {
         match self {
             Work::DecodeWhole => "decode-whole",
@@ -32,17 +37,22 @@ impl Work {
             Work::DecodeBytes => "decode-bytes",
             Work::Encode => "encode",
             Work::List => "list",
+            Work::ReadFile => "read-file",
+            Work::WriteFile => "write-file",
         }
     }
 
-    /// Does it so many times over.
-    pub(crate) fn run(self, alloc: Global, bytes: &[u8], rounds: u32) -> Result<()> {
+    /// Does it so many times over, and answers how many bytes it is of: those of the set, or those of a file with so
+    /// many copies of it.
+    pub(crate) fn run(self, alloc: Global, set: &[u8], copies: u32, rounds: u32) -> Result<usize> {
         match self {
-            Work::DecodeWhole => decode(alloc, bytes, rounds, bytes.len()),
-            Work::DecodePieces => decode(alloc, bytes, rounds, 64),
-            Work::DecodeBytes => decode(alloc, bytes, rounds, 1),
-            Work::Encode => encode_again(alloc, bytes, rounds),
-            Work::List => list(alloc, bytes, rounds),
+            Work::DecodeWhole => decode(alloc, set, rounds, set.len()),
+            Work::DecodePieces => decode(alloc, set, rounds, 64),
+            Work::DecodeBytes => decode(alloc, set, rounds, 1),
+            Work::Encode => encode_again(alloc, set, rounds),
+            Work::List => list(alloc, set, rounds),
+            Work::ReadFile => read_again(alloc, set, copies, rounds),
+            Work::WriteFile => write_again(alloc, set, copies, rounds),
         }
     }
 }
@@ -54,34 +64,51 @@ impl fmt::Display for Work {
 }
 
 /// The set, decoded from pieces of this length.
-fn read(alloc: Global, bytes: &[u8], length: usize) -> Result<Configuration> {
+fn read(alloc: Global, bytes: &[u8], length: usize) -> result::Result<Configuration, SetFault> {
     let mut decoder = Decoder::new(alloc);
     for piece in bytes.chunks(length.max(1)) {
         decoder.feed(piece)?;
     }
-    Ok(decoder.finish()?)
+    decoder.finish()
 }
 
-fn decode(alloc: Global, bytes: &[u8], rounds: u32, length: usize) -> Result<()> {
+fn decode(alloc: Global, bytes: &[u8], rounds: u32, length: usize) -> Result<usize> {
     for _ in 0..rounds {
         read(alloc, bytes, length)?;
     }
-    Ok(())
+    Ok(bytes.len())
 }
 
-fn encode_again(alloc: Global, bytes: &[u8], rounds: u32) -> Result<()> {
+fn encode_again(alloc: Global, bytes: &[u8], rounds: u32) -> Result<usize> {
     let set = read(alloc, bytes, bytes.len())?;
     for _ in 0..rounds {
         encode(alloc, &set)?;
     }
-    Ok(())
+    Ok(bytes.len())
 }
 
-fn list(alloc: Global, bytes: &[u8], rounds: u32) -> Result<()> {
+fn list(alloc: Global, bytes: &[u8], rounds: u32) -> Result<usize> {
     let set = read(alloc, bytes, bytes.len())?;
     for _ in 0..rounds {
         let mut text = Vec::new(alloc);
         list_set(alloc, &set, &mut text)?;
     }
-    Ok(())
+    Ok(bytes.len())
+}
+
+fn read_again(alloc: Global, set: &[u8], copies: u32, rounds: u32) -> Result<usize> {
+    let bytes = write_file(alloc, &file_of(alloc, set, copies)?)?;
+    for _ in 0..rounds {
+        read_file(alloc, &bytes)?;
+    }
+    Ok(bytes.len())
+}
+
+fn write_again(alloc: Global, set: &[u8], copies: u32, rounds: u32) -> Result<usize> {
+    let file = file_of(alloc, set, copies)?;
+    let mut count = 0;
+    for _ in 0..rounds {
+        count = write_file(alloc, &file)?.len();
+    }
+    Ok(count)
 }

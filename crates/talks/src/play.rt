@@ -139,12 +139,7 @@ fn load<H: Files + AllocGlobal>(rt: &H, word: &str) -> Result<DescriptorFile> {
 }
 
 /// Makes the device of the file that was named, at this speed.
-fn describe(
-    alloc: Global,
-    script: &mut Script,
-    line: usize,
-    word: &str,
-) -> Result<Option<Ending>> {
+fn describe(alloc: Global, script: &mut Script, line: usize, word: &str) -> Result<Option<Ending>> {
     let (Some(file), Some(speed)) = (script.file.take(), read_speed(word)) else {
         return Ok(Some(differs(alloc, line, "no file, or no speed")?));
     };
@@ -153,12 +148,7 @@ fn describe(
 }
 
 /// Makes the requests of the talk in work, and compares what came of them.
-fn finish(
-    alloc: Global,
-    script: &mut Script,
-    line: usize,
-    wanted: &str,
-) -> Result<Option<Ending>> {
+fn finish(alloc: Global, script: &mut Script, line: usize, wanted: &str) -> Result<Option<Ending>> {
     if script.asked.is_empty() {
         return Ok(None);
     }

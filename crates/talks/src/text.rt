@@ -65,7 +65,9 @@ pub fn end_text(alloc: Global, talk: &Talk) -> Result<String, AllocError> {
     let transactions = talk.transactions;
     let address = talk.state.address;
     let selected = talk.state.selected;
-    let text = format!(in alloc; "{transactions} transactions, address {address}, configuration {selected}")?;
+    let text = format!(in alloc;
+        "{transactions} transactions, address {address}, configuration {selected}"
+    )?;
     match talk.stopped {
         None => Ok(text),
         Some(why) => format!(in alloc; "{why}, {text}"),

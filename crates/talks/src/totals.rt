@@ -58,7 +58,10 @@ pub fn totals_text(alloc: Global) -> Result<String> {
 }
 
 fn line(alloc: Global, naks: u16, t: Totals) -> Result<String, AllocError> {
-    let ends = format!(in alloc; "{} ended, {} with no answer, {} busy", t.ended, t.no_answer, t.busy)?;
+    let ends = format!(in alloc;
+        "{} ended, {} with no answer, {} busy",
+        t.ended, t.no_answer, t.busy
+    )?;
     let sums = format!(in alloc; "{} transactions, {} replies", t.transactions, t.replies)?;
     let states = format!(in alloc; "{} at address 5, {} configured", t.addressed, t.configured)?;
     format!(in alloc; "naks {naks}: {ends}, {sums}, {states}\n")

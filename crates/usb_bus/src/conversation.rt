@@ -10,10 +10,11 @@ use crate::exchange::{Ended, transfer_over};
 use crate::fate::Fate;
 use crate::reply::Reply;
 use crate::talk::Talk;
-use std::alloc::{AllocError, Global};
+use std::alloc::Global;
 use usb_base::Sequence;
 use usb_device::{Description, Device};
 use usb_fields::Setup;
+use usb_file_data::NoMemory;
 use usb_host::{Transfer, Why};
 
 /// bRequest SET_ADDRESS (USB 2.0, table 9-4).
@@ -73,7 +74,7 @@ pub fn converse(
     naks: u16,
     requests: &[Setup],
     fates: &[Fate],
-) -> Result<Talk, AllocError>
+) -> Result<Talk, NoMemory>
     ensures run { IfOk result (IsTalkRun d.now.file naks requests.now fates.now) }
 
     // The replies are those of the device's table, up to where the talk stopped, and so is the state.

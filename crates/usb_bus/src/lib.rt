@@ -16,3 +16,4 @@ pub use conversation::converse;
 pub use fate::Fate;
 pub use reply::Reply;
 pub use talk::Talk;
+pub use usb_file_data::NoMemory;

@@ -4,6 +4,7 @@ pub mod WholeSets
 pub mod Units
 pub mod Fronts
 pub mod Next
+pub mod Longest
 pub mod Ends
 pub mod SetFaults
 pub mod Rows

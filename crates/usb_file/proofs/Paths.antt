@@ -24,6 +24,7 @@ use Rattle.usb_file_data.specs.File.{whole_set, sets_bytes, other_bytes, texts_b
 use Rattle.usb_base.specs.Bytes.{AreBytes}
 use Rattle.usb_file.proofs.Lists.{bytes_before, bytes_behind, length-push}
 use Rattle.usb_file.specs.inside.PartLaws.{PartLaws}
+use Rattle.usb_file.proofs.WholeSets.{no_some}
 use Rattle.usb_file.proofs.Fronts.{due_main, due_other, due_qualifier, due_strings}
 use Rattle.usb_file.proofs.Unique.{PartIs, IsSet, one_part, part_or_fault, append_same}
 use Rattle.usb_file.specs.Front.{StringsFollow, IsInOrder, IsFront, Splits, AllSets}
@@ -80,10 +81,6 @@ meet laws (suc n) (suc m) f r g s h t x y i j =
     meet laws n m x.next x.left g s h t x.onward onward i j
 
 -- ---- sets on the path
-
-no_some : {A : Type 0} (b : Bool) (x : A) (o : Option A) → is_some (cond b (Some x) o) ≡ false → (b ≡ false) × (is_some o ≡ false)
-no_some true x o h = cc
-no_some false x o h = (refl, h)
 
 -- bytes of a set against which no reason stands
 set_layout : (c : Configuration) → has_no_layout c ≡ false → AreBytes (whole_set c) → Layout c (whole_set c)

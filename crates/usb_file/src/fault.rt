@@ -13,7 +13,7 @@ pub enum FileWhy {
     Device,
     /// The bytes of a configuration set are at fault.
     #[error("in a set, {0}")]
-    Set(SetWhy),
+    Set(#[source] SetWhy),
     /// A configuration set where an other-speed set is due, or the other way round.
     #[error("a set of the other kind")]
     SetKind,
@@ -62,6 +62,7 @@ pub struct FileFault {
     /// other fault that where the part starts.
     pub at: usize,
     /// What is wrong there.
+    #[source]
     pub why: FileWhy,
 }
 

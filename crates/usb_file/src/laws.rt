@@ -1,6 +1,6 @@
 //! What holds of files and faults, whoever reads the bytes. Each law is the contract of a function that
 //! does nothing.
-ghost use Rattle.std.specs.Prelude.{◌≡◌, ℕ, List};
+ghost use Rattle.std.specs.Prelude.{◌≡◌, ◌≤◌, ℕ, List, length};
 ghost use Rattle.usb_base.specs.Bytes.{AreBytes};
 ghost use Rattle.usb_file_data.specs.File.{File};
 ghost use Rattle.usb_file.specs.FileFaults.{FileFaulty};
@@ -19,6 +19,15 @@ pub fn one_file()
 {
     part_laws();
 }
+
+/// The most bytes that a file has: the device descriptor, 255 sets of either speed, the qualifier, the
+/// language list, and a string for each of 126 languages and 255 indices, each as long as it can be.
+pub const FILE_LIMIT: usize = 18 + 2 * 255 * 65_535 + 10 + 254 + 126 * 255 * 254;
+
+/// No file has more bytes than the limit.
+pub fn longest_file()
+    ensures { (f : DescriptorFile) (b : List ℕ) → File f b → length b ≤ FILE_LIMIT }
+{}
 
 /// Of all bytes exactly one holds: they are those of a file, or they show one fault at one place.
 pub fn one_answer()

@@ -19,6 +19,12 @@ use usb_set::{Sequence, SetKind};
 /// The file that the bytes are (USB 2.0, 9.4.3 and 9.6). Each set is read where it stands: the decoder is
 /// handed the bytes from the set's first one on.
 ///
+/// ```rust
+/// let file = read_file(alloc, bytes)?;
+/// println!(rt; "{} configurations", file.sets.len())?;
+/// assert_eq!(rt; write_file(alloc, &file)?.as_slice(), bytes);
+/// ```
+///
 /// # Errors
 ///
 /// The fault of the first part that is not there whole and right, at its place; or `Memory` where a part

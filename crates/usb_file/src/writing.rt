@@ -13,6 +13,11 @@ use usb_set::{Configuration, Sequence, encode};
 
 /// The bytes of a file: its parts one after another, each written once (USB 2.0, 9.4.3 and 9.6).
 ///
+/// ```rust
+/// let bytes = write_file(alloc, &file)?;
+/// assert_eq!(rt; read_file(alloc, &bytes)?, file);
+/// ```
+///
 /// # Errors
 ///
 /// `Count`, `Kind`, `Layout` or `Texts`, the first that holds, exactly where the file has no bytes;

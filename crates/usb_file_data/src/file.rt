@@ -4,7 +4,7 @@ use usb_set::{Configuration, Sequence};
 
 /// What a device is at its other speed: the qualifier, and the sets of that speed (USB 2.0, 9.6.2 and
 /// 9.6.4).
-#[derive(Clone, Debug, Drop, PartialEq, Eq)]
+#[derive(Clone, Debug, Drop, PartialEq, Eq, Hash)]
 pub struct Other {
     /// The device qualifier descriptor.
     pub qualifier: Qualifier,
@@ -14,7 +14,7 @@ pub struct Other {
 }
 
 /// The strings of a device (USB 2.0, 9.6.7).
-#[derive(Clone, Debug, Drop, PartialEq, Eq)]
+#[derive(Clone, Debug, Drop, PartialEq, Eq, Hash)]
 pub struct Strings {
     /// The language codes of string 0. In a file they are 1 to 126.
     pub languages: Sequence<u16>,
@@ -25,7 +25,7 @@ pub struct Strings {
 
 /// All descriptors of a device (USB 2.0, 9.4.3). A value need not have bytes: its counts, kinds and
 /// strings can contradict each other, and then [`write_refusal`](crate::write_refusal) says how.
-#[derive(Clone, Debug, Drop, PartialEq, Eq)]
+#[derive(Clone, Debug, Drop, PartialEq, Eq, Hash)]
 pub struct DescriptorFile {
     /// The device descriptor.
     pub device: DeviceDescriptor,

@@ -15,6 +15,12 @@ pub use std::alloc::AllocError as NoMemory;
 /// iManufacturer, iProduct or iSerialNumber of the device, or in iConfiguration, iInterface or iFunction
 /// of a set of either speed (USB 2.0, 9.6.1, 9.6.3, 9.6.5, and its ECN on interface associations).
 ///
+/// ```rust
+/// file.device.product_text = 2;
+/// file.device.serial_text = 1;
+/// assert_eq!(rt; named(alloc, &file)?.as_slice(), [1, 2].as_slice());
+/// ```
+///
 /// # Errors
 ///
 /// A growth was refused.

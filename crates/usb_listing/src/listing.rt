@@ -17,6 +17,15 @@ use usb_file_data::{DescriptorFile, Other};
 /// Writes the listing of the file: a line for each descriptor, in the order of the file. A file that has
 /// no bytes is listed too, as what it says.
 ///
+/// ```rust
+/// list(alloc, &file, &mut rt.stdout())?;
+/// // device 0110 00 00 00 40 1234 5678 0100 00 00 00 01
+/// // configuration 01 01 00 a0 32 -
+/// // interface 00 00 01 03 01 02 00 -
+/// // raw 21 10010001223400
+/// // endpoint 81 03 0004 0a -
+/// ```
+///
 /// # Errors
 ///
 /// `Write` where the writer failed, `Memory` where a growth was refused. A front of the listing is
@@ -35,7 +44,7 @@ fn list_file<W: Write>(page: &mut Page, f: &DescriptorFile, w: &mut W) -> Result
     ensures err { OnErr result (AppendsFront (W.contents w.old) (W.contents w.new) (page.old ++ file_lines f.now)) }
 {
     put_device(page, &f.device)?;
-    list_all(page, f.sets.as_slice(), w)?;
+    list_all(page, &f.sets, w)?;
     list_other(page, &f.other, w)?;
     list_strings(page, &f.strings, w)
 }
@@ -48,7 +57,7 @@ fn list_other<W: Write>(page: &mut Page, other: &Option<Other>, w: &mut W) -> Re
         None => Ok(()),
         Some(other) => {
             put_qualifier(page, &other.qualifier)?;
-            list_all(page, other.sets.as_slice(), w)
+            list_all(page, &other.sets, w)
         }
     }
 }

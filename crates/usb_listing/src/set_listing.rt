@@ -35,8 +35,8 @@ impl Listed for Configuration {
 
     fn list<W: Write>(&self, page: &mut Page, w: &mut W) -> Result<(), OutFault> {
         list_header(page, self, w)?;
-        list_all(page, self.extras.as_slice(), w)?;
-        list_all(page, self.settings.as_slice(), w)
+        list_all(page, &self.extras, w)?;
+        list_all(page, &self.settings, w)
     }
 }
 
@@ -55,8 +55,8 @@ impl Listed for Setting {
 
     fn list<W: Write>(&self, page: &mut Page, w: &mut W) -> Result<(), OutFault> {
         put_interface(page, self)?;
-        list_all(page, self.extras.as_slice(), w)?;
-        list_all(page, self.endpoints.as_slice(), w)?;
+        list_all(page, &self.extras, w)?;
+        list_all(page, &self.endpoints, w)?;
         page.pass_on(w)
     }
 }
@@ -68,7 +68,7 @@ impl Listed for Endpoint {
 
     fn list<W: Write>(&self, page: &mut Page, w: &mut W) -> Result<(), OutFault> {
         put_endpoint(page, self)?;
-        list_all(page, self.extras.as_slice(), w)?;
+        list_all(page, &self.extras, w)?;
         page.pass_on(w)
     }
 }
@@ -102,7 +102,7 @@ fn put_configuration(page: &mut Page, c: &Configuration) -> Result<(), AllocErro
     page.put_byte(c.text)?;
     page.put_byte(c.attributes)?;
     page.put_byte(c.power)?;
-    page.put_bytes(c.tail.as_slice())?;
+    page.put_bytes(&c.tail)?;
     page.end_line()
 }
 
@@ -126,7 +126,7 @@ fn put_interface(page: &mut Page, s: &Setting) -> Result<(), AllocError>
     page.put_byte(s.subclass)?;
     page.put_byte(s.protocol)?;
     page.put_byte(s.text)?;
-    page.put_bytes(s.tail.as_slice())?;
+    page.put_bytes(&s.tail)?;
     page.end_line()
 }
 
@@ -138,7 +138,7 @@ fn put_endpoint(page: &mut Page, e: &Endpoint) -> Result<(), AllocError>
     page.put_byte(e.attributes)?;
     page.put_number(e.max_packet)?;
     page.put_byte(e.interval)?;
-    page.put_bytes(e.tail.as_slice())?;
+    page.put_bytes(&e.tail)?;
     page.end_line()
 }
 
@@ -147,7 +147,7 @@ fn put_raw(page: &mut Page, raw: &Raw) -> Result<(), AllocError>
 {
     page.put_word("raw")?;
     page.put_byte(raw.kind)?;
-    page.put_bytes(raw.body.as_slice())?;
+    page.put_bytes(&raw.body)?;
     page.end_line()
 }
 
@@ -161,6 +161,6 @@ fn put_association(page: &mut Page, a: &Association) -> Result<(), AllocError>
     page.put_byte(a.subclass)?;
     page.put_byte(a.protocol)?;
     page.put_byte(a.text)?;
-    page.put_bytes(a.tail.as_slice())?;
+    page.put_bytes(&a.tail)?;
     page.end_line()
 }

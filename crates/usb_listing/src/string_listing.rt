@@ -26,8 +26,8 @@ pub(crate) fn list_strings<W: Write>(
     match strings {
         None => Ok(()),
         Some(strings) => {
-            put_languages(page, strings.languages.as_slice())?;
-            list_all(page, strings.texts.as_slice(), w)
+            put_languages(page, &strings.languages)?;
+            list_all(page, &strings.texts, w)
         }
     }
 }
@@ -38,7 +38,7 @@ impl Listed for Sequence<u16> {
     ghost lines = { string_line };
 
     fn list<W: Write>(&self, page: &mut Page, w: &mut W) -> Result<(), OutFault> {
-        put_string(page, self.as_slice())?;
+        put_string(page, &self)?;
         page.pass_on(w)
     }
 }

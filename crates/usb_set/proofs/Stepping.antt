@@ -11,7 +11,7 @@ use Rattle.usb_set.specs.declared.reader.Step.TheVariants.{Took, Cut, Refused}
 use Rattle.usb_set.specs.Faults.{Fault, is_whole, header_fault, total_of}
 use Rattle.usb_set.specs.inside.Reading.{Reading, first, later, whole, faulty, reads, goes_on, attach, has_setting, configuration_of, first_byte}
 use Rattle.usb_set.specs.inside.Stepping.{InWork, is_done, place_of, current_of, taken, with_current, partial_of, IsStart, GoesOn, header_at, item_at, fault_at, past, IsWanting, WantsHere, Steps}
-use Rattle.usb_set.proofs.ByteByByte.{reads-append, reads-faulty, waits_in, goes_through, first_fine, first_past, header_fault-front, first_stays, first_leaves, item_fine, item_past, item_fault-front, item_stays, item_leaves, later_waits, later_refuses, refuses_from, header_long, whole_length}
+use Rattle.usb_set.proofs.ByteByByte.{reads-append, reads-faulty, waits_in, goes_through, first_fine, first_past, header_fault-front, first_stays, first_leaves, item_fine, item_past, item_fault-front, item_stays, item_leaves, later_waits, later_refuses, refuses_from, header_long, header_settled, whole_length}
 use Rattle.usb_set.proofs.Stands.{header_within}
 
 -- ---- the fault that bytes show
@@ -280,3 +280,23 @@ on_err (Err x) P e h = h
 -- the place is still that of the descriptor
 pub wanting_still : {A E : Type 0} (p new : Reading) (r : Result A E) (fault : SetFault) → is_err r ≡ true → OnErr r (place_of new ≡ place_of p) → IsWanting (place_of new) fault → IsWanting (place_of p) fault
 wanting_still p new r fault e h w = (w.0 ∙ on_err r (place_of new ≡ place_of p) e h, w.1)
+
+-- ---- no fault lies behind the first four bytes
+
+settled_append : (p : Reading) (a b : List ℕ) → 4 ≤ length a → fault_at p a ≡ None → fault_at p (a ++ b) ≡ None
+settled_append (first c) a b n e = ap header_at (header_settled a b (no_header _ e) n)
+settled_append (later c total place d) [] b n e = absurd (omega arith)
+settled_append (later c total place d) (x ∷ []) b n e = absurd (omega arith)
+settled_append (later c total place d) (x ∷ y ∷ a) b n e = e
+settled_append (whole c place) a b n e = refl
+settled_append (faulty place why) a b n e = refl
+
+pub settled : (p : Reading) (b : List ℕ) (n : ℕ) → 4 ≤ n → n ≤ length b → fault_at p (take n b) ≡ None → fault_at p b ≡ None
+settled p b n four within e =
+    sym (ap (fault_at p) (take-append-drop n b)) ∙ settled_append p (take n b) (drop n b) (omega (arith, length-take-le n b within)) e
+
+pub on_fine : (p : Reading) (current : List ℕ) → InWork p → GoesOn (with_current p current) → fault_at p current ≡ None
+on_fine (first b) current w on = ap header_at on.0
+on_fine (later c total place b) current w on = ap (item_at place) on.0
+on_fine (whole c place) current w on = absurd w
+on_fine (faulty place why) current w on = absurd w

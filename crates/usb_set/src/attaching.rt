@@ -1,7 +1,7 @@
 //! The tree with one more descriptor.
 ghost use Rattle.std.specs.Prelude.{◌≡◌, ◌≤◌, ◌<◌, length, OnOk, IfOk};
 ghost use Rattle.usb_set.specs.WithoutAssociations.{association_of};
-ghost use Rattle.usb_set.specs.inside.Reading.{attach, configuration_of, endpoint_of, endpoint_with_extra, extra_of, set_with_extra, setting_of, setting_with_endpoint, setting_with_extra, with_last};
+ghost use Rattle.usb_set.specs.inside.Reading.{attach, configuration_of, endpoint_of, endpoint_with_extra, set_with_extra, set_with_setting, setting_of, setting_with_endpoint, setting_with_extra, with_last};
 
 use crate::tree::{Association, Configuration, Endpoint, Extra, Raw, SetKind, Setting};
 use std::alloc::{AllocError, Global};
@@ -41,12 +41,14 @@ pub(crate) fn read_configuration(alloc: Global, bytes: &[u8]) -> Result<Configur
     })
 }
 
-/// The setting of an interface descriptor's body.
-fn read_setting(alloc: Global, body: &[u8]) -> Result<Setting, AllocError>
+/// Adds the setting of an interface descriptor's body.
+#[inline(always)]
+fn add_setting(alloc: Global, c: &mut Configuration, body: &[u8]) -> Result<(), AllocError>
     requires { 7 ≤ length body.now }
-    ensures { IfOk result (λ s. s ≡ setting_of body.now) }
+    ensures { OnOk result (c.new ≡ set_with_setting (setting_of body.now) c.old) }
 {
-    Ok(Setting {
+    let tail = read_bytes(alloc, &body[7..])?;
+    c.settings.push(Setting {
         number: body[0],
         alternate: body[1],
         declared_endpoints: body[2],
@@ -54,10 +56,11 @@ fn read_setting(alloc: Global, body: &[u8]) -> Result<Setting, AllocError>
         subclass: body[4],
         protocol: body[5],
         text: body[6],
-        tail: read_bytes(alloc, &body[7..])?,
+        tail,
         extras: Sequence::new(alloc),
         endpoints: Sequence::new(alloc),
-    })
+    })?;
+    Ok(())
 }
 
 /// The endpoint of an endpoint descriptor's body.
@@ -91,19 +94,6 @@ fn read_association(alloc: Global, body: &[u8]) -> Result<Association, AllocErro
     })
 }
 
-/// The extra of a descriptor that is neither an interface's nor an endpoint's.
-fn read_extra(alloc: Global, kind: u8, body: &[u8]) -> Result<Extra, AllocError>
-    requires { kind ≡ 11 → 6 ≤ length body.now }
-    ensures { IfOk result (λ x. x ≡ extra_of (record { kind = kind; body = body.now })) }
-{
-    if kind == 11 {
-        let association = read_association(alloc, body)?;
-        return Ok(Extra::Association(association));
-    }
-    let body = read_bytes(alloc, body)?;
-    Ok(Extra::Raw(Raw { kind, body }))
-}
-
 #[tactic(auto, unfolding(crate::specs::inside::Reading::endpoint_with_extra))]
 fn add_to_endpoint(e: &mut Endpoint, extra: Extra) -> Result<(), AllocError>
     ensures { OnOk result (e.new ≡ endpoint_with_extra extra e.old) }
@@ -121,6 +111,7 @@ fn add_endpoint(s: &mut Setting, endpoint: Endpoint) -> Result<(), AllocError>
 }
 
 #[tactic(auto, using(crate::proofs::Last::with_last_is), unfolding(crate::specs::inside::Reading::setting_with_extra))]
+#[inline(always)]
 fn add_to_setting(s: &mut Setting, extra: Extra) -> Result<(), AllocError>
     ensures { OnOk result (s.new ≡ setting_with_extra extra s.old) }
 {
@@ -134,6 +125,7 @@ fn add_to_setting(s: &mut Setting, extra: Extra) -> Result<(), AllocError>
 }
 
 #[tactic(auto, using(crate::proofs::Last::with_last_is), unfolding(crate::specs::inside::Reading::set_with_extra))]
+#[inline(always)]
 fn add_to_set(c: &mut Configuration, extra: Extra) -> Result<(), AllocError>
     ensures { OnOk result (c.new ≡ set_with_extra extra c.old) }
 {
@@ -148,6 +140,7 @@ fn add_to_set(c: &mut Configuration, extra: Extra) -> Result<(), AllocError>
 
 /// Adds a whole descriptor, which belongs to the nearest typed one before it.
 #[tactic(auto, using(crate::proofs::Last::with_last_is), unfolding(crate::specs::inside::Reading::attach))]
+#[inline(always)]
 pub(crate) fn attach(
     alloc: Global,
     c: &mut Configuration,
@@ -162,17 +155,20 @@ pub(crate) fn attach(
 {
     match kind {
         4 => {
-            let setting = read_setting(alloc, body)?;
-            c.settings.push(setting)?;
+            add_setting(alloc, c, body)?;
         }
         5 => {
             let endpoint = read_endpoint(alloc, body)?;
             let count = c.settings.len();
             add_endpoint(c.settings.at_mut(count - 1), endpoint)?;
         }
+        11 => {
+            let association = read_association(alloc, body)?;
+            add_to_set(c, Extra::Association(association))?;
+        }
         _ => {
-            let extra = read_extra(alloc, kind, body)?;
-            add_to_set(c, extra)?;
+            let body = read_bytes(alloc, body)?;
+            add_to_set(c, Extra::Raw(Raw { kind, body }))?;
         }
     }
     Ok(())

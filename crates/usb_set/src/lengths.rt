@@ -1,4 +1,5 @@
-//! One pass over a set, which judges its descriptors and counts their bytes.
+//! One pass over a set, which judges its descriptors and counts their bytes. As one loop nest it is the quicker, so
+//! that its parts are inlined.
 ghost use Rattle.std.specs.Prelude.{◌≡◌, ◌+◌, ◌≤◌, length, false, nat_lt};
 ghost use Rattle.std.specs.List.{flat_map, list_any};
 ghost use Rattle.usb_set.specs.Layout.{has_long_descriptor, has_typed_raw, is_typed_raw, set_bytes};
@@ -12,6 +13,7 @@ use crate::tree::{Configuration, Endpoint, Extra, Setting};
 pub(crate) const TOO_LONG: usize = 65536;
 
 /// The count after a descriptor of `fixed` bytes and a tail, which may have `limit` bytes.
+#[inline(always)]
 fn descriptor_len(start: usize, fixed: usize, tail: usize, limit: usize) -> usize
     requires start { start ≤ 65536 }
     requires fixed { fixed ≤ 9 }
@@ -25,6 +27,7 @@ fn descriptor_len(start: usize, fixed: usize, tail: usize, limit: usize) -> usiz
     }
 }
 
+#[inline(always)]
 fn extra_len(start: usize, extra: &Extra) -> usize
     requires { start ≤ 65536 }
     ensures { result ≡ measured start (is_extra_long extra.now) (is_typed_raw extra.now) (length (extra_bytes extra.now)) }
@@ -41,6 +44,7 @@ fn extra_len(start: usize, extra: &Extra) -> usize
     }
 }
 
+#[inline(always)]
 #[tactic(auto, using(crate::proofs::Measures::measured_then))]
 fn extras_len(start: usize, extras: &[Extra]) -> usize
     requires { start ≤ 65536 }
@@ -53,6 +57,7 @@ fn extras_len(start: usize, extras: &[Extra]) -> usize
     total
 }
 
+#[inline(always)]
 #[tactic(auto, using(crate::proofs::Measures::measured_then))]
 fn endpoint_len(start: usize, e: &Endpoint) -> usize
     requires { start ≤ 65536 }
@@ -61,6 +66,7 @@ fn endpoint_len(start: usize, e: &Endpoint) -> usize
     extras_len(descriptor_len(start, 7, e.tail.len(), 248), &e.extras)
 }
 
+#[inline(always)]
 #[tactic(auto, using(crate::proofs::Measures::measured_then))]
 fn endpoints_len(start: usize, endpoints: &[Endpoint]) -> usize
     requires { start ≤ 65536 }
@@ -73,6 +79,7 @@ fn endpoints_len(start: usize, endpoints: &[Endpoint]) -> usize
     total
 }
 
+#[inline(always)]
 #[tactic(auto, using(crate::proofs::Measures::measured_then))]
 fn setting_len(start: usize, s: &Setting) -> usize
     requires { start ≤ 65536 }
@@ -82,6 +89,7 @@ fn setting_len(start: usize, s: &Setting) -> usize
     endpoints_len(extras_len(head, &s.extras), &s.endpoints)
 }
 
+#[inline(always)]
 #[tactic(auto, using(crate::proofs::Measures::measured_then))]
 fn settings_len(start: usize, settings: &[Setting]) -> usize
     requires { start ≤ 65536 }

@@ -2,8 +2,8 @@
 //!
 //! A device hands out each of its configurations as one run of bytes, the configuration descriptor
 //! first, then interface, endpoint, class and vendor descriptors (USB 2.0, 9.4.3 and 9.6.3 to 9.6.6).
-//! This crate reads such a set in pieces of any length ([`Decoder`]), keeps each of its bytes in
-//! plain data ([`Configuration`]), and writes it again ([`encode`]).
+//! This crate reads such a set in pieces of any length ([`Decoder`]) or from one slice ([`read_set`]),
+//! keeps each of its bytes in plain data ([`Configuration`]), and writes it again ([`encode`]).
 //!
 //! - What the bytes of a set are is `specs/Layout.antt`; what is wrong with bytes, and where, is
 //!   `specs/Faults.antt`. The decoder's answers are those of these two, whatever the pieces.

@@ -1,5 +1,5 @@
 //! A set of which some descriptors were read.
-ghost use Rattle.std.specs.Prelude.{◌≡◌, ◌≤◌, [], true, None, OnOk, OnErr};
+ghost use Rattle.std.specs.Prelude.{◌≡◌, ◌≤◌, [], length, take, true, None, OnOk, OnErr};
 ghost use Rattle.usb_set.specs.Faults.{is_whole};
 ghost use Rattle.usb_set.specs.inside.Reading.{first};
 ghost use Rattle.usb_set.specs.inside.Stepping.{InWork, IsStart, IsWanting, fault_at, is_done, past, place_of, whole_tree};
@@ -92,6 +92,20 @@ impl Partial {
                 })
             }
         }
+    }
+
+    /// The same where the first of the bytes, so many, show no fault.
+    pub(crate) fn fault_in_more(&self, before: usize, bytes: &[u8]) -> Option<SetFault>
+        requires work { InWork self.now }
+        requires within { before ≤ length bytes.now }
+        requires fine { fault_at self.now (take before bytes.now) ≡ None }
+        ensures { result ≡ fault_at self.now bytes.now }
+    {
+        // No fault lies behind wTotalLength.
+        if before >= 4 {
+            return None;
+        }
+        self.fault_in(bytes)
     }
 
     /// Adds a whole descriptor. Where a growth is refused it may be added in part.

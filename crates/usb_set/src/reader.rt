@@ -48,7 +48,12 @@ fn keep(current: &mut ArrayVec<u8, 255>, bytes: &[u8])
     requires { array_vec_len current.old + length bytes.now ≤ 255 }
     ensures { current.new.items ≡ current.old.items ++ bytes.now }
 {
-    let _kept = current.try_extend_from_slice(bytes);
+    match bytes {
+        [byte] => current.push(*byte),
+        _ => {
+            let _kept = current.try_extend_from_slice(bytes);
+        }
+    }
 }
 
 impl Reader {
@@ -127,9 +132,10 @@ impl Reader {
         ensures { Steps self.old bytes.now result self.new }
     {
         let len = usize::from(self.current.as_slice()[0]);
-        let count = (len - self.current.len()).min(bytes.len());
+        let before = self.current.len();
+        let count = (len - before).min(bytes.len());
         keep(&mut self.current, &bytes[..count]);
-        if let Some(fault) = self.partial.fault_in(self.current.as_slice()) {
+        if let Some(fault) = self.partial.fault_in_more(before, self.current.as_slice()) {
             self.current.clear();
             return Step::Refused(fault);
         }

@@ -1,4 +1,5 @@
-//! Each part of a set, written into a buffer that has room for it.
+//! Each part of a set, written into a buffer that has room for it. As one loop nest it is the quicker, so that the
+//! parts are inlined.
 ghost use Rattle.std.specs.Prelude.{◌≡◌, ◌≤◌, length, false};
 ghost use Rattle.std.specs.List.{flat_map, list_any};
 ghost use Rattle.usb_set.specs.Descriptors.{association_descriptor, configuration_descriptor, descriptor_bytes, endpoint_descriptor, interface_descriptor, raw_descriptor, type_number};
@@ -9,6 +10,7 @@ ghost use Rattle.usb_set.specs.inside.Writing.{HasRoom, Puts};
 use crate::tree::{Association, Configuration, Endpoint, Extra, Raw, SetKind, Setting};
 
 /// Writes the bytes at this place. Each function here answers where what it wrote ends.
+#[inline(always)]
 fn put_bytes(out: &mut [u8], at: usize, bytes: &[u8]) -> usize
     requires { HasRoom out.old at bytes.now }
     ensures { Puts out.old at bytes.now out.new result }
@@ -18,6 +20,7 @@ fn put_bytes(out: &mut [u8], at: usize, bytes: &[u8]) -> usize
     end
 }
 
+#[inline(always)]
 fn put_raw(out: &mut [u8], at: usize, raw: &Raw) -> usize
     requires short { length raw.now.body ≤ 253 }
     requires room { HasRoom out.old at (descriptor_bytes (raw_descriptor raw.now)) }
@@ -28,6 +31,7 @@ fn put_raw(out: &mut [u8], at: usize, raw: &Raw) -> usize
     put_bytes(out, tail_at, &raw.body)
 }
 
+#[inline(always)]
 fn put_association(out: &mut [u8], at: usize, a: &Association) -> usize
     requires short { length a.now.tail ≤ 247 }
     requires room { HasRoom out.old at (descriptor_bytes (association_descriptor a.now)) }
@@ -47,6 +51,7 @@ fn put_association(out: &mut [u8], at: usize, a: &Association) -> usize
     put_bytes(out, tail_at, &a.tail)
 }
 
+#[inline(always)]
 fn put_extra(out: &mut [u8], at: usize, extra: &Extra) -> usize
     requires short { is_extra_long extra.now ≡ false }
     requires room { HasRoom out.old at (extra_bytes extra.now) }
@@ -58,6 +63,7 @@ fn put_extra(out: &mut [u8], at: usize, extra: &Extra) -> usize
     }
 }
 
+#[inline(always)]
 #[tactic(auto, using(crate::proofs::Tests::none_at))]
 fn put_extras(out: &mut [u8], at: usize, extras: &[Extra]) -> usize
     requires short { list_any is_extra_long extras.now ≡ false }
@@ -71,6 +77,7 @@ fn put_extras(out: &mut [u8], at: usize, extras: &[Extra]) -> usize
     end
 }
 
+#[inline(always)]
 fn put_endpoint_descriptor(out: &mut [u8], at: usize, e: &Endpoint) -> usize
     requires short { length e.now.tail ≤ 248 }
     requires room { HasRoom out.old at (descriptor_bytes (endpoint_descriptor e.now)) }
@@ -90,6 +97,7 @@ fn put_endpoint_descriptor(out: &mut [u8], at: usize, e: &Endpoint) -> usize
     put_bytes(out, tail_at, &e.tail)
 }
 
+#[inline(always)]
 fn put_endpoint(out: &mut [u8], at: usize, e: &Endpoint) -> usize
     requires short { is_endpoint_long e.now ≡ false }
     requires room { HasRoom out.old at (endpoint_bytes e.now) }
@@ -99,6 +107,7 @@ fn put_endpoint(out: &mut [u8], at: usize, e: &Endpoint) -> usize
     put_extras(out, extras_at, &e.extras)
 }
 
+#[inline(always)]
 #[tactic(auto, using(crate::proofs::Tests::none_at))]
 fn put_endpoints(out: &mut [u8], at: usize, endpoints: &[Endpoint]) -> usize
     requires short { list_any is_endpoint_long endpoints.now ≡ false }
@@ -112,6 +121,7 @@ fn put_endpoints(out: &mut [u8], at: usize, endpoints: &[Endpoint]) -> usize
     end
 }
 
+#[inline(always)]
 fn put_interface_descriptor(out: &mut [u8], at: usize, s: &Setting) -> usize
     requires short { length s.now.tail ≤ 246 }
     requires room { HasRoom out.old at (descriptor_bytes (interface_descriptor s.now)) }
@@ -132,6 +142,7 @@ fn put_interface_descriptor(out: &mut [u8], at: usize, s: &Setting) -> usize
     put_bytes(out, tail_at, &s.tail)
 }
 
+#[inline(always)]
 fn put_setting(out: &mut [u8], at: usize, s: &Setting) -> usize
     requires short { is_setting_long s.now ≡ false }
     requires room { HasRoom out.old at (setting_bytes s.now) }
@@ -142,6 +153,7 @@ fn put_setting(out: &mut [u8], at: usize, s: &Setting) -> usize
     put_endpoints(out, endpoints_at, &s.endpoints)
 }
 
+#[inline(always)]
 #[tactic(auto, using(crate::proofs::Tests::none_at))]
 fn put_settings(out: &mut [u8], at: usize, settings: &[Setting]) -> usize
     requires short { list_any is_setting_long settings.now ≡ false }

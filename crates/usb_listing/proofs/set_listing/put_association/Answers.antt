@@ -16,7 +16,7 @@ returns c =
     let subclass : c.put_byte-4.new.self ≡ c.put_byte-3.new.self ++ written_field (one_byte a.subclass) = c.in_ok-put_byte-4.ensures in
     let protocol : c.put_byte-5.new.self ≡ c.put_byte-4.new.self ++ written_field (one_byte a.protocol) = c.in_ok-put_byte-5.ensures in
     let text : c.put_byte-6.new.self ≡ c.put_byte-5.new.self ++ written_field (one_byte a.text) = c.in_ok-put_byte-6.ensures in
-    let tail : c.put_bytes.new.self ≡ c.put_byte-6.new.self ++ written_field a.tail = rw c.as_slice.ensures at c.in_ok-put_bytes.ensures in
+    let tail : c.put_bytes.new.self ≡ c.put_byte-6.new.self ++ written_field a.tail = rw c.deref.ensures at c.in_ok-put_bytes.ensures in
     on_ok_weaker c.end_line.result (λ (ended : c.end_line.new.self ≡ c.put_bytes.new.self ++ codes "\n"). rw (ended, tail, text, protocol, subclass, class, count, first, word)
     (line_put c.args.page.now (codes "association")
     (one_byte a.first ∷ one_byte a.count ∷ one_byte a.class ∷ one_byte a.subclass ∷ one_byte a.protocol ∷ one_byte a.text ∷ a.tail ∷ []))) c.end_line.ensures

@@ -15,7 +15,7 @@ returns c =
     let text : c.put_byte-3.new.self ≡ c.put_byte-2.new.self ++ written_field (one_byte set.text) = c.in_ok-put_byte-3.ensures in
     let attributes : c.put_byte-4.new.self ≡ c.put_byte-3.new.self ++ written_field (one_byte set.attributes) = c.in_ok-put_byte-4.ensures in
     let power : c.put_byte-5.new.self ≡ c.put_byte-4.new.self ++ written_field (one_byte set.power) = c.in_ok-put_byte-5.ensures in
-    let tail : c.put_bytes.new.self ≡ c.put_byte-5.new.self ++ written_field set.tail = rw c.as_slice.ensures at c.in_ok-put_bytes.ensures in
+    let tail : c.put_bytes.new.self ≡ c.put_byte-5.new.self ++ written_field set.tail = rw c.deref.ensures at c.in_ok-put_bytes.ensures in
     on_ok_weaker c.end_line.result (λ (ended : c.end_line.new.self ≡ c.put_bytes.new.self ++ codes "\n"). rw (ended, tail, power, attributes, text, value, declared_interfaces, word)
     (line_put c.args.page.now (set_word set.kind)
     (one_byte set.declared_interfaces ∷ one_byte set.value ∷ one_byte set.text ∷ one_byte set.attributes ∷ one_byte set.power ∷ set.tail ∷ []))) c.end_line.ensures

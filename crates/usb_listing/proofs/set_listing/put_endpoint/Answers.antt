@@ -14,7 +14,7 @@ returns c =
     let attributes : c.put_byte-2.new.self ≡ c.put_byte.new.self ++ written_field (one_byte e.attributes) = c.in_ok-put_byte-2.ensures in
     let max_packet : c.put_number.new.self ≡ c.put_byte-2.new.self ++ written_field (two_bytes e.max_packet) = c.in_ok-put_number.ensures in
     let interval : c.put_byte-3.new.self ≡ c.put_number.new.self ++ written_field (one_byte e.interval) = c.in_ok-put_byte-3.ensures in
-    let tail : c.put_bytes.new.self ≡ c.put_byte-3.new.self ++ written_field e.tail = rw c.as_slice.ensures at c.in_ok-put_bytes.ensures in
+    let tail : c.put_bytes.new.self ≡ c.put_byte-3.new.self ++ written_field e.tail = rw c.deref.ensures at c.in_ok-put_bytes.ensures in
     on_ok_weaker c.end_line.result (λ (ended : c.end_line.new.self ≡ c.put_bytes.new.self ++ codes "\n"). rw (ended, tail, interval, max_packet, attributes, address, word)
     (line_put c.args.page.now (codes "endpoint")
     (one_byte e.address ∷ one_byte e.attributes ∷ two_bytes e.max_packet ∷ one_byte e.interval ∷ e.tail ∷ []))) c.end_line.ensures

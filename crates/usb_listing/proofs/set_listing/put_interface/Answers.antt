@@ -17,7 +17,7 @@ returns c =
     let subclass : c.put_byte-5.new.self ≡ c.put_byte-4.new.self ++ written_field (one_byte s.subclass) = c.in_ok-put_byte-5.ensures in
     let protocol : c.put_byte-6.new.self ≡ c.put_byte-5.new.self ++ written_field (one_byte s.protocol) = c.in_ok-put_byte-6.ensures in
     let text : c.put_byte-7.new.self ≡ c.put_byte-6.new.self ++ written_field (one_byte s.text) = c.in_ok-put_byte-7.ensures in
-    let tail : c.put_bytes.new.self ≡ c.put_byte-7.new.self ++ written_field s.tail = rw c.as_slice.ensures at c.in_ok-put_bytes.ensures in
+    let tail : c.put_bytes.new.self ≡ c.put_byte-7.new.self ++ written_field s.tail = rw c.deref.ensures at c.in_ok-put_bytes.ensures in
     on_ok_weaker c.end_line.result (λ (ended : c.end_line.new.self ≡ c.put_bytes.new.self ++ codes "\n"). rw (ended, tail, text, protocol, subclass, class, declared_endpoints, alternate, number, word)
     (line_put c.args.page.now (codes "interface")
     (one_byte s.number ∷ one_byte s.alternate ∷ one_byte s.declared_endpoints ∷ one_byte s.class ∷ one_byte s.subclass ∷ one_byte s.protocol ∷ one_byte s.text ∷ s.tail ∷ []))) c.end_line.ensures

@@ -14,5 +14,5 @@ returns-in_err-list_set-clause-err g c =
     (λ b counted fed one. output_is_refused b _ _ _ (record {
       text = set_lines c.in_ok-set.set;
       listing = set_listed b c.in_ok-set.set one (c.in_ok-set.ensures.ok b counted fed);
-      written = c.in_err-list_set.ensures.front;
+      written = c.in_err-list_set.ensures.err;
     }))

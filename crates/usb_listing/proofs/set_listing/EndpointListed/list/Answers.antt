@@ -4,12 +4,12 @@ use Rattle.usb_listing.proofs.set_listing.EndpointListed.list.Goals as goal
 
 pub returns-clause-ok : goal.returns-clause-ok
 returns-clause-ok g c =
-    let extras = rw c.as_slice.ensures at c.in_ok-list_all.ensures.ok in
+    let extras = rw c.deref.ensures at c.in_ok-list_all.ensures.ok in
     let listed = puts_after _ _ _ _ _ _ _ c.in_ok-put_endpoint.ensures extras in
     on_ok_weaker c.pass_on.result (puts_passed _ _ _ _ _ _ _ listed) c.pass_on.ensures.ok
 
 pub returns-clause-err : goal.returns-clause-err
 returns-clause-err g c =
-    let extras = rw c.as_slice.ensures at c.in_ok-list_all.ensures.ok in
+    let extras = rw c.deref.ensures at c.in_ok-list_all.ensures.ok in
     let listed = puts_after _ _ _ _ _ _ _ c.in_ok-put_endpoint.ensures extras in
     on_err_weaker c.pass_on.result (broken_passed _ _ _ _ _ _ listed) c.pass_on.ensures.err

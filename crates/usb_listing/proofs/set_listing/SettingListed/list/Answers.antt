@@ -7,27 +7,27 @@ use Rattle.usb_listing.proofs.set_listing.SettingListed.list.Goals as goal
 
 pub returns-in_err-list_all-clause-err : goal.returns-in_err-list_all-clause-err
 returns-in_err-list_all-clause-err g c =
-    let extras = rw c.as_slice.ensures at c.in_err-list_all.ensures.err in
+    let extras = rw c.deref.ensures at c.in_err-list_all.ensures.err in
     let s = c.args.self.now in
     on_err _ (front_more _ _ c.args.page.now (interface_line s ++ flat_map extra_line s.extras) (flat_map endpoint_lines s.endpoints)
     (broken_after _ _ _ _ _ _ c.in_ok-put_interface.ensures extras))
 
 pub returns-in_err-list_all-2-clause-err : goal.returns-in_err-list_all-2-clause-err
 returns-in_err-list_all-2-clause-err g c =
-    let extras = rw c.as_slice.ensures at c.in_ok-list_all.ensures.ok in
-    let endpoints = rw c.as_slice-2.ensures at c.in_err-list_all-2.ensures.err in
+    let extras = rw c.deref.ensures at c.in_ok-list_all.ensures.ok in
+    let endpoints = rw c.deref-2.ensures at c.in_err-list_all-2.ensures.err in
     on_err _ (puts_broken _ _ _ _ _ _ _ (puts_after _ _ _ _ _ _ _ c.in_ok-put_interface.ensures extras) endpoints)
 
 pub returns-clause-ok : goal.returns-clause-ok
 returns-clause-ok g c =
-    let extras = rw c.as_slice.ensures at c.in_ok-list_all.ensures.ok in
-    let endpoints = rw c.as_slice-2.ensures at c.in_ok-list_all-2.ensures.ok in
+    let extras = rw c.deref.ensures at c.in_ok-list_all.ensures.ok in
+    let endpoints = rw c.deref-2.ensures at c.in_ok-list_all-2.ensures.ok in
     let listed = puts_more _ _ _ _ _ _ _ _ (puts_after _ _ _ _ _ _ _ c.in_ok-put_interface.ensures extras) endpoints in
     on_ok_weaker c.pass_on.result (puts_passed _ _ _ _ _ _ _ listed) c.pass_on.ensures.ok
 
 pub returns-clause-err : goal.returns-clause-err
 returns-clause-err g c =
-    let extras = rw c.as_slice.ensures at c.in_ok-list_all.ensures.ok in
-    let endpoints = rw c.as_slice-2.ensures at c.in_ok-list_all-2.ensures.ok in
+    let extras = rw c.deref.ensures at c.in_ok-list_all.ensures.ok in
+    let endpoints = rw c.deref-2.ensures at c.in_ok-list_all-2.ensures.ok in
     let listed = puts_more _ _ _ _ _ _ _ _ (puts_after _ _ _ _ _ _ _ c.in_ok-put_interface.ensures extras) endpoints in
     on_err_weaker c.pass_on.result (broken_passed _ _ _ _ _ _ listed) c.pass_on.ensures.err

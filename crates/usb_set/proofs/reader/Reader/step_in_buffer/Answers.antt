@@ -20,8 +20,8 @@ returns-in-Some c =
 pub returns-then-len : goal.returns-then-len
 returns-then-len c =
     let kept : c.keep.new.current.items ≡ c.self.inside.current.items ++ take c.min-count.result c.args.bytes.now = c.keep.ensures in
-    let short : length (c.self.inside.current.items ++ take c.min-count.result c.args.bytes.now) < c.from-len.result = omega (arith, ap length kept, c.len-2.ensures.value, c.if-len.true) in
-    let all : take c.min-count.result c.args.bytes.now ≡ c.args.bytes.now = takes_all c.self.inside.current.items c.args.bytes.now c.from-len.result c.min-count.result (c.min-count.ensures ∙ ap (λ n. min (c.from-len.result - n) (length c.args.bytes.now)) c.len.ensures.value) short in
+    let short : length (c.self.inside.current.items ++ take c.min-count.result c.args.bytes.now) < c.from-len.result = omega (arith, ap length kept, c.len.ensures.value, c.if-len.true) in
+    let all : take c.min-count.result c.args.bytes.now ≡ c.args.bytes.now = takes_all c.self.inside.current.items c.args.bytes.now c.from-len.result c.min-count.result (c.min-count.ensures ∙ ap (λ n. min (c.from-len.result - n) (length c.args.bytes.now)) c.len-before.ensures.value) short in
     let is : c.keep.new.current.items ≡ c.self.inside.current.items ++ c.args.bytes.now = kept ∙ ap (λ (z : List ℕ). c.self.inside.current.items ++ z) all in
     let len_is : c.from-len.result ≡ first_byte c.self.inside.current.items = c.from-len.ensures ∙ ap (λ (z : List ℕ). get_or z 0 0) c.as_slice.ensures.value ∙ first_is c.self.inside.current.items 0 (some_current c.args.self.now c.self.inside.partial c.self.inside.current.items c.self.view_is c.requires.work c.requires.some) in
     let P : List ℕ → Type 0 = λ z. Steps c.args.self.now c.args.bytes.now Cut (with_current c.self.inside.partial z) in
@@ -42,9 +42,9 @@ returns-then-is_err c =
     let on : GoesOn (with_current c.self.inside.partial c.self.inside.current.items) = c.self.invariant in
     let kept : c.keep.new.current.items ≡ c.self.inside.current.items ++ take c.min-count.result c.args.bytes.now = c.keep.ensures in
     let len_is : c.from-len.result ≡ first_byte c.self.inside.current.items = c.from-len.ensures ∙ ap (λ (z : List ℕ). get_or z 0 0) c.as_slice.ensures.value ∙ first_is c.self.inside.current.items 0 some in
-    let ends = ends_here c.self.inside.current.items c.args.bytes.now c.from-len.result c.min-count.result (c.min-count.ensures ∙ ap (λ n. min (c.from-len.result - n) (length c.args.bytes.now)) c.len.ensures.value) len_is some
+    let ends = ends_here c.self.inside.current.items c.args.bytes.now c.from-len.result c.min-count.result (c.min-count.ensures ∙ ap (λ n. min (c.from-len.result - n) (length c.args.bytes.now)) c.len-before.ensures.value) len_is some
     (on_short c.self.inside.partial c.self.inside.current.items (in_work c.args.self.now c.self.inside.partial c.self.inside.current.items c.self.view_is c.requires.work) on).0
-    (λ lt. omega (arith, ap length kept, c.len-2.ensures.value, c.if-len.false, lt)) in
+    (λ lt. omega (arith, ap length kept, c.len.ensures.value, c.if-len.false, lt)) in
     inl (wants_here c.args.self.now c.self.inside.partial c.self.inside.current.items c.args.bytes.now c.min-count.result c.out_of_memory.result c.self.view_is c.requires.work ends.0 ends.1 ends.2 (wanting_still c.self.inside.partial c.grow-grown.new.self c.grow-grown.result c.out_of_memory.result (sym c.is_err.ensures.value ∙ c.if-is_err.true) c.grow-grown.ensures.err c.out_of_memory.ensures))
 
 pub returns : goal.returns
@@ -53,9 +53,9 @@ returns c =
     let on : GoesOn (with_current c.self.inside.partial c.self.inside.current.items) = c.self.invariant in
     let kept : c.keep.new.current.items ≡ c.self.inside.current.items ++ take c.min-count.result c.args.bytes.now = c.keep.ensures in
     let len_is : c.from-len.result ≡ first_byte c.self.inside.current.items = c.from-len.ensures ∙ ap (λ (z : List ℕ). get_or z 0 0) c.as_slice.ensures.value ∙ first_is c.self.inside.current.items 0 some in
-    let ends = ends_here c.self.inside.current.items c.args.bytes.now c.from-len.result c.min-count.result (c.min-count.ensures ∙ ap (λ n. min (c.from-len.result - n) (length c.args.bytes.now)) c.len.ensures.value) len_is some
+    let ends = ends_here c.self.inside.current.items c.args.bytes.now c.from-len.result c.min-count.result (c.min-count.ensures ∙ ap (λ n. min (c.from-len.result - n) (length c.args.bytes.now)) c.len-before.ensures.value) len_is some
     (on_short c.self.inside.partial c.self.inside.current.items (in_work c.args.self.now c.self.inside.partial c.self.inside.current.items c.self.view_is c.requires.work) on).0
-    (λ lt. omega (arith, ap length kept, c.len-2.ensures.value, c.if-len.false, lt)) in
+    (λ lt. omega (arith, ap length kept, c.len.ensures.value, c.if-len.false, lt)) in
     let P : List ℕ → Type 0 = λ z. Steps c.args.self.now c.args.bytes.now (Took c.min-count.result) (with_current c.grow-grown.new.self z) in
     subst P (sym c.clear-2.ensures)
     (step_took c.args.self.now c.self.inside.partial c.grow-grown.new.self c.self.inside.current.items c.args.bytes.now c.min-count.result c.self.view_is c.requires.work
