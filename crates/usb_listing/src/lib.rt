@@ -14,5 +14,5 @@ mod set_listing;
 mod string_listing;
 
 pub use listing::list;
-pub use output::OutFault;
+pub use output::{OutFault, write_all};
 pub use set_listing::list_set;

@@ -45,7 +45,7 @@ impl From<AllocError> for OutFault {
 ///
 /// `Write` at the first call of the writer that fails or takes nothing. A front of the bytes is
 /// written then.
-pub(crate) fn write_all<W: Write>(w: &mut W, bytes: &[u8]) -> Result<(), OutFault>
+pub fn write_all<W: Write>(w: &mut W, bytes: &[u8]) -> Result<(), OutFault>
     ensures ok { OnOk result (Appends (W.contents w.old) (W.contents w.new) bytes.now) }
     ensures err { OnErr result (AppendsFront (W.contents w.old) (W.contents w.new) bytes.now) }
     ensures why { IfErr result (λ fault. fault ≡ OutFault.Write) }

@@ -2,6 +2,8 @@ pub mod Input
 pub mod Sets
 pub mod Faults
 pub mod Shows
+pub mod Failing
+pub mod Checks
 pub mod Lines
 pub mod Runs
 pub mod inside

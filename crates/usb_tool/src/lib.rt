@@ -10,6 +10,7 @@
 //! `specs/Runs.antt`.
 #![tactic(auto)]
 
+mod check;
 mod fault;
 mod input;
 mod intake;
@@ -17,7 +18,9 @@ mod line;
 mod program;
 mod set_intake;
 mod show;
+mod whole;
 
+pub use check::run_check;
 pub use fault::{ToolFault, verdict};
 pub use line::{Line, read_line};
 pub use program::run;
