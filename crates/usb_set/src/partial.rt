@@ -72,6 +72,7 @@ impl Partial {
     }
 
     /// The fault that the bytes of the descriptor in work show, as many as are there.
+    #[inline(always)]
     pub(crate) fn fault_in(&self, bytes: &[u8]) -> Option<SetFault>
         requires { InWork self.now }
         ensures { result ≡ fault_at self.now bytes.now }
