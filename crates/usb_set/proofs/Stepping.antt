@@ -283,7 +283,7 @@ wanting_still p new r fault e h w = (w.0 ∙ on_err r (place_of new ≡ place_of
 
 -- ---- no fault lies behind the first four bytes
 
-settled_append : (p : Reading) (a b : List ℕ) → 4 ≤ length a → fault_at p a ≡ None → fault_at p (a ++ b) ≡ None
+pub settled_append : (p : Reading) (a b : List ℕ) → 4 ≤ length a → fault_at p a ≡ None → fault_at p (a ++ b) ≡ None
 settled_append (first c) a b n e = ap header_at (header_settled a b (no_header _ e) n)
 settled_append (later c total place d) [] b n e = absurd (omega arith)
 settled_append (later c total place d) (x ∷ []) b n e = absurd (omega arith)

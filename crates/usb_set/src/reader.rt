@@ -2,7 +2,7 @@
 ghost use Rattle.std.specs.Prelude.{◌≡◌, ◌≤◌, ◌+◌, ◌<◌, [], ◌++◌, length, Ok, Err};
 ghost use Rattle.arrayvec.specs.ArrayVec.{array_vec_len};
 ghost use Rattle.usb_set.specs.inside.Reading.{first};
-ghost use Rattle.usb_set.specs.inside.Stepping.{InWork, Reads, Steps, current_of, ends_as, is_done};
+ghost use Rattle.usb_set.specs.inside.Stepping.{InWork, Keeps, Reads, Steps, current_of, ends_as, is_done};
 
 use crate::checking::split_descriptor;
 use crate::decoder::Progress;
@@ -76,7 +76,34 @@ impl Reader {
     }
 
     /// Reads on, to the set's end or to that of the piece.
+    #[inline]
     pub(crate) fn read(&mut self, piece: &[u8]) -> Result<Progress, SetFault>
+        requires { InWork self.old }
+        ensures { Reads self.old piece.now result self.new }
+    {
+        if self.keeps(piece) {
+            return Ok(Progress::More);
+        }
+        self.read_on(piece)
+    }
+
+    /// Keeps a piece that ends before the descriptor in work does, where it can show no fault: four
+    /// bytes of that descriptor were there. So a single byte costs little.
+    #[inline]
+    fn keeps(&mut self, piece: &[u8]) -> bool
+        requires { InWork self.old }
+        ensures { Keeps self.old piece.now result self.new }
+    {
+        let before = self.current.len();
+        if before < 4 || usize::from(self.current.as_slice()[0]) <= before + piece.len() {
+            return false;
+        }
+        keep(&mut self.current, piece);
+        true
+    }
+
+    #[inline(never)]
+    fn read_on(&mut self, piece: &[u8]) -> Result<Progress, SetFault>
         requires { InWork self.old }
         ensures { Reads self.old piece.now result self.new }
     {
@@ -107,6 +134,7 @@ impl Reader {
     }
 
     /// A descriptor of which no earlier piece had a byte is read where it stands.
+    #[inline(always)]
     fn step_in_piece(&mut self, bytes: &[u8]) -> Step
         requires work { InWork self.old }
         requires empty { current_of self.old ≡ [] }
@@ -126,6 +154,7 @@ impl Reader {
     }
 
     /// A descriptor that the end of an earlier piece cut is put together first.
+    #[inline(never)]
     fn step_in_buffer(&mut self, bytes: &[u8]) -> Step
         requires work { InWork self.old }
         requires some { 0 < length (current_of self.old) }

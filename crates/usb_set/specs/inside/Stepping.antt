@@ -114,6 +114,11 @@ Steps old bytes (Took count) new =
 Steps old bytes Cut new = (reads old bytes ≡ new) × InWork new
 Steps old bytes (Refused fault) new = WantsHere old bytes fault ⊎ (reads old bytes ≡ faulty fault.at fault.why)
 
+-- all of the bytes are taken, or none
+abbrev pub Keeps : Reading → List ℕ → Bool → Reading → Type 0
+Keeps old bytes true new = (reads old bytes ≡ new) × InWork new
+Keeps old bytes false new = new ≡ old
+
 -- memory is wanting behind some of these bytes
 pub record WantsIn (old : Reading) (bytes : List ℕ) (fault : SetFault) : Type 0 where
   pub count : ℕ
