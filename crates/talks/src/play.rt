@@ -14,7 +14,7 @@ use usb_file::{DescriptorFile, read_file};
 #[derive(Drop)]
 pub enum Ending {
     /// So many talks with so many requests came out as they are wanted.
-    Agrees(u32, u32),
+    Agrees(usize, usize),
     /// What came of the step in this line is not what is wanted of it.
     Differs(usize, String),
 }
@@ -51,8 +51,8 @@ struct Script {
     naks: u16,
     fates: Vec<Fate>,
     asked: Vec<Asked>,
-    talks: u32,
-    requests: u32,
+    talks: usize,
+    requests: usize,
 }
 
 /// Plays the talks of a text, up to the first line that comes out differently.
@@ -174,7 +174,7 @@ fn finish(alloc: Global, script: &mut Script, line: usize, wanted: &str) -> Resu
         return Ok(Some(Ending::Differs(line, outcome)));
     }
     script.talks = script.talks.saturating_add(1);
-    script.requests = script.requests.saturating_add(requests.len() as u32);
+    script.requests = script.requests.saturating_add(requests.len());
     script.asked = Vec::new(alloc);
     script.fates = Vec::new(alloc);
     Ok(None)

@@ -36,13 +36,13 @@ const LISTS: u32 = 15625;
 /// What came of all talks together.
 #[derive(Clone, Copy)]
 struct Totals {
-    ended: u32,
-    no_answer: u32,
-    busy: u32,
-    transactions: u32,
-    replies: u32,
-    addressed: u32,
-    configured: u32,
+    ended: u128,
+    no_answer: u128,
+    busy: u128,
+    transactions: u128,
+    replies: u128,
+    addressed: u128,
+    configured: u128,
 }
 
 /// The totals of all lists of six fates, a line for each limit of NAKs.
@@ -103,14 +103,14 @@ fn add_talk(
         Some(Why::Busy) => count(&mut totals.busy, 1),
         Some(_) => count(&mut totals.no_answer, 1),
     }
-    count(&mut totals.transactions, talk.transactions as u32);
-    count(&mut totals.replies, talk.replies.len() as u32);
-    count(&mut totals.addressed, u32::from(talk.state.address == 5));
-    count(&mut totals.configured, u32::from(talk.state.selected == 1));
+    count(&mut totals.transactions, talk.transactions);
+    count(&mut totals.replies, talk.replies.len() as u128);
+    count(&mut totals.addressed, u128::from(talk.state.address == 5));
+    count(&mut totals.configured, u128::from(talk.state.selected == 1));
     Ok(())
 }
 
-fn count(sum: &mut u32, more: u32) {
+fn count(sum: &mut u128, more: u128) {
     *sum = sum.saturating_add(more);
 }
 
