@@ -21,6 +21,7 @@ pub(crate) fn answer(alloc: Global, row: &Row) -> Result<Answer> {
         "feed" => sets::feed(alloc, words)?,
         "encode" => sets::encode_lines(alloc, lines)?,
         "file" => files::file(alloc, words)?,
+        "check" => files::findings(alloc, words)?,
         "fronts" => files::fronts(alloc, words)?,
         "write" => files::write_lines(alloc, lines)?,
         "named" => files::named_lines(alloc, lines)?,

@@ -3,7 +3,7 @@ use crate::tree::file_of;
 use crate::words::bytes_of;
 use anyhow::{Result, ensure};
 use std::alloc::Global;
-use usb_file::{FileFault, FileWhy, named, read_file, write_file};
+use usb_file::{FileFault, FileWhy, check, named, read_file, write_file};
 
 /// The named indices of the file that the bytes are, or their fault. A file gives its bytes again.
 pub(crate) fn file(alloc: Global, words: &[String]) -> Result<String> {
@@ -38,6 +38,22 @@ fn indices(alloc: Global, indices: &[u8]) -> Result<String> {
     let mut text = String::from_str(alloc, "named")?;
     for index in indices {
         text.push_str(format!(in alloc; " {index:02x}")?.as_str())?;
+    }
+    Ok(text)
+}
+
+/// What breaks the rules of chapter 9 in the file that the bytes are.
+pub(crate) fn findings(alloc: Global, words: &[String]) -> Result<String> {
+    let bytes = bytes_of(alloc, words)?;
+    let file = read_file(alloc, bytes.as_slice())?;
+    let found = check(alloc, &file)?;
+    if found.is_empty() {
+        return Ok(String::from_str(alloc, "no findings")?);
+    }
+    let mut text = String::new(alloc);
+    for finding in found.iter() {
+        let comma = if text.is_empty() { "" } else { ", " };
+        text.push_str(format!(in alloc; "{comma}{finding}")?.as_str())?;
     }
     Ok(text)
 }
