@@ -1,5 +1,5 @@
 -- Pairs of lower-case digits, and what hex decodes of them.
-use Rattle.std.proofs.Common.{◌≡◌, ℕ, zero, suc, ◌+◌, ◌*◌, ◌/◌, ◌%◌, ◌<◌, ◌&&◌, Bool, true, false, List, [], ◌∷◌, length, slice_index, Option, Some, None, is_some, Result, Ok, Err, inl, inr, refl, sym, ap, subst, ◌∙◌, arith}
+use Rattle.std.proofs.Common.{◌≡◌, ℕ, ◌+◌, ◌*◌, ◌%◌, ◌&&◌, Bool, true, false, List, [], ◌∷◌, length, Option, Some, None, is_some, Result, Ok, Err, inl, inr, refl, sym, ap, subst, ◌∙◌, arith}
 use Rattle.std.specs.List.{list_all, AllByRecursion}
 use Rattle.std.proofs.lemmas.Bool.{and_parts, cases_eq}
 use Rattle.hex.specs.Hex.{decode_of, decode_pairs, encode_lower, encode_with, hex_digit_value, lower_digits}
@@ -8,9 +8,9 @@ use Rattle.hex.specs.declared.error.FromHexError.{FromHexError}
 use Rattle.hex.proofs.HexLemmas.{decode_of-even, decode_of-odd, length-encode_with}
 use Rattle.hex.proofs.Pairs.{cons_byte, decode_pairs-ok_pair}
 use Rattle.usb_base.specs.Bytes.{IsByte}
-use Rattle.usb_listing_lines.specs.InsideDigits.{digit_value, joined, pair_value}
+use Rattle.usb_listing_lines.specs.InsideDigits.{digit_value, pair_value}
 use Rattle.usb_listing_lines.specs.InsideFields.{before, pairs_of}
-use Rattle.usb_listing_lines.proofs.DigitLemmas.{Pair, pair_read, pair_again, digit_read}
+use Rattle.usb_listing_lines.proofs.DigitLemmas.{pair_read, pair_again, digit_read}
 
 -- ---- both ways between bytes and their digits
 

@@ -1,17 +1,17 @@
 -- Fields written, and read again.
-use Rattle.std.proofs.Common.{◌≡◌, ◌≢◌, ℕ, zero, suc, ◌+◌, ◌-◌, ◌*◌, ◌/◌, ◌%◌, ◌<◌, ◌≤◌, ◌==◌, ◌||◌, ◌&&◌, ltb, Bool, true, false, cond, List, [], ◌∷◌, ◌++◌, Option, Some, None, unwrap_or, length, slice_index, inl, inr, refl, ap, sym, ◌∙◌, subst, append_assoc, append-nil, arith, codes}
+use Rattle.std.proofs.Common.{◌≡◌, ◌≢◌, ℕ, ◌*◌, ◌/◌, ◌%◌, ◌<◌, ◌≤◌, ◌==◌, ◌||◌, ◌&&◌, ltb, Bool, true, false, cond, List, [], ◌∷◌, ◌++◌, Option, Some, None, unwrap_or, length, slice_index, refl, ap, sym, ◌∙◌, subst, append_assoc, append-nil, arith, codes}
 use Rattle.std.specs.List.{AllByRecursion}
 use Rattle.std.specs.Str.{bytes_eq}
-use Rattle.std.proofs.lemmas.Bool.{cases_eq, eqb-false, eqb-true, eq-eqb, le-ltb, ltb-false, ne_eqb, or_parts, or_from}
+use Rattle.std.proofs.lemmas.Bool.{eqb-false, eqb-true, le-ltb, ltb-false, ne_eqb, or_parts}
 use Rattle.std.proofs.lemmas.Slice.Eq.{bytes_eq-Decides}
 use Rattle.hex.specs.Hex.{encode_lower, encode_with, lower_digits}
 use Rattle.hex.proofs.HexLemmas.{length-encode_with}
 use Rattle.usb_base.specs.Bytes.{IsByte}
 use Rattle.usb_listing.specs.Lines.{written_field}
 use Rattle.usb_listing_lines.specs.InsideDigits.{pair_value}
-use Rattle.usb_listing_lines.specs.InsideFields.{behind_space, byte_first, byte_in, byte_of, bytes_from, bytes_then, filled, pairs_of, tail_behind, tail_of, with_rest}
+use Rattle.usb_listing_lines.specs.InsideFields.{byte_first, byte_in, byte_of, bytes_from, bytes_then, pairs_of, tail_behind, tail_of, with_rest}
 use Rattle.usb_listing_lines.proofs.DigitLemmas.{pair_again, pair_read}
-use Rattle.usb_listing_lines.proofs.DecodeLemmas.{Pairs, pairs_again, pairs_read}
+use Rattle.usb_listing_lines.proofs.DecodeLemmas.{pairs_again, pairs_read}
 
 abbrev pub high_digit : ℕ → ℕ
 high_digit b = slice_index lower_digits (b / 16)

@@ -1,7 +1,6 @@
 -- Descriptors as the lines that say them, and read again.
-use Rattle.std.proofs.Common.{◌≡◌, ◌≢◌, ℕ, zero, suc, ◌+◌, ◌-◌, ◌*◌, ◌/◌, ◌%◌, ◌<◌, ◌≤◌, ◌==◌, Bool, true, false, cond, List, [], ◌∷◌, ◌++◌, map, Option, Some, None, unwrap_or, length, slice_index, refl, ap, sym, ◌∙◌, subst, append_assoc, append-nil, arith, codes}
-use Rattle.std.specs.List.{AllByRecursion, flat_map}
-use Rattle.std.specs.Option.{option_map}
+use Rattle.std.proofs.Common.{◌≡◌, ℕ, zero, suc, ◌+◌, ◌*◌, ◌/◌, ◌%◌, ◌<◌, ◌≤◌, Bool, List, [], ◌∷◌, ◌++◌, map, Option, Some, None, unwrap_or, length, slice_index, refl, ap, sym, ◌∙◌, subst, append_assoc, append-nil, arith, codes}
+use Rattle.std.specs.List.{flat_map}
 use Rattle.hex.specs.Hex.{encode_with}
 use Rattle.usb_fields.specs.Device.{device_bytes}
 use Rattle.usb_fields.specs.Qualifier.{qualifier_bytes}
@@ -15,19 +14,17 @@ use Rattle.usb_set.specs.declared.tree.Setting.{Setting}
 use Rattle.usb_set.specs.declared.tree.Configuration.{Configuration}
 use Rattle.usb_set.specs.declared.tree.Association.{Association}
 use Rattle.usb_set.specs.declared.tree.Extra.TheVariants as extras
-use Rattle.usb_listing.specs.Lines.{written_field, written_line, two_bytes}
+use Rattle.usb_listing.specs.Lines.{written_field, two_bytes}
 use Rattle.usb_listing.specs.Listing.{device_line, qualifier_line}
 use Rattle.usb_listing.specs.SetListing.{configuration_line, endpoint_line, association_line, interface_line, raw_line}
-use Rattle.usb_listing.specs.StringListing.{languages_line, string_line, written_unit}
+use Rattle.usb_listing.specs.StringListing.{languages_line, string_line}
 use Rattle.usb_listing_lines.specs.declared.item.Item.{Item}
 use Rattle.usb_listing_lines.specs.declared.item.Item.TheVariants as items
-use Rattle.usb_listing_lines.specs.declared.word.Word.{Word}
-use Rattle.usb_listing_lines.specs.declared.word.Word.TheVariants as words
 use Rattle.usb_listing_lines.specs.declared.values.Written.TheVariants as forms
 use Rattle.usb_listing_lines.specs.Words.{word_text}
-use Rattle.usb_listing_lines.specs.Item.{IsItem, item_bytes, item_line, item_word, set_word}
+use Rattle.usb_listing_lines.specs.Item.{item_bytes, item_line, item_word, set_word}
 use Rattle.usb_listing_lines.specs.InsideFields.{bytes_from, filled, tail_of}
-use Rattle.usb_listing_lines.specs.InsideItems.{association_form, association_of, device_form, device_in, device_of, endpoint_form, endpoint_in, endpoint_of, fixed_in, interface_form, interface_in, item_in, languages_in, qualifier_form, qualifier_in, qualifier_of, raw_form, raw_in, raw_of, set_form, set_in, set_of, setting_of, string_in, tail_then, tailed_in, with_tail}
+use Rattle.usb_listing_lines.specs.InsideItems.{association_form, association_of, device_form, device_of, endpoint_form, endpoint_of, fixed_in, interface_form, qualifier_form, qualifier_of, raw_form, raw_of, set_form, set_of, setting_of, tail_then, tailed_in, with_tail}
 use Rattle.usb_listing_lines.proofs.FieldLemmas.{AreBytes, bytes_again, bytes_are, fixed_text, tail_again, tail_read}
 use Rattle.usb_listing_lines.proofs.UnitLemmas.{written}
 

@@ -1,13 +1,10 @@
 -- A line that says a descriptor has only bytes that a line may have.
-use Rattle.std.proofs.Common.{◌≡◌, ℕ, zero, suc, ◌+◌, ◌*◌, ◌/◌, ◌%◌, ◌<◌, ◌≤◌, ◌==◌, ◌&&◌, ◌||◌, not, Bool, true, false, cond, List, [], ◌∷◌, ◌++◌, length, slice_index, refl, ap, sym, subst, ◌∙◌, arith, codes}
-use Rattle.std.specs.Prelude.{nat_le}
+use Rattle.std.proofs.Common.{◌≡◌, ℕ, ◌/◌, ◌%◌, ◌<◌, ◌==◌, ◌&&◌, ◌||◌, not, Bool, true, false, cond, List, [], ◌∷◌, ◌++◌, slice_index, refl, sym, subst, ◌∙◌, arith, codes}
 use Rattle.std.specs.List.{AllByRecursion, flat_map, list_all}
 use Rattle.std.proofs.lemmas.Bool.{and_parts}
 use Rattle.std.proofs.lemmas.List.Folds.{list_all-append}
 use Rattle.hex.specs.Hex.{encode_lower, encode_with, lower_digits}
 use Rattle.usb_set.specs.declared.tree.Extra.TheVariants as extras
-use Rattle.usb_set.specs.declared.tree.SetKind.{SetKind}
-use Rattle.usb_set.specs.declared.tree.SetKind.TheVariants as kinds
 use Rattle.usb_listing.specs.Lines.{two_bytes, written_field}
 use Rattle.usb_listing.specs.StringListing.{is_plain, written_unit}
 use Rattle.usb_listing_lines.specs.declared.item.Item.{Item}
@@ -17,7 +14,7 @@ use Rattle.usb_listing_lines.specs.declared.word.Word.TheVariants as words
 use Rattle.usb_listing_lines.specs.declared.values.Written.{Written}
 use Rattle.usb_listing_lines.specs.declared.values.Written.TheVariants as forms
 use Rattle.usb_listing_lines.specs.Words.{is_printable, word_text}
-use Rattle.usb_listing_lines.specs.Item.{IsItem, Says, item_line, item_word}
+use Rattle.usb_listing_lines.specs.Item.{IsItem, Says, item_word}
 use Rattle.usb_listing_lines.specs.InsideItems.{association_form, device_form, endpoint_form, interface_form, qualifier_form, raw_form, set_form}
 use Rattle.usb_listing_lines.proofs.DigitLemmas.{all_below, all_below-at}
 use Rattle.usb_listing_lines.proofs.FieldLemmas.{AreBytes, fixed_text, high_digit, low_digit}

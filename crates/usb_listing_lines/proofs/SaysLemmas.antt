@@ -1,6 +1,6 @@
 -- What a line says.
-use Rattle.std.proofs.Common.{◌≡◌, ◌≢◌, ℕ, zero, suc, ◌+◌, ◌==◌, Bool, true, false, cond, List, [], ◌∷◌, ◌++◌, Option, Some, None, unwrap_or, length, drop, refl, ap, sym, ◌∙◌, subst, append_assoc, arith, codes}
-use Rattle.std.specs.Prelude.{option_and_then, MatchOption}
+use Rattle.std.proofs.Common.{◌≡◌, ℕ, ◌==◌, Bool, true, false, cond, List, [], ◌∷◌, ◌++◌, Option, Some, None, unwrap_or, length, drop, refl, ap, sym, ◌∙◌, subst, codes}
+use Rattle.std.specs.Prelude.{option_and_then}
 use Rattle.std.specs.Str.{bytes_eq}
 use Rattle.std.proofs.lemmas.Slice.Eq.{bytes_eq-Decides}
 use Rattle.usb_set.specs.declared.tree.Extra.TheVariants as extras
@@ -11,10 +11,10 @@ use Rattle.usb_listing_lines.specs.declared.item.Item.TheVariants as items
 use Rattle.usb_listing_lines.specs.declared.word.Word.{Word}
 use Rattle.usb_listing_lines.specs.declared.word.Word.TheVariants as words
 use Rattle.usb_listing_lines.specs.Words.{all_words, first_word, word_among, word_in, word_text}
-use Rattle.usb_listing_lines.specs.Item.{IsItem, Says, item_line, item_word, set_word}
+use Rattle.usb_listing_lines.specs.Item.{IsItem, Says, item_word, set_word}
 use Rattle.usb_listing_lines.specs.InsideItems.{item_in, item_of_line}
 use Rattle.usb_listing_lines.proofs.ItemLemmas.{item_fields, line_is}
-use Rattle.usb_listing_lines.proofs.ReadLemmas.{IsRead, item_again, item_read}
+use Rattle.usb_listing_lines.proofs.ReadLemmas.{item_again, item_read}
 
 -- ---- words
 
@@ -108,6 +108,11 @@ said_is_read line item says =
     let w = item_word item in
     let parts : line ≡ word_text w ++ item_fields item = same_front line (word_text w ++ item_fields item) 10 (says.text ∙ line_is item) in
     of_line line (item_fields item) w (ap first_word parts ∙ line_begins item says.is_item) parts ∙ item_again item says.is_item
+
+-- its first word is the descriptor's
+pub said_word : (line : List ℕ) (item : Item) → Says line item → first_word line ≡ word_text (item_word item)
+said_word line item says =
+    ap first_word (same_front line (word_text (item_word item) ++ item_fields item) 10 (says.text ∙ line_is item)) ∙ line_begins item says.is_item
 
 pub read_is_said : (line : List ℕ) (item : Item) → item_of_line line ≡ Some item → Says line item
 unfolding item_of_line

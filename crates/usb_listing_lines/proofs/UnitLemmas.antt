@@ -1,19 +1,17 @@
 -- Units and language codes written, and read again.
-use Rattle.std.proofs.Common.{◌≡◌, ◌≢◌, ℕ, zero, suc, ◌+◌, ◌-◌, ◌*◌, ◌/◌, ◌%◌, ◌<◌, ◌≤◌, ◌==◌, ◌&&◌, ◌||◌, not, ltb, Bool, true, false, cond, List, [], ◌∷◌, ◌++◌, Option, Some, None, unwrap_or, length, slice_index, inl, inr, refl, ap, sym, ◌∙◌, subst, append_assoc, append-nil, arith}
+use Rattle.std.proofs.Common.{◌≡◌, ℕ, zero, suc, ◌+◌, ◌*◌, ◌/◌, ◌%◌, ◌<◌, ◌≤◌, ◌==◌, ◌&&◌, ◌||◌, not, Bool, true, false, cond, List, [], ◌∷◌, ◌++◌, Option, Some, None, unwrap_or, length, refl, ap, sym, ◌∙◌, append_assoc, append-nil, arith}
 use Rattle.std.specs.Prelude.{nat_le}
 use Rattle.std.specs.List.{AllByRecursion, flat_map}
-use Rattle.std.proofs.lemmas.Bool.{and_parts, cases_eq, eqb-true, ne_eqb}
+use Rattle.std.proofs.lemmas.Bool.{and_parts, eqb-true}
 use Rattle.std.proofs.lemmas.Bool.Decides.{nat_tests}
-use Rattle.hex.specs.Hex.{encode_lower, encode_with, lower_digits}
+use Rattle.hex.specs.Hex.{encode_lower, encode_with}
 use Rattle.usb_listing.specs.Lines.{written_field, two_bytes}
 use Rattle.usb_listing.specs.StringListing.{is_plain, written_unit}
 use Rattle.usb_listing_lines.specs.declared.values.Written.{Written}
 use Rattle.usb_listing_lines.specs.declared.values.Written.TheVariants as forms
 use Rattle.usb_listing_lines.specs.InsideDigits.{pair_value}
-use Rattle.usb_listing_lines.specs.InsideFields.{behind_space}
 use Rattle.usb_listing_lines.specs.InsideUnits.{escaped, number_first, number_in, number_with, unit_first, value_first, values_from, values_then}
 use Rattle.usb_listing_lines.proofs.DigitLemmas.{pair_again, pair_read}
-use Rattle.usb_listing_lines.proofs.FieldLemmas.{high_digit, low_digit}
 use Rattle.usb_listing_lines.proofs.ValueLemmas.{values_end, values_step}
 
 -- how a value is written

@@ -1,5 +1,5 @@
 -- On values that are read one after another.
-use Rattle.std.proofs.Common.{◌≡◌, ℕ, zero, suc, ◌+◌, ◌-◌, ◌<◌, List, [], ◌∷◌, length, Option, Some, None, refl, ap, subst, arith}
+use Rattle.std.proofs.Common.{◌≡◌, ℕ, zero, suc, ◌+◌, ◌-◌, ◌<◌, List, [], ◌∷◌, length, Some, None, refl, arith}
 use Rattle.usb_listing_lines.specs.declared.values.Written.{Written}
 use Rattle.usb_listing_lines.specs.InsideUnits.{value_first, values_from, values_then}
 

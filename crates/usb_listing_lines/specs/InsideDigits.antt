@@ -1,5 +1,5 @@
 -- Lower-case hexadecimal digits, read.
-use Rattle.std.specs.Prelude.{ℕ, ◌+◌, ◌-◌, ◌*◌, ◌&&◌, nat_le, if◌then◌else◌, Option, Some, None, Bool, true, false, List, [], ◌∷◌}
+use Rattle.std.specs.Prelude.{ℕ, ◌+◌, ◌-◌, ◌*◌, ◌&&◌, nat_le, if◌then◌else◌, Option, Some, None}
 
 -- the value of a lower-case digit
 unfoldable pub digit_value : ℕ → Option ℕ

@@ -47,7 +47,11 @@ fn take_field_byte(begins: bool, text: &[u8]) -> Option<(u8, &[u8])>
 }
 
 /// Reads fields of fixed widths, and gives what stands behind them.
-pub(crate) fn take_bytes<'a>(form: &[bool], text: &'a [u8], bytes: &mut ArrayVec<u8, 16>) -> Option<&'a [u8]>
+pub(crate) fn take_bytes<'a>(
+    form: &[bool],
+    text: &'a [u8],
+    bytes: &mut ArrayVec<u8, 16>,
+) -> Option<&'a [u8]>
     requires { array_vec_len bytes.old + length form.now ≤ 16 }
     ensures count { IfSome result (λ rest. array_vec_len bytes.new ≡ array_vec_len bytes.old + length form.now) }
     ensures is { MatchOption result (bytes_from form.now bytes.old.items text.now ≡ None)
@@ -102,7 +106,11 @@ fn without_bytes(fault: FromHexError) -> Result<Option<Sequence<u8>>, AllocError
 
 /// A tail that ends a line, of so many bytes at most.
 #[tactic(auto, unfolding(crate::specs::InsideFields::tail_of))]
-pub(crate) fn read_tail(alloc: Global, most: usize, text: &[u8]) -> Result<Option<Sequence<u8>>, AllocError>
+pub(crate) fn read_tail(
+    alloc: Global,
+    most: usize,
+    text: &[u8],
+) -> Result<Option<Sequence<u8>>, AllocError>
     requires { most < 256 }
     ensures { IfOk result (λ found. found ≡ tail_of most text.now) }
 {
@@ -132,7 +140,12 @@ pub(crate) fn read_fixed(form: &[bool], text: &[u8]) -> Option<ArrayVec<u8, 16>>
 
 /// Fixed fields and a tail to the end of the line.
 #[tactic(auto, unfolding(crate::specs::InsideItems::tailed_in))]
-pub(crate) fn read_tailed(alloc: Global, form: &[bool], most: usize, text: &[u8]) -> Result<Option<(ArrayVec<u8, 16>, Sequence<u8>)>, AllocError>
+pub(crate) fn read_tailed(
+    alloc: Global,
+    form: &[bool],
+    most: usize,
+    text: &[u8],
+) -> Result<Option<(ArrayVec<u8, 16>, Sequence<u8>)>, AllocError>
     requires form { length form.now ≤ 16 }
     requires most { most < 256 }
     ensures count { IfOk result (λ found. IfSome found (λ p. array_vec_len p.0 ≡ length form.now)) }

@@ -16,13 +16,20 @@ use usb_fields::{DeviceDescriptor, Qualifier};
 use usb_set::{Association, Configuration, Endpoint, Extra, Raw, Sequence, SetKind, Setting};
 
 const DEVICE: [bool; 16] = [
-    true, false, true, true, true, true, true, false, true, false, true, false, true, true, true, true,
+    true, false, true, true, true, true, true, false, true, false, true, false, true, true, true,
+    true,
 ];
+
 const QUALIFIER: [bool; 8] = [true, false, true, true, true, true, true, true];
+
 const SET: [bool; 5] = [true; 5];
+
 const INTERFACE: [bool; 7] = [true; 7];
+
 const ENDPOINT: [bool; 5] = [true, true, true, false, true];
+
 const RAW: [bool; 1] = [true];
+
 const ASSOCIATION: [bool; 6] = [true; 6];
 
 fn number(high: u8, low: u8) -> u16
@@ -218,7 +225,10 @@ fn read_association(alloc: Global, text: &[u8]) -> Result<Option<Item>, AllocErr
     ensures { IfOk result (λ found. found ≡ association_in text.now) }
 {
     match read_tailed(alloc, &ASSOCIATION, 247, text)? {
-        Some((b, tail)) => Ok(Some(Item::Extra(Extra::Association(association_of(b.as_slice(), tail))))),
+        Some((b, tail)) => Ok(Some(Item::Extra(Extra::Association(association_of(
+            b.as_slice(),
+            tail,
+        ))))),
         None => Ok(None),
     }
 }
@@ -269,7 +279,11 @@ fn before_quote(text: &[u8]) -> Option<&[u8]>
         return None;
     }
     let end = text.len() - 1;
-    if text[end] == b'"' { Some(&text[..end]) } else { None }
+    if text[end] == b'"' {
+        Some(&text[..end])
+    } else {
+        None
+    }
 }
 
 /// What a line says whose first word is this, and behind it this text.
@@ -296,7 +310,11 @@ fn behind(word: Word, line: &[u8]) -> &[u8]
     ensures { result.now ≡ drop (length (word_text word)) line.now }
 {
     let start = word.text().len();
-    if start <= line.len() { &line[start..] } else { &[] }
+    if start <= line.len() {
+        &line[start..]
+    } else {
+        &[]
+    }
 }
 
 #[tactic(auto, unfolding(crate::specs::InsideItems::item_of_line))]

@@ -50,7 +50,11 @@ fn take_unit(text: &[u8]) -> Option<(u16, &[u8])>
     match text {
         [b'\\', digits @ ..] => {
             let (unit, rest) = take_number(digits)?;
-            if is_character(unit) { None } else { Some((unit, rest)) }
+            if is_character(unit) {
+                None
+            } else {
+                Some((unit, rest))
+            }
         }
         [c, rest @ ..] if is_character(u16::from(*c)) => Some((u16::from(*c), rest)),
         _ => None,
@@ -69,7 +73,11 @@ fn take_value(form: Written, text: &[u8]) -> Option<(u16, &[u8])>
 
 /// The values to the end of the text.
 #[tactic(auto, using(crate::proofs::ValueLemmas::values_next, crate::proofs::ValueLemmas::values_end, crate::proofs::ValueLemmas::values_full))]
-pub(crate) fn read_values(alloc: Global, form: Written, text: &[u8]) -> Result<Option<Sequence<u16>>, AllocError>
+pub(crate) fn read_values(
+    alloc: Global,
+    form: Written,
+    text: &[u8],
+) -> Result<Option<Sequence<u16>>, AllocError>
     ensures { IfOk result (λ found. found ≡ values_from form 126 [] text.now) }
 {
     let mut values = Sequence::new(alloc);

@@ -1,0 +1,10 @@
+pub mod OrderLemmas
+pub mod FrontLemmas
+pub mod DraftLemmas
+pub mod LengthLemmas
+pub mod LineLemmas
+pub mod WalkLemmas
+pub mod CountLemmas
+pub mod WholeLemmas
+pub mod ReadingLemmas
+pub mod StepLemmas

@@ -1,12 +1,12 @@
 -- Which texts are listings, and what is wrong with the others.
-use Rattle.std.specs.Prelude.{◌≡◌, ◌≢◌, ℕ, ◌+◌, ◌*◌, ◌<◌, ◌≤◌, List, [], ◌∷◌, ◌++◌, length, Bool, true, false, not, nat_lt, ◌||◌, Option, Some, None}
+use Rattle.std.specs.Prelude.{◌≡◌, ◌≢◌, ℕ, ◌+◌, ◌*◌, ◌<◌, ◌≤◌, List, [], ◌∷◌, ◌++◌, length, Bool, true, false, is_none, nat_lt, ◌||◌, Option, Some, None}
 use Rattle.std.specs.List.{list_all, list_any, AllByRecursion}
 use Rattle.usb_set.specs.declared.tree.Configuration.{Configuration}
 use Rattle.usb_set.specs.Encoding.{set_length}
 use Rattle.usb_file_data.specs.declared.file.DescriptorFile.{DescriptorFile}
 use Rattle.usb_file_data.specs.declared.file.Other.{Other}
 use Rattle.usb_file_data.specs.declared.file.Strings.{Strings}
-use Rattle.usb_file_data.specs.File.{File, are_wrong_strings, has_wrong_count, has_wrong_kind}
+use Rattle.usb_file_data.specs.File.{File, has_wrong_kind, write_refusal}
 use Rattle.usb_file_data.specs.Named.{named_indices, other_sets}
 use Rattle.usb_listing.specs.Listing.{file_lines}
 use Rattle.usb_listing_lines.specs.declared.item.Item.{Item}
@@ -78,10 +78,10 @@ abbrev pub NoLineGoesOn : List ℕ → Type 0
 NoLineGoesOn [] = Unit {0}
 NoLineGoesOn (x ∷ more) = (is_printable x ≡ false) × (x ≢ 10)
 
--- the file so far is not whole: sets or strings are still due
+-- whether the file so far is a whole one, which has bytes: no set and no string is still due
 abbrev pub is_whole : Option DescriptorFile → Bool
 is_whole None = false
-is_whole (Some f) = not (has_wrong_count f || are_wrong_strings (length (named_indices f)) f.strings)
+is_whole (Some f) = is_none (write_refusal f)
 
 -- The fault of the text behind the lines so far, by the reason:
 -- the bytes of the first line end without a line feed, or at a byte that no line has;

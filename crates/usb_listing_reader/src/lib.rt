@@ -1,6 +1,15 @@
 //! Listings read back: the descriptor file that a text lists, or the first line at fault.
 #![tactic(auto)]
 
+mod assembling;
+mod draft;
 mod fault;
+mod growing;
+mod order;
+mod step;
 
+pub use assembling::assemble;
 pub use fault::{ListFault, ListWhy};
+
+#[cfg(test)]
+mod tests;

@@ -1,0 +1,155 @@
+-- A listing read line by line.
+use Rattle.std.proofs.Common.{◌≡◌, ◌≢◌, ◌⊎◌, inl, inr, ℕ, zero, suc, ◌+◌, ◌-◌, ◌*◌, ◌<◌, ◌≤◌, ◌==◌, Bool, true, false, List, [], ◌∷◌, ◌++◌, Option, Some, None, Result, Ok, Err, length, take, drop, get_or, slice_index, refl, ap, sym, subst, ◌∙◌, append_assoc, append-nil, length-append, arith, codes}
+use Rattle.std.specs.List.{flat_map, list_all}
+use Rattle.usb_file_data.specs.declared.file.DescriptorFile.{DescriptorFile}
+use Rattle.usb_file_data.specs.File.{file_bytes}
+use Rattle.usb_listing_lines.specs.declared.item.Item.{Item}
+use Rattle.usb_listing_lines.specs.Words.{is_printable}
+use Rattle.usb_listing_lines.specs.Item.{Says, item_line}
+use Rattle.usb_listing.specs.Listing.{file_lines}
+use Rattle.usb_listing_reader.specs.declared.draft.Draft.{Draft}
+use Rattle.std.specs.Prelude.{IfOk}
+use Rattle.usb_listing_reader.specs.declared.fault.ListFault.{ListFault}
+use Rattle.usb_listing_reader.specs.declared.fault.ListWhy.{ListWhy}
+use Rattle.usb_listing_reader.specs.declared.fault.ListWhy.TheVariants as whys
+use Rattle.usb_listing_reader.specs.Order.{file_items}
+use Rattle.usb_listing_reader.specs.Listings.{Begins, FirstLine, IsBegun, IsFront, LineFaulty, ListFaulty, ListRefused, Lists, NoLineGoesOn, RestFaulty, is_whole, items_of, lines_of}
+use Rattle.usb_listing_reader.specs.inside.Drafts.{AreCounted, HasWork, Reading, Refuses, Stepped, TakesLine, Told, so_far}
+use Rattle.usb_listing_reader.specs.inside.Walking.{add_line}
+use Rattle.usb_listing_reader.proofs.OrderLemmas.{flat_map-push}
+use Rattle.usb_listing_reader.proofs.LineLemmas.{lines_are}
+use Rattle.usb_listing_reader.proofs.WalkLemmas.{Lasts, Makes, Printable, makes}
+use Rattle.usb_listing_reader.proofs.WholeLemmas.{whole_file}
+
+lines_of-are : (s : Option DescriptorFile) → lines_of s ≡ flat_map item_line (items_of s)
+lines_of-are None = refl
+lines_of-are (Some f) = lines_are f
+
+pub reading_none : (text : List ℕ) (d : Option Draft) → d ≡ None → Reading text d text 1
+reading_none text d e = subst (λ (x : Option Draft). Reading text x text 1) (sym e) (record {
+  begins = record { begun = tt; parts = refl; line_is = refl };
+  counted = tt;
+  work = tt;
+  few = omega arith;
+})
+
+-- the line fits behind those before it
+lines_more : (s : Option DescriptorFile) (f : DescriptorFile) (item : Item) (line : List ℕ) → file_items f ≡ items_of s ++ item ∷ [] → Says line item
+    → file_lines f ≡ lines_of s ++ (line ++ codes "\n")
+lines_more s f item line e says =
+    lines_are f ∙ ap (flat_map item_line) e ∙ flat_map-push item_line (items_of s) item
+    ∙ ap (λ (xs : List ℕ). xs ++ item_line item) (sym (lines_of-are s)) ∙ ap (λ (xs : List ℕ). lines_of s ++ xs) (sym says.text)
+
+begins_more : (text rest line more : List ℕ) (s : Option DescriptorFile) (f : DescriptorFile) (n : ℕ) → Begins text s rest n → FirstLine rest line more
+    → Makes s line (Ok f) → Begins text (Some f) more (n + 1)
+begins_more text rest line more s f n b first (front, item, items, says) =
+    let p : text ≡ file_lines f ++ more =
+    b.parts ∙ ap (λ (xs : List ℕ). lines_of s ++ xs) (first.parts ∙ sym (append_assoc line (codes "\n") more))
+    ∙ sym (append_assoc (lines_of s) (line ++ codes "\n") more) ∙ ap (λ (xs : List ℕ). xs ++ more) (sym (lines_more s f item line items says)) in
+    let count : length (file_items f) ≡ length (items_of s) + 1 = ap length items ∙ length-append (items_of s) (item ∷ []) in
+    let before = b.line_is in
+    record { begun = front; parts = p; line_is = omega (arith, count, before) }
+
+pub reading_next : (text rest more : List ℕ) (old new : Option Draft) (n : ℕ) → Reading text old rest n → TakesLine old rest new more → length more < length rest
+    → Reading text new more (n + 1)
+reading_next text rest more old new n r t shorter =
+    let s = so_far old in
+    let made = makes s t.line r.begins.begun t.first.printable in
+    let f = t.stepped.file in
+    let made_f : Makes s t.line (Ok f) = subst (Makes s t.line) t.stepped.made made in
+    let b = begins_more text rest t.line more s f n r.begins t.first made_f in
+    let few = r.few in
+    record {
+      begins = subst (λ x. Begins text x more (n + 1)) (sym t.stepped.is) b;
+      counted = t.stepped.counted;
+      work = t.work;
+      few = omega (arith, few, shorter);
+    }
+
+-- ---- faults
+
+first_longer : (rest line more t : List ℕ) → FirstLine rest line more → FirstLine (rest ++ t) line (more ++ t)
+first_longer rest line more t f = record { parts = ap (λ (xs : List ℕ). xs ++ t) f.parts ∙ append_assoc line (10 ∷ more) t; printable = f.printable }
+
+lasting : (s : Option DescriptorFile) (rest t : List ℕ) (why : ListWhy) → Lasts s rest why → Told s (rest ++ t) why
+lasting s rest t whys.Line (line, more, x, parts, print, bad, other) =
+    let is : rest ++ t ≡ line ++ x ∷ (more ++ t) = ap (λ (xs : List ℕ). xs ++ t) parts ∙ append_assoc line (x ∷ more) t in
+    let some : rest ++ t ≢ [] = λ e. some_behind line x (more ++ t) (sym is ∙ e) in
+    (line, x ∷ (more ++ t), some, is, print, (bad, other))
+  where
+    some_behind : (line : List ℕ) (x : ℕ) (more : List ℕ) → line ++ x ∷ more ≡ [] → ⊥
+    some_behind [] x more e = cc
+    some_behind (y ∷ line) x more e = cc
+lasting s rest t whys.Word (line, more, first, none) = (line, more ++ t, first_longer rest line more t first, none)
+lasting s rest t whys.Place (line, more, w, first, word, may) = (line, more ++ t, w, first_longer rest line more t first, word, may)
+lasting s rest t whys.Field (line, more, w, first, word, may, none) = (line, more ++ t, w, first_longer rest line more t first, word, may, none)
+lasting s rest t whys.TooLong (line, more, item, f, first, is, says, may, over) = (line, more ++ t, item, f, first_longer rest line more t first, is, says, may, over)
+lasting s rest t whys.Missing h = absurd h
+lasting s rest t whys.Memory h = tt
+
+pub told_line : (s : Option DescriptorFile) (rest line more : List ℕ) (why : ListWhy) → IsBegun s → FirstLine rest line more → Refuses (add_line s line) why → Told s rest why
+told_line s rest line more why begun first (inl memory) = subst (Told s rest) (sym memory) tt
+told_line s rest line more why begun first (inr refused) =
+    let made : Lasts s (line ++ 10 ∷ []) why = subst (Makes s line) refused (makes s line begun first.printable) in
+    let is : (line ++ 10 ∷ []) ++ more ≡ rest = append_assoc line (10 ∷ []) more ∙ sym first.parts in
+    subst (λ (xs : List ℕ). Told s xs why) is (lasting s (line ++ 10 ∷ []) more why made)
+
+pub refused_line : (text rest : List ℕ) (d : Option Draft) (n m : ℕ) (why : ListWhy) → Reading text d rest n → m ≡ n → Told (so_far d) rest why → ListRefused text m why
+refused_line text rest d n m why r e told = subst (λ k. ListRefused text k why) (sym e) (cases why told)
+  where
+    cases : (why : ListWhy) → Told (so_far d) rest why → ListRefused text n why
+    cases whys.Line h = record { so_far = so_far d; rest = rest; begins = r.begins; fault = h }
+    cases whys.Word h = record { so_far = so_far d; rest = rest; begins = r.begins; fault = h }
+    cases whys.Place h = record { so_far = so_far d; rest = rest; begins = r.begins; fault = h }
+    cases whys.Field h = record { so_far = so_far d; rest = rest; begins = r.begins; fault = h }
+    cases whys.TooLong h = record { so_far = so_far d; rest = rest; begins = r.begins; fault = h }
+    cases whys.Missing h = record { so_far = so_far d; rest = rest; begins = r.begins; fault = h }
+    cases whys.Memory h = record { so_far = so_far d; rest = rest; begins = r.begins }
+
+-- ---- the end
+
+pub lists_whole : (text : List ℕ) (d : Option Draft) (n : ℕ) (f : DescriptorFile) → Reading text d [] n → so_far d ≡ Some f → is_whole (Some f) ≡ true → Lists text f
+lists_whole text d n f r e whole =
+    let b : Begins text (Some f) [] n = subst (λ x. Begins text x [] n) e r.begins in
+    record { lines = b.parts ∙ append-nil (file_lines f); bytes = file_bytes f; file = whole_file f b.begun whole }
+
+pub missing_end : (text : List ℕ) (d : Option Draft) (n : ℕ) → Reading text d [] n → is_whole (so_far d) ≡ false → ListRefused text n whys.Missing
+missing_end text d n r e = record { so_far = so_far d; rest = []; begins = r.begins; fault = (refl, e) }
+
+-- ---- the first line of a text
+
+pub line_ended : (text : List ℕ) (n : ℕ) → n < length text → list_all is_printable (take n text) ≡ true → slice_index text n ≡ 10 → FirstLine text (take n text) (drop (n + 1) text)
+line_ended text n lt print feed = record { parts = split text n lt feed; printable = print }
+  where
+    split : (text : List ℕ) (n : ℕ) → n < length text → slice_index text n ≡ 10 → text ≡ take n text ++ 10 ∷ drop (n + 1) text
+    split [] n lt feed = absurd (omega arith)
+    split (x ∷ text) zero lt feed = rw feed refl
+    split (x ∷ text) (suc n) lt feed =
+        let more : suc n + 1 ≡ suc (n + 1) = omega arith in
+        rw more (ap (λ (xs : List ℕ). x ∷ xs) (split text n (omega arith) feed))
+
+pub no_line_end : (text : List ℕ) (n : ℕ) → text ≢ [] → n ≡ length text → list_all is_printable (take n text) ≡ true → LineFaulty text
+no_line_end text n some e print =
+    let all : take n text ≡ text = take_whole text n e in
+    (take n text, [], some, sym (append-nil (take n text) ∙ all), print, tt)
+  where
+    take_whole : (text : List ℕ) (n : ℕ) → n ≡ length text → take n text ≡ text
+    take_whole [] zero e = refl
+    take_whole [] (suc n) e = absurd (omega arith)
+    take_whole (x ∷ text) zero e = absurd (omega arith)
+    take_whole (x ∷ text) (suc n) e = ap (λ (xs : List ℕ). x ∷ xs) (take_whole text n (omega arith))
+
+pub line_broken : (text : List ℕ) (n : ℕ) → text ≢ [] → n < length text → list_all is_printable (take n text) ≡ true → is_printable (slice_index text n) ≡ false → slice_index text n ≢ 10 → LineFaulty text
+line_broken text n some lt print bad other = (take n text, slice_index text n ∷ drop (n + 1) text, some, split text n lt, print, (bad, other))
+  where
+    split : (text : List ℕ) (n : ℕ) → n < length text → text ≡ take n text ++ slice_index text n ∷ drop (n + 1) text
+    split [] n lt = absurd (omega arith)
+    split (x ∷ text) zero lt = refl
+    split (x ∷ text) (suc n) lt =
+        let more : suc n + 1 ≡ suc (n + 1) = omega arith in
+        rw more (ap (λ (xs : List ℕ). x ∷ xs) (split text n (omega arith)))
+
+pub lists_end : (r : Result DescriptorFile ListFault) (text : List ℕ) (d : Option Draft) (n : ℕ) → Reading text d [] n → IfOk r (λ f. so_far d ≡ Some f)
+    → IfOk r (λ f. is_whole (Some f) ≡ true) → IfOk r (λ f. Lists text f)
+lists_end (Err e) text d n reading is whole = tt
+lists_end (Ok f) text d n reading is whole = lists_whole text d n f reading is whole

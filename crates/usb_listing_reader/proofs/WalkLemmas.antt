@@ -1,0 +1,143 @@
+-- A listing read byte by byte: what is so of the bytes so far.
+use Rattle.std.proofs.Common.{◌≡◌, ◌≢◌, ℕ, zero, suc, ◌+◌, ◌*◌, ◌<◌, ◌≤◌, ◌==◌, ◌&&◌, not, ltb, Bool, true, false, cond, List, [], ◌∷◌, ◌++◌, Option, Some, None, unwrap_or, Result, Ok, Err, length, refl, ap, sym, subst, ◌∙◌, append_assoc, append-nil, length-append, arith, codes}
+use Rattle.std.specs.List.{flat_map, list_all}
+use Rattle.std.specs.Prelude.{nat_le, option_and_then}
+use Rattle.std.proofs.lemmas.Bool.{eqb-false, eqb-true, ltb-false, ltb-true}
+use Rattle.std.proofs.lemmas.List.Folds.{list_all-append}
+use Rattle.usb_set.specs.declared.tree.SetKind.{SetKind}
+use Rattle.usb_set.specs.declared.tree.SetKind.TheVariants as kinds
+use Rattle.usb_set.specs.declared.tree.Extra.TheVariants as extras
+use Rattle.usb_file_data.specs.declared.file.DescriptorFile.{DescriptorFile}
+use Rattle.usb_listing.specs.Listing.{file_lines}
+use Rattle.usb_listing_lines.specs.declared.item.Item.{Item}
+use Rattle.usb_listing_lines.specs.declared.item.Item.TheVariants as items
+use Rattle.usb_listing_lines.specs.declared.word.Word.{Word}
+use Rattle.usb_listing_lines.specs.Words.{first_word, is_printable, word_in, word_text}
+use Rattle.usb_listing_lines.specs.Item.{IsItem, Says, item_line, item_word, set_word}
+use Rattle.usb_listing_lines.specs.InsideItems.{item_of_line}
+use Rattle.usb_listing_lines.proofs.SaysLemmas.{read_is_said, said_is_read, said_word, word_again, word_read}
+use Rattle.usb_listing_reader.specs.declared.fault.ListFault.{ListFault}
+use Rattle.usb_listing_reader.specs.declared.fault.ListWhy.{ListWhy}
+use Rattle.usb_listing_reader.specs.declared.fault.ListWhy.TheVariants as whys
+use Rattle.usb_listing_reader.specs.Order.{file_and, file_items, may_stand, work_length}
+use Rattle.usb_listing_reader.specs.Listings.{Begins, FirstLine, IsBegun, IsFront, LineFaulty, ListFaulty, NoLineGoesOn, RestFaulty, is_whole, items_of, lines_of}
+use Rattle.usb_listing_reader.specs.inside.Walking.{Walk, add, add_item, add_line, add_word, after_line, answer_of, fault_behind, file_of, going, stopped, walk, walk_byte, walk_end}
+use Rattle.usb_listing_reader.proofs.FrontLemmas.{Adds, More, front_first, front_more, made}
+use Rattle.usb_listing_reader.proofs.LineLemmas.{lines_are}
+
+abbrev pub Printable : List ℕ → Type 0
+Printable line = list_all is_printable line ≡ true
+
+-- ---- the walk over pieces
+
+pub walk-append : (w : Walk) (xs ys : List ℕ) → walk w (xs ++ ys) ≡ walk (walk w xs) ys
+walk-append w [] ys = refl
+walk-append w (x ∷ xs) ys = walk-append (walk_byte w x) xs ys
+
+pub walk_stopped : (n : ℕ) (why : ListWhy) (text : List ℕ) → walk (stopped n why) text ≡ stopped n why
+unfolding walk_byte
+walk_stopped n why [] = refl
+walk_stopped n why (x ∷ text) = walk_stopped n why text
+
+printable_parts : (x : ℕ) (line : List ℕ) → Printable (x ∷ line) → (is_printable x ≡ true) × Printable line
+printable_parts x line h = cases (is_printable x) refl h
+  where
+    cases : (b : Bool) → is_printable x ≡ b → (b && list_all is_printable line) ≡ true → (is_printable x ≡ true) × Printable line
+    cases true e h = (e, h)
+    cases false e h = cc
+
+-- one byte that a line may have
+byte_taken : (s : Option DescriptorFile) (n : ℕ) (line : List ℕ) (x : ℕ) → is_printable x ≡ true → walk_byte (going s n line) x ≡ going s n (line ++ x ∷ [])
+unfolding walk_byte
+byte_taken s n line x e = pick (is_printable x) e _ _
+  where
+    pick : (b : Bool) → b ≡ true → (u v : Walk) → cond b u v ≡ u
+    pick true e u v = refl
+    pick false e u v = cc
+
+pub walk_line : (s : Option DescriptorFile) (n : ℕ) (line text rest : List ℕ) → Printable text → walk (going s n line) (text ++ rest) ≡ walk (going s n (line ++ text)) rest
+walk_line s n line [] rest h = ap (λ (l : List ℕ). walk (going s n l) rest) (sym (append-nil line))
+walk_line s n line (x ∷ text) rest h =
+    let p = printable_parts x text h in
+    ap (λ (w : Walk). walk w (text ++ rest)) (byte_taken s n line x p.0) ∙ walk_line s n (line ++ x ∷ []) text rest p.1
+    ∙ ap (λ (l : List ℕ). walk (going s n l) rest) (append_assoc line (x ∷ []) text)
+
+-- a line feed
+pub walk_feed : (s : Option DescriptorFile) (n : ℕ) (line more : List ℕ) → walk (going s n line) (10 ∷ more) ≡ walk (after_line n (add_line s line)) more
+unfolding walk_byte
+walk_feed s n line more = refl
+
+pub walk_whole : (s : Option DescriptorFile) (n : ℕ) (line more : List ℕ) → Printable line → walk (going s n []) (line ++ 10 ∷ more) ≡ walk (after_line n (add_line s line)) more
+walk_whole s n line more h = walk_line s n [] line (10 ∷ more) h ∙ walk_feed s n line more
+
+-- ---- what a line makes of a front
+
+-- a fault that more text does not change
+abbrev pub Lasts : Option DescriptorFile → List ℕ → ListWhy → Type 0
+Lasts s rest whys.Line = (line more : List ℕ) × (x : ℕ) × (rest ≡ line ++ x ∷ more) × Printable line × (is_printable x ≡ false) × (x ≢ 10)
+Lasts s rest whys.Missing = ⊥
+Lasts s rest why = RestFaulty s rest why
+
+-- the line made this of it: a front with its descriptor, or a fault that lasts
+abbrev pub Makes : Option DescriptorFile → List ℕ → Result DescriptorFile ListWhy → Type 0
+Makes s line (Ok f) = IsFront f × (item : Item) × (file_items f ≡ items_of s ++ item ∷ []) × Says line item
+Makes s line (Err why) = Lasts s (line ++ 10 ∷ []) why
+
+whole : (line : List ℕ) → Printable line → FirstLine (line ++ 10 ∷ []) line []
+whole line h = record { parts = refl; printable = h }
+
+-- the descriptor's own word stood there
+pub same_word : (line : List ℕ) (item : Item) (w : Word) → Says line item → first_word line ≡ word_text w → item_word item ≡ w
+same_word line item w says first =
+    let is : Some (item_word item) ≡ Some w = sym (word_again (item_word item)) ∙ ap word_in (sym (said_word line item says) ∙ first) ∙ word_again w in
+    ap (λ (o : Option Word). unwrap_or o w) is
+
+makes_first : (line : List ℕ) (item : Item) → Says line item → may_stand None (item_word item) ≡ true → Makes None line (add None item)
+makes_first line (items.Device d) says may = (front_first d says.is_item, items.Device d, refl, says)
+makes_first line (items.Set c) says may = absurd (by_kind c.kind may)
+  where
+    by_kind : (k : SetKind) → may_stand None (set_word k) ≡ true → ⊥
+    by_kind kinds.Configuration h = cc
+    by_kind kinds.OtherSpeed h = cc
+makes_first line (items.Interface s) says may = absurd (let h = may in cc)
+makes_first line (items.Endpoint e) says may = absurd (let h = may in cc)
+makes_first line (items.Extra (extras.Raw r)) says may = absurd (let h = may in cc)
+makes_first line (items.Extra (extras.Association a)) says may = absurd (let h = may in cc)
+makes_first line (items.Qualifier q) says may = absurd (let h = may in cc)
+makes_first line (items.Languages us) says may = absurd (let h = may in cc)
+makes_first line (items.String us) says may = absurd (let h = may in cc)
+
+makes_next : (f : DescriptorFile) (line : List ℕ) (item : Item) → IsFront f → Printable line → Says line item → may_stand (Some f) (item_word item) ≡ true
+    → Makes (Some f) line (add (Some f) item)
+makes_next f line item front print says may = cases (ltb 65535 (work_length (file_and item f))) refl
+  where
+    cases : (b : Bool) → ltb 65535 (work_length (file_and item f)) ≡ b → Makes (Some f) line (cond b (Err whys.TooLong) (Ok (file_and item f)))
+    cases true e = (line, [], item, f, whole line print, refl, says, may, ltb-true _ _ e)
+    cases false e =
+        let m = front_more f item (record { front = front; is_item = says.is_item; may = may; few = ltb-false _ _ e }) in
+        (m.is_front, item, m.lines, says)
+
+makes_said : (s : Option DescriptorFile) (line : List ℕ) (item : Item) → IsBegun s → Printable line → Says line item → may_stand s (item_word item) ≡ true → Makes s line (add s item)
+makes_said None line item begun print says may = makes_first line item says may
+makes_said (Some f) line item begun print says may = makes_next f line item begun print says may
+
+makes_item : (s : Option DescriptorFile) (line : List ℕ) (w : Word) → IsBegun s → Printable line → first_word line ≡ word_text w → may_stand s w ≡ true
+    → (found : Option Item) → item_of_line line ≡ found → Makes s line (add_item s found)
+makes_item s line w begun print first may None e =
+    (line, [], w, whole line print, first, may, λ item says. let read = sym e ∙ said_is_read line item says in cc)
+makes_item s line w begun print first may (Some item) e =
+    let says = read_is_said line item e in
+    makes_said s line item begun print says (ap (may_stand s) (same_word line item w says first) ∙ may)
+
+makes_word : (s : Option DescriptorFile) (line : List ℕ) → IsBegun s → Printable line → (o : Option Word) → word_in (first_word line) ≡ o → Makes s line (add_word s o (item_of_line line))
+makes_word s line begun print None e =
+    (line, [], whole line print, λ word first. let found = sym e ∙ ap word_in first ∙ word_again word in cc)
+makes_word s line begun print (Some w) e = cases (may_stand s w) refl
+  where
+    cases : (b : Bool) → may_stand s w ≡ b → Makes s line (cond b (add_item s (item_of_line line)) (Err whys.Place))
+    cases false em = (line, [], w, whole line print, word_read (first_word line) w e, em)
+    cases true em = makes_item s line w begun print (word_read (first_word line) w e) em (item_of_line line) refl
+
+pub makes : (s : Option DescriptorFile) (line : List ℕ) → IsBegun s → Printable line → Makes s line (add_line s line)
+unfolding add_line
+makes s line begun print = makes_word s line begun print (word_in (first_word line)) refl

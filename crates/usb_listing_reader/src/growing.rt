@@ -1,0 +1,180 @@
+//! A file with one more descriptor.
+ghost use Rattle.std.specs.Prelude.{◌≡◌, OnOk};
+ghost use Rattle.usb_listing_reader.specs.Order.{endpoint_with, file_and, set_and, set_with, setting_with, setting_with_endpoint, with_last, with_set, with_string, with_work};
+ghost use Rattle.usb_listing_reader.specs.inside.Drafts.{other_and, other_push, strings_push};
+
+use std::alloc::{AllocError, Global};
+use usb_file_data::{DescriptorFile, Other, Strings};
+use usb_listing_lines::Item;
+use usb_set::{Configuration, Endpoint, Extra, Sequence, Setting};
+
+#[tactic(auto, unfolding(crate::specs::Order::endpoint_with))]
+fn add_to_endpoint(e: &mut Endpoint, extra: Extra) -> Result<(), AllocError>
+    ensures { OnOk result (e.new ≡ endpoint_with extra e.old) }
+{
+    e.extras.push(extra)?;
+    Ok(())
+}
+
+#[tactic(auto, unfolding(crate::specs::Order::setting_with_endpoint))]
+fn add_endpoint(s: &mut Setting, endpoint: Endpoint) -> Result<(), AllocError>
+    ensures { OnOk result (s.new ≡ setting_with_endpoint endpoint s.old) }
+{
+    s.endpoints.push(endpoint)?;
+    Ok(())
+}
+
+#[tactic(auto, using(crate::proofs::DraftLemmas::with_last_is), unfolding(crate::specs::Order::setting_with))]
+fn add_to_setting(s: &mut Setting, extra: Extra) -> Result<(), AllocError>
+    ensures { OnOk result (s.new ≡ setting_with extra s.old) }
+{
+    let count = s.endpoints.len();
+    if count == 0 {
+        s.extras.push(extra)?;
+    } else {
+        add_to_endpoint(s.endpoints.at_mut(count - 1), extra)?;
+    }
+    Ok(())
+}
+
+#[tactic(auto, using(crate::proofs::DraftLemmas::with_last_is), unfolding(crate::specs::Order::set_with))]
+fn add_extra(c: &mut Configuration, extra: Extra) -> Result<(), AllocError>
+    ensures { OnOk result (c.new ≡ set_with extra c.old) }
+{
+    let count = c.settings.len();
+    if count == 0 {
+        c.extras.push(extra)?;
+    } else {
+        add_to_setting(c.settings.at_mut(count - 1), extra)?;
+    }
+    Ok(())
+}
+
+#[tactic(auto, using(crate::proofs::DraftLemmas::with_last_is, crate::proofs::DraftLemmas::with_last_none), unfolding(crate::specs::Order::set_and))]
+fn add_endpoint_to_last(c: &mut Configuration, endpoint: Endpoint) -> Result<(), AllocError>
+    ensures { OnOk result (c.new ≡ set_and (Item.Endpoint endpoint) c.old) }
+{
+    let count = c.settings.len();
+    if count == 0 {
+        return Ok(());
+    }
+    add_endpoint(c.settings.at_mut(count - 1), endpoint)
+}
+
+/// Adds a descriptor to a set, which belongs to the nearest typed one before it.
+#[tactic(auto, unfolding(crate::specs::Order::set_and))]
+fn add_to_set(c: &mut Configuration, item: Item) -> Result<(), AllocError>
+    ensures { OnOk result (c.new ≡ set_and item c.old) }
+{
+    match item {
+        Item::Interface(setting) => {
+            c.settings.push(setting)?;
+            Ok(())
+        }
+        Item::Endpoint(endpoint) => add_endpoint_to_last(c, endpoint),
+        Item::Extra(extra) => add_extra(c, extra),
+        Item::Device(_)
+        | Item::Set(_)
+        | Item::Qualifier(_)
+        | Item::Languages(_)
+        | Item::String(_) => Ok(()),
+    }
+}
+
+#[tactic(auto, using(crate::proofs::DraftLemmas::with_last_is, crate::proofs::DraftLemmas::with_last_none))]
+fn add_to_last(sets: &mut Sequence<Configuration>, item: Item) -> Result<(), AllocError>
+    ensures { OnOk result (sets.new ≡ with_last (set_and item) sets.old) }
+{
+    let count = sets.len();
+    if count == 0 {
+        return Ok(());
+    }
+    add_to_set(sets.at_mut(count - 1), item)
+}
+
+fn add_to_other(other: &mut Option<Other>, item: Item) -> Result<(), AllocError>
+    ensures { OnOk result (other.new ≡ other_and item other.old) }
+{
+    match other {
+        None => Ok(()),
+        Some(other) => add_to_last(&mut other.sets, item),
+    }
+}
+
+/// Adds a descriptor to the set that is in work.
+fn add_inner(f: &mut DescriptorFile, item: Item) -> Result<(), AllocError>
+    ensures { OnOk result (f.new ≡ with_work (set_and item) f.old f.old.other) }
+{
+    if f.other.is_none() {
+        add_to_last(&mut f.sets, item)
+    } else {
+        add_to_other(&mut f.other, item)
+    }
+}
+
+fn push_to_other(other: &mut Option<Other>, c: Configuration) -> Result<(), AllocError>
+    ensures { OnOk result (other.new ≡ other_push c other.old) }
+{
+    match other {
+        None => Ok(()),
+        Some(other) => {
+            other.sets.push(c)?;
+            Ok(())
+        }
+    }
+}
+
+fn add_set(f: &mut DescriptorFile, c: Configuration) -> Result<(), AllocError>
+    ensures { OnOk result (f.new ≡ with_set c f.old f.old.other) }
+{
+    if f.other.is_none() {
+        f.sets.push(c)?;
+        Ok(())
+    } else {
+        push_to_other(&mut f.other, c)
+    }
+}
+
+fn push_string(strings: &mut Option<Strings>, units: Sequence<u16>) -> Result<(), AllocError>
+    ensures { OnOk result (strings.new ≡ strings_push units strings.old) }
+{
+    match strings {
+        None => Ok(()),
+        Some(strings) => {
+            strings.texts.push(units)?;
+            Ok(())
+        }
+    }
+}
+
+fn add_string(f: &mut DescriptorFile, units: Sequence<u16>) -> Result<(), AllocError>
+    ensures { OnOk result (f.new ≡ with_string units f.old f.old.strings) }
+{
+    push_string(&mut f.strings, units)
+}
+
+/// Adds a descriptor to the file.
+pub(crate) fn add_item(alloc: Global, f: &mut DescriptorFile, item: Item) -> Result<(), AllocError>
+    ensures { OnOk result (f.new ≡ file_and item f.old) }
+{
+    match item {
+        Item::Device(_) => Ok(()),
+        Item::Set(c) => add_set(f, c),
+        Item::Interface(_) | Item::Endpoint(_) | Item::Extra(_) => add_inner(f, item),
+        Item::Qualifier(qualifier) => {
+            f.other = Some(Other {
+                qualifier,
+                sets: Sequence::new(alloc),
+            });
+            Ok(())
+        }
+        Item::Languages(languages) => {
+            f.strings = Some(Strings {
+                languages,
+                texts: Sequence::new(alloc),
+            });
+            Ok(())
+        }
+        Item::String(units) => add_string(f, units),
+    }
+}
