@@ -8,6 +8,9 @@
 //! [`run`] is the whole program over any standard streams: [`read_line`] reads its command line,
 //! [`ToolFault`] says why a command failed, and [`verdict`] gives the exit status. What a run does is
 //! `specs/Runs.antt`.
+//!
+//! [`converse`] makes control transfers between a host and a device over a bus that loses packets and handshakes.
+//! It and its [`laws`] stand in the crate `usb_bus`.
 #![tactic(auto)]
 
 mod check;
@@ -25,6 +28,7 @@ pub use fault::{ToolFault, verdict};
 pub use line::{Line, read_line};
 pub use program::run;
 pub use show::run_show;
+pub use usb_bus::{Fate, Reply, Talk, converse, laws};
 
 #[cfg(test)]
 mod tests;
