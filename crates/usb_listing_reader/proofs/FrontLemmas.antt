@@ -1,5 +1,5 @@
 -- The file so far with one more line is a file so far.
-use Rattle.std.proofs.Common.{◌≡◌, ◌≢◌, ℕ, zero, suc, ◌+◌, ◌*◌, ◌<◌, ◌≤◌, ◌==◌, ◌&&◌, ◌||◌, not, ltb, Bool, true, false, cond, List, [], ◌∷◌, ◌++◌, map, Option, Some, None, unwrap_or, is_some, length, refl, ap, sym, subst, ◌∙◌, append_assoc, append-nil, length-append, arith}
+use Rattle.std.proofs.Common.{◌≡◌, ℕ, suc, ◌+◌, ◌*◌, ◌<◌, ◌≤◌, ◌==◌, ◌||◌, not, ltb, Bool, true, false, cond, List, [], ◌∷◌, ◌++◌, map, Option, Some, None, unwrap_or, is_some, length, refl, ap, sym, subst, ◌∙◌, append_assoc, append-nil, length-append, arith}
 use Rattle.std.specs.List.{AllByRecursion, flat_map, list_any}
 use Rattle.std.proofs.lemmas.Bool.{and_parts, eqb-false, eqb-true, le-ltb, ltb-true, or_from, or_parts}
 use Rattle.std.proofs.lemmas.List.Folds.{list_any-append}
@@ -7,7 +7,6 @@ use Rattle.usb_fields.specs.declared.device.DeviceDescriptor.{DeviceDescriptor}
 use Rattle.usb_fields.specs.declared.qualifier.Qualifier.{Qualifier}
 use Rattle.usb_set.specs.declared.tree.SetKind.{SetKind}
 use Rattle.usb_set.specs.declared.tree.SetKind.TheVariants as kinds
-use Rattle.usb_set.specs.declared.tree.Extra.{Extra}
 use Rattle.usb_set.specs.declared.tree.Extra.TheVariants as extras
 use Rattle.usb_set.specs.declared.tree.Configuration.{Configuration}
 use Rattle.usb_set.specs.Encoding.{set_length}
@@ -18,10 +17,8 @@ use Rattle.usb_file_data.specs.File.{has_wrong_kind, is_other_kind}
 use Rattle.usb_file_data.specs.Named.{named_indices, other_sets}
 use Rattle.usb_listing_lines.specs.declared.item.Item.{Item}
 use Rattle.usb_listing_lines.specs.declared.item.Item.TheVariants as items
-use Rattle.usb_listing_lines.specs.declared.word.Word.{Word}
-use Rattle.usb_listing_lines.specs.declared.word.Word.TheVariants as words
-use Rattle.usb_listing_lines.specs.Item.{IsItem, StandsAlone, extra_word, item_word, set_word}
-use Rattle.usb_listing_reader.specs.Order.{setting_items, file_and, file_items, has_interface, last_of, length_of, may_follow, other_items, set_and, set_in_work, set_items, set_with, setting_with, strings_items, with_last, work_length}
+use Rattle.usb_listing_lines.specs.Item.{IsItem, StandsAlone, item_word, set_word}
+use Rattle.usb_listing_reader.specs.Order.{setting_items, file_and, file_items, has_interface, last_of, length_of, may_follow, other_items, set_and, set_items, set_with, setting_with, strings_items, with_last, work_length}
 use Rattle.usb_listing_reader.specs.Listings.{IsFront, IsInOrder, StringsFollow, is_over}
 use Rattle.usb_listing_reader.proofs.OrderLemmas.{Joins, map-push, flat_map-push, set_more, some_length}
 

@@ -1,5 +1,5 @@
 -- How many bytes a set has with one more descriptor.
-use Rattle.std.proofs.Common.{◌≡◌, ◌≢◌, ℕ, zero, suc, ◌+◌, ◌*◌, ◌<◌, ◌≤◌, ◌==◌, not, Bool, true, false, List, [], ◌∷◌, ◌++◌, map, Option, Some, None, is_some, length, refl, ap, sym, subst, ◌∙◌, append_assoc, append-nil, length-append, arith}
+use Rattle.std.proofs.Common.{◌≡◌, ℕ, ◌+◌, true, List, [], ◌∷◌, ◌++◌, map, Option, Some, None, length, refl, ap, sym, ◌∙◌, append-nil, length-append, arith}
 use Rattle.std.specs.List.{flat_map}
 use Rattle.usb_fields.specs.declared.device.DeviceDescriptor.{DeviceDescriptor}
 use Rattle.usb_set.specs.Descriptors.{Descriptor, configuration_descriptor, descriptor_bytes, endpoint_descriptor, extra_descriptor, interface_descriptor}
@@ -21,7 +21,7 @@ use Rattle.usb_listing_lines.specs.Item.{StandsAlone, item_word, set_word}
 use Rattle.usb_listing_reader.specs.Order.{endpoint_items, file_and, last_of, length_of, may_follow, set_and, set_items, setting_items, with_last, work_length}
 use Rattle.usb_listing_reader.specs.inside.Drafts.{extra_length, work_with}
 use Rattle.usb_listing_reader.proofs.OrderLemmas.{Joins, flat_map-push, set_more}
-use Rattle.usb_listing_reader.proofs.FrontLemmas.{InWork, IsInner, has_room, in_work, last_of-with_last, last_push, made}
+use Rattle.usb_listing_reader.proofs.FrontLemmas.{InWork, IsInner, in_work, last_of-with_last, last_push, made}
 
 -- the descriptor of a line in a set
 abbrev pub item_descriptor : Item → Descriptor

@@ -1,5 +1,5 @@
 -- A listing read line by line.
-use Rattle.std.proofs.Common.{◌≡◌, ◌≢◌, ◌⊎◌, inl, inr, ℕ, zero, suc, ◌+◌, ◌-◌, ◌*◌, ◌<◌, ◌≤◌, ◌==◌, Bool, true, false, List, [], ◌∷◌, ◌++◌, Option, Some, None, Result, Ok, Err, length, take, drop, get_or, slice_index, refl, ap, sym, subst, ◌∙◌, append_assoc, append-nil, length-append, arith, codes}
+use Rattle.std.proofs.Common.{◌≡◌, ◌≢◌, inl, inr, ℕ, zero, suc, ◌+◌, ◌<◌, true, false, List, [], ◌∷◌, ◌++◌, Option, Some, None, Result, Ok, Err, length, take, drop, slice_index, refl, ap, sym, subst, ◌∙◌, append_assoc, append-nil, length-append, arith, codes}
 use Rattle.std.specs.List.{flat_map, list_all}
 use Rattle.usb_file_data.specs.declared.file.DescriptorFile.{DescriptorFile}
 use Rattle.usb_file_data.specs.File.{file_bytes}
@@ -13,12 +13,12 @@ use Rattle.usb_listing_reader.specs.declared.fault.ListFault.{ListFault}
 use Rattle.usb_listing_reader.specs.declared.fault.ListWhy.{ListWhy}
 use Rattle.usb_listing_reader.specs.declared.fault.ListWhy.TheVariants as whys
 use Rattle.usb_listing_reader.specs.Order.{file_items}
-use Rattle.usb_listing_reader.specs.Listings.{Begins, FirstLine, IsBegun, IsFront, LineFaulty, ListFaulty, ListRefused, Lists, NoLineGoesOn, RestFaulty, is_whole, items_of, lines_of}
-use Rattle.usb_listing_reader.specs.inside.Drafts.{AreCounted, HasWork, Reading, Refuses, Stepped, TakesLine, Told, so_far}
+use Rattle.usb_listing_reader.specs.Listings.{Begins, FirstLine, IsBegun, LineFaulty, ListRefused, Lists, is_whole, items_of, lines_of}
+use Rattle.usb_listing_reader.specs.inside.Drafts.{Reading, Refuses, TakesLine, Told, so_far}
 use Rattle.usb_listing_reader.specs.inside.Walking.{add_line}
 use Rattle.usb_listing_reader.proofs.OrderLemmas.{flat_map-push}
 use Rattle.usb_listing_reader.proofs.LineLemmas.{lines_are}
-use Rattle.usb_listing_reader.proofs.WalkLemmas.{Lasts, Makes, Printable, makes}
+use Rattle.usb_listing_reader.proofs.WalkLemmas.{Lasts, Makes, makes}
 use Rattle.usb_listing_reader.proofs.WholeLemmas.{whole_file}
 
 lines_of-are : (s : Option DescriptorFile) → lines_of s ≡ flat_map item_line (items_of s)

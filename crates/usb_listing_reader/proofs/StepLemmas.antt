@@ -1,18 +1,18 @@
 -- On a line that is read into a draft.
-use Rattle.std.proofs.Common.{◌≡◌, ◌⊎◌, inl, inr, ℕ, ◌≤◌, Bool, true, false, cond, List, Option, Some, None, Result, Ok, Err, refl, ap, sym, subst, ◌∙◌}
+use Rattle.std.proofs.Common.{◌≡◌, inl, inr, ℕ, ◌≤◌, Bool, true, false, cond, List, Option, Some, None, Result, Ok, Err, refl, ap, sym, subst, ◌∙◌}
 use Rattle.std.specs.Prelude.{IfErr, OnOk}
 use Rattle.usb_file_data.specs.declared.file.DescriptorFile.{DescriptorFile}
 use Rattle.usb_listing_lines.specs.declared.item.Item.{Item}
 use Rattle.usb_listing_lines.specs.declared.word.Word.{Word}
-use Rattle.usb_listing_lines.specs.Words.{first_word, word_in, word_text}
+use Rattle.usb_listing_lines.specs.Words.{first_word, word_in}
 use Rattle.usb_listing_lines.specs.Item.{Says, item_word}
 use Rattle.usb_listing_lines.specs.InsideItems.{item_of_line}
-use Rattle.usb_listing_lines.proofs.SaysLemmas.{said_is_read, said_word, word_again, word_read}
+use Rattle.usb_listing_lines.proofs.SaysLemmas.{word_read}
 use Rattle.usb_listing_reader.specs.declared.draft.Draft.{Draft}
 use Rattle.usb_listing_reader.specs.declared.fault.ListWhy.{ListWhy}
 use Rattle.usb_listing_reader.specs.declared.fault.ListWhy.TheVariants as whys
 use Rattle.usb_listing_reader.specs.Order.{may_stand}
-use Rattle.usb_listing_reader.specs.inside.Drafts.{Added, AreCounted, Counted, HasWork, Refuses, Stepped, so_far}
+use Rattle.usb_listing_reader.specs.inside.Drafts.{Added, Counted, HasWork, Refuses, Stepped, so_far}
 use Rattle.usb_listing_reader.specs.inside.Walking.{add, add_item, add_line, add_word}
 use Rattle.usb_listing_reader.proofs.WalkLemmas.{same_word}
 

@@ -1,29 +1,24 @@
 -- A listing read byte by byte: what is so of the bytes so far.
-use Rattle.std.proofs.Common.{◌≡◌, ◌≢◌, ℕ, zero, suc, ◌+◌, ◌*◌, ◌<◌, ◌≤◌, ◌==◌, ◌&&◌, not, ltb, Bool, true, false, cond, List, [], ◌∷◌, ◌++◌, Option, Some, None, unwrap_or, Result, Ok, Err, length, refl, ap, sym, subst, ◌∙◌, append_assoc, append-nil, length-append, arith, codes}
-use Rattle.std.specs.List.{flat_map, list_all}
-use Rattle.std.specs.Prelude.{nat_le, option_and_then}
-use Rattle.std.proofs.lemmas.Bool.{eqb-false, eqb-true, ltb-false, ltb-true}
-use Rattle.std.proofs.lemmas.List.Folds.{list_all-append}
+use Rattle.std.proofs.Common.{◌≡◌, ◌≢◌, ℕ, ◌&&◌, ltb, Bool, true, false, cond, List, [], ◌∷◌, ◌++◌, Option, Some, None, unwrap_or, Result, Ok, Err, refl, ap, sym, ◌∙◌, append_assoc, append-nil}
+use Rattle.std.specs.List.{list_all}
+use Rattle.std.proofs.lemmas.Bool.{ltb-false, ltb-true}
 use Rattle.usb_set.specs.declared.tree.SetKind.{SetKind}
 use Rattle.usb_set.specs.declared.tree.SetKind.TheVariants as kinds
 use Rattle.usb_set.specs.declared.tree.Extra.TheVariants as extras
 use Rattle.usb_file_data.specs.declared.file.DescriptorFile.{DescriptorFile}
-use Rattle.usb_listing.specs.Listing.{file_lines}
 use Rattle.usb_listing_lines.specs.declared.item.Item.{Item}
 use Rattle.usb_listing_lines.specs.declared.item.Item.TheVariants as items
 use Rattle.usb_listing_lines.specs.declared.word.Word.{Word}
 use Rattle.usb_listing_lines.specs.Words.{first_word, is_printable, word_in, word_text}
-use Rattle.usb_listing_lines.specs.Item.{IsItem, Says, item_line, item_word, set_word}
+use Rattle.usb_listing_lines.specs.Item.{Says, item_word, set_word}
 use Rattle.usb_listing_lines.specs.InsideItems.{item_of_line}
 use Rattle.usb_listing_lines.proofs.SaysLemmas.{read_is_said, said_is_read, said_word, word_again, word_read}
-use Rattle.usb_listing_reader.specs.declared.fault.ListFault.{ListFault}
 use Rattle.usb_listing_reader.specs.declared.fault.ListWhy.{ListWhy}
 use Rattle.usb_listing_reader.specs.declared.fault.ListWhy.TheVariants as whys
 use Rattle.usb_listing_reader.specs.Order.{file_and, file_items, may_stand, work_length}
-use Rattle.usb_listing_reader.specs.Listings.{Begins, FirstLine, IsBegun, IsFront, LineFaulty, ListFaulty, NoLineGoesOn, RestFaulty, is_whole, items_of, lines_of}
-use Rattle.usb_listing_reader.specs.inside.Walking.{Walk, add, add_item, add_line, add_word, after_line, answer_of, fault_behind, file_of, going, stopped, walk, walk_byte, walk_end}
-use Rattle.usb_listing_reader.proofs.FrontLemmas.{Adds, More, front_first, front_more, made}
-use Rattle.usb_listing_reader.proofs.LineLemmas.{lines_are}
+use Rattle.usb_listing_reader.specs.Listings.{FirstLine, IsBegun, IsFront, RestFaulty, items_of}
+use Rattle.usb_listing_reader.specs.inside.Walking.{Walk, add, add_item, add_line, add_word, after_line, going, stopped, walk, walk_byte}
+use Rattle.usb_listing_reader.proofs.FrontLemmas.{front_first, front_more}
 
 abbrev pub Printable : List ℕ → Type 0
 Printable line = list_all is_printable line ≡ true

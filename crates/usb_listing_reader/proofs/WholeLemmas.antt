@@ -1,16 +1,16 @@
 -- A file so far that is whole has bytes.
-use Rattle.std.proofs.Common.{◌≡◌, ◌≢◌, ℕ, zero, suc, ◌+◌, ◌*◌, ◌/◌, ◌%◌, ◌<◌, ◌≤◌, ◌==◌, ◌||◌, not, ltb, Bool, true, false, cond, List, [], ◌∷◌, ◌++◌, map, Option, Some, None, is_none, length, refl, ap, sym, subst, ◌∙◌, arith}
+use Rattle.std.proofs.Common.{◌≡◌, ℕ, ◌<◌, ltb, Bool, true, false, cond, List, [], ◌∷◌, ◌++◌, map, Option, Some, None, is_none, length, refl, ap, sym, subst, ◌∙◌, arith}
 use Rattle.std.specs.List.{AllByRecursion, flat_map, list_any}
 use Rattle.std.proofs.lemmas.Bool.{le-ltb, ltb-false, or_from, or_parts}
 use Rattle.std.proofs.lemmas.List.Folds.{list_any-append}
-use Rattle.usb_base.specs.Bytes.{AreBytes, little_endian}
+use Rattle.usb_base.specs.Bytes.{AreBytes}
 use Rattle.usb_fields.specs.Device.{device_bytes}
 use Rattle.usb_fields.specs.Qualifier.{qualifier_bytes}
 use Rattle.usb_fields.specs.Units.{units_bytes}
 use Rattle.usb_set.specs.Descriptors.{Descriptor, configuration_descriptor, descriptor_bytes}
 use Rattle.usb_set.specs.Layout.{has_long_descriptor, has_typed_raw, is_long, is_typed_raw, later_descriptors, set_bytes, set_descriptors}
-use Rattle.usb_set.specs.Parts.{extras_of, setting_extras}
-use Rattle.usb_set.specs.Encoding.{refusal_of, set_length}
+use Rattle.usb_set.specs.Parts.{setting_extras}
+use Rattle.usb_set.specs.Encoding.{set_length}
 use Rattle.usb_set.specs.declared.tree.Extra.{Extra}
 use Rattle.usb_set.specs.declared.tree.Extra.TheVariants as extras
 use Rattle.usb_set.specs.declared.tree.Endpoint.{Endpoint}
@@ -24,8 +24,8 @@ use Rattle.usb_file_data.specs.File.{File, are_wrong_strings, file_bytes, has_no
 use Rattle.usb_file_data.specs.Named.{named_indices, other_sets}
 use Rattle.usb_listing_lines.specs.declared.item.Item.{Item}
 use Rattle.usb_listing_lines.specs.declared.item.Item.TheVariants as items
-use Rattle.usb_listing_lines.specs.Item.{IsItem, item_bytes}
-use Rattle.usb_listing_reader.specs.Order.{endpoint_items, file_items, later_items, other_items, set_items, setting_items, strings_items}
+use Rattle.usb_listing_lines.specs.Item.{IsItem}
+use Rattle.usb_listing_reader.specs.Order.{endpoint_items, other_items, set_items, setting_items, strings_items}
 use Rattle.usb_listing_reader.specs.Listings.{IsFront, is_over, is_whole}
 use Rattle.usb_listing_reader.proofs.LengthLemmas.{item_descriptor, set_is}
 

@@ -1,6 +1,5 @@
 -- What is kept beside the file so far.
-use Rattle.std.specs.Prelude.{◌≡◌, ℕ, ◌+◌, ◌*◌, ◌≤◌, ◌⊎◌, Result, Ok, Err, length, map, Bool, true, false, Option, Some, None, List, [], ◌∷◌, ◌++◌}
-use Rattle.std.specs.Option.{option_map}
+use Rattle.std.specs.Prelude.{◌≡◌, ℕ, ◌+◌, ◌*◌, ◌≤◌, ◌⊎◌, Result, Ok, Err, length, Bool, true, false, Option, Some, None, List, [], ◌∷◌, ◌++◌}
 use Rattle.usb_set.specs.declared.tree.Extra.{Extra}
 use Rattle.usb_set.specs.declared.tree.Extra.TheVariants as extras
 use Rattle.usb_file_data.specs.declared.file.DescriptorFile.{DescriptorFile}
