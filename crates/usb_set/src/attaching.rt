@@ -42,7 +42,7 @@ pub(crate) fn read_configuration(alloc: Global, bytes: &[u8]) -> Result<Configur
 }
 
 /// Adds the setting of an interface descriptor's body.
-#[inline(always)]
+#[inline(never)]
 fn add_setting(alloc: Global, c: &mut Configuration, body: &[u8]) -> Result<(), AllocError>
     requires { 7 ≤ length body.now }
     ensures { OnOk result (c.new ≡ set_with_setting (setting_of body.now) c.old) }

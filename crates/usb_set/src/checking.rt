@@ -52,6 +52,7 @@ pub(crate) fn fault_in_item(room: usize, in_setting: bool, bytes: &[u8]) -> Opti
 pub(crate) fn split_descriptor(bytes: &[u8]) -> Option<(&[u8], &[u8])>
     requires { 1 < first_byte bytes.now }
     ensures some { IfSome result (λ p. SplitsDescriptor bytes.now p.0.now p.1.now) }
+    ensures fits { IfSome result (λ p. length p.0.now ≤ 255) }
     ensures none { IfNone result (length bytes.now < first_byte bytes.now) }
     ensures short { IfNone result (length bytes.now < 255) }
 {

@@ -72,6 +72,7 @@ impl Decoder {
     ///
     /// The fault that the bytes taken so far and this piece show, or `Memory` at the place of a
     /// descriptor that ends in this piece.
+    #[inline(always)]
     pub fn feed(&mut self, piece: &[u8]) -> Result<Progress, SetFault>
         ensures answer { Answers self.old piece.now result self.new }
         ensures empty { IsNothingNew self.old piece.now result self.new }
@@ -101,6 +102,7 @@ impl Decoder {
     /// # Errors
     ///
     /// The refusal of an earlier [`Decoder::feed`], or `Truncated` at the count of bytes taken.
+    #[inline(always)]
     pub fn finish(self) -> Result<Configuration, SetFault>
         ensures { Finishes self result }
     {

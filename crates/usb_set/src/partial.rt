@@ -135,6 +135,7 @@ impl Partial {
     }
 
     /// The tree, if all of it was read.
+    #[inline(always)]
     pub(crate) fn into_whole(self) -> Option<Configuration>
         ensures { result ≡ whole_tree self }
     {

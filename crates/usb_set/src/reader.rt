@@ -17,7 +17,7 @@ use std::marker::Model;
 #[derive(Clone, Copy, Debug)]
 pub(crate) enum Step {
     /// Its end, behind so many of them.
-    Took(usize),
+    Took(u32),
     /// The end of the bytes.
     Cut,
     /// A fault, or want of memory.
@@ -76,7 +76,7 @@ impl Reader {
     }
 
     /// Reads on, to the set's end or to that of the piece.
-    #[inline]
+    #[inline(always)]
     pub(crate) fn read(&mut self, piece: &[u8]) -> Result<Progress, SetFault>
         requires { InWork self.old }
         ensures { Reads self.old piece.now result self.new }
@@ -89,7 +89,7 @@ impl Reader {
 
     /// Keeps a piece that ends before the descriptor in work does, where it can show no fault: four
     /// bytes of that descriptor were there. So a single byte costs little.
-    #[inline]
+    #[inline(always)]
     fn keeps(&mut self, piece: &[u8]) -> bool
         requires { InWork self.old }
         ensures { Keeps self.old piece.now result self.new }
@@ -102,7 +102,7 @@ impl Reader {
         true
     }
 
-    #[inline(never)]
+    #[inline(always)]
     fn read_on(&mut self, piece: &[u8]) -> Result<Progress, SetFault>
         requires { InWork self.old }
         ensures { Reads self.old piece.now result self.new }
@@ -110,7 +110,7 @@ impl Reader {
         let mut used = 0;
         while used < piece.len() {
             match self.step(&piece[used..]) {
-                Step::Took(count) => used += count,
+                Step::Took(count) => used += count as usize,
                 Step::Cut => return Ok(Progress::More),
                 Step::Refused(fault) => return Err(fault),
             }
@@ -122,6 +122,7 @@ impl Reader {
     }
 
     /// Reads on, to the end of the descriptor in work or to that of the bytes.
+    #[inline(always)]
     fn step(&mut self, bytes: &[u8]) -> Step
         requires { InWork self.old }
         ensures { Steps self.old bytes.now result self.new }
@@ -150,11 +151,11 @@ impl Reader {
         if self.partial.grow(self.alloc, item).is_err() {
             return Step::Refused(self.partial.out_of_memory());
         }
-        Step::Took(item.len())
+        Step::Took(item.len() as u32)
     }
 
     /// A descriptor that the end of an earlier piece cut is put together first.
-    #[inline(never)]
+    #[inline(always)]
     fn step_in_buffer(&mut self, bytes: &[u8]) -> Step
         requires work { InWork self.old }
         requires some { 0 < length (current_of self.old) }
@@ -176,7 +177,7 @@ impl Reader {
         if grown.is_err() {
             return Step::Refused(self.partial.out_of_memory());
         }
-        Step::Took(count)
+        Step::Took(count as u32)
     }
 
     /// Lets go of all that was read.
@@ -188,6 +189,7 @@ impl Reader {
     }
 
     /// The set, or that the bytes ended before it was whole.
+    #[inline(always)]
     pub(crate) fn finish(self) -> Result<Configuration, SetFault>
         ensures { result ≡ ends_as self }
     {
