@@ -7,6 +7,7 @@
 #![tactic(auto)]
 
 mod files;
+mod host;
 mod work;
 
 use anyhow::{Context, Result, ensure};

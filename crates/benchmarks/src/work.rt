@@ -1,5 +1,6 @@
 //! What is measured.
 use crate::files::file_of;
+use crate::host::{Until, take_naks, take_packets, talk_again, transfer_again};
 use anyhow::Result;
 use std::alloc::Global;
 use std::{fmt, result};
@@ -16,10 +17,16 @@ pub(crate) enum Work {
     List,
     ReadFile,
     WriteFile,
+    HostSetup,
+    HostData,
+    HostStatus,
+    HostPackets,
+    HostNaks,
+    Talk,
 }
 
 impl Work {
-    pub(crate) const ALL: [Work; 7] = [
+    pub(crate) const ALL: [Work; 13] = [
         Work::DecodeWhole,
         Work::DecodePieces,
         Work::DecodeBytes,
@@ -27,6 +34,12 @@ impl Work {
         Work::List,
         Work::ReadFile,
         Work::WriteFile,
+        Work::HostSetup,
+        Work::HostData,
+        Work::HostStatus,
+        Work::HostPackets,
+        Work::HostNaks,
+        Work::Talk,
     ];
 
     /// The word that asks for it.
@@ -39,6 +52,12 @@ impl Work {
             Work::List => "list",
             Work::ReadFile => "read-file",
             Work::WriteFile => "write-file",
+            Work::HostSetup => "host-setup",
+            Work::HostData => "host-data",
+            Work::HostStatus => "host-status",
+            Work::HostPackets => "host-packets",
+            Work::HostNaks => "host-naks",
+            Work::Talk => "talk",
         }
     }
 
@@ -53,6 +72,12 @@ impl Work {
             Work::List => list(alloc, set, rounds),
             Work::ReadFile => read_again(alloc, set, copies, rounds),
             Work::WriteFile => write_again(alloc, set, copies, rounds),
+            Work::HostSetup => transfer_again(set, Until::Setup, rounds),
+            Work::HostData => transfer_again(set, Until::Data, rounds),
+            Work::HostStatus => transfer_again(set, Until::Status, rounds),
+            Work::HostPackets => take_packets(set, rounds),
+            Work::HostNaks => take_naks(set, rounds),
+            Work::Talk => talk_again(alloc, set, rounds),
         }
     }
 }
