@@ -1,11 +1,10 @@
 -- On what is kept of an input while it is read.
-use Rattle.std.proofs.Common.{rules, ◌≡◌, ◌≢◌, ℕ, ◌+◌, ◌<◌, ◌≤◌, ◌⊎◌, List, [], ◌∷◌, ◌++◌, length, take, Bool, true, false, Option, Some, None, Result, Ok, Err, refl, sym, ap, ap₂, ◌∙◌, subst, inl, inr, arith, length-append}
+use Rattle.std.proofs.Common.{◌≡◌, ◌≢◌, ℕ, ◌+◌, ◌<◌, ◌≤◌, ◌⊎◌, List, ◌++◌, length, take, Option, Some, None, Result, Ok, Err, sym, ap, ap₂, ◌∙◌, subst, inl, inr, arith, length-append}
 use Rattle.std.proofs.KnownBytes.{Consumes-trans}
 use Rattle.std.proofs.lemmas.List.{length-take-le}
 use Rattle.std.proofs.Math.Seq.{take-append_seam}
 use Rattle.std.specs.Prelude.{IfErr, IsErrAnd, unwrap_or}
-use Rattle.std.specs.Io.KnownBytes.{Consumes, Keeps}
-use Rattle.usb_set.specs.declared.decoder.Progress.{Progress}
+use Rattle.std.specs.Io.KnownBytes.{Consumes}
 use Rattle.usb_set.specs.declared.fault.SetFault.{SetFault}
 use Rattle.usb_set.specs.declared.fault.SetWhy.{SetWhy}
 use Rattle.usb_set.specs.declared.fault.SetWhy.TheVariants as whys
@@ -14,7 +13,7 @@ use Rattle.usb_set.specs.declared.tree.Configuration.{Configuration}
 use Rattle.usb_set.specs.Faults.{Begins, Faulty}
 use Rattle.usb_set.specs.Layout.{Layout}
 use Rattle.usb_set.specs.Feeding.{Answers, Finishes, WantsMemory}
-use Rattle.usb_set.proofs.Sound.{Begins-more, Faulty-more}
+use Rattle.usb_set.proofs.Sound.{Faulty-more}
 use Rattle.usb_tool.specs.Input.{Left, ReadsSome}
 use Rattle.usb_tool.proofs.Showing.{begins_whole}
 use Rattle.usb_tool.specs.Faults.{fault_by_why, fault_of_set}

@@ -1,10 +1,6 @@
 -- On how `show` ends.
-use Rattle.std.proofs.Common.{◌≡◌, ℕ, ◌≤◌, ◌⊎◌, true, List, [], ◌∷◌, ◌++◌, length, Result, Ok, Err, refl, sym, ap, ◌∙◌, subst, inl, inr, arith, append-nil, length-append}
-use Rattle.std.specs.Prelude.{IfErr, IsErrAnd}
+use Rattle.std.proofs.Common.{◌≡◌, ℕ, ◌≤◌, true, List, [], ◌∷◌, ◌++◌, length, refl, sym, ap, ◌∙◌, subst, inl, inr, arith, append-nil, length-append}
 use Rattle.std.specs.Io.KnownBytes.{Keeps}
-use Rattle.usb_set.specs.declared.fault.SetFault.{SetFault}
-use Rattle.usb_set.specs.declared.fault.SetWhy.{SetWhy}
-use Rattle.usb_set.specs.declared.fault.SetWhy.TheVariants as whys
 use Rattle.usb_set.specs.declared.tree.Configuration.{Configuration}
 use Rattle.usb_set.specs.Faults.{Begins}
 use Rattle.usb_set.specs.Layout.{Layout}
@@ -13,7 +9,7 @@ use Rattle.usb_listing.specs.declared.output.OutFault.TheVariants as outs
 use Rattle.usb_listing.specs.Output.{Held}
 use Rattle.usb_listing.specs.SetListing.{set_lines}
 use Rattle.usb_listing.proofs.Pages.{front_whole, keeps_refl}
-use Rattle.usb_tool.specs.Faults.{fault_by_why, fault_of_output, fault_of_set}
+use Rattle.usb_tool.specs.Faults.{fault_of_output}
 use Rattle.usb_tool.specs.inside.Intake.{IsNoSet}
 use Rattle.usb_tool.specs.Shows.{IsListing, RefusesToShow, WritesListing, WritesListingFront, is_one_set}
 use Rattle.usb_tool.specs.declared.fault.ToolFault.{ToolFault}

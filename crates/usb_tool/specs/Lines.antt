@@ -11,7 +11,7 @@ requiring a = record a { top = record a.top { subcommand_required = true } }
 
 -- the command `usbdesc` with its subcommands
 abbrev pub usbdesc_app : App
-usbdesc_app = with_subcommand (requiring (new_app (codes "usbdesc"))) (new_app (codes "show")).top
+usbdesc_app = with_subcommand (with_subcommand (requiring (new_app (codes "usbdesc"))) (new_app (codes "show")).top) (new_app (codes "check")).top
 
 -- a subcommand of this name was found
 abbrev pub IsNamed : Text → Option (Text × List Row) → Type 0
@@ -20,6 +20,7 @@ IsNamed name found = option_map (λ p. p.0) found ≡ Some name
 -- the line is what the subcommand that was found asks for
 abbrev pub Asks : Line → Option (Text × List Row) → Type 0
 Asks lines.Show found = IsNamed (codes "show") found
+Asks lines.Check found = IsNamed (codes "check") found
 
 -- the words as clap sees them
 abbrev pub word_texts : List (String Global) → List Text

@@ -7,6 +7,7 @@ use Rattle.clap.specs.Words.{fault_of, subcommand_of}
 use Rattle.clap.specs.declared.error.kind.ErrorKind.{ErrorKind}
 use Rattle.clap.specs.declared.error.kind.ErrorKind.TheVariants as kinds
 use Rattle.usb_listing.specs.Output.{Held}
+use Rattle.usb_tool.specs.Checks.{CheckFails, Checked}
 use Rattle.usb_tool.specs.Input.{Left}
 use Rattle.usb_tool.specs.Lines.{Asks, usbdesc_app, word_texts}
 use Rattle.usb_tool.specs.Shows.{Shown, ShowFails}
@@ -38,6 +39,18 @@ pub record ShowIsRefused (words : List (String Global)) (from to : Left) (held h
   pub fails : ShowFails from to held holds fault
   pub ended : status ≡ 3
 
+-- the words ask for `check`, which did its work
+pub record CheckSucceeds (words : List (String Global)) (from to : Left) (held holds : Held) (status : ℕ) : Type 0 where
+  pub asked : Asks lines.Check (subcommand_of usbdesc_app (word_texts words))
+  pub checked : Checked from to held holds status
+
+-- the words ask for `check`, which failed
+pub record CheckIsRefused (words : List (String Global)) (from to : Left) (held holds : Held) (status : ℕ) : Type 0 where
+  pub fault : ToolFault
+  pub asked : Asks lines.Check (subcommand_of usbdesc_app (word_texts words))
+  pub fails : CheckFails from to held holds fault
+  pub ended : status ≡ 3
+
 -- the words are no command, for one of the reasons that clap has or for want of memory; nothing is read
 pub record LineIsRefused (words : List (String Global)) (from to : Left) (held holds : Held) (status : ℕ) : Type 0 where
   pub kind : ErrorKind
@@ -50,4 +63,7 @@ pub record LineIsRefused (words : List (String Global)) (from to : Left) (held h
 abbrev pub Runs : List (String Global) → Left → Left → Held → Held → ℕ → Type 0
 Runs words from to held holds status =
     ShowSucceeds words from to held holds status
-    ⊎ (ShowIsRefused words from to held holds status ⊎ LineIsRefused words from to held holds status)
+    ⊎ (ShowIsRefused words from to held holds status
+    ⊎ (CheckSucceeds words from to held holds status
+    ⊎ (CheckIsRefused words from to held holds status
+    ⊎ LineIsRefused words from to held holds status)))

@@ -12,6 +12,8 @@ use std::alloc::{AllocError, Global};
 pub enum Line {
     /// The listing of the set or the file that is the input.
     Show,
+    /// What breaks a rule of chapter 9 in the file that is the input.
+    Check,
 }
 
 /// What the words ask for, of which the first is the program's name.
@@ -27,7 +29,7 @@ pub fn read_line(alloc: Global, words: &[String]) -> Result<Line, Error>
     let matches = parse(alloc, words)?;
     match line_of(&matches) {
         Some(line) => Ok(line),
-        // A subcommand is required, and there is no other.
+        // A subcommand is required, and there are no others.
         None => Err(Error::from(AllocError)),
     }
 }
@@ -45,6 +47,8 @@ fn line_of(matches: &ArgMatches) -> Option<Line>
     let (name, _) = matches.subcommand()?;
     if name == "show" {
         Some(Line::Show)
+    } else if name == "check" {
+        Some(Line::Check)
     } else {
         None
     }
@@ -63,6 +67,19 @@ Exit status:
   2  the command line is no command
   3  reading, the input or writing is at fault; standard error says how";
 
+/// What stands below the help of `check`.
+const CHECK_HELP: &str = "\
+Input:
+  A descriptor file: the device descriptor, its configuration sets, a qualifier and its
+  other-speed sets where there is another speed, and where a string is named the languages
+  and the strings.
+
+Exit status:
+  0  no rule is broken; the line 'no findings' is written
+  1  a rule is broken; a line is written for each finding
+  2  the command line is no command
+  3  reading, the input or writing is at fault; standard error says how";
+
 fn command<'a>(alloc: Global) -> Result<Command<'a>, AllocError>
     ensures { IfOk result (λ c. app_of c ≡ usbdesc_app) }
 {
@@ -71,8 +88,14 @@ fn command<'a>(alloc: Global) -> Result<Command<'a>, AllocError>
             "Lists the configuration set or descriptor file on standard input, a line for each descriptor",
         )
         .after_help(SHOW_HELP);
+    let check = Command::new(alloc, "check")
+        .about(
+            "Checks the descriptor file on standard input by the rules of chapter 9, a line for each finding",
+        )
+        .after_help(CHECK_HELP);
     Command::new(alloc, "usbdesc")
-        .about("Lists USB 2.0 descriptors")
+        .about("Lists and checks USB 2.0 descriptors")
         .subcommand_required(true)
-        .subcommand(show)
+        .subcommand(show)?
+        .subcommand(check)
 }

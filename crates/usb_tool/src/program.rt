@@ -4,6 +4,7 @@ ghost use Rattle.clap.specs.Values.{kind_of};
 ghost use Rattle.usb_tool.specs.Faults.{status_of};
 ghost use Rattle.usb_tool.specs.Runs.{KeepsUnlessHelp, Runs, line_status};
 
+use crate::check::run_check;
 use crate::fault::{ToolFault, verdict};
 use crate::line::{Line, read_line};
 use crate::show::run_show;
@@ -16,8 +17,8 @@ const USAGE: u8 = 2;
 
 /// Carries out what the words ask for, of which the first is the program's name: `r` is standard input, `w`
 /// standard output and `e` standard error. The result is the exit status: 0 where the command did its work
-/// or help was asked for, 2 where the words are no command, and 3 where the command failed, whose fault's
-/// line is then written to `e`. What cannot be written to `e` is lost.
+/// or help was asked for, 1 where `check` did and has a finding, 2 where the words are no command, and 3 where
+/// the command failed, whose fault's line is then written to `e`. What cannot be written to `e` is lost.
 pub fn run<R: Read, W: Write, E: Write>(
     alloc: Global,
     words: &[String],
@@ -29,6 +30,7 @@ pub fn run<R: Read, W: Write, E: Write>(
 {
     match read_line(alloc, words) {
         Ok(Line::Show) => finish(&run_show(alloc, r, w), e),
+        Ok(Line::Check) => finish(&run_check(alloc, r, w), e),
         Err(error) => explain(&error, w, e),
     }
 }

@@ -1,6 +1,5 @@
-use Rattle.std.proofs.Common.{rules, ◌++◌, ◌≤◌, take, length, arith, inr, subst, sym, ◌∙◌}
+use Rattle.std.proofs.Common.{rules, ◌++◌, ◌≤◌, take, length, arith, sym, ◌∙◌}
 use Rattle.std.proofs.KnownBytes.{Consumes-trans}
-use Rattle.usb_tool.specs.inside.Intake.{ReadFails}
 use Rattle.usb_tool.proofs.Intakes.{counted_more, reads_on, stops_reading}
 use Rattle.usb_tool.proofs.input.read_input.Goals as goal
 

@@ -1,5 +1,4 @@
-use Rattle.std.proofs.Common.{rules, subst}
-use Rattle.usb_set.specs.Feeding.{Answers}
+use Rattle.std.proofs.Common.{rules}
 use Rattle.usb_tool.proofs.Intakes.{fed_fault}
 use Rattle.usb_tool.proofs.set_intake.SetIntake.take.Goals as goal
 
