@@ -3,11 +3,14 @@
 //! * [`Sequence`], the list type of public fields. In a contract it is its elements in order, so that
 //!   a whole tree of structs is plain data there, which is compared by one equation.
 //! * [`known_bytes`], which tells a proof that the elements of a slice of bytes are bytes.
+//! * [`Marks`], a set of bytes, for walks that look back.
 //! * `specs/Bytes.antt`: what a byte is, and the two bytes of a 16-bit field (USB 2.0, 8.1).
 #![tactic(auto)]
 
 mod known;
+mod marks;
 mod sequence;
 
 pub use known::known_bytes;
+pub use marks::Marks;
 pub use sequence::Sequence;

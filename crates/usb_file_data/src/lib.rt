@@ -12,7 +12,6 @@ mod fault;
 mod file;
 mod judging;
 mod marking;
-mod marks;
 mod naming;
 
 pub use fault::WriteFault;

@@ -1,12 +1,13 @@
 //! Which strings a file names.
 ghost use Rattle.std.specs.Prelude.{◌≡◌, ◌+◌, ◌≤◌, IfOk, length};
 ghost use Rattle.usb_file_data.specs.Named.{named_indices};
-ghost use Rattle.usb_file_data.specs.inside.Marks.{is_marked, marked_among};
+ghost use Rattle.usb_base.specs.Marks.{is_marked};
+ghost use Rattle.usb_file_data.specs.inside.Marks.{marked_among};
 
 use crate::file::DescriptorFile;
 use crate::marking::mark_file;
-use crate::marks::Marks;
 use std::alloc::Global;
+use usb_base::Marks;
 
 /// Want of memory, as std tells it.
 pub use std::alloc::AllocError as NoMemory;

@@ -1,4 +1,4 @@
-//! Lines on their way to a writer, a few kilobytes at a time.
+//! Lines on their way to a writer, some thirty kilobytes at a time.
 ghost use Rattle.std.specs.Prelude.{◌≡◌, ◌+◌, ◌*◌, [], ◌∷◌, ◌++◌, codes, IfErr, IfOk, IfSome, OnErr, OnOk};
 ghost use Rattle.hex.specs.Hex.{encode_lower};
 ghost use Rattle.usb_listing.specs.Lines.{written_field, one_byte, two_bytes};
@@ -13,12 +13,12 @@ use std::io::Write;
 use std::marker::Model;
 
 /// How many bytes a page has room for at first.
-const ROOM: usize = 4096;
+const ROOM: usize = FULL + 2048;
 
 /// A page that holds this many bytes is passed on. It is looked at after three lines at most beside the
 /// device's: those of an interface, an endpoint and a raw descriptor, or of a qualifier, the languages and
 /// a string. In a file that has bytes none of them takes more than 640, so its page never grows.
-const FULL: usize = 2048;
+const FULL: usize = 32 * 1024;
 
 /// Lines that the writer has not got yet.
 #[derive(Drop)]

@@ -17,7 +17,7 @@ use Rattle.usb_rules.specs.Findings.{shared_addresses}
 use Rattle.usb_rules.specs.inside.Owners.{joined, is_other, Owned, owned, owned_at, owns, unowned, owning}
 use Rattle.usb_rules.specs.declared.owners.Owner.{Owner}
 use Rattle.usb_rules.specs.declared.owners.Owner.TheVariants as owners
-use Rattle.usb_rules.proofs.Cells.{funext}
+use Rattle.usb_base.proofs.Cells.{funext}
 
 or-false : (b : Bool) → b ≡ (b || false)
 or-false true = refl

@@ -13,9 +13,9 @@ use Rattle.usb_rules.specs.declared.finding.Finding.{Finding}
 use Rattle.usb_rules.specs.Places.{stands_in, when, finding, at_each, at_each_after}
 use Rattle.usb_rules.specs.Rules.{number_of, address_of, value_of, is_default_of, repeats_address, wrong_value, interface_numbers, is_first}
 use Rattle.usb_rules.specs.Findings.{missing_default_settings}
-use Rattle.usb_rules.specs.inside.Marks.{nothing, marked}
+use Rattle.usb_base.specs.Marks.{unmarked, marked}
 use Rattle.usb_rules.specs.inside.Running.{marking, marked_default, new_numbers}
-use Rattle.usb_rules.proofs.Cells.{funext}
+use Rattle.usb_base.proofs.Cells.{funext}
 
 -- one element
 pub marking_more : {A B : Type 0} (key : A → ℕ) (holds : (ℕ → Bool) → A → Bool) (found : ℕ → A → B) (marks : ℕ → Bool) (place : ℕ) (x : A) (xs : List A)
@@ -82,14 +82,14 @@ at_each_end f xs i out whole h e =
 -- ---- V7
 
 pub repeated_in_setting_are : (part : Part) (i j : ℕ) (endpoints : List Endpoint)
-    → marking address_of (λ marks e. marks e.address) (λ k e. finding 7 part i j k) nothing 0 endpoints
+    → marking address_of (λ marks e. marks e.address) (λ k e. finding 7 part i j k) unmarked 0 endpoints
     ≡ at_each_after (λ before k e. when (repeats_address before e) (finding 7 part i j k)) [] 0 endpoints
 repeated_in_setting_are part i j endpoints = marking_is address_of (λ marks e. marks e.address) (λ k e. finding 7 part i j k) [] 0 endpoints
 
 -- ---- V10
 
 pub values_are : (part : Part) (sets : List Configuration)
-    → marking value_of (λ marks c. (c.value == 0) || marks c.value) (λ i c. finding 10 part i 0 0) nothing 0 sets
+    → marking value_of (λ marks c. (c.value == 0) || marks c.value) (λ i c. finding 10 part i 0 0) unmarked 0 sets
     ≡ at_each_after (λ before i c. when (wrong_value before c) (finding 10 part i 0 0)) [] 0 sets
 values_are part sets = marking_is value_of (λ marks c. (c.value == 0) || marks c.value) (λ i c. finding 10 part i 0 0) [] 0 sets
 
@@ -155,11 +155,11 @@ or-false false = refl
 
 -- every number that has an alternate setting 0, and then every number that stood, is marked
 pub missing_default_settings_are : (part : Part) (i : ℕ) (c : Configuration)
-    → marking number_of (λ marks s. not (marks s.number)) (λ j s. finding 4 part i j 0) (fold marked_default nothing c.settings) 0 c.settings
+    → marking number_of (λ marks s. not (marks s.number)) (λ j s. finding 4 part i j 0) (fold marked_default unmarked c.settings) 0 c.settings
     ≡ missing_default_settings part i c
 missing_default_settings_are part i c =
     let base : ℕ → Bool = λ n. list_any (is_default_of n) c.settings in
-    let is : fold marked_default nothing c.settings ≡ base = funext _ _ (λ n. defaults_say nothing c.settings n ∙ or-false (base n)) in
+    let is : fold marked_default unmarked c.settings ≡ base = funext _ _ (λ n. defaults_say unmarked c.settings n ∙ or-false (base n)) in
     ap (λ marks. marking number_of (λ marks s. not (marks s.number)) (λ j s. finding 4 part i j 0) marks 0 c.settings) is
     ∙ marking_besides number_of (λ marks s. not (marks s.number)) (λ j s. finding 4 part i j 0) base [] 0 c.settings
     ∙ at_each_after_along _ _ (λ before j s. ap (λ b. when b (finding 4 part i j 0)) (nor (stands_in (map number_of before) s.number) (base s.number))) [] 0 c.settings
@@ -178,8 +178,8 @@ marks_say marks [] k = refl
 marks_say marks (x ∷ xs) k = marks_say (marked marks x) xs k ∙ or_turn (stands_in xs k) (x == k) (marks k)
 
 -- the numbers of a list, marked
-pub marks_are : (xs : List ℕ) → fold marked nothing xs ≡ stands_in xs
-marks_are xs = funext _ _ (λ k. marks_say nothing xs k ∙ or-false (stands_in xs k))
+pub marks_are : (xs : List ℕ) → fold marked unmarked xs ≡ stands_in xs
+marks_are xs = funext _ _ (λ k. marks_say unmarked xs k ∙ or-false (stands_in xs k))
 
 count_first : {A : Type 0} (b : Bool) (x : A) (rest : List A) → length (when (not b) x ++ rest) ≡ (if b then 0 else 1) + length rest
 count_first true x rest = omega arith
@@ -194,7 +194,7 @@ new_numbers_are before j (s ∷ settings) =
     ap (λ n. (if stands_in (map number_of before) s.number then 0 else 1) + n) (new_numbers_are (s ∷ before) (j + 1) settings)
     ∙ sym (count_first (stands_in (map number_of before) s.number) s.number (at_each_after (λ seen i s. when (is_first seen s) s.number) (s ∷ before) (j + 1) settings))
 
-pub interfaces_are : (settings : List Setting) → new_numbers nothing (map number_of settings) ≡ length (interface_numbers settings)
+pub interfaces_are : (settings : List Setting) → new_numbers unmarked (map number_of settings) ≡ length (interface_numbers settings)
 interfaces_are settings = new_numbers_are [] 0 settings
 
 pub new_numbers_more : (marks : ℕ → Bool) (n : ℕ) (ns : List ℕ) → new_numbers marks (n ∷ ns) ≡ (if marks n then 0 else 1) + new_numbers (marked marks n) ns

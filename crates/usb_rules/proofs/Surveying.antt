@@ -9,8 +9,8 @@ use Rattle.usb_rules.specs.declared.finding.Part.{Part}
 use Rattle.usb_rules.specs.Places.{when, finding, at_each_after, stands_in}
 use Rattle.usb_rules.specs.Rules.{is_default_of, is_first, lacks_default_setting, number_of, repeats_setting}
 use Rattle.usb_rules.specs.inside.Alternates.{IsPlain, in_order, plain, raised, seen, zeros}
-use Rattle.usb_rules.specs.inside.Marks.{marked}
-use Rattle.usb_rules.proofs.Cells.{funext}
+use Rattle.usb_base.specs.Marks.{marked}
+use Rattle.usb_base.proofs.Cells.{funext}
 use Rattle.usb_rules.proofs.Pairing.{stood}
 
 -- ---- the numbers that stood

@@ -1,5 +1,4 @@
 pub mod SetRules
-pub mod Marks
 pub mod Running
 pub mod Telling
 pub mod Owners

@@ -4,14 +4,14 @@ ghost use Rattle.usb_rules.specs.Findings.{missing_default_settings};
 ghost use Rattle.usb_rules.specs.Places.{finding};
 ghost use Rattle.usb_rules.specs.Rules.{number_of};
 ghost use Rattle.usb_rules.specs.inside.Alternates.{IsSurvey};
-ghost use Rattle.usb_rules.specs.inside.Marks.{says};
+ghost use Rattle.usb_base.specs.Marks.{is_marked};
 ghost use Rattle.usb_rules.specs.inside.Running.{marked_default, marking};
 
 use crate::finding::{Finding, Part};
-use crate::marks::Marks;
 use crate::push::push_when;
 use crate::survey::Survey;
 use std::alloc::AllocError;
+use usb_base::Marks;
 use usb_set::{Configuration, Setting};
 
 pub(crate) fn check_default_settings(
@@ -47,7 +47,7 @@ fn tell_missing(
 
 /// Marks the interface numbers that have an alternate setting 0.
 fn mark_defaults(marks: &mut Marks, settings: &[Setting])
-    ensures { says marks.new ≡ fold marked_default (says marks.old) settings.now }
+    ensures { is_marked marks.new ≡ fold marked_default (is_marked marks.old) settings.now }
 {
     for s in settings {
         mark_default(marks, s);
@@ -56,7 +56,7 @@ fn mark_defaults(marks: &mut Marks, settings: &[Setting])
 
 #[tactic(auto, unfolding(crate::specs::inside::Running::marked_default))]
 fn mark_default(marks: &mut Marks, s: &Setting)
-    ensures { says marks.new ≡ marked_default (says marks.old) s.now }
+    ensures { is_marked marks.new ≡ marked_default (is_marked marks.old) s.now }
 {
     if s.alternate == 0 {
         marks.add(s.number);
@@ -71,7 +71,7 @@ fn tell_others(
     set: usize,
     settings: &[Setting],
 ) -> Result<(), AllocError>
-    ensures { OnOk result (out.new.items ≡ out.old.items ++ marking number_of (λ marks s. not (marks s.number)) (λ j s. finding 4 part set j 0) (says told.old) 0 settings.now) }
+    ensures { OnOk result (out.new.items ≡ out.old.items ++ marking number_of (λ marks s. not (marks s.number)) (λ j s. finding 4 part set j 0) (is_marked told.old) 0 settings.now) }
 {
     for (setting, s) in settings.iter().enumerate() {
         push_when(

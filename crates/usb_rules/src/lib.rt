@@ -17,7 +17,6 @@ mod endpoint;
 mod finding;
 mod interfaces;
 mod lists;
-mod marks;
 mod owners;
 mod pairs;
 mod push;

@@ -3,13 +3,13 @@ ghost use Rattle.std.specs.Prelude.{◌≡◌, ◌++◌, OnOk};
 ghost use Rattle.usb_rules.specs.Findings.{repeated_addresses, repeated_in_setting};
 ghost use Rattle.usb_rules.specs.Places.{at_each, finding};
 ghost use Rattle.usb_rules.specs.Rules.{address_of};
-ghost use Rattle.usb_rules.specs.inside.Marks.{nothing};
+ghost use Rattle.usb_base.specs.Marks.{unmarked};
 ghost use Rattle.usb_rules.specs.inside.Running.{marking};
 
 use crate::finding::{Finding, Part};
-use crate::marks::Marks;
 use crate::push::push_when;
 use std::alloc::AllocError;
+use usb_base::Marks;
 use usb_set::{Configuration, Endpoint, Setting};
 
 pub(crate) fn check_repeated_addresses(
@@ -60,7 +60,7 @@ fn check_endpoints(
     setting: usize,
     endpoints: &[Endpoint],
 ) -> Result<(), AllocError>
-    ensures { OnOk result (out.new.items ≡ out.old.items ++ marking address_of (λ marks e. marks e.address) (λ k e. finding 7 part set setting k) nothing 0 endpoints.now) }
+    ensures { OnOk result (out.new.items ≡ out.old.items ++ marking address_of (λ marks e. marks e.address) (λ k e. finding 7 part set setting k) unmarked 0 endpoints.now) }
 {
     let mut seen = Marks::new();
     for (endpoint, e) in endpoints.iter().enumerate() {

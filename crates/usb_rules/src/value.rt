@@ -3,13 +3,13 @@ ghost use Rattle.std.specs.Prelude.{◌≡◌, ◌==◌, ◌||◌, ◌++◌, OnO
 ghost use Rattle.usb_rules.specs.Findings.{values};
 ghost use Rattle.usb_rules.specs.Places.{finding, in_parts};
 ghost use Rattle.usb_rules.specs.Rules.{value_of};
-ghost use Rattle.usb_rules.specs.inside.Marks.{nothing, says};
+ghost use Rattle.usb_base.specs.Marks.{unmarked, is_marked};
 ghost use Rattle.usb_rules.specs.inside.Running.{marking};
 
 use crate::finding::{Finding, Part};
-use crate::marks::Marks;
 use crate::push::push_when;
 use std::alloc::AllocError;
+use usb_base::Marks;
 use usb_file_data::DescriptorFile;
 use usb_set::Configuration;
 
@@ -32,7 +32,7 @@ fn check_part(out: &mut Vec<Finding>, part: Part, sets: &[Configuration]) -> Res
 }
 
 fn check_sets(out: &mut Vec<Finding>, part: Part, sets: &[Configuration]) -> Result<(), AllocError>
-    ensures { OnOk result (out.new.items ≡ out.old.items ++ marking value_of (λ marks c. (c.value == 0) || marks c.value) (λ i c. finding 10 part i 0 0) nothing 0 sets.now) }
+    ensures { OnOk result (out.new.items ≡ out.old.items ++ marking value_of (λ marks c. (c.value == 0) || marks c.value) (λ i c. finding 10 part i 0 0) unmarked 0 sets.now) }
 {
     let mut seen = Marks::new();
     for (set, c) in sets.iter().enumerate() {
@@ -47,7 +47,7 @@ fn check_sets(out: &mut Vec<Finding>, part: Part, sets: &[Configuration]) -> Res
 }
 
 fn is_wrong(seen: &Marks, value: u8) -> bool
-    ensures { result ≡ ((value == 0) || says seen.now value) }
+    ensures { result ≡ ((value == 0) || is_marked seen.now value) }
 {
     value == 0 || seen.has(value)
 }

@@ -2,7 +2,7 @@
 use Rattle.std.specs.Prelude.{ℕ, ◌+◌, List, [], ◌∷◌, ◌++◌, Bool, ◌==◌, ◌||◌, if◌then◌else◌}
 use Rattle.usb_set.specs.declared.tree.Setting.{Setting}
 use Rattle.usb_rules.specs.Places.{when}
-use Rattle.usb_rules.specs.inside.Marks.{marked}
+use Rattle.usb_base.specs.Marks.{marked}
 
 -- What is found at each element whose test holds, which sees what is marked; then its key is marked.
 unfoldable pub marking : {A B : Type 0} → (A → ℕ) → ((ℕ → Bool) → A → Bool) → (ℕ → A → B) → (ℕ → Bool) → ℕ → List A → List B

@@ -1,5 +1,6 @@
 use Rattle.std.proofs.Common.{◌≡◌, ap, ◌∙◌, length}
-use Rattle.usb_file_data.specs.inside.Marks.{marked_among, is_marked}
+use Rattle.usb_base.specs.Marks.{is_marked}
+use Rattle.usb_file_data.specs.inside.Marks.{marked_among}
 use Rattle.usb_file_data.specs.Named.{string_indices, named_indices}
 use Rattle.usb_file_data.proofs.Folds.{among_marks}
 use Rattle.usb_file_data.proofs.naming.count_named.Goals as goal

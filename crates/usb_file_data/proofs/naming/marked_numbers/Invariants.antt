@@ -1,5 +1,6 @@
 use Rattle.std.proofs.Common.{◌≡◌}
-use Rattle.usb_file_data.specs.inside.Marks.{marked_among, is_marked}
+use Rattle.usb_base.specs.Marks.{is_marked}
+use Rattle.usb_file_data.specs.inside.Marks.{marked_among}
 use Rattle.usb_file_data.proofs.naming.marked_numbers.Given as goal
 
 abbrev pub invariant-loop-i : goal.invariant-loop-i

@@ -2,7 +2,7 @@ use Rattle.std.proofs.Common.{◌≡◌, ◌+◌, ◌<◌, ◌==◌, ◌∙◌, 
 use Rattle.std.specs.Prelude.{fold, if◌then◌else◌}
 use Rattle.usb_rules.specs.Rules.{number_of}
 use Rattle.usb_rules.specs.inside.Alternates.{in_order, plain, raised, reads, seen}
-use Rattle.usb_rules.specs.inside.Marks.{marked}
+use Rattle.usb_base.specs.Marks.{marked}
 use Rattle.usb_rules.specs.inside.Running.{new_numbers}
 use Rattle.usb_rules.proofs.Running.{counted_again, counted_new, interfaces_are, marks_are, marks_end, marks_next, numbers_end, numbers_next, one_more_at_most}
 use Rattle.usb_rules.proofs.Surveying.{plain_end, plain_is, plain_next, seen_raised, seen_some}

@@ -1,7 +1,8 @@
 use Rattle.std.proofs.Common.{◌≡◌, subst, sym, arith}
 use Rattle.std.specs.Prelude.{slice_set}
 use Rattle.usb_rules.specs.inside.Alternates.{reads, raised}
-use Rattle.usb_rules.proofs.Cells.{change_at, funext}
+use Rattle.usb_base.proofs.Cells.{funext}
+use Rattle.usb_rules.proofs.Cells.{change_at}
 use Rattle.usb_rules.proofs.alternates.Alternates.set.Goals as goal
 
 pub returns : goal.returns

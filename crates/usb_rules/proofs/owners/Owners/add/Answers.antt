@@ -2,7 +2,7 @@ use Rattle.std.proofs.Common.{◌≡◌, subst, sym, ap, ◌∙◌, arith}
 use Rattle.std.specs.Prelude.{slice_set, slice_index_or}
 use Rattle.usb_rules.specs.declared.owners.Owner.TheVariants as owners
 use Rattle.usb_rules.specs.inside.Owners.{owns, owned_at, joined}
-use Rattle.usb_rules.proofs.Cells.{funext}
+use Rattle.usb_base.proofs.Cells.{funext}
 use Rattle.usb_rules.proofs.Owning.{set_owner}
 use Rattle.usb_rules.proofs.owners.Owners.add.Goals as goal
 

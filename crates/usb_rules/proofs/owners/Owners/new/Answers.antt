@@ -1,5 +1,5 @@
 use Rattle.usb_rules.specs.inside.Owners.{owns}
-use Rattle.usb_rules.proofs.Cells.{funext}
+use Rattle.usb_base.proofs.Cells.{funext}
 use Rattle.usb_rules.proofs.Owning.{nobody_at}
 use Rattle.usb_rules.proofs.owners.Owners.new.Goals as goal
 

@@ -1,7 +1,7 @@
 use Rattle.std.proofs.Common.{◌≡◌, ◌<◌, length, true, [], subst, ap, ◌∙◌, arith}
 use Rattle.std.specs.Prelude.{slice_set, slice_index_or}
 use Rattle.usb_rules.specs.inside.Pairs.{tells, pair_too}
-use Rattle.usb_rules.proofs.Cells.{funext}
+use Rattle.usb_base.proofs.Cells.{funext}
 use Rattle.usb_rules.proofs.Pairing.{row_length, set_pair}
 use Rattle.usb_rules.proofs.pairs.Pairs.add.Goals as goal
 

@@ -1,8 +1,8 @@
 use Rattle.std.proofs.Common.{◌≡◌, subst, sym, true, arith}
 use Rattle.std.specs.Prelude.{slice_set}
-use Rattle.usb_file_data.specs.inside.Marks.{is_marked, marked}
-use Rattle.usb_file_data.proofs.Cells.{set_at, funext}
-use Rattle.usb_file_data.proofs.marks.Marks.add.Goals as goal
+use Rattle.usb_base.specs.Marks.{is_marked, marked}
+use Rattle.usb_base.proofs.Cells.{set_at, funext}
+use Rattle.usb_base.proofs.marks.Marks.add.Goals as goal
 
 pub returns : goal.returns
 unfolding is_marked

@@ -3,7 +3,7 @@ use Rattle.std.proofs.Common.{◌≡◌, ℕ, zero, suc, ◌<◌, List, Bool, tr
 use Rattle.std.specs.Prelude.{slice_set}
 use Rattle.std.proofs.lemmas.Bool.Decides.{nat_tests}
 use Rattle.std.proofs.lemmas.Grind.{common_steps}
-use Rattle.usb_file_data.specs.inside.Marks.{marked}
+use Rattle.usb_base.specs.Marks.{marked}
 
 pub none_at : (n k : ℕ) → get_or (replicate n false) k false ≡ false
 none_at zero k = refl

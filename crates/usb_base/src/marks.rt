@@ -1,12 +1,18 @@
-//! Which bytes were seen.
+//! `Marks`, a set of bytes.
 ghost use Rattle.std.specs.Prelude.{◌≡◌};
-ghost use Rattle.usb_file_data.specs.inside.Marks.{unmarked, marked, is_marked};
+ghost use Rattle.usb_base.specs.Marks.{unmarked, marked, is_marked};
 
 use std::marker::Model;
 
-/// A set of bytes.
+/// Which of the 256 bytes were added: what a walk that looks back keeps. Takes no memory.
+///
+/// ```rust
+/// let mut seen = Marks::new();
+/// seen.add(7);
+/// assert!(rt; seen.has(7) && !seen.has(8));
+/// ```
 #[derive(Drop)]
-pub(crate) struct Marks {
+pub struct Marks {
     seen: [bool; 256],
 }
 
@@ -22,22 +28,22 @@ impl Model for Marks {
 
 impl Marks {
     /// With no byte.
-    pub(crate) fn new() -> Marks
+    pub fn new() -> Marks
         ensures { is_marked result ≡ unmarked }
     {
         Marks { seen: [false; 256] }
     }
 
     /// Whether the byte was added.
-    #[tactic(auto, unfolding(crate::specs::inside::Marks::is_marked))]
-    pub(crate) fn has(&self, n: u8) -> bool
+    #[tactic(auto, unfolding(crate::specs::Marks::is_marked))]
+    pub fn has(&self, n: u8) -> bool
         ensures { result ≡ is_marked self.now n }
     {
         self.seen[usize::from(n)]
     }
 
     /// Adds a byte.
-    pub(crate) fn add(&mut self, n: u8)
+    pub fn add(&mut self, n: u8)
         ensures { is_marked self.new ≡ marked (is_marked self.old) n }
     {
         self.seen[usize::from(n)] = true;

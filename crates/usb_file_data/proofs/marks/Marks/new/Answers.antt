@@ -1,8 +1,0 @@
-use Rattle.std.proofs.Common.{replicate, false}
-use Rattle.usb_file_data.specs.inside.Marks.{is_marked, unmarked}
-use Rattle.usb_file_data.proofs.Cells.{none_at, funext}
-use Rattle.usb_file_data.proofs.marks.Marks.new.Goals as goal
-
-pub returns : goal.returns
-unfolding is_marked
-returns c = funext (is_marked (replicate 256 false)) unmarked (λ k. none_at 256 k)
