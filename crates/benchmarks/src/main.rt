@@ -8,6 +8,7 @@
 
 mod files;
 mod host;
+mod rules;
 mod work;
 
 use anyhow::{Context, Result, ensure};

@@ -1,6 +1,7 @@
 //! What is measured.
 use crate::files::file_of;
 use crate::host::{Until, take_naks, take_packets, talk_again, transfer_again};
+use crate::rules::{check_file, check_sets};
 use anyhow::Result;
 use std::alloc::Global;
 use std::{fmt, result};
@@ -23,10 +24,12 @@ pub(crate) enum Work {
     HostPackets,
     HostNaks,
     Talk,
+    CheckSets,
+    CheckFile,
 }
 
 impl Work {
-    pub(crate) const ALL: [Work; 13] = [
+    pub(crate) const ALL: [Work; 15] = [
         Work::DecodeWhole,
         Work::DecodePieces,
         Work::DecodeBytes,
@@ -40,6 +43,8 @@ impl Work {
         Work::HostPackets,
         Work::HostNaks,
         Work::Talk,
+        Work::CheckSets,
+        Work::CheckFile,
     ];
 
     /// The word that asks for it.
@@ -58,6 +63,8 @@ impl Work {
             Work::HostPackets => "host-packets",
             Work::HostNaks => "host-naks",
             Work::Talk => "talk",
+            Work::CheckSets => "check-sets",
+            Work::CheckFile => "check-file",
         }
     }
 
@@ -78,6 +85,8 @@ impl Work {
             Work::HostPackets => take_packets(set, rounds),
             Work::HostNaks => take_naks(set, rounds),
             Work::Talk => talk_again(alloc, set, rounds),
+            Work::CheckSets => check_sets(alloc, set, copies, rounds),
+            Work::CheckFile => check_file(alloc, set, rounds),
         }
     }
 }

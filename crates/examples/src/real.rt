@@ -1,11 +1,12 @@
-//! The examples: each is listed as the text beside it says, and written again to the same bytes.
+//! The examples: each is listed as the text beside it says, and written again to the same bytes. Of a file what
+//! breaks the rules is told as a second text says.
 use anyhow::{Result, ensure};
 use std::alloc::Global;
 use std::fs;
 use std::rt::Files;
 use usb_file::{read_file, write_file};
 use usb_set::{Decoder, encode};
-use usb_tool::run_show;
+use usb_tool::{run_check, run_show};
 
 /// What an example is.
 #[derive(Clone, Copy, PartialEq, Eq)]
@@ -27,7 +28,11 @@ pub(crate) fn go_through<R: Files + AllocGlobal>(rt: &R, kind: Kind, name: &str)
     ensure!(text.as_slice() == wanted.as_slice(), "another listing");
     match kind {
         Kind::Set => write_set_again(alloc, bytes.as_slice())?,
-        Kind::File => write_file_again(alloc, bytes.as_slice())?,
+        Kind::File => {
+            write_file_again(alloc, bytes.as_slice())?;
+            let findings = fs::read(rt, format!(in alloc; "{name}.check")?)?;
+            compare_findings(alloc, bytes.as_slice(), findings.as_slice())?;
+        }
     }
     let lines = text.iter().filter(|byte| **byte == b'\n').count();
     Ok(format!(in alloc; "{} bytes, {lines} descriptors", bytes.len())?)
@@ -38,6 +43,21 @@ fn list(alloc: Global, bytes: &[u8]) -> Result<Vec<u8>> {
     let mut text = Vec::new(alloc);
     run_show(alloc, &mut reader, &mut text)?;
     Ok(text)
+}
+
+/// Checks the file: what it breaks is told so, and the status is 0 only where it breaks nothing.
+fn compare_findings(alloc: Global, bytes: &[u8], wanted: &[u8]) -> Result<()> {
+    let mut reader = bytes;
+    let mut text = Vec::new(alloc);
+    let status = run_check(alloc, &mut reader, &mut text)?;
+    ensure!(text.as_slice() == wanted, "other findings");
+    let status_wanted = if wanted == b"no findings\n".as_slice() {
+        0
+    } else {
+        1
+    };
+    ensure!(status == status_wanted, "status {status}");
+    Ok(())
 }
 
 /// Reads the set and writes it again, to the same bytes.

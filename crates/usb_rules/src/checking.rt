@@ -20,6 +20,12 @@ pub use std::alloc::AllocError as NoMemory;
 /// # Errors
 ///
 /// A growth was refused.
+///
+/// ```rust
+/// for finding in check(rt.alloc(), &file)?.iter() {
+///     println!(rt; "{finding}")?;
+/// }
+/// ```
 pub fn check(alloc: Global, f: &DescriptorFile) -> Result<Vec<Finding>, NoMemory>
     ensures { IfOk result (λ v. v.items ≡ findings f.now) }
 {

@@ -28,6 +28,11 @@ impl fmt::Display for Part {
 }
 
 /// A broken rule at its place. Numbers that a rule does not use are 0.
+///
+/// ```rust
+/// let second_set = Finding { rule: 10, part: Part::Main, set: 1, setting: 0, endpoint: 0 };
+/// assert_eq!(rt; format!(in rt.alloc(); "{second_set}")?.as_str(), "V10 main 1 0 0");
+/// ```
 #[derive(Clone, Copy, Debug, PartialEq, Eq, Hash)]
 pub struct Finding {
     /// The number of the rule, from 1.
