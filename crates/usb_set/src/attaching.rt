@@ -1,7 +1,7 @@
 //! The tree with one more descriptor.
-ghost use Rattle.std.specs.Prelude.{◌≡◌, ◌≤◌, ◌<◌, length, OnOk, IfOk};
+ghost use Rattle.std.specs.Prelude.{◌≡◌, ◌≤◌, ◌<◌, [], ◌∷◌, ◌++◌, length, OnOk, IfOk};
 ghost use Rattle.usb_set.specs.WithoutAssociations.{association_of};
-ghost use Rattle.usb_set.specs.inside.Reading.{attach, configuration_of, endpoint_of, endpoint_with_extra, set_with_extra, set_with_setting, setting_of, setting_with_endpoint, setting_with_extra, with_last};
+ghost use Rattle.usb_set.specs.inside.Reading.{attach, configuration_of, endpoint_of, endpoint_with_extra, set_with_endpoint, set_with_extra, set_with_setting, setting_of, setting_with_endpoint, setting_with_extra, with_last};
 
 use crate::tree::{Association, Configuration, Endpoint, Extra, Raw, SetKind, Setting};
 use std::alloc::{AllocError, Global};
@@ -103,10 +103,33 @@ fn add_to_endpoint(e: &mut Endpoint, extra: Extra) -> Result<(), AllocError>
 }
 
 #[tactic(auto, unfolding(crate::specs::inside::Reading::setting_with_endpoint))]
-fn add_endpoint(s: &mut Setting, endpoint: Endpoint) -> Result<(), AllocError>
+#[inline(always)]
+fn push_endpoint(s: &mut Setting, endpoint: Endpoint) -> Result<(), AllocError>
     ensures { OnOk result (s.new ≡ setting_with_endpoint endpoint s.old) }
 {
     s.endpoints.push(endpoint)?;
+    Ok(())
+}
+
+/// Adds the endpoint of an endpoint descriptor's body to the last setting.
+#[tactic(auto, using(crate::proofs::Last::with_last_is))]
+#[inline(never)]
+fn add_endpoint(alloc: Global, c: &mut Configuration, body: &[u8]) -> Result<(), AllocError>
+    requires body { 5 ≤ length body.now }
+    requires belongs { 0 < length c.old.settings }
+    ensures { OnOk result (c.new ≡ set_with_endpoint (endpoint_of body.now) c.old) }
+{
+    let endpoint = read_endpoint(alloc, body)?;
+    let count = c.settings.len();
+    push_endpoint(c.settings.at_mut(count - 1), endpoint)
+}
+
+/// Adds one at the end of such a list.
+#[inline(never)]
+fn add_extra(extras: &mut Sequence<Extra>, extra: Extra) -> Result<(), AllocError>
+    ensures { OnOk result (extras.new ≡ extras.old ++ extra ∷ []) }
+{
+    extras.push(extra)?;
     Ok(())
 }
 
@@ -117,7 +140,7 @@ fn add_to_setting(s: &mut Setting, extra: Extra) -> Result<(), AllocError>
 {
     let count = s.endpoints.len();
     if count == 0 {
-        s.extras.push(extra)?;
+        add_extra(&mut s.extras, extra)?;
     } else {
         add_to_endpoint(s.endpoints.at_mut(count - 1), extra)?;
     }
@@ -158,9 +181,7 @@ pub(crate) fn attach(
             add_setting(alloc, c, body)?;
         }
         5 => {
-            let endpoint = read_endpoint(alloc, body)?;
-            let count = c.settings.len();
-            add_endpoint(c.settings.at_mut(count - 1), endpoint)?;
+            add_endpoint(alloc, c, body)?;
         }
         11 => {
             let association = read_association(alloc, body)?;
