@@ -57,7 +57,7 @@ fn done(set: &[u8], sum: u64) -> Result<usize> {
 }
 
 /// A transfer so many times over: its SETUP, then perhaps an empty data packet, and then perhaps its status stage.
-pub(crate) fn transfer_again(set: &[u8], until: Until, rounds: u32) -> Result<usize> {
+pub(crate) fn drive_again(set: &[u8], until: Until, rounds: u32) -> Result<usize> {
     let mut sum = 0;
     for _ in 0..rounds {
         let mut transfer = Transfer::new(1, PACKET, u16::MAX, get_set(set));

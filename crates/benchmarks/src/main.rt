@@ -9,6 +9,7 @@
 mod files;
 mod host;
 mod rules;
+mod transfers;
 mod work;
 
 use anyhow::{Context, Result, ensure};

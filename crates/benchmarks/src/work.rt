@@ -1,7 +1,8 @@
 //! What is measured.
 use crate::files::file_of;
-use crate::host::{Until, take_naks, take_packets, talk_again, transfer_again};
+use crate::host::{Until, drive_again, take_naks, take_packets, talk_again};
 use crate::rules::{check_file, check_sets};
+use crate::transfers::{refuse_again, transfer_again};
 use anyhow::Result;
 use std::alloc::Global;
 use std::{fmt, result};
@@ -26,10 +27,15 @@ pub(crate) enum Work {
     Talk,
     CheckSets,
     CheckFile,
+    Setup,
+    OnePacket,
+    TenPackets,
+    Status,
+    Nak,
 }
 
 impl Work {
-    pub(crate) const ALL: [Work; 15] = [
+    pub(crate) const ALL: [Work; 20] = [
         Work::DecodeWhole,
         Work::DecodePieces,
         Work::DecodeBytes,
@@ -45,6 +51,11 @@ impl Work {
         Work::Talk,
         Work::CheckSets,
         Work::CheckFile,
+        Work::Setup,
+        Work::OnePacket,
+        Work::TenPackets,
+        Work::Status,
+        Work::Nak,
     ];
 
     /// The word that asks for it.
@@ -65,11 +76,16 @@ impl Work {
             Work::Talk => "talk",
             Work::CheckSets => "check-sets",
             Work::CheckFile => "check-file",
+            Work::Setup => "setup",
+            Work::OnePacket => "one-packet",
+            Work::TenPackets => "ten-packets",
+            Work::Status => "status",
+            Work::Nak => "nak",
         }
     }
 
-    /// Does it so many times over, and answers how many bytes it is of: those of the set, or those of a file with so
-    /// many copies of it.
+    /// Does it so many times over, and answers how many bytes it is of: those of the set, those of a file with so
+    /// many copies of it, or those that a device sent.
     pub(crate) fn run(self, alloc: Global, set: &[u8], copies: u32, rounds: u32) -> Result<usize> {
         match self {
             Work::DecodeWhole => decode(alloc, set, rounds, set.len()),
@@ -79,14 +95,19 @@ impl Work {
             Work::List => list(alloc, set, rounds),
             Work::ReadFile => read_again(alloc, set, copies, rounds),
             Work::WriteFile => write_again(alloc, set, copies, rounds),
-            Work::HostSetup => transfer_again(set, Until::Setup, rounds),
-            Work::HostData => transfer_again(set, Until::Data, rounds),
-            Work::HostStatus => transfer_again(set, Until::Status, rounds),
+            Work::HostSetup => drive_again(set, Until::Setup, rounds),
+            Work::HostData => drive_again(set, Until::Data, rounds),
+            Work::HostStatus => drive_again(set, Until::Status, rounds),
             Work::HostPackets => take_packets(set, rounds),
             Work::HostNaks => take_naks(set, rounds),
             Work::Talk => talk_again(alloc, set, rounds),
             Work::CheckSets => check_sets(alloc, set, copies, rounds),
             Work::CheckFile => check_file(alloc, set, rounds),
+            Work::Setup => transfer_again(alloc, set, 0, false, rounds),
+            Work::OnePacket => transfer_again(alloc, set, 1, false, rounds),
+            Work::TenPackets => transfer_again(alloc, set, 10, false, rounds),
+            Work::Status => transfer_again(alloc, set, 1, true, rounds),
+            Work::Nak => refuse_again(alloc, set, rounds),
         }
     }
 }
