@@ -19,6 +19,11 @@ const STRETCH: usize = 1984;
 /// The bytes of a set, with their count as wTotalLength (USB 2.0, 9.6.3). Its count of interfaces
 /// and those of endpoints are written as declared.
 ///
+/// ```rust
+/// let (set, used) = read_set(alloc, &[9, 2, 9, 0, 0, 1, 0, 0x80, 0x32])?;
+/// assert_eq!(rt; encode(alloc, &set)?.as_slice(), &[9, 2, 9, 0, 0, 1, 0, 0x80, 0x32]);
+/// ```
+///
 /// # Errors
 ///
 /// `Tail`, `RawKind` or `TooLong`, the first that holds, exactly where the set has no bytes;

@@ -9,6 +9,11 @@ use std::alloc::Global;
 /// The configuration set that the bytes begin with, and how many of them it has. What follows it is
 /// not looked at.
 ///
+/// ```rust
+/// let (set, used) = read_set(alloc, &[9, 2, 9, 0, 0, 1, 0, 0x80, 0x32, 0xff])?;
+/// assert_eq!(rt; (set.value, used), (1, 9));
+/// ```
+///
 /// # Errors
 ///
 /// The fault that the bytes show, `Truncated` at their count where they end before the set does, or

@@ -19,6 +19,13 @@ const FILE_LIMIT: usize = 41_584_152;
 /// configuration descriptor or an other-speed one (USB 2.0, table 9-5), and else a descriptor file. The
 /// number in `Ok` is 0.
 ///
+/// ```rust
+/// let mut input: &[u8] = &[9, 2, 9, 0, 0, 1, 0, 0x80, 0x32];
+/// let mut lines = Vec::new(alloc);
+/// run_show(alloc, &mut input, &mut lines)?;
+/// assert_eq!(rt; lines.as_slice(), b"configuration 00 01 00 80 32 -\n");
+/// ```
+///
 /// # Errors
 ///
 /// `Read` where the reader failed and `TooLarge` at the first byte over 41,584,152. Of a set `Set` with
