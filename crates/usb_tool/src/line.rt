@@ -1,5 +1,5 @@
 //! The command line of `usbdesc`.
-ghost use Rattle.std.specs.Prelude.{◌≡◌, IfOk, IfSome};
+ghost use Rattle.std.specs.Prelude.{◌≡◌, IfOk};
 ghost use Rattle.clap.specs.Words.{app_of, fault_of, subcommand_of, subcommand_rows_of};
 ghost use Rattle.clap.specs.Kinds.{FailsBy};
 ghost use Rattle.usb_tool.specs.Lines.{Asks, word_texts, usbdesc_app};
@@ -27,30 +27,27 @@ pub fn read_line(alloc: Global, words: &[String]) -> Result<Line, Error>
     ensures fails { FailsBy (fault_of usbdesc_app (word_texts words.now)) result }
 {
     let matches = parse(alloc, words)?;
-    match line_of(&matches) {
-        Some(line) => Ok(line),
-        // A subcommand is required, and there are no others.
-        None => Err(Error::from(AllocError)),
-    }
+    Ok(line_of(&matches))
 }
 
 fn parse<'a>(alloc: Global, words: &'a [String]) -> Result<ArgMatches<'a>, Error>
     ensures found { IfOk result (λ m. subcommand_rows_of m ≡ subcommand_of usbdesc_app (word_texts words.entry.now)) }
+    ensures asked { IfOk result (λ m. (line : _) × Asks line (subcommand_rows_of m)) }
     ensures fails { FailsBy (fault_of usbdesc_app (word_texts words.entry.now)) result }
 {
     command(alloc)?.try_get_matches_from(words)
 }
 
-fn line_of(matches: &ArgMatches) -> Option<Line>
-    ensures { IfSome result (λ line. Asks line (subcommand_rows_of matches.now)) }
+/// What matches ask for. There is always a line: a subcommand is required, and `help`, which `clap` adds, is
+/// an error of the parse.
+fn line_of(matches: &ArgMatches) -> Line
+    requires asked { (line : _) × Asks line (subcommand_rows_of matches.now) }
+    ensures { Asks result (subcommand_rows_of matches.now) }
 {
-    let (name, _) = matches.subcommand()?;
-    if name == "show" {
-        Some(Line::Show)
-    } else if name == "check" {
-        Some(Line::Check)
-    } else {
-        None
+    match matches.subcommand() {
+        Some((name, _)) if name == "show" => Line::Show,
+        Some((name, _)) if name == "check" => Line::Check,
+        _ => unreachable!(),
     }
 }
 
