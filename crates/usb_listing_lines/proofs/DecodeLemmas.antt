@@ -8,8 +8,8 @@ use Rattle.hex.specs.declared.error.FromHexError.{FromHexError}
 use Rattle.hex.proofs.HexLemmas.{decode_of-even, decode_of-odd, length-encode_with}
 use Rattle.hex.proofs.Pairs.{cons_byte, decode_pairs-ok_pair}
 use Rattle.usb_base.specs.Bytes.{IsByte}
-use Rattle.usb_listing_lines.specs.InsideDigits.{digit_value, pair_value}
-use Rattle.usb_listing_lines.specs.InsideFields.{before, pairs_of}
+use Rattle.usb_listing_lines.specs.inside.Digits.{digit_value, pair_value}
+use Rattle.usb_listing_lines.specs.inside.Fields.{before, pairs_of}
 use Rattle.usb_listing_lines.proofs.DigitLemmas.{pair_read, pair_again, digit_read}
 
 -- ---- both ways between bytes and their digits

@@ -2,7 +2,7 @@
 use Rattle.std.proofs.Common.{◌≡◌, ℕ, zero, suc, ◌+◌, ◌*◌, ◌/◌, ◌%◌, ◌<◌, ◌≤◌, ◌==◌, ◌&&◌, Bool, true, ltb, slice_index, Option, Some, None, unwrap_or, inl, inr, refl, sym, ap, subst, ◌∙◌, arith}
 use Rattle.std.proofs.lemmas.Bool.{and_parts, cases_lt, eqb-true, ltb-true}
 use Rattle.hex.specs.Hex.{hex_digit_value, lower_digits}
-use Rattle.usb_listing_lines.specs.InsideDigits.{digit_value, joined, pair_value}
+use Rattle.usb_listing_lines.specs.inside.Digits.{digit_value, joined, pair_value}
 
 -- a test of the numbers below n, which computes
 abbrev pub all_below : (ℕ → Bool) → ℕ → Bool

@@ -8,8 +8,8 @@ use Rattle.hex.specs.Hex.{encode_lower, encode_with, lower_digits}
 use Rattle.hex.proofs.HexLemmas.{length-encode_with}
 use Rattle.usb_base.specs.Bytes.{IsByte}
 use Rattle.usb_listing.specs.Lines.{written_field}
-use Rattle.usb_listing_lines.specs.InsideDigits.{pair_value}
-use Rattle.usb_listing_lines.specs.InsideFields.{byte_first, byte_in, byte_of, bytes_from, bytes_then, pairs_of, tail_behind, tail_of, with_rest}
+use Rattle.usb_listing_lines.specs.inside.Digits.{pair_value}
+use Rattle.usb_listing_lines.specs.inside.Fields.{byte_first, byte_in, byte_of, bytes_from, bytes_then, pairs_of, tail_behind, tail_of, with_rest}
 use Rattle.usb_listing_lines.proofs.DigitLemmas.{pair_again, pair_read}
 use Rattle.usb_listing_lines.proofs.DecodeLemmas.{pairs_again, pairs_read}
 

@@ -23,8 +23,8 @@ use Rattle.usb_listing_lines.specs.declared.item.Item.TheVariants as items
 use Rattle.usb_listing_lines.specs.declared.values.Written.TheVariants as forms
 use Rattle.usb_listing_lines.specs.Words.{word_text}
 use Rattle.usb_listing_lines.specs.Item.{item_bytes, item_line, item_word, set_word}
-use Rattle.usb_listing_lines.specs.InsideFields.{bytes_from, filled, tail_of}
-use Rattle.usb_listing_lines.specs.InsideItems.{association_form, association_of, device_form, device_of, endpoint_form, endpoint_of, fixed_in, interface_form, qualifier_form, qualifier_of, raw_form, raw_of, set_form, set_of, setting_of, tail_then, tailed_in, with_tail}
+use Rattle.usb_listing_lines.specs.inside.Fields.{bytes_from, filled, tail_of}
+use Rattle.usb_listing_lines.specs.inside.Items.{association_form, association_of, device_form, device_of, endpoint_form, endpoint_of, fixed_in, interface_form, qualifier_form, qualifier_of, raw_form, raw_of, set_form, set_of, setting_of, tail_then, tailed_in, with_tail}
 use Rattle.usb_listing_lines.proofs.FieldLemmas.{AreBytes, bytes_again, bytes_are, fixed_text, tail_again, tail_read}
 use Rattle.usb_listing_lines.proofs.UnitLemmas.{written}
 

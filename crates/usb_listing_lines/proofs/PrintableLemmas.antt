@@ -15,7 +15,7 @@ use Rattle.usb_listing_lines.specs.declared.values.Written.{Written}
 use Rattle.usb_listing_lines.specs.declared.values.Written.TheVariants as forms
 use Rattle.usb_listing_lines.specs.Words.{is_printable, word_text}
 use Rattle.usb_listing_lines.specs.Item.{IsItem, Says, item_word}
-use Rattle.usb_listing_lines.specs.InsideItems.{association_form, device_form, endpoint_form, interface_form, qualifier_form, raw_form, set_form}
+use Rattle.usb_listing_lines.specs.inside.Items.{association_form, device_form, endpoint_form, interface_form, qualifier_form, raw_form, set_form}
 use Rattle.usb_listing_lines.proofs.DigitLemmas.{all_below, all_below-at}
 use Rattle.usb_listing_lines.proofs.FieldLemmas.{AreBytes, fixed_text, high_digit, low_digit}
 use Rattle.usb_listing_lines.proofs.UnitLemmas.{IsUnit, written}

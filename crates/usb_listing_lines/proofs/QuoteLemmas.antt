@@ -2,7 +2,7 @@
 use Rattle.std.proofs.Common.{◌≡◌, ◌≢◌, ℕ, zero, suc, ◌-◌, ◌<◌, List, [], ◌∷◌, Some, None, length, get_or, take, refl, ap, arith}
 use Rattle.std.specs.Option.{option_map}
 use Rattle.std.proofs.lemmas.Bool.{eq-eqb, ne_eqb}
-use Rattle.usb_listing_lines.specs.InsideItems.{before_quote}
+use Rattle.usb_listing_lines.specs.inside.Items.{before_quote}
 
 last_quote : (text : List ℕ) (i : ℕ) → suc i ≡ length text → get_or text i 0 ≡ 34 → before_quote text ≡ Some (take i text)
 last_quote [] i e h = absurd (omega arith)

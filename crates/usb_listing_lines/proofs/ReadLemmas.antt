@@ -22,8 +22,8 @@ use Rattle.usb_listing_lines.specs.declared.word.Word.{Word}
 use Rattle.usb_listing_lines.specs.declared.word.Word.TheVariants as words
 use Rattle.usb_listing_lines.specs.declared.values.Written.TheVariants as forms
 use Rattle.usb_listing_lines.specs.Item.{IsItem, item_bytes, item_word, set_word}
-use Rattle.usb_listing_lines.specs.InsideUnits.{values_from}
-use Rattle.usb_listing_lines.specs.InsideItems.{association_form, association_in, association_of, before_quote, device_form, device_in, device_of, endpoint_form, endpoint_in, endpoint_of, fixed_in, in_quotes, interface_form, interface_in, item_in, languages_in, languages_item, qualifier_form, qualifier_in, qualifier_of, quoted, raw_form, raw_in, raw_of, set_form, set_in, set_of, setting_of, string_in, tailed_in, units_in, untyped}
+use Rattle.usb_listing_lines.specs.inside.Units.{values_from}
+use Rattle.usb_listing_lines.specs.inside.Items.{association_form, association_in, association_of, before_quote, device_form, device_in, device_of, endpoint_form, endpoint_in, endpoint_of, fixed_in, in_quotes, interface_form, interface_in, item_in, languages_in, languages_item, qualifier_form, qualifier_in, qualifier_of, quoted, raw_form, raw_in, raw_of, set_form, set_in, set_of, setting_of, string_in, tailed_in, units_in, untyped}
 use Rattle.usb_listing_lines.proofs.FieldLemmas.{AreBytes, fixed_text}
 use Rattle.usb_listing_lines.proofs.UnitLemmas.{IsUnit, values_again, values_are, written}
 use Rattle.usb_listing_lines.proofs.ItemLemmas.{association_again, association_cells, association_cells_again, device_again, device_cells, device_cells_again, device_fits, endpoint_again, endpoint_cells, endpoint_cells_again, fields_fit, fixed_again, fixed_read, interface_again, interface_cells, interface_cells_again, item_fields, qualifier_again, qualifier_cells, qualifier_cells_again, qualifier_fits, raw_again, raw_cells, raw_cells_again, set_again, set_cells, set_cells_again, tailed_again, tailed_read}

@@ -12,7 +12,7 @@ use Rattle.usb_listing_lines.specs.declared.word.Word.{Word}
 use Rattle.usb_listing_lines.specs.declared.word.Word.TheVariants as words
 use Rattle.usb_listing_lines.specs.Words.{all_words, first_word, word_among, word_in, word_text}
 use Rattle.usb_listing_lines.specs.Item.{IsItem, Says, item_word, set_word}
-use Rattle.usb_listing_lines.specs.InsideItems.{item_in, item_of_line}
+use Rattle.usb_listing_lines.specs.inside.Items.{item_in, item_of_line}
 use Rattle.usb_listing_lines.proofs.ItemLemmas.{item_fields, line_is}
 use Rattle.usb_listing_lines.proofs.ReadLemmas.{item_again, item_read}
 

@@ -9,8 +9,8 @@ use Rattle.usb_listing.specs.Lines.{written_field, two_bytes}
 use Rattle.usb_listing.specs.StringListing.{is_plain, written_unit}
 use Rattle.usb_listing_lines.specs.declared.values.Written.{Written}
 use Rattle.usb_listing_lines.specs.declared.values.Written.TheVariants as forms
-use Rattle.usb_listing_lines.specs.InsideDigits.{pair_value}
-use Rattle.usb_listing_lines.specs.InsideUnits.{escaped, number_first, number_in, number_with, unit_first, value_first, values_from, values_then}
+use Rattle.usb_listing_lines.specs.inside.Digits.{pair_value}
+use Rattle.usb_listing_lines.specs.inside.Units.{escaped, number_first, number_in, number_with, unit_first, value_first, values_from, values_then}
 use Rattle.usb_listing_lines.proofs.DigitLemmas.{pair_again, pair_read}
 use Rattle.usb_listing_lines.proofs.ValueLemmas.{values_end, values_step}
 

@@ -1,9 +1,9 @@
 //! Lower-case hexadecimal digits, read.
 ghost use Rattle.std.specs.Prelude.{◌≡◌, ◌<◌, IfSome};
-ghost use Rattle.usb_listing_lines.specs.InsideDigits.{digit_value, pair_value};
+ghost use Rattle.usb_listing_lines.specs.inside.Digits.{digit_value, pair_value};
 
 /// The value of a lower-case digit.
-#[tactic(auto, unfolding(crate::specs::InsideDigits::digit_value))]
+#[tactic(auto, unfolding(crate::specs::inside::Digits::digit_value))]
 pub(crate) fn digit(c: u8) -> Option<u8>
     ensures is { result ≡ digit_value c }
     ensures small { IfSome result (λ value. value < 16) }

@@ -2,9 +2,9 @@
 ghost use Rattle.std.specs.Prelude.{◌≡◌, ◌≢◌, ◌+◌, ◌<◌, ◌≤◌, IfOk, IfSome, MatchOption, None, Some, is_some, length};
 ghost use Rattle.std.specs.List.{list_all};
 ghost use Rattle.arrayvec.specs.ArrayVec.{array_vec_len};
-ghost use Rattle.usb_listing_lines.specs.InsideDigits.{digit_value};
-ghost use Rattle.usb_listing_lines.specs.InsideItems.{fixed_in, tailed_in};
-ghost use Rattle.usb_listing_lines.specs.InsideFields.{behind_space, byte_first, byte_of, bytes_from, pairs_of, tail_of};
+ghost use Rattle.usb_listing_lines.specs.inside.Digits.{digit_value};
+ghost use Rattle.usb_listing_lines.specs.inside.Items.{fixed_in, tailed_in};
+ghost use Rattle.usb_listing_lines.specs.inside.Fields.{behind_space, byte_first, byte_of, bytes_from, pairs_of, tail_of};
 
 use crate::digits::{digit, pair};
 use arrayvec::ArrayVec;
@@ -35,7 +35,7 @@ fn take_byte(text: &[u8]) -> Option<(u8, &[u8])>
     }
 }
 
-#[tactic(auto, unfolding(crate::specs::InsideFields::byte_of))]
+#[tactic(auto, unfolding(crate::specs::inside::Fields::byte_of))]
 fn take_field_byte(begins: bool, text: &[u8]) -> Option<(u8, &[u8])>
     ensures { MatchOption result (byte_of begins text.now ≡ None) (λ p. byte_of begins text.now ≡ Some (p.0, p.1.now)) }
 {
@@ -105,7 +105,7 @@ fn without_bytes(fault: FromHexError) -> Result<Option<Sequence<u8>>, AllocError
 }
 
 /// A tail that ends a line, of so many bytes at most.
-#[tactic(auto, unfolding(crate::specs::InsideFields::tail_of))]
+#[tactic(auto, unfolding(crate::specs::inside::Fields::tail_of))]
 pub(crate) fn read_tail(
     alloc: Global,
     most: usize,
@@ -127,7 +127,7 @@ pub(crate) fn read_tail(
 }
 
 /// Fixed fields to the end of the line.
-#[tactic(auto, unfolding(crate::specs::InsideItems::fixed_in))]
+#[tactic(auto, unfolding(crate::specs::inside::Items::fixed_in))]
 pub(crate) fn read_fixed(form: &[bool], text: &[u8]) -> Option<ArrayVec<u8, 16>>
     requires { length form.now ≤ 16 }
     ensures count { IfSome result (λ bytes. array_vec_len bytes ≡ length form.now) }
@@ -139,7 +139,7 @@ pub(crate) fn read_fixed(form: &[bool], text: &[u8]) -> Option<ArrayVec<u8, 16>>
 }
 
 /// Fixed fields and a tail to the end of the line.
-#[tactic(auto, unfolding(crate::specs::InsideItems::tailed_in))]
+#[tactic(auto, unfolding(crate::specs::inside::Items::tailed_in))]
 pub(crate) fn read_tailed(
     alloc: Global,
     form: &[bool],

@@ -3,8 +3,8 @@ ghost use Rattle.std.specs.Prelude.{◌≡◌, ◌+◌, ◌*◌, ◌≤◌, [], 
 ghost use Rattle.usb_set.specs.Layout.{is_typed};
 ghost use Rattle.usb_listing_lines.specs.declared.item.Item.{Item};
 ghost use Rattle.usb_listing_lines.specs.Item.{Says};
-ghost use Rattle.usb_listing_lines.specs.InsideFields.{behind_space};
-ghost use Rattle.usb_listing_lines.specs.InsideItems.{association_in, association_of, before_quote, device_in, device_of, endpoint_in, endpoint_of, interface_in, item_in, item_of_line, languages_in, qualifier_in, qualifier_of, quoted, raw_in, raw_of, set_in, set_of, setting_of, string_in};
+ghost use Rattle.usb_listing_lines.specs.inside.Fields.{behind_space};
+ghost use Rattle.usb_listing_lines.specs.inside.Items.{association_in, association_of, before_quote, device_in, device_of, endpoint_in, endpoint_of, interface_in, item_in, item_of_line, languages_in, qualifier_in, qualifier_of, quoted, raw_in, raw_of, set_in, set_of, setting_of, string_in};
 ghost use Rattle.usb_listing_lines.specs.Words.{first_word, word_in, word_text};
 
 use crate::fields::{read_fixed, read_tailed, skip_space};
@@ -39,7 +39,7 @@ fn number(high: u8, low: u8) -> u16
 }
 
 /// The device descriptor of the bytes of its fields.
-#[tactic(auto, unfolding(crate::specs::InsideItems::device_of))]
+#[tactic(auto, unfolding(crate::specs::inside::Items::device_of))]
 fn device_of(b: &[u8]) -> DeviceDescriptor
     requires { length b.now ≡ 16 }
     ensures { result ≡ device_of b.now }
@@ -61,7 +61,7 @@ fn device_of(b: &[u8]) -> DeviceDescriptor
 }
 
 /// The qualifier of the bytes of its fields.
-#[tactic(auto, unfolding(crate::specs::InsideItems::qualifier_of))]
+#[tactic(auto, unfolding(crate::specs::inside::Items::qualifier_of))]
 fn qualifier_of(b: &[u8]) -> Qualifier
     requires { length b.now ≡ 8 }
     ensures { result ≡ qualifier_of b.now }
@@ -78,7 +78,7 @@ fn qualifier_of(b: &[u8]) -> Qualifier
 }
 
 /// The first descriptor of a set, of the bytes of its fields and its tail.
-#[tactic(auto, unfolding(crate::specs::InsideItems::set_of))]
+#[tactic(auto, unfolding(crate::specs::inside::Items::set_of))]
 fn set_of(alloc: Global, kind: SetKind, b: &[u8], tail: Sequence<u8>) -> Configuration
     requires { length b.now ≡ 5 }
     ensures { result ≡ set_of kind b.now tail }
@@ -97,7 +97,7 @@ fn set_of(alloc: Global, kind: SetKind, b: &[u8], tail: Sequence<u8>) -> Configu
 }
 
 /// The interface of the bytes of its fields and its tail.
-#[tactic(auto, unfolding(crate::specs::InsideItems::setting_of))]
+#[tactic(auto, unfolding(crate::specs::inside::Items::setting_of))]
 fn setting_of(alloc: Global, b: &[u8], tail: Sequence<u8>) -> Setting
     requires { length b.now ≡ 7 }
     ensures { result ≡ setting_of b.now tail }
@@ -117,7 +117,7 @@ fn setting_of(alloc: Global, b: &[u8], tail: Sequence<u8>) -> Setting
 }
 
 /// The endpoint of the bytes of its fields and its tail.
-#[tactic(auto, unfolding(crate::specs::InsideItems::endpoint_of))]
+#[tactic(auto, unfolding(crate::specs::inside::Items::endpoint_of))]
 fn endpoint_of(alloc: Global, b: &[u8], tail: Sequence<u8>) -> Endpoint
     requires { length b.now ≡ 5 }
     ensures { result ≡ endpoint_of b.now tail }
@@ -133,7 +133,7 @@ fn endpoint_of(alloc: Global, b: &[u8], tail: Sequence<u8>) -> Endpoint
 }
 
 /// The raw descriptor of its type and its bytes.
-#[tactic(auto, unfolding(crate::specs::InsideItems::raw_of))]
+#[tactic(auto, unfolding(crate::specs::inside::Items::raw_of))]
 fn raw_of(b: &[u8], body: Sequence<u8>) -> Raw
     requires { length b.now ≡ 1 }
     ensures { result ≡ raw_of b.now body }
@@ -142,7 +142,7 @@ fn raw_of(b: &[u8], body: Sequence<u8>) -> Raw
 }
 
 /// The association of the bytes of its fields and its tail.
-#[tactic(auto, unfolding(crate::specs::InsideItems::association_of))]
+#[tactic(auto, unfolding(crate::specs::inside::Items::association_of))]
 fn association_of(b: &[u8], tail: Sequence<u8>) -> Association
     requires { length b.now ≡ 6 }
     ensures { result ≡ association_of b.now tail }
@@ -260,7 +260,7 @@ fn read_string(alloc: Global, text: &[u8]) -> Result<Option<Item>, AllocError>
 }
 
 /// The text of a string, behind a space and between quotes.
-#[tactic(auto, unfolding(crate::specs::InsideItems::quoted))]
+#[tactic(auto, unfolding(crate::specs::inside::Items::quoted))]
 fn unquote(text: &[u8]) -> Option<&[u8]>
     ensures { MatchOption result (quoted text.now ≡ None) (λ units. quoted text.now ≡ Some units.now) }
 {
@@ -287,7 +287,7 @@ fn before_quote(text: &[u8]) -> Option<&[u8]>
 }
 
 /// What a line says whose first word is this, and behind it this text.
-#[tactic(auto, unfolding(crate::specs::InsideItems::item_in))]
+#[tactic(auto, unfolding(crate::specs::inside::Items::item_in))]
 fn read_behind(alloc: Global, word: Word, text: &[u8]) -> Result<Option<Item>, AllocError>
     ensures { IfOk result (λ found. found ≡ item_in word text.now) }
 {
@@ -317,7 +317,7 @@ fn behind(word: Word, line: &[u8]) -> &[u8]
     }
 }
 
-#[tactic(auto, unfolding(crate::specs::InsideItems::item_of_line))]
+#[tactic(auto, unfolding(crate::specs::inside::Items::item_of_line))]
 fn read_whole(alloc: Global, word: Word, line: &[u8]) -> Result<Option<Item>, AllocError>
     requires { word_in (first_word line.now) ≡ Some word }
     ensures { IfOk result (λ found. found ≡ item_of_line line.now) }
@@ -336,7 +336,6 @@ pub fn read_item(alloc: Global, word: Word, line: &[u8]) -> Result<Option<Item>,
     requires { word_in (first_word line.now) ≡ Some word }
     ensures ok { IfOk result (λ found. IfSome found (λ item. Says line.now item)) }
     ensures none { IfOk result (λ found. IfNone found ((item : Item) → Says line.now item → ⊥)) }
-    ensures is { IfOk result (λ found. found ≡ item_of_line line.now) }
 {
     read_whole(alloc, word, line)
 }

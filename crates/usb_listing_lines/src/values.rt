@@ -1,7 +1,7 @@
 //! The units of a string and the language codes of a line, read.
 ghost use Rattle.std.specs.Prelude.{◌≡◌, IfOk, MatchOption, None, Some, []};
 ghost use Rattle.usb_listing.specs.StringListing.{is_plain};
-ghost use Rattle.usb_listing_lines.specs.InsideUnits.{number_first, unit_first, value_first, values_from};
+ghost use Rattle.usb_listing_lines.specs.inside.Units.{number_first, unit_first, value_first, values_from};
 
 use crate::digits::pair;
 use crate::fields::skip_space;
@@ -21,7 +21,7 @@ pub(crate) enum Written {
 }
 
 /// The number whose four digits stand first, and what stands behind it.
-#[tactic(auto, unfolding(crate::specs::InsideUnits::number_first))]
+#[tactic(auto, unfolding(crate::specs::inside::Units::number_first))]
 fn take_number(text: &[u8]) -> Option<(u16, &[u8])>
     ensures { MatchOption result (number_first text.now ≡ None) (λ p. number_first text.now ≡ Some (p.0, p.1.now)) }
 {
@@ -43,7 +43,7 @@ fn is_character(unit: u16) -> bool
 }
 
 /// The unit that stands first, and what stands behind it.
-#[tactic(auto, unfolding(crate::specs::InsideUnits::unit_first))]
+#[tactic(auto, unfolding(crate::specs::inside::Units::unit_first))]
 fn take_unit(text: &[u8]) -> Option<(u16, &[u8])>
     ensures { MatchOption result (unit_first text.now ≡ None) (λ p. unit_first text.now ≡ Some (p.0, p.1.now)) }
 {

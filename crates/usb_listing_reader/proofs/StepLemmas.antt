@@ -1,13 +1,13 @@
 -- On a line that is read into a draft.
 use Rattle.std.proofs.Common.{◌≡◌, inl, inr, ℕ, ◌≤◌, Bool, true, false, cond, List, Option, Some, None, Result, Ok, Err, refl, ap, sym, subst, ◌∙◌}
-use Rattle.std.specs.Prelude.{IfErr, OnOk}
+use Rattle.std.specs.Prelude.{IfErr, IfNone, IfSome, OnOk}
 use Rattle.usb_file_data.specs.declared.file.DescriptorFile.{DescriptorFile}
 use Rattle.usb_listing_lines.specs.declared.item.Item.{Item}
 use Rattle.usb_listing_lines.specs.declared.word.Word.{Word}
 use Rattle.usb_listing_lines.specs.Words.{first_word, word_in}
 use Rattle.usb_listing_lines.specs.Item.{Says, item_word}
-use Rattle.usb_listing_lines.specs.InsideItems.{item_of_line}
-use Rattle.usb_listing_lines.proofs.SaysLemmas.{word_read}
+use Rattle.usb_listing_lines.specs.inside.Items.{item_of_line}
+use Rattle.usb_listing_lines.proofs.SaysLemmas.{read_is_said, said_is_read, word_read}
 use Rattle.usb_listing_reader.specs.declared.draft.Draft.{Draft}
 use Rattle.usb_listing_reader.specs.declared.fault.ListWhy.{ListWhy}
 use Rattle.usb_listing_reader.specs.declared.fault.ListWhy.TheVariants as whys
@@ -15,6 +15,15 @@ use Rattle.usb_listing_reader.specs.Order.{may_stand}
 use Rattle.usb_listing_reader.specs.inside.Drafts.{Added, Counted, HasWork, Refuses, Stepped, so_far}
 use Rattle.usb_listing_reader.specs.inside.Walking.{add, add_item, add_line, add_word}
 use Rattle.usb_listing_reader.proofs.WalkLemmas.{same_word}
+
+-- what was found is what the line says
+pub found_is : (line : List ℕ) (found : Option Item) → IfSome found (λ item. Says line item) → IfNone found ((item : Item) → Says line item → ⊥) → item_of_line line ≡ found
+found_is line (Some item) says none = said_is_read line item says
+found_is line None says none = cases (item_of_line line) refl
+  where
+    cases : (o : Option Item) → item_of_line line ≡ o → item_of_line line ≡ None
+    cases None e = e
+    cases (Some item) e = absurd (none item (read_is_said line item e))
 
 -- no word
 pub no_word : (s : Option DescriptorFile) (line : List ℕ) → word_in (first_word line) ≡ None → add_line s line ≡ Err whys.Word

@@ -6,7 +6,7 @@ use Rattle.usb_listing_lines.specs.declared.item.Item.{Item}
 use Rattle.usb_listing_lines.specs.declared.item.Item.TheVariants as items
 use Rattle.usb_listing_lines.specs.declared.word.Word.{Word}
 use Rattle.usb_listing_lines.specs.Words.{first_word, is_printable, word_in}
-use Rattle.usb_listing_lines.specs.InsideItems.{item_of_line}
+use Rattle.usb_listing_lines.specs.inside.Items.{item_of_line}
 use Rattle.usb_listing_reader.specs.declared.fault.ListFault.{ListFault}
 use Rattle.usb_listing_reader.specs.declared.fault.ListWhy.{ListWhy}
 use Rattle.usb_listing_reader.specs.declared.fault.ListWhy.TheVariants as whys

@@ -3,7 +3,7 @@ use Rattle.std.specs.Prelude.{IfOk}
 use Rattle.hex.specs.Hex.{decode_of}
 use Rattle.hex.specs.declared.error.FromHexError.{FromHexError}
 use Rattle.hex.specs.declared.error.FromHexError.TheVariants.{OutOfMemory}
-use Rattle.usb_listing_lines.specs.InsideFields.{pairs_of}
+use Rattle.usb_listing_lines.specs.inside.Fields.{pairs_of}
 use Rattle.usb_listing_lines.proofs.DecodeLemmas.{as_option, decoded, no_pairs}
 use Rattle.usb_listing_lines.proofs.fields.decode.Goals as goal
 

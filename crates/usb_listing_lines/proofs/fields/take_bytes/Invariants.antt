@@ -1,6 +1,6 @@
 use Rattle.std.proofs.Common.{◌≡◌, ◌+◌, drop}
 use Rattle.arrayvec.specs.ArrayVec.{array_vec_len}
-use Rattle.usb_listing_lines.specs.InsideFields.{bytes_from}
+use Rattle.usb_listing_lines.specs.inside.Fields.{bytes_from}
 use Rattle.usb_listing_lines.proofs.fields.take_bytes.Given as goal
 
 abbrev pub invariant-loop-begins : goal.invariant-loop-begins

@@ -3,7 +3,7 @@ use Rattle.std.specs.Prelude.{IfNone}
 use Rattle.std.proofs.lemmas.Result.{IfOk-weaker}
 use Rattle.usb_listing_lines.specs.declared.item.Item.{Item}
 use Rattle.usb_listing_lines.specs.Item.{Says}
-use Rattle.usb_listing_lines.specs.InsideItems.{item_of_line}
+use Rattle.usb_listing_lines.specs.inside.Items.{item_of_line}
 use Rattle.usb_listing_lines.proofs.SaysLemmas.{said_is_read}
 use Rattle.usb_listing_lines.proofs.read.read_item.Goals as goal
 

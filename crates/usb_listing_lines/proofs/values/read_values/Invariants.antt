@@ -1,5 +1,5 @@
 use Rattle.std.proofs.Common.{◌≡◌, ◌-◌, []}
-use Rattle.usb_listing_lines.specs.InsideUnits.{values_from}
+use Rattle.usb_listing_lines.specs.inside.Units.{values_from}
 use Rattle.usb_listing_lines.proofs.values.read_values.Given as goal
 
 abbrev pub invariant-loop : goal.invariant-loop

@@ -18,8 +18,8 @@ use Rattle.usb_listing_lines.specs.declared.word.Word.{Word}
 use Rattle.usb_listing_lines.specs.declared.word.Word.TheVariants as words
 use Rattle.usb_listing_lines.specs.declared.values.Written.TheVariants as forms
 use Rattle.usb_listing_lines.specs.Words.{first_word, word_in, word_text}
-use Rattle.usb_listing_lines.specs.InsideFields.{behind_space, bytes_from, filled, tail_of}
-use Rattle.usb_listing_lines.specs.InsideUnits.{values_from}
+use Rattle.usb_listing_lines.specs.inside.Fields.{behind_space, bytes_from, filled, tail_of}
+use Rattle.usb_listing_lines.specs.inside.Units.{values_from}
 
 -- the 16-bit number of these two bytes, the high one first
 abbrev pub number_at : List ℕ → ℕ → ℕ

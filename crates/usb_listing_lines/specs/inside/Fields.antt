@@ -1,7 +1,7 @@
 -- The fields of a line, read.
 use Rattle.std.specs.Str.{bytes_eq}
 use Rattle.std.specs.Prelude.{codes, ℕ, ◌*◌, ◌==◌, ◌||◌, nat_lt, length, if◌then◌else◌, Option, Some, None, Bool, true, false, List, [], ◌∷◌, ◌++◌}
-use Rattle.usb_listing_lines.specs.InsideDigits.{pair_value}
+use Rattle.usb_listing_lines.specs.inside.Digits.{pair_value}
 
 -- a byte that was read, and what stands behind it
 abbrev pub with_rest : Option ℕ → List ℕ → Option (ℕ × List ℕ)

@@ -3,8 +3,8 @@ use Rattle.std.specs.Prelude.{ℕ, zero, suc, ◌+◌, ◌*◌, ◌==◌, if◌t
 use Rattle.usb_listing.specs.StringListing.{is_plain}
 use Rattle.usb_listing_lines.specs.declared.values.Written.{Written}
 use Rattle.usb_listing_lines.specs.declared.values.Written.TheVariants as forms
-use Rattle.usb_listing_lines.specs.InsideDigits.{pair_value}
-use Rattle.usb_listing_lines.specs.InsideFields.{behind_space}
+use Rattle.usb_listing_lines.specs.inside.Digits.{pair_value}
+use Rattle.usb_listing_lines.specs.inside.Fields.{behind_space}
 
 -- a number of its high and its low byte, and what stands behind it
 abbrev pub number_with : Option ℕ → Option ℕ → List ℕ → Option (ℕ × List ℕ)
