@@ -45,7 +45,7 @@ list_any-with_last p g (x ∷ y ∷ xs) c e h all =
 list_any-push : {A : Type 0} (p : A → Bool) (xs : List A) (x : A) → list_any p xs ≡ false → p x ≡ false → list_any p (xs ++ x ∷ []) ≡ false
 list_any-push p xs x e h = list_any-append p xs (x ∷ []) ∙ or_from (list_any p xs) (p x || false) e (or_from (p x) false h refl)
 
-last_flat : {A B : Type 0} (f : A → List B) (g : A → A) (more : List B) (xs : List A) (c : A) → last_of xs ≡ Some c → f (g c) ≡ f c ++ more
+pub last_flat : {A B : Type 0} (f : A → List B) (g : A → A) (more : List B) (xs : List A) (c : A) → last_of xs ≡ Some c → f (g c) ≡ f c ++ more
     → flat_map f (with_last g xs) ≡ flat_map f xs ++ more
 last_flat f g more [] c e h = cc
 last_flat f g more (x ∷ []) c e h =
@@ -102,7 +102,7 @@ in_work (items.Qualifier q) sets alone inner e = absurd inner
 in_work (items.Languages us) sets alone inner e = absurd inner
 in_work (items.String us) sets alone inner e = absurd inner
 
-kind_kept : (item : Item) (c : Configuration) → (set_and item c).kind ≡ c.kind
+pub kind_kept : (item : Item) (c : Configuration) → (set_and item c).kind ≡ c.kind
 unfolding set_and set_with
 kind_kept (items.Device d) c = refl
 kind_kept (items.Set s) c = refl
@@ -144,7 +144,7 @@ grown kind item sets work ks ss few =
     last_fails p (x ∷ []) c e h = let is : x ≡ c = ap (λ (o : Option _). unwrap_or o c) e in ap p (sym is) ∙ (or_parts (p x) false h).0
     last_fails p (x ∷ y ∷ xs) c e h = last_fails p (y ∷ xs) c e (or_parts (p x) (list_any p (y ∷ xs)) h).1
 
-length-push : {A : Type 0} (xs : List A) (x : A) → length (xs ++ x ∷ []) ≡ length xs + 1
+pub length-push : {A : Type 0} (xs : List A) (x : A) → length (xs ++ x ∷ []) ≡ length xs + 1
 length-push xs x = length-append xs (x ∷ [])
 
 pub last_push : {A : Type 0} (xs : List A) (x : A) → last_of (xs ++ x ∷ []) ≡ Some x
@@ -169,13 +169,13 @@ all_push : (xs : List Item) (x : Item) → All xs → IsItem x → All (xs ++ x 
 all_push [] x h i = (i, tt)
 all_push (y ∷ xs) x h i = (h.0, all_push xs x h.1 i)
 
-behind_main : (d : Item) (s s' p : List Item) → s' ≡ s ++ p → d ∷ s' ++ [] ++ [] ≡ (d ∷ s ++ [] ++ []) ++ p
+pub behind_main : (d : Item) (s s' p : List Item) → s' ≡ s ++ p → d ∷ s' ++ [] ++ [] ≡ (d ∷ s ++ [] ++ []) ++ p
 behind_main d s s' p e = rw e (simp (append_assoc, append-nil))
 
-behind_other : (x o o' p : List Item) → o' ≡ o ++ p → x ++ o' ++ [] ≡ (x ++ o ++ []) ++ p
+pub behind_other : (x o o' p : List Item) → o' ≡ o ++ p → x ++ o' ++ [] ≡ (x ++ o ++ []) ++ p
 behind_other x o o' p e = rw e (simp (append_assoc, append-nil))
 
-behind_all : (x t t' p : List Item) → t' ≡ t ++ p → x ++ t' ≡ (x ++ t) ++ p
+pub behind_all : (x t t' p : List Item) → t' ≡ t ++ p → x ++ t' ≡ (x ++ t) ++ p
 behind_all x t t' p e = ap (λ (y : List Item). x ++ y) e ∙ sym (append_assoc x t p)
 
 -- what is said of the file before and of the descriptor
@@ -343,7 +343,7 @@ string_follows count s us follow e =
     let n = length-push s.texts us in
     record { named = follow.named; few = omega arith }
 
-strings_more : (s : Strings) (us : List ℕ) → strings_items (Some (record s { texts = s.texts ++ us ∷ [] })) ≡ strings_items (Some s) ++ items.String us ∷ []
+pub strings_more : (s : Strings) (us : List ℕ) → strings_items (Some (record s { texts = s.texts ++ us ∷ [] })) ≡ strings_items (Some s) ++ items.String us ∷ []
 strings_more s us = ap (λ (ys : List Item). items.Languages s.languages ∷ ys) (map-push items.String s.texts us)
 
 -- a string

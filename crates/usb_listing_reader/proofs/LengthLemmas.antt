@@ -62,7 +62,7 @@ set_is c =
     ∙ ap (λ (zs : List Descriptor). zs ++ map item_descriptor (flat_map setting_items c.settings)) (extras_are c.extras)
     ∙ ap (λ (zs : List Descriptor). map extra_descriptor c.extras ++ zs) (map-flat item_descriptor setting_items setting_descriptors setting_is c.settings))
 
-longer : (item : Item) (c : Configuration) → Joins item c → set_length (set_and item c) ≡ set_length c + length (descriptor_bytes (item_descriptor item))
+pub longer : (item : Item) (c : Configuration) → Joins item c → set_length (set_and item c) ≡ set_length c + length (descriptor_bytes (item_descriptor item))
 longer item c j =
     let ds = set_descriptors c 0 in
     let more : set_descriptors (set_and item c) 0 ≡ ds ++ item_descriptor item ∷ [] =

@@ -8,3 +8,7 @@ pub mod CountLemmas
 pub mod WholeLemmas
 pub mod ReadingLemmas
 pub mod StepLemmas
+pub mod LessLemmas
+pub mod FileLemmas
+pub mod AnswerLemmas
+pub mod LawLemmas

@@ -34,7 +34,7 @@ reading_none text d e = subst (λ (x : Option Draft). Reading text x text 1) (sy
 })
 
 -- the line fits behind those before it
-lines_more : (s : Option DescriptorFile) (f : DescriptorFile) (item : Item) (line : List ℕ) → file_items f ≡ items_of s ++ item ∷ [] → Says line item
+pub lines_more : (s : Option DescriptorFile) (f : DescriptorFile) (item : Item) (line : List ℕ) → file_items f ≡ items_of s ++ item ∷ [] → Says line item
     → file_lines f ≡ lines_of s ++ (line ++ codes "\n")
 lines_more s f item line e says =
     lines_are f ∙ ap (flat_map item_line) e ∙ flat_map-push item_line (items_of s) item
@@ -71,7 +71,7 @@ reading_next text rest more old new n r t shorter =
 first_longer : (rest line more t : List ℕ) → FirstLine rest line more → FirstLine (rest ++ t) line (more ++ t)
 first_longer rest line more t f = record { parts = ap (λ (xs : List ℕ). xs ++ t) f.parts ∙ append_assoc line (10 ∷ more) t; printable = f.printable }
 
-lasting : (s : Option DescriptorFile) (rest t : List ℕ) (why : ListWhy) → Lasts s rest why → Told s (rest ++ t) why
+pub lasting : (s : Option DescriptorFile) (rest t : List ℕ) (why : ListWhy) → Lasts s rest why → Told s (rest ++ t) why
 lasting s rest t whys.Line (line, more, x, parts, print, bad, other) =
     let is : rest ++ t ≡ line ++ x ∷ (more ++ t) = ap (λ (xs : List ℕ). xs ++ t) parts ∙ append_assoc line (x ∷ more) t in
     let some : rest ++ t ≢ [] = λ e. some_behind line x (more ++ t) (sym is ∙ e) in

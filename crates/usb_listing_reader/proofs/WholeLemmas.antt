@@ -32,7 +32,7 @@ use Rattle.usb_listing_reader.proofs.LengthLemmas.{item_descriptor, set_is}
 abbrev All : List Item → Type 0
 All xs = AllByRecursion IsItem xs
 
-all_split : (xs ys : List Item) → All (xs ++ ys) → All xs × All ys
+pub all_split : (xs ys : List Item) → All (xs ++ ys) → All xs × All ys
 all_split [] ys h = (tt, h)
 all_split (x ∷ xs) ys h = let p = all_split xs ys h.1 in ((h.0, p.0), p.1)
 

@@ -1,4 +1,5 @@
 pub mod Numbers
 pub mod Order
 pub mod Listings
+pub mod ListingOrFault
 pub mod inside

@@ -5,6 +5,7 @@ mod assembling;
 mod draft;
 mod fault;
 mod growing;
+pub mod laws;
 mod order;
 mod step;
 

@@ -1,0 +1,134 @@
+-- A listing, walked, is its file, and a text with a fault that fault.
+use Rattle.std.proofs.Common.{◌≡◌, ◌≢◌, ℕ, zero, suc, ◌+◌, ◌≤◌, ◌<◌, ◌==◌, ltb, Bool, true, false, cond, List, [], ◌∷◌, ◌++◌, Option, Some, None, Result, Ok, Err, length, refl, ap, sym, ◌∙◌, append-nil, length-append, arith, codes}
+use Rattle.std.proofs.lemmas.Bool.{lt-ltb, ne_eqb}
+use Rattle.usb_file_data.specs.declared.file.DescriptorFile.{DescriptorFile}
+use Rattle.usb_listing_lines.specs.declared.item.Item.{Item}
+use Rattle.usb_listing_lines.specs.declared.word.Word.{Word}
+use Rattle.usb_listing_lines.specs.Words.{first_word, is_printable, word_in, word_text}
+use Rattle.usb_listing_lines.specs.Item.{Says, item_word}
+use Rattle.usb_listing_lines.specs.InsideItems.{item_of_line}
+use Rattle.usb_listing_lines.proofs.PrintableLemmas.{line_of, line_of-printable, line_of-says}
+use Rattle.usb_listing_lines.proofs.SaysLemmas.{read_is_said, said_is_read, said_word, word_again, word_read}
+use Rattle.usb_listing_reader.specs.declared.fault.ListFault.{ListFault}
+use Rattle.usb_listing_reader.specs.declared.fault.ListWhy.{ListWhy}
+use Rattle.usb_listing_reader.specs.declared.fault.ListWhy.TheVariants as whys
+use Rattle.usb_listing_reader.specs.Order.{file_and, file_items, may_stand, work_length}
+use Rattle.usb_listing_reader.specs.Listings.{Begins, FirstLine, IsBegun, ListFaulty, Lists, NoLineGoesOn, RestFaulty, is_whole, items_of, lines_of}
+use Rattle.usb_listing_reader.specs.inside.Walking.{Walk, add, add_line, after_line, answer_of, fault_behind, file_end, going, stopped, walk, walk_byte, walk_end}
+use Rattle.usb_listing_reader.proofs.FileLemmas.{file_front, file_whole}
+use Rattle.usb_listing_reader.proofs.LessLemmas.{LastLine, front_less}
+use Rattle.usb_listing_reader.proofs.ReadingLemmas.{lines_more}
+use Rattle.usb_listing_reader.proofs.StepLemmas.{no_place, no_word, placed}
+use Rattle.usb_listing_reader.proofs.WalkLemmas.{Printable, walk-append, walk_line, walk_stopped, walk_whole}
+
+-- ---- the lines of a file so far
+
+-- a line that says a descriptor, which may stand there
+said_made : (s : Option DescriptorFile) (line : List ℕ) (item : Item) → Says line item → may_stand s (item_word item) ≡ true → add_line s line ≡ add s item
+said_made s line item says may =
+    placed s line (item_word item) (Some item) (ap word_in (said_word line item says) ∙ word_again (item_word item)) may (said_is_read line item says)
+
+-- one line more
+walk_last : (f : DescriptorFile) (l : LastLine f) → walk (going None 0 []) (lines_of l.before) ≡ going l.before (length (items_of l.before)) []
+    → walk (going None 0 []) (lines_of (Some f)) ≡ going (Some f) (length (file_items f)) []
+walk_last f l before =
+    let n = length (items_of l.before) in
+    let line = line_of l.item in
+    let says = line_of-says l.item l.is_item in
+    let count : n + 1 ≡ length (file_items f) = sym (ap length l.lines ∙ length-append (items_of l.before) (l.item ∷ [])) in
+    ap (walk (going None 0 [])) (lines_more l.before f l.item line l.lines says)
+    ∙ walk-append (going None 0 []) (lines_of l.before) (line ++ 10 ∷ [])
+    ∙ ap (λ (w : Walk). walk w (line ++ 10 ∷ [])) before
+    ∙ walk_whole l.before n line [] (line_of-printable l.item l.is_item)
+    ∙ ap (after_line n) (said_made l.before line l.item says l.may ∙ l.makes)
+    ∙ ap (λ (k : ℕ). going (Some f) k []) count
+
+walk_within : (n : ℕ) (s : Option DescriptorFile) → IsBegun s → length (items_of s) ≤ n → walk (going None 0 []) (lines_of s) ≡ going s (length (items_of s)) []
+walk_within n None begun few = refl
+walk_within zero (Some f) begun few = absurd (omega (arith, few))
+walk_within (suc n) (Some f) begun few =
+    let l = front_less f begun in
+    let count : length (file_items f) ≡ length (items_of l.before) + 1 = ap length l.lines ∙ length-append (items_of l.before) (l.item ∷ []) in
+    walk_last f l (walk_within n l.before l.begun (omega (arith, count, few)))
+
+-- the lines of a file so far, walked, are that file
+pub walk_begun : (s : Option DescriptorFile) → IsBegun s → walk (going None 0 []) (lines_of s) ≡ going s (length (items_of s)) []
+walk_begun s begun = walk_within (length (items_of s)) s begun (omega arith)
+
+-- ---- a listing
+
+end_whole : (f : DescriptorFile) (n : ℕ) → is_whole (Some f) ≡ true → file_end (Some f) n ≡ Ok f
+end_whole f n e = ap (λ (b : Bool). cond b (Ok f) (Err (fault_behind n whys.Missing))) e
+
+pub answer_listing : (text : List ℕ) (f : DescriptorFile) → Lists text f → answer_of text ≡ Ok f
+unfolding answer_of
+answer_listing text f l =
+    ap walk_end (ap (walk (going None 0 [])) l.lines ∙ walk_begun (Some f) (file_front f l.bytes l.file))
+    ∙ end_whole f (length (file_items f)) (file_whole f l.bytes l.file)
+
+-- ---- a fault
+
+-- a line of which nothing can be made
+stops : (s : Option DescriptorFile) (n : ℕ) (rest line more : List ℕ) (why : ListWhy) → FirstLine rest line more → add_line s line ≡ Err why
+    → walk_end (walk (going s n []) rest) ≡ Err (fault_behind n why)
+stops s n rest line more why first e =
+    ap walk_end
+    (ap (walk (going s n [])) first.parts ∙ walk_whole s n line more first.printable
+    ∙ ap (λ (r : Result DescriptorFile ListWhy). walk (after_line n r) more) e ∙ walk_stopped n why more)
+
+-- no byte of a line, and no line feed
+byte_stops : (s : Option DescriptorFile) (n : ℕ) (line : List ℕ) (x : ℕ) → is_printable x ≡ false → x ≢ 10 → walk_byte (going s n line) x ≡ stopped n whys.Line
+unfolding walk_byte
+byte_stops s n line x bad other = pick (is_printable x) (x == 10) bad (ne_eqb x 10 other) _ _ _
+  where
+    pick : (a b : Bool) → a ≡ false → b ≡ false → (u v w : Walk) → cond a u (cond b v w) ≡ w
+    pick a b ea eb u v w = rw (ea, eb) refl
+
+line_stops : (s : Option DescriptorFile) (n : ℕ) (line more : List ℕ) → line ++ more ≢ [] → Printable line → NoLineGoesOn more → walk_end (walk (going s n []) (line ++ more)) ≡ Err (fault_behind n whys.Line)
+line_stops s n line [] some print end = ap walk_end (walk_line s n [] line [] print) ∙ cut line some
+  where
+    cut : (line : List ℕ) → line ++ [] ≢ [] → walk_end (going s n line) ≡ Err (fault_behind n whys.Line)
+    cut [] some = absurd (some refl)
+    cut (x ∷ line) some = refl
+line_stops s n line (x ∷ more) some print end =
+    ap walk_end
+    (walk_line s n [] line (x ∷ more) print ∙ ap (λ (w : Walk). walk w more) (byte_stops s n line x end.0 end.1) ∙ walk_stopped n whys.Line more)
+
+no_word_in : (line : List ℕ) → ((word : Word) → first_word line ≢ word_text word) → (o : Option Word) → word_in (first_word line) ≡ o → o ≡ None
+no_word_in line none None e = refl
+no_word_in line none (Some w) e = absurd (none w (word_read (first_word line) w e))
+
+no_item_in : (line : List ℕ) → ((item : Item) → Says line item → ⊥) → (o : Option Item) → item_of_line line ≡ o → o ≡ None
+no_item_in line none None e = refl
+no_item_in line none (Some item) e = absurd (none item (read_is_said line item e))
+
+too_long : (f : DescriptorFile) (item : Item) → 65535 < work_length (file_and item f) → add (Some f) item ≡ Err whys.TooLong
+too_long f item over = ap (λ (b : Bool). cond b (Err whys.TooLong) (Ok (file_and item f))) (lt-ltb _ _ over)
+
+end_missing : (s : Option DescriptorFile) (n : ℕ) → is_whole s ≡ false → file_end s n ≡ Err (fault_behind n whys.Missing)
+end_missing None n e = refl
+end_missing (Some f) n e = ap (λ (b : Bool). cond b (Ok f) (Err (fault_behind n whys.Missing))) e
+
+fault_told : (s : Option DescriptorFile) (n : ℕ) (rest : List ℕ) (why : ListWhy) → RestFaulty s rest why → walk_end (walk (going s n []) rest) ≡ Err (fault_behind n why)
+fault_told s n rest whys.Line (line, more, some, parts, print, end) =
+    ap (λ (xs : List ℕ). walk_end (walk (going s n []) xs)) parts ∙ line_stops s n line more (λ e. some (parts ∙ e)) print end
+fault_told s n rest whys.Word (line, more, first, none) =
+    stops s n rest line more whys.Word first (no_word s line (no_word_in line none (word_in (first_word line)) refl))
+fault_told s n rest whys.Place (line, more, w, first, word, may) =
+    stops s n rest line more whys.Place first (no_place s line w (ap word_in word ∙ word_again w) may)
+fault_told s n rest whys.Field (line, more, w, first, word, may, none) =
+    stops s n rest line more whys.Field first (placed s line w None (ap word_in word ∙ word_again w) may (no_item_in line none (item_of_line line) refl))
+fault_told s n rest whys.TooLong (line, more, item, f, first, is, says, may, over) =
+    stops s n rest line more whys.TooLong first (said_made s line item says may ∙ ap (λ (z : Option DescriptorFile). add z item) is ∙ too_long f item over)
+fault_told s n rest whys.Missing (none, due) = ap (λ (xs : List ℕ). walk_end (walk (going s n []) xs)) none ∙ end_missing s n due
+fault_told s n rest whys.Memory h = absurd h
+
+pub answer_faulty : (text : List ℕ) (line : ℕ) (why : ListWhy) → ListFaulty text line why → answer_of text ≡ Err (record { line = line; why = why })
+unfolding answer_of
+answer_faulty text line why l =
+    let b = l.begins in
+    ap walk_end
+    (ap (walk (going None 0 [])) b.parts ∙ walk-append (going None 0 []) (lines_of l.so_far) l.rest
+    ∙ ap (λ (w : Walk). walk w l.rest) (walk_begun l.so_far b.begun))
+    ∙ fault_told l.so_far (length (items_of l.so_far)) l.rest why l.fault
+    ∙ ap (λ (k : ℕ). Err (record { line = k; why = why })) (sym b.line_is)

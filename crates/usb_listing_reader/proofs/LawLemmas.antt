@@ -1,0 +1,129 @@
+-- Of all texts exactly one holds: a listing, or one fault at one line; and a listing has one file.
+use Rattle.std.proofs.Common.{◌≡◌, ◌≢◌, ℕ, ◌+◌, ◌==◌, ◌&&◌, Bool, true, false, cond, List, [], ◌∷◌, ◌++◌, Option, Some, None, Result, Ok, Err, length, refl, ap, sym, subst, ◌∙◌, append_assoc, append-nil, length-append, arith}
+use Rattle.std.specs.List.{list_all}
+use Rattle.std.proofs.lemmas.Bool.{and_from, eqb-false, eqb-true}
+use Rattle.std.proofs.lemmas.List.Folds.{list_all-append}
+use Rattle.usb_file_data.specs.declared.file.DescriptorFile.{DescriptorFile}
+use Rattle.usb_file_data.specs.File.{file_bytes}
+use Rattle.usb_listing.specs.Listing.{file_lines}
+use Rattle.usb_listing_lines.specs.Words.{is_printable}
+use Rattle.usb_listing_reader.specs.declared.fault.ListFault.{ListFault}
+use Rattle.usb_listing_reader.specs.declared.fault.ListWhy.{ListWhy}
+use Rattle.usb_listing_reader.specs.declared.fault.ListWhy.TheVariants as whys
+use Rattle.usb_listing_reader.specs.ListingOrFault.{ListingOrFault, is_faulty, is_listing}
+use Rattle.usb_listing_reader.specs.Listings.{IsBegun, ListFaulty, Lists, RestFaulty, is_whole, items_of, lines_of}
+use Rattle.usb_listing_reader.specs.inside.Drafts.{Told}
+use Rattle.usb_listing_reader.specs.inside.Walking.{Walk, add_line, after_line, answer_of, going, stopped, walk, walk_byte}
+use Rattle.usb_listing_reader.proofs.AnswerLemmas.{answer_faulty, answer_listing}
+use Rattle.usb_listing_reader.proofs.ReadingLemmas.{lasting, lines_more}
+use Rattle.usb_listing_reader.proofs.WalkLemmas.{Lasts, Makes, Printable, makes}
+use Rattle.usb_listing_reader.proofs.WholeLemmas.{whole_file}
+
+-- ---- at most one
+
+pub one_file : (text : List ℕ) (f g : DescriptorFile) → Lists text f → Lists text g → f ≡ g
+one_file text f g lf lg =
+    ap (λ (r : Result DescriptorFile ListFault). elim r as (λ q. DescriptorFile) [ Ok h ↦ h | Err e ↦ f ]) (sym (answer_listing text f lf) ∙ answer_listing text g lg)
+
+pub one_fault : (text : List ℕ) (m n : ℕ) (v w : ListWhy) → ListFaulty text m v → ListFaulty text n w → (m ≡ n) × (v ≡ w)
+one_fault text m n v w lv lw =
+    let same : Err (record { line = m; why = v }) ≡ Err (record { line = n; why = w }) = sym (answer_faulty text m v lv) ∙ answer_faulty text n w lw in
+    let fault : Result DescriptorFile ListFault → ListFault = λ r. elim r as (λ q. ListFault) [ Ok h ↦ record { line = m; why = v } | Err e ↦ e ] in
+    (ap (λ (r : Result DescriptorFile ListFault). (fault r).line) same, ap (λ (r : Result DescriptorFile ListFault). (fault r).why) same)
+
+pub not_both : (text : List ℕ) (f : DescriptorFile) (n : ℕ) (w : ListWhy) → Lists text f → ListFaulty text n w → ⊥
+not_both text f n w l lw =
+    apart (answer_of text) f (record { line = n; why = w }) (answer_listing text f l) (answer_faulty text n w lw)
+  where
+    apart : (r : Result DescriptorFile ListFault) (g : DescriptorFile) (e : ListFault) → r ≡ Ok g → r ≡ Err e → ⊥
+    apart (Ok h) g e ok err = cc
+    apart (Err h) g e ok err = cc
+
+-- ---- at least one
+
+-- what is so of the bytes that were walked
+abbrev Walked : List ℕ → Walk → Type 0
+Walked text (going s n line) = IsBegun s × (text ≡ lines_of s ++ line) × Printable line × (n ≡ length (items_of s))
+Walked text (stopped n why) = (t : List ℕ) → ListFaulty (text ++ t) (n + 1) why
+
+fault_behind_lines : (text : List ℕ) (s : Option DescriptorFile) (n : ℕ) (rest : List ℕ) (why : ListWhy) → IsBegun s → text ≡ lines_of s ++ rest → n ≡ length (items_of s)
+    → RestFaulty s rest why → ListFaulty text (n + 1) why
+fault_behind_lines text s n rest why begun parts count fault = record {
+  so_far = s;
+  rest = rest;
+  begins = record { begun = begun; parts = parts; line_is = ap (λ (k : ℕ). k + 1) count };
+  fault = fault;
+}
+
+-- a fault that lasts is no want of memory
+lasts_on : (s : Option DescriptorFile) (rest t : List ℕ) (why : ListWhy) → Lasts s rest why → RestFaulty s (rest ++ t) why
+lasts_on s rest t whys.Line h = lasting s rest t whys.Line h
+lasts_on s rest t whys.Word h = lasting s rest t whys.Word h
+lasts_on s rest t whys.Place h = lasting s rest t whys.Place h
+lasts_on s rest t whys.Field h = lasting s rest t whys.Field h
+lasts_on s rest t whys.TooLong h = lasting s rest t whys.TooLong h
+lasts_on s rest t whys.Missing h = absurd h
+lasts_on s rest t whys.Memory h = absurd h
+
+longer : (text front line more : List ℕ) → text ≡ front ++ line → text ++ more ≡ front ++ (line ++ more)
+longer text front line more e = ap (λ (ys : List ℕ). ys ++ more) e ∙ append_assoc front line more
+
+-- what a line feed makes
+walked_line : (text : List ℕ) (s : Option DescriptorFile) (n : ℕ) (line : List ℕ) → text ≡ lines_of s ++ line → IsBegun s → n ≡ length (items_of s)
+    → (r : Result DescriptorFile ListWhy) → Makes s line r → Walked (text ++ 10 ∷ []) (after_line n r)
+walked_line text s n line parts begun count (Ok f) (front, item, items, says) =
+    let more : text ++ 10 ∷ [] ≡ file_lines f ++ [] =
+    longer text (lines_of s) line (10 ∷ []) parts ∙ sym (lines_more s f item line items says) ∙ sym (append-nil (file_lines f)) in
+    let one : length (items_of (Some f)) ≡ length (items_of s) + 1 = ap length items ∙ length-append (items_of s) (item ∷ []) in
+    (front, more, refl, ap (λ (k : ℕ). k + 1) count ∙ sym one)
+walked_line text s n line parts begun count (Err why) h = λ t.
+    fault_behind_lines ((text ++ 10 ∷ []) ++ t) s n ((line ++ 10 ∷ []) ++ t) why begun
+    (longer (text ++ 10 ∷ []) (lines_of s) (line ++ 10 ∷ []) t (longer text (lines_of s) line (10 ∷ []) parts)) count (lasts_on s (line ++ 10 ∷ []) t why h)
+
+-- one byte more
+walked_byte : (text : List ℕ) (w : Walk) (x : ℕ) → Walked text w → Walked (text ++ x ∷ []) (walk_byte w x)
+unfolding walk_byte
+walked_byte text (stopped n why) x h = λ t. subst (λ (ys : List ℕ). ListFaulty ys (n + 1) why) (sym (append_assoc text (x ∷ []) t)) (h (x ∷ t))
+walked_byte text (going s n line) x (begun, parts, print, count) = cases (is_printable x) (x == 10) refl refl
+  where
+    cases : (a b : Bool) → is_printable x ≡ a → (x == 10) ≡ b
+        → Walked (text ++ x ∷ []) (cond a (going s n (line ++ x ∷ [])) (cond b (after_line n (add_line s line)) (stopped n whys.Line)))
+    cases true b ea eb = (
+      begun,
+      longer text (lines_of s) line (x ∷ []) parts,
+      list_all-append is_printable line (x ∷ []) ∙ and_from (list_all is_printable line) (is_printable x && true) print (and_from (is_printable x) true ea refl),
+      count,
+    )
+    cases false true ea eb =
+        subst (λ (y : ℕ). Walked (text ++ y ∷ []) (after_line n (add_line s line))) (sym (eqb-true x 10 eb))
+        (walked_line text s n line parts begun count (add_line s line) (makes s line begun print))
+    cases false false ea eb = λ t.
+        let is : (text ++ x ∷ []) ++ t ≡ lines_of s ++ (line ++ x ∷ t) = append_assoc text (x ∷ []) t ∙ longer text (lines_of s) line (x ∷ t) parts in
+        fault_behind_lines ((text ++ x ∷ []) ++ t) s n (line ++ x ∷ t) whys.Line begun is count
+        (line, x ∷ t, some line t, refl, print, (ea, eqb-false x 10 eb))
+      where
+        some : (line t : List ℕ) → line ++ x ∷ t ≢ []
+        some [] t = λ e. cc
+        some (y ∷ line) t = λ e. cc
+
+walked_all : (text rest : List ℕ) (w : Walk) → Walked text w → Walked (text ++ rest) (walk w rest)
+walked_all text [] w h = subst (λ (ys : List ℕ). Walked ys w) (sym (append-nil text)) h
+walked_all text (x ∷ rest) w h =
+    subst (λ (ys : List ℕ). Walked ys (walk (walk_byte w x) rest)) (append_assoc text (x ∷ []) rest) (walked_all (text ++ x ∷ []) rest (walk_byte w x) (walked_byte text w x h))
+
+-- at the end of the text
+walked_end : (text : List ℕ) (w : Walk) → Walked text w → ListingOrFault text
+walked_end text (stopped n why) h = is_faulty (n + 1) why (subst (λ (ys : List ℕ). ListFaulty ys (n + 1) why) (append-nil text) (h []))
+walked_end text (going s n (x ∷ line)) (begun, parts, print, count) =
+    is_faulty (n + 1) whys.Line
+    (fault_behind_lines text s n (x ∷ line) whys.Line begun parts count (x ∷ line, [], (λ e. cc), sym (append-nil (x ∷ line)), print, tt))
+walked_end text (going None n []) (begun, parts, print, count) =
+    is_faulty (n + 1) whys.Missing (fault_behind_lines text None n [] whys.Missing begun parts count (refl, refl))
+walked_end text (going (Some f) n []) (begun, parts, print, count) = cases (is_whole (Some f)) refl
+  where
+    cases : (b : Bool) → is_whole (Some f) ≡ b → ListingOrFault text
+    cases true e = is_listing f (record { lines = parts ∙ append-nil (file_lines f); bytes = file_bytes f; file = whole_file f begun e })
+    cases false e = is_faulty (n + 1) whys.Missing (fault_behind_lines text (Some f) n [] whys.Missing begun parts count (refl, e))
+
+pub listing_or_fault : (text : List ℕ) → ListingOrFault text
+listing_or_fault text = walked_end text (walk (going None 0 []) text) (walked_all [] text (going None 0 []) (tt, refl, refl, refl))

@@ -1,0 +1,20 @@
+//! What holds of texts, files and faults, whoever reads the text. Each law is the contract of a function
+//! that does nothing.
+ghost use Rattle.std.specs.Prelude.{◌≡◌, ℕ, List};
+ghost use Rattle.usb_file_data.specs.declared.file.DescriptorFile.{DescriptorFile};
+ghost use Rattle.usb_listing_reader.specs.declared.fault.ListWhy.{ListWhy};
+ghost use Rattle.usb_listing_reader.specs.ListingOrFault.{ListingOrFault};
+ghost use Rattle.usb_listing_reader.specs.Listings.{ListFaulty, Lists};
+
+/// A text is the listing of one file at most, and a file has one listing at most.
+pub fn one_file()
+    ensures read { (text : List ℕ) (f g : DescriptorFile) → Lists text f → Lists text g → f ≡ g }
+    ensures listed { (f : DescriptorFile) (s t : List ℕ) → Lists s f → Lists t f → s ≡ t }
+{}
+
+/// Of all texts exactly one holds: they are the listing of a file, or they show one fault at one line.
+pub fn one_answer()
+    ensures some { (text : List ℕ) → ListingOrFault text }
+    ensures one_fault { (text : List ℕ) (m n : ℕ) (v w : ListWhy) → ListFaulty text m v → ListFaulty text n w → (m ≡ n) × (v ≡ w) }
+    ensures not_both { (text : List ℕ) (f : DescriptorFile) (line : ℕ) (why : ListWhy) → Lists text f → ListFaulty text line why → ⊥ }
+{}
