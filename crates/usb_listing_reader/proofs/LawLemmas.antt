@@ -1,5 +1,6 @@
 -- Of all texts exactly one holds: a listing, or one fault at one line; and a listing has one file.
 use Rattle.std.proofs.Common.{◌≡◌, ◌≢◌, ℕ, ◌+◌, ◌==◌, ◌&&◌, Bool, true, false, cond, List, [], ◌∷◌, ◌++◌, Option, Some, None, Result, Ok, Err, length, refl, ap, sym, subst, ◌∙◌, append_assoc, append-nil, length-append, arith}
+use Rattle.std.specs.Prelude.{IfErr}
 use Rattle.std.specs.List.{list_all}
 use Rattle.std.proofs.lemmas.Bool.{and_from, eqb-false, eqb-true}
 use Rattle.std.proofs.lemmas.List.Folds.{list_all-append}
@@ -11,7 +12,7 @@ use Rattle.usb_listing_reader.specs.declared.fault.ListFault.{ListFault}
 use Rattle.usb_listing_reader.specs.declared.fault.ListWhy.{ListWhy}
 use Rattle.usb_listing_reader.specs.declared.fault.ListWhy.TheVariants as whys
 use Rattle.usb_listing_reader.specs.ListingOrFault.{ListingOrFault, is_faulty, is_listing}
-use Rattle.usb_listing_reader.specs.Listings.{IsBegun, ListFaulty, Lists, RestFaulty, is_whole, items_of, lines_of}
+use Rattle.usb_listing_reader.specs.Listings.{IsBegun, ListFaulty, ListRefused, Lists, RestFaulty, is_whole, items_of, lines_of}
 use Rattle.usb_listing_reader.specs.inside.Drafts.{Told}
 use Rattle.usb_listing_reader.specs.inside.Walking.{Walk, add_line, after_line, answer_of, going, stopped, walk, walk_byte}
 use Rattle.usb_listing_reader.proofs.AnswerLemmas.{answer_faulty, answer_listing}
@@ -127,3 +128,19 @@ walked_end text (going (Some f) n []) (begun, parts, print, count) = cases (is_w
 
 pub listing_or_fault : (text : List ℕ) → ListingOrFault text
 listing_or_fault text = walked_end text (walk (going None 0 []) text) (walked_all [] text (going None 0 []) (tt, refl, refl, refl))
+
+-- ---- a listing is refused for want of memory alone
+
+want_of_memory : (text : List ℕ) (f : DescriptorFile) (line : ℕ) (why : ListWhy) → Lists text f → ListRefused text line why → why ≡ whys.Memory
+want_of_memory text f line whys.Line l h = absurd (not_both text f line whys.Line l h)
+want_of_memory text f line whys.Word l h = absurd (not_both text f line whys.Word l h)
+want_of_memory text f line whys.Place l h = absurd (not_both text f line whys.Place l h)
+want_of_memory text f line whys.Field l h = absurd (not_both text f line whys.Field l h)
+want_of_memory text f line whys.TooLong l h = absurd (not_both text f line whys.TooLong l h)
+want_of_memory text f line whys.Missing l h = absurd (not_both text f line whys.Missing l h)
+want_of_memory text f line whys.Memory l h = refl
+
+pub for_memory : (r : Result DescriptorFile ListFault) (text : List ℕ) (f : DescriptorFile) → Lists text f → IfErr r (λ fault. ListRefused text fault.line fault.why)
+    → IfErr r (λ fault. fault.why ≡ whys.Memory)
+for_memory (Ok g) text f l h = tt
+for_memory (Err e) text f l h = want_of_memory text f e.line e.why l h

@@ -8,7 +8,8 @@ use Rattle.usb_listing_lines.specs.Words.{is_printable}
 use Rattle.usb_listing_lines.specs.Item.{Says, item_line}
 use Rattle.usb_listing.specs.Listing.{file_lines}
 use Rattle.usb_listing_reader.specs.declared.draft.Draft.{Draft}
-use Rattle.std.specs.Prelude.{IfOk}
+use Rattle.std.specs.Prelude.{IfErr, IfOk}
+use Rattle.std.specs.Result.{IsErrAnd}
 use Rattle.usb_listing_reader.specs.declared.fault.ListFault.{ListFault}
 use Rattle.usb_listing_reader.specs.declared.fault.ListWhy.{ListWhy}
 use Rattle.usb_listing_reader.specs.declared.fault.ListWhy.TheVariants as whys
@@ -153,3 +154,13 @@ pub lists_end : (r : Result DescriptorFile ListFault) (text : List ℕ) (d : Opt
     → IfOk r (λ f. is_whole (Some f) ≡ true) → IfOk r (λ f. Lists text f)
 lists_end (Err e) text d n reading is whole = tt
 lists_end (Ok f) text d n reading is whole = lists_whole text d n f reading is whole
+
+pub refused_end : (r : Result DescriptorFile ListFault) (text : List ℕ) (d : Option Draft) (n : ℕ) → Reading text d [] n → IfErr r (λ fault. is_whole (so_far d) ≡ false)
+    → IfErr r (λ fault. fault ≡ record { line = n; why = whys.Missing }) → IfErr r (λ fault. ListRefused text fault.line fault.why)
+refused_end (Ok f) text d n reading due is = tt
+refused_end (Err e) text d n reading due is = subst (λ (z : ListFault). ListRefused text z.line z.why) (sym is) (missing_end text d n reading due)
+
+pub passed_on : (r : Result DescriptorFile ListFault) (text : List ℕ) (e : ListFault) → IsErrAnd r (λ y. y ≡ e) → ListRefused text e.line e.why
+    → IfErr r (λ fault. ListRefused text fault.line fault.why)
+passed_on (Ok f) text e is h = tt
+passed_on (Err y) text e is h = subst (λ (z : ListFault). ListRefused text z.line z.why) (sym is) h

@@ -4,6 +4,7 @@ ghost use Rattle.std.specs.List.{list_all};
 ghost use Rattle.usb_listing_lines.specs.Words.{is_printable};
 ghost use Rattle.usb_listing_reader.specs.Listings.{FirstLine, IsBegun, LineFaulty, ListRefused, Lists, is_whole};
 ghost use Rattle.usb_listing_reader.specs.inside.Drafts.{AreCounted, HasWork, Reading, TakesLine, Told, so_far};
+ghost use Rattle.usb_file_data.specs.declared.file.DescriptorFile.{DescriptorFile};
 ghost use Rattle.usb_listing_reader.specs.declared.fault.ListWhy.TheVariants as whys;
 
 use crate::draft::Draft;
@@ -132,6 +133,7 @@ fn finish(draft: Option<Draft>, line: usize) -> Result<DescriptorFile, ListFault
 /// refused.
 pub fn assemble(alloc: Global, text: &[u8]) -> Result<DescriptorFile, ListFault>
     ensures ok { IfOk result (λ f. Lists text.now f) }
+    ensures only { (f : DescriptorFile) → Lists text.now f → IfErr result (λ fault. fault.why ≡ whys.Memory) }
     ensures err { IfErr result (λ fault. ListRefused text.now fault.line fault.why) }
 {
     let (draft, line) = read_lines(alloc, text)?;
