@@ -1,7 +1,7 @@
 //! The setup packet of a control transfer (USB 2.0, 9.3).
 ghost use Rattle.std.specs.Prelude.{◌≡◌};
 
-use crate::field::{word_at, word_bytes};
+use crate::field::word_at;
 
 /// Which way the data stage goes (bit 7 of bmRequestType).
 #[derive(Clone, Copy, Debug, PartialEq, Eq, Hash)]
@@ -82,19 +82,13 @@ impl Setup {
     pub fn to_bytes(&self) -> [u8; 8]
         ensures { result ≡ setup_bytes self.now }
     {
-        let [value_low, value_high] = word_bytes(self.value);
-        let [index_low, index_high] = word_bytes(self.index);
-        let [length_low, length_high] = word_bytes(self.length);
-        [
-            self.request_type,
-            self.request,
-            value_low,
-            value_high,
-            index_low,
-            index_high,
-            length_low,
-            length_high,
-        ]
+        // As one number, which compilers make one load.
+        let bytes = u64::from(self.request_type)
+            + u64::from(self.request) * 0x100
+            + u64::from(self.value) * 0x1_0000
+            + u64::from(self.index) * 0x1_0000_0000
+            + u64::from(self.length) * 0x1_0000_0000_0000;
+        bytes.to_le_bytes()
     }
 
     /// Which way the data stage goes. Where `length` is 0 there is none, and the bit means nothing.

@@ -1,4 +1,5 @@
-//! One control transfer, driven reply by reply (USB 2.0, 8.5.3).
+//! One control transfer, driven reply by reply (USB 2.0, 8.5.3). Behind a call, a reply and what it means would go
+//! through memory, so that the parts are inlined.
 ghost use Rattle.std.specs.Prelude.{IsSome, ◌≡◌, ◌<◌, ◌≤◌, ◌+◌, ◌^◌};
 ghost use Rattle.usb_fields.specs.Packet.{reply_of};
 ghost use Rattle.usb_host.specs.Transfer.{stage_after_setup};
@@ -80,6 +81,7 @@ impl Transfer {
     }
 
     /// The transaction that is due, or `None` once the transfer has ended.
+    #[inline(always)]
     pub fn next(&self) -> Option<Transaction<'static>>
         ensures { sent_by result ≡ due self.now }
     {
@@ -97,6 +99,7 @@ impl Transfer {
 
     /// Takes what the transaction that was due brought. A transfer that has ended answers the same `Complete` or
     /// `Failed` from then on, and does not change.
+    #[inline(always)]
     pub fn take<'a>(&mut self, a: Answer<'a>) -> Heard<'a>
         ensures heard { heard_of result ≡ (taken self.old (reply_of a.entry)).heard }
         ensures after { self.new ≡ (taken self.old (reply_of a.entry)).transfer }
@@ -107,6 +110,7 @@ impl Transfer {
     }
 
     /// The same by the stage.
+    #[inline(always)]
     fn take_at<'a>(&mut self, a: Answer<'a>) -> Heard<'a>
         ensures heard { heard_of result ≡ (taken self.old (reply_of a.entry)).heard }
         ensures after { self.new ≡ (taken self.old (reply_of a.entry)).transfer }
@@ -154,6 +158,7 @@ impl Transfer {
 
     /// A packet in the data stage. Its length is tested before its toggle: a packet over the packet size is none of
     /// this device's, whether it came before or not.
+    #[inline(always)]
     fn take_data<'a>(&mut self, toggle: Toggle, bytes: &'a [u8]) -> Heard<'a>
         ensures heard { heard_of result ≡ (taken_data self.old toggle bytes.now).heard }
         ensures after { self.new ≡ (taken_data self.old toggle bytes.now).transfer }
@@ -172,6 +177,7 @@ impl Transfer {
     }
 
     /// A packet in the status stage.
+    #[inline(always)]
     fn take_status(&mut self, toggle: Toggle, bytes: &[u8]) -> Heard<'static>
         ensures heard { heard_of result ≡ (taken_status self.old toggle bytes.now).heard }
         ensures after { self.new ≡ (taken_status self.old toggle bytes.now).transfer }
@@ -186,6 +192,7 @@ impl Transfer {
     }
 
     /// Progress: on to this stage.
+    #[inline(always)]
     fn go_on(&mut self, stage: TransferStage) -> Heard<'static>
         ensures heard { heard_of result ≡ (moved self.old stage).heard }
         ensures after { self.new ≡ (moved self.old stage).transfer }
@@ -197,6 +204,7 @@ impl Transfer {
     }
 
     /// Progress to the end.
+    #[inline(always)]
     fn complete(&mut self) -> Heard<'static>
         ensures heard { heard_of result ≡ (completed self.old).heard }
         ensures after { self.new ≡ (completed self.old).transfer }
@@ -208,6 +216,7 @@ impl Transfer {
     }
 
     /// Progress by a data packet of so many bytes.
+    #[inline(always)]
     fn keep(&mut self, count: u16)
         requires { self.old.kept + count ≤ self.old.request.length }
         ensures { self.new ≡ with_packet self.old count }
@@ -225,6 +234,7 @@ impl Transfer {
     }
 
     /// The end, for this reason.
+    #[inline(always)]
     fn fail(&mut self, why: Why) -> Heard<'static>
         ensures heard { heard_of result ≡ (failed self.old why).heard }
         ensures after { self.new ≡ (failed self.old why).transfer }
@@ -234,6 +244,7 @@ impl Transfer {
     }
 
     /// No reply, or a packet that came before.
+    #[inline(always)]
     fn strike(&mut self) -> Heard<'static>
         ensures heard { heard_of result ≡ (struck self.old).heard }
         ensures after { self.new ≡ (struck self.old).transfer }
@@ -247,6 +258,7 @@ impl Transfer {
     }
 
     /// A NAK.
+    #[inline(always)]
     fn delay(&mut self) -> Heard<'static>
         ensures heard { heard_of result ≡ (delayed self.old).heard }
         ensures after { self.new ≡ (delayed self.old).transfer }
@@ -261,6 +273,7 @@ impl Transfer {
 }
 
 /// The stage that an acknowledged setup packet leads to.
+#[inline(always)]
 fn after_setup(request: Setup) -> TransferStage
     ensures { result ≡ stage_after_setup request }
 {
