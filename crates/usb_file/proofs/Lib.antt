@@ -5,6 +5,7 @@ pub mod Units
 pub mod Fronts
 pub mod Next
 pub mod Longest
+pub mod LongestFile
 pub mod Ends
 pub mod SetFaults
 pub mod Rows

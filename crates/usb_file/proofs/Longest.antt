@@ -1,7 +1,7 @@
 -- How long a file can be.
-use Rattle.std.proofs.Common.{◌≡◌, ℕ, ltb, ◌+◌, ◌*◌, ◌<◌, ◌≤◌, Bool, false, ◌==◌, not, List, [], ◌∷◌, ◌++◌, length, Option, Some, None, refl, ap, sym, subst, ◌∙◌, arith, length-append, append-nil, cond}
-use Rattle.std.specs.Prelude.{filter, is_some}
-use Rattle.std.specs.List.{flat_map, list_any, range_with_len}
+use Rattle.std.proofs.Common.{◌≡◌, ℕ, ◌+◌, ◌*◌, ◌<◌, ◌≤◌, Bool, false, ◌==◌, not, List, [], ◌∷◌, ◌++◌, length, Option, Some, None, refl, ap, sym, subst, arith, length-append, append-nil}
+use Rattle.std.specs.Prelude.{filter}
+use Rattle.std.specs.List.{list_any, range_with_len}
 use Rattle.std.proofs.Math.Nat.{mul-le-mul_right}
 use Rattle.std.proofs.lemmas.Bool.{ltb-false, or_parts}
 use Rattle.std.proofs.lemmas.List.Filters.{length-filter_both}
@@ -16,7 +16,7 @@ use Rattle.usb_file_data.specs.declared.file.DescriptorFile.{DescriptorFile}
 use Rattle.usb_file_data.specs.declared.file.Other.{Other}
 use Rattle.usb_file_data.specs.declared.file.Strings.{Strings}
 use Rattle.usb_file_data.specs.Named.{named_among, named_indices, other_sets, string_indices}
-use Rattle.usb_file_data.specs.File.{File, whole_set, sets_bytes, other_bytes, texts_bytes, strings_bytes, file_bytes, has_no_layout, is_long_string, are_wrong_strings}
+use Rattle.usb_file_data.specs.File.{File, whole_set, sets_bytes, other_bytes, texts_bytes, strings_bytes, has_no_layout, is_long_string, are_wrong_strings}
 use Rattle.usb_file.specs.Front.{AllSets}
 use Rattle.usb_file.proofs.Lists.{bytes_before, bytes_behind}
 use Rattle.usb_file.proofs.Units.{length-units_bytes}

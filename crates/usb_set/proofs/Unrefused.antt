@@ -11,7 +11,7 @@ use Rattle.usb_set.specs.Layout.{set_bytes, set_descriptors, Layout, is_long, ha
 use Rattle.usb_set.specs.Encoding.{refusal_of, set_length, FieldsFit, AllFieldsFit}
 use Rattle.usb_set.proofs.Sets.{length-set_bytes, no_refusal, has_length}
 
-bytes_append : (a b : List ℕ) → AreBytes a → AreBytes b → AreBytes (a ++ b)
+pub bytes_append : (a b : List ℕ) → AreBytes a → AreBytes b → AreBytes (a ++ b)
 bytes_append [] b ha hb = hb
 bytes_append (x ∷ a) b ha hb = (ha.0, bytes_append a b ha.1 hb)
 
