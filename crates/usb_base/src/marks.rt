@@ -11,7 +11,7 @@ use std::marker::Model;
 /// seen.add(7);
 /// assert!(rt; seen.has(7) && !seen.has(8));
 /// ```
-#[derive(Drop)]
+#[derive(Clone, Debug, Drop, PartialEq, Eq, Hash)]
 pub struct Marks {
     seen: [bool; 256],
 }
@@ -24,6 +24,8 @@ impl Model for Marks {
     ghost view = { λ m. m.seen };
 
     ghost invariant = { λ m. length m.seen ≡ 256 };
+
+    ghost inverse = { λ cells. record { seen = cells } };
 }
 
 impl Marks {

@@ -2,6 +2,10 @@
 ghost use Rattle.std.specs.Prelude.{◌≡◌};
 
 /// The PID of a data packet: the two alternate, so that a packet that comes again is known (USB 2.0, 8.6).
+///
+/// ```rust
+/// assert_eq!(rt; Toggle::Data1.flip(), Toggle::Data0);
+/// ```
 #[derive(Clone, Copy, Debug, PartialEq, Eq, Hash)]
 pub enum Toggle {
     /// DATA0.

@@ -16,17 +16,17 @@ use Rattle.usb_file_data.specs.declared.file.DescriptorFile.{DescriptorFile}
 use Rattle.usb_file_data.specs.declared.file.Other.{Other}
 use Rattle.usb_file_data.specs.declared.file.Strings.{Strings}
 use Rattle.usb_file_data.specs.Named.{named_indices}
-use Rattle.usb_file_data.specs.File.{File, file_bytes, sets_bytes, other_bytes, texts_bytes, is_other_kind, has_no_layout, are_wrong_strings}
+use Rattle.usb_file_data.specs.File.{File, file_bytes, sets_bytes, other_bytes, each_string_bytes, is_other_kind, has_no_layout, are_wrong_strings}
 use Rattle.usb_file.specs.declared.fault.FileWhy.{FileWhy}
 use Rattle.usb_file.specs.declared.fault.FileWhy.TheVariants as files
 use Rattle.usb_file.specs.Front.{AllSets, IsPartStart}
 use Rattle.usb_file.specs.FileFaults.{NextPart, a_set, a_qualifier, the_languages, a_string, the_end, begins_qualifier, IsNext, NoQualifierIsNext, EndIsNext, is_no_string, string_fault, fixed_fault, PartFaulty, FaultyPart, ReadRefused}
-use Rattle.usb_file.specs.inside.Reading.{ReadSoFar, Behind, SetRefused, ReadsSets, SetsRefused, ReadsQualifier, ReadsOther, OtherRefused, no_qualifier, no_set, ReadsString, StringRefused, ReadsTexts, ReadsStrings, StringsRefused, no_languages, no_text}
+use Rattle.usb_file.specs.inside.Reading.{ReadSoFar, Behind, SetRefused, ReadsSets, SetsRefused, ReadsQualifier, ReadsOther, OtherRefused, no_qualifier, no_set, ReadsString, StringRefused, ReadsDueStrings, ReadsStrings, StringsRefused, no_languages, no_string}
 use Rattle.usb_base.specs.Bytes.{AreBytes}
 use Rattle.usb_file.proofs.Lists.{behind_main, behind_other, drop_more}
 use Rattle.usb_file.proofs.Units.{length-units_bytes}
 use Rattle.usb_file.proofs.Fronts.{Grown, grow_qualifier, grow_languages, grow_strings, with_strings}
-use Rattle.usb_file.proofs.Next.{right_count, right_none, right_texts, not_none}
+use Rattle.usb_file.proofs.Next.{right_count, right_none, right_strings, not_none}
 use Rattle.usb_file.proofs.Ends.{is_file, bytes_left, drop_all}
 
 -- a file by its parts
@@ -209,27 +209,27 @@ again : (f : DescriptorFile) (s : Strings) (o : Option Other) → AllSets f o �
 again f s None h = h
 again f s (Some o) h = h
 
-texts_read : (b : List ℕ) (f : DescriptorFile) (place : ℕ) (u : List ℕ) (start : ℕ) (texts : List (List ℕ)) (end : ℕ) → SetsRead b f place → 0 < length (named_indices f)
-    → Behind place (ReadsString 4 (drop place b) u) start → ReadsTexts b start texts end → length texts ≤ length u * length (named_indices f)
+due_strings_read : (b : List ℕ) (f : DescriptorFile) (place : ℕ) (u : List ℕ) (start : ℕ) (texts : List (List ℕ)) (end : ℕ) → SetsRead b f place → 0 < length (named_indices f)
+    → Behind place (ReadsString 4 (drop place b) u) start → ReadsDueStrings b start texts end → length texts ≤ length u * length (named_indices f)
     → ReadSoFar b (with_strings (record { languages = u; texts = texts }) f) end
-texts_read b f place u start texts end sets named h reads few =
+due_strings_read b f place u start texts end sets named h reads few =
     let bare : Strings = record { languages = u; texts = [] } in
     let s : Strings = record { languages = u; texts = texts } in
     let enough = h.holds.enough in
     let ends = h.holds.ends in
     let before = languages_read b f place u start sets named h in
-    more_read b (with_strings bare f) (with_strings s f) start end (texts_bytes texts) before
-    (grow_strings (with_strings bare f) s (texts_bytes texts) before.splits.is_front (again f bare f.other sets.all)
+    more_read b (with_strings bare f) (with_strings s f) start end (each_string_bytes texts) before
+    (grow_strings (with_strings bare f) s (each_string_bytes texts) before.splits.is_front (again f bare f.other sets.all)
     (record { named = named; spoken = omega arith; few = few; short = or_from _ _ h.holds.short reads.short })
-    (sym (ap (λ x. x ++ texts_bytes texts) (append-nil (units_bytes u))))) reads.all.parts reads.all.ends
+    (sym (ap (λ x. x ++ each_string_bytes texts) (append-nil (units_bytes u))))) reads.all.parts reads.all.ends
 
 pub strings_refused : (b : List ℕ) (f : DescriptorFile) (place at : ℕ) (why : FileWhy) → SetsRead b f place → StringsRefused (length (named_indices f)) b place at why → ReadRefused b at why
 strings_refused b f place at why sets (no_languages named h) =
     string_refused b f place at why 4 the_languages sets.so_far (record { all = sets.all; no_strings = sets.no_strings; no_qualifier = sets.no_qualifier; named = named }) (λ n why x. x) h
-strings_refused b f place at why sets (no_text u start texts named languages h) =
+strings_refused b f place at why sets (no_string u start texts named languages h) =
     let few = h.few in
     string_refused b (with_strings (record { languages = u; texts = texts }) f) h.end at why 2 a_string
-    (texts_read b f place u start texts h.end sets named languages h.reads (omega arith)) h.few (λ n why x. x) h.refused
+    (due_strings_read b f place u start texts h.end sets named languages h.reads (omega arith)) h.few (λ n why x. x) h.refused
 
 -- ---- the end
 
@@ -256,10 +256,10 @@ strings_read b f place (Some s) end sets reads =
     let ends = reads.languages.holds.ends in
     let named = reads.named in
     record {
-      so_far = texts_read b f place s.languages reads.start s.texts end sets reads.named reads.languages reads.texts (omega (arith, reads.all));
+      so_far = due_strings_read b f place s.languages reads.start s.texts end sets reads.named reads.languages reads.texts (omega (arith, reads.all));
       next = record {
         counts = right_count (with_strings s f) (again f s f.other sets.all);
-        texts = right_texts (length (named_indices f)) s (record {
+        texts = right_strings (length (named_indices f)) s (record {
           follow = record { named = named; spoken = omega arith; few = omega (arith, reads.all); short = or_from _ _ reads.languages.holds.short reads.texts.short };
           whole = reads.all;
         });

@@ -21,9 +21,9 @@ use Rattle.usb_file_data.specs.File.{File, file_bytes, is_other_kind, are_wrong_
 use Rattle.usb_base.specs.Bytes.{AreBytes}
 use Rattle.usb_file.proofs.Lists.{bytes_before, bytes_behind}
 use Rattle.usb_file.specs.inside.PartLaws.{PartLaws}
-use Rattle.usb_file.proofs.Fronts.{Grown, text_with, grow_main, grow_other, grow_qualifier, grow_languages, grow_text, due_main, due_other, due_qualifier, due_strings}
+use Rattle.usb_file.proofs.Fronts.{Grown, string_with, grow_main, grow_other, grow_qualifier, grow_languages, grow_string, due_main, due_other, due_qualifier, due_strings}
 use Rattle.usb_file.proofs.Units.{length-units_bytes}
-use Rattle.usb_file.proofs.Next.{all_sets, all_texts, follows, is_next, next_end, next_is}
+use Rattle.usb_file.proofs.Next.{all_sets, all_strings, follows, is_next, next_end, next_is}
 use Rattle.usb_file.proofs.Ends as ends
 use Rattle.usb_file.proofs.Unique.{PartIs, IsText, told_same, part_faults}
 use Rattle.usb_file.proofs.Paths.{two_fronts, stuck_by_fault, stuck_at_end, device_first, behind, begun}
@@ -56,9 +56,9 @@ grow_some f g r p s front all some follow turn is =
       | inl below ↦
           let turned : next_part f r ≡ a_string = turn ∙ cond-true (ltb (length s.texts) (length s.languages * length (named_indices f))) _ _ (lt-ltb _ _ below) in
           let x = subst (λ d. PartIs d f g p) turned is in
-          let next : g ≡ record f { strings = Some (record s { texts = s.texts ++ x.units ∷ [] }) } = x.next ∙ ap (λ o. record f { strings = text_with x.units o }) some in
+          let next : g ≡ record f { strings = Some (record s { texts = s.texts ++ x.units ∷ [] }) } = x.next ∙ ap (λ o. record f { strings = string_with x.units o }) some in
           subst (λ p. Grown f g p) (sym x.bytes) (subst (λ g. Grown f g (units_bytes x.units)) (sym next)
-          (grow_text f s x.units front all some follow below x.short))
+          (grow_string f s x.units front all some follow below x.short))
       | inr above ↦
           let ended : next_part f r ≡ the_end = turn ∙ cond-false (ltb (length s.texts) (length s.languages * length (named_indices f))) _ _ (le-ltb _ _ above) in
           absurd (subst (λ d. PartIs d f g p) ended is)
@@ -259,9 +259,9 @@ file_or_fault laws b fits =
 
 order_of : (f : DescriptorFile) (o : Option Other) (s : Option Strings) → AllSets f o → are_wrong_strings (length (named_indices f)) s ≡ false → IsInOrder f o s
 order_of f None None all h = omega (arith, all)
-order_of f None (Some s) all h = (all, (all_texts (length (named_indices f)) s h).follow)
+order_of f None (Some s) all h = (all, (all_strings (length (named_indices f)) s h).follow)
 order_of f (Some o) None all h = (all.0, omega (arith, all.1))
-order_of f (Some o) (Some s) all h = (all.0, all.1, (all_texts (length (named_indices f)) s h).follow)
+order_of f (Some o) (Some s) all h = (all.0, all.1, (all_strings (length (named_indices f)) s h).follow)
 
 pub file_splits : (f : DescriptorFile) (b : List ℕ) → File f b → Splits b f []
 file_splits f b h = record {

@@ -15,7 +15,7 @@ use Rattle.usb_file_data.specs.declared.file.DescriptorFile.{DescriptorFile}
 use Rattle.usb_file_data.specs.declared.file.Other.{Other}
 use Rattle.usb_file_data.specs.declared.file.Strings.{Strings}
 use Rattle.usb_file_data.specs.Named.{named_indices, other_sets}
-use Rattle.usb_file_data.specs.File.{whole_set, sets_bytes, other_bytes, texts_bytes, strings_bytes, file_bytes, is_other_kind, has_no_layout, is_long_string}
+use Rattle.usb_file_data.specs.File.{whole_set, sets_bytes, other_bytes, each_string_bytes, strings_bytes, file_bytes, is_other_kind, has_no_layout, is_long_string}
 use Rattle.usb_file.proofs.Lists.{flat_map-push, list_any-push, length-push, behind_main, behind_other, behind_all}
 use Rattle.usb_file.proofs.WholeSets.{layout_is, layout_allowed}
 use Rattle.usb_file.specs.Front.{StringsFollow, IsInOrder, IsFront, AllSets}
@@ -41,9 +41,9 @@ abbrev pub with_strings : Strings → DescriptorFile → DescriptorFile
 with_strings s f = record f { strings = Some s }
 
 -- with one more string
-abbrev pub text_with : List ℕ → Option Strings → Option Strings
-text_with u None = None
-text_with u (Some s) = Some (record s { texts = s.texts ++ u ∷ [] })
+abbrev pub string_with : List ℕ → Option Strings → Option Strings
+string_with u None = None
+string_with u (Some s) = Some (record s { texts = s.texts ++ u ∷ [] })
 
 -- the second front is the first one and one more part
 pub record Grown (f g : DescriptorFile) (p : List ℕ) : Type 0 where
@@ -138,13 +138,13 @@ grow_languages f u front all no_strings named spoken short =
     (record { named = named; spoken = spoken; few = omega arith; short = or_from (is_long_string u) false short refl })
     (append-nil (units_bytes u) ∙ sym (ap (λ x. x ++ units_bytes u) (ap strings_bytes no_strings)))
 
-pub text_more : (s : Strings) (u : List ℕ) → strings_bytes (text_with u (Some s)) ≡ strings_bytes (Some s) ++ units_bytes u
-text_more s u = ap (λ x. units_bytes s.languages ++ x) (flat_map-push units_bytes s.texts u) ∙ sym (append_assoc (units_bytes s.languages) (texts_bytes s.texts) (units_bytes u))
+pub string_more : (s : Strings) (u : List ℕ) → strings_bytes (string_with u (Some s)) ≡ strings_bytes (Some s) ++ units_bytes u
+string_more s u = ap (λ x. units_bytes s.languages ++ x) (flat_map-push units_bytes s.texts u) ∙ sym (append_assoc (units_bytes s.languages) (each_string_bytes s.texts) (units_bytes u))
 
-pub grow_text : (f : DescriptorFile) (s : Strings) (u : List ℕ) → IsFront f → AllSets f f.other → f.strings ≡ Some s → StringsFollow (length (named_indices f)) s
+pub grow_string : (f : DescriptorFile) (s : Strings) (u : List ℕ) → IsFront f → AllSets f f.other → f.strings ≡ Some s → StringsFollow (length (named_indices f)) s
     → length s.texts < length s.languages * length (named_indices f) → is_long_string u ≡ false
     → Grown f (with_strings (record s { texts = s.texts ++ u ∷ [] }) f) (units_bytes u)
-grow_text f s u front all is_strings follow below short =
+grow_string f s u front all is_strings follow below short =
     let long = or_parts (is_long_string s.languages) (list_any is_long_string s.texts) follow.short in
     grow_strings f (record s { texts = s.texts ++ u ∷ [] }) (units_bytes u) front all
     (record {
@@ -153,7 +153,7 @@ grow_text f s u front all is_strings follow below short =
       few = omega (arith, length-push s.texts u, below);
       short = or_from _ _ long.0 (list_any-push is_long_string s.texts u long.1 short);
     })
-    (text_more s u ∙ sym (ap (λ x. strings_bytes x ++ units_bytes u) is_strings))
+    (string_more s u ∙ sym (ap (λ x. strings_bytes x ++ units_bytes u) is_strings))
 
 -- ---- what is due
 

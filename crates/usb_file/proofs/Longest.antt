@@ -16,12 +16,12 @@ use Rattle.usb_file_data.specs.declared.file.DescriptorFile.{DescriptorFile}
 use Rattle.usb_file_data.specs.declared.file.Other.{Other}
 use Rattle.usb_file_data.specs.declared.file.Strings.{Strings}
 use Rattle.usb_file_data.specs.Named.{named_among, named_indices, other_sets, string_indices}
-use Rattle.usb_file_data.specs.File.{File, whole_set, sets_bytes, other_bytes, texts_bytes, strings_bytes, has_no_layout, is_long_string, are_wrong_strings}
+use Rattle.usb_file_data.specs.File.{File, whole_set, sets_bytes, other_bytes, each_string_bytes, strings_bytes, has_no_layout, is_long_string, are_wrong_strings}
 use Rattle.usb_file.specs.Front.{AllSets}
 use Rattle.usb_file.proofs.Lists.{bytes_before, bytes_behind}
 use Rattle.usb_file.proofs.Units.{length-units_bytes}
 use Rattle.usb_file.proofs.WholeSets.{whole_length}
-use Rattle.usb_file.proofs.Next.{all_sets, all_texts}
+use Rattle.usb_file.proofs.Next.{all_sets, all_strings}
 
 -- ---- lists of parts
 
@@ -31,12 +31,12 @@ sets_length (c ∷ ss) h =
     let both = or_parts (has_no_layout c) (list_any has_no_layout ss) h in
     omega (arith, whole_length c both.0, sets_length ss both.1, length-append (whole_set c) (sets_bytes ss))
 
-texts_length : (us : List (List ℕ)) → list_any is_long_string us ≡ false → length (texts_bytes us) ≤ length us * 254
-texts_length [] h = omega arith
-texts_length (u ∷ us) h =
+each_string_length : (us : List (List ℕ)) → list_any is_long_string us ≡ false → length (each_string_bytes us) ≤ length us * 254
+each_string_length [] h = omega arith
+each_string_length (u ∷ us) h =
     let both = or_parts (is_long_string u) (list_any is_long_string us) h in
     let few : length u ≤ 126 = ltb-false 126 (length u) both.0 in
-    omega (arith, few, length-units_bytes u, texts_length us both.1, length-append (units_bytes u) (texts_bytes us))
+    omega (arith, few, length-units_bytes u, each_string_length us both.1, length-append (units_bytes u) (each_string_bytes us))
 
 filter_length : (p : ℕ → Bool) (xs : List ℕ) → length (filter p xs) ≤ length xs
 filter_length p xs = omega (arith, length-filter_both p (λ x. not (p x)) (λ x. refl) xs)
@@ -65,12 +65,12 @@ other_length f (Some o) rest all h bytes =
 strings_length : (count : ℕ) (s : Option Strings) → count ≤ 255 → are_wrong_strings count s ≡ false → length (strings_bytes s) ≤ 254 + 126 * 255 * 254
 strings_length count None few h = omega arith
 strings_length count (Some s) few h =
-    let all = all_texts count s h in
+    let all = all_strings count s h in
     let short = or_parts (is_long_string s.languages) (list_any is_long_string s.texts) all.follow.short in
     let languages : length s.languages ≤ 126 = ltb-false 126 (length s.languages) short.0 in
     let by_languages : length s.languages * count ≤ 126 * count = mul-le-mul_right count languages in
     let texts : length s.texts * 254 ≤ 32130 * 254 = mul-le-mul_right 254 (let most : length s.texts ≤ 32130 = omega (arith, all.whole) in most) in
-    omega (arith, texts, texts_length s.texts short.1, length-units_bytes s.languages, length-append (units_bytes s.languages) (texts_bytes s.texts))
+    omega (arith, texts, each_string_length s.texts short.1, length-units_bytes s.languages, length-append (units_bytes s.languages) (each_string_bytes s.texts))
 
 -- ---- the file
 

@@ -27,9 +27,9 @@ use Rattle.usb_set.proofs.Unrefused.{bytes_append, unrefused}
 use Rattle.usb_file_data.specs.declared.file.DescriptorFile.{DescriptorFile}
 use Rattle.usb_file_data.specs.declared.file.Strings.{Strings}
 use Rattle.usb_file_data.specs.Named.{named_among, named_indices, set_string_indices, string_indices}
-use Rattle.usb_file_data.specs.File.{File, are_wrong_strings, file_bytes, has_no_layout, is_long_string, is_other_kind, sets_bytes, strings_bytes, texts_bytes, whole_set}
+use Rattle.usb_file_data.specs.File.{File, are_wrong_strings, file_bytes, has_no_layout, is_long_string, is_other_kind, sets_bytes, strings_bytes, each_string_bytes, whole_set}
 use Rattle.usb_file.proofs.WholeSets.{layout_is}
-use Rattle.usb_file.proofs.Next.{right_count, right_texts}
+use Rattle.usb_file.proofs.Next.{right_count, right_strings}
 use Rattle.usb_file.proofs.Units.{length-units_bytes}
 use Rattle.usb_file.specs.Front.{AllSets}
 
@@ -89,8 +89,15 @@ filler body = extras.Raw (record { kind = 33; body = body })
 -- a set that names this string, with such raw descriptors and nothing else
 abbrev with_fillers : SetKind → List (List ℕ) → ℕ → Configuration
 with_fillers kind bodies index = record {
-  kind = kind; declared_interfaces = 0; value = 0; text = index; attributes = 0; power = 0;
-  tail = []; extras = map filler bodies; settings = [];
+  kind = kind;
+  declared_interfaces = 0;
+  value = 0;
+  text = index;
+  attributes = 0;
+  power = 0;
+  tail = [];
+  extras = map filler bodies;
+  settings = [];
 }
 
 module _ (kind : SetKind) (index : ℕ) where
@@ -224,9 +231,9 @@ sets_name kind p (n ∷ ns) h =
     let more = flat_map set_string_indices (full_sets kind ns) in
     list_any-append p here more
     ∙ elim (or_cases (p n) (list_any p ns) h) [
-        inl e ↦ or_left (list_any p here) (list_any p more) (full_names kind n p e)
+      | inl e ↦ or_left (list_any p here) (list_any p more) (full_names kind n p e)
       | inr e ↦ or_right (list_any p here) (list_any p more) (sets_name kind p ns e)
-      ]
+    ]
 
 -- ---- the indices of 1 to 255
 
@@ -282,7 +289,7 @@ unfolding full_strings
 are_strings =
     let short : is_long_string (zeros 126) ≡ false = le-ltb 126 (length (zeros 126)) (omega (arith, length-zeros 126)) in
     let whole : length (copies 32130 (zeros 126)) ≡ length (zeros 126) * 255 = omega (arith, length-copies 32130 (zeros 126), length-zeros 126) in
-    right_texts 255 full_strings (record {
+    right_strings 255 full_strings (record {
       follow = record {
         named = omega arith;
         spoken = omega (arith, length-zeros 126);
@@ -294,7 +301,7 @@ are_strings =
 
 strings_fit : AreBytes (strings_bytes (Some full_strings))
 unfolding full_strings
-strings_fit = bytes_append (units_bytes (zeros 126)) (texts_bytes (copies 32130 (zeros 126))) (units_fit 126 (omega arith)) (copies_bytes units_bytes 32130 (zeros 126) (units_fit 126 (omega arith)))
+strings_fit = bytes_append (units_bytes (zeros 126)) (each_string_bytes (copies 32130 (zeros 126))) (units_fit 126 (omega arith)) (copies_bytes units_bytes 32130 (zeros 126) (units_fit 126 (omega arith)))
 
 strings_long : length (strings_bytes (Some full_strings)) ≡ 254 + 32130 * 254
 unfolding full_strings
@@ -303,15 +310,25 @@ strings_long =
       arith,
       units_length 126,
       copies_length units_bytes 32130 (zeros 126) 254 (units_length 126),
-      length-append (units_bytes (zeros 126)) (texts_bytes (copies 32130 (zeros 126))),
+      length-append (units_bytes (zeros 126)) (each_string_bytes (copies 32130 (zeros 126))),
     )
 
 -- ---- the file
 
 full_device : DeviceDescriptor
 full_device = record {
-  usb = 0; class = 0; subclass = 0; protocol = 0; packet = 0; vendor = 0; product = 0; release = 0;
-  maker_text = 0; product_text = 0; serial_text = 0; configurations = 255;
+  usb = 0;
+  class = 0;
+  subclass = 0;
+  protocol = 0;
+  packet = 0;
+  vendor = 0;
+  product = 0;
+  release = 0;
+  maker_text = 0;
+  product_text = 0;
+  serial_text = 0;
+  configurations = 255;
 }
 
 full_qualifier : Qualifier
@@ -348,13 +365,13 @@ all_named : length (named_indices full_file) ≡ 255
 unfolding full_file
 all_named =
     names_every (string_indices full_file) (λ n e.
-      let p = λ (i : ℕ). i == n in
-      let device = full_device.maker_text ∷ full_device.product_text ∷ full_device.serial_text ∷ [] in
-      let main = flat_map set_string_indices (full_sets kinds.Configuration every_index) in
-      let other = flat_map set_string_indices (full_sets kinds.OtherSpeed every_index) in
-      list_any-append p (device ++ main) other
-      ∙ or_left (list_any p (device ++ main)) (list_any p other)
-        (list_any-append p device main ∙ or_right (list_any p device) (list_any p main) (sets_name kinds.Configuration p every_index e)))
+    let p = λ (i : ℕ). i == n in
+    let device = full_device.maker_text ∷ full_device.product_text ∷ full_device.serial_text ∷ [] in
+    let main = flat_map set_string_indices (full_sets kinds.Configuration every_index) in
+    let other = flat_map set_string_indices (full_sets kinds.OtherSpeed every_index) in
+    list_any-append p (device ++ main) other
+    ∙ or_left (list_any p (device ++ main)) (list_any p other)
+    (list_any-append p device main ∙ or_right (list_any p device) (list_any p main) (sets_name kinds.Configuration p every_index e)))
 
 all_bytes : AreBytes (file_bytes full_file)
 unfolding full_file
@@ -365,10 +382,10 @@ all_bytes =
     let qualifier = qualifier_bytes full_qualifier in
     let strings = strings_bytes (Some full_strings) in
     bytes_append ((device ++ main) ++ (qualifier ++ speed)) strings
-      (bytes_append (device ++ main) (qualifier ++ speed)
-        (bytes_append device main device_fits main_sets.bytes)
-        (bytes_append qualifier speed qualifier_fits speed_sets.bytes))
-      strings_fit
+    (bytes_append (device ++ main) (qualifier ++ speed)
+    (bytes_append device main device_fits main_sets.bytes)
+    (bytes_append qualifier speed qualifier_fits speed_sets.bytes))
+    strings_fit
 
 -- 255 sets of 65,535 bytes
 sets_long : (kind : SetKind) → FullSets kind (full_sets kind every_index) → length (sets_bytes (full_sets kind every_index)) ≡ 255 * 65535
@@ -393,9 +410,9 @@ all_long =
       length-append ((device ++ main) ++ (qualifier ++ speed)) strings,
     )
 
-full_texts : are_wrong_strings (length (named_indices full_file)) full_file.strings ≡ false
+full_texts_right : are_wrong_strings (length (named_indices full_file)) full_file.strings ≡ false
 unfolding full_file
-full_texts = ap (λ n. are_wrong_strings n (Some full_strings)) all_named ∙ are_strings
+full_texts_right = ap (λ n. are_wrong_strings n (Some full_strings)) all_named ∙ are_strings
 
 full_is_file : File full_file (file_bytes full_file)
 unfolding full_file
@@ -405,7 +422,7 @@ full_is_file = record {
   counts = right_count full_file all_there;
   kinds = or_from _ _ main_sets.kinds speed_sets.kinds;
   layouts = or_from _ _ main_sets.layouts speed_sets.layouts;
-  texts = full_texts;
+  texts = full_texts_right;
 }
 
 -- a file has so many bytes

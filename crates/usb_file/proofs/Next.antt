@@ -41,12 +41,12 @@ all_sets f h = cases f.other (or_parts (not (length f.sets == f.device.configura
 -- ---- strings
 
 -- strings that are those of so many named indices
-pub record AllTexts (count : ℕ) (s : Strings) : Type 0 where
+pub record AllStrings (count : ℕ) (s : Strings) : Type 0 where
   pub follow : StringsFollow count s
   pub whole : length s.texts ≡ length s.languages * count
 
-pub all_texts : (count : ℕ) (s : Strings) → are_wrong_strings count (Some s) ≡ false → AllTexts count s
-all_texts count s h =
+pub all_strings : (count : ℕ) (s : Strings) → are_wrong_strings count (Some s) ≡ false → AllStrings count s
+all_strings count s h =
     let x = or_parts ((count == 0) || (length s.languages == 0) || has_long_string (Some s)) (not (length s.texts == length s.languages * count)) h in
     let y = or_parts ((count == 0) || (length s.languages == 0)) (has_long_string (Some s)) x.0 in
     let z = or_parts (count == 0) (length s.languages == 0) y.0 in
@@ -56,8 +56,8 @@ all_texts count s h =
       whole = whole;
     }
 
-pub right_texts : (count : ℕ) (s : Strings) → AllTexts count s → are_wrong_strings count (Some s) ≡ false
-right_texts count s h =
+pub right_strings : (count : ℕ) (s : Strings) → AllStrings count s → are_wrong_strings count (Some s) ≡ false
+right_strings count s h =
     let named = h.follow.named in
     let spoken = h.follow.spoken in
     or_from _ _ (or_from _ _ (or_from (count == 0) (length s.languages == 0) (ne_eqb count 0 (λ e. absurd (omega arith))) (ne_eqb (length s.languages) 0 (λ e. absurd (omega arith)))) h.follow.short)
@@ -85,7 +85,7 @@ main_before f o (Some s) order = order.0
 pub next_end : (count : ℕ) (s : Option Strings) → are_wrong_strings count s ≡ false → next_string count s ≡ the_end
 next_end count None h = cond-true (count == 0) _ _ (not-false (count == 0) h)
 next_end count (Some s) h =
-    let whole = (all_texts count s h).whole in
+    let whole = (all_strings count s h).whole in
     cond-false (ltb (length s.texts) (length s.languages * count)) _ _ (le-ltb _ _ (omega arith))
 
 -- ---- the part that comes next is the one that the function gives
@@ -141,7 +141,7 @@ next_after_sets f rest (Some s) e all unless follow =
           subst (λ d. IsNext d f rest) (sym is) (record {
             counts = right_count f all;
             texts = subst (λ s. are_wrong_strings (length (named_indices f)) s ≡ false) (sym e)
-                (right_texts (length (named_indices f)) s (record { follow = follow s refl; whole = omega arith }));
+                (right_strings (length (named_indices f)) s (record { follow = follow s refl; whole = omega arith }));
             no_qualifier = unless;
           })
     ]

@@ -20,7 +20,7 @@ use Rattle.usb_file_data.specs.declared.file.Other.{Other}
 use Rattle.usb_file_data.specs.declared.file.Strings.{Strings}
 use Rattle.usb_file.specs.declared.fault.FileWhy.{FileWhy}
 use Rattle.usb_file_data.specs.Named.{named_indices, other_sets}
-use Rattle.usb_file_data.specs.File.{whole_set, sets_bytes, other_bytes, texts_bytes, strings_bytes, file_bytes, is_other_kind, has_no_layout, is_long_string}
+use Rattle.usb_file_data.specs.File.{whole_set, sets_bytes, other_bytes, each_string_bytes, strings_bytes, file_bytes, is_other_kind, has_no_layout, is_long_string}
 use Rattle.usb_base.specs.Bytes.{AreBytes}
 use Rattle.usb_file.proofs.Lists.{bytes_before, bytes_behind, length-push}
 use Rattle.usb_file.specs.inside.PartLaws.{PartLaws}
@@ -152,25 +152,25 @@ all_again f x (Some o) h = h
 
 steps_texts : (us : List (List ℕ)) (f : DescriptorFile) (x : Strings) (tail : List ℕ) (g : DescriptorFile) (s : List ℕ) → AllSets f f.other
     → length x.texts + length us ≤ length x.languages * length (named_indices f) → list_any is_long_string us ≡ false
-    → Reaches (with_strings (record x { texts = x.texts ++ us }) f) tail g s → Reaches (with_strings x f) (texts_bytes us ++ tail) g s
+    → Reaches (with_strings (record x { texts = x.texts ++ us }) f) tail g s → Reaches (with_strings x f) (each_string_bytes us ++ tail) g s
 steps_texts [] f x tail g s all room short onward = subst (λ y. Reaches (with_strings (record x { texts = y }) f) tail g s) (append-nil x.texts) onward
 steps_texts (u ∷ us) f x tail g s all room short onward =
     let ss = or_parts (is_long_string u) (list_any is_long_string us) short in
-    let regroup : texts_bytes (u ∷ us) ++ tail ≡ units_bytes u ++ (texts_bytes us ++ tail) = append_assoc (units_bytes u) (texts_bytes us) tail in
+    let regroup : each_string_bytes (u ∷ us) ++ tail ≡ units_bytes u ++ (each_string_bytes us ++ tail) = append_assoc (units_bytes u) (each_string_bytes us) tail in
     let below : length x.texts < length x.languages * length (named_indices f) = omega arith in
     let more = record x { texts = x.texts ++ u ∷ [] } in
     let is : PartIs a_string (with_strings x f) (with_strings more f) (units_bytes u) =
     record { units = u; bytes = refl; enough = omega arith; short = ss.0; next = refl } in
-    let turn : next_part (with_strings x f) (texts_bytes (u ∷ us) ++ tail) ≡ a_string =
-    due_strings (with_strings x f) (texts_bytes (u ∷ us) ++ tail) (all_again f x f.other all) (λ _ e. cc)
+    let turn : next_part (with_strings x f) (each_string_bytes (u ∷ us) ++ tail) ≡ a_string =
+    due_strings (with_strings x f) (each_string_bytes (u ∷ us) ++ tail) (all_again f x f.other all) (λ _ e. cc)
     ∙ cond-true (ltb (length x.texts) (length x.languages * length (named_indices f))) _ _ (lt-ltb _ _ below) in
-    let step : Step (with_strings x f) (texts_bytes (u ∷ us) ++ tail) (with_strings more f) (texts_bytes us ++ tail) = record {
+    let step : Step (with_strings x f) (each_string_bytes (u ∷ us) ++ tail) (with_strings more f) (each_string_bytes us ++ tail) = record {
       part = units_bytes u;
       is = subst (λ d. PartIs d (with_strings x f) (with_strings more f) (units_bytes u)) (sym turn) is;
       parts = regroup;
     } in
     let again = subst (λ y. Reaches (with_strings (record x { texts = y }) f) tail g s) (sym (append_assoc x.texts (u ∷ []) us)) onward in
-    step_on (with_strings x f) (texts_bytes (u ∷ us) ++ tail) (with_strings more f) (texts_bytes us ++ tail) g s step
+    step_on (with_strings x f) (each_string_bytes (u ∷ us) ++ tail) (with_strings more f) (each_string_bytes us ++ tail) g s step
     (steps_texts us f more tail g s all (omega (arith, length-push x.texts u)) ss.1 again)
 
 strings_path : (f : DescriptorFile) (x : Strings) (rest : List ℕ) → AllSets f f.other → f.strings ≡ None → StringsFollow (length (named_indices f)) x
@@ -186,12 +186,12 @@ strings_path f x rest all no_strings follow =
     let turn : next_part f (strings_bytes (Some x) ++ rest) ≡ the_languages =
     due_strings f (strings_bytes (Some x) ++ rest) all (λ _ _. refl) ∙ ap (next_string (length (named_indices f))) no_strings
     ∙ cond-false (length (named_indices f) == 0) _ _ (ne_eqb (length (named_indices f)) 0 (λ e. absurd (omega arith))) in
-    let step : Step f (strings_bytes (Some x) ++ rest) (with_strings bare f) (texts_bytes x.texts ++ rest) = record {
+    let step : Step f (strings_bytes (Some x) ++ rest) (with_strings bare f) (each_string_bytes x.texts ++ rest) = record {
       part = units_bytes x.languages;
       is = subst (λ d. PartIs d f (with_strings bare f) (units_bytes x.languages)) (sym turn) is;
-      parts = append_assoc (units_bytes x.languages) (texts_bytes x.texts) rest;
+      parts = append_assoc (units_bytes x.languages) (each_string_bytes x.texts) rest;
     } in
-    step_on f (strings_bytes (Some x) ++ rest) (with_strings bare f) (texts_bytes x.texts ++ rest) (with_strings x f) rest step
+    step_on f (strings_bytes (Some x) ++ rest) (with_strings bare f) (each_string_bytes x.texts ++ rest) (with_strings x f) rest step
     (steps_texts x.texts f bare rest (with_strings x f) rest all (omega arith) long.1 (here (with_strings x f) rest))
 
 -- ---- the path of a front

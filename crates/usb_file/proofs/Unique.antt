@@ -13,7 +13,7 @@ use Rattle.usb_file_data.specs.declared.file.DescriptorFile.{DescriptorFile}
 use Rattle.usb_file.specs.declared.fault.FileWhy.{FileWhy}
 use Rattle.usb_file.specs.declared.fault.FileWhy.TheVariants as files
 use Rattle.usb_file_data.specs.File.{is_other_kind, is_long_string}
-use Rattle.usb_file.proofs.Fronts.{text_with}
+use Rattle.usb_file.proofs.Fronts.{string_with}
 use Rattle.usb_file.specs.inside.PartLaws.{PartLaws}
 use Rattle.usb_file.proofs.Units.{length-units_bytes}
 use Rattle.usb_file.specs.FileFaults.{NextPart, a_set, a_qualifier, the_languages, a_string, the_end, is_no_string, string_fault, fixed_fault, SetFaulty, PartFaulty}
@@ -44,7 +44,7 @@ abbrev pub PartIs : NextPart → DescriptorFile → DescriptorFile → List ℕ 
 PartIs (a_set kind) f g p = IsSet kind f g p
 PartIs a_qualifier f g p = IsQualifier f g p
 PartIs the_languages f g p = IsText 4 f g p (λ u. with_strings (record { languages = u; texts = [] }) f)
-PartIs a_string f g p = IsText 2 f g p (λ u. record f { strings = text_with u f.strings })
+PartIs a_string f g p = IsText 2 f g p (λ u. record f { strings = string_with u f.strings })
 PartIs the_end f g p = ⊥
 
 pub append_same : (a c r s : List ℕ) → length a ≡ length c → a ++ r ≡ c ++ s → (a ≡ c) × (r ≡ s)

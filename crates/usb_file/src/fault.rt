@@ -54,6 +54,12 @@ impl FileWhy {
 }
 
 /// A fault of a file, and the place where it is.
+///
+/// ```rust
+/// if let Err(fault) = read_file(alloc, &[18, 1, 0]) {
+///     assert_eq!(rt; (fault.number(), fault.at), (6, 3));
+/// }
+/// ```
 #[derive(Clone, Copy, Debug, Drop, Error, PartialEq, Eq, Hash)]
 #[error("{why} at {at}")]
 pub struct FileFault {

@@ -1,7 +1,7 @@
 //! The strings of a file, read one after another.
 ghost use Rattle.std.specs.Prelude.{◌≡◌, ◌≤◌, [], IfErr, IfOk, drop, length};
 ghost use Rattle.usb_file.specs.FileFaults.{is_no_string};
-ghost use Rattle.usb_file.specs.inside.Reading.{Behind, ReadsNextText, ReadsString, ReadsStrings, ReadsTexts, StringRefused, StringsRefused, TextsRefused};
+ghost use Rattle.usb_file.specs.inside.Reading.{Behind, ReadsNextString, ReadsString, ReadsStrings, ReadsDueStrings, StringRefused, StringsRefused, DueStringsRefused};
 
 use crate::fault::{FileFault, FileWhy};
 use crate::reading::rest;
@@ -34,45 +34,45 @@ pub(crate) fn read_strings(
     let (languages, start) = read_string_at(alloc, b, place, LEAST_LANGUAGES)?;
     let due = languages.len() * count;
     let mut texts = Sequence::new(alloc);
-    let end = read_texts(alloc, b, start, due, &mut texts)?;
+    let end = read_due_strings(alloc, b, start, due, &mut texts)?;
     Ok((Some(Strings { languages, texts }), end))
 }
 
 /// Reads as many strings as are due, and answers where they end.
-fn read_texts(
+fn read_due_strings(
     alloc: Global,
     b: &[u8],
     place: usize,
     due: usize,
-    texts: &mut Sequence<Sequence<u16>>,
+    strings: &mut Sequence<Sequence<u16>>,
 ) -> Result<usize, FileFault>
-    requires none { texts.old ≡ [] }
+    requires none { strings.old ≡ [] }
     requires within { place ≤ length b.now }
-    ensures ok { IfOk result (λ end. ReadsTexts b.now place texts.new end) }
-    ensures all { IfOk result (λ end. length texts.new ≡ due) }
-    ensures err { IfErr result (λ fault. TextsRefused due b.now place texts.new fault.at fault.why) }
+    ensures ok { IfOk result (λ end. ReadsDueStrings b.now place strings.new end) }
+    ensures all { IfOk result (λ end. length strings.new ≡ due) }
+    ensures err { IfErr result (λ fault. DueStringsRefused due b.now place strings.new fault.at fault.why) }
 {
     let mut end = place;
-    'texts: while texts.len() < due {
-        end = read_next_text(alloc, b, end, texts)?;
+    'due: while strings.len() < due {
+        end = read_next_string(alloc, b, end, strings)?;
     }
     Ok(end)
 }
 
 /// Reads the next string, and answers where it ends.
-fn read_next_text(
+fn read_next_string(
     alloc: Global,
     b: &[u8],
     place: usize,
-    texts: &mut Sequence<Sequence<u16>>,
+    strings: &mut Sequence<Sequence<u16>>,
 ) -> Result<usize, FileFault>
     requires within { place ≤ length b.now }
-    ensures ok { IfOk result (λ end. ReadsNextText b.now place texts.old texts.new end) }
+    ensures ok { IfOk result (λ end. ReadsNextString b.now place strings.old strings.new end) }
     ensures err { IfErr result (λ fault. Behind place (λ n. StringRefused 2 (drop place b.now) n fault.why) fault.at) }
-    ensures same { IfErr result (λ fault. texts.new ≡ texts.old) }
+    ensures same { IfErr result (λ fault. strings.new ≡ strings.old) }
 {
-    let (text, end) = read_string_at(alloc, b, place, LEAST_STRING)?;
-    match texts.push(text) {
+    let (string, end) = read_string_at(alloc, b, place, LEAST_STRING)?;
+    match strings.push(string) {
         Ok(()) => Ok(end),
         Err(_) => Err(FileFault::new(place, FileWhy::Memory)),
     }

@@ -2,7 +2,7 @@
 ghost use Rattle.std.specs.Prelude.{◌≡◌, ◌++◌, ℕ, List, IfErr, IfOk, None, OnErr, OnOk, false};
 ghost use Rattle.std.specs.List.{list_any};
 ghost use Rattle.usb_fields.specs.Units.{units_bytes};
-ghost use Rattle.usb_file_data.specs.File.{File, WriteRefused, file_bytes, has_long_string, has_no_layout, is_long_string, other_bytes, sets_bytes, strings_bytes, texts_bytes, whole_set, write_refusal};
+ghost use Rattle.usb_file_data.specs.File.{File, WriteRefused, file_bytes, has_long_string, has_no_layout, is_long_string, other_bytes, sets_bytes, strings_bytes, each_string_bytes, whole_set, write_refusal};
 ghost use Rattle.usb_file_data.specs.Named.{other_sets};
 
 use std::alloc::{AllocError, Global};
@@ -99,28 +99,32 @@ fn put_strings(
     match strings {
         None => Ok(()),
         Some(strings) => {
-            put_text(alloc, out, &strings.languages)?;
-            put_texts(alloc, out, &strings.texts)
+            put_string(alloc, out, &strings.languages)?;
+            put_each_string(alloc, out, &strings.texts)
         }
     }
 }
 
 #[tactic(auto, using(usb_set::proofs::Tests::none_at))]
-fn put_texts(alloc: Global, out: &mut Vec<u8>, texts: &[Sequence<u16>]) -> Result<(), AllocError>
-    requires { list_any is_long_string texts.now ≡ false }
-    ensures { OnOk result (out.new.items ≡ out.old.items ++ texts_bytes texts.now) }
+fn put_each_string(
+    alloc: Global,
+    out: &mut Vec<u8>,
+    strings: &[Sequence<u16>],
+) -> Result<(), AllocError>
+    requires { list_any is_long_string strings.now ≡ false }
+    ensures { OnOk result (out.new.items ≡ out.old.items ++ each_string_bytes strings.now) }
 {
-    for text in texts {
-        put_text(alloc, out, text)?;
+    for string in strings {
+        put_string(alloc, out, string)?;
     }
     Ok(())
 }
 
-fn put_text(alloc: Global, out: &mut Vec<u8>, text: &Sequence<u16>) -> Result<(), AllocError>
-    requires { is_long_string text.now ≡ false }
-    ensures { OnOk result (out.new.items ≡ out.old.items ++ units_bytes text.now) }
+fn put_string(alloc: Global, out: &mut Vec<u8>, string: &Sequence<u16>) -> Result<(), AllocError>
+    requires { is_long_string string.now ≡ false }
+    ensures { OnOk result (out.new.items ≡ out.old.items ++ units_bytes string.now) }
 {
-    match write_units(alloc, text) {
+    match write_units(alloc, string) {
         Ok(bytes) => out.extend_from_slice(&bytes),
         Err(_) => Err(AllocError),
     }

@@ -32,13 +32,13 @@ other_bytes None = []
 other_bytes (Some o) = qualifier_bytes o.qualifier ++ sets_bytes o.sets
 
 -- strings one after another
-abbrev pub texts_bytes : List (List ℕ) → List ℕ
-texts_bytes texts = flat_map units_bytes texts
+abbrev pub each_string_bytes : List (List ℕ) → List ℕ
+each_string_bytes strings = flat_map units_bytes strings
 
 -- the language list and the strings, if there are any (9.6.7)
 abbrev pub strings_bytes : Option Strings → List ℕ
 strings_bytes None = []
-strings_bytes (Some s) = units_bytes s.languages ++ texts_bytes s.texts
+strings_bytes (Some s) = units_bytes s.languages ++ each_string_bytes s.texts
 
 -- the device descriptor and the other parts of the file in their order, as far as they are there
 abbrev pub file_bytes : DescriptorFile → List ℕ
@@ -96,7 +96,7 @@ write_refusal f =
     else None
 
 -- The bytes are the file's: its parts one after another and nothing behind them, each number within its
--- width, and each count, kind, layout and text as it has to be.
+-- width, and each count, kind, layout and string as it has to be.
 pub record File (f : DescriptorFile) (b : List ℕ) : Type 0 where
   pub bytes : b ≡ file_bytes f
   pub fits : AreBytes b

@@ -6,6 +6,11 @@ use thiserror::Error;
 
 /// Why a file has no bytes. Of several that hold the first is told, and `Memory` only where none of the
 /// others holds.
+///
+/// ```rust
+/// file.device.configurations += 1;
+/// assert_eq!(rt; write_refusal(&file), Some(WriteFault::Count));
+/// ```
 #[derive(Clone, Copy, Debug, Drop, Error, PartialEq, Eq, Hash)]
 pub enum WriteFault {
     /// The sets of the device, or those of its other speed, are not as many as bNumConfigurations says.

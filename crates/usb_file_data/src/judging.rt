@@ -122,14 +122,14 @@ fn are_wrong_strings(count: usize, strings: &Option<Strings>) -> bool
     }
 }
 
-fn any_long_string(texts: &[Sequence<u16>]) -> bool
-    ensures { result ≡ list_any is_long_string texts.now }
+fn any_long_string(strings: &[Sequence<u16>]) -> bool
+    ensures { result ≡ list_any is_long_string strings.now }
 {
-    texts.iter().any(|text| is_long_string(text))
+    strings.iter().any(|string| is_long_string(string))
 }
 
-fn is_long_string(text: &Sequence<u16>) -> bool
-    ensures { result ≡ is_long_string text.now }
+fn is_long_string(string: &Sequence<u16>) -> bool
+    ensures { result ≡ is_long_string string.now }
 {
-    text.len() > MOST_UNITS
+    string.len() > MOST_UNITS
 }

@@ -9,6 +9,12 @@ use std::io::Write;
 use thiserror::Error;
 
 /// Why a text was not written to its end.
+///
+/// ```rust
+/// if let Err(OutFault::Write) = list(alloc, &file, &mut writer) {
+///     // The writer holds a front of the listing.
+/// }
+/// ```
 #[derive(Clone, Copy, Debug, Drop, Error, PartialEq, Eq, Hash)]
 pub enum OutFault {
     /// The writer answered an error, or took none of some bytes.

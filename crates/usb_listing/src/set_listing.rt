@@ -15,6 +15,11 @@ use usb_set::{Association, Configuration, Endpoint, Extra, Raw, SetKind, Setting
 
 /// Writes the listing of the set: a line for each descriptor, in the order of its bytes.
 ///
+/// ```rust
+/// list_set(alloc, &set, &mut rt.stdout())?;
+/// // configuration 00 01 00 80 32 -
+/// ```
+///
 /// # Errors
 ///
 /// `Write` where the writer failed, `Memory` where a growth was refused. A front of the listing is

@@ -28,13 +28,14 @@ pub enum Progress {
 ///
 /// It holds the tree so far and the descriptor that the end of a piece has cut, and no other byte.
 ///
-/// ```text
+/// ```rust
 /// let mut decoder = Decoder::new(alloc);
-/// decoder.feed(&[9, 2, 9, 0, 0])?; // More
-/// decoder.feed(&[1, 0, 128, 50, 255])?; // Done { used: 4 }
-/// let set = decoder.finish()?; // no interfaces, value 1, attributes 80, 100 mA
+/// assert_eq!(rt; decoder.feed(&[9, 2, 9, 0, 0])?, Progress::More);
+/// assert_eq!(rt; decoder.feed(&[1, 0, 0x80, 50, 0xff])?, Progress::Done { used: 4 });
+/// let set = decoder.finish()?;
+/// assert_eq!(rt; (set.value, set.attributes, set.power), (1, 0x80, 50));
 /// ```
-#[derive(Drop)]
+#[derive(Debug, Drop)]
 pub struct Decoder {
     reader: Reader,
     fault: Option<SetFault>,

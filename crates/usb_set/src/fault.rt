@@ -7,7 +7,8 @@ use std::alloc::AllocError;
 use std::error::Error;
 use std::fmt;
 
-/// What is wrong with the bytes of a set. Of several cases that hold the first is told.
+/// What is wrong with the bytes of a set. Of several cases that hold the first is told. Its `Display` is a
+/// message for people.
 #[derive(Clone, Copy, Debug, PartialEq, Eq, Hash)]
 pub enum SetWhy {
     /// The first bLength is below 9.
@@ -78,6 +79,12 @@ impl fmt::Display for SetWhy {
 impl Error for SetWhy {}
 
 /// A fault, and the place where it is.
+///
+/// ```rust
+/// if let Err(fault) = read_set(alloc, &[9, 2, 33, 0]) {
+///     assert_eq!(rt; (fault.number(), fault.at), (9, 4));
+/// }
+/// ```
 #[derive(Clone, Copy, Debug, PartialEq, Eq, Hash)]
 pub struct SetFault {
     /// The place, in bytes from the first byte of the set: that of bLength, bDescriptorType or
@@ -111,6 +118,11 @@ impl Error for SetFault {}
 
 /// Why a set has no bytes. Of several that hold the first is told, and `Memory` only where none of
 /// the others holds.
+///
+/// ```rust
+/// set.extras.push(Extra::Raw(Raw { kind: 5, body: Sequence::new(alloc) }))?;
+/// assert_eq!(rt; refusal(&set), Some(EncodeFault::RawKind));
+/// ```
 #[derive(Clone, Copy, Debug, PartialEq, Eq, Hash)]
 pub enum EncodeFault {
     /// A descriptor would be over 255 bytes: the tail of a configuration or an interface is over 246

@@ -13,7 +13,7 @@ use std::marker::Model;
 
 /// The tree so far, wTotalLength, and where the next descriptor starts. Before the first descriptor
 /// there is no tree.
-#[derive(Drop)]
+#[derive(Debug, Drop)]
 pub(crate) struct Partial {
     tree: Option<Configuration>,
     total: usize,

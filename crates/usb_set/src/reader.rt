@@ -25,7 +25,7 @@ pub(crate) enum Step {
 }
 
 /// The descriptors read so far, and those bytes of the next one that earlier pieces brought.
-#[derive(Drop)]
+#[derive(Debug, Drop)]
 pub(crate) struct Reader {
     alloc: Global,
     partial: Partial,

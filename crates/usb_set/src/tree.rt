@@ -50,6 +50,12 @@ pub enum Extra {
 }
 
 /// An endpoint descriptor, and the extras that follow it (USB 2.0, 9.6.6).
+///
+/// ```rust
+/// // bEndpointAddress 81, bmAttributes 03: interrupt IN endpoint 1.
+/// assert_eq!(rt; (endpoint.direction(), endpoint.number()), (EndpointDirection::In, 1));
+/// assert_eq!(rt; endpoint.transfer_type(), TransferType::Interrupt);
+/// ```
 #[derive(Clone, Debug, Drop, PartialEq, Eq, Hash)]
 pub struct Endpoint {
     /// bEndpointAddress: bits 3..0 the number, bit 7 one for IN.
@@ -94,6 +100,12 @@ pub struct Setting {
 
 /// A whole set: its first descriptor, the extras that follow it, and its settings (USB 2.0, 9.6.3 and
 /// 9.6.4). wTotalLength is not kept, since it is the count of the set's bytes.
+///
+/// ```rust
+/// for setting in &set.settings {
+///     println!(rt; "interface {} has {} endpoints", setting.number, setting.endpoints.len())?;
+/// }
+/// ```
 #[derive(Clone, Debug, Drop, PartialEq, Eq, Hash)]
 pub struct Configuration {
     /// Which descriptor the set begins with.

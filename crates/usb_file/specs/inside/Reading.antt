@@ -125,22 +125,22 @@ StringRefused least rest at files.Memory = at ≡ 0
 StringRefused least rest at why = string_fault least rest ≡ Some (at, why)
 
 -- one more string was read
-pub record ReadsNextText (b : List ℕ) (place : ℕ) (old new : List (List ℕ)) (end : ℕ) : Type 0 where
+pub record ReadsNextString (b : List ℕ) (place : ℕ) (old new : List (List ℕ)) (end : ℕ) : Type 0 where
   pub units : List ℕ
   pub reads : Behind place (ReadsString 2 (drop place b) units) end
   pub grown : new ≡ old ++ units ∷ []
 
 -- between these places stand these strings
-pub record ReadsTexts (b : List ℕ) (start : ℕ) (texts : List (List ℕ)) (end : ℕ) : Type 0 where
-  pub all : ReadsAll units_bytes b start texts end
-  pub short : list_any is_long_string texts ≡ false
+pub record ReadsDueStrings (b : List ℕ) (start : ℕ) (strings : List (List ℕ)) (end : ℕ) : Type 0 where
+  pub all : ReadsAll units_bytes b start strings end
+  pub short : list_any is_long_string strings ≡ false
 
 -- Of so many strings that are due the next one after these was refused: want of memory is told where it
 -- starts.
-pub record TextsRefused (due : ℕ) (b : List ℕ) (start : ℕ) (texts : List (List ℕ)) (at : ℕ) (why : FileWhy) : Type 0 where
+pub record DueStringsRefused (due : ℕ) (b : List ℕ) (start : ℕ) (strings : List (List ℕ)) (at : ℕ) (why : FileWhy) : Type 0 where
   pub end : ℕ
-  pub reads : ReadsTexts b start texts end
-  pub few : length texts < due
+  pub reads : ReadsDueStrings b start strings end
+  pub few : length strings < due
   pub refused : Behind end (λ n. StringRefused 2 (drop end b) n why) at
 
 -- between these places stand the language list and one string for each language and each of so many indices
@@ -148,7 +148,7 @@ pub record ReadsLanguages (count : ℕ) (b : List ℕ) (place : ℕ) (s : String
   pub named : 0 < count
   pub start : ℕ
   pub languages : Behind place (ReadsString 4 (drop place b) s.languages) start
-  pub texts : ReadsTexts b start s.texts end
+  pub texts : ReadsDueStrings b start s.texts end
   pub all : length s.texts ≡ length s.languages * count
 
 -- the strings, if any of so many indices is named
@@ -159,5 +159,5 @@ ReadsStrings count b place (Some s) end = ReadsLanguages count b place s end
 -- an index is named, and the language list or a string was refused
 pub data StringsRefused (count : ℕ) (b : List ℕ) (place at : ℕ) (why : FileWhy) : Type 0 where
   no_languages : 0 < count → Behind place (λ n. StringRefused 4 (drop place b) n why) at → StringsRefused count b place at why
-  no_text : (languages : List ℕ) (start : ℕ) (texts : List (List ℕ)) → 0 < count → Behind place (ReadsString 4 (drop place b) languages) start
-      → TextsRefused (length languages * count) b start texts at why → StringsRefused count b place at why
+  no_string : (languages : List ℕ) (start : ℕ) (texts : List (List ℕ)) → 0 < count → Behind place (ReadsString 4 (drop place b) languages) start
+      → DueStringsRefused (length languages * count) b start texts at why → StringsRefused count b place at why
