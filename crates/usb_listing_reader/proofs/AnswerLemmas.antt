@@ -6,7 +6,7 @@ use Rattle.usb_listing_lines.specs.declared.item.Item.{Item}
 use Rattle.usb_listing_lines.specs.declared.word.Word.{Word}
 use Rattle.usb_listing_lines.specs.Words.{first_word, is_printable, word_in, word_text}
 use Rattle.usb_listing_lines.specs.Item.{Says, item_word}
-use Rattle.usb_listing_lines.specs.InsideItems.{item_of_line}
+use Rattle.usb_listing_lines.specs.inside.Items.{item_of_line}
 use Rattle.usb_listing_lines.proofs.PrintableLemmas.{line_of, line_of-printable, line_of-says}
 use Rattle.usb_listing_lines.proofs.SaysLemmas.{read_is_said, said_is_read, said_word, word_again, word_read}
 use Rattle.usb_listing_reader.specs.declared.fault.ListFault.{ListFault}
