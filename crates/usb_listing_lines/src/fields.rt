@@ -1,14 +1,13 @@
 //! The fields of a line, read.
-ghost use Rattle.std.specs.Prelude.{◌≡◌, ◌≢◌, ◌+◌, ◌<◌, ◌≤◌, IfOk, IfSome, MatchOption, None, Some, is_some, length};
+ghost use Rattle.std.specs.Prelude.{◌≡◌, ◌≢◌, ◌+◌, ◌*◌, if◌then◌else◌, ◌<◌, ◌≤◌, IfOk, IfSome, MatchOption, None, Some, is_some, length};
 ghost use Rattle.std.specs.List.{list_all};
 ghost use Rattle.arrayvec.specs.ArrayVec.{array_vec_len};
 ghost use Rattle.usb_listing_lines.specs.inside.Digits.{digit_value};
 ghost use Rattle.usb_listing_lines.specs.inside.Items.{fixed_in, tailed_in};
 ghost use Rattle.usb_listing_lines.specs.inside.Fields.{behind_space, byte_first, byte_of, bytes_from, pairs_of, tail_of};
 
-use crate::digits::{digit, pair};
+use crate::digits::pair;
 use arrayvec::ArrayVec;
-use hex::FromHexError;
 use std::alloc::{AllocError, Global};
 use usb_set::Sequence;
 
@@ -66,42 +65,35 @@ pub(crate) fn take_bytes<'a>(
     Some(rest)
 }
 
-/// Whether a digit is a lower-case one.
-fn is_lower(c: u8) -> bool
-    ensures { result ≡ is_some (digit_value c) }
-{
-    digit(c).is_some()
-}
-
-/// Whether all digits are lower-case ones.
-fn are_lower(digits: &[u8]) -> bool
-    ensures { result ≡ list_all (λ c. is_some (digit_value c)) digits.now }
-{
-    digits.iter().all(|c| is_lower(*c))
-}
-
 /// The bytes of pairs of lower-case digits.
+#[tactic(auto, using(crate::proofs::DecodeLemmas::odd_none))]
 fn decode(alloc: Global, digits: &[u8]) -> Result<Option<Sequence<u8>>, AllocError>
     ensures { IfOk result (λ found. found ≡ pairs_of digits.now) }
 {
-    if !are_lower(digits) {
+    if !digits.len().is_multiple_of(2) {
         return Ok(None);
     }
-    match hex::decode(alloc, digits) {
-        Ok(bytes) => Ok(Some(Sequence::from_vec(bytes))),
-        Err(fault) => without_bytes(fault),
+    let mut bytes = vec![in alloc; 0u8; digits.len() / 2]?;
+    if decode_into(digits, bytes.as_mut_slice()) {
+        Ok(Some(Sequence::from_vec(bytes)))
+    } else {
+        Ok(None)
     }
 }
 
-/// No bytes, unless memory was refused.
-fn without_bytes(fault: FromHexError) -> Result<Option<Sequence<u8>>, AllocError>
-    ensures none { IfOk result (λ found. found ≡ None) }
-    ensures other { IfOk result (λ found. fault ≢ FromHexError.OutOfMemory) }
+/// Writes the bytes of pairs of digits, and tells whether all are lower-case ones.
+#[tactic(auto, using(crate::proofs::DecodeLemmas::decode_start, crate::proofs::DecodeLemmas::decode_step, crate::proofs::DecodeLemmas::decode_none, crate::proofs::DecodeLemmas::decode_done))]
+fn decode_into(digits: &[u8], bytes: &mut [u8]) -> bool
+    requires { length digits.now ≡ 2 * length bytes.old }
+    ensures { pairs_of digits.now ≡ (if result then Some bytes.new else None) }
 {
-    match fault {
-        FromHexError::OutOfMemory => Err(AllocError),
-        _ => Ok(None),
+    'bytes: for i in 0..bytes.len() {
+        let Some(byte) = pair(digits[2 * i], digits[2 * i + 1]) else {
+            return false;
+        };
+        bytes[i] = byte;
     }
+    true
 }
 
 /// A tail that ends a line, of so many bytes at most.
