@@ -2,7 +2,7 @@
 ghost use Rattle.std.specs.Prelude.{◌≡◌, Some, IfOk, IfErr};
 
 use crate::fault::FieldFault;
-use crate::field::{word_at, word_bytes};
+use crate::field::{fault_in, word_at, word_bytes};
 
 /// bLength of a device descriptor, in bytes.
 const LENGTH: u8 = 18;
@@ -58,11 +58,8 @@ impl DeviceDescriptor {
         ensures ok { IfOk result (λ d. b.now ≡ device_bytes d) }
         ensures err { IfErr result (λ fault. device_fault b.now ≡ Some fault) }
     {
-        if b.len() != usize::from(LENGTH) || b[0] != LENGTH {
-            return Err(FieldFault::Length);
-        }
-        if b[1] != KIND {
-            return Err(FieldFault::Kind);
+        if let Some(fault) = fault_in(b, LENGTH, KIND) {
+            return Err(fault);
         }
         Ok(DeviceDescriptor {
             usb: word_at(b, 2),

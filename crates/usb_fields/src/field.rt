@@ -1,6 +1,27 @@
-//! Fields of two bytes, low byte first (USB 2.0, 8.1).
-ghost use Rattle.std.specs.Prelude.{◌≡◌, ◌+◌, ◌<◌, [], ◌∷◌, length, slice_index};
+//! What descriptors of fixed length and setup packets have in common: bLength, bDescriptorType, and fields of two
+//! bytes, low byte first (USB 2.0, 8.1 and 9.5).
+ghost use Rattle.std.specs.Prelude.{◌≡◌, ◌+◌, ◌<◌, [], ◌∷◌, length, slice_index, IfNone};
 ghost use Rattle.usb_base.specs.Bytes.{little_endian, little_endian_at};
+ghost use Rattle.usb_fields.specs.Fault.{field_fault};
+
+use crate::fault::FieldFault;
+
+/// Why the bytes are no descriptor of this length and type, if they are none.
+pub(crate) fn fault_in(b: &[u8], size: u8, kind: u8) -> Option<FieldFault>
+    requires { 1 < size }
+    ensures fault { result ≡ field_fault size kind b.now }
+    ensures long { IfNone result (length b.now ≡ size) }
+    ensures size_byte { IfNone result (slice_index b.now 0 ≡ size) }
+    ensures kind_byte { IfNone result (slice_index b.now 1 ≡ kind) }
+{
+    if b.len() != usize::from(size) || b[0] != size {
+        return Some(FieldFault::Length);
+    }
+    if b[1] != kind {
+        return Some(FieldFault::Kind);
+    }
+    None
+}
 
 /// The 16-bit field whose low byte stands at `at`.
 pub(crate) fn word_at(b: &[u8], at: usize) -> u16
