@@ -5,3 +5,4 @@ pub mod Owning
 pub mod Pairing
 pub mod Surveying
 pub mod Telling
+pub mod Bare

@@ -14,7 +14,7 @@ use Rattle.usb_rules.specs.Places.{stands_in}
 use Rattle.usb_rules.specs.Places.{at_each, at_each_after, when, finding}
 use Rattle.usb_rules.specs.Rules.{address_of, has_elsewhere, shares_address}
 use Rattle.usb_rules.specs.Findings.{shared_addresses}
-use Rattle.usb_rules.specs.inside.Owners.{joined, is_other, Owned, owned, owned_at, owns, unowned, owning}
+use Rattle.usb_rules.specs.inside.Owners.{joined, is_other, Owned, owned, owned_at, owns, owning}
 use Rattle.usb_rules.specs.declared.owners.Owner.{Owner}
 use Rattle.usb_rules.specs.declared.owners.Owner.TheVariants as owners
 use Rattle.usb_base.proofs.Cells.{funext}

@@ -10,8 +10,8 @@ use Rattle.usb_rules.specs.declared.finding.Part.{Part}
 use Rattle.usb_rules.specs.declared.finding.Finding.{Finding}
 use Rattle.usb_rules.specs.Places.{when, finding, at_each_after}
 use Rattle.usb_rules.specs.Rules.{repeats_setting}
-use Rattle.usb_rules.specs.inside.Pairs.{IsRow, none_yet, pair_too, pairing, tells}
-use Rattle.usb_base.proofs.Cells.{funext, none_at}
+use Rattle.usb_rules.specs.inside.Pairs.{IsRow, none_yet, pair_too, pairing}
+use Rattle.usb_base.proofs.Cells.{none_at}
 
 -- ---- rows of cells
 

@@ -1,13 +1,12 @@
 -- What a survey of the settings tells.
-use Rattle.std.proofs.Common.{◌≡◌, ℕ, ◌+◌, ◌<◌, ◌≤◌, ◌==◌, ◌&&◌, ◌||◌, not, nat_lt, cond, List, [], ◌∷◌, ◌++◌, Bool, true, false, refl, ap, sym, ◌∙◌, length, get_or, drop, map, arith}
-use Rattle.std.specs.Prelude.{fold}
+use Rattle.std.proofs.Common.{◌≡◌, ℕ, ◌+◌, ◌<◌, ◌≤◌, ◌==◌, ◌&&◌, ◌||◌, not, List, [], ◌∷◌, ◌++◌, Bool, true, false, refl, ap, sym, ◌∙◌, length, get_or, drop, map, arith}
 use Rattle.std.specs.List.{list_any}
 use Rattle.std.proofs.lemmas.Bool.Decides.{nat_tests}
 use Rattle.std.proofs.lemmas.Grind.{common_steps}
 use Rattle.usb_set.specs.declared.tree.Setting.{Setting}
 use Rattle.usb_rules.specs.declared.finding.Part.{Part}
 use Rattle.usb_rules.specs.Places.{when, finding, at_each_after, stands_in}
-use Rattle.usb_rules.specs.Rules.{is_default_of, is_first, lacks_default_setting, number_of, repeats_setting}
+use Rattle.usb_rules.specs.Rules.{is_default_of, lacks_default_setting, number_of, repeats_setting}
 use Rattle.usb_rules.specs.inside.Alternates.{IsPlain, in_order, plain, raised, seen, zeros}
 use Rattle.usb_base.specs.Marks.{marked}
 use Rattle.usb_base.proofs.Cells.{funext}
@@ -61,11 +60,11 @@ plain_end settings i next so_far whole h e =
     let same = and-true so_far in
     cc
 
-and_first : (a b : Bool) → (a && b) ≡ true → a ≡ true
+pub and_first : (a b : Bool) → (a && b) ≡ true → a ≡ true
 and_first true b h = refl
 and_first false b h = h
 
-and_rest : (a b : Bool) → (a && b) ≡ true → b ≡ true
+pub and_rest : (a b : Bool) → (a && b) ≡ true → b ≡ true
 and_rest true b h = h
 and_rest false b h = absurd cc
 

@@ -1,6 +1,5 @@
 -- All that breaks a rule in a file: rule by rule, and in each rule by part, set, setting and endpoint.
-use Rattle.std.specs.Prelude.{ℕ, List, [], ◌∷◌, ◌++◌, length, ◌==◌, Bool, Option, Some, None}
-use Rattle.usb_set.specs.declared.tree.Endpoint.{Endpoint}
+use Rattle.std.specs.Prelude.{ℕ, List, [], ◌++◌, length, ◌==◌, Bool, Option, Some, None}
 use Rattle.usb_set.specs.declared.tree.Setting.{Setting}
 use Rattle.usb_set.specs.declared.tree.Configuration.{Configuration}
 use Rattle.usb_set.specs.Parts.{associations_of}

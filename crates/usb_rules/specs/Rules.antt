@@ -1,5 +1,5 @@
 -- What breaks each rule: a test of what is there, which sees as much of its set as it needs.
-use Rattle.std.specs.Prelude.{ℕ, ◌+◌, List, [], ◌∷◌, map, length, Bool, not, ◌==◌, ◌&&◌, ◌||◌, bit_and}
+use Rattle.std.specs.Prelude.{ℕ, List, [], map, length, Bool, not, ◌==◌, ◌&&◌, ◌||◌, bit_and}
 use Rattle.std.specs.List.{list_any, range_with_len}
 use Rattle.usb_fields.specs.declared.device.DeviceDescriptor.{DeviceDescriptor}
 use Rattle.usb_fields.specs.declared.qualifier.Qualifier.{Qualifier}

@@ -3,7 +3,7 @@ ghost use Rattle.std.specs.Prelude.{◌≡◌, ◌++◌, IfOk, OnOk};
 ghost use Rattle.std.specs.List.{flat_map};
 ghost use Rattle.usb_set.specs.Parts.{association_in, setting_extras};
 ghost use Rattle.usb_rules.specs.Findings.{associations};
-ghost use Rattle.usb_rules.specs.inside.Alternates.{IsSurvey, reads, seen};
+ghost use Rattle.usb_rules.specs.inside.Alternates.{IsEntered, IsSurvey, reads, seen};
 ghost use Rattle.usb_rules.specs.inside.Telling.{Tells, misses_some, told_at};
 
 use crate::alternates::Alternates;
@@ -15,16 +15,21 @@ use usb_set::{Association, Configuration, Endpoint, Extra, Setting};
 
 pub(crate) fn check_associations(
     out: &mut Vec<Finding>,
-    survey: &Survey,
+    next: &Alternates,
+    survey: Survey,
     part: Part,
     set: usize,
     c: &Configuration,
 ) -> Result<(), AllocError>
-    requires { IsSurvey survey.now c.now.settings }
+    requires entered { IsEntered (reads next.now) c.now.settings }
+    requires survey { IsSurvey survey c.now.settings }
     ensures { OnOk result (out.new.items ≡ out.old.items ++ associations part set c.now) }
 {
-    let number = check_extras(out, &survey.next, part, set, 0, c.extras.as_slice())?;
-    check_settings(out, &survey.next, part, set, number, c.settings.as_slice())?;
+    let number = check_extras(out, next, part, set, 0, c.extras.as_slice())?;
+    if survey.bare {
+        return Ok(());
+    }
+    check_settings(out, next, part, set, number, c.settings.as_slice())?;
     Ok(())
 }
 

@@ -2,10 +2,12 @@
 ghost use Rattle.std.specs.Prelude.{◌≡◌, ◌++◌, OnOk};
 ghost use Rattle.usb_rules.specs.Findings.{addresses, addresses_in, packet_sizes, packet_sizes_in};
 ghost use Rattle.usb_rules.specs.Places.{finding, when};
+ghost use Rattle.usb_rules.specs.inside.Alternates.{IsSurvey};
 ghost use Rattle.usb_rules.specs.Rules.{wrong_address, wrong_packet_size};
 
 use crate::finding::{Finding, Part};
 use crate::push::push_when;
+use crate::survey::Survey;
 use std::alloc::AllocError;
 use usb_set::{Configuration, Endpoint, Setting};
 
@@ -21,13 +23,18 @@ const RESERVED_SIZE: u16 = 0xe000;
 pub(crate) fn check_endpoints(
     wrong_addresses: &mut Vec<Finding>,
     wrong_sizes: &mut Vec<Finding>,
+    survey: Survey,
     part: Part,
     set: usize,
     c: &Configuration,
 ) -> Result<(), AllocError>
+    requires { IsSurvey survey c.now.settings }
     ensures addresses { OnOk result (wrong_addresses.new.items ≡ wrong_addresses.old.items ++ addresses part set c.now) }
     ensures sizes { OnOk result (wrong_sizes.new.items ≡ wrong_sizes.old.items ++ packet_sizes part set c.now) }
 {
+    if survey.bare {
+        return Ok(());
+    }
     for (setting, s) in c.settings.as_slice().iter().enumerate() {
         check_setting(wrong_addresses, wrong_sizes, part, set, setting, s)?;
     }

@@ -4,6 +4,7 @@ ghost use Rattle.usb_rules.specs.Places.{when};
 
 use crate::finding::Finding;
 use std::alloc::AllocError;
+use std::mem::swap;
 
 /// Adds the finding where the test holds.
 pub(crate) fn push_when(
@@ -24,6 +25,11 @@ pub(crate) fn put_after(out: &mut Vec<Finding>, more: &mut Vec<Finding>) -> Resu
     ensures { OnOk result (out.new.items ≡ out.old.items ++ more.old.items) }
 {
     if more.is_empty() {
+        return Ok(());
+    }
+    if out.is_empty() {
+        // Then there is nothing to copy.
+        swap(out, more);
         return Ok(());
     }
     out.append(more)

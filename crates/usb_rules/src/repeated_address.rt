@@ -4,22 +4,29 @@ ghost use Rattle.usb_rules.specs.Findings.{repeated_addresses, repeated_in_setti
 ghost use Rattle.usb_rules.specs.Places.{at_each, finding};
 ghost use Rattle.usb_rules.specs.Rules.{address_of};
 ghost use Rattle.usb_base.specs.Marks.{unmarked};
+ghost use Rattle.usb_rules.specs.inside.Alternates.{IsSurvey};
 ghost use Rattle.usb_rules.specs.inside.Running.{marking};
 
 use crate::finding::{Finding, Part};
 use crate::push::push_when;
+use crate::survey::Survey;
 use std::alloc::AllocError;
 use usb_base::Marks;
 use usb_set::{Configuration, Endpoint, Setting};
 
 pub(crate) fn check_repeated_addresses(
     out: &mut Vec<Finding>,
+    survey: Survey,
     part: Part,
     set: usize,
     c: &Configuration,
 ) -> Result<(), AllocError>
+    requires { IsSurvey survey c.now.settings }
     ensures { OnOk result (out.new.items ≡ out.old.items ++ repeated_addresses part set c.now) }
 {
+    if survey.bare {
+        return Ok(());
+    }
     check_settings(out, part, set, c.settings.as_slice())
 }
 

@@ -13,12 +13,12 @@ use usb_set::{Configuration, Setting};
 
 pub(crate) fn check_repeated_settings(
     out: &mut Vec<Finding>,
-    survey: &Survey,
+    survey: Survey,
     part: Part,
     set: usize,
     c: &Configuration,
 ) -> Result<(), AllocError>
-    requires { IsSurvey survey.now c.now.settings }
+    requires { IsSurvey survey c.now.settings }
     ensures { OnOk result (out.new.items ≡ out.old.items ++ repeated_settings part set c.now) }
 {
     if survey.plain {

@@ -3,6 +3,7 @@ ghost use Rattle.std.specs.Prelude.{OnOk};
 ghost use Rattle.usb_rules.specs.Places.{in_parts, in_sets};
 ghost use Rattle.usb_rules.specs.inside.SetRules.{Grew, found_by};
 
+use crate::alternates::Alternates;
 use crate::association::check_associations;
 use crate::attributes::check_attributes;
 use crate::counts::check_endpoint_counts;
@@ -47,16 +48,17 @@ fn check_set(
 ) -> Result<(), AllocError>
     ensures { OnOk result (Grew (λ rule. found_by rule part set c.now) found.old found.new) }
 {
-    let survey = survey_of(c.settings.as_slice());
-    check_interface_count(&mut found.interface_counts, &survey, part, set, c)?;
-    check_number_gap(&mut found.number_gaps, &survey, part, set, c)?;
-    check_repeated_settings(&mut found.repeated_settings, &survey, part, set, c)?;
-    check_default_settings(&mut found.missing_default_settings, &survey, part, set, c)?;
+    let mut next = Alternates::new();
+    let survey = survey_of(&mut next, c.settings.as_slice());
+    check_interface_count(&mut found.interface_counts, survey, part, set, c)?;
+    check_number_gap(&mut found.number_gaps, &next, survey, part, set, c)?;
+    check_repeated_settings(&mut found.repeated_settings, survey, part, set, c)?;
+    check_default_settings(&mut found.missing_default_settings, survey, part, set, c)?;
     check_endpoint_counts(&mut found.endpoint_counts, part, set, c)?;
-    check_endpoints(&mut found.addresses, &mut found.packet_sizes, part, set, c)?;
-    check_repeated_addresses(&mut found.repeated_addresses, part, set, c)?;
-    check_shared_addresses(&mut found.shared_addresses, part, set, c)?;
+    check_endpoints(&mut found.addresses, &mut found.packet_sizes, survey, part, set, c)?;
+    check_repeated_addresses(&mut found.repeated_addresses, survey, part, set, c)?;
+    check_shared_addresses(&mut found.shared_addresses, survey, part, set, c)?;
     check_attributes(&mut found.attributes, part, set, c)?;
-    check_associations(&mut found.associations, &survey, part, set, c)?;
+    check_associations(&mut found.associations, &next, survey, part, set, c)?;
     Ok(())
 }

@@ -2,22 +2,29 @@
 ghost use Rattle.std.specs.Prelude.{◌≡◌, ◌++◌, OnOk, fold};
 ghost use Rattle.usb_rules.specs.Findings.{shared_addresses};
 ghost use Rattle.usb_rules.specs.Places.{at_each, finding, when};
+ghost use Rattle.usb_rules.specs.inside.Alternates.{IsSurvey};
 ghost use Rattle.usb_rules.specs.inside.Owners.{owned, owning, owns, unowned};
 
 use crate::finding::{Finding, Part};
 use crate::owners::Owners;
 use crate::push::push_when;
+use crate::survey::Survey;
 use std::alloc::AllocError;
 use usb_set::{Configuration, Endpoint, Setting};
 
 pub(crate) fn check_shared_addresses(
     out: &mut Vec<Finding>,
+    survey: Survey,
     part: Part,
     set: usize,
     c: &Configuration,
 ) -> Result<(), AllocError>
+    requires { IsSurvey survey c.now.settings }
     ensures { OnOk result (out.new.items ≡ out.old.items ++ shared_addresses part set c.now) }
 {
+    if survey.bare {
+        return Ok(());
+    }
     // One setting shares nothing.
     if c.settings.len() < 2 {
         return Ok(());

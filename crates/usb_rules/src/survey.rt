@@ -1,24 +1,30 @@
-//! What one look at the settings of a set tells.
+//! What a look at the settings of a set tells.
 ghost use Rattle.std.specs.Prelude.{◌≡◌, ◌&&◌};
-ghost use Rattle.usb_rules.specs.inside.Alternates.{IsSurvey, in_order};
+ghost use Rattle.std.specs.List.{list_all};
+ghost use Rattle.usb_rules.specs.inside.Alternates.{IsEntered, IsSurvey, in_order, is_bare, reads, zeros};
 
 use crate::alternates::Alternates;
 use usb_set::Setting;
 
-/// Which interface numbers a set has, how many they are, and whether their alternate settings stand as
-/// nearly all devices have them: each interface begins with alternate 0, and its alternates rise. Then
-/// none of them stands twice and none is missing, which need no further look.
-#[derive(Drop)]
+/// What needs no further look.
+#[derive(Clone, Copy)]
 pub(crate) struct Survey {
-    pub(crate) next: Alternates,
+    /// How many interface numbers there are.
     pub(crate) count: usize,
+    /// Whether alternate settings stand as nearly all devices have them: each interface begins with
+    /// alternate 0, and its alternates rise. Then none of them stands twice and none is missing.
     pub(crate) plain: bool,
+    /// Whether no setting has an endpoint or an extra.
+    pub(crate) bare: bool,
 }
 
-pub(crate) fn survey_of(settings: &[Setting]) -> Survey
-    ensures { IsSurvey result settings.now }
+/// Enters the alternates of all settings into `next`, which stays the caller's: it is too large to be
+/// handed over for each set.
+pub(crate) fn survey_of(next: &mut Alternates, settings: &[Setting]) -> Survey
+    requires { reads next.now ≡ zeros }
+    ensures entered { IsEntered (reads next.new) settings.now }
+    ensures survey { IsSurvey result settings.now }
 {
-    let mut next = Alternates::new();
     let mut count = 0;
     let mut plain = true;
     for s in settings {
@@ -30,7 +36,19 @@ pub(crate) fn survey_of(settings: &[Setting]) -> Survey
         plain = both(plain, is_in_order(before, alternate));
         next.set(s.number, alternate + 1);
     }
-    Survey { next, count, plain }
+    Survey {
+        count,
+        plain,
+        bare: are_bare(settings),
+    }
+}
+
+fn are_bare(settings: &[Setting]) -> bool
+    ensures { result ≡ list_all is_bare settings.now }
+{
+    settings
+        .iter()
+        .all(|s| s.endpoints.is_empty() && s.extras.is_empty())
 }
 
 fn both(a: bool, b: bool) -> bool

@@ -1,5 +1,6 @@
 -- One more than the alternate of the latest setting of each interface number, or 0.
 use Rattle.std.specs.Prelude.{◌≡◌, ℕ, ◌+◌, ◌==◌, ◌&&◌, not, nat_lt, Bool, true, List, [], ◌∷◌, length, map, slice_index_or, if◌then◌else◌}
+use Rattle.std.specs.List.{list_all}
 use Rattle.usb_set.specs.declared.tree.Setting.{Setting}
 use Rattle.usb_rules.specs.declared.finding.Part.{Part}
 use Rattle.usb_rules.specs.declared.survey.Survey.{Survey}
@@ -36,8 +37,16 @@ pub record IsPlain (settings : List Setting) : Type 0 where
   pub repeats_none : (part : Part) (i : ℕ) → at_each_after (λ before j s. when (repeats_setting before s) (finding 3 part i j 0)) [] 0 settings ≡ []
   pub lacks_none : (part : Part) (i : ℕ) → at_each_after (λ before j s. when (lacks_default_setting settings before s) (finding 4 part i j 0)) [] 0 settings ≡ []
 
+-- the entries are those of the interface numbers of the settings
+abbrev pub IsEntered : (ℕ → ℕ) → List Setting → Type 0
+IsEntered next settings = seen next ≡ stands_in (map number_of settings)
+
+-- a setting without endpoints and extras
+abbrev pub is_bare : Setting → Bool
+is_bare s = (length s.endpoints == 0) && (length s.extras == 0)
+
 -- what a survey tells of the settings of a set
 pub record IsSurvey (survey : Survey) (settings : List Setting) : Type 0 where
-  pub numbers : seen (reads survey.next) ≡ stands_in (map number_of settings)
   pub count : survey.count ≡ length (interface_numbers settings)
   pub order : survey.plain ≡ true → IsPlain settings
+  pub bare : survey.bare ≡ list_all is_bare settings

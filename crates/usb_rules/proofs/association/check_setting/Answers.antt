@@ -1,4 +1,4 @@
-use Rattle.std.proofs.Common.{◌++◌, subst}
+use Rattle.std.proofs.Common.{subst}
 use Rattle.std.specs.List.{flat_map}
 use Rattle.usb_set.specs.Parts.{association_in}
 use Rattle.usb_rules.specs.inside.Alternates.{reads, seen}

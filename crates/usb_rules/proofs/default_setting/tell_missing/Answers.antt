@@ -1,4 +1,4 @@
-use Rattle.std.proofs.Common.{◌≡◌, ◌++◌, ◌∙◌, ap, subst, not, OnOk, sym}
+use Rattle.std.proofs.Common.{◌≡◌, ◌++◌, ◌∙◌, ap, subst, not, OnOk}
 use Rattle.std.specs.Prelude.{fold}
 use Rattle.usb_rules.specs.Places.{finding}
 use Rattle.usb_rules.specs.Rules.{number_of}

@@ -1,4 +1,4 @@
-use Rattle.std.proofs.Common.{◌≡◌, arith}
+use Rattle.std.proofs.Common.{arith}
 use Rattle.usb_rules.proofs.Pairing.{pairing_end, pairing_next}
 use Rattle.usb_rules.proofs.repeated_setting.tell_repeated.Goals as goal
 

@@ -12,12 +12,12 @@ use Rattle.usb_rules.proofs.survey.survey_of.Goals.{then-before-eq0, else-before
 pub loop-s-init : goal.loop-s-init
 loop-s-init c =
     let numbers = map number_of c.args.settings.now in
-    let none = ap (λ next. new_numbers (seen next) numbers) c.new-next.ensures in
+    let none = ap (λ next. new_numbers (seen next) numbers) c.requires in
     record {
-      numbers = ap (λ next. fold marked (seen next) numbers) c.new-next.ensures;
+      numbers = ap (λ next. fold marked (seen next) numbers) c.requires;
       count = omega (arith, none);
       within = omega arith;
-      order = ap (λ next. plain next c.args.settings.now) c.new-next.ensures;
+      order = ap (λ next. plain next c.args.settings.now) c.requires;
     }
 
 pub loop-s-preserved : goal.loop-s-preserved
@@ -51,7 +51,10 @@ returns c =
     let settings = c.args.settings.now in
     let at = c.loop-s.s-index in
     record {
-      numbers = marks_end settings at _ _ (omega arith) c.loop-s.invariant.numbers ∙ marks_are (map number_of settings);
-      count = numbers_end settings at _ _ _ (omega arith) c.loop-s.invariant.count ∙ interfaces_are settings;
-      order = λ h. plain_is settings (sym (plain_end settings at _ c.loop-s.plain _ (omega arith) c.loop-s.invariant.order) ∙ h);
+      entered = marks_end settings at _ _ (omega arith) c.loop-s.invariant.numbers ∙ marks_are (map number_of settings);
+      survey = record {
+        count = numbers_end settings at _ _ _ (omega arith) c.loop-s.invariant.count ∙ interfaces_are settings;
+        order = λ h. plain_is settings (sym (plain_end settings at _ c.loop-s.plain _ (omega arith) c.loop-s.invariant.order) ∙ h);
+        bare = c.are_bare.ensures;
+      };
     }

@@ -1,6 +1,5 @@
 use Rattle.std.proofs.Common.{◌≡◌, ◌+◌, ◌≤◌, ◌&&◌, drop, map}
 use Rattle.std.specs.Prelude.{fold}
-use Rattle.usb_rules.specs.Places.{stands_in}
 use Rattle.usb_rules.specs.Rules.{number_of}
 use Rattle.usb_rules.specs.inside.Alternates.{plain, reads, seen, zeros}
 use Rattle.usb_base.specs.Marks.{marked, unmarked}

@@ -1,4 +1,4 @@
-use Rattle.std.proofs.Common.{◌≡◌, subst, sym, ap, ◌∙◌, arith}
+use Rattle.std.proofs.Common.{◌≡◌, subst, ap, ◌∙◌, arith}
 use Rattle.std.specs.Prelude.{slice_set, slice_index_or}
 use Rattle.usb_rules.specs.declared.owners.Owner.TheVariants as owners
 use Rattle.usb_rules.specs.inside.Owners.{owns, owned_at, joined}

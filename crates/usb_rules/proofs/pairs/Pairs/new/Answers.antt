@@ -1,4 +1,3 @@
-use Rattle.std.proofs.Common.{replicate, false}
 use Rattle.usb_rules.specs.inside.Pairs.{tells}
 use Rattle.usb_base.proofs.Cells.{funext}
 use Rattle.usb_rules.proofs.Pairing.{none_of_rows}
