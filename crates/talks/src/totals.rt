@@ -1,4 +1,4 @@
-//! Three requests under every list of six fates.
+//! Three requests under every list of six fates, to a device with packets of 64 bytes and to one with packets of 8.
 use anyhow::{Context, Result};
 use std::alloc::{AllocError, Global};
 use usb_bus::{Fate, converse};
@@ -7,13 +7,16 @@ use usb_fields::{Setup, Speed};
 use usb_file::read_file;
 use usb_host::Why;
 
-/// A boot mouse with packets of eight bytes.
+/// A boot mouse with packets of 64 bytes.
 const FILE: [u8; 52] = [
-    0x12, 0x01, 0x10, 0x01, 0x00, 0x00, 0x00, 0x08, 0x34, 0x12, 0x78, 0x56, 0x00, 0x01, 0x00, 0x00,
+    0x12, 0x01, 0x10, 0x01, 0x00, 0x00, 0x00, 0x40, 0x34, 0x12, 0x78, 0x56, 0x00, 0x01, 0x00, 0x00,
     0x00, 0x01, 0x09, 0x02, 0x22, 0x00, 0x01, 0x01, 0x00, 0xa0, 0x32, 0x09, 0x04, 0x00, 0x00, 0x01,
     0x03, 0x01, 0x02, 0x00, 0x09, 0x21, 0x10, 0x01, 0x00, 0x01, 0x22, 0x34, 0x00, 0x07, 0x05, 0x81,
     0x03, 0x04, 0x00, 0x0a,
 ];
+
+/// Where bMaxPacketSize0 stands (USB 2.0, table 9-8).
+const PACKET_AT: usize = 7;
 
 /// SET_ADDRESS 5, GET_DESCRIPTOR of the device, SET_CONFIGURATION 1.
 const REQUESTS: [[u8; 8]; 3] = [
@@ -45,26 +48,30 @@ struct Totals {
     configured: u128,
 }
 
-/// The totals of all lists of six fates, a line for each limit of NAKs.
+/// The totals of all lists of six fates, a line for each packet size and each limit of NAKs.
 pub fn totals_text(alloc: Global) -> Result<String> {
-    let file = read_file(alloc, &FILE).context("the descriptors of a mouse")?;
-    let description = Description::new(alloc, file, Speed::Full).context("a mouse")?;
     let mut text = String::new(alloc);
-    for naks in [0, 2] {
-        let totals = totals_of(alloc, &description, naks)?;
-        text.push_str(line(alloc, naks, totals)?.as_str())?;
+    for packet in [64, 8] {
+        let mut bytes = FILE;
+        bytes[PACKET_AT] = packet;
+        let file = read_file(alloc, &bytes).context("the descriptors of a mouse")?;
+        let description = Description::new(alloc, file, Speed::Full).context("a mouse")?;
+        for naks in [0, 2] {
+            let totals = totals_of(alloc, &description, naks)?;
+            text.push_str(line(alloc, packet, naks, totals)?.as_str())?;
+        }
     }
     Ok(text)
 }
 
-fn line(alloc: Global, naks: u16, t: Totals) -> Result<String, AllocError> {
+fn line(alloc: Global, packet: u8, naks: u16, t: Totals) -> Result<String, AllocError> {
     let ends = format!(in alloc;
         "{} ended, {} with no answer, {} busy",
         t.ended, t.no_answer, t.busy
     )?;
     let sums = format!(in alloc; "{} transactions, {} replies", t.transactions, t.replies)?;
     let states = format!(in alloc; "{} at address 5, {} configured", t.addressed, t.configured)?;
-    format!(in alloc; "naks {naks}: {ends}, {sums}, {states}\n")
+    format!(in alloc; "packets of {packet}, naks {naks}: {ends}, {sums}, {states}\n")
 }
 
 fn totals_of(alloc: Global, description: &Description, naks: u16) -> Result<Totals, AllocError> {

@@ -32,13 +32,13 @@ pub record Attempt : Type 0 where
   pub phase : Phase
   pub device : DeviceView
 
--- what is reply_from of an answer
+-- an answer to a request, as a reply
 abbrev pub reply_to : Outcome → Reply
 reply_to (Bytes b) = replied.Bytes b
 reply_to (Done next) = replied.Done
 reply_to Refused = replied.Refused
 
--- what is reply_from of a transfer that has completed
+-- the reply that a transfer that has completed brought
 abbrev pub reply_from : HostEnd → Reply
 reply_from h = if h.transfer.request.length == 0 then replied.Done else replied.Bytes h.got
 
@@ -56,7 +56,7 @@ module _ (plan : List Reply → Plan) (naks : ℕ) where
   abbrev pub proceed : List Reply → DeviceView → Attempt
   proceed replies d = record { replies = replies; phase = phase_of naks (plan replies); device = d }
 
-  -- After a transaction, by the stage: a transfer that completed or was stalled is reply_from, and the plan goes on.
+  -- After a transaction, by the stage: a transfer that completed or was stalled has its reply, and the plan goes on.
   abbrev pub advance : List Reply → HostEnd → TransferStage → DeviceView → Attempt
   advance replies h Completed d = proceed (replies ++ reply_from h ∷ []) d
   advance replies h (Failed NoAnswer) d = record { replies = replies; phase = Broken NoAnswer; device = d }

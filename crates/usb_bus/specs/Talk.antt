@@ -21,12 +21,12 @@ followed q replied.Done address = if is_set_address q then q.value % 128 else ad
 followed q replied.Refused address = address
 followed q (replied.Bytes b) address = address
 
--- past the first request, which was reply_from so
+-- past the first request, which has this reply
 abbrev pub onward : List SetupPacket → ℕ → Reply → Place
 onward [] address r = record { left = []; address = address }
 onward (q ∷ qs) address r = record { left = qs; address = followed q r address }
 
--- past the requests that were reply_from
+-- past the requests that have these replies
 abbrev pub reached : Place → List Reply → Place
 reached p [] = p
 reached p (r ∷ rs) = reached (onward p.left p.address r) rs

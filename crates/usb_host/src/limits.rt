@@ -11,11 +11,6 @@ const LAST_ADDRESS: u8 = 127;
 const MOST_ATTEMPTS: u8 = 8;
 
 /// What a host bears, and the address that it gives to the device.
-///
-/// ```
-/// let limits = Limits::new(1, 16, 3)?;
-/// assert_eq!(Limits::new(128, 16, 3), Err(LimitFault::Address));
-/// ```
 #[derive(Clone, Copy, Debug, PartialEq, Eq, Hash)]
 pub struct Limits {
     address: u8,
@@ -45,6 +40,11 @@ impl Limits {
     ///
     /// [`LimitFault::Address`] where the address is not 1 to 127, and else [`LimitFault::Attempts`] where the
     /// attempts are not 1 to 8.
+    ///
+    /// ```
+    /// let limits = Limits::new(1, 16, 3)?;
+    /// assert_eq!(Limits::new(128, 16, 3), Err(LimitFault::Address));
+    /// ```
     pub fn new(address: u8, naks: u16, attempts: u8) -> Result<Limits, LimitFault>
         ensures value { IfOk result (λ l. l ≡ record { address = address; naks = naks; attempts = attempts }) }
         ensures ok { OnOk result (limit_fault address attempts ≡ None) }
@@ -77,6 +77,10 @@ impl LimitFault {
     ghost use Rattle.usb_host.specs.Limits.{limit_fault_number};
 
     /// The fault's number, 1 or 2: a lower one is tested first.
+    ///
+    /// ```
+    /// assert_eq!(LimitFault::Address.number(), 1);
+    /// ```
     pub fn number(self) -> u8
         ensures { result ≡ limit_fault_number self }
     {

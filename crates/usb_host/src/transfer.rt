@@ -61,6 +61,10 @@ impl Transfer {
     ///
     /// `packet` is the packet size of the device's endpoint zero, in bytes, and `naks` the number of NAKs without
     /// progress after which one more ends the transfer.
+    ///
+    /// ```
+    /// let transfer = Transfer::new(5, 64, 16, Setup::from_bytes(&[0x80, 6, 0, 1, 0, 0, 18, 0]));
+    /// ```
     pub fn new(address: u8, packet: u8, naks: u16, s: Setup) -> Transfer
         requires { 0 < packet }
         ensures view { result ≡ begun address packet naks s }
@@ -81,6 +85,12 @@ impl Transfer {
     }
 
     /// The transaction that is due, or `None` once the transfer has ended.
+    ///
+    /// ```
+    /// while let Some(transaction) = transfer.next() {
+    ///     transfer.take(send(&transaction));
+    /// }
+    /// ```
     #[inline(always)]
     pub fn next(&self) -> Option<Transaction<'static>>
         ensures { sent_by result ≡ due self.now }
@@ -99,6 +109,15 @@ impl Transfer {
 
     /// Takes what the transaction that was due brought. A transfer that has ended answers the same `Complete` or
     /// `Failed` from then on, and does not change.
+    ///
+    /// ```
+    /// match transfer.take(answer) {
+    ///     Heard::Again => {}
+    ///     Heard::Bytes(bytes) => data.extend_from_slice(bytes)?,
+    ///     Heard::Complete => return Ok(data),
+    ///     Heard::Failed(why) => return Err(why),
+    /// }
+    /// ```
     #[inline(always)]
     pub fn take<'a>(&mut self, a: Answer<'a>) -> Heard<'a>
         ensures heard { heard_of result ≡ (taken self.old (reply_of a.entry)).heard }

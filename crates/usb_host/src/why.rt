@@ -28,6 +28,10 @@ impl Why {
     ghost use Rattle.usb_host.specs.Why.{why_number};
 
     /// The reason's number, 1 to 7.
+    ///
+    /// ```
+    /// assert_eq!(Why::Busy.number(), 2);
+    /// ```
     pub fn number(self) -> u8
         ensures { result ≡ why_number self }
     {
