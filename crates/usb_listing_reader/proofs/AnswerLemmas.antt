@@ -1,5 +1,5 @@
 -- A listing, walked, is its file, and a text with a fault that fault.
-use Rattle.std.proofs.Common.{◌≡◌, ◌≢◌, ℕ, zero, suc, ◌+◌, ◌≤◌, ◌<◌, ◌==◌, ltb, Bool, true, false, cond, List, [], ◌∷◌, ◌++◌, Option, Some, None, Result, Ok, Err, length, refl, ap, sym, ◌∙◌, append-nil, length-append, arith, codes}
+use Rattle.std.proofs.Common.{◌≡◌, ◌≢◌, ℕ, zero, suc, ◌+◌, ◌≤◌, ◌<◌, ◌==◌, Bool, true, false, cond, List, [], ◌∷◌, ◌++◌, Option, Some, None, Result, Ok, Err, length, refl, ap, sym, ◌∙◌, length-append, arith}
 use Rattle.std.proofs.lemmas.Bool.{lt-ltb, ne_eqb}
 use Rattle.usb_file_data.specs.declared.file.DescriptorFile.{DescriptorFile}
 use Rattle.usb_listing_lines.specs.declared.item.Item.{Item}
@@ -9,11 +9,10 @@ use Rattle.usb_listing_lines.specs.Item.{Says, item_word}
 use Rattle.usb_listing_lines.specs.inside.Items.{item_of_line}
 use Rattle.usb_listing_lines.proofs.PrintableLemmas.{line_of, line_of-printable, line_of-says}
 use Rattle.usb_listing_lines.proofs.SaysLemmas.{read_is_said, said_is_read, said_word, word_again, word_read}
-use Rattle.usb_listing_reader.specs.declared.fault.ListFault.{ListFault}
 use Rattle.usb_listing_reader.specs.declared.fault.ListWhy.{ListWhy}
 use Rattle.usb_listing_reader.specs.declared.fault.ListWhy.TheVariants as whys
 use Rattle.usb_listing_reader.specs.Order.{file_and, file_items, may_stand, work_length}
-use Rattle.usb_listing_reader.specs.Listings.{Begins, FirstLine, IsBegun, ListFaulty, Lists, NoLineGoesOn, RestFaulty, is_whole, items_of, lines_of}
+use Rattle.usb_listing_reader.specs.Listings.{FirstLine, IsBegun, ListFaulty, Lists, NoLineGoesOn, RestFaulty, is_whole, items_of, lines_of}
 use Rattle.usb_listing_reader.specs.inside.Walking.{Walk, add, add_line, after_line, answer_of, fault_behind, file_end, going, stopped, walk, walk_byte, walk_end}
 use Rattle.usb_listing_reader.proofs.FileLemmas.{file_front, file_whole}
 use Rattle.usb_listing_reader.proofs.LessLemmas.{LastLine, front_less}

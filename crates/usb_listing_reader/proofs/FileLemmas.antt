@@ -1,7 +1,7 @@
 -- A file that has bytes is a file so far, and a whole one.
-use Rattle.std.proofs.Common.{◌≡◌, ◌≢◌, ℕ, ◌*◌, ◌<◌, ◌≤◌, ◌==◌, ◌||◌, not, ltb, Bool, true, false, cond, List, [], ◌∷◌, ◌++◌, map, Option, Some, None, is_none, is_some, length, refl, subst, arith}
+use Rattle.std.proofs.Common.{◌≡◌, ◌≢◌, ℕ, ◌*◌, ◌≤◌, ◌==◌, ◌||◌, not, ltb, Bool, true, false, cond, List, [], ◌∷◌, ◌++◌, map, Option, Some, None, is_none, is_some, length, refl, subst, arith}
 use Rattle.std.specs.List.{AllByRecursion, flat_map, list_any}
-use Rattle.std.proofs.lemmas.Bool.{eqb-false, eqb-true, not-false, or_from, or_parts}
+use Rattle.std.proofs.lemmas.Bool.{eqb-false, eqb-true, or_from, or_parts}
 use Rattle.std.proofs.lemmas.List.Concat.{flat_map-append}
 use Rattle.std.proofs.lemmas.List.Folds.{list_any-append}
 use Rattle.usb_base.specs.Bytes.{AreBytes}
@@ -26,7 +26,7 @@ use Rattle.usb_file_data.specs.Named.{named_indices, other_sets}
 use Rattle.usb_listing_lines.specs.declared.item.Item.{Item}
 use Rattle.usb_listing_lines.specs.declared.item.Item.TheVariants as items
 use Rattle.usb_listing_lines.specs.Item.{IsItem}
-use Rattle.usb_listing_reader.specs.Order.{endpoint_items, file_items, other_items, set_items, setting_items, strings_items}
+use Rattle.usb_listing_reader.specs.Order.{endpoint_items, other_items, set_items, setting_items, strings_items}
 use Rattle.usb_listing_reader.specs.Listings.{IsFront, IsInOrder, StringsFollow, is_over, is_whole}
 use Rattle.usb_listing_reader.proofs.OrderLemmas.{some_length}
 

@@ -1,5 +1,5 @@
 -- Of all texts exactly one holds: a listing, or one fault at one line; and a listing has one file.
-use Rattle.std.proofs.Common.{◌≡◌, ◌≢◌, ℕ, ◌+◌, ◌==◌, ◌&&◌, Bool, true, false, cond, List, [], ◌∷◌, ◌++◌, Option, Some, None, Result, Ok, Err, length, refl, ap, sym, subst, ◌∙◌, append_assoc, append-nil, length-append, arith}
+use Rattle.std.proofs.Common.{◌≡◌, ◌≢◌, ℕ, ◌+◌, ◌==◌, ◌&&◌, Bool, true, false, cond, List, [], ◌∷◌, ◌++◌, Option, Some, None, Result, Ok, Err, length, refl, ap, sym, subst, ◌∙◌, append_assoc, append-nil, length-append}
 use Rattle.std.specs.Prelude.{IfErr}
 use Rattle.std.specs.List.{list_all}
 use Rattle.std.proofs.lemmas.Bool.{and_from, eqb-false, eqb-true}
@@ -13,7 +13,6 @@ use Rattle.usb_listing_reader.specs.declared.fault.ListWhy.{ListWhy}
 use Rattle.usb_listing_reader.specs.declared.fault.ListWhy.TheVariants as whys
 use Rattle.usb_listing_reader.specs.ListingOrFault.{ListingOrFault, is_faulty, is_listing}
 use Rattle.usb_listing_reader.specs.Listings.{IsBegun, ListFaulty, ListRefused, Lists, RestFaulty, is_whole, items_of, lines_of}
-use Rattle.usb_listing_reader.specs.inside.Drafts.{Told}
 use Rattle.usb_listing_reader.specs.inside.Walking.{Walk, add_line, after_line, answer_of, going, stopped, walk, walk_byte}
 use Rattle.usb_listing_reader.proofs.AnswerLemmas.{answer_faulty, answer_listing}
 use Rattle.usb_listing_reader.proofs.ReadingLemmas.{lasting, lines_more}

@@ -1,5 +1,5 @@
 -- The file so far without its last line: each but one of no line is another one with one line more.
-use Rattle.std.proofs.Common.{◌≡◌, ◌≢◌, ℕ, zero, suc, ◌+◌, ◌*◌, ◌<◌, ◌≤◌, ◌==◌, ◌||◌, ◌&&◌, not, ltb, Bool, true, false, cond, List, [], ◌∷◌, ◌++◌, map, Option, Some, None, is_some, unwrap_or, Result, Ok, Err, length, refl, ap, sym, subst, ◌∙◌, length-append, arith}
+use Rattle.std.proofs.Common.{◌≡◌, ◌≢◌, ℕ, zero, suc, ◌*◌, ◌<◌, ◌≤◌, ◌==◌, ◌||◌, not, ltb, Bool, true, false, cond, List, [], ◌∷◌, ◌++◌, map, Option, Some, None, is_some, unwrap_or, Ok, Err, length, refl, ap, sym, subst, ◌∙◌, arith}
 use Rattle.std.specs.List.{AllByRecursion, flat_map, list_any}
 use Rattle.std.proofs.Math.Dec.{eqb-suc-zero}
 use Rattle.std.proofs.lemmas.Bool.{and_from, eq-eqb, le-ltb, lt-ltb, ltb-false, or_from, or_parts}
@@ -19,7 +19,7 @@ use Rattle.usb_file_data.specs.declared.file.DescriptorFile.{DescriptorFile}
 use Rattle.usb_file_data.specs.declared.file.Other.{Other}
 use Rattle.usb_file_data.specs.declared.file.Strings.{Strings}
 use Rattle.usb_file_data.specs.File.{has_wrong_kind, is_other_kind}
-use Rattle.usb_file_data.specs.Named.{named_indices, other_sets}
+use Rattle.usb_file_data.specs.Named.{other_sets}
 use Rattle.usb_listing_lines.specs.declared.item.Item.{Item}
 use Rattle.usb_listing_lines.specs.declared.item.Item.TheVariants as items
 use Rattle.usb_listing_lines.specs.Item.{IsItem, item_word, set_word}
@@ -27,7 +27,7 @@ use Rattle.usb_listing_reader.specs.declared.fault.ListWhy.TheVariants as whys
 use Rattle.usb_listing_reader.specs.Order.{endpoint_with, file_and, file_items, has_interface, last_of, length_of, may_follow, may_stand, other_items, set_and, set_items, set_with, setting_items, setting_with, setting_with_endpoint, strings_items, with_last, work_length}
 use Rattle.usb_listing_reader.specs.Listings.{IsBegun, IsFront, IsInOrder, StringsFollow, is_over, items_of}
 use Rattle.usb_listing_reader.specs.inside.Walking.{add}
-use Rattle.usb_listing_reader.proofs.OrderLemmas.{Joins, flat_map-push, map-push, set_more}
+use Rattle.usb_listing_reader.proofs.OrderLemmas.{Joins, flat_map-push, set_more}
 use Rattle.usb_listing_reader.proofs.FrontLemmas.{InWork, IsInner, behind_all, behind_main, behind_other, has_room, kind_kept, last_flat, last_push, length-push, length-with_last, made, strings_more}
 use Rattle.usb_listing_reader.proofs.LengthLemmas.{longer}
 use Rattle.usb_listing_reader.proofs.WholeLemmas.{all_split}

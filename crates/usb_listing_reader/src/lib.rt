@@ -1,4 +1,7 @@
 //! Listings read back: the descriptor file that a text lists, or the first line at fault.
+//!
+//! [`assemble`] reads a text; the module [`laws`] states what holds of texts, files and faults, whoever reads
+//! them.
 #![tactic(auto)]
 
 mod assembling;
