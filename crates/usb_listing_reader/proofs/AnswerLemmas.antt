@@ -12,7 +12,7 @@ use Rattle.usb_listing_lines.proofs.SaysLemmas.{read_is_said, said_is_read, said
 use Rattle.usb_listing_reader.specs.declared.fault.ListWhy.{ListWhy}
 use Rattle.usb_listing_reader.specs.declared.fault.ListWhy.TheVariants as whys
 use Rattle.usb_listing_reader.specs.Order.{file_and, file_items, may_stand, work_length}
-use Rattle.usb_listing_reader.specs.Listings.{FirstLine, IsBegun, ListFaulty, Lists, NoLineGoesOn, RestFaulty, is_whole, items_of, lines_of}
+use Rattle.usb_listing_reader.specs.Listings.{Begins, FirstLine, IsBegun, ListFaulty, Lists, NoLineGoesOn, RestFaulty, is_whole, items_of, lines_of}
 use Rattle.usb_listing_reader.specs.inside.Walking.{Walk, add, add_line, after_line, answer_of, fault_behind, file_end, going, stopped, walk, walk_byte, walk_end}
 use Rattle.usb_listing_reader.proofs.FileLemmas.{file_front, file_whole}
 use Rattle.usb_listing_reader.proofs.LessLemmas.{LastLine, front_less}
@@ -53,6 +53,12 @@ walk_within (suc n) (Some f) begun few =
 -- the lines of a file so far, walked, are that file
 pub walk_begun : (s : Option DescriptorFile) → IsBegun s → walk (going None 0 []) (lines_of s) ≡ going s (length (items_of s)) []
 walk_begun s begun = walk_within (length (items_of s)) s begun (omega arith)
+
+-- behind them the rest of the text is walked
+pub walk_front : (text : List ℕ) (s : Option DescriptorFile) (rest : List ℕ) (line : ℕ) → Begins text s rest line
+    → walk (going None 0 []) text ≡ walk (going s (length (items_of s)) []) rest
+walk_front text s rest line b =
+    ap (walk (going None 0 [])) b.parts ∙ walk-append (going None 0 []) (lines_of s) rest ∙ ap (λ (w : Walk). walk w rest) (walk_begun s b.begun)
 
 -- ---- a listing
 
@@ -126,8 +132,6 @@ pub answer_faulty : (text : List ℕ) (line : ℕ) (why : ListWhy) → ListFault
 unfolding answer_of
 answer_faulty text line why l =
     let b = l.begins in
-    ap walk_end
-    (ap (walk (going None 0 [])) b.parts ∙ walk-append (going None 0 []) (lines_of l.so_far) l.rest
-    ∙ ap (λ (w : Walk). walk w l.rest) (walk_begun l.so_far b.begun))
+    ap walk_end (walk_front text l.so_far l.rest line b)
     ∙ fault_told l.so_far (length (items_of l.so_far)) l.rest why l.fault
     ∙ ap (λ (k : ℕ). Err (record { line = k; why = why })) (sym b.line_is)

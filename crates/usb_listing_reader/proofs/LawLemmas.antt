@@ -1,5 +1,5 @@
 -- Of all texts exactly one holds: a listing, or one fault at one line; and a listing has one file.
-use Rattle.std.proofs.Common.{◌≡◌, ◌≢◌, ℕ, ◌+◌, ◌==◌, ◌&&◌, Bool, true, false, cond, List, [], ◌∷◌, ◌++◌, Option, Some, None, Result, Ok, Err, length, refl, ap, sym, subst, ◌∙◌, append_assoc, append-nil, length-append}
+use Rattle.std.proofs.Common.{◌≡◌, ◌≢◌, ℕ, ◌+◌, ◌≤◌, ◌==◌, ◌&&◌, Bool, true, false, cond, List, [], ◌∷◌, ◌++◌, Option, Some, None, Result, Ok, Err, length, refl, ap, sym, subst, ◌∙◌, append_assoc, append-nil, length-append, arith}
 use Rattle.std.specs.Prelude.{IfErr}
 use Rattle.std.specs.List.{list_all}
 use Rattle.std.proofs.lemmas.Bool.{and_from, eqb-false, eqb-true}
@@ -12,9 +12,9 @@ use Rattle.usb_listing_reader.specs.declared.fault.ListFault.{ListFault}
 use Rattle.usb_listing_reader.specs.declared.fault.ListWhy.{ListWhy}
 use Rattle.usb_listing_reader.specs.declared.fault.ListWhy.TheVariants as whys
 use Rattle.usb_listing_reader.specs.ListingOrFault.{ListingOrFault, is_faulty, is_listing}
-use Rattle.usb_listing_reader.specs.Listings.{IsBegun, ListFaulty, ListRefused, Lists, RestFaulty, is_whole, items_of, lines_of}
-use Rattle.usb_listing_reader.specs.inside.Walking.{Walk, add_line, after_line, answer_of, going, stopped, walk, walk_byte}
-use Rattle.usb_listing_reader.proofs.AnswerLemmas.{answer_faulty, answer_listing}
+use Rattle.usb_listing_reader.specs.Listings.{IsBegun, ListFaulty, ListRefused, Lists, RestFaulty, is_whole, items_of, lines_of, IsLineStart}
+use Rattle.usb_listing_reader.specs.inside.Walking.{Walk, add_line, after_line, answer_of, going, stopped, walk, walk_byte, fault_behind, walk_end}
+use Rattle.usb_listing_reader.proofs.AnswerLemmas.{answer_faulty, answer_listing, walk_front}
 use Rattle.usb_listing_reader.proofs.ReadingLemmas.{lasting, lines_more}
 use Rattle.usb_listing_reader.proofs.WalkLemmas.{Lasts, Makes, Printable, makes}
 use Rattle.usb_listing_reader.proofs.WholeLemmas.{whole_file}
@@ -143,3 +143,58 @@ pub for_memory : (r : Result DescriptorFile ListFault) (text : List ℕ) (f : De
     → IfErr r (λ fault. fault.why ≡ whys.Memory)
 for_memory (Ok g) text f l h = tt
 for_memory (Err e) text f l h = want_of_memory text f e.line e.why l h
+
+-- ---- no line behind the first one at fault is reached
+
+-- how many lines stand before the one in work, or the one at fault
+abbrev lines_before : Walk → ℕ
+lines_before (going s n line) = n
+lines_before (stopped n why) = n
+
+no_fewer : (w : Walk) (x : ℕ) → lines_before w ≤ lines_before (walk_byte w x)
+unfolding walk_byte
+no_fewer (stopped n why) x = omega arith
+no_fewer (going s n line) x = cases (is_printable x) (x == 10)
+  where
+    fed : (r : Result DescriptorFile ListWhy) → n ≤ lines_before (after_line n r)
+    fed (Ok f) = omega arith
+    fed (Err why) = omega arith
+
+    cases : (a b : Bool) → n ≤ lines_before (cond a (going s n (line ++ x ∷ [])) (cond b (after_line n (add_line s line)) (stopped n whys.Line)))
+    cases true b = omega arith
+    cases false true = fed (add_line s line)
+    cases false false = omega arith
+
+none_fewer : (w : Walk) (text : List ℕ) → lines_before w ≤ lines_before (walk w text)
+none_fewer w [] = omega arith
+none_fewer w (x ∷ text) =
+    let one = no_fewer w x in
+    let more = none_fewer (walk_byte w x) text in
+    omega (arith, one, more)
+
+-- where the answer tells the fault
+abbrev told_line : Result DescriptorFile ListFault → ℕ
+told_line (Ok f) = 0
+told_line (Err e) = e.line
+
+end_told : (w : Walk) (e : ListFault) → walk_end w ≡ Err e → e.line ≡ lines_before w + 1
+end_told (stopped n why) e is = sym (ap told_line is)
+end_told (going s n (x ∷ line)) e is = sym (ap told_line is)
+end_told (going None n []) e is = sym (ap told_line is)
+end_told (going (Some f) n []) e is = cases (is_whole (Some f)) is
+  where
+    cases : (b : Bool) → cond b (Ok f) (Err (fault_behind n whys.Missing)) ≡ Err e → e.line ≡ n + 1
+    cases true is = cc
+    cases false is = sym (ap told_line is)
+
+pub reached : (text : List ℕ) (m n : ℕ) (why : ListWhy) → IsLineStart text m → ListFaulty text n why → m ≤ n
+unfolding answer_of
+reached text m n why start fault =
+    let b = start.begins in
+    let k = length (items_of start.so_far) in
+    let w = walk (going start.so_far k []) start.rest in
+    let walked : walk (going None 0 []) text ≡ w = walk_front text start.so_far start.rest m b in
+    let told : n ≡ lines_before w + 1 = end_told w (record { line = n; why = why }) (sym (ap walk_end walked) ∙ answer_faulty text n why fault) in
+    let more : k ≤ lines_before w = none_fewer (going start.so_far k []) start.rest in
+    let line = b.line_is in
+    omega (arith, told, more, line)

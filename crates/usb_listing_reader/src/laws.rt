@@ -1,10 +1,10 @@
 //! What holds of texts, files and faults, whoever reads the text. Each law is the contract of a function
 //! that does nothing.
-ghost use Rattle.std.specs.Prelude.{◌≡◌, ℕ, List};
+ghost use Rattle.std.specs.Prelude.{◌≡◌, ◌≤◌, ℕ, List};
 ghost use Rattle.usb_file_data.specs.declared.file.DescriptorFile.{DescriptorFile};
 ghost use Rattle.usb_listing_reader.specs.declared.fault.ListWhy.{ListWhy};
 ghost use Rattle.usb_listing_reader.specs.ListingOrFault.{ListingOrFault};
-ghost use Rattle.usb_listing_reader.specs.Listings.{ListFaulty, Lists};
+ghost use Rattle.usb_listing_reader.specs.Listings.{IsLineStart, ListFaulty, Lists};
 
 /// A text is the listing of one file at most, and a file has one listing at most.
 pub fn one_file()
@@ -17,4 +17,9 @@ pub fn one_answer()
     ensures some { (text : List ℕ) → ListingOrFault text }
     ensures one_fault { (text : List ℕ) (m n : ℕ) (v w : ListWhy) → ListFaulty text m v → ListFaulty text n w → (m ≡ n) × (v ≡ w) }
     ensures not_both { (text : List ℕ) (f : DescriptorFile) (line : ℕ) (why : ListWhy) → Lists text f → ListFaulty text line why → ⊥ }
+{}
+
+/// No line behind the first one at fault is reached: want of memory is told of it or of one before it.
+pub fn none_behind_the_fault()
+    ensures { (text : List ℕ) (m n : ℕ) (why : ListWhy) → IsLineStart text m → ListFaulty text n why → m ≤ n }
 {}
