@@ -57,7 +57,7 @@ fn may_follow_main(f: &DescriptorFile, word: Word) -> bool
         Word::Device | Word::OtherSpeed | Word::String => false,
         Word::Configuration => f.sets.len() < declared,
         Word::Interface | Word::Raw | Word::Association => !f.sets.is_empty(),
-        Word::Endpoint => has_interface(f.sets.as_slice()),
+        Word::Endpoint => has_interface(&f.sets),
         Word::Qualifier => f.sets.len() == declared,
         Word::Languages => f.sets.len() == declared && names_a_string(f),
     }
@@ -73,7 +73,7 @@ fn may_follow_other(f: &DescriptorFile, other: &Other, word: Word) -> bool
         Word::Device | Word::Configuration | Word::Qualifier | Word::String => false,
         Word::OtherSpeed => other.sets.len() < declared,
         Word::Interface | Word::Raw | Word::Association => !other.sets.is_empty(),
-        Word::Endpoint => has_interface(other.sets.as_slice()),
+        Word::Endpoint => has_interface(&other.sets),
         Word::Languages => other.sets.len() == declared && names_a_string(f),
     }
 }
