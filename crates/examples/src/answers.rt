@@ -1,6 +1,6 @@
 //! What comes of each call that a row can name.
 use crate::row::{Answer, Row};
-use crate::{fields, files, messages, program, sets};
+use crate::{failing, fields, files, messages, program, sets};
 use anyhow::{Result, bail};
 use std::alloc::Global;
 
@@ -10,6 +10,9 @@ pub(crate) fn answer(alloc: Global, row: &Row) -> Result<Answer> {
     let lines = row.lines.as_str();
     if row.call.as_str() == "usbdesc" {
         return program::usbdesc(alloc, words);
+    }
+    if row.call.as_str() == "build" {
+        return program::build(alloc, words, lines);
     }
     let text = match row.call.as_str() {
         "setup" => fields::setup(alloc, words)?,
@@ -25,11 +28,12 @@ pub(crate) fn answer(alloc: Global, row: &Row) -> Result<Answer> {
         "fronts" => files::fronts(alloc, words)?,
         "write" => files::write_lines(alloc, lines)?,
         "named" => files::named_lines(alloc, lines)?,
-        "failing_reads" => program::failing_reads(alloc, words)?,
-        "failing_writes" => program::failing_writes(alloc, words)?,
-        "failing_write" => program::failing_write(alloc, words)?,
-        "failing_flush" => program::failing_flush(alloc, words)?,
-        "endless" => program::endless(alloc, words)?,
+        "cuts" => program::cuts(alloc, lines)?,
+        "failing_reads" => failing::failing_reads(alloc, row)?,
+        "failing_writes" => failing::failing_writes(alloc, row)?,
+        "failing_write" => failing::failing_write(alloc, row)?,
+        "failing_flush" => failing::failing_flush(alloc, row)?,
+        "endless" => failing::endless(alloc, row)?,
         "message" => messages::message(alloc, words)?,
         call => bail!("no call is named {call}"),
     };

@@ -4,6 +4,7 @@
 #![tactic(auto)]
 
 mod answers;
+mod failing;
 mod fields;
 mod files;
 mod messages;
@@ -42,6 +43,10 @@ fn go_through<R: Files + AllocGlobal>(rt: &R, line: &str) -> Result<String> {
         real::go_through(rt, Kind::Set, name)
     } else if kind == "file" {
         real::go_through(rt, Kind::File, name)
+    } else if kind == "listing" {
+        real::build(rt, name)
+    } else if kind == "broken" {
+        real::refuse(rt, name)
     } else {
         bail!("neither rows nor an example")
     }

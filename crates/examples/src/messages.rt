@@ -172,6 +172,10 @@ fn of_tool(alloc: Global, number: u8) -> Result<Option<String>> {
             at: 45,
             why: FileWhy::Set(SetWhy::Over),
         }),
+        ToolFault::from(usb_file::ListFault {
+            line: 12,
+            why: usb_file::ListWhy::Field,
+        }),
         ToolFault::from(SetFault {
             at: 27,
             why: SetWhy::Over,

@@ -77,10 +77,16 @@ fn counted(part: &str) -> (usize, &str) {
 /// place 2 on, `..20` leaves the first 20, and `-` says nothing.
 pub(crate) fn bytes_of(alloc: Global, words: &[String]) -> Result<Vec<u8>> {
     let mut bytes = Vec::new(alloc);
-    for word in words {
-        put(&mut bytes, alloc, word.as_str()).context(format_args!("in {word}"))?;
-    }
+    change(alloc, &mut bytes, words)?;
     Ok(bytes)
+}
+
+/// Does with the bytes what the words say, one after another.
+pub(crate) fn change(alloc: Global, bytes: &mut Vec<u8>, words: &[String]) -> Result<()> {
+    for word in words {
+        put(bytes, alloc, word.as_str()).context(format_args!("in {word}"))?;
+    }
+    Ok(())
 }
 
 /// Does with the bytes what one word says.

@@ -126,23 +126,28 @@ help_unanswered name e = go (bytes_eq (codes "help") name) refl
     go false is = refl
     go true is = absurd (true≢false (sym ((bytes_eq-Decides name (codes "help")).1 (sym ((bytes_eq-Decides (codes "help") name).0 is))) ∙ e))
 
--- of three subcommands the last, `help`, isn't the one that is found
-module _ (x y z : Shape) (rest : List Text) (f : Shape → Bool) where
+-- of four subcommands the last, `help`, isn't the one that is found
+module _ (x y z help : Shape) (rest : List Text) (f : Shape → Bool) where
   abbrev found : Option (Text × List Row)
-  found = option_map (λ s. rows_at s rest) (find f (x ∷ y ∷ z ∷ []))
+  found = option_map (λ s. rows_at s rest) (find f (x ∷ y ∷ z ∷ help ∷ []))
 
-  asked_of_three : (a b : Bool) → x.name ≡ codes "show" → y.name ≡ codes "check" → f x ≡ a → f y ≡ b → f z ≡ false → is_some found ≡ true → (line : Line) × Asks line found
-  asked_of_three true b show check first second third some = (lines.Show, rw first (ap Some show))
-  asked_of_three false true show check first second third some = (lines.Check, rw (first, second) (ap Some check))
-  asked_of_three false false show check first second third some = absurd (true≢false (sym (rw (first, second, third) at some)))
+  asked_of_four : (a b c : Bool) → x.name ≡ codes "show" → y.name ≡ codes "check" → z.name ≡ codes "build"
+      → f x ≡ a → f y ≡ b → f z ≡ c → f help ≡ false → is_some found ≡ true → (line : Line) × Asks line found
+  asked_of_four true b c show check build first second third last some = (lines.Show, rw first (ap Some show))
+  asked_of_four false true c show check build first second third last some = (lines.Check, rw (first, second) (ap Some check))
+  asked_of_four false false true show check build first second third last some =
+      (lines.Build, rw (first, second, third) (ap Some build))
+  asked_of_four false false false show check build first second third last some =
+      absurd (true≢false (sym (rw (first, second, third, last) at some)))
 
--- `show`, `check` and the `help` that building adds
+-- `show`, `check`, `build` and the `help` that building adds
 abbrev sub : ℕ → Shape
 sub k = slice_index_or (built usbdesc_app).subs k help_shape
 
 asked_at : (stop : Option (Text × List Text)) → IsNoHelp stop → is_some (entered (built usbdesc_app) stop) ≡ true → (line : Line) × Asks line (entered (built usbdesc_app) stop)
 asked_at None other some = absurd (true≢false (sym some))
-asked_at (Some p) other some = asked_of_three (sub 0) (sub 1) (sub 2) p.1 (λ s. answers_to p.0 (label_of s)) _ _ refl refl refl refl (help_unanswered p.0 other) some
+asked_at (Some p) other some =
+    asked_of_four (sub 0) (sub 1) (sub 2) (sub 3) p.1 (λ s. answers_to p.0 (label_of s)) _ _ _ refl refl refl refl refl refl (help_unanswered p.0 other) some
 
 -- a subcommand is required
 command_met : (rows : List Row) (has : Bool) → check_fault (built usbdesc_app).top rows has ≡ [] → has ≡ true

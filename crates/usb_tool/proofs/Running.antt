@@ -4,31 +4,29 @@ use Rattle.std.specs.Global.{Global}
 use Rattle.std.specs.Prelude.{IfErr, IfOk, OnOk, String}
 use Rattle.clap.specs.Words.{subcommand_of}
 use Rattle.usb_listing.specs.Output.{Held}
-use Rattle.usb_tool.specs.Checks.{CheckFails, Checked}
 use Rattle.usb_tool.specs.Faults.{status_of}
 use Rattle.usb_tool.specs.Input.{Left}
 use Rattle.usb_tool.specs.Lines.{Asks, usbdesc_app, word_texts}
-use Rattle.usb_tool.specs.Runs.{Runs}
-use Rattle.usb_tool.specs.Shows.{ShowFails, Shown}
+use Rattle.usb_tool.specs.Runs.{Ends, Failure, Silently, Work}
 use Rattle.usb_tool.specs.declared.fault.ToolFault.{ToolFault}
-use Rattle.usb_tool.specs.declared.line.Line.TheVariants as lines
+use Rattle.usb_tool.specs.declared.line.Line.{Line}
 
--- a run that was asked to show ends as `show` does
-pub runs_show : (words : List (String Global)) (from to : Left) (held holds : Held) (outcome : Result ℕ ToolFault) (status : ℕ)
-    → Asks lines.Show (subcommand_of usbdesc_app (word_texts words))
-    → IfOk outcome (λ number. number ≡ 0) → OnOk outcome (Shown from to held holds) → IfErr outcome (ShowFails from to held holds)
-    → status ≡ status_of outcome → Runs words from to held holds status
-runs_show words from to held holds (Ok number) status asked zero shown fails ended =
-    inl (record { asked = asked; shown = shown; ended = ended ∙ zero })
-runs_show words from to held holds (Err fault) status asked zero shown fails ended =
-    inr (inl (record { fault = fault; asked = asked; fails = fails; ended = ended }))
+module _ (line : Line) (words : List (String Global)) (from to : Left) (held holds : Held) (status : ℕ) where
+  -- a run that was asked for a command ends as the command does
+  pub runs_command : (does : Work) (fails : Failure) (outcome : Result ℕ ToolFault) → Asks line (subcommand_of usbdesc_app (word_texts words))
+      → IfOk outcome (does from to held holds) → IfErr outcome (fails from to held holds) → status ≡ status_of outcome
+      → Ends line does fails words from to held holds status
+  runs_command does fails (Ok number) asked done failed ended =
+      inl (record { asked = asked; done = subst (does from to held holds) (sym ended) done })
+  runs_command does fails (Err fault) asked done failed ended =
+      inr (record { fault = fault; asked = asked; failed = failed; ended = ended })
 
--- a run that was asked to check ends as `check` does
-pub runs_check : (words : List (String Global)) (from to : Left) (held holds : Held) (outcome : Result ℕ ToolFault) (status : ℕ)
-    → Asks lines.Check (subcommand_of usbdesc_app (word_texts words))
-    → IfOk outcome (Checked from to held holds) → IfErr outcome (CheckFails from to held holds)
-    → status ≡ status_of outcome → Runs words from to held holds status
-runs_check words from to held holds (Ok number) status asked checked fails ended =
-    inr (inr (inl (record { asked = asked; checked = subst (λ s. Checked from to held holds s) (sym ended) checked })))
-runs_check words from to held holds (Err fault) status asked checked fails ended =
-    inr (inr (inr (inl (record { fault = fault; asked = asked; fails = fails; ended = ended }))))
+  -- and of a command whose number is 0
+  pub runs_silently : (does : Left → Left → Held → Held → Type 0) (fails : Failure) (outcome : Result ℕ ToolFault)
+      → Asks line (subcommand_of usbdesc_app (word_texts words)) → IfOk outcome (λ number. number ≡ 0)
+      → OnOk outcome (does from to held holds) → IfErr outcome (fails from to held holds) → status ≡ status_of outcome
+      → Ends line (Silently does) fails words from to held holds status
+  runs_silently does fails (Ok number) asked zero done failed ended =
+      inl (record { asked = asked; done = (done, ended ∙ zero) })
+  runs_silently does fails (Err fault) asked zero done failed ended =
+      inr (record { fault = fault; asked = asked; failed = failed; ended = ended })

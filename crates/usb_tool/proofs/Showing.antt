@@ -38,6 +38,7 @@ no_set_is_refused b held faults.Read h one = elim h [ ]
 no_set_is_refused b held faults.Write h one = elim h [ ]
 no_set_is_refused b held faults.TooLarge h one = elim h [ ]
 no_set_is_refused b held (faults.File fault) h one = elim h [ ]
+no_set_is_refused b held (faults.List fault) h one = elim h [ ]
 
 -- bytes whose listing was not written to its end
 pub output_is_refused : (b : List ℕ) (held holds : Held) (o : OutFault) → WritesListingFront b held holds → RefusesToShow b held holds (fault_of_output o)

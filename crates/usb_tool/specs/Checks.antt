@@ -5,13 +5,13 @@ use Rattle.std.specs.Io.KnownBytes.{Appends, Keeps}
 use Rattle.usb_file_data.specs.declared.file.DescriptorFile.{DescriptorFile}
 use Rattle.usb_file_data.specs.File.{File}
 use Rattle.usb_file.specs.FileFaults.{FileFaulty}
+use Rattle.usb_file.specs.declared.laws.TheConstants.{FILE_LIMIT}
 use Rattle.usb_listing.specs.Output.{AppendsFront, Held}
 use Rattle.usb_rules.specs.FindingLine.{finding_line}
 use Rattle.usb_rules.specs.Findings.{findings}
 use Rattle.usb_rules.specs.declared.finding.Finding.{Finding}
-use Rattle.usb_tool.specs.Failing.{Fails}
-use Rattle.usb_tool.specs.Input.{Left, ReadsAll}
-use Rattle.usb_tool.specs.Shows.{file_limit}
+use Rattle.usb_tool.specs.Failing.{Fails, Succeeds}
+use Rattle.usb_tool.specs.Input.{Left}
 use Rattle.usb_tool.specs.declared.fault.ToolFault.{ToolFault}
 use Rattle.usb_tool.specs.declared.fault.ToolFault.TheVariants as faults
 
@@ -52,11 +52,9 @@ pub record WritesFront (b : List ℕ) (held holds : Held) : Type 0 where
   pub are : AreFindings b found
   pub written : AppendsFront held holds (check_text found)
 
--- all was read and checked
-pub record Checked (from to : Left) (held holds : Held) (status : ℕ) : Type 0 where
-  pub bytes : List ℕ
-  pub read : ReadsAll file_limit from to bytes
-  pub written : WritesChecked bytes held holds status
+-- all was read, at most what a file can have, and checked
+abbrev pub Checked : Left → Left → Held → Held → ℕ → Type 0
+Checked from to held holds status = Succeeds FILE_LIMIT (λ b held holds. WritesChecked b held holds status) from to held holds
 
 -- How bytes are not checked: a front of what is found was written where a write failed, and else nothing.
 abbrev pub RefusesToCheck : List ℕ → Held → Held → ToolFault → Type 0
@@ -67,4 +65,4 @@ RefusesToCheck b held holds fault = ⊥
 
 -- how `check` fails
 abbrev pub CheckFails : Left → Left → Held → Held → ToolFault → Type 0
-CheckFails = Fails file_limit RefusesToCheck
+CheckFails = Fails FILE_LIMIT RefusesToCheck

@@ -1,10 +1,16 @@
--- How a command fails that reads all of its input before it writes.
+-- How a command ends that reads all of its input before it writes.
 use Rattle.std.specs.Prelude.{ℕ, ◌⊎◌, List}
 use Rattle.std.specs.Io.KnownBytes.{Keeps}
 use Rattle.usb_listing.specs.Output.{Held}
 use Rattle.usb_tool.specs.Input.{Left, ReadsAll, ReadsMore, ReadsSome}
 use Rattle.usb_tool.specs.declared.fault.ToolFault.{ToolFault}
 use Rattle.usb_tool.specs.declared.fault.ToolFault.TheVariants as faults
+
+-- all was read, and this was done with it
+pub record Succeeds (limit : ℕ) (does : List ℕ → Held → Held → Type 0) (from to : Left) (held holds : Held) : Type 0 where
+  pub bytes : List ℕ
+  pub read : ReadsAll limit from to bytes
+  pub written : does bytes held holds
 
 -- how a command refuses bytes: what it has written then, and its fault
 abbrev pub Refusal : Type 1

@@ -11,6 +11,10 @@ use Rattle.usb_file.specs.Numbers.{why_number}
 use Rattle.usb_file.specs.declared.fault.FileFault.{FileFault}
 use Rattle.usb_file.specs.declared.fault.FileWhy.{FileWhy}
 use Rattle.usb_file.specs.declared.fault.FileWhy.TheVariants as files
+use Rattle.usb_listing_reader.specs.Numbers.{why_number as list_why_number}
+use Rattle.usb_listing_reader.specs.declared.fault.ListFault.{ListFault}
+use Rattle.usb_listing_reader.specs.declared.fault.ListWhy.{ListWhy}
+use Rattle.usb_listing_reader.specs.declared.fault.ListWhy.TheVariants as lists
 use Rattle.usb_listing.specs.declared.output.OutFault.{OutFault}
 use Rattle.usb_listing.specs.declared.output.OutFault.TheVariants as outs
 
@@ -20,6 +24,7 @@ fault_number faults.Read = 1
 fault_number faults.Write = 2
 fault_number faults.TooLarge = 3
 fault_number (faults.File fault) = 4
+fault_number (faults.List fault) = 5
 fault_number (faults.Set fault) = 6
 fault_number (faults.Trailing at) = 7
 fault_number faults.Memory = 8
@@ -31,6 +36,8 @@ fault_line faults.Write = codes "usbdesc: write failed"
 fault_line faults.TooLarge = codes "usbdesc: input too large"
 fault_line (faults.File fault) =
     codes "usbdesc: file fault " ++ decimal (why_number fault.why) ++ codes " at " ++ decimal fault.at
+fault_line (faults.List fault) =
+    codes "usbdesc: listing fault " ++ decimal (list_why_number fault.why) ++ codes " line " ++ decimal fault.line
 fault_line (faults.Set fault) =
     codes "usbdesc: set fault " ++ decimal (set_why_number fault.why) ++ codes " at " ++ decimal fault.at
 fault_line (faults.Trailing at) = codes "usbdesc: trailing bytes at " ++ decimal at
@@ -51,6 +58,14 @@ file_fault_by_why _ fault = faults.File fault
 
 abbrev pub fault_of_file : FileFault → ToolFault
 fault_of_file fault = file_fault_by_why fault.why fault
+
+-- and as a listing is read, and any other fault is one of the listing
+abbrev pub list_fault_by_why : ListWhy → ListFault → ToolFault
+list_fault_by_why lists.Memory fault = faults.Memory
+list_fault_by_why _ fault = faults.List fault
+
+abbrev pub fault_of_list : ListFault → ToolFault
+fault_of_list fault = list_fault_by_why fault.why fault
 
 -- a listing that was not written to its end
 abbrev pub fault_of_output : OutFault → ToolFault

@@ -1,9 +1,10 @@
 pub mod Input
 pub mod Sets
 pub mod Faults
-pub mod Shows
 pub mod Failing
+pub mod Shows
 pub mod Checks
+pub mod Builds
 pub mod Lines
 pub mod Runs
 pub mod inside

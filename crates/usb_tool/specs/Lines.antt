@@ -11,7 +11,9 @@ requiring a = record a { top = record a.top { subcommand_required = true } }
 
 -- the command `usbdesc` with its subcommands
 abbrev pub usbdesc_app : App
-usbdesc_app = with_subcommand (with_subcommand (requiring (new_app (codes "usbdesc"))) (new_app (codes "show")).top) (new_app (codes "check")).top
+usbdesc_app =
+    with_subcommand (with_subcommand (with_subcommand (requiring (new_app (codes "usbdesc"))) (new_app (codes "show")).top)
+    (new_app (codes "check")).top) (new_app (codes "build")).top
 
 -- a subcommand of this name was found
 abbrev pub IsNamed : Text → Option (Text × List Row) → Type 0
@@ -21,6 +23,7 @@ IsNamed name found = option_map (λ p. p.0) found ≡ Some name
 abbrev pub Asks : Line → Option (Text × List Row) → Type 0
 Asks lines.Show found = IsNamed (codes "show") found
 Asks lines.Check found = IsNamed (codes "check") found
+Asks lines.Build found = IsNamed (codes "build") found
 
 -- the words as clap sees them
 abbrev pub word_texts : List (String Global) → List Text

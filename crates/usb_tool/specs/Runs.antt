@@ -7,11 +7,13 @@ use Rattle.clap.specs.Words.{fault_of, subcommand_of}
 use Rattle.clap.specs.declared.error.kind.ErrorKind.{ErrorKind}
 use Rattle.clap.specs.declared.error.kind.ErrorKind.TheVariants as kinds
 use Rattle.usb_listing.specs.Output.{Held}
+use Rattle.usb_tool.specs.Builds.{BuildFails, Built}
 use Rattle.usb_tool.specs.Checks.{CheckFails, Checked}
 use Rattle.usb_tool.specs.Input.{Left}
 use Rattle.usb_tool.specs.Lines.{Asks, usbdesc_app, word_texts}
 use Rattle.usb_tool.specs.Shows.{Shown, ShowFails}
 use Rattle.usb_tool.specs.declared.fault.ToolFault.{ToolFault}
+use Rattle.usb_tool.specs.declared.line.Line.{Line}
 use Rattle.usb_tool.specs.declared.line.Line.TheVariants as lines
 
 -- the exit status of a line that is no command: 0 where it asks for help, else 2
@@ -26,30 +28,34 @@ KeepsUnlessHelp kinds.DisplayHelp held holds = Unit {0}
 KeepsUnlessHelp kinds.DisplayVersion held holds = Unit {0}
 KeepsUnlessHelp _ held holds = Keeps held holds
 
--- the words ask for `show`, which did its work
-pub record ShowSucceeds (words : List (String Global)) (from to : Left) (held holds : Held) (status : ℕ) : Type 0 where
-  pub asked : Asks lines.Show (subcommand_of usbdesc_app (word_texts words))
-  pub shown : Shown from to held holds
-  pub ended : status ≡ 0
+-- what a command does with its input and its output, and its number
+abbrev pub Work : Type 1
+Work = Left → Left → Held → Held → ℕ → Type 0
 
--- the words ask for `show`, which failed
-pub record ShowIsRefused (words : List (String Global)) (from to : Left) (held holds : Held) (status : ℕ) : Type 0 where
+-- how a command fails
+abbrev pub Failure : Type 1
+Failure = Left → Left → Held → Held → ToolFault → Type 0
+
+-- the words ask for this, and it was done
+pub record IsDone (line : Line) (does : Work) (words : List (String Global)) (from to : Left) (held holds : Held) (status : ℕ) : Type 0 where
+  pub asked : Asks line (subcommand_of usbdesc_app (word_texts words))
+  pub done : does from to held holds status
+
+-- the words ask for this, and it failed
+pub record IsRefused (line : Line) (fails : Failure) (words : List (String Global)) (from to : Left) (held holds : Held) (status : ℕ) : Type 0 where
   pub fault : ToolFault
-  pub asked : Asks lines.Show (subcommand_of usbdesc_app (word_texts words))
-  pub fails : ShowFails from to held holds fault
+  pub asked : Asks line (subcommand_of usbdesc_app (word_texts words))
+  pub failed : fails from to held holds fault
   pub ended : status ≡ 3
 
--- the words ask for `check`, which did its work
-pub record CheckSucceeds (words : List (String Global)) (from to : Left) (held holds : Held) (status : ℕ) : Type 0 where
-  pub asked : Asks lines.Check (subcommand_of usbdesc_app (word_texts words))
-  pub checked : Checked from to held holds status
+-- the words ask for this, and it was done or it failed
+abbrev pub Ends : Line → Work → Failure → List (String Global) → Left → Left → Held → Held → ℕ → Type 0
+Ends line does fails words from to held holds status =
+    IsDone line does words from to held holds status ⊎ IsRefused line fails words from to held holds status
 
--- the words ask for `check`, which failed
-pub record CheckIsRefused (words : List (String Global)) (from to : Left) (held holds : Held) (status : ℕ) : Type 0 where
-  pub fault : ToolFault
-  pub asked : Asks lines.Check (subcommand_of usbdesc_app (word_texts words))
-  pub fails : CheckFails from to held holds fault
-  pub ended : status ≡ 3
+-- a command whose number is 0 where it did this
+abbrev pub Silently : (Left → Left → Held → Held → Type 0) → Work
+Silently does from to held holds status = does from to held holds × (status ≡ 0)
 
 -- the words are no command, for one of the reasons that clap has or for want of memory; nothing is read
 pub record LineIsRefused (words : List (String Global)) (from to : Left) (held holds : Held) (status : ℕ) : Type 0 where
@@ -62,8 +68,7 @@ pub record LineIsRefused (words : List (String Global)) (from to : Left) (held h
 -- what a run has done, and its exit status
 abbrev pub Runs : List (String Global) → Left → Left → Held → Held → ℕ → Type 0
 Runs words from to held holds status =
-    ShowSucceeds words from to held holds status
-    ⊎ (ShowIsRefused words from to held holds status
-    ⊎ (CheckSucceeds words from to held holds status
-    ⊎ (CheckIsRefused words from to held holds status
-    ⊎ LineIsRefused words from to held holds status)))
+    Ends lines.Show (Silently Shown) ShowFails words from to held holds status
+    ⊎ (Ends lines.Check Checked CheckFails words from to held holds status
+    ⊎ (Ends lines.Build (Silently Built) BuildFails words from to held holds status
+    ⊎ LineIsRefused words from to held holds status))

@@ -6,17 +6,15 @@ use Rattle.usb_set.specs.Layout.{Layout}
 use Rattle.usb_file_data.specs.declared.file.DescriptorFile.{DescriptorFile}
 use Rattle.usb_file_data.specs.File.{File}
 use Rattle.usb_file.specs.FileFaults.{FileFaulty}
+use Rattle.usb_file.specs.declared.laws.TheConstants.{FILE_LIMIT}
 use Rattle.usb_listing.specs.Listing.{file_lines}
 use Rattle.usb_listing.specs.Output.{AppendsFront, Held}
 use Rattle.usb_listing.specs.SetListing.{set_lines}
-use Rattle.usb_tool.specs.Input.{Left, ReadsAll, ReadsMore, ReadsSome}
+use Rattle.usb_tool.specs.Failing.{Fails, Succeeds}
+use Rattle.usb_tool.specs.Input.{Left}
 use Rattle.usb_tool.specs.Sets.{GoesOn, HasFault}
 use Rattle.usb_tool.specs.declared.fault.ToolFault.{ToolFault}
 use Rattle.usb_tool.specs.declared.fault.ToolFault.TheVariants as faults
-
--- The most bytes that a descriptor file can have, which is what the program reads of any input.
-abbrev pub file_limit : ℕ
-file_limit = 41584152
 
 -- Whether bytes are read as one set: the second one is the type of a configuration descriptor or of an
 -- other-speed one (USB 2.0, table 9-5). All else is read as a file.
@@ -64,23 +62,10 @@ RefusesToShow b held holds faults.Write = WritesListingFront b held holds
 RefusesToShow b held holds faults.Memory = Keeps held holds ⊎ WritesListingFront b held holds
 RefusesToShow b held holds fault = ⊥
 
--- all was read, and its listing was written
-pub record Shown (from to : Left) (held holds : Held) : Type 0 where
-  pub bytes : List ℕ
-  pub read : ReadsAll file_limit from to bytes
-  pub written : WritesListing bytes held holds
+-- all was read, at most what a file can have, and its listing was written
+abbrev pub Shown : Left → Left → Held → Held → Type 0
+Shown = Succeeds FILE_LIMIT WritesListing
 
--- all was read, but not shown
-pub record ReadsInVain (from to : Left) (held holds : Held) (fault : ToolFault) : Type 0 where
-  pub bytes : List ℕ
-  pub read : ReadsAll file_limit from to bytes
-  pub refused : RefusesToShow bytes held holds fault
-
--- How `show` fails: nothing was written before all was read, and at most the limit was read before a read or a
--- growth failed.
+-- how `show` fails
 abbrev pub ShowFails : Left → Left → Held → Held → ToolFault → Type 0
-ShowFails from to held holds faults.Read = ReadsSome file_limit from to × Keeps held holds
-ShowFails from to held holds faults.TooLarge = ReadsMore file_limit from to × Keeps held holds
-ShowFails from to held holds faults.Memory =
-    (ReadsSome file_limit from to × Keeps held holds) ⊎ ReadsInVain from to held holds faults.Memory
-ShowFails from to held holds fault = ReadsInVain from to held holds fault
+ShowFails = Fails FILE_LIMIT RefusesToShow

@@ -1,26 +1,27 @@
 //! The command `check`.
-ghost use Rattle.std.specs.Prelude.{◌≡◌, ◌++◌, IfErr, IfOk, OnErr, OnOk};
-ghost use Rattle.std.specs.Io.KnownBytes.{Appends};
-ghost use Rattle.usb_listing.specs.Output.{AppendsFront};
+ghost use Rattle.std.specs.Prelude.{◌≡◌, ◌++◌, IfErr, IfOk, OnOk};
 ghost use Rattle.usb_tool.specs.Checks.{CheckFails, Checked, RefusesToCheck, WritesChecked, check_status, check_text, finding_line_end, finding_lines};
 
 use crate::fault::ToolFault;
+use crate::output::write_flushed;
 use crate::whole::read_all;
 use std::alloc::{AllocError, Global};
 use std::io::{Read, Write};
-use usb_file::read_file;
-use usb_listing::{OutFault, write_all};
-use usb_rules::{Finding, check};
-
-/// The most bytes that a descriptor file can have.
-const FILE_LIMIT: usize = 41_584_152;
+use usb_file::{FILE_LIMIT, Finding, check, read_file};
 
 /// Reads a descriptor file to its end, and writes a line for each thing in it that breaks a rule of chapter
 /// 9, or `no findings`. The number in `Ok` is 1 where there is a finding, and else 0.
 ///
+/// ```rust
+/// let mut input: &[u8] = &[18, 1, 0, 2, 0, 0, 0, 64, 0x34, 0x12, 0x78, 0x56, 0, 1, 0, 0, 0, 0];
+/// let mut lines = Vec::new(alloc);
+/// assert_eq!(rt; run_check(alloc, &mut input, &mut lines)?, 1);
+/// assert_eq!(rt; lines.as_slice(), b"V10 main 0 0 0\n");
+/// ```
+///
 /// # Errors
 ///
-/// `Read` where the reader failed, `TooLarge` at the first byte over 41,584,152, and `File` with the fault of
+/// `Read` where the reader failed, `TooLarge` at the first byte over [`FILE_LIMIT`], and `File` with the fault of
 /// the whole input. Nothing is written then. `Write` where the writer or its flush failed, and `Memory` where
 /// a growth was refused; a front of the text is written then, or nothing.
 pub fn run_check<R: Read, W: Write>(alloc: Global, r: &mut R, w: &mut W) -> Result<u8, ToolFault>
@@ -39,20 +40,9 @@ fn check_bytes<W: Write>(alloc: Global, bytes: &[u8], w: &mut W) -> Result<u8, T
     let file = read_file(alloc, bytes)?;
     let found = check(alloc, &file)?;
     let text = text_of(alloc, found.as_slice())?;
-    match write_text(w, text.as_slice()) {
+    match write_flushed(w, text.as_slice()) {
         Ok(()) => Ok(status_of(found.as_slice())),
         Err(_) => Err(ToolFault::Write),
-    }
-}
-
-fn write_text<W: Write>(w: &mut W, text: &[u8]) -> Result<(), OutFault>
-    ensures ok { OnOk result (Appends (W.contents w.old) (W.contents w.new) text.now) }
-    ensures err { OnErr result (AppendsFront (W.contents w.old) (W.contents w.new) text.now) }
-{
-    write_all(w, text)?;
-    match w.flush() {
-        Ok(()) => Ok(()),
-        Err(_) => Err(OutFault::Write),
     }
 }
 

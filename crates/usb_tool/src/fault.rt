@@ -1,12 +1,12 @@
 //! Why a command of the program failed, and what it says of that.
 ghost use Rattle.std.specs.Prelude.{◌≡◌, Some};
-ghost use Rattle.usb_tool.specs.Faults.{fault_line, fault_number, fault_of_file, fault_of_output, fault_of_set, status_of};
+ghost use Rattle.usb_tool.specs.Faults.{fault_line, fault_number, fault_of_file, fault_of_list, fault_of_output, fault_of_set, status_of};
 ghost use Rattle.usb_tool.specs.declared.fault.ToolFault.TheVariants.{Memory};
 
 use std::alloc::AllocError;
 use std::error::Error;
 use std::fmt;
-use usb_file::{FileFault, FileWhy, OutFault};
+use usb_file::{FileFault, FileWhy, ListFault, ListWhy, OutFault};
 use usb_set::{SetFault, SetWhy};
 
 /// Why a command did not do its work.
@@ -20,6 +20,8 @@ pub enum ToolFault {
     TooLarge,
     /// The input is no descriptor file.
     File(FileFault),
+    /// The input is no listing of a descriptor file.
+    List(ListFault),
     /// The input is no configuration set.
     Set(SetFault),
     /// The input goes on after its set: the place of the first byte after it.
@@ -29,7 +31,11 @@ pub enum ToolFault {
 }
 
 impl ToolFault {
-    /// The fault's number. 5 is for listings.
+    /// The fault's number, from 1 to 8.
+    ///
+    /// ```rust
+    /// assert_eq!(rt; ToolFault::Trailing(34).number(), 7);
+    /// ```
     pub fn number(&self) -> u8
         ensures { result ≡ fault_number self.now }
     {
@@ -38,6 +44,7 @@ impl ToolFault {
             ToolFault::Write => 2,
             ToolFault::TooLarge => 3,
             ToolFault::File(_) => 4,
+            ToolFault::List(_) => 5,
             ToolFault::Set(_) => 6,
             ToolFault::Trailing(_) => 7,
             ToolFault::Memory => 8,
@@ -58,6 +65,11 @@ impl fmt::Display for ToolFault {
                 let number = fault.why.number();
                 let at = fault.at;
                 write!(f, "usbdesc: file fault {number} at {at}")
+            }
+            ToolFault::List(fault) => {
+                let number = fault.why.number();
+                let line = fault.line;
+                write!(f, "usbdesc: listing fault {number} line {line}")
             }
             ToolFault::Set(fault) => {
                 let number = fault.why.number();
@@ -104,6 +116,18 @@ impl From<FileFault> for ToolFault {
     }
 }
 
+/// And as a listing is read.
+impl From<ListFault> for ToolFault {
+    ghost from_gives = { λ e fault. fault ≡ fault_of_list e };
+
+    fn from(e: ListFault) -> ToolFault {
+        match e.why {
+            ListWhy::Memory => ToolFault::Memory,
+            _ => ToolFault::List(e),
+        }
+    }
+}
+
 impl From<OutFault> for ToolFault {
     ghost from_gives = { λ e fault. fault ≡ fault_of_output e };
 
@@ -116,6 +140,11 @@ impl From<OutFault> for ToolFault {
 }
 
 /// The exit status of the program: the command's own number, or 3 after a fault.
+///
+/// ```rust
+/// assert_eq!(rt; verdict(&Ok(1)), 1);
+/// assert_eq!(rt; verdict(&Err(ToolFault::Memory)), 3);
+/// ```
 pub fn verdict(r: &Result<u8, ToolFault>) -> u8
     ensures { result ≡ status_of r.now }
 {

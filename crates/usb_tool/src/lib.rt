@@ -3,7 +3,9 @@
 //! [`run_show`] reads a configuration set or a descriptor file to the end of its input and writes its
 //! listing, a line for each descriptor. Its contract speaks of the bytes that the reader has and of
 //! those that the writer gains, where the two tell them: `specs/Shows.antt` says what it does, fault by
-//! fault. What each line says stands in the crate `usb_file`.
+//! fault. What each line says stands in the crate `usb_listing`. [`run_check`] writes what breaks a rule of
+//! chapter 9 in a file (`specs/Checks.antt`), and [`run_build`] reads a listing and writes the bytes of its file
+//! (`specs/Builds.antt`).
 //!
 //! [`run`] is the whole program over any standard streams: [`read_line`] reads its command line,
 //! [`ToolFault`] says why a command failed, and [`verdict`] gives the exit status. What a run does is
@@ -13,16 +15,19 @@
 //! It and its [`laws`] stand in the crate `usb_bus`.
 #![tactic(auto)]
 
+mod build;
 mod check;
 mod fault;
 mod input;
 mod intake;
 mod line;
+mod output;
 mod program;
 mod set_intake;
 mod show;
 mod whole;
 
+pub use build::{LISTING_LIMIT, run_build};
 pub use check::run_check;
 pub use fault::{ToolFault, verdict};
 pub use line::{Line, read_line};

@@ -1,6 +1,6 @@
 //! The command line of `usbdesc`.
 ghost use Rattle.std.specs.Prelude.{◌≡◌, IfOk};
-ghost use Rattle.clap.specs.Words.{app_of, fault_of, subcommand_of, subcommand_rows_of};
+ghost use Rattle.clap.specs.Words.{app_of, fault_of, new_app, subcommand_of, subcommand_rows_of, with_subcommand};
 ghost use Rattle.clap.specs.Kinds.{FailsBy};
 ghost use Rattle.usb_tool.specs.Lines.{Asks, word_texts, usbdesc_app};
 
@@ -14,9 +14,16 @@ pub enum Line {
     Show,
     /// What breaks a rule of chapter 9 in the file that is the input.
     Check,
+    /// The bytes of the file whose listing is the input.
+    Build,
 }
 
 /// What the words ask for, of which the first is the program's name.
+///
+/// ```rust
+/// let words = vec![in alloc; String::from_str(alloc, "usbdesc")?, String::from_str(alloc, "build")?]?;
+/// assert_eq!(rt; read_line(alloc, &words)?, Line::Build);
+/// ```
 ///
 /// # Errors
 ///
@@ -47,9 +54,14 @@ fn line_of(matches: &ArgMatches) -> Line
     match matches.subcommand() {
         Some((name, _)) if name == "show" => Line::Show,
         Some((name, _)) if name == "check" => Line::Check,
+        Some((name, _)) if name == "build" => Line::Build,
         _ => unreachable!(),
     }
 }
+
+/// What `show` does.
+const SHOW_ABOUT: &str =
+    "Lists the configuration set or descriptor file on standard input, a line for each descriptor";
 
 /// What stands below the help of `show`.
 const SHOW_HELP: &str = "\
@@ -64,6 +76,10 @@ Exit status:
   2  the command line is no command
   3  reading, the input or writing is at fault; standard error says how";
 
+/// What `check` does.
+const CHECK_ABOUT: &str =
+    "Checks the descriptor file on standard input by the rules of chapter 9, a line for each finding";
+
 /// What stands below the help of `check`.
 const CHECK_HELP: &str = "\
 Input:
@@ -77,22 +93,43 @@ Exit status:
   2  the command line is no command
   3  reading, the input or writing is at fault; standard error says how";
 
+/// What `build` does.
+const BUILD_ABOUT: &str =
+    "Builds the bytes of the descriptor file whose listing is on standard input";
+
+/// What stands below the help of `build`.
+const BUILD_HELP: &str = "\
+Input:
+  The listing of a descriptor file, as 'show' writes it: a line for each descriptor, in the
+  order of the file. It may have been written or changed by hand.
+
+Exit status:
+  0  the bytes of the file are written
+  2  the command line is no command
+  3  reading, the listing or writing is at fault; standard error says how, and of a listing
+     the number of the fault and the first line at fault";
+
+/// The command with one more subcommand, which takes no words of its own.
+fn add<'a>(
+    alloc: Global,
+    command: Command<'a>,
+    name: &'a str,
+    about: &'a str,
+    help: &'a str,
+) -> Result<Command<'a>, AllocError>
+    ensures { IfOk result (λ c. app_of c ≡ with_subcommand (app_of command.entry) (new_app name.entry.now).top) }
+{
+    let subcommand = Command::new(alloc, name).about(about).after_help(help);
+    command.subcommand(subcommand)
+}
+
 fn command<'a>(alloc: Global) -> Result<Command<'a>, AllocError>
     ensures { IfOk result (λ c. app_of c ≡ usbdesc_app) }
 {
-    let show = Command::new(alloc, "show")
-        .about(
-            "Lists the configuration set or descriptor file on standard input, a line for each descriptor",
-        )
-        .after_help(SHOW_HELP);
-    let check = Command::new(alloc, "check")
-        .about(
-            "Checks the descriptor file on standard input by the rules of chapter 9, a line for each finding",
-        )
-        .after_help(CHECK_HELP);
-    Command::new(alloc, "usbdesc")
-        .about("Lists and checks USB 2.0 descriptors")
-        .subcommand_required(true)
-        .subcommand(show)?
-        .subcommand(check)
+    let usbdesc = Command::new(alloc, "usbdesc")
+        .about("Lists, checks and builds USB 2.0 descriptors")
+        .subcommand_required(true);
+    let usbdesc = add(alloc, usbdesc, "show", SHOW_ABOUT, SHOW_HELP)?;
+    let usbdesc = add(alloc, usbdesc, "check", CHECK_ABOUT, CHECK_HELP)?;
+    add(alloc, usbdesc, "build", BUILD_ABOUT, BUILD_HELP)
 }

@@ -4,6 +4,7 @@ ghost use Rattle.clap.specs.Values.{kind_of};
 ghost use Rattle.usb_tool.specs.Faults.{status_of};
 ghost use Rattle.usb_tool.specs.Runs.{KeepsUnlessHelp, Runs, line_status};
 
+use crate::build::run_build;
 use crate::check::run_check;
 use crate::fault::{ToolFault, verdict};
 use crate::line::{Line, read_line};
@@ -19,6 +20,14 @@ const USAGE: u8 = 2;
 /// standard output and `e` standard error. The result is the exit status: 0 where the command did its work
 /// or help was asked for, 1 where `check` did and has a finding, 2 where the words are no command, and 3 where
 /// the command failed, whose fault's line is then written to `e`. What cannot be written to `e` is lost.
+///
+/// ```rust
+/// let words = vec![in alloc; String::from_str(alloc, "usbdesc")?, String::from_str(alloc, "build")?]?;
+/// let mut listing: &[u8] = b"device 0200\n";
+/// let (mut output, mut errors) = (Vec::new(alloc), Vec::new(alloc));
+/// assert_eq!(rt; run(alloc, &words, &mut listing, &mut output, &mut errors), 3);
+/// assert_eq!(rt; errors.as_slice(), b"usbdesc: listing fault 4 line 1\n");
+/// ```
 pub fn run<R: Read, W: Write, E: Write>(
     alloc: Global,
     words: &[String],
@@ -31,6 +40,7 @@ pub fn run<R: Read, W: Write, E: Write>(
     match read_line(alloc, words) {
         Ok(Line::Show) => finish(&run_show(alloc, r, w), e),
         Ok(Line::Check) => finish(&run_check(alloc, r, w), e),
+        Ok(Line::Build) => finish(&run_build(alloc, r, w), e),
         Err(error) => explain(&error, w, e),
     }
 }

@@ -9,10 +9,7 @@ use crate::intake::Intake;
 use crate::set_intake::SetIntake;
 use std::alloc::Global;
 use std::io::{Read, Write};
-use usb_file::{list, list_set, read_file};
-
-/// The most bytes that a descriptor file can have.
-const FILE_LIMIT: usize = 41_584_152;
+use usb_file::{FILE_LIMIT, list, list_set, read_file};
 
 /// Reads the input to its end, and writes its listing: a line for each descriptor, in the order of the
 /// input. The input is one configuration set where its second byte is 2 or 7, the type of a
@@ -28,7 +25,7 @@ const FILE_LIMIT: usize = 41_584_152;
 ///
 /// # Errors
 ///
-/// `Read` where the reader failed and `TooLarge` at the first byte over 41,584,152. Of a set `Set` with
+/// `Read` where the reader failed and `TooLarge` at the first byte over [`FILE_LIMIT`]. Of a set `Set` with
 /// the fault of the whole input, and `Trailing` where it goes on after the set; of a file `File` with the
 /// fault of the whole input. Nothing is written then. `Write` where the writer or its flush failed, and
 /// `Memory` where a growth was refused; a front of the listing, or nothing, is written then.

@@ -1,0 +1,64 @@
+//! The command `build`.
+ghost use Rattle.std.specs.Prelude.{◌≡◌, List, ℕ, IfErr, IfOk, OnOk};
+ghost use Rattle.usb_file_data.specs.File.{File};
+ghost use Rattle.usb_tool.specs.Builds.{BuildFails, Built, RefusesToBuild, WritesBytes};
+
+use crate::fault::ToolFault;
+use crate::output::write_flushed;
+use crate::whole::read_all;
+use std::alloc::{AllocError, Global};
+use std::io::{Read, Write};
+use usb_file::{DescriptorFile, WriteFault, assemble, write_file};
+
+/// The most bytes of a listing that are read. The listing of every file is shorter.
+pub const LISTING_LIMIT: usize = 268_435_456;
+
+/// Reads a listing of a descriptor file to its end, and writes the bytes of that file. The number in `Ok` is 0.
+///
+/// ```rust
+/// let mut listing: &[u8] = b"device 0200 00 00 00 40 1234 5678 0100 00 00 00 00\n";
+/// let mut bytes = Vec::new(alloc);
+/// run_build(alloc, &mut listing, &mut bytes)?;
+/// assert_eq!(rt; bytes.as_slice(), [18, 1, 0, 2, 0, 0, 0, 64, 0x34, 0x12, 0x78, 0x56, 0, 1, 0, 0, 0, 0]);
+/// ```
+///
+/// # Errors
+///
+/// `Read` where the reader failed, `TooLarge` at the first byte over [`LISTING_LIMIT`], and `List` with the
+/// first line at fault and the first reason in it. Nothing is written then. `Write` where the writer or its
+/// flush failed; a front of the bytes is written then. `Memory` where a growth was refused, and nothing is
+/// written.
+pub fn run_build<R: Read, W: Write>(alloc: Global, r: &mut R, w: &mut W) -> Result<u8, ToolFault>
+    ensures number { IfOk result (λ number. number ≡ 0) }
+    ensures built { OnOk result (Built (R.remaining r.old) (R.remaining r.new) (W.contents w.old) (W.contents w.new)) }
+    ensures err { IfErr result (BuildFails (R.remaining r.old) (R.remaining r.new) (W.contents w.old) (W.contents w.new)) }
+{
+    let text = read_all(alloc, r, LISTING_LIMIT)?;
+    build_text(alloc, text.as_slice(), w)?;
+    Ok(0)
+}
+
+/// Writes the bytes of the file that the text lists, and flushes the writer.
+fn build_text<W: Write>(alloc: Global, text: &[u8], w: &mut W) -> Result<(), ToolFault>
+    ensures ok { OnOk result (WritesBytes text.now (W.contents w.old) (W.contents w.new)) }
+    ensures err { IfErr result (RefusesToBuild text.now (W.contents w.old) (W.contents w.new)) }
+{
+    let file = assemble(alloc, text)?;
+    let bytes = bytes_of(alloc, &file)?;
+    match write_flushed(w, bytes.as_slice()) {
+        Ok(()) => Ok(()),
+        Err(_) => Err(ToolFault::Write),
+    }
+}
+
+/// The bytes of a file that has some.
+fn bytes_of(alloc: Global, f: &DescriptorFile) -> Result<Vec<u8>, AllocError>
+    requires { (b : List ℕ) × File f.now b }
+    ensures { IfOk result (λ b. File f.now b.items) }
+{
+    match write_file(alloc, f) {
+        Ok(bytes) => Ok(bytes),
+        Err(WriteFault::Memory) => Err(AllocError),
+        Err(_) => unreachable!(),
+    }
+}
