@@ -4,6 +4,7 @@
 #![tactic(auto)]
 
 mod answers;
+mod end_messages;
 mod failing;
 mod fields;
 mod files;

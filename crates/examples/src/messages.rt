@@ -1,4 +1,5 @@
 //! Rows on the faults: each has a number and a message.
+use crate::end_messages::{of_description, of_limits, of_list, of_list_why, of_transfer};
 use anyhow::{Context, Result, bail};
 use std::alloc::Global;
 use usb_fields::{FieldFault, UnitFault};
@@ -23,6 +24,11 @@ pub(crate) fn message(alloc: Global, words: &[String]) -> Result<String> {
         "WriteFault" => of_writing(alloc, number)?,
         "OutFault" => of_output(alloc, number)?,
         "ToolFault" => of_tool(alloc, number)?,
+        "ListWhy" => of_list_why(alloc, number)?,
+        "ListFault" => of_list(alloc, number)?,
+        "DescriptionFault" => of_description(alloc, number)?,
+        "LimitFault" => of_limits(alloc, number)?,
+        "Why" => of_transfer(alloc, number)?,
         _ => bail!("no such type"),
     };
     found.context("no fault of that number")

@@ -12,6 +12,39 @@ use crate::tree::{Configuration, Endpoint, Extra, Setting};
 /// One more than wTotalLength can say: what a set comes to that has no bytes.
 pub(crate) const TOO_LONG: usize = 65536;
 
+/// A part of a set that the pass goes over.
+trait Measured {
+    ghost use Rattle.std.specs.Prelude.{ℕ, Bool, List};
+
+    /// Whether one of its descriptors is over 255 bytes.
+    ghost is_long: { Self → Bool };
+
+    /// Whether one of them is raw and has a type that a set reads.
+    ghost is_typed: { Self → Bool };
+
+    /// Its bytes.
+    ghost bytes: { Self → List ℕ };
+
+    /// The count after it.
+    fn len_after(&self, start: usize) -> usize
+        requires { start ≤ 65536 }
+        ensures { result ≡ measured start (is_long self.now) (is_typed self.now) (length (bytes self.now)) };
+}
+
+/// The count after several parts, one after another.
+#[inline(always)]
+#[tactic(auto, using(crate::proofs::Measures::measured_then))]
+fn all_len<T: Measured>(start: usize, parts: &[T]) -> usize
+    requires { start ≤ 65536 }
+    ensures { result ≡ measured start (list_any T.is_long parts.now) (list_any T.is_typed parts.now) (length (flat_map T.bytes parts.now)) }
+{
+    let mut total = start;
+    for part in parts {
+        total = part.len_after(total);
+    }
+    total
+}
+
 /// The count after a descriptor of `fixed` bytes and a tail, which may have `limit` bytes.
 #[inline(always)]
 fn descriptor_len(start: usize, fixed: usize, tail: usize, limit: usize) -> usize
@@ -27,79 +60,57 @@ fn descriptor_len(start: usize, fixed: usize, tail: usize, limit: usize) -> usiz
     }
 }
 
-#[inline(always)]
-fn extra_len(start: usize, extra: &Extra) -> usize
-    requires { start ≤ 65536 }
-    ensures { result ≡ measured start (is_extra_long extra.now) (is_typed_raw extra.now) (length (extra_bytes extra.now)) }
-{
-    match extra {
-        Extra::Raw(raw) => {
-            if is_typed(raw.kind) {
-                TOO_LONG
-            } else {
-                descriptor_len(start, 2, raw.body.len(), 253)
+impl Measured for Extra {
+    ghost is_long = { is_extra_long };
+
+    ghost is_typed = { is_typed_raw };
+
+    ghost bytes = { extra_bytes };
+
+    #[inline(always)]
+    fn len_after(&self, start: usize) -> usize {
+        match self {
+            Extra::Raw(raw) => {
+                if is_typed(raw.kind) {
+                    TOO_LONG
+                } else {
+                    descriptor_len(start, 2, raw.body.len(), 253)
+                }
+            }
+            Extra::Association(association) => {
+                descriptor_len(start, 8, association.tail.len(), 247)
             }
         }
-        Extra::Association(association) => descriptor_len(start, 8, association.tail.len(), 247),
     }
 }
 
-#[inline(always)]
-#[tactic(auto, using(crate::proofs::Measures::measured_then))]
-fn extras_len(start: usize, extras: &[Extra]) -> usize
-    requires { start ≤ 65536 }
-    ensures { result ≡ measured start (list_any is_extra_long extras.now) (list_any is_typed_raw extras.now) (length (flat_map extra_bytes extras.now)) }
-{
-    let mut total = start;
-    for extra in extras {
-        total = extra_len(total, extra);
+impl Measured for Endpoint {
+    ghost is_long = { is_endpoint_long };
+
+    ghost is_typed = { is_endpoint_typed };
+
+    ghost bytes = { endpoint_bytes };
+
+    #[inline(always)]
+    #[tactic(auto, using(crate::proofs::Measures::measured_then))]
+    fn len_after(&self, start: usize) -> usize {
+        all_len(descriptor_len(start, 7, self.tail.len(), 248), &self.extras)
     }
-    total
 }
 
-#[inline(always)]
-#[tactic(auto, using(crate::proofs::Measures::measured_then))]
-fn endpoint_len(start: usize, e: &Endpoint) -> usize
-    requires { start ≤ 65536 }
-    ensures { result ≡ measured start (is_endpoint_long e.now) (is_endpoint_typed e.now) (length (endpoint_bytes e.now)) }
-{
-    extras_len(descriptor_len(start, 7, e.tail.len(), 248), &e.extras)
-}
+impl Measured for Setting {
+    ghost is_long = { is_setting_long };
 
-#[inline(always)]
-#[tactic(auto, using(crate::proofs::Measures::measured_then))]
-fn endpoints_len(start: usize, endpoints: &[Endpoint]) -> usize
-    requires { start ≤ 65536 }
-    ensures { result ≡ measured start (list_any is_endpoint_long endpoints.now) (list_any is_endpoint_typed endpoints.now) (length (flat_map endpoint_bytes endpoints.now)) }
-{
-    let mut total = start;
-    for endpoint in endpoints {
-        total = endpoint_len(total, endpoint);
+    ghost is_typed = { is_setting_typed };
+
+    ghost bytes = { setting_bytes };
+
+    #[inline(always)]
+    #[tactic(auto, using(crate::proofs::Measures::measured_then))]
+    fn len_after(&self, start: usize) -> usize {
+        let head = descriptor_len(start, 9, self.tail.len(), 246);
+        all_len(all_len(head, &self.extras), &self.endpoints)
     }
-    total
-}
-
-#[inline(always)]
-#[tactic(auto, using(crate::proofs::Measures::measured_then))]
-fn setting_len(start: usize, s: &Setting) -> usize
-    requires { start ≤ 65536 }
-    ensures { result ≡ measured start (is_setting_long s.now) (is_setting_typed s.now) (length (setting_bytes s.now)) }
-{
-    let head = descriptor_len(start, 9, s.tail.len(), 246);
-    endpoints_len(extras_len(head, &s.extras), &s.endpoints)
-}
-
-#[inline(always)]
-#[tactic(auto, using(crate::proofs::Measures::measured_then))]
-fn settings_len(start: usize, settings: &[Setting]) -> usize
-    requires { start ≤ 65536 }
-    ensures { result ≡ measured start (list_any is_setting_long settings.now) (list_any is_setting_typed settings.now) (length (flat_map setting_bytes settings.now)) }
-{
-    let mut total = start;
-    for setting in settings {
-        total = setting_len(total, setting);
-    }
-    total
 }
 
 #[tactic(auto, using(crate::proofs::Measures::measured_then))]
@@ -107,7 +118,7 @@ fn tree_len(c: &Configuration) -> usize
     ensures { result ≡ measured 0 (is_tree_long c.now) (is_tree_typed c.now) (length (tree_bytes c.now 0)) }
 {
     let head = descriptor_len(0, 9, c.tail.len(), 246);
-    settings_len(extras_len(head, &c.extras), &c.settings)
+    all_len(all_len(head, &c.extras), &c.settings)
 }
 
 /// How many bytes the set has, or [`TOO_LONG`] where something stands against it.

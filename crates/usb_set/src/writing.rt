@@ -9,7 +9,38 @@ ghost use Rattle.usb_set.specs.inside.Writing.{HasRoom, Puts};
 
 use crate::tree::{Association, Configuration, Endpoint, Extra, Raw, SetKind, Setting};
 
-/// Writes the bytes at this place. Each function here answers where what it wrote ends.
+/// A part of a set that is written as bytes of its own.
+trait Written {
+    ghost use Rattle.std.specs.Prelude.{ℕ, Bool, List};
+
+    /// Its bytes.
+    ghost bytes: { Self → List ℕ };
+
+    /// Whether one of its descriptors is over 255 bytes.
+    ghost is_long: { Self → Bool };
+
+    /// Writes its bytes at this place. This and each function here answers where what it wrote ends.
+    fn put(&self, out: &mut [u8], at: usize) -> usize
+        requires short { is_long self.now ≡ false }
+        requires room { HasRoom out.old at (bytes self.now) }
+        ensures { Puts out.old at (bytes self.now) out.new result };
+}
+
+/// Writes several parts, one after another.
+#[inline(always)]
+#[tactic(auto, using(crate::proofs::Tests::none_at))]
+fn put_all<T: Written>(out: &mut [u8], at: usize, parts: &[T]) -> usize
+    requires short { list_any T.is_long parts.now ≡ false }
+    requires room { HasRoom out.old at (flat_map T.bytes parts.now) }
+    ensures { Puts out.old at (flat_map T.bytes parts.now) out.new result }
+{
+    let mut end = at;
+    for part in parts {
+        end = part.put(out, end);
+    }
+    end
+}
+
 #[inline(always)]
 fn put_bytes(out: &mut [u8], at: usize, bytes: &[u8]) -> usize
     requires { HasRoom out.old at bytes.now }
@@ -51,30 +82,18 @@ fn put_association(out: &mut [u8], at: usize, a: &Association) -> usize
     put_bytes(out, tail_at, &a.tail)
 }
 
-#[inline(always)]
-fn put_extra(out: &mut [u8], at: usize, extra: &Extra) -> usize
-    requires short { is_extra_long extra.now ≡ false }
-    requires room { HasRoom out.old at (extra_bytes extra.now) }
-    ensures { Puts out.old at (extra_bytes extra.now) out.new result }
-{
-    match extra {
-        Extra::Raw(raw) => put_raw(out, at, raw),
-        Extra::Association(association) => put_association(out, at, association),
-    }
-}
+impl Written for Extra {
+    ghost bytes = { extra_bytes };
 
-#[inline(always)]
-#[tactic(auto, using(crate::proofs::Tests::none_at))]
-fn put_extras(out: &mut [u8], at: usize, extras: &[Extra]) -> usize
-    requires short { list_any is_extra_long extras.now ≡ false }
-    requires room { HasRoom out.old at (flat_map extra_bytes extras.now) }
-    ensures { Puts out.old at (flat_map extra_bytes extras.now) out.new result }
-{
-    let mut end = at;
-    for extra in extras {
-        end = put_extra(out, end, extra);
+    ghost is_long = { is_extra_long };
+
+    #[inline(always)]
+    fn put(&self, out: &mut [u8], at: usize) -> usize {
+        match self {
+            Extra::Raw(raw) => put_raw(out, at, raw),
+            Extra::Association(association) => put_association(out, at, association),
+        }
     }
-    end
 }
 
 #[inline(always)]
@@ -97,28 +116,16 @@ fn put_endpoint_descriptor(out: &mut [u8], at: usize, e: &Endpoint) -> usize
     put_bytes(out, tail_at, &e.tail)
 }
 
-#[inline(always)]
-fn put_endpoint(out: &mut [u8], at: usize, e: &Endpoint) -> usize
-    requires short { is_endpoint_long e.now ≡ false }
-    requires room { HasRoom out.old at (endpoint_bytes e.now) }
-    ensures { Puts out.old at (endpoint_bytes e.now) out.new result }
-{
-    let extras_at = put_endpoint_descriptor(out, at, e);
-    put_extras(out, extras_at, &e.extras)
-}
+impl Written for Endpoint {
+    ghost bytes = { endpoint_bytes };
 
-#[inline(always)]
-#[tactic(auto, using(crate::proofs::Tests::none_at))]
-fn put_endpoints(out: &mut [u8], at: usize, endpoints: &[Endpoint]) -> usize
-    requires short { list_any is_endpoint_long endpoints.now ≡ false }
-    requires room { HasRoom out.old at (flat_map endpoint_bytes endpoints.now) }
-    ensures { Puts out.old at (flat_map endpoint_bytes endpoints.now) out.new result }
-{
-    let mut end = at;
-    for endpoint in endpoints {
-        end = put_endpoint(out, end, endpoint);
+    ghost is_long = { is_endpoint_long };
+
+    #[inline(always)]
+    fn put(&self, out: &mut [u8], at: usize) -> usize {
+        let extras_at = put_endpoint_descriptor(out, at, self);
+        put_all(out, extras_at, &self.extras)
     }
-    end
 }
 
 #[inline(always)]
@@ -142,29 +149,17 @@ fn put_interface_descriptor(out: &mut [u8], at: usize, s: &Setting) -> usize
     put_bytes(out, tail_at, &s.tail)
 }
 
-#[inline(always)]
-fn put_setting(out: &mut [u8], at: usize, s: &Setting) -> usize
-    requires short { is_setting_long s.now ≡ false }
-    requires room { HasRoom out.old at (setting_bytes s.now) }
-    ensures { Puts out.old at (setting_bytes s.now) out.new result }
-{
-    let extras_at = put_interface_descriptor(out, at, s);
-    let endpoints_at = put_extras(out, extras_at, &s.extras);
-    put_endpoints(out, endpoints_at, &s.endpoints)
-}
+impl Written for Setting {
+    ghost bytes = { setting_bytes };
 
-#[inline(always)]
-#[tactic(auto, using(crate::proofs::Tests::none_at))]
-fn put_settings(out: &mut [u8], at: usize, settings: &[Setting]) -> usize
-    requires short { list_any is_setting_long settings.now ≡ false }
-    requires room { HasRoom out.old at (flat_map setting_bytes settings.now) }
-    ensures { Puts out.old at (flat_map setting_bytes settings.now) out.new result }
-{
-    let mut end = at;
-    for setting in settings {
-        end = put_setting(out, end, setting);
+    ghost is_long = { is_setting_long };
+
+    #[inline(always)]
+    fn put(&self, out: &mut [u8], at: usize) -> usize {
+        let extras_at = put_interface_descriptor(out, at, self);
+        let endpoints_at = put_all(out, extras_at, &self.extras);
+        put_all(out, endpoints_at, &self.endpoints)
     }
-    end
 }
 
 fn type_byte(kind: SetKind) -> u8
@@ -203,8 +198,8 @@ fn put_tree(out: &mut [u8], at: usize, c: &Configuration, total: u16) -> usize
     ensures { Puts out.old at (tree_bytes c.now total) out.new result }
 {
     let extras_at = put_configuration_descriptor(out, at, c, total);
-    let settings_at = put_extras(out, extras_at, &c.extras);
-    put_settings(out, settings_at, &c.settings)
+    let settings_at = put_all(out, extras_at, &c.extras);
+    put_all(out, settings_at, &c.settings)
 }
 
 /// Fills the buffer with the bytes of the whole set, with this number as wTotalLength.
