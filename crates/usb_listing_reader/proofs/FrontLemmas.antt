@@ -215,6 +215,9 @@ other_inner : (d : DeviceDescriptor) (ss : List Configuration) (o : Other) (item
     → file_and item (made d ss (Some o) None) ≡ made d ss (Some (record o { sets = with_last (set_and item) o.sets })) None → More (made d ss (Some o) None) item
 other_inner d ss o item a inner room is =
     let f = made d ss (Some o) None in
+    let all = a.front.order in
+    let count = length-with_last (set_and item) o.sets in
+    let order : length (with_last (set_and item) o.sets) ≤ o.qualifier.configurations = omega (arith, count, all.1) in
     let ks = or_parts _ _ a.front.kinds in
     let sh = or_parts _ _ a.front.short in
     let w = in_work item o.sets a.is_item.alone inner room in
@@ -224,8 +227,6 @@ other_inner d ss o item a inner room is =
     ap (λ (ys : List Item). items.Qualifier o.qualifier ∷ ys) g.lines in
     let lines : file_items (file_and item f) ≡ file_items f ++ item ∷ [] =
     ap file_items is ∙ behind_other (items.Device d ∷ flat_map set_items ss) _ _ (item ∷ []) more in
-    let all = a.front.order in
-    let order : length (with_last (set_and item) o.sets) ≤ o.qualifier.configurations = let n = g.count in omega (arith, all.1) in
     record {
       is_front = record {
         said = said_more f item a lines;
@@ -271,6 +272,10 @@ other_set d ss o c a = by_kind c.kind refl a.may
     by_kind kinds.Configuration ek may = cc
     by_kind kinds.OtherSpeed ek may =
         let f = made d ss (Some o) None in
+        let all = a.front.order in
+        let below = ltb-true (length o.sets) o.qualifier.configurations may in
+        let count = length-push o.sets c in
+        let room : length (o.sets ++ c ∷ []) ≤ o.qualifier.configurations = omega (arith, count, below) in
         let ks = or_parts _ _ a.front.kinds in
         let sh = or_parts _ _ a.front.short in
         let alone = a.is_item.alone in
@@ -279,10 +284,7 @@ other_set d ss o c a = by_kind c.kind refl a.may
         let more : items.Qualifier o.qualifier ∷ flat_map set_items (o.sets ++ c ∷ []) ≡ (items.Qualifier o.qualifier ∷ flat_map set_items o.sets) ++ items.Set c ∷ [] =
         ap (λ (ys : List Item). items.Qualifier o.qualifier ∷ ys) (flat_map-push set_items o.sets c ∙ ap (λ (ys : List Item). flat_map set_items o.sets ++ ys) one) in
         let lines : file_items (file_and (items.Set c) f) ≡ file_items f ++ items.Set c ∷ [] = behind_other (items.Device d ∷ flat_map set_items ss) _ _ (items.Set c ∷ []) more in
-        let below = ltb-true (length o.sets) o.qualifier.configurations may in
-        let all = a.front.order in
         let few : set_length c ≤ 65535 = subst (λ o. length_of o ≤ 65535) (last_push o.sets c) a.few in
-        let room : length (o.sets ++ c ∷ []) ≤ o.qualifier.configurations = let n = length-push o.sets c in omega arith in
         record {
           is_front = record {
             said = said_more f (items.Set c) a lines;
