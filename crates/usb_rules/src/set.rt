@@ -55,7 +55,14 @@ fn check_set(
     check_repeated_settings(&mut found.repeated_settings, survey, part, set, c)?;
     check_default_settings(&mut found.missing_default_settings, survey, part, set, c)?;
     check_endpoint_counts(&mut found.endpoint_counts, part, set, c)?;
-    check_endpoints(&mut found.addresses, &mut found.packet_sizes, survey, part, set, c)?;
+    check_endpoints(
+        &mut found.addresses,
+        &mut found.packet_sizes,
+        survey,
+        part,
+        set,
+        c,
+    )?;
     check_repeated_addresses(&mut found.repeated_addresses, survey, part, set, c)?;
     check_shared_addresses(&mut found.shared_addresses, survey, part, set, c)?;
     check_attributes(&mut found.attributes, part, set, c)?;
