@@ -30,7 +30,7 @@ impl Command {
         alloc: Global,
         r: &mut R,
         w: &mut W,
-    ) -> core::result::Result<u8, ToolFault> {
+    ) -> std::result::Result<u8, ToolFault> {
         match self {
             Command::Show => run_show(alloc, r, w),
             Command::Check => run_check(alloc, r, w),
