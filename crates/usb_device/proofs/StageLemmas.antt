@@ -1,10 +1,16 @@
 -- Places in a data stage: an offset of whole packets stands for the packets that are left.
 use Rattle.std.proofs.Common.{◌≡◌, ℕ, zero, suc, ◌+◌, ◌-◌, ◌*◌, ◌/◌, ◌<◌, ◌≤◌, ◌⊎◌, inl, inr, List, [], ◌∷◌, length, take, drop, Some, None, slice_get, refl, sym, ap, ◌∙◌, arith}
 use Rattle.std.proofs.Math.Nat.{mul-div_cancel}
-use Rattle.std.proofs.lemmas.List.{length-take}
+use Rattle.std.proofs.lemmas.List.{length-take-le}
 use Rattle.usb_fields.specs.Packets.{packets}
 use Rattle.usb_fields.proofs.PacketLemmas.{packets-at, packets-past}
+use Rattle.usb_fields.specs.Packet.{flipped}
+use Rattle.usb_fields.specs.Packets.{toggle_of}
+use Rattle.usb_file_data.specs.declared.file.DescriptorFile.{DescriptorFile}
+use Rattle.usb_device.specs.declared.stage.DataStage.{DataStage}
 use Rattle.usb_device.specs.Step.{Sending, StatusOut, next_stage}
+use Rattle.usb_device.specs.inside.Reactions.{first_packet}
+use Rattle.usb_device.specs.inside.Stages.{data_bytes, source_bytes, IsData}
 
 -- what is left of a list from one of its elements on
 drop_there : {X : Type 0} (xs : List X) (k : ℕ) (x : X) → slice_get xs k ≡ Some x → drop k xs ≡ x ∷ drop (suc k) xs
@@ -45,4 +51,40 @@ stage_ends b n m o pos whole fits past =
     let at = packets-past b n m (suc (o / n)) pos fits (rw on past) in
     rw (drop_past (packets b n m) (suc (o / n)) at) refl
 
-pub ruleset stages = (packet_here, next_place, stage_goes_on, stage_ends, length-take)
+-- the bytes of a data stage are as many as the code counts
+pub data_length : (f : DescriptorFile) (d : DataStage) → IsData f d → length (data_bytes f d) ≡ d.count
+data_length f d h = length-take-le d.count (source_bytes f d.source d.kept) h.count
+
+-- the packet that is due stands at the offset
+pub packets_left : (f : DescriptorFile) (d : DataStage) → 0 < f.device.packet → IsData f d → drop (d.offset / f.device.packet) (packets (data_bytes f d) f.device.packet d.limit) ≡ take f.device.packet (drop d.offset (data_bytes f d)) ∷ drop (suc (d.offset / f.device.packet)) (packets (data_bytes f d) f.device.packet d.limit)
+packets_left f d pos h =
+    let within : d.offset ≤ length (data_bytes f d) = omega (arith, h.inside, data_length f d h) in
+    packet_here (data_bytes f d) f.device.packet d.limit d.offset pos h.whole within h.asked
+
+-- after a whole packet before the end the code is at the next one
+pub data_goes_on : (f : DescriptorFile) (d : DataStage) → 0 < f.device.packet → IsData f d → d.offset + f.device.packet ≤ d.count → d.offset + f.device.packet < d.limit → IsData f (record d { offset = d.offset + f.device.packet; toggle = flipped d.toggle })
+data_goes_on f d pos h inside asked =
+    let next = next_place d.offset f.device.packet pos h.whole in
+    record {
+      source = h.source;
+      count = h.count;
+      fits = h.fits;
+      whole = rw next (grind (arith, h.whole));
+      inside = inside;
+      asked = asked;
+      toggle = rw (next, h.toggle) refl;
+    }
+
+-- and the stage is the next one
+pub stage_data_goes_on : (f : DescriptorFile) (d : DataStage) → 0 < f.device.packet → IsData f d → d.offset + f.device.packet ≤ d.count → d.offset + f.device.packet < d.limit → next_stage (data_bytes f d) d.limit (d.offset / f.device.packet) (drop (suc (d.offset / f.device.packet)) (packets (data_bytes f d) f.device.packet d.limit)) ≡ Sending (data_bytes f d) d.limit ((d.offset + f.device.packet) / f.device.packet)
+stage_data_goes_on f d pos h inside asked =
+    let within : d.offset + f.device.packet ≤ length (data_bytes f d) = omega (arith, data_length f d h) in
+    rw (next_place d.offset f.device.packet pos h.whole)
+    (stage_goes_on (data_bytes f d) f.device.packet d.limit d.offset pos h.whole within asked)
+
+pub stage_data_ends : (f : DescriptorFile) (d : DataStage) → 0 < f.device.packet → IsData f d → (d.count < d.offset + f.device.packet) ⊎ (d.limit ≤ d.offset + f.device.packet) → next_stage (data_bytes f d) d.limit (d.offset / f.device.packet) (drop (suc (d.offset / f.device.packet)) (packets (data_bytes f d) f.device.packet d.limit)) ≡ StatusOut
+stage_data_ends f d pos h past =
+    let long = data_length f d h in
+    stage_ends (data_bytes f d) f.device.packet d.limit d.offset pos h.whole (omega (arith, long, h.fits)) (rw long past)
+
+pub ruleset stages = (packets_left, data_goes_on, stage_data_goes_on, stage_data_ends)

@@ -119,6 +119,7 @@ impl Description {
 
     /// The place of the descriptor of this type and index, in this language where it is a string (USB
     /// 2.0, 9.4.3).
+    #[inline(always)]
     pub(crate) fn find(&self, kind: u8, index: u8, language: u16) -> Option<usize>
         ensures { MatchOption result (descriptor self.now.file kind index language ≡ None) (IsFound self.now.file (descriptor self.now.file kind index language)) }
     {
@@ -133,6 +134,7 @@ impl Description {
     }
 
     #[tactic(auto, using(crate::proofs::PlaceLemmas::device_found))]
+    #[inline(always)]
     fn find_device(&self, index: u8) -> Option<usize>
         ensures { MatchOption result (device_of self.now.file index ≡ None) (IsFound self.now.file (device_of self.now.file index)) }
     {
@@ -141,6 +143,7 @@ impl Description {
     }
 
     #[tactic(auto, using(crate::proofs::PlaceLemmas::set_found, crate::proofs::PlaceLemmas::set_missing))]
+    #[inline(always)]
     fn find_set(&self, index: u8) -> Option<usize>
         ensures { MatchOption result (set_at self.now.file.sets index ≡ None) (IsFound self.now.file (set_at self.now.file.sets index)) }
     {
@@ -152,6 +155,7 @@ impl Description {
     }
 
     #[tactic(auto, using(crate::proofs::PlaceLemmas::qualifier_found))]
+    #[inline(always)]
     fn find_qualifier(&self, index: u8) -> Option<usize>
         ensures { MatchOption result (qualifier_of self.now.file.other index ≡ None) (IsFound self.now.file (qualifier_of self.now.file.other index)) }
     {
@@ -162,6 +166,7 @@ impl Description {
     }
 
     #[tactic(auto, using(crate::proofs::PlaceLemmas::other_set_found, crate::proofs::PlaceLemmas::set_missing))]
+    #[inline(always)]
     fn find_other_set(&self, index: u8) -> Option<usize>
         ensures { MatchOption result (other_set_at self.now.file.other index ≡ None) (IsFound self.now.file (other_set_at self.now.file.other index)) }
     {
@@ -175,6 +180,7 @@ impl Description {
     }
 
     #[tactic(auto, using(crate::proofs::PlaceLemmas::languages_found, crate::proofs::PlaceLemmas::text_found))]
+    #[inline(always)]
     fn find_string(&self, index: u8, language: u16) -> Option<usize>
         ensures { MatchOption result (string_at self.now.file.strings (named_indices self.now.file) index language ≡ None) (IsFound self.now.file (string_at self.now.file.strings (named_indices self.now.file) index language)) }
     {

@@ -1,15 +1,16 @@
 //! The device's end of the control transfers of endpoint zero.
-ghost use Rattle.std.specs.Prelude.{◌≡◌, ◌<◌, ◌≤◌, ◌/◌, suc, false, length, take, drop};
+ghost use Rattle.std.specs.Prelude.{◌≡◌, ◌<◌, ◌≤◌, ◌/◌, suc, false, take, drop};
 ghost use Rattle.usb_fields.specs.Packet.{sent_of};
 ghost use Rattle.usb_fields.specs.Packets.{packets};
 ghost use Rattle.usb_device.specs.Requests.{answer};
 ghost use Rattle.usb_device.specs.Step.{begun, carried_out, is_set_address, next_stage, Sending};
-ghost use Rattle.usb_device.specs.inside.Stages.{cut_bytes, source_bytes, stage_of, IsCut, IsSource, IsStage};
+ghost use Rattle.usb_device.specs.inside.Stages.{data_bytes, IsData, IsSource};
+ghost use Rattle.usb_device.specs.inside.Places.{descriptor_at};
 
 use crate::description::Description;
 use crate::request::Request;
 use crate::response::Response;
-use crate::stage::{Cut, Source, Stage};
+use crate::stage::{DataStage, Source, Stage};
 use crate::state::State;
 use usb_fields::{Setup, Stage as Token, Toggle, Transaction};
 
@@ -26,17 +27,25 @@ pub(crate) enum Reaction {
 
 /// What changes in a device: its state, where it stands in a transfer, and whether its last answer
 /// waits for an ACK. It borrows nothing: its calls are given the description, always the same one.
+///
+/// What a stage needs stands beside it and not in it, so that a step writes only what it changes.
 #[derive(Clone, Copy)]
 pub(crate) struct EndpointZero {
     state: State,
     stage: Stage,
+    /// In the stage `Sending`: the data stage.
+    data_stage: DataStage,
+    /// In the stage `StatusIn`: the request.
+    request: Setup,
+    /// In the stage `StatusIn`: whether the request was carried out.
+    carried_out: bool,
     pending: bool,
 }
 
 impl EndpointZero {
     ghost use Rattle.usb_device.specs.Step.{new_device};
     ghost use Rattle.usb_device.specs.View.{acked_by, served_by};
-    ghost use Rattle.usb_device.specs.inside.Devices.{device_of, received_by, replied, sent_by, IsOf};
+    ghost use Rattle.usb_device.specs.inside.Devices.{device_of, received_by, replied, sent_by, stage_in, IsOf};
     ghost use Rattle.usb_device.specs.inside.Reactions.{packet_due};
 
     /// That of a new device, and of one after a bus reset.
@@ -48,6 +57,9 @@ impl EndpointZero {
         EndpointZero {
             state: State::zero(),
             stage: Stage::Idle,
+            data_stage: DataStage::empty(),
+            request: Setup::from_bytes(&[0; 8]),
+            carried_out: false,
             pending: false,
         }
     }
@@ -72,7 +84,7 @@ impl EndpointZero {
         }
         match t.stage {
             Token::Setup(bytes) => {
-                self.stage = first_stage(d, &self.state, Setup::from_bytes(&bytes));
+                self.begin(d, Setup::from_bytes(&bytes));
                 Reaction::Ack
             }
             Token::In => { if ready { self.send(d) } else { Reaction::Nak } }
@@ -86,8 +98,59 @@ impl EndpointZero {
         }
     }
 
+    /// A SETUP: the transfer that the request begins.
+    #[inline(never)]
+    fn begin(&mut self, d: &Description, q: Setup)
+        ensures device { device_of d.now.file self.new ≡ record (device_of d.now.file self.old) { stage = begun q (answer d.now.file self.old.state q) } }
+        ensures of { IsOf d.now.file self.new }
+    {
+        let request = Request {
+            description: d,
+            state: &self.state,
+            setup: q,
+        };
+        match request.respond() {
+            Response::Descriptor(place) => self.send_descriptor(d, place, q.length),
+            Response::Byte(byte) => self.send_kept(d, [byte, 0], 1),
+            Response::Status(first) => self.send_kept(d, [first, 0], 2),
+            Response::Done(_) => {
+                self.stage = Stage::StatusIn;
+                self.request = q;
+                self.carried_out = false;
+            }
+            Response::Refused => self.stage = Stage::Halted,
+        }
+    }
+
+    /// Begins a data stage with a descriptor, of which so many bytes are asked for.
+    fn send_descriptor(&mut self, d: &Description, place: usize, limit: u16)
+        requires source { IsSource d.now.file (Source.Descriptor place) }
+        requires asked { 0 < limit }
+        ensures device { device_of d.now.file self.new ≡ record (device_of d.now.file self.old) { stage = Sending (take limit (descriptor_at d.now.file place)) limit 0 } }
+        ensures of { IsOf d.now.file self.new }
+    {
+        let limit = usize::from(limit);
+        self.stage = Stage::Sending;
+        self.data_stage.source = Source::Descriptor(place);
+        self.data_stage
+            .begin(d.bytes(place).len().min(limit), limit);
+    }
+
+    /// Begins a data stage with the first so many of two bytes, as many as are asked for.
+    fn send_kept(&mut self, d: &Description, kept: [u8; 2], count: usize)
+        requires some { 0 < count }
+        requires kept { count ≤ 2 }
+        ensures device { device_of d.now.file self.new ≡ record (device_of d.now.file self.old) { stage = Sending (take count kept) count 0 } }
+        ensures of { IsOf d.now.file self.new }
+    {
+        self.stage = Stage::Sending;
+        self.data_stage.source = Source::Kept;
+        self.data_stage.kept = kept;
+        self.data_stage.begin(count, count);
+    }
+
     /// An IN transaction.
-    #[tactic(auto, using(crate::proofs::StageLemmas::packet_here))]
+    #[tactic(auto, using(crate::proofs::StageLemmas::packets_left))]
     fn send(&mut self, d: &Description) -> Reaction
         requires { IsOf d.now.file self.old }
         ensures reply { replied d.now.file self.new result ≡ (sent_by d.now.file self.old).reply }
@@ -96,15 +159,15 @@ impl EndpointZero {
     {
         let _packet = d.packet();
         match self.stage {
-            Stage::Sending(cut) => {
+            Stage::Sending => {
                 self.pending = true;
-                Reaction::Packet(cut.toggle)
+                Reaction::Packet(self.data_stage.toggle)
             }
-            Stage::StatusIn(request, carried_out) => {
-                if !carried_out && !is_set_address(request) {
-                    self.carry_out(d, request);
+            Stage::StatusIn => {
+                if !self.carried_out && !is_set_address(self.request) {
+                    self.carry_out(d, self.request);
                 }
-                self.stage = Stage::StatusIn(request, true);
+                self.carried_out = true;
                 self.pending = true;
                 Reaction::Packet(Toggle::Data1)
             }
@@ -121,7 +184,7 @@ impl EndpointZero {
     {
         self.pending = false;
         match self.stage {
-            Stage::Sending(_) | Stage::StatusOut | Stage::Over => match toggle {
+            Stage::Sending | Stage::StatusOut | Stage::Over => match toggle {
                 Toggle::Data0 => Reaction::Ack,
                 Toggle::Data1 => {
                     if bytes.is_empty() {
@@ -149,6 +212,7 @@ impl EndpointZero {
     }
 
     /// Carries out a request, where it asks for no data.
+    #[inline(never)]
     fn carry_out(&mut self, d: &Description, q: Setup)
         ensures { self.new ≡ record self.old { state = carried_out self.old.state (answer d.now.file self.old.state q) } }
     {
@@ -173,10 +237,10 @@ impl EndpointZero {
         }
         self.pending = false;
         match self.stage {
-            Stage::Sending(cut) => self.stage = stage_after(d, cut),
-            Stage::StatusIn(request, _) => {
-                if is_set_address(request) {
-                    self.carry_out(d, request);
+            Stage::Sending => self.go_on(d),
+            Stage::StatusIn => {
+                if is_set_address(self.request) {
+                    self.carry_out(d, self.request);
                 }
                 self.stage = Stage::Idle;
             }
@@ -184,14 +248,33 @@ impl EndpointZero {
         }
     }
 
+    /// The packet that was due was acknowledged: another is due then, or the status stage.
+    #[tactic(auto, using(crate::proofs::StageLemmas::stages))]
+    fn go_on(&mut self, d: &Description)
+        requires sending { self.old.stage ≡ Stage.Sending }
+        requires due { IsData d.now.file self.old.data_stage }
+        ensures device { device_of d.now.file self.new ≡ record (device_of d.now.file self.old) { stage = next_stage (data_bytes d.now.file self.old.data_stage) self.old.data_stage.limit (self.old.data_stage.offset / d.now.file.device.packet) (drop (suc (self.old.data_stage.offset / d.now.file.device.packet)) (packets (data_bytes d.now.file self.old.data_stage) d.now.file.device.packet self.old.data_stage.limit)) } }
+        ensures of { IsOf d.now.file self.new }
+    {
+        let packet = d.packet();
+        let left = self.data_stage.count - self.data_stage.offset;
+        if left < packet || self.data_stage.limit - self.data_stage.offset <= packet {
+            self.stage = Stage::StatusOut;
+        } else {
+            self.data_stage.offset += packet;
+            self.data_stage.toggle = self.data_stage.toggle.flip();
+        }
+    }
+
     /// The bytes of the packet that is due, or none.
-    #[tactic(auto, using(crate::proofs::StageLemmas::packet_here))]
+    #[tactic(auto, using(crate::proofs::StageLemmas::packets_left))]
     pub(crate) fn packet<'a>(&'a self, d: &'a Description) -> &'a [u8]
         requires { IsOf d.now.file self.now }
         ensures { result.now ≡ packet_due d.now.file.device.packet (device_of d.now.file self.now).stage }
     {
-        match &self.stage {
-            Stage::Sending(cut) => { packet_at(sent_bytes(d, cut), cut.offset, d.packet()) }
+        let _packet = d.packet();
+        match self.stage {
+            Stage::Sending => self.data_stage.packet(d),
             _ => &[],
         }
     }
@@ -202,87 +285,4 @@ fn is_set_address(q: Setup) -> bool
     ensures { result ≡ is_set_address q }
 {
     q.request == 5
-}
-
-/// The stage that a request begins.
-fn first_stage(d: &Description, state: &State, q: Setup) -> Stage
-    ensures stage { stage_of d.now.file result ≡ begun q (answer d.now.file state.now q) }
-    ensures of { IsStage d.now.file result }
-{
-    let request = Request {
-        description: d,
-        state,
-        setup: q,
-    };
-    match request.respond() {
-        Response::Descriptor(place) => start(d, Source::Descriptor(place), q.length),
-        Response::Byte(byte) => start(d, Source::Byte([byte]), q.length),
-        Response::Status(first) => start(d, Source::Status([first, 0]), q.length),
-        Response::Done(_) => Stage::StatusIn(q, false),
-        Response::Refused => Stage::Halted,
-    }
-}
-
-/// The beginning of a data stage.
-fn start(d: &Description, source: Source, limit: u16) -> Stage
-    requires source { IsSource d.now.file source }
-    requires asked { 0 < limit }
-    ensures stage { stage_of d.now.file result ≡ Sending (take limit (source_bytes d.now.file source)) limit 0 }
-    ensures of { IsStage d.now.file result }
-{
-    let _packet = d.packet();
-    Stage::Sending(Cut {
-        source,
-        limit: usize::from(limit),
-        offset: 0,
-        toggle: Toggle::Data1,
-    })
-}
-
-/// The packet at an offset: as many bytes as a packet has, or what is left.
-fn packet_at(bytes: &[u8], offset: usize, packet: usize) -> &[u8]
-    requires { offset ≤ length bytes.now }
-    ensures { result.now ≡ take packet (drop offset bytes.now) }
-{
-    let left = bytes.len() - offset;
-    &bytes[offset..offset + left.min(packet)]
-}
-
-/// The bytes that a data stage sends.
-fn sent_bytes<'a>(d: &'a Description, cut: &'a Cut) -> &'a [u8]
-    requires { IsSource d.now.file cut.now.source }
-    ensures { result.now ≡ cut_bytes d.now.file cut.now }
-{
-    let bytes = source_bytes(d, &cut.source);
-    &bytes[..bytes.len().min(cut.limit)]
-}
-
-fn source_bytes<'a>(d: &'a Description, source: &'a Source) -> &'a [u8]
-    requires { IsSource d.now.file source.now }
-    ensures { result.now ≡ source_bytes d.now.file source.now }
-{
-    match source {
-        Source::Descriptor(place) => d.bytes(*place),
-        Source::Byte(byte) => byte.as_slice(),
-        Source::Status(bytes) => bytes.as_slice(),
-    }
-}
-
-/// The stage once the packet at this place was acknowledged.
-#[tactic(auto, using(crate::proofs::StageLemmas::stages))]
-fn stage_after(d: &Description, cut: Cut) -> Stage
-    requires { IsCut d.now.file cut }
-    ensures stage { stage_of d.now.file result ≡ next_stage (cut_bytes d.now.file cut) cut.limit (cut.offset / d.now.file.device.packet) (drop (suc (cut.offset / d.now.file.device.packet)) (packets (cut_bytes d.now.file cut) d.now.file.device.packet cut.limit)) }
-    ensures of { IsStage d.now.file result }
-{
-    let packet = d.packet();
-    if sent_bytes(d, &cut).len() - cut.offset < packet || cut.limit - cut.offset <= packet {
-        return Stage::StatusOut;
-    }
-    Stage::Sending(Cut {
-        source: cut.source,
-        limit: cut.limit,
-        offset: cut.offset + packet,
-        toggle: cut.toggle.flip(),
-    })
 }

@@ -1,4 +1,5 @@
-//! The table of standard requests: a function for each row (USB 2.0, 9.4).
+//! The table of standard requests: a function for each row (USB 2.0, 9.4). They are inlined, so that a response,
+//! which is of several shapes, needs no room in memory.
 ghost use Rattle.std.specs.Prelude.{◌≡◌, ◌∷◌, [], if◌then◌else◌};
 
 use crate::description::Description;
@@ -23,6 +24,7 @@ impl<'r> Request<'r> {
 
     /// The answer.
     #[tactic(auto, unfolding(crate::specs::Requests::answer, crate::specs::Requests::answer_of))]
+    #[inline(always)]
     pub(crate) fn respond(&self) -> Response
         ensures answer { says self.now result ≡ answer self.now.description.now.file self.now.state.now self.now.setup }
         ensures asked { AsksFor self.now result }
@@ -34,6 +36,7 @@ impl<'r> Request<'r> {
     }
 
     /// The answer to a standard request, by bRequest (table 9-4).
+    #[inline(always)]
     fn by_request(&self) -> Response
         ensures answer { says self.now result ≡ row self.now.description.now.file self.now.state.now self.now.setup }
         ensures asked { AsksFor self.now result }
@@ -53,6 +56,7 @@ impl<'r> Request<'r> {
     }
 
     /// GET_STATUS (9.4.5).
+    #[inline(always)]
     fn get_status(&self) -> Response
         ensures answer { says self.now result ≡ get_status self.now.description.now.file self.now.state.now self.now.setup }
         ensures asked { AsksFor self.now result }
@@ -69,6 +73,7 @@ impl<'r> Request<'r> {
     }
 
     /// Bit 0 self-powered, bit 1 remote wakeup (figure 9-4).
+    #[inline(always)]
     fn status_of_device(&self) -> Response
         ensures answer { says self.now result ≡ status_of_device self.now.description.now.file self.now.state.now self.now.setup }
         ensures asked { AsksFor self.now result }
@@ -81,6 +86,7 @@ impl<'r> Request<'r> {
     }
 
     /// Two zero bytes (figure 9-5).
+    #[inline(always)]
     fn status_of_interface(&self) -> Response
         ensures answer { says self.now result ≡ status_of_interface self.now.description.now.file self.now.state.now self.now.setup }
         ensures asked { AsksFor self.now result }
@@ -93,6 +99,7 @@ impl<'r> Request<'r> {
     }
 
     /// Bit 0 the endpoint's halt (figure 9-6).
+    #[inline(always)]
     fn status_of_endpoint(&self) -> Response
         ensures answer { says self.now result ≡ status_of_endpoint self.now.description.now.file self.now.state.now self.now.setup }
         ensures asked { AsksFor self.now result }
@@ -114,6 +121,7 @@ impl<'r> Request<'r> {
     }
 
     /// CLEAR_FEATURE and SET_FEATURE (9.4.1 and 9.4.9).
+    #[inline(always)]
     fn change_feature(&self, on: bool) -> Response
         ensures answer { says self.now result ≡ feature_of (recipient_of self.now.setup.request_type) on self.now.description.now.file self.now.state.now self.now.setup }
         ensures asked { AsksFor self.now result }
@@ -126,6 +134,7 @@ impl<'r> Request<'r> {
     }
 
     /// DEVICE_REMOTE_WAKEUP is feature 1 (table 9-6).
+    #[inline(always)]
     fn change_wakeup(&self, on: bool) -> Response
         ensures answer { says self.now result ≡ wakeup_feature on self.now.description.now.file self.now.state.now self.now.setup }
         ensures asked { AsksFor self.now result }
@@ -142,6 +151,7 @@ impl<'r> Request<'r> {
     }
 
     /// ENDPOINT_HALT is feature 0 (table 9-6).
+    #[inline(always)]
     fn change_halt(&self, on: bool) -> Response
         ensures answer { says self.now result ≡ halt_feature on self.now.description.now.file self.now.state.now self.now.setup }
         ensures asked { AsksFor self.now result }
@@ -160,6 +170,7 @@ impl<'r> Request<'r> {
     }
 
     /// SET_ADDRESS (9.4.6).
+    #[inline(always)]
     fn set_address(&self) -> Response
         ensures answer { says self.now result ≡ set_address self.now.description.now.file self.now.state.now self.now.setup }
         ensures asked { AsksFor self.now result }
@@ -176,6 +187,7 @@ impl<'r> Request<'r> {
     }
 
     /// GET_DESCRIPTOR (9.4.3).
+    #[inline(always)]
     fn get_descriptor(&self) -> Response
         ensures answer { says self.now result ≡ get_descriptor self.now.description.now.file self.now.state.now self.now.setup }
         ensures asked { AsksFor self.now result }
@@ -195,6 +207,7 @@ impl<'r> Request<'r> {
     }
 
     /// GET_CONFIGURATION (9.4.2).
+    #[inline(always)]
     fn get_configuration(&self) -> Response
         ensures answer { says self.now result ≡ get_configuration self.now.description.now.file self.now.state.now self.now.setup }
         ensures asked { AsksFor self.now result }
@@ -211,6 +224,7 @@ impl<'r> Request<'r> {
     }
 
     /// SET_CONFIGURATION (9.4.7).
+    #[inline(always)]
     fn set_configuration(&self) -> Response
         ensures answer { says self.now result ≡ set_configuration self.now.description.now.file self.now.state.now self.now.setup }
         ensures asked { AsksFor self.now result }
@@ -230,6 +244,7 @@ impl<'r> Request<'r> {
     }
 
     /// GET_INTERFACE (9.4.4).
+    #[inline(always)]
     fn get_interface(&self) -> Response
         ensures answer { says self.now result ≡ get_interface self.now.description.now.file self.now.state.now self.now.setup }
         ensures asked { AsksFor self.now result }
@@ -246,6 +261,7 @@ impl<'r> Request<'r> {
     }
 
     /// SET_INTERFACE (9.4.10).
+    #[inline(always)]
     fn set_interface(&self) -> Response
         ensures answer { says self.now result ≡ set_interface self.now.description.now.file self.now.state.now self.now.setup }
         ensures asked { AsksFor self.now result }
@@ -267,6 +283,7 @@ impl<'r> Request<'r> {
     }
 
     /// What is done where no data stage is asked for.
+    #[inline(always)]
     fn done(&self, change: Change) -> Response
         ensures answer { says self.now result ≡ does self.now.setup (changed self.now.state.now change) }
         ensures asked { AsksFor self.now result }
@@ -279,6 +296,7 @@ impl<'r> Request<'r> {
     }
 
     /// A byte, where one is asked for.
+    #[inline(always)]
     fn byte(&self, byte: u8) -> Response
         ensures answer { says self.now result ≡ tells self.now.setup (byte ∷ []) }
         ensures asked { AsksFor self.now result }
@@ -290,6 +308,7 @@ impl<'r> Request<'r> {
     }
 
     /// A status with this first byte, where two are asked for.
+    #[inline(always)]
     fn status(&self, first: u8) -> Response
         ensures answer { says self.now result ≡ tells self.now.setup (first ∷ 0 ∷ []) }
         ensures asked { AsksFor self.now result }

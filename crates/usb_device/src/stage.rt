@@ -1,29 +1,9 @@
 //! Where a device stands in a transfer.
-use usb_fields::{Setup, Toggle};
+ghost use Rattle.std.specs.Prelude.{◌≡◌, ◌≤◌, length, take, drop};
+ghost use Rattle.usb_device.specs.inside.Stages.{data_bytes, source_bytes, IsData, IsSource};
 
-/// Where the bytes of a data stage stand.
-#[derive(Clone, Copy)]
-pub(crate) enum Source {
-    /// The descriptor at this place of the description.
-    Descriptor(usize),
-    /// The answer to GET_CONFIGURATION or GET_INTERFACE.
-    Byte([u8; 1]),
-    /// The answer to GET_STATUS.
-    Status([u8; 2]),
-}
-
-/// A place in a data stage.
-#[derive(Clone, Copy)]
-pub(crate) struct Cut {
-    /// Where the bytes stand.
-    pub(crate) source: Source,
-    /// wLength, above 0.
-    pub(crate) limit: usize,
-    /// How many bytes were sent and acknowledged.
-    pub(crate) offset: usize,
-    /// The toggle of the packet that is due.
-    pub(crate) toggle: Toggle,
-}
+use crate::description::Description;
+use usb_fields::Toggle;
 
 /// Where a device stands in a transfer.
 #[derive(Clone, Copy)]
@@ -33,11 +13,90 @@ pub(crate) enum Stage {
     /// In one that it refuses.
     Halted,
     /// In a data stage.
-    Sending(Cut),
+    Sending,
     /// In the status stage after a data stage.
     StatusOut,
     /// Past that status stage.
     Over,
-    /// In the status stage of a request without a data stage, and whether the request was carried out.
-    StatusIn(Setup, bool),
+    /// In the status stage of a request without a data stage.
+    StatusIn,
+}
+
+/// Where the bytes of a data stage stand.
+#[derive(Clone, Copy)]
+pub(crate) enum Source {
+    /// The descriptor at this place of the description.
+    Descriptor(usize),
+    /// The bytes that the device keeps for a status.
+    Kept,
+}
+
+/// A place in a data stage.
+#[derive(Clone, Copy)]
+pub(crate) struct DataStage {
+    /// Where the bytes stand.
+    pub(crate) source: Source,
+    /// The answer to GET_STATUS, or in the first byte that to GET_CONFIGURATION or GET_INTERFACE.
+    pub(crate) kept: [u8; 2],
+    /// How many bytes there are to send.
+    pub(crate) count: usize,
+    /// wLength, above 0.
+    pub(crate) limit: usize,
+    /// How many bytes were sent and acknowledged.
+    pub(crate) offset: usize,
+    /// The toggle of the packet that is due.
+    pub(crate) toggle: Toggle,
+}
+
+impl DataStage {
+    ghost use Rattle.usb_fields.specs.declared.packet.Toggle.TheVariants.{Data1};
+
+    /// With nothing to send.
+    pub(crate) fn empty() -> DataStage {
+        DataStage {
+            source: Source::Kept,
+            kept: [0; 2],
+            count: 0,
+            limit: 0,
+            offset: 0,
+            toggle: Toggle::Data1,
+        }
+    }
+
+    /// Begins to send so many bytes of the source, where up to `limit` are asked for.
+    pub(crate) fn begin(&mut self, count: usize, limit: usize)
+        ensures { self.new ≡ record self.old { count = count; limit = limit; offset = 0; toggle = Data1 } }
+    {
+        self.count = count;
+        self.limit = limit;
+        self.offset = 0;
+        self.toggle = Toggle::Data1;
+    }
+
+    /// The packet that is due.
+    pub(crate) fn packet<'a>(&'a self, d: &'a Description) -> &'a [u8]
+        requires { IsData d.now.file self.now }
+        ensures { result.now ≡ take d.now.file.device.packet (drop self.now.offset (data_bytes d.now.file self.now)) }
+    {
+        packet_at(&self.source_bytes(d)[..self.count], self.offset, d.packet())
+    }
+
+    fn source_bytes<'a>(&'a self, d: &'a Description) -> &'a [u8]
+        requires { IsSource d.now.file self.now.source }
+        ensures { result.now ≡ source_bytes d.now.file self.now.source self.now.kept }
+    {
+        match self.source {
+            Source::Descriptor(place) => d.bytes(place),
+            Source::Kept => self.kept.as_slice(),
+        }
+    }
+}
+
+/// The packet at an offset: as many bytes as a packet has, or what is left.
+fn packet_at(bytes: &[u8], offset: usize, packet: usize) -> &[u8]
+    requires { offset ≤ length bytes.now }
+    ensures { result.now ≡ take packet (drop offset bytes.now) }
+{
+    let left = bytes.len() - offset;
+    &bytes[offset..offset + left.min(packet)]
 }

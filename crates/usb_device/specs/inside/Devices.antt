@@ -7,29 +7,33 @@ use Rattle.usb_device.specs.declared.device.Device.TheInside.{Inside}
 use Rattle.usb_device.specs.declared.endpoint_zero.EndpointZero.{EndpointZero}
 use Rattle.usb_device.specs.declared.endpoint_zero.Reaction.{Reaction}
 use Rattle.usb_device.specs.Requests.{answer}
-use Rattle.usb_device.specs.Step.{DeviceView, Served, served_in, served_out}
+use Rattle.usb_device.specs.Step.{DeviceStage, DeviceView, Served, served_in, served_out}
 use Rattle.usb_device.specs.View.{View}
 use Rattle.usb_device.specs.inside.Reactions.{packet_due, reply_with}
 use Rattle.usb_device.specs.inside.Stages.{stage_of, IsStage}
 
+-- the stage that a device with these descriptors is in
+abbrev pub stage_in : DescriptorFile → EndpointZero → DeviceStage
+stage_in f e = stage_of f e.stage e.data_stage e.request e.carried_out
+
 -- what changes in a device with these descriptors
 abbrev pub device_of : DescriptorFile → EndpointZero → DeviceView
-device_of f e = record { state = e.state; stage = stage_of f e.stage; pending = e.pending }
+device_of f e = record { state = e.state; stage = stage_in f e; pending = e.pending }
 
 -- it is that of a device with these descriptors
 abbrev pub IsOf : DescriptorFile → EndpointZero → Type 0
-IsOf f e = IsStage f e.stage
+IsOf f e = IsStage f e.stage e.data_stage
 
 -- IN to a device with these descriptors, and OUT
 abbrev pub sent_by : DescriptorFile → EndpointZero → Served
-sent_by f e = served_in (answer f) f.device.packet e.state (stage_of f e.stage)
+sent_by f e = served_in (answer f) f.device.packet e.state (stage_in f e)
 
 abbrev pub received_by : DescriptorFile → EndpointZero → Toggle → List ℕ → Served
-received_by f e toggle bytes = served_out e.state (stage_of f e.stage) toggle bytes
+received_by f e toggle bytes = served_out e.state (stage_in f e) toggle bytes
 
 -- the reply, where its bytes are those of the packet that is due
 abbrev pub replied : DescriptorFile → EndpointZero → Reaction → Reply
-replied f e reaction = reply_with (packet_due f.device.packet (stage_of f e.stage)) reaction
+replied f e reaction = reply_with (packet_due f.device.packet (stage_in f e)) reaction
 
 -- a device as callers see it
 abbrev pub view_of : Inside → View

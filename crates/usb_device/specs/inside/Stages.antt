@@ -1,53 +1,54 @@
 -- Stages, as the code holds them: a place in the bytes and a toggle, where the definition has a list of packets.
-use Rattle.std.specs.Prelude.{◌≡◌, ℕ, ◌*◌, ◌/◌, ◌<◌, ◌≤◌, List, length, take}
+use Rattle.std.specs.Prelude.{◌≡◌, ℕ, ◌*◌, ◌/◌, ◌<◌, ◌≤◌, Bool, List, length, take}
 use Rattle.usb_fields.specs.Packets.{toggle_of}
+use Rattle.usb_fields.specs.declared.setup.Setup.{Setup}
 use Rattle.usb_file_data.specs.declared.file.DescriptorFile.{DescriptorFile}
 use Rattle.usb_device.specs.declared.stage.Source.{Source}
-use Rattle.usb_device.specs.declared.stage.Source.TheVariants.{Descriptor, Byte, Status}
-use Rattle.usb_device.specs.declared.stage.Cut.{Cut}
+use Rattle.usb_device.specs.declared.stage.Source.TheVariants.{Descriptor, Kept}
+use Rattle.usb_device.specs.declared.stage.DataStage.{DataStage}
 use Rattle.usb_device.specs.declared.stage.Stage.{Stage}
 use Rattle.usb_device.specs.declared.stage.Stage.TheVariants as stages
 use Rattle.usb_device.specs.Step.{DeviceStage, Idle, Halted, Sending, StatusOut, Over, StatusIn}
 use Rattle.usb_device.specs.inside.Places.{descriptors, descriptor_at}
 
--- the bytes of a source
-abbrev pub source_bytes : DescriptorFile → Source → List ℕ
-source_bytes f (Descriptor place) = descriptor_at f place
-source_bytes f (Byte byte) = byte
-source_bytes f (Status bytes) = bytes
+-- the bytes of a source, where these are kept
+abbrev pub source_bytes : DescriptorFile → Source → List ℕ → List ℕ
+source_bytes f (Descriptor place) kept = descriptor_at f place
+source_bytes f Kept kept = kept
 
 -- the bytes that a data stage answers with
-abbrev pub cut_bytes : DescriptorFile → Cut → List ℕ
-cut_bytes f c = take c.limit (source_bytes f c.source)
+abbrev pub data_bytes : DescriptorFile → DataStage → List ℕ
+data_bytes f d = take d.count (source_bytes f d.source d.kept)
 
--- the stage
-abbrev pub stage_of : DescriptorFile → Stage → DeviceStage
-stage_of f stages.Idle = Idle
-stage_of f stages.Halted = Halted
-stage_of f (stages.Sending c) = Sending (cut_bytes f c) c.limit (c.offset / f.device.packet)
-stage_of f stages.StatusOut = StatusOut
-stage_of f stages.Over = Over
-stage_of f (stages.StatusIn request carried_out) = StatusIn request carried_out
+-- the stage, where this is the data stage or that the request of the status stage
+abbrev pub stage_of : DescriptorFile → Stage → DataStage → Setup → Bool → DeviceStage
+stage_of f stages.Idle d request carried_out = Idle
+stage_of f stages.Halted d request carried_out = Halted
+stage_of f stages.Sending d request carried_out = Sending (data_bytes f d) d.limit (d.offset / f.device.packet)
+stage_of f stages.StatusOut d request carried_out = StatusOut
+stage_of f stages.Over d request carried_out = Over
+stage_of f stages.StatusIn d request carried_out = StatusIn request carried_out
 
 -- the source is there
 abbrev pub IsSource : DescriptorFile → Source → Type 0
 IsSource f (Descriptor place) = place < length (descriptors f)
-IsSource f (Byte byte) = Unit {0}
-IsSource f (Status bytes) = Unit {0}
+IsSource f Kept = Unit {0}
 
 -- a place in a data stage is a whole number of packets, before its end
-pub record IsCut (f : DescriptorFile) (c : Cut) : Type 0 where
-  pub source : IsSource f c.source
-  pub whole : c.offset ≡ c.offset / f.device.packet * f.device.packet
-  pub inside : c.offset ≤ length (cut_bytes f c)
-  pub asked : c.offset < c.limit
-  pub toggle : c.toggle ≡ toggle_of (c.offset / f.device.packet)
+pub record IsData (f : DescriptorFile) (d : DataStage) : Type 0 where
+  pub source : IsSource f d.source
+  pub count : d.count ≤ length (source_bytes f d.source d.kept)
+  pub fits : d.count ≤ d.limit
+  pub whole : d.offset ≡ d.offset / f.device.packet * f.device.packet
+  pub inside : d.offset ≤ d.count
+  pub asked : d.offset < d.limit
+  pub toggle : d.toggle ≡ toggle_of (d.offset / f.device.packet)
 
 -- the stage is one of a device with these descriptors
-abbrev pub IsStage : DescriptorFile → Stage → Type 0
-IsStage f stages.Idle = Unit {0}
-IsStage f stages.Halted = Unit {0}
-IsStage f (stages.Sending c) = IsCut f c
-IsStage f stages.StatusOut = Unit {0}
-IsStage f stages.Over = Unit {0}
-IsStage f (stages.StatusIn request carried_out) = Unit {0}
+abbrev pub IsStage : DescriptorFile → Stage → DataStage → Type 0
+IsStage f stages.Idle d = Unit {0}
+IsStage f stages.Halted d = Unit {0}
+IsStage f stages.Sending d = IsData f d
+IsStage f stages.StatusOut d = Unit {0}
+IsStage f stages.Over d = Unit {0}
+IsStage f stages.StatusIn d = Unit {0}
