@@ -89,15 +89,25 @@ fn drive(description: &Description, script: &str) -> Ending {
     let (mut number, mut steps) = (0u64, 0u64);
     for line in script.lines() {
         number = number.saturating_add(1);
-        let Some((step, wanted)) = line.split_once("->") else {
+        let line = line.trim();
+        if !is_step(line) {
             continue;
-        };
+        }
+        let (step, wanted) = line.split_once("->").unwrap_or((line, ""));
         steps = steps.saturating_add(1);
         match act(&mut device, &mut address, step.trim(), wanted.trim()) {
-            Some(true) => {}
-            Some(false) => return Ending::Differs(number),
+            Some(agrees) if agrees || wanted.is_empty() => {}
+            Some(_) => return Ending::Differs(number),
             None => return Ending::NoStep(number),
         }
     }
     Ending::Agrees(steps)
+}
+
+/// Whether a line is a step with the device, or the speed at which it was made.
+fn is_step(line: &str) -> bool {
+    !line.is_empty()
+        && !line.starts_with("#")
+        && !line.starts_with("file ")
+        && !line.starts_with("spare ")
 }

@@ -4,4 +4,5 @@ pub mod Requests
 pub mod Step
 pub mod Accepted
 pub mod View
+pub mod EndpointZero
 pub mod inside

@@ -34,3 +34,12 @@ with_halt halts endpoint = bit_or halts (2 ^ halt_place endpoint)
 -- the halts without that of the endpoint
 abbrev pub without_halt : ℕ → ℕ → ℕ
 without_halt halts endpoint = bit_and halts (bit_not w32 (2 ^ halt_place endpoint))
+
+-- The halted endpoints as a set: whether the endpoint with this address is in it. The law `halts_are_a_set` says of
+-- both halves of the number, OUT and IN, that it is this set and nothing else.
+abbrev pub is_halted : ℕ → ℕ → Bool
+is_halted halts endpoint = halt_of halts endpoint == 1
+
+-- whether two addresses are of one endpoint, with its number in bits 3..0 and its direction in bit 7 (9.6.6)
+abbrev pub is_same_endpoint : ℕ → ℕ → Bool
+is_same_endpoint a b = (a % 16 == b % 16) && (a / 128 % 2 == b / 128 % 2)

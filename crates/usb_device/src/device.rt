@@ -83,7 +83,7 @@ impl<'d> Device<'d> {
         ensures reply { reply_with (packet_due self.new.description.file.device.packet self.new.device.stage) result ≡ (served_by self.old.description.file self.old.device (sent_of t.now) ready).reply }
         ensures device { self.new ≡ record self.old { device = (served_by self.old.description.file self.old.device (sent_of t.now) ready).device } }
     {
-        self.endpoint_zero.serve(self.description, t, ready)
+        self.endpoint_zero.react(self.description, t, ready)
     }
 
     fn packet(&self) -> &[u8]

@@ -1,6 +1,7 @@
 //! The device's end of the control transfers of endpoint zero.
+ghost use Rattle.std.specs.Borrow.{sem};
 ghost use Rattle.std.specs.Prelude.{◌≡◌, ◌<◌, ◌≤◌, ◌/◌, suc, false, take, drop};
-ghost use Rattle.usb_fields.specs.Packet.{sent_of};
+ghost use Rattle.usb_fields.specs.Packet.{reply_of, sent_of};
 ghost use Rattle.usb_fields.specs.Packets.{packets};
 ghost use Rattle.usb_device.specs.Requests.{answer};
 ghost use Rattle.usb_device.specs.Step.{begun, carried_out, is_set_address, next_stage, Sending};
@@ -12,7 +13,7 @@ use crate::request::Request;
 use crate::response::Response;
 use crate::stage::{DataStage, Source, Stage};
 use crate::state::State;
-use usb_fields::{Setup, Stage as Token, Toggle, Transaction};
+use usb_fields::{Answer, Setup, Stage as Token, Toggle, Transaction};
 
 /// What a device answers to a transaction, with the bytes left out.
 #[derive(Clone, Copy)]
@@ -25,12 +26,25 @@ pub(crate) enum Reaction {
     Silence,
 }
 
-/// What changes in a device: its state, where it stands in a transfer, and whether its last answer
-/// waits for an ACK. It borrows nothing: its calls are given the description, always the same one.
+/// What changes in a device: its state, where it stands in a transfer, and whether its last answer waits for an
+/// ACK. [`Device`](crate::Device) is a pair of a description and this.
 ///
-/// What a stage needs stands beside it and not in it, so that a step writes only what it changes.
+/// It borrows nothing, and so it can be kept beside its description where a `Device` can't, as behind one pointer of
+/// a program in another language. Its calls are given the description, always the one that it was made for.
+///
+/// ```rust
+/// // SET_ADDRESS 5.
+/// let mut endpoint_zero = EndpointZero::new(&description);
+/// let setup = Transaction { address: 0, stage: Stage::Setup([0, 5, 5, 0, 0, 0, 0, 0]) };
+/// assert_eq!(rt; endpoint_zero.serve(&description, &setup, true), Answer::Ack);
+/// let status = Transaction { address: 0, stage: Stage::In };
+/// assert_eq!(rt; endpoint_zero.serve(&description, &status, true), Answer::Data(Toggle::Data1, &[]));
+/// endpoint_zero.acked(&description);
+/// assert_eq!(rt; endpoint_zero.state().address, 5);
+/// ```
+// What a stage needs stands beside it and not in it, so that a step writes only what it changes.
 #[derive(Clone, Copy)]
-pub(crate) struct EndpointZero {
+pub struct EndpointZero {
     state: State,
     stage: Stage,
     /// In the stage `Sending`: the data stage.
@@ -45,11 +59,14 @@ pub(crate) struct EndpointZero {
 impl EndpointZero {
     ghost use Rattle.usb_device.specs.Step.{new_device};
     ghost use Rattle.usb_device.specs.View.{acked_by, served_by};
-    ghost use Rattle.usb_device.specs.inside.Devices.{device_of, received_by, replied, sent_by, stage_in, IsOf};
+    ghost use Rattle.usb_file_data.specs.declared.file.DescriptorFile.{DescriptorFile};
+    ghost use Rattle.usb_device.specs.EndpointZero.{device_of, IsOf};
+    ghost use Rattle.usb_device.specs.inside.Devices.{received_by, replied, sent_by};
+    ghost use Rattle.usb_device.specs.inside.Lending.{PartEndsAs};
     ghost use Rattle.usb_device.specs.inside.Reactions.{packet_due};
 
-    /// That of a new device, and of one after a bus reset.
-    pub(crate) fn new(d: &Description) -> EndpointZero
+    /// That of a new device with this description, and of one after a bus reset.
+    pub fn new(d: &Description) -> EndpointZero
         ensures device { device_of d.now.file result ≡ new_device }
         ensures of { IsOf d.now.file result }
     {
@@ -65,14 +82,34 @@ impl EndpointZero {
     }
 
     /// The state.
-    pub(crate) fn state(&self) -> State
-        ensures { result ≡ self.now.state }
+    pub fn state(&self) -> State
+        ensures { (f : DescriptorFile) → result ≡ (device_of f self.now).state }
     {
         self.state
     }
 
-    /// One transaction.
-    pub(crate) fn serve(&mut self, d: &Description, t: &Transaction<'_>, ready: bool) -> Reaction
+    /// One transaction, as [`Device::serve`](crate::Device::serve) has it.
+    pub fn serve<'a>(
+        &'a mut self,
+        d: &'a Description,
+        t: &Transaction<'_>,
+        ready: bool,
+    ) -> Answer<'a>
+        requires { IsOf d.now.file self.old }
+        ensures answer { reply_of result ≡ (served_by d.now.file (device_of d.now.file self.entry.now) (sent_of t.now) ready).reply }
+        ensures* after { sem 𝓛 (PartEndsAs self.entry d.now.file (served_by d.now.file (device_of d.now.file self.old) (sent_of t.now) ready).device) }
+    {
+        match self.react(d, t, ready) {
+            Reaction::Ack => Answer::Ack,
+            Reaction::Nak => Answer::Nak,
+            Reaction::Stall => Answer::Stall,
+            Reaction::Packet(toggle) => Answer::Data(toggle, self.packet(d)),
+            Reaction::Silence => Answer::Silence,
+        }
+    }
+
+    /// One transaction, with the bytes of the answer left out.
+    pub(crate) fn react(&mut self, d: &Description, t: &Transaction<'_>, ready: bool) -> Reaction
         requires { IsOf d.now.file self.old }
         ensures reply { replied d.now.file self.new result ≡ (served_by d.now.file (device_of d.now.file self.old) (sent_of t.now) ready).reply }
         ensures device { device_of d.now.file self.new ≡ (served_by d.now.file (device_of d.now.file self.old) (sent_of t.now) ready).device }
@@ -226,8 +263,9 @@ impl EndpointZero {
         }
     }
 
-    /// The host's ACK of the data packet before.
-    pub(crate) fn acked(&mut self, d: &Description)
+    /// The host's ACK of the data packet that [`EndpointZero::serve`] answered right before. Anywhere else, and a
+    /// second time, it changes nothing.
+    pub fn acked(&mut self, d: &Description)
         requires { IsOf d.now.file self.old }
         ensures device { device_of d.now.file self.new ≡ acked_by d.now.file (device_of d.now.file self.old) }
         ensures of { IsOf d.now.file self.new }

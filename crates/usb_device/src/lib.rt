@@ -3,7 +3,8 @@
 //! A [`Description`] is made of the descriptors and a speed, and encodes each descriptor once. A [`Device`]
 //! borrows it: [`Device::serve`] answers a transaction, and lends what it sends from the description, so that a
 //! device takes no memory and can't fail. [`Device::acked`] tells it that the host acknowledged a data packet,
-//! and [`Device::state`] what it keeps between requests.
+//! and [`Device::state`] what it keeps between requests. [`EndpointZero`] is what changes in a device, without the
+//! description.
 //!
 //! - Which descriptors make a device is `specs/Accepted.antt`.
 //! - What comes of each request is `specs/Requests.antt`, a definition for each row of the table, over
@@ -21,6 +22,7 @@ mod fault;
 mod halts;
 mod image;
 mod imaging;
+pub mod laws;
 mod request;
 mod response;
 mod selected;
@@ -29,5 +31,6 @@ mod state;
 
 pub use description::Description;
 pub use device::Device;
+pub use endpoint_zero::EndpointZero;
 pub use fault::DescriptionFault;
 pub use state::State;

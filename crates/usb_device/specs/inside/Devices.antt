@@ -7,22 +7,10 @@ use Rattle.usb_device.specs.declared.device.Device.TheInside.{Inside}
 use Rattle.usb_device.specs.declared.endpoint_zero.EndpointZero.{EndpointZero}
 use Rattle.usb_device.specs.declared.endpoint_zero.Reaction.{Reaction}
 use Rattle.usb_device.specs.Requests.{answer}
-use Rattle.usb_device.specs.Step.{DeviceStage, DeviceView, Served, served_in, served_out}
+use Rattle.usb_device.specs.EndpointZero.{stage_in, device_of, IsOf}
+use Rattle.usb_device.specs.Step.{Served, served_in, served_out}
 use Rattle.usb_device.specs.View.{View}
 use Rattle.usb_device.specs.inside.Reactions.{packet_due, reply_with}
-use Rattle.usb_device.specs.inside.Stages.{stage_of, IsStage}
-
--- the stage that a device with these descriptors is in
-abbrev pub stage_in : DescriptorFile → EndpointZero → DeviceStage
-stage_in f e = stage_of f e.stage e.data_stage e.request e.carried_out
-
--- what changes in a device with these descriptors
-abbrev pub device_of : DescriptorFile → EndpointZero → DeviceView
-device_of f e = record { state = e.state; stage = stage_in f e; pending = e.pending }
-
--- it is that of a device with these descriptors
-abbrev pub IsOf : DescriptorFile → EndpointZero → Type 0
-IsOf f e = IsStage f e.stage e.data_stage
 
 -- IN to a device with these descriptors, and OUT
 abbrev pub sent_by : DescriptorFile → EndpointZero → Served
