@@ -21,8 +21,9 @@ use std::rt::{Env, Files};
 use std::{env, fs, io};
 
 /// The scripts that are played where none is named.
-const SCRIPTS: [&str; 9] = [
+const SCRIPTS: [&str; 10] = [
     "refusals",
+    "high-speed",
     "second-speed",
     "control-transfers",
     "handshakes",
