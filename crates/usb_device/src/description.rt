@@ -101,6 +101,7 @@ impl Description {
 
     /// bMaxPacketSize0, in bytes.
     #[tactic(auto, using(crate::proofs::AcceptedLemmas::packet_some))]
+    #[inline(always)]
     pub(crate) fn packet(&self) -> usize
         ensures packet { result ≡ self.now.file.device.packet }
         ensures some { 0 < result }
@@ -110,6 +111,7 @@ impl Description {
 
     /// The bytes of the descriptor at this place.
     #[tactic(auto, using(crate::proofs::PlaceLemmas::descriptor_found))]
+    #[inline(always)]
     pub(crate) fn bytes(&self, place: usize) -> &[u8]
         requires { place < length (descriptors self.now.file) }
         ensures { result.now ≡ descriptor_at self.now.file place }

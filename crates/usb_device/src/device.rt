@@ -1,4 +1,5 @@
-//! A device.
+//! A device. Its calls are inlined down to the request of a SETUP, so that an answer, which is of several shapes, needs
+//! no room in memory.
 ghost use Rattle.std.specs.Prelude.{◌≡◌};
 ghost use Rattle.std.specs.Borrow.{sem};
 
@@ -66,6 +67,7 @@ impl<'d> Device<'d> {
 
     /// One transaction. Where `ready` is false the device has no time now: it answers NAK, but to a SETUP,
     /// which every device has to take (USB 2.0, 8.5.3.1).
+    #[inline(always)]
     pub fn serve<'a>(&'a mut self, t: &Transaction, ready: bool) -> Answer<'a>
         ensures answer { reply_of result ≡ (served_by self.entry.now.description.file self.entry.now.device (sent_of t.now) ready).reply }
         ensures* after { sem 𝓛 (EndsAs self.entry (record self.old { device = (served_by self.old.description.file self.old.device (sent_of t.now) ready).device })) }
@@ -79,6 +81,7 @@ impl<'d> Device<'d> {
         }
     }
 
+    #[inline(always)]
     fn react(&mut self, t: &Transaction<'_>, ready: bool) -> Reaction
         ensures reply { reply_with (packet_due self.new.description.file.device.packet self.new.device.stage) result ≡ (served_by self.old.description.file self.old.device (sent_of t.now) ready).reply }
         ensures device { self.new ≡ record self.old { device = (served_by self.old.description.file self.old.device (sent_of t.now) ready).device } }
@@ -86,6 +89,7 @@ impl<'d> Device<'d> {
         self.endpoint_zero.react(self.description, t, ready)
     }
 
+    #[inline(always)]
     fn packet(&self) -> &[u8]
         ensures { result.now ≡ packet_due self.now.description.file.device.packet self.now.device.stage }
     {
@@ -94,6 +98,7 @@ impl<'d> Device<'d> {
 
     /// The host's ACK of the data packet that [`Device::serve`] answered right before. Anywhere else, and a
     /// second time, it changes nothing.
+    #[inline(always)]
     pub fn acked(&mut self)
         ensures { self.new ≡ record self.old { device = acked_by self.old.description.file self.old.device } }
     {

@@ -89,6 +89,7 @@ impl EndpointZero {
     }
 
     /// One transaction, as [`Device::serve`](crate::Device::serve) has it.
+    #[inline(always)]
     pub fn serve<'a>(
         &'a mut self,
         d: &'a Description,
@@ -109,6 +110,7 @@ impl EndpointZero {
     }
 
     /// One transaction, with the bytes of the answer left out.
+    #[inline(always)]
     pub(crate) fn react(&mut self, d: &Description, t: &Transaction<'_>, ready: bool) -> Reaction
         requires { IsOf d.now.file self.old }
         ensures reply { replied d.now.file self.new result ≡ (served_by d.now.file (device_of d.now.file self.old) (sent_of t.now) ready).reply }
@@ -188,6 +190,7 @@ impl EndpointZero {
 
     /// An IN transaction.
     #[tactic(auto, using(crate::proofs::StageLemmas::packets_left))]
+    #[inline(always)]
     fn send(&mut self, d: &Description) -> Reaction
         requires { IsOf d.now.file self.old }
         ensures reply { replied d.now.file self.new result ≡ (sent_by d.now.file self.old).reply }
@@ -213,6 +216,7 @@ impl EndpointZero {
     }
 
     /// An OUT transaction.
+    #[inline(always)]
     fn receive(&mut self, d: &Description, toggle: Toggle, bytes: &[u8]) -> Reaction
         requires { IsOf d.now.file self.old }
         ensures reply { replied d.now.file self.new result ≡ (received_by d.now.file self.old toggle bytes.now).reply }
@@ -237,6 +241,7 @@ impl EndpointZero {
     }
 
     /// STALL, until the next SETUP.
+    #[inline(always)]
     fn stall(&mut self, d: &Description) -> Reaction
         ensures reply { result ≡ Reaction.Stall }
         ensures device { self.new ≡ record self.old { stage = Stage.Halted; pending = false } }
@@ -265,6 +270,7 @@ impl EndpointZero {
 
     /// The host's ACK of the data packet that [`EndpointZero::serve`] answered right before. Anywhere else, and a
     /// second time, it changes nothing.
+    #[inline(always)]
     pub fn acked(&mut self, d: &Description)
         requires { IsOf d.now.file self.old }
         ensures device { device_of d.now.file self.new ≡ acked_by d.now.file (device_of d.now.file self.old) }
@@ -288,6 +294,7 @@ impl EndpointZero {
 
     /// The packet that was due was acknowledged: another is due then, or the status stage.
     #[tactic(auto, using(crate::proofs::StageLemmas::stages))]
+    #[inline(always)]
     fn go_on(&mut self, d: &Description)
         requires sending { self.old.stage ≡ Stage.Sending }
         requires due { IsData d.now.file self.old.data_stage }
@@ -306,6 +313,7 @@ impl EndpointZero {
 
     /// The bytes of the packet that is due, or none.
     #[tactic(auto, using(crate::proofs::StageLemmas::packets_left))]
+    #[inline(always)]
     pub(crate) fn packet<'a>(&'a self, d: &'a Description) -> &'a [u8]
         requires { IsOf d.now.file self.now }
         ensures { result.now ≡ packet_due d.now.file.device.packet (device_of d.now.file self.now).stage }

@@ -62,6 +62,7 @@ impl Image {
     }
 
     /// The one at this place.
+    #[inline(always)]
     pub(crate) fn get(&self, place: usize) -> &[u8]
         requires { place < length self.now }
         ensures { slice_get self.now place ≡ Some result.now }

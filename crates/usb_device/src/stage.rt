@@ -74,6 +74,7 @@ impl DataStage {
     }
 
     /// The packet that is due.
+    #[inline(always)]
     pub(crate) fn packet<'a>(&'a self, d: &'a Description) -> &'a [u8]
         requires { IsData d.now.file self.now }
         ensures { result.now ≡ take d.now.file.device.packet (drop self.now.offset (data_bytes d.now.file self.now)) }
@@ -81,6 +82,7 @@ impl DataStage {
         packet_at(&self.source_bytes(d)[..self.count], self.offset, d.packet())
     }
 
+    #[inline(always)]
     fn source_bytes<'a>(&'a self, d: &'a Description) -> &'a [u8]
         requires { IsSource d.now.file self.now.source }
         ensures { result.now ≡ source_bytes d.now.file self.now.source self.now.kept }
@@ -93,6 +95,7 @@ impl DataStage {
 }
 
 /// The packet at an offset: as many bytes as a packet has, or what is left.
+#[inline(always)]
 fn packet_at(bytes: &[u8], offset: usize, packet: usize) -> &[u8]
     requires { offset ≤ length bytes.now }
     ensures { result.now ≡ take packet (drop offset bytes.now) }
