@@ -1,9 +1,10 @@
 -- Rows of cells: which pairs stood.
-use Rattle.std.proofs.Common.{◌≡◌, ℕ, zero, suc, ◌+◌, ◌<◌, ◌≤◌, ◌==◌, ◌&&◌, ◌||◌, List, [], ◌∷◌, ◌++◌, Bool, true, false, refl, ap, sym, ◌∙◌, length, get_or, drop, replicate, arith, append_assoc}
+use Rattle.std.proofs.Common.{◌≡◌, ℕ, zero, suc, ◌+◌, ◌<◌, ◌≤◌, ◌==◌, ◌&&◌, ◌||◌, List, [], ◌∷◌, ◌++◌, Bool, true, false, refl, ap, sym, ◌∙◌, length, get_or, drop, take, replicate, arith, append_assoc}
 use Rattle.std.specs.Prelude.{slice_set, slice_index_or}
 use Rattle.std.specs.List.{list_any, AllByRecursion}
 use Rattle.std.proofs.lemmas.List.{append-nil}
 use Rattle.std.proofs.lemmas.Bool.Decides.{nat_tests}
+use Rattle.std.proofs.lemmas.List.Folds.{list_any_more}
 use Rattle.std.proofs.lemmas.Grind.{common_steps}
 use Rattle.usb_set.specs.declared.tree.Setting.{Setting}
 use Rattle.usb_rules.specs.declared.finding.Part.{Part}
@@ -11,7 +12,7 @@ use Rattle.usb_rules.specs.declared.finding.Finding.{Finding}
 use Rattle.usb_rules.specs.Places.{when, finding, at_each_after}
 use Rattle.usb_rules.specs.Rules.{repeats_setting}
 use Rattle.usb_rules.specs.inside.Pairs.{IsRow, none_yet, pair_too, pairing}
-use Rattle.usb_base.proofs.Cells.{none_at}
+use Rattle.usb_base.proofs.Cells.{funext, none_at}
 
 -- ---- rows of cells
 
@@ -99,3 +100,18 @@ pairing_is part i before j (s ∷ settings) =
 pub repeated_settings_are : (part : Part) (i : ℕ) (settings : List Setting)
     → pairing part i none_yet 0 settings ≡ at_each_after (λ seen k s. when (repeats_setting seen s) (finding 3 part i k 0)) [] 0 settings
 repeated_settings_are part i settings = pairing_is part i [] 0 settings
+
+or_turn : (a b : Bool) → (a || b) ≡ (b || a)
+or_turn true true = refl
+or_turn true false = refl
+or_turn false true = refl
+or_turn false false = refl
+
+-- one setting more stood
+pub stood_more : (settings : List Setting) (j : ℕ) (s : Setting) → j < length settings → s ≡ get_or settings j s
+    → stood (take (j + 1) settings) ≡ pair_too s.number s.alternate (stood (take j settings))
+unfolding pair_too
+stood_more settings j s below is =
+    funext _ _ (λ n. funext _ _ (λ a.
+    let p : Setting → Bool = λ t. (t.number == n) && (t.alternate == a) in
+    list_any_more p settings j s below ∙ ap (λ t. list_any p (take j settings) || p t) (sym is) ∙ or_turn (list_any p (take j settings)) (p s)))
