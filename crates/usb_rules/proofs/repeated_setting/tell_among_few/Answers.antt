@@ -1,4 +1,4 @@
-use Rattle.std.proofs.Common.{◌≡◌, arith}
+use Rattle.std.proofs.Common.{arith}
 use Rattle.usb_rules.proofs.Pairing.{pairing_end, pairing_next, stood_more}
 use Rattle.usb_rules.proofs.repeated_setting.tell_among_few.Goals as goal
 
