@@ -15,6 +15,7 @@ use usb_set::Sequence;
 pub(crate) const MOST: usize = 16;
 
 /// What stands behind a space.
+#[inline(always)]
 pub(crate) fn skip_space(text: &[u8]) -> Option<&[u8]>
     ensures { MatchOption result (behind_space text.now ≡ None) (λ rest. behind_space text.now ≡ Some rest.now) }
 {
@@ -25,6 +26,7 @@ pub(crate) fn skip_space(text: &[u8]) -> Option<&[u8]>
 }
 
 /// The byte whose digits stand first, and what stands behind it.
+#[inline(always)]
 fn take_byte(text: &[u8]) -> Option<(u8, &[u8])>
     ensures { MatchOption result (byte_first text.now ≡ None) (λ p. byte_first text.now ≡ Some (p.0, p.1.now)) }
 {
@@ -34,6 +36,7 @@ fn take_byte(text: &[u8]) -> Option<(u8, &[u8])>
     }
 }
 
+#[inline(always)]
 #[tactic(auto, unfolding(crate::specs::inside::Fields::byte_of))]
 fn take_field_byte(begins: bool, text: &[u8]) -> Option<(u8, &[u8])>
     ensures { MatchOption result (byte_of begins text.now ≡ None) (λ p. byte_of begins text.now ≡ Some (p.0, p.1.now)) }
@@ -46,6 +49,7 @@ fn take_field_byte(begins: bool, text: &[u8]) -> Option<(u8, &[u8])>
 }
 
 /// Reads fields of fixed widths, and gives what stands behind them.
+#[inline(always)]
 pub(crate) fn take_bytes<'a>(
     form: &[bool],
     text: &'a [u8],
@@ -119,6 +123,7 @@ pub(crate) fn read_tail(
 }
 
 /// Fixed fields to the end of the line.
+#[inline(always)]
 #[tactic(auto, unfolding(crate::specs::inside::Items::fixed_in))]
 pub(crate) fn read_fixed(form: &[bool], text: &[u8]) -> Option<ArrayVec<u8, 16>>
     requires { length form.now ≤ 16 }
@@ -131,6 +136,7 @@ pub(crate) fn read_fixed(form: &[bool], text: &[u8]) -> Option<ArrayVec<u8, 16>>
 }
 
 /// Fixed fields and a tail to the end of the line.
+#[inline(always)]
 #[tactic(auto, unfolding(crate::specs::inside::Items::tailed_in))]
 pub(crate) fn read_tailed(
     alloc: Global,

@@ -7,6 +7,7 @@ pub mod WalkLemmas
 pub mod CountLemmas
 pub mod WholeLemmas
 pub mod ReadingLemmas
+pub mod FeedLemmas
 pub mod StepLemmas
 pub mod LessLemmas
 pub mod FileLemmas

@@ -117,39 +117,6 @@ lists_whole text d n f r e whole =
 pub missing_end : (text : List ℕ) (d : Option Draft) (n : ℕ) → Reading text d [] n → is_whole (so_far d) ≡ false → ListRefused text n whys.Missing
 missing_end text d n r e = record { so_far = so_far d; rest = []; begins = r.begins; fault = (refl, e) }
 
--- ---- the first line of a text
-
-pub line_ended : (text : List ℕ) (n : ℕ) → n < length text → list_all is_printable (take n text) ≡ true → slice_index text n ≡ 10 → FirstLine text (take n text) (drop (n + 1) text)
-line_ended text n lt print feed = record { parts = split text n lt feed; printable = print }
-  where
-    split : (text : List ℕ) (n : ℕ) → n < length text → slice_index text n ≡ 10 → text ≡ take n text ++ 10 ∷ drop (n + 1) text
-    split [] n lt feed = absurd (omega arith)
-    split (x ∷ text) zero lt feed = rw feed refl
-    split (x ∷ text) (suc n) lt feed =
-        let more : suc n + 1 ≡ suc (n + 1) = omega arith in
-        rw more (ap (λ (xs : List ℕ). x ∷ xs) (split text n (omega arith) feed))
-
-pub no_line_end : (text : List ℕ) (n : ℕ) → text ≢ [] → n ≡ length text → list_all is_printable (take n text) ≡ true → LineFaulty text
-no_line_end text n some e print =
-    let all : take n text ≡ text = take_whole text n e in
-    (take n text, [], some, sym (append-nil (take n text) ∙ all), print, tt)
-  where
-    take_whole : (text : List ℕ) (n : ℕ) → n ≡ length text → take n text ≡ text
-    take_whole [] zero e = refl
-    take_whole [] (suc n) e = absurd (omega arith)
-    take_whole (x ∷ text) zero e = absurd (omega arith)
-    take_whole (x ∷ text) (suc n) e = ap (λ (xs : List ℕ). x ∷ xs) (take_whole text n (omega arith))
-
-pub line_broken : (text : List ℕ) (n : ℕ) → text ≢ [] → n < length text → list_all is_printable (take n text) ≡ true → is_printable (slice_index text n) ≡ false → slice_index text n ≢ 10 → LineFaulty text
-line_broken text n some lt print bad other = (take n text, slice_index text n ∷ drop (n + 1) text, some, split text n lt, print, (bad, other))
-  where
-    split : (text : List ℕ) (n : ℕ) → n < length text → text ≡ take n text ++ slice_index text n ∷ drop (n + 1) text
-    split [] n lt = absurd (omega arith)
-    split (x ∷ text) zero lt = refl
-    split (x ∷ text) (suc n) lt =
-        let more : suc n + 1 ≡ suc (n + 1) = omega arith in
-        rw more (ap (λ (xs : List ℕ). x ∷ xs) (split text n (omega arith)))
-
 pub lists_end : (r : Result DescriptorFile ListFault) (text : List ℕ) (d : Option Draft) (n : ℕ) → Reading text d [] n → IfOk r (λ f. so_far d ≡ Some f)
     → IfOk r (λ f. is_whole (Some f) ≡ true) → IfOk r (λ f. Lists text f)
 lists_end (Err e) text d n reading is whole = tt

@@ -1,7 +1,8 @@
 -- A file so far that is whole has bytes.
-use Rattle.std.proofs.Common.{◌≡◌, ℕ, ◌<◌, ltb, Bool, true, false, cond, List, [], ◌∷◌, ◌++◌, map, Option, Some, None, is_none, length, refl, ap, sym, subst, ◌∙◌, arith}
+use Rattle.std.proofs.Common.{◌≡◌, ◌≢◌, ℕ, ◌*◌, ◌<◌, ◌==◌, ◌||◌, ◌&&◌, not, ltb, Bool, true, false, cond, List, [], ◌∷◌, ◌++◌, map, Option, Some, None, is_none, length, refl, ap, sym, subst, ◌∙◌, arith}
+use Rattle.std.specs.Prelude.{nat_lt}
 use Rattle.std.specs.List.{AllByRecursion, flat_map, list_any}
-use Rattle.std.proofs.lemmas.Bool.{le-ltb, ltb-false, or_from, or_parts}
+use Rattle.std.proofs.lemmas.Bool.{le-ltb, ltb-false, ne_eqb, or_from, or_parts}
 use Rattle.std.proofs.lemmas.List.Folds.{list_any-append}
 use Rattle.usb_base.specs.Bytes.{AreBytes}
 use Rattle.usb_fields.specs.Device.{device_bytes}
@@ -20,13 +21,15 @@ use Rattle.usb_file_data.specs.declared.file.DescriptorFile.{DescriptorFile}
 use Rattle.usb_file_data.specs.declared.file.Other.{Other}
 use Rattle.usb_file_data.specs.declared.file.Strings.{Strings}
 use Rattle.usb_file_data.specs.declared.fault.WriteFault.TheVariants as writes
-use Rattle.usb_file_data.specs.File.{File, are_wrong_strings, file_bytes, has_no_layout, has_wrong_count, has_wrong_kind, has_wrong_layout, other_bytes, sets_bytes, strings_bytes, whole_set}
+use Rattle.usb_file_data.specs.File.{File, are_wrong_strings, file_bytes, has_long_string, has_no_layout, has_wrong_count, has_wrong_kind, has_wrong_layout, is_long_string, other_bytes, sets_bytes, strings_bytes, whole_set}
 use Rattle.usb_file_data.specs.Named.{named_indices, other_sets}
 use Rattle.usb_listing_lines.specs.declared.item.Item.{Item}
 use Rattle.usb_listing_lines.specs.declared.item.Item.TheVariants as items
 use Rattle.usb_listing_lines.specs.Item.{IsItem}
 use Rattle.usb_listing_reader.specs.Order.{endpoint_items, other_items, set_items, setting_items, strings_items}
-use Rattle.usb_listing_reader.specs.Listings.{IsFront, is_over, is_whole}
+use Rattle.usb_listing_reader.specs.Listings.{IsFront, IsInOrder, StringsFollow, is_over, is_whole}
+use Rattle.usb_listing_reader.specs.inside.Drafts.{strings_total}
+use Rattle.usb_listing_reader.specs.inside.Lines.{has_all_strings}
 use Rattle.usb_listing_reader.proofs.LengthLemmas.{item_descriptor, set_is}
 
 abbrev All : List Item → Type 0
@@ -183,3 +186,60 @@ whole_file f front whole =
       layouts = n.2;
       texts = n.3;
     }
+
+-- ---- whether a front is whole
+
+-- a descriptor of so many units has no more than a descriptor can
+units_few : (us : List ℕ) → AreBytes (units_bytes us) → nat_lt 126 (length us) ≡ false
+units_few us fits = le-ltb 126 (length us) (let h = fits.0 in omega arith)
+
+strings_few : (us : List (List ℕ)) → All (map items.String us) → list_any is_long_string us ≡ false
+strings_few [] h = refl
+strings_few (u ∷ us) h = or_from (is_long_string u) (list_any is_long_string us) (units_few u h.0.fits) (strings_few us h.1)
+
+strings_follow : (f : DescriptorFile) (o : Option Other) (s : Strings) → IsInOrder f o (Some s) → StringsFollow (length (named_indices f)) s
+strings_follow f None s h = h.1
+strings_follow f (Some o) s h = h.2
+
+or_four : (a b c d : Bool) → a ≡ false → b ≡ false → c ≡ false → (a || b || c || d) ≡ d
+or_four a b c d ea eb ec = rw (ea, eb, ec) refl
+
+some_long : (us : List ℕ) → us ≢ [] → (length us == 0) ≡ false
+some_long [] h = absurd (h refl)
+some_long (u ∷ us) h = ne_eqb (length (u ∷ us)) 0 (omega arith)
+
+-- strings that may come are wrong only where some are due
+strings_wrong : (f : DescriptorFile) (s : Option Strings) (total : ℕ) → All (strings_items s) → IsInOrder f f.other s → total ≡ strings_total f s
+    → are_wrong_strings (length (named_indices f)) s ≡ not (has_all_strings f s total)
+strings_wrong f None total said order t = refl
+strings_wrong f (Some s) total said order t =
+    let follow = strings_follow f f.other s order in
+    let named : (length (named_indices f) == 0) ≡ false = ne_eqb (length (named_indices f)) 0 (let h = follow.named in omega (arith, h)) in
+    let long : has_long_string (Some s) ≡ false = or_from (is_long_string s.languages) (list_any is_long_string s.texts) (units_few s.languages said.0.fits) (strings_few s.texts said.1) in
+    or_four (length (named_indices f) == 0) (length s.languages == 0) (has_long_string (Some s)) (not (length s.texts == length s.languages * length (named_indices f)))
+    named (some_long s.languages said.0.alone) long
+    ∙ ap (λ (n : ℕ). not (length s.texts == n)) (sym t)
+
+none_left : (a b c d all : Bool) → b ≡ false → c ≡ false → d ≡ not all
+    → (not a && all) ≡ is_none (cond a (Some writes.Count) (cond b (Some writes.Kind) (cond c (Some writes.Layout) (cond d (Some writes.Texts) None))))
+none_left true b c d all eb ec ed = refl
+none_left false b c d true eb ec ed = rw (eb, ec, ed) refl
+none_left false b c d false eb ec ed = rw (eb, ec, ed) refl
+
+-- a front is whole where no set and no string is due
+pub whole_is : (f : DescriptorFile) (total : ℕ) → IsFront f → total ≡ strings_total f f.strings
+    → (not (has_wrong_count f) && has_all_strings f f.strings total) ≡ is_whole (Some f)
+whole_is f total front t =
+    let p = all_split (items.Device f.device ∷ flat_map set_items f.sets ++ other_items f.other) (strings_items f.strings) front.said in
+    let q = all_split (items.Device f.device ∷ flat_map set_items f.sets) (other_items f.other) p.0 in
+    let short = or_parts (list_any is_over f.sets) (list_any is_over (other_sets f.other)) front.short in
+    let layouts : has_wrong_layout f ≡ false =
+    or_from (list_any has_no_layout f.sets) (list_any has_no_layout (other_sets f.other)) (sets_allowed f.sets q.0.1 short.0) (other_allowed f.other q.1 short.1) in
+    none_left (has_wrong_count f) (has_wrong_kind f) (has_wrong_layout f) (are_wrong_strings (length (named_indices f)) f.strings) (has_all_strings f f.strings total)
+    front.kinds layouts (strings_wrong f f.strings total p.1 front.order t)
+
+-- the same, where all sets are there
+pub whole_then : (f : DescriptorFile) (total : ℕ) (sets strings : Bool) → IsFront f → total ≡ strings_total f f.strings → sets ≡ not (has_wrong_count f) → sets ≡ true
+    → strings ≡ has_all_strings f f.strings total → strings ≡ is_whole (Some f)
+whole_then f total sets strings front t is all s =
+    s ∙ ap (λ (b : Bool). b && has_all_strings f f.strings total) (sym all ∙ is) ∙ whole_is f total front t

@@ -1,17 +1,20 @@
 //! A listing, read line by line.
-ghost use Rattle.std.specs.Prelude.{◌≡◌, ◌≢◌, ◌<◌, ◌≤◌, [], IfErr, IfNone, IfOk, IfSome, Some, false, length, slice_index, take, true};
+ghost use Rattle.std.specs.Prelude.{◌≡◌, ◌≢◌, ◌<◌, [], if◌then◌else◌, not, IfErr, IfNone, IfOk, IfSome, Some, false, length, true};
 ghost use Rattle.std.specs.List.{list_all};
 ghost use Rattle.usb_listing_lines.specs.Words.{is_printable};
-ghost use Rattle.usb_listing_reader.specs.Listings.{FirstLine, IsBegun, LineFaulty, ListRefused, Lists, is_whole};
-ghost use Rattle.usb_listing_reader.specs.inside.Drafts.{AreCounted, HasWork, Reading, TakesLine, Told, so_far};
+ghost use Rattle.usb_file_data.specs.File.{has_wrong_count, is_other_miscounted};
+ghost use Rattle.usb_listing_reader.specs.Listings.{IsBegun, IsFront, ListRefused, Lists, is_whole};
+ghost use Rattle.usb_listing_reader.specs.inside.Drafts.{AreCounted, Counted, HasWork, Reading, TakesLine, Told, so_far};
 ghost use Rattle.usb_file_data.specs.declared.file.DescriptorFile.{DescriptorFile};
+ghost use Rattle.usb_listing_reader.specs.inside.Lines.{Cut, HasNoFeed, has_all_strings};
 ghost use Rattle.usb_listing_reader.specs.declared.fault.ListWhy.TheVariants as whys;
 
 use crate::draft::Draft;
 use crate::fault::{ListFault, ListWhy};
 use crate::step::step;
+use memchr::memchr;
 use std::alloc::Global;
-use usb_file_data::{DescriptorFile, write_refusal};
+use usb_file_data::{DescriptorFile, Other, Strings, count_named};
 
 /// Whether a line may have the byte.
 fn is_printable(c: u8) -> bool
@@ -20,34 +23,36 @@ fn is_printable(c: u8) -> bool
     (0x20..=0x7e).contains(&c)
 }
 
-/// How many bytes there are that a line may have, before another or the end.
-#[tactic(auto, using(std::proofs::lemmas::List::Folds::list_all_more))]
-fn line_length(text: &[u8]) -> usize
-    ensures within { result ≤ length text.now }
-    ensures before { list_all is_printable (take result text.now) ≡ true }
-    ensures stop { result < length text.now → is_printable (slice_index text.now result) ≡ false }
+/// Whether all bytes are such as a line may have.
+fn are_printable(line: &[u8]) -> bool
+    ensures { result ≡ list_all is_printable line.now }
 {
-    for (i, c) in text.iter().enumerate() {
-        if !is_printable(*c) {
-            return i;
-        }
-    }
-    text.len()
+    line.iter().all(|c| is_printable(*c))
 }
 
-/// The first line, without its line feed, and what stands behind it.
-#[tactic(auto, using(crate::proofs::ReadingLemmas::line_ended, crate::proofs::ReadingLemmas::no_line_end, crate::proofs::ReadingLemmas::line_broken))]
-fn take_line(text: &[u8]) -> Option<(&[u8], &[u8])>
-    requires { text.now ≢ [] }
-    ensures some { IfSome result (λ p. FirstLine text.now p.0.now p.1.now) }
+/// What stands before the first line feed, and behind it.
+#[tactic(auto, using(crate::proofs::FeedLemmas::feed_found, crate::proofs::FeedLemmas::feed_nowhere))]
+fn cut_line(text: &[u8]) -> Option<(&[u8], &[u8])>
+    ensures some { IfSome result (λ p. Cut text.now p.0.now p.1.now) }
     ensures shorter { IfSome result (λ p. length p.1.now < length text.now) }
-    ensures none { IfNone result (LineFaulty text.now) }
+    ensures none { IfNone result (HasNoFeed text.now) }
 {
-    let end = line_length(text);
-    if end == text.len() || text[end] != b'\n' {
-        return None;
+    match memchr(b'\n', text) {
+        Some(end) => Some((&text[..end], &text[end + 1..])),
+        None => None,
     }
-    Some((&text[..end], &text[end + 1..]))
+}
+
+/// Of a line that was refused for this reason, the first reason. A line is looked through for bytes that no
+/// line has only here, since one that says a descriptor has none.
+fn first_reason(line: &[u8], why: ListWhy) -> ListWhy
+    ensures { result ≡ (if list_all is_printable line.now then why else ListWhy.Line) }
+{
+    if are_printable(line) {
+        why
+    } else {
+        ListWhy::Line
+    }
 }
 
 /// Reads the first line into the draft, and gives what stands behind it.
@@ -66,7 +71,7 @@ fn read_next<'a>(
     ensures err { IfErr result (λ fault. Told (so_far draft.old) text.now fault.why) }
     ensures place { IfErr result (λ fault. fault.line ≡ line) }
 {
-    let Some((first, more)) = take_line(text) else {
+    let Some((first, more)) = cut_line(text) else {
         return Err(ListFault {
             line,
             why: ListWhy::Line,
@@ -74,7 +79,10 @@ fn read_next<'a>(
     };
     match step(alloc, draft, first) {
         Ok(()) => Ok(more),
-        Err(why) => Err(ListFault { line, why }),
+        Err(why) => Err(ListFault {
+            line,
+            why: first_reason(first, why),
+        }),
     }
 }
 
@@ -93,15 +101,46 @@ fn read_lines(alloc: Global, text: &[u8]) -> Result<(Option<Draft>, usize), List
     Ok((draft, line))
 }
 
-/// Whether nothing is due any more.
-fn is_whole(f: &DescriptorFile) -> bool
-    ensures { result ≡ is_whole (Some f.now) }
+/// Whether no set is due any more.
+fn has_all_sets(f: &DescriptorFile) -> bool
+    ensures { result ≡ not (has_wrong_count f.now) }
 {
-    write_refusal(f).is_none()
+    f.sets.len() == usize::from(f.device.configurations) && has_all_other(&f.other)
+}
+
+fn has_all_other(other: &Option<Other>) -> bool
+    ensures { result ≡ not (is_other_miscounted other.now) }
+{
+    match other {
+        None => true,
+        Some(other) => other.sets.len() == usize::from(other.qualifier.configurations),
+    }
+}
+
+/// Whether no string is due any more, of so many in all.
+fn has_all_strings(f: &DescriptorFile, strings: &Option<Strings>, total: usize) -> bool
+    ensures { result ≡ has_all_strings f.now strings.now total }
+{
+    match strings {
+        None => count_named(f) == 0,
+        Some(strings) => strings.texts.len() == total,
+    }
+}
+
+/// Whether nothing is due any more. What else could stand against the file was seen to line by line.
+#[tactic(auto, using(crate::proofs::WholeLemmas::whole_is))]
+fn is_whole(draft: &Draft) -> bool
+    requires counted { Counted draft.now }
+    requires front { IsFront draft.now.file }
+    ensures { result ≡ is_whole (Some draft.now.file) }
+{
+    has_all_sets(&draft.file) && has_all_strings(&draft.file, &draft.file.strings, draft.total)
 }
 
 /// The file of a draft, where nothing is due any more.
 fn finish(draft: Option<Draft>, line: usize) -> Result<DescriptorFile, ListFault>
+    requires counted { AreCounted draft }
+    requires begun { IsBegun (so_far draft) }
     ensures ok { IfOk result (λ f. so_far draft ≡ Some f) }
     ensures whole { IfOk result (λ f. is_whole (Some f) ≡ true) }
     ensures err { IfErr result (λ fault. is_whole (so_far draft) ≡ false) }
@@ -109,7 +148,7 @@ fn finish(draft: Option<Draft>, line: usize) -> Result<DescriptorFile, ListFault
 {
     match draft {
         Some(draft) => {
-            if is_whole(&draft.file) {
+            if is_whole(&draft) {
                 Ok(draft.file)
             } else {
                 Err(ListFault {
