@@ -8,6 +8,7 @@
 
 mod files;
 mod host;
+mod listings;
 mod rules;
 mod transfers;
 mod work;

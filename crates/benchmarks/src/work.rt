@@ -1,6 +1,7 @@
 //! What is measured.
 use crate::files::file_of;
 use crate::host::{Until, drive_again, take_naks, take_packets, talk_again};
+use crate::listings::assemble_again;
 use crate::rules::{check_file, check_sets};
 use crate::transfers::{refuse_again, transfer_again};
 use anyhow::Result;
@@ -27,6 +28,7 @@ pub(crate) enum Work {
     Talk,
     CheckSets,
     CheckFile,
+    Assemble,
     Setup,
     OnePacket,
     TenPackets,
@@ -35,7 +37,7 @@ pub(crate) enum Work {
 }
 
 impl Work {
-    pub(crate) const ALL: [Work; 20] = [
+    pub(crate) const ALL: [Work; 21] = [
         Work::DecodeWhole,
         Work::DecodePieces,
         Work::DecodeBytes,
@@ -51,6 +53,7 @@ impl Work {
         Work::Talk,
         Work::CheckSets,
         Work::CheckFile,
+        Work::Assemble,
         Work::Setup,
         Work::OnePacket,
         Work::TenPackets,
@@ -76,6 +79,7 @@ impl Work {
             Work::Talk => "talk",
             Work::CheckSets => "check-sets",
             Work::CheckFile => "check-file",
+            Work::Assemble => "assemble",
             Work::Setup => "setup",
             Work::OnePacket => "one-packet",
             Work::TenPackets => "ten-packets",
@@ -85,7 +89,7 @@ impl Work {
     }
 
     /// Does it so many times over, and answers how many bytes it is of: those of the set, those of a file with so
-    /// many copies of it, or those that a device sent.
+    /// many copies of it, those of a listing, or those that a device sent.
     pub(crate) fn run(self, alloc: Global, set: &[u8], copies: u32, rounds: u32) -> Result<usize> {
         match self {
             Work::DecodeWhole => decode(alloc, set, rounds, set.len()),
@@ -103,6 +107,7 @@ impl Work {
             Work::Talk => talk_again(alloc, set, rounds),
             Work::CheckSets => check_sets(alloc, set, copies, rounds),
             Work::CheckFile => check_file(alloc, set, rounds),
+            Work::Assemble => assemble_again(alloc, set, copies, rounds),
             Work::Setup => transfer_again(alloc, set, 0, false, rounds),
             Work::OnePacket => transfer_again(alloc, set, 1, false, rounds),
             Work::TenPackets => transfer_again(alloc, set, 10, false, rounds),

@@ -1,6 +1,7 @@
 pub mod OrderLemmas
 pub mod FrontLemmas
 pub mod DraftLemmas
+pub mod NamedLemmas
 pub mod LengthLemmas
 pub mod LineLemmas
 pub mod WalkLemmas

@@ -10,6 +10,7 @@ use usb_set::Configuration;
 
 /// Whether a line with this word may follow the lines of the file so far, of whose strings there are so
 /// many in all.
+#[inline(always)]
 #[tactic(auto, using(crate::proofs::DraftLemmas::only_string))]
 pub(crate) fn may_follow(
     f: &DescriptorFile,
@@ -30,6 +31,7 @@ pub(crate) fn may_follow(
     }
 }
 
+#[inline(always)]
 fn is_string(word: Word) -> bool
     ensures { result ≡ is_string word }
 {
@@ -48,6 +50,7 @@ fn is_string(word: Word) -> bool
 }
 
 /// Where no line of the other speed and none of strings is there yet.
+#[inline(always)]
 #[tactic(auto, using(crate::proofs::DraftLemmas::last_some))]
 fn may_follow_main(f: &DescriptorFile, word: Word) -> bool
     ensures { result ≡ may_follow f.now None None word }
@@ -64,6 +67,7 @@ fn may_follow_main(f: &DescriptorFile, word: Word) -> bool
 }
 
 /// Where the qualifier is there, and no line of strings.
+#[inline(always)]
 #[tactic(auto, using(crate::proofs::DraftLemmas::last_some))]
 fn may_follow_other(f: &DescriptorFile, other: &Other, word: Word) -> bool
     ensures { result ≡ may_follow f.now (Some other.now) None word }
@@ -78,9 +82,15 @@ fn may_follow_other(f: &DescriptorFile, other: &Other, word: Word) -> bool
     }
 }
 
+/// Whether the file names a string. Most do so in the device descriptor, and then no set is looked at.
+#[tactic(auto, using(crate::proofs::NamedLemmas::product_named))]
 fn names_a_string(f: &DescriptorFile) -> bool
     ensures { result ≡ not (length (named_indices f.now) == 0) }
 {
+    let product = f.device.product_text;
+    if product != 0 {
+        return true;
+    }
     count_named(f) != 0
 }
 
