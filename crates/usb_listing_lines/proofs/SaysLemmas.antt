@@ -14,52 +14,15 @@ use Rattle.usb_listing_lines.specs.Words.{all_words, first_word, word_among, wor
 use Rattle.usb_listing_lines.specs.Item.{IsItem, Says, item_word, set_word}
 use Rattle.usb_listing_lines.specs.inside.Items.{item_in, item_of_line}
 use Rattle.usb_listing_lines.proofs.ItemLemmas.{item_fields, line_is}
+use Rattle.usb_listing_lines.proofs.WordLemmas.{word_first}
+pub use Rattle.usb_listing_lines.proofs.WordLemmas.{word_again, word_read}
 use Rattle.usb_listing_lines.proofs.ReadLemmas.{item_again, item_read}
-
--- ---- words
-
-pub word_again : (w : Word) → word_in (word_text w) ≡ Some w
-unfolding word_in
-word_again words.Device = refl
-word_again words.Configuration = refl
-word_again words.OtherSpeed = refl
-word_again words.Interface = refl
-word_again words.Endpoint = refl
-word_again words.Raw = refl
-word_again words.Association = refl
-word_again words.Qualifier = refl
-word_again words.Languages = refl
-word_again words.String = refl
-
-among : (ws : List Word) (text : List ℕ) (w : Word) → word_among ws text ≡ Some w → text ≡ word_text w
-among [] text w e = cc
-among (v ∷ ws) text w e = cases (bytes_eq text (word_text v)) refl (λ e. among ws text w e) e
-  where
-    cases : (b : Bool) → bytes_eq text (word_text v) ≡ b → (word_among ws text ≡ Some w → text ≡ word_text w) → cond b (Some v) (word_among ws text) ≡ Some w → text ≡ word_text w
-    cases false eb ih e = ih e
-    cases true eb ih e =
-        let is : v ≡ w = ap (λ (o : Option Word). unwrap_or o w) e in
-        (bytes_eq-Decides text (word_text v)).0 eb ∙ ap word_text is
-
-pub word_read : (text : List ℕ) (w : Word) → word_in text ≡ Some w → text ≡ word_text w
-unfolding word_in
-word_read text w e = among all_words text w e
 
 -- ---- the word and what stands behind it
 
 behind : (front rest : List ℕ) → drop (length front) (front ++ rest) ≡ rest
 behind [] rest = refl
 behind (x ∷ front) rest = behind front rest
-
--- a line begins with its first word
-word_first : (line : List ℕ) → line ≡ first_word line ++ drop (length (first_word line)) line
-word_first [] = refl
-word_first (x ∷ line) = cases (x == 32) refl (word_first line)
-  where
-    cases : (b : Bool) → (x == 32) ≡ b → line ≡ first_word line ++ drop (length (first_word line)) line
-        → x ∷ line ≡ cond b [] (x ∷ first_word line) ++ drop (length (cond b [] (x ∷ first_word line))) (x ∷ line)
-    cases true e ih = refl
-    cases false e ih = ap (λ (xs : List ℕ). x ∷ xs) ih
 
 -- ---- a line without its line feed
 

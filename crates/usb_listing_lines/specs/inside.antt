@@ -2,3 +2,4 @@ pub mod Digits
 pub mod Fields
 pub mod Units
 pub mod Items
+pub mod Letters

@@ -158,7 +158,6 @@ fn association_of(b: &[u8], tail: Sequence<u8>) -> Association
     }
 }
 
-#[inline(always)]
 fn read_device(text: &[u8]) -> Option<Item>
     ensures { result ≡ device_in text.now }
 {
@@ -166,7 +165,6 @@ fn read_device(text: &[u8]) -> Option<Item>
     Some(Item::Device(device_of(b.as_slice())))
 }
 
-#[inline(always)]
 fn read_qualifier(text: &[u8]) -> Option<Item>
     ensures { result ≡ qualifier_in text.now }
 {
@@ -174,7 +172,6 @@ fn read_qualifier(text: &[u8]) -> Option<Item>
     Some(Item::Qualifier(qualifier_of(b.as_slice())))
 }
 
-#[inline(always)]
 fn read_set(alloc: Global, kind: SetKind, text: &[u8]) -> Result<Option<Item>, AllocError>
     ensures { IfOk result (λ found. found ≡ set_in kind text.now) }
 {
@@ -184,7 +181,6 @@ fn read_set(alloc: Global, kind: SetKind, text: &[u8]) -> Result<Option<Item>, A
     }
 }
 
-#[inline(always)]
 fn read_interface(alloc: Global, text: &[u8]) -> Result<Option<Item>, AllocError>
     ensures { IfOk result (λ found. found ≡ interface_in text.now) }
 {
@@ -194,7 +190,6 @@ fn read_interface(alloc: Global, text: &[u8]) -> Result<Option<Item>, AllocError
     }
 }
 
-#[inline(always)]
 fn read_endpoint(alloc: Global, text: &[u8]) -> Result<Option<Item>, AllocError>
     ensures { IfOk result (λ found. found ≡ endpoint_in text.now) }
 {
@@ -211,7 +206,6 @@ fn is_typed(kind: u8) -> bool
     kind == 2 || kind == 4 || kind == 5 || kind == 7 || kind == 11
 }
 
-#[inline(always)]
 fn read_raw(alloc: Global, text: &[u8]) -> Result<Option<Item>, AllocError>
     ensures { IfOk result (λ found. found ≡ raw_in text.now) }
 {
@@ -227,7 +221,6 @@ fn read_raw(alloc: Global, text: &[u8]) -> Result<Option<Item>, AllocError>
     }
 }
 
-#[inline(always)]
 fn read_association(alloc: Global, text: &[u8]) -> Result<Option<Item>, AllocError>
     ensures { IfOk result (λ found. found ≡ association_in text.now) }
 {
@@ -240,7 +233,6 @@ fn read_association(alloc: Global, text: &[u8]) -> Result<Option<Item>, AllocErr
     }
 }
 
-#[inline(always)]
 fn read_languages(alloc: Global, text: &[u8]) -> Result<Option<Item>, AllocError>
     ensures { IfOk result (λ found. found ≡ languages_in text.now) }
 {
@@ -255,7 +247,6 @@ fn read_languages(alloc: Global, text: &[u8]) -> Result<Option<Item>, AllocError
     }
 }
 
-#[inline(always)]
 fn read_string(alloc: Global, text: &[u8]) -> Result<Option<Item>, AllocError>
     ensures { IfOk result (λ found. found ≡ string_in text.now) }
 {
@@ -296,7 +287,6 @@ fn before_quote(text: &[u8]) -> Option<&[u8]>
 }
 
 /// What a line says whose first word is this, and behind it this text.
-#[inline(always)]
 #[tactic(auto, unfolding(crate::specs::inside::Items::item_in))]
 fn read_behind(alloc: Global, word: Word, text: &[u8]) -> Result<Option<Item>, AllocError>
     ensures { IfOk result (λ found. found ≡ item_in word text.now) }
@@ -316,7 +306,6 @@ fn read_behind(alloc: Global, word: Word, text: &[u8]) -> Result<Option<Item>, A
 }
 
 /// What stands in the line behind its word.
-#[inline(always)]
 fn behind(word: Word, line: &[u8]) -> &[u8]
     ensures { result.now ≡ drop (length (word_text word)) line.now }
 {
@@ -328,7 +317,6 @@ fn behind(word: Word, line: &[u8]) -> &[u8]
     }
 }
 
-#[inline(always)]
 #[tactic(auto, unfolding(crate::specs::inside::Items::item_of_line))]
 fn read_whole(alloc: Global, word: Word, line: &[u8]) -> Result<Option<Item>, AllocError>
     requires { word_in (first_word line.now) ≡ Some word }
@@ -343,7 +331,6 @@ fn read_whole(alloc: Global, word: Word, line: &[u8]) -> Result<Option<Item>, Al
 /// # Errors
 ///
 /// A growth was refused.
-#[inline(always)]
 #[tactic(auto, using(crate::proofs::SaysLemmas::read_is_said, crate::proofs::SaysLemmas::said_is_read))]
 pub fn read_item(alloc: Global, word: Word, line: &[u8]) -> Result<Option<Item>, AllocError>
     requires { word_in (first_word line.now) ≡ Some word }

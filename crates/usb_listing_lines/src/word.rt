@@ -1,8 +1,8 @@
 //! The words that the lines of a listing begin with.
-ghost use Rattle.std.specs.Prelude.{◌≡◌, ◌==◌};
-ghost use Rattle.std.specs.List.{position};
+ghost use Rattle.std.specs.Prelude.{◌≡◌};
 ghost use Rattle.std.specs.Str.{bytes_eq};
-ghost use Rattle.usb_listing_lines.specs.Words.{first_word, word_among, word_in, word_text};
+ghost use Rattle.usb_listing_lines.specs.Words.{first_word, word_in, word_text};
+ghost use Rattle.usb_listing_lines.specs.inside.Letters.{ends_word, word_with};
 
 /// The first word of a line: which descriptor the line says.
 #[derive(Clone, Copy, Debug, PartialEq, Eq)]
@@ -30,20 +30,6 @@ pub enum Word {
 }
 
 impl Word {
-    /// All words, those of the most frequent lines first.
-    const ALL: [Word; 10] = [
-        Word::Endpoint,
-        Word::Interface,
-        Word::Raw,
-        Word::Association,
-        Word::String,
-        Word::Configuration,
-        Word::OtherSpeed,
-        Word::Device,
-        Word::Qualifier,
-        Word::Languages,
-    ];
-
     /// How the word is written.
     pub fn text(self) -> &'static str
         ensures { result.now ≡ word_text self }
@@ -64,53 +50,62 @@ impl Word {
 }
 
 /// The word that the line begins with, up to its first space.
+#[tactic(auto, using(crate::proofs::WordLemmas::word_found, crate::proofs::WordLemmas::word_other, crate::proofs::WordLemmas::no_letter, crate::proofs::WordLemmas::no_word))]
 pub fn word_of(line: &[u8]) -> Option<Word>
     ensures { result ≡ word_in (first_word line.now) }
 {
-    find_word(before_space(line))
-}
-
-/// Where the first space stands, if there is one.
-fn space_at(line: &[u8]) -> Option<usize>
-    ensures { result ≡ position (λ c. c == 32) line.now }
-{
-    line.iter().position(|c| *c == b' ')
-}
-
-/// What stands before the first space.
-#[tactic(auto, using(crate::proofs::WordLemmas::word_before, crate::proofs::WordLemmas::word_whole))]
-fn before_space(line: &[u8]) -> &[u8]
-    ensures { result.now ≡ first_word line.now }
-{
-    match space_at(line) {
-        Some(end) => &line[..end],
-        None => line,
+    if line.is_empty() {
+        return None;
     }
-}
-
-/// Whether the word is written so.
-fn is_written(word: Word, text: &[u8]) -> bool
-    ensures { result ≡ bytes_eq text.now (word_text word) }
-{
-    text == word.text().as_bytes()
-}
-
-/// The one of the words that is written so.
-fn find_among(words: &[Word], text: &[u8]) -> Option<Word>
-    ensures { result ≡ word_among words.now text.now }
-{
-    for word in words {
-        if is_written(*word, text) {
-            return Some(*word);
+    match word_with(line[0]) {
+        Some(word) => {
+            if begins_with(line, word) {
+                Some(word)
+            } else {
+                None
+            }
         }
+        None => None,
     }
-    None
 }
 
-/// The word that is written so.
-#[tactic(auto, unfolding(crate::specs::Words::word_in))]
-fn find_word(text: &[u8]) -> Option<Word>
-    ensures { result ≡ word_in text.now }
+/// The word that begins with this letter: each begins with another.
+#[tactic(auto, unfolding(crate::specs::inside::Letters::word_with))]
+fn word_with(letter: u8) -> Option<Word>
+    ensures { result ≡ word_with letter }
 {
-    find_among(&Word::ALL, text)
+    match letter {
+        b'd' => Some(Word::Device),
+        b'c' => Some(Word::Configuration),
+        b'o' => Some(Word::OtherSpeed),
+        b'i' => Some(Word::Interface),
+        b'e' => Some(Word::Endpoint),
+        b'r' => Some(Word::Raw),
+        b'a' => Some(Word::Association),
+        b'q' => Some(Word::Qualifier),
+        b'l' => Some(Word::Languages),
+        b's' => Some(Word::String),
+        _ => None,
+    }
+}
+
+/// Whether the word stands first in the line, up to a space or the end.
+#[tactic(auto, using(crate::proofs::WordLemmas::begins_then, crate::proofs::WordLemmas::begins_else))]
+fn begins_with(line: &[u8], word: Word) -> bool
+    ensures { result ≡ bytes_eq (first_word line.now) (word_text word) }
+{
+    match line.strip_prefix(word.text().as_bytes()) {
+        Some(rest) => ends_word(rest),
+        None => false,
+    }
+}
+
+/// Whether a word ends here.
+fn ends_word(rest: &[u8]) -> bool
+    ensures { result ≡ ends_word rest.now }
+{
+    match rest {
+        [] => true,
+        [next, ..] => *next == b' ',
+    }
 }

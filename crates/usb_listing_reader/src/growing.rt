@@ -62,7 +62,6 @@ fn add_endpoint_to_last(c: &mut Configuration, endpoint: Endpoint) -> Result<(),
 }
 
 /// Adds a descriptor to a set, which belongs to the nearest typed one before it.
-#[inline(always)]
 #[tactic(auto, unfolding(crate::specs::Order::set_and))]
 fn add_to_set(c: &mut Configuration, item: Item) -> Result<(), AllocError>
     ensures { OnOk result (c.new ≡ set_and item c.old) }
@@ -82,7 +81,6 @@ fn add_to_set(c: &mut Configuration, item: Item) -> Result<(), AllocError>
     }
 }
 
-#[inline(always)]
 #[tactic(auto, using(crate::proofs::DraftLemmas::with_last_is, crate::proofs::DraftLemmas::with_last_none))]
 fn add_to_last(sets: &mut Sequence<Configuration>, item: Item) -> Result<(), AllocError>
     ensures { OnOk result (sets.new ≡ with_last (set_and item) sets.old) }
@@ -94,7 +92,6 @@ fn add_to_last(sets: &mut Sequence<Configuration>, item: Item) -> Result<(), All
     add_to_set(sets.at_mut(count - 1), item)
 }
 
-#[inline(always)]
 fn add_to_other(other: &mut Option<Other>, item: Item) -> Result<(), AllocError>
     ensures { OnOk result (other.new ≡ other_and item other.old) }
 {
@@ -105,7 +102,6 @@ fn add_to_other(other: &mut Option<Other>, item: Item) -> Result<(), AllocError>
 }
 
 /// Adds a descriptor to the set that is in work.
-#[inline(always)]
 fn add_inner(f: &mut DescriptorFile, item: Item) -> Result<(), AllocError>
     ensures { OnOk result (f.new ≡ with_work (set_and item) f.old f.old.other) }
 {
@@ -128,7 +124,6 @@ fn push_to_other(other: &mut Option<Other>, c: Configuration) -> Result<(), Allo
     }
 }
 
-#[inline(always)]
 fn add_set(f: &mut DescriptorFile, c: Configuration) -> Result<(), AllocError>
     ensures { OnOk result (f.new ≡ with_set c f.old f.old.other) }
 {
@@ -159,7 +154,6 @@ fn add_string(f: &mut DescriptorFile, units: Sequence<u16>) -> Result<(), AllocE
 }
 
 /// Adds a descriptor to the file.
-#[inline(always)]
 pub(crate) fn add_item(alloc: Global, f: &mut DescriptorFile, item: Item) -> Result<(), AllocError>
     ensures { OnOk result (f.new ≡ file_and item f.old) }
 {

@@ -10,7 +10,6 @@ use usb_set::Configuration;
 
 /// Whether a line with this word may follow the lines of the file so far, of whose strings there are so
 /// many in all.
-#[inline(always)]
 #[tactic(auto, using(crate::proofs::DraftLemmas::only_string))]
 pub(crate) fn may_follow(
     f: &DescriptorFile,
@@ -31,7 +30,6 @@ pub(crate) fn may_follow(
     }
 }
 
-#[inline(always)]
 fn is_string(word: Word) -> bool
     ensures { result ≡ is_string word }
 {
@@ -50,7 +48,6 @@ fn is_string(word: Word) -> bool
 }
 
 /// Where no line of the other speed and none of strings is there yet.
-#[inline(always)]
 #[tactic(auto, using(crate::proofs::DraftLemmas::last_some))]
 fn may_follow_main(f: &DescriptorFile, word: Word) -> bool
     ensures { result ≡ may_follow f.now None None word }
@@ -67,7 +64,6 @@ fn may_follow_main(f: &DescriptorFile, word: Word) -> bool
 }
 
 /// Where the qualifier is there, and no line of strings.
-#[inline(always)]
 #[tactic(auto, using(crate::proofs::DraftLemmas::last_some))]
 fn may_follow_other(f: &DescriptorFile, other: &Other, word: Word) -> bool
     ensures { result ≡ may_follow f.now (Some other.now) None word }

@@ -21,7 +21,6 @@ use usb_set::{Extra, Sequence};
 const LONGEST: usize = 65_535;
 
 /// Whether a line with this word may stand next.
-#[inline(always)]
 fn may_stand(draft: &Option<Draft>, word: Word) -> bool
     requires { AreCounted draft.now }
     ensures { result ≡ may_stand (so_far draft.now) word }
@@ -55,7 +54,6 @@ fn is_device(word: Word) -> bool
     }
 }
 
-#[inline(always)]
 fn extra_length(extra: &Extra) -> usize
     requires { IsItem (Item.Extra extra.now) }
     ensures is { result ≡ extra_length extra.now }
@@ -68,7 +66,6 @@ fn extra_length(extra: &Extra) -> usize
 }
 
 /// How many bytes the set in work has with one more descriptor.
-#[inline(always)]
 #[tactic(auto, unfolding(crate::specs::inside::Drafts::work_with))]
 fn work_with(work: usize, item: &Item) -> usize
     requires work { work < 2 ^ 32 }
@@ -86,7 +83,6 @@ fn work_with(work: usize, item: &Item) -> usize
 }
 
 /// How many strings the file has in all with one more descriptor.
-#[inline(always)]
 #[tactic(auto, unfolding(crate::specs::inside::Drafts::total_with))]
 fn total_with(f: &DescriptorFile, total: usize, item: &Item) -> usize
     requires { IsItem item.now }
@@ -105,7 +101,6 @@ fn total_with(f: &DescriptorFile, total: usize, item: &Item) -> usize
 }
 
 /// Adds a descriptor that may follow.
-#[inline(always)]
 #[tactic(auto, using(crate::proofs::CountLemmas::counted_more, crate::proofs::CountLemmas::add_short, crate::proofs::CountLemmas::add_long))]
 fn grow(alloc: Global, draft: &mut Draft, item: Item) -> Result<(), ListWhy>
     requires counted { Counted draft.old }
@@ -151,7 +146,6 @@ fn begin(alloc: Global, device: DeviceDescriptor) -> Draft
 }
 
 /// The draft that the first line begins.
-#[inline(always)]
 fn begin_with(alloc: Global, item: Item) -> Result<Draft, ListWhy>
     requires { may_stand None (item_word item) ≡ true }
     ensures ok { IfOk result (λ draft. add None item ≡ Ok draft.file) }
@@ -178,7 +172,6 @@ fn set_draft(draft: &mut Option<Draft>, new: Draft)
 }
 
 /// Adds a descriptor that may stand next.
-#[inline(always)]
 #[tactic(auto, using(crate::proofs::StepLemmas::began))]
 fn add(alloc: Global, draft: &mut Option<Draft>, item: Item) -> Result<(), ListWhy>
     requires counted { AreCounted draft.old }
@@ -202,7 +195,6 @@ fn add(alloc: Global, draft: &mut Option<Draft>, item: Item) -> Result<(), ListW
 }
 
 /// Reads a line that begins with this word into the draft.
-#[inline(always)]
 fn read_into(
     alloc: Global,
     draft: &mut Option<Draft>,
@@ -228,35 +220,6 @@ fn read_into(
     }
 }
 
-/// The same, laid out anew for each word: what is done with a descriptor depends on what it is, and so it
-/// stays in registers.
-fn read_by_word(
-    alloc: Global,
-    draft: &mut Option<Draft>,
-    word: Word,
-    line: &[u8],
-) -> Result<(), ListWhy>
-    requires counted { AreCounted draft.old }
-    requires work { HasWork draft.old }
-    requires word { word_in (first_word line.now) ≡ Some word }
-    ensures ok { OnOk result (Stepped draft.old line.now draft.new) }
-    ensures work { OnOk result (HasWork draft.new) }
-    ensures err { IfErr result (λ why. Refuses (add_line (so_far draft.old) line.now) why) }
-{
-    match word {
-        Word::Endpoint => read_into(alloc, draft, Word::Endpoint, line),
-        Word::Interface => read_into(alloc, draft, Word::Interface, line),
-        Word::Raw => read_into(alloc, draft, Word::Raw, line),
-        Word::Association => read_into(alloc, draft, Word::Association, line),
-        Word::String => read_into(alloc, draft, Word::String, line),
-        Word::Configuration => read_into(alloc, draft, Word::Configuration, line),
-        Word::OtherSpeed => read_into(alloc, draft, Word::OtherSpeed, line),
-        Word::Device => read_into(alloc, draft, Word::Device, line),
-        Word::Qualifier => read_into(alloc, draft, Word::Qualifier, line),
-        Word::Languages => read_into(alloc, draft, Word::Languages, line),
-    }
-}
-
 /// Reads the next line into the draft.
 pub(crate) fn step(alloc: Global, draft: &mut Option<Draft>, line: &[u8]) -> Result<(), ListWhy>
     requires counted { AreCounted draft.old }
@@ -266,7 +229,7 @@ pub(crate) fn step(alloc: Global, draft: &mut Option<Draft>, line: &[u8]) -> Res
     ensures err { IfErr result (λ why. Refuses (add_line (so_far draft.old) line.now) why) }
 {
     match word_of(line) {
-        Some(word) => read_by_word(alloc, draft, word, line),
+        Some(word) => read_into(alloc, draft, word, line),
         None => Err(ListWhy::Word),
     }
 }
