@@ -101,6 +101,7 @@ fn decode_into(digits: &[u8], bytes: &mut [u8]) -> bool
 }
 
 /// A tail that ends a line, of so many bytes at most.
+#[inline(always)]
 #[tactic(auto, unfolding(crate::specs::inside::Fields::tail_of))]
 pub(crate) fn read_tail(
     alloc: Global,

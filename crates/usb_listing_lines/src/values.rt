@@ -1,5 +1,5 @@
 //! The units of a string and the language codes of a line, read.
-ghost use Rattle.std.specs.Prelude.{◌≡◌, IfOk, MatchOption, None, Some, []};
+ghost use Rattle.std.specs.Prelude.{◌≡◌, ◌≤◌, IfOk, MatchOption, None, Some, []};
 ghost use Rattle.usb_listing.specs.StringListing.{is_plain};
 ghost use Rattle.usb_listing_lines.specs.inside.Units.{number_first, unit_first, value_first, values_from};
 
@@ -71,6 +71,20 @@ fn take_value(form: Written, text: &[u8]) -> Option<(u16, &[u8])>
     }
 }
 
+/// How many values the text says, if it says any, and no more than there can be: a unit is one character,
+/// or five with its escape, and so is a field.
+fn count_values(form: Written, text: &[u8]) -> usize
+    ensures { result ≤ 126 }
+{
+    let escapes = match form {
+        Written::Unit => text.iter().filter(|c| **c == b'\\').count(),
+        Written::Field => text.len() / 5,
+    };
+    text.len()
+        .saturating_sub(escapes.saturating_mul(4))
+        .min(MOST)
+}
+
 /// The values to the end of the text.
 #[tactic(auto, using(crate::proofs::ValueLemmas::values_next, crate::proofs::ValueLemmas::values_end, crate::proofs::ValueLemmas::values_full))]
 pub(crate) fn read_values(
@@ -80,7 +94,8 @@ pub(crate) fn read_values(
 ) -> Result<Option<Sequence<u16>>, AllocError>
     ensures { IfOk result (λ found. found ≡ values_from form 126 [] text.now) }
 {
-    let mut values = Sequence::new(alloc);
+    let room = count_values(form, text);
+    let mut values = Sequence::from_vec(Vec::with_capacity(alloc, room)?);
     let mut rest = text;
     for _ in 0..MOST {
         if rest.is_empty() {
