@@ -1,7 +1,7 @@
 //! Does one kind of work on a configuration set, or on a descriptor file of such sets, many times over, and prints
 //! how long that took.
 //!
-//! The set is standard input. The words are the count of rounds, the name of the work, and for files how many copies
+//! The set is standard input, or for `assemble` the listing. The words are the count of rounds, the name of the work, and for files how many copies
 //! of the set one has (1 where the word is left out). With no word each kind of work is done once and no time is
 //! printed. `measure` runs this program on sets of all sizes, and has its instructions counted.
 #![tactic(auto)]
@@ -20,8 +20,8 @@ use std::time::Instant;
 use std::{env, io};
 use work::Work;
 
-/// The most bytes that a set can have.
-const LONGEST: usize = 65_535;
+/// The most bytes of input: those of a listing.
+const LONGEST: usize = 268_435_456;
 
 fn main(rt: HostRuntime) -> Result<()> {
     let alloc = rt.alloc();
@@ -39,7 +39,7 @@ fn main(rt: HostRuntime) -> Result<()> {
     measure(&rt, alloc, &set, rounds, name.as_str(), copies)
 }
 
-/// All of standard input, up to the length of the longest set.
+/// All of standard input, up to the longest listing.
 fn read_set(rt: &impl Input, alloc: Global) -> Result<Vec<u8>> {
     let mut reader = rt.reader();
     let mut buffer = [0u8; 4096];
@@ -51,7 +51,7 @@ fn read_set(rt: &impl Input, alloc: Global) -> Result<Vec<u8>> {
         }
         bytes.extend_from_slice(&buffer[..count])?;
     }
-    ensure!(bytes.len() <= LONGEST, "the input is longer than a set");
+    ensure!(bytes.len() <= LONGEST, "the input is longer than a listing");
     Ok(bytes)
 }
 

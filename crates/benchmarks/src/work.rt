@@ -107,7 +107,7 @@ impl Work {
             Work::Talk => talk_again(alloc, set, rounds),
             Work::CheckSets => check_sets(alloc, set, copies, rounds),
             Work::CheckFile => check_file(alloc, set, rounds),
-            Work::Assemble => assemble_again(alloc, set, copies, rounds),
+            Work::Assemble => assemble_again(alloc, set, rounds),
             Work::Setup => transfer_again(alloc, set, 0, false, rounds),
             Work::OnePacket => transfer_again(alloc, set, 1, false, rounds),
             Work::TenPackets => transfer_again(alloc, set, 10, false, rounds),
