@@ -1,13 +1,14 @@
 -- Pairs of lower-case digits, and their bytes.
-use Rattle.std.proofs.Common.{◌≡◌, ◌≢◌, ℕ, ◌+◌, ◌*◌, ◌%◌, ◌<◌, ◌≤◌, List, [], ◌∷◌, ◌++◌, length, take, drop, slice_index, slice_set, Option, Some, None, refl, sym, ap, subst, ◌∙◌, arith}
+use Rattle.std.proofs.Common.{◌≡◌, ◌≢◌, ℕ, ◌+◌, ◌*◌, ◌%◌, ◌<◌, ◌≤◌, List, [], ◌∷◌, ◌++◌, length, take, drop, slice_index, slice_set, Bool, true, false, cond, ltb, ◌⊎◌, inl, inr, Option, Some, None, refl, sym, ap, subst, ◌∙◌, arith}
+use Rattle.std.proofs.lemmas.Bool.{cases_lt, ltb-false, ltb-true}
 use Rattle.std.specs.List.{AllByRecursion}
 use Rattle.std.proofs.lemmas.List.{append_assoc, append-nil, drop_all, drop_more, take_all, take_more_set}
 use Rattle.hex.specs.Hex.{encode_lower, encode_with, lower_digits}
 use Rattle.hex.proofs.HexLemmas.{length-encode_with}
 use Rattle.usb_base.specs.Bytes.{IsByte}
-use Rattle.usb_listing_lines.specs.inside.Digits.{pair_value}
-use Rattle.usb_listing_lines.specs.inside.Fields.{before, pairs_of}
-use Rattle.usb_listing_lines.proofs.DigitLemmas.{pair_read, pair_again}
+use Rattle.usb_listing_lines.specs.inside.Digits.{pair_value, value_or}
+use Rattle.usb_listing_lines.specs.inside.Fields.{IsGreater, before, pairs_of}
+use Rattle.usb_listing_lines.proofs.DigitLemmas.{pair_again, pair_large, pair_read, pair_small}
 
 -- ---- both ways between bytes and their digits
 
@@ -71,12 +72,8 @@ pairs-next high low rest = refl
 before-none : (o : Option (List ℕ)) → before None o ≡ None
 before-none o = refl
 
--- no byte is decoded yet
-pub decode_start : (digits bytes : List ℕ) → pairs_of digits ≡ prepend (take 0 bytes) (pairs_of (drop (2 * 0) digits))
-decode_start digits bytes = prepend-nil (pairs_of digits)
-
 -- one byte more is decoded
-pub decode_step : (digits bytes : List ℕ) (i b : ℕ) → 2 * i + 1 < length digits → i < length bytes
+decode_step : (digits bytes : List ℕ) (i b : ℕ) → 2 * i + 1 < length digits → i < length bytes
     → pair_value (slice_index digits (2 * i)) (slice_index digits (2 * i + 1)) ≡ Some b
     → pairs_of digits ≡ prepend (take i bytes) (pairs_of (drop (2 * i) digits))
     → pairs_of digits ≡ prepend (take (i + 1) (slice_set bytes i b)) (pairs_of (drop (2 * (i + 1)) digits))
@@ -87,7 +84,7 @@ decode_step digits bytes i b fits room is inv =
     ∙ ap (λ (front : List ℕ). prepend front (pairs_of rest)) (sym (take_more_set bytes i b room))
 
 -- two bytes are no pair of digits
-pub decode_none : (digits bytes : List ℕ) (i : ℕ) → 2 * i + 1 < length digits
+decode_none : (digits bytes : List ℕ) (i : ℕ) → 2 * i + 1 < length digits
     → pair_value (slice_index digits (2 * i)) (slice_index digits (2 * i + 1)) ≡ None
     → pairs_of digits ≡ prepend (take i bytes) (pairs_of (drop (2 * i) digits))
     → pairs_of digits ≡ None
@@ -97,13 +94,53 @@ decode_none digits bytes i fits none inv =
     inv ∙ ap (prepend (take i bytes)) pair
 
 -- every byte is decoded
-pub decode_done : (digits bytes : List ℕ) (i : ℕ) → length bytes ≤ i → length digits ≤ 2 * i
+decode_done : (digits bytes : List ℕ) (i : ℕ) → length bytes ≤ i → length digits ≤ 2 * i
     → pairs_of digits ≡ prepend (take i bytes) (pairs_of (drop (2 * i) digits))
     → pairs_of digits ≡ Some bytes
 unfolding pairs_of
 decode_done digits bytes i all fits inv =
     inv ∙ ap (λ (d : List ℕ). prepend (take i bytes) (pairs_of d)) (drop_all (2 * i) digits fits)
     ∙ ap Some (append-nil (take i bytes) ∙ take_all i bytes all)
+
+-- so many pairs are decoded, the greatest of which is this
+pub record Decoding (digits bytes : List ℕ) (i greatest : ℕ) : Type 0 where
+  pub right : greatest < 256 → pairs_of digits ≡ prepend (take i bytes) (pairs_of (drop (2 * i) digits))
+  pub wrong : 256 ≤ greatest → pairs_of digits ≡ None
+
+pub decoding_none : (digits bytes : List ℕ) → Decoding digits bytes 0 0
+decoding_none digits bytes = record { right = λ lt. prepend-nil (pairs_of digits); wrong = λ le. absurd (omega arith) }
+
+pub decoding_next : (digits bytes : List ℕ) (i greatest byte more : ℕ) → 2 * i + 1 < length digits → i < length bytes
+    → byte ≡ value_or (slice_index digits (2 * i)) * 16 + value_or (slice_index digits (2 * i + 1)) → IsGreater greatest byte more
+    → Decoding digits bytes i greatest → Decoding digits (slice_set bytes i (byte % 256)) (i + 1) more
+decoding_next digits bytes i greatest byte more fits room is g d = record { right = right; wrong = wrong g.one }
+  where
+    here : byte < 256 → pair_value (slice_index digits (2 * i)) (slice_index digits (2 * i + 1)) ≡ Some (byte % 256)
+    here lt =
+        let same : byte % 256 ≡ byte = omega (arith, lt) in
+        sym (pair_small (slice_index digits (2 * i)) (slice_index digits (2 * i + 1)) (omega (arith, is, lt))) ∙ ap Some (sym is ∙ sym same)
+
+    right : more < 256 → pairs_of digits ≡ prepend (take (i + 1) (slice_set bytes i (byte % 256))) (pairs_of (drop (2 * (i + 1)) digits))
+    right lt =
+        let a = g.first in
+        let b = g.second in
+        decode_step digits bytes i (byte % 256) fits room (here (omega (arith, b, lt))) (d.right (omega (arith, a, lt)))
+
+    bad : 256 ≤ byte → greatest < 256 → pairs_of digits ≡ None
+    bad le lt =
+        decode_none digits bytes i fits (sym (pair_large (slice_index digits (2 * i)) (slice_index digits (2 * i + 1)) (omega (arith, is, le)))) (d.right lt)
+
+    wrong : (more ≡ greatest) ⊎ (more ≡ byte) → 256 ≤ more → pairs_of digits ≡ None
+    wrong (inl e) le = d.wrong (omega (arith, e, le))
+    wrong (inr e) le = elim (cases_lt greatest 256) [ inl below ↦ bad (omega (arith, e, le)) below | inr above ↦ d.wrong above ]
+
+pub decoding_done : (digits bytes : List ℕ) (i greatest : ℕ) → length bytes ≤ i → length digits ≤ 2 * i → Decoding digits bytes i greatest
+    → pairs_of digits ≡ cond (ltb greatest 256) (Some bytes) None
+decoding_done digits bytes i greatest all fits d = cases (ltb greatest 256) refl
+  where
+    cases : (b : Bool) → ltb greatest 256 ≡ b → pairs_of digits ≡ cond b (Some bytes) None
+    cases true e = decode_done digits bytes i all fits (d.right (ltb-true greatest 256 e))
+    cases false e = d.wrong (ltb-false greatest 256 e)
 
 -- an odd number of digits is no bytes
 pub odd_none : (digits : List ℕ) → length digits % 2 ≢ 0 → None ≡ pairs_of digits

@@ -1,5 +1,5 @@
 //! Lower-case hexadecimal digits, read.
-ghost use Rattle.std.specs.Prelude.{◌≡◌, ◌≤◌, slice_index};
+ghost use Rattle.std.specs.Prelude.{◌≡◌, ◌+◌, ◌*◌, ◌≤◌, slice_index};
 ghost use Rattle.usb_listing_lines.specs.inside.Digits.{pair_value, value_or};
 
 /// The value of each byte that is a lower-case digit, and for any other 256, which no two digits say.
@@ -37,12 +37,20 @@ fn value(c: u8) -> u16
     at(&VALUES, c)
 }
 
+/// The byte of two digits; where one is none, 256 or more.
+#[inline(always)]
+pub(crate) fn pair_or(high: u8, low: u8) -> u16
+    ensures { result ≡ value_or high * 16 + value_or low }
+{
+    value(high) * 16 + value(low)
+}
+
 /// The byte of two digits.
 #[inline(always)]
 #[tactic(auto, using(crate::proofs::DigitLemmas::pair_small, crate::proofs::DigitLemmas::pair_large))]
 pub(crate) fn pair(high: u8, low: u8) -> Option<u8>
     ensures { result ≡ pair_value high low }
 {
-    let byte = value(high) * 16 + value(low);
+    let byte = pair_or(high, low);
     if byte < 256 { Some(byte as u8) } else { None }
 }

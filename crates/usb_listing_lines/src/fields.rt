@@ -4,9 +4,9 @@ ghost use Rattle.std.specs.List.{list_all};
 ghost use Rattle.arrayvec.specs.ArrayVec.{array_vec_len};
 ghost use Rattle.usb_listing_lines.specs.inside.Digits.{digit_value};
 ghost use Rattle.usb_listing_lines.specs.inside.Items.{fixed_in, tailed_in};
-ghost use Rattle.usb_listing_lines.specs.inside.Fields.{behind_space, byte_first, byte_of, bytes_from, pairs_of, tail_of};
+ghost use Rattle.usb_listing_lines.specs.inside.Fields.{IsGreater, behind_space, byte_first, byte_of, bytes_from, pairs_of, tail_of};
 
-use crate::digits::pair;
+use crate::digits::{pair, pair_or};
 use arrayvec::ArrayVec;
 use std::alloc::{AllocError, Global};
 use usb_set::Sequence;
@@ -85,19 +85,28 @@ fn decode(alloc: Global, digits: &[u8]) -> Result<Option<Sequence<u8>>, AllocErr
     }
 }
 
-/// Writes the bytes of pairs of digits, and tells whether all are lower-case ones.
-#[tactic(auto, using(crate::proofs::DecodeLemmas::decode_start, crate::proofs::DecodeLemmas::decode_step, crate::proofs::DecodeLemmas::decode_none, crate::proofs::DecodeLemmas::decode_done))]
+/// The greater of the two.
+#[inline(always)]
+fn greater(a: u16, b: u16) -> u16
+    ensures { IsGreater a b result }
+{
+    if a < b { b } else { a }
+}
+
+/// Writes the bytes of pairs of digits, and tells whether all are lower-case ones. Whether they are is looked
+/// at once, at the end.
+#[tactic(auto, using(crate::proofs::DecodeLemmas::decoding_none, crate::proofs::DecodeLemmas::decoding_next, crate::proofs::DecodeLemmas::decoding_done))]
 fn decode_into(digits: &[u8], bytes: &mut [u8]) -> bool
     requires { length digits.now ≡ 2 * length bytes.old }
     ensures { pairs_of digits.now ≡ (if result then Some bytes.new else None) }
 {
+    let mut greatest = 0;
     'bytes: for i in 0..bytes.len() {
-        let Some(byte) = pair(digits[2 * i], digits[2 * i + 1]) else {
-            return false;
-        };
-        bytes[i] = byte;
+        let byte = pair_or(digits[2 * i], digits[2 * i + 1]);
+        greatest = greater(greatest, byte);
+        bytes[i] = (byte % 256) as u8;
     }
-    true
+    greatest < 256
 }
 
 /// A tail that ends a line, of so many bytes at most.
