@@ -62,6 +62,7 @@ fn add_endpoint_to_last(c: &mut Configuration, endpoint: Endpoint) -> Result<(),
 }
 
 /// Adds a descriptor to a set, which belongs to the nearest typed one before it.
+#[inline(always)]
 #[tactic(auto, unfolding(crate::specs::Order::set_and))]
 fn add_to_set(c: &mut Configuration, item: Item) -> Result<(), AllocError>
     ensures { OnOk result (c.new ≡ set_and item c.old) }
@@ -81,6 +82,7 @@ fn add_to_set(c: &mut Configuration, item: Item) -> Result<(), AllocError>
     }
 }
 
+#[inline(always)]
 #[tactic(auto, using(crate::proofs::DraftLemmas::with_last_is, crate::proofs::DraftLemmas::with_last_none))]
 fn add_to_last(sets: &mut Sequence<Configuration>, item: Item) -> Result<(), AllocError>
     ensures { OnOk result (sets.new ≡ with_last (set_and item) sets.old) }
