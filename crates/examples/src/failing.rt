@@ -1,8 +1,7 @@
 //! Rows on readers and writers that fail, with each of the program's commands.
 use crate::program::changed_text;
-use crate::row::Row;
-use crate::streams::{End, Endless, Pieces, Sheet};
 use anyhow::{Context, Result, bail, ensure};
+use example_rows::{End, Endless, Pieces, Row, Sheet};
 use std::alloc::Global;
 use std::io::{Read, Write};
 use usb_tool::{ToolFault, run_build, run_check, run_show, verdict};

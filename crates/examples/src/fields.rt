@@ -1,6 +1,6 @@
 //! Rows on single descriptors and setup packets.
-use crate::words::bytes_of;
 use anyhow::{Result, ensure};
+use example_rows::{bytes_of, units_of};
 use std::alloc::Global;
 use usb_fields::{
     Class, DeviceDescriptor, Direction, Qualifier, Recipient, Setup, UnitFault, read_units,
@@ -124,18 +124,6 @@ pub(crate) fn write_string(alloc: Global, words: &[String]) -> Result<String> {
 
 fn fault_of_units(alloc: Global, fault: UnitFault) -> Result<String> {
     Ok(format!(in alloc; "fault {}", fault.number())?)
-}
-
-/// The units of four digits each, the high byte first.
-pub(crate) fn units_of(alloc: Global, bytes: &[u8]) -> Result<Vec<u16>> {
-    let mut units = Vec::new(alloc);
-    for pair in bytes.chunks(2) {
-        match pair {
-            [high, low] => units.push(u16::from_be_bytes([*high, *low]))?,
-            _ => anyhow::bail!("half a unit"),
-        }
-    }
-    Ok(units)
 }
 
 /// The units as four digits each, or `none`.

@@ -1,7 +1,6 @@
 //! Rows on the program: what it does with words and an input.
-use crate::row::Answer;
-use crate::words::{bytes_of, change};
 use anyhow::{Context, Result, ensure};
+use example_rows::{Answer, bytes_of, change};
 use std::alloc::Global;
 use usb_tool::{run, run_build};
 

@@ -1,7 +1,6 @@
 //! Rows on configuration sets.
-use crate::tree::set_of;
-use crate::words::bytes_of;
 use anyhow::{Context, Result, ensure};
+use example_rows::{bytes_of, set_of};
 use std::alloc::Global;
 use usb_set::{Configuration, Decoder, Progress, SetFault, encode, refusal};
 

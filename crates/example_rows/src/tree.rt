@@ -1,8 +1,7 @@
 //! Sets and files made from lines, also such as no bytes can have.
 //!
 //! A line says a descriptor as a listing does, but that a string is `units` with four digits for each.
-use crate::fields::units_of;
-use crate::words::digits_of;
+use crate::words::{digits_of, units_of};
 use anyhow::{Context, Result, bail};
 use std::alloc::Global;
 use usb_fields::{DeviceDescriptor, Qualifier};
@@ -275,7 +274,7 @@ fn qualifier(fields: &mut Fields<'_>) -> Result<Qualifier> {
 }
 
 /// The file of the lines.
-pub(crate) fn file_of(alloc: Global, lines: &str) -> Result<DescriptorFile> {
+pub fn file_of(alloc: Global, lines: &str) -> Result<DescriptorFile> {
     let mut builder = Builder::new(alloc);
     for line in lines.lines() {
         builder.add(line).context(format_args!("in {line}"))?;
@@ -284,7 +283,7 @@ pub(crate) fn file_of(alloc: Global, lines: &str) -> Result<DescriptorFile> {
 }
 
 /// The one set of the lines.
-pub(crate) fn set_of(alloc: Global, lines: &str) -> Result<Configuration> {
+pub fn set_of(alloc: Global, lines: &str) -> Result<Configuration> {
     let mut builder = Builder::new(alloc);
     for line in lines.lines() {
         builder.add(line).context(format_args!("in {line}"))?;

@@ -1,21 +1,27 @@
 //! Readers and writers that fail.
+ghost use Rattle.std.specs.Prelude.{◌≡◌, [], false, true};
+
 use std::alloc::Global;
 use std::io::{Error, ErrorKind, Read, Result, Write};
 
 /// A reader that gives at most `step` bytes a call, and fails once, at the call after so many.
 #[derive(Drop)]
-pub(crate) struct Pieces<'a> {
+pub struct Pieces<'a> {
     rest: &'a [u8],
     step: usize,
     calls: usize,
     /// How often it failed.
-    pub(crate) failed: usize,
+    pub failed: usize,
     /// How often it was called after it had failed.
-    pub(crate) after: usize,
+    pub after: usize,
 }
 
 impl<'a> Pieces<'a> {
-    pub(crate) fn new(rest: &'a [u8], step: usize, calls: usize) -> Pieces<'a> {
+    /// A reader of these bytes, which was not called yet.
+    pub fn new(rest: &'a [u8], step: usize, calls: usize) -> Pieces<'a>
+        ensures failed { result.failed ≡ 0 }
+        ensures after { result.after ≡ 0 }
+    {
         Pieces {
             rest,
             step,
@@ -47,14 +53,17 @@ impl Read for Pieces<'_> {
 
 /// A reader that gives some bytes, and then zeros without end.
 #[derive(Drop)]
-pub(crate) struct Endless<'a> {
+pub struct Endless<'a> {
     front: &'a [u8],
     /// How many bytes it gave.
-    pub(crate) given: usize,
+    pub given: usize,
 }
 
 impl<'a> Endless<'a> {
-    pub(crate) fn new(front: &'a [u8]) -> Endless<'a> {
+    /// A reader that begins with these bytes, and gave none yet.
+    pub fn new(front: &'a [u8]) -> Endless<'a>
+        ensures { result.given ≡ 0 }
+    {
         Endless { front, given: 0 }
     }
 }
@@ -76,27 +85,34 @@ impl Read for Endless<'_> {
 
 /// What a writer does once its calls are used up.
 #[derive(Clone, Copy, PartialEq, Eq)]
-pub(crate) enum End {
+pub enum End {
+    /// Each further call fails.
     Fails,
+    /// Each further call takes no byte.
     TakesNothing,
 }
 
 /// A writer that takes at most `step` bytes a call.
 #[derive(Drop)]
-pub(crate) struct Sheet {
+pub struct Sheet {
     /// What it was given.
-    pub(crate) text: Vec<u8>,
+    pub text: Vec<u8>,
     step: usize,
     calls: usize,
     end: End,
     /// Whether it was called once its calls were used up.
-    pub(crate) ended: bool,
+    pub ended: bool,
     /// Whether a flush succeeds.
-    pub(crate) flushes: bool,
+    pub flushes: bool,
 }
 
 impl Sheet {
-    pub(crate) fn new(alloc: Global, step: usize, calls: usize, end: End) -> Sheet {
+    /// An empty sheet for so many calls, whose flush succeeds.
+    pub fn new(alloc: Global, step: usize, calls: usize, end: End) -> Sheet
+        ensures text { result.text.items ≡ [] }
+        ensures ended { result.ended ≡ false }
+        ensures flushes { result.flushes ≡ true }
+    {
         Sheet {
             text: Vec::new(alloc),
             step,

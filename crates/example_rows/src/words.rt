@@ -1,5 +1,5 @@
 //! The words of a row, written out.
-use anyhow::{Context, Result, ensure};
+use anyhow::{Context, Result, bail, ensure};
 use std::alloc::Global;
 use std::collections::BTreeMap;
 
@@ -75,14 +75,14 @@ fn counted(part: &str) -> (usize, &str) {
 
 /// The bytes that the words say, one after another: digits put more bytes behind, `2=21` puts others from
 /// place 2 on, `..20` leaves the first 20, and `-` says nothing.
-pub(crate) fn bytes_of(alloc: Global, words: &[String]) -> Result<Vec<u8>> {
+pub fn bytes_of(alloc: Global, words: &[String]) -> Result<Vec<u8>> {
     let mut bytes = Vec::new(alloc);
     change(alloc, &mut bytes, words)?;
     Ok(bytes)
 }
 
 /// Does with the bytes what the words say, one after another.
-pub(crate) fn change(alloc: Global, bytes: &mut Vec<u8>, words: &[String]) -> Result<()> {
+pub fn change(alloc: Global, bytes: &mut Vec<u8>, words: &[String]) -> Result<()> {
     for word in words {
         put(bytes, alloc, word.as_str()).context(format_args!("in {word}"))?;
     }
@@ -118,4 +118,16 @@ fn overwrite(bytes: &mut Vec<u8>, place: usize, others: Vec<u8>) -> Result<()> {
 /// The bytes that digits say.
 pub(crate) fn digits_of(alloc: Global, digits: &str) -> Result<Vec<u8>> {
     Ok(hex::decode(alloc, digits)?)
+}
+
+/// The units of four digits each, the high byte first.
+pub fn units_of(alloc: Global, bytes: &[u8]) -> Result<Vec<u16>> {
+    let mut units = Vec::new(alloc);
+    for pair in bytes.chunks(2) {
+        match pair {
+            [high, low] => units.push(u16::from_be_bytes([*high, *low]))?,
+            _ => bail!("half a unit"),
+        }
+    }
+    Ok(units)
 }

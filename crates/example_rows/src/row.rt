@@ -1,37 +1,44 @@
 //! Rows: what is asked for, and what must come.
+ghost use Rattle.std.specs.Prelude.{◌≡◌, []};
+ghost use Rattle.std.specs.String.{string_bytes};
+
 use crate::words::Names;
 use anyhow::{Context, Result, bail};
 use std::alloc::Global;
 
 /// One row of a file.
 #[derive(Drop)]
-pub(crate) struct Row {
+pub struct Row {
     /// The number of its line in the file, from 1.
-    pub(crate) line: usize,
+    pub line: usize,
     /// What is asked for.
-    pub(crate) call: String,
+    pub call: String,
     /// What is given to it.
-    pub(crate) words: Vec<String>,
+    pub words: Vec<String>,
     /// The lines that are given to it, which stand behind `|`.
-    pub(crate) lines: String,
+    pub lines: String,
     /// What must come.
-    pub(crate) wanted: Answer,
+    pub wanted: Answer,
 }
 
 /// What comes of a row.
 #[derive(Drop, PartialEq, Eq)]
-pub(crate) struct Answer {
+pub struct Answer {
     /// The words behind the arrow.
-    pub(crate) words: String,
+    pub words: String,
     /// What is written to standard output, or would be: the lines behind `>`.
-    pub(crate) output: String,
+    pub output: String,
     /// What is written to standard error: the lines behind `!`.
-    pub(crate) errors: String,
+    pub errors: String,
 }
 
 impl Answer {
     /// An answer of words alone.
-    pub(crate) fn of(words: String, alloc: Global) -> Answer {
+    pub fn of(words: String, alloc: Global) -> Answer
+        ensures words { result.words ≡ words }
+        ensures output { string_bytes result.output ≡ [] }
+        ensures errors { string_bytes result.errors ≡ [] }
+    {
         Answer {
             words,
             output: String::new(alloc),
@@ -40,8 +47,8 @@ impl Answer {
     }
 }
 
-/// All rows of a text.
-pub(crate) fn rows_of(alloc: Global, text: &str) -> Result<Vec<Row>> {
+/// All rows of a text. An error names the line at which it failed.
+pub fn rows_of(alloc: Global, text: &str) -> Result<Vec<Row>> {
     let mut names = Names::new(alloc);
     let mut rows = Vec::new(alloc);
     for (before, line) in text.lines().enumerate() {
@@ -99,7 +106,7 @@ fn begin(alloc: Global, names: &Names, line: usize, asked: &str, wanted: &str) -
 }
 
 /// The words, parted by one space.
-pub(crate) fn joined(alloc: Global, words: &Vec<String>) -> Result<String> {
+fn joined(alloc: Global, words: &Vec<String>) -> Result<String> {
     let mut text = String::new(alloc);
     for word in words.iter() {
         if !text.is_empty() {
