@@ -1,13 +1,15 @@
 -- Pairs of lower-case digits, and their bytes.
 use Rattle.std.proofs.Common.{◌≡◌, ◌≢◌, ℕ, ◌+◌, ◌*◌, ◌%◌, ◌<◌, ◌≤◌, List, [], ◌∷◌, ◌++◌, length, take, drop, slice_index, slice_set, Bool, true, false, cond, ltb, ◌⊎◌, inl, inr, Option, Some, None, refl, sym, ap, subst, ◌∙◌, arith}
 use Rattle.std.proofs.lemmas.Bool.{cases_lt, ltb-false, ltb-true}
+use Rattle.std.specs.Int.Bits.{bit_or}
+use Rattle.std.proofs.lemmas.Nat.{le_or_l, le_or_r, or_of_8}
 use Rattle.std.specs.List.{AllByRecursion}
 use Rattle.std.proofs.lemmas.List.{append_assoc, append-nil, drop_all, drop_more, take_all, take_more_set}
 use Rattle.hex.specs.Hex.{encode_lower, encode_with, lower_digits}
 use Rattle.hex.proofs.HexLemmas.{length-encode_with}
 use Rattle.usb_base.specs.Bytes.{IsByte}
 use Rattle.usb_listing_lines.specs.inside.Digits.{pair_value, value_or}
-use Rattle.usb_listing_lines.specs.inside.Fields.{IsGreater, before, pairs_of}
+use Rattle.usb_listing_lines.specs.inside.Fields.{HoldsBoth, before, pairs_of}
 use Rattle.usb_listing_lines.proofs.DigitLemmas.{pair_again, pair_large, pair_read, pair_small}
 
 -- ---- both ways between bytes and their digits
@@ -102,18 +104,22 @@ decode_done digits bytes i all fits inv =
     inv ∙ ap (λ (d : List ℕ). prepend (take i bytes) (pairs_of d)) (drop_all (2 * i) digits fits)
     ∙ ap Some (append-nil (take i bytes) ∙ take_all i bytes all)
 
--- so many pairs are decoded, the greatest of which is this
-pub record Decoding (digits bytes : List ℕ) (i greatest : ℕ) : Type 0 where
-  pub right : greatest < 256 → pairs_of digits ≡ prepend (take i bytes) (pairs_of (drop (2 * i) digits))
-  pub wrong : 256 ≤ greatest → pairs_of digits ≡ None
+-- the bits of two numbers hold both
+pub bits_hold : (a b : ℕ) → HoldsBoth a b (bit_or a b)
+bits_hold a b = record { first = le_or_l a b; second = le_or_r a b; byte = or_of_8 a b }
+
+-- so many pairs are decoded, and these are the bits of all
+pub record Decoding (digits bytes : List ℕ) (i bits : ℕ) : Type 0 where
+  pub right : bits < 256 → pairs_of digits ≡ prepend (take i bytes) (pairs_of (drop (2 * i) digits))
+  pub wrong : 256 ≤ bits → pairs_of digits ≡ None
 
 pub decoding_none : (digits bytes : List ℕ) → Decoding digits bytes 0 0
 decoding_none digits bytes = record { right = λ lt. prepend-nil (pairs_of digits); wrong = λ le. absurd (omega arith) }
 
-pub decoding_next : (digits bytes : List ℕ) (i greatest byte more : ℕ) → 2 * i + 1 < length digits → i < length bytes
-    → byte ≡ value_or (slice_index digits (2 * i)) * 16 + value_or (slice_index digits (2 * i + 1)) → IsGreater greatest byte more
-    → Decoding digits bytes i greatest → Decoding digits (slice_set bytes i (byte % 256)) (i + 1) more
-decoding_next digits bytes i greatest byte more fits room is g d = record { right = right; wrong = wrong g.one }
+pub decoding_next : (digits bytes : List ℕ) (i bits byte more : ℕ) → 2 * i + 1 < length digits → i < length bytes
+    → byte ≡ value_or (slice_index digits (2 * i)) * 16 + value_or (slice_index digits (2 * i + 1)) → HoldsBoth bits byte more
+    → Decoding digits bytes i bits → Decoding digits (slice_set bytes i (byte % 256)) (i + 1) more
+decoding_next digits bytes i bits byte more fits room is g d = record { right = right; wrong = wrong }
   where
     here : byte < 256 → pair_value (slice_index digits (2 * i)) (slice_index digits (2 * i + 1)) ≡ Some (byte % 256)
     here lt =
@@ -126,21 +132,20 @@ decoding_next digits bytes i greatest byte more fits room is g d = record { righ
         let b = g.second in
         decode_step digits bytes i (byte % 256) fits room (here (omega (arith, b, lt))) (d.right (omega (arith, a, lt)))
 
-    bad : 256 ≤ byte → greatest < 256 → pairs_of digits ≡ None
+    bad : 256 ≤ byte → bits < 256 → pairs_of digits ≡ None
     bad le lt =
         decode_none digits bytes i fits (sym (pair_large (slice_index digits (2 * i)) (slice_index digits (2 * i + 1)) (omega (arith, is, le)))) (d.right lt)
 
-    wrong : (more ≡ greatest) ⊎ (more ≡ byte) → 256 ≤ more → pairs_of digits ≡ None
-    wrong (inl e) le = d.wrong (omega (arith, e, le))
-    wrong (inr e) le = elim (cases_lt greatest 256) [ inl below ↦ bad (omega (arith, e, le)) below | inr above ↦ d.wrong above ]
+    wrong : 256 ≤ more → pairs_of digits ≡ None
+    wrong le = elim (cases_lt bits 256) [ inl below ↦ elim (cases_lt byte 256) [ inl small ↦ let lt = g.byte below small in absurd (omega (arith, le, lt)) | inr large ↦ bad large below ] | inr above ↦ d.wrong above ]
 
-pub decoding_done : (digits bytes : List ℕ) (i greatest : ℕ) → length bytes ≤ i → length digits ≤ 2 * i → Decoding digits bytes i greatest
-    → pairs_of digits ≡ cond (ltb greatest 256) (Some bytes) None
-decoding_done digits bytes i greatest all fits d = cases (ltb greatest 256) refl
+pub decoding_done : (digits bytes : List ℕ) (i bits : ℕ) → length bytes ≤ i → length digits ≤ 2 * i → Decoding digits bytes i bits
+    → pairs_of digits ≡ cond (ltb bits 256) (Some bytes) None
+decoding_done digits bytes i bits all fits d = cases (ltb bits 256) refl
   where
-    cases : (b : Bool) → ltb greatest 256 ≡ b → pairs_of digits ≡ cond b (Some bytes) None
-    cases true e = decode_done digits bytes i all fits (d.right (ltb-true greatest 256 e))
-    cases false e = d.wrong (ltb-false greatest 256 e)
+    cases : (b : Bool) → ltb bits 256 ≡ b → pairs_of digits ≡ cond b (Some bytes) None
+    cases true e = decode_done digits bytes i all fits (d.right (ltb-true bits 256 e))
+    cases false e = d.wrong (ltb-false bits 256 e)
 
 -- an odd number of digits is no bytes
 pub odd_none : (digits : List ℕ) → length digits % 2 ≢ 0 → None ≡ pairs_of digits

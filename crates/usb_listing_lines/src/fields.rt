@@ -4,7 +4,7 @@ ghost use Rattle.std.specs.List.{list_all};
 ghost use Rattle.arrayvec.specs.ArrayVec.{array_vec_len};
 ghost use Rattle.usb_listing_lines.specs.inside.Digits.{digit_value};
 ghost use Rattle.usb_listing_lines.specs.inside.Items.{fixed_in, tailed_in};
-ghost use Rattle.usb_listing_lines.specs.inside.Fields.{IsGreater, behind_space, byte_first, byte_of, bytes_from, pairs_of, tail_of};
+ghost use Rattle.usb_listing_lines.specs.inside.Fields.{HoldsBoth, behind_space, byte_first, byte_of, bytes_from, pairs_of, tail_of};
 
 use crate::digits::{pair, pair_or};
 use arrayvec::ArrayVec;
@@ -85,12 +85,13 @@ fn decode(alloc: Global, digits: &[u8]) -> Result<Option<Sequence<u8>>, AllocErr
     }
 }
 
-/// The greater of the two.
+/// The bits of the two.
 #[inline(always)]
-fn greater(a: u16, b: u16) -> u16
-    ensures { IsGreater a b result }
+#[tactic(auto, using(crate::proofs::DecodeLemmas::bits_hold))]
+fn bits_of_both(a: u16, b: u16) -> u16
+    ensures { HoldsBoth a b result }
 {
-    if a < b { b } else { a }
+    a | b
 }
 
 /// Writes the bytes of pairs of digits, and tells whether all are lower-case ones. Whether they are is looked
@@ -100,13 +101,13 @@ fn decode_into(digits: &[u8], bytes: &mut [u8]) -> bool
     requires { length digits.now ≡ 2 * length bytes.old }
     ensures { pairs_of digits.now ≡ (if result then Some bytes.new else None) }
 {
-    let mut greatest = 0;
+    let mut bits = 0;
     'bytes: for i in 0..bytes.len() {
         let byte = pair_or(digits[2 * i], digits[2 * i + 1]);
-        greatest = greater(greatest, byte);
+        bits = bits_of_both(bits, byte);
         bytes[i] = (byte % 256) as u8;
     }
-    greatest < 256
+    bits < 256
 }
 
 /// A tail that ends a line, of so many bytes at most.
