@@ -5,7 +5,7 @@ use usb_device::State;
 use usb_host::Why;
 
 /// What came of a talk.
-#[derive(Debug, Drop)]
+#[derive(Clone, Debug, Drop, PartialEq, Eq, Hash)]
 pub struct Talk {
     /// What each transfer that completed brought, in the order of the requests.
     pub replies: Sequence<Reply>,

@@ -59,7 +59,7 @@ fn repeats_language(strings: &Option<Strings>) -> bool
     ensures { result ≡ repeats_language strings.now }
 {
     match strings {
-        Some(strings) => repeats(strings.languages.as_slice()),
+        Some(strings) => repeats(&strings.languages),
         None => false,
     }
 }

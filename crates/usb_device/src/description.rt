@@ -18,7 +18,7 @@ use usb_file_data::{DescriptorFile, Strings, named};
 /// let description = Description::new(rt.alloc(), file, Speed::Full)?;
 /// assert_eq!(rt; description.speed(), Speed::Full);
 /// ```
-#[derive(Drop)]
+#[derive(Debug, Drop)]
 pub struct Description {
     file: DescriptorFile,
     speed: Speed,
@@ -190,7 +190,7 @@ impl Description {
         match &self.file.strings {
             None => None,
             Some(_) if index == 0 => Some(self.strings),
-            Some(strings) => match find_text(strings, self.named.as_slice(), index, language) {
+            Some(strings) => match find_text(strings, &self.named, index, language) {
                 Some(place) => Some(self.strings + 1 + place),
                 None => None,
             },
@@ -205,7 +205,7 @@ fn find_text(strings: &Strings, named: &[u8], index: u8, language: u16) -> Optio
     ensures within { IfSome result (λ place. place < length strings.now.texts) }
 {
     let _count = strings.texts.len();
-    let row = place_of_language(strings.languages.as_slice(), language)?;
+    let row = place_of_language(&strings.languages, language)?;
     let column = place_of_index(named, index)?;
     Some(row * named.len() + column)
 }

@@ -23,7 +23,7 @@ use usb_fields::{Answer, Transaction};
 /// assert_eq!(rt; packet, Answer::Data(Toggle::Data1, &first));
 /// device.acked();
 /// ```
-#[derive(Drop)]
+#[derive(Debug, Drop)]
 pub struct Device<'d> {
     description: &'d Description,
     endpoint_zero: EndpointZero,

@@ -43,7 +43,7 @@ pub(crate) enum Reaction {
 /// assert_eq!(rt; endpoint_zero.state().address, 5);
 /// ```
 // What a stage needs stands beside it and not in it, so that a step writes only what it changes.
-#[derive(Clone, Copy)]
+#[derive(Clone, Copy, Debug)]
 pub struct EndpointZero {
     state: State,
     stage: Stage,

@@ -64,7 +64,7 @@ fn without_setting(halts: u32, setting: &Setting, number: u8) -> u32
     ensures { result ≡ fold without_halt halts (addresses_in number setting.now) }
 {
     if setting.number == number {
-        without_endpoints(halts, setting.endpoints.as_slice())
+        without_endpoints(halts, &setting.endpoints)
     } else {
         halts
     }

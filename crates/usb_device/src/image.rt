@@ -5,14 +5,14 @@ use std::alloc::{AllocError, Global};
 use std::marker::Model;
 
 /// Where a byte string stands.
-#[derive(Clone, Copy)]
+#[derive(Clone, Copy, Debug)]
 struct Span {
     start: usize,
     count: usize,
 }
 
 /// A list of byte strings in one buffer.
-#[derive(Drop)]
+#[derive(Debug, Drop)]
 pub(crate) struct Image {
     bytes: Vec<u8>,
     spans: Vec<Span>,

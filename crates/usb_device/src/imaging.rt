@@ -22,7 +22,7 @@ pub(crate) fn add_main(
     ensures { OnOk result (image.new ≡ image.old ++ main_descriptors f.now) }
 {
     image.add(&f.device.to_bytes())?;
-    add_sets(alloc, image, f.sets.as_slice())?;
+    add_sets(alloc, image, &f.sets)?;
     Ok(())
 }
 
@@ -39,7 +39,7 @@ pub(crate) fn add_other(
         None => Ok(()),
         Some(other) => {
             image.add(&other.qualifier.to_bytes())?;
-            add_sets(alloc, image, other.sets.as_slice())
+            add_sets(alloc, image, &other.sets)
         }
     }
 }
@@ -61,7 +61,7 @@ fn add_set(alloc: Global, image: &mut Image, c: &Configuration) -> Result<(), Al
     ensures { OnOk result (image.new ≡ image.old ++ whole_set c.now ∷ []) }
 {
     match encode(alloc, c) {
-        Ok(bytes) => image.add(bytes.as_slice()),
+        Ok(bytes) => image.add(&bytes),
         Err(_) => Err(AllocError),
     }
 }
@@ -79,7 +79,7 @@ pub(crate) fn add_strings(
         None => Ok(()),
         Some(strings) => {
             add_string(alloc, image, &strings.languages)?;
-            add_texts(alloc, image, strings.texts.as_slice())
+            add_texts(alloc, image, &strings.texts)
         }
     }
 }
@@ -99,8 +99,8 @@ fn add_string(alloc: Global, image: &mut Image, units: &Sequence<u16>) -> Result
     requires { is_long_string units.now ≡ false }
     ensures { OnOk result (image.new ≡ image.old ++ units_bytes units.now ∷ []) }
 {
-    match write_units(alloc, units.as_slice()) {
-        Ok(bytes) => image.add(bytes.as_slice()),
+    match write_units(alloc, units) {
+        Ok(bytes) => image.add(&bytes),
         Err(_) => Err(AllocError),
     }
 }

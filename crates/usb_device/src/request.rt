@@ -142,7 +142,7 @@ impl<'r> Request<'r> {
         if self.state.has_address()
             && self.setup.value == 1
             && self.setup.index == 0
-            && selected::any_can_wake(self.description.file().sets.as_slice())
+            && selected::any_can_wake(&self.description.file().sets)
         {
             self.done(Change::Wakeup(on))
         } else {
@@ -236,7 +236,7 @@ impl<'r> Request<'r> {
             return Response::Refused;
         }
         let value = self.setup.value as u8;
-        if value == 0 || selected::any_with_value(self.description.file().sets.as_slice(), value) {
+        if value == 0 || selected::any_with_value(&self.description.file().sets, value) {
             self.done(Change::Configuration(value))
         } else {
             Response::Refused

@@ -12,8 +12,8 @@ use usb_set::{Configuration, Endpoint, Setting};
 pub(crate) fn settings<'f>(file: &'f DescriptorFile, state: &State) -> &'f [Setting]
     ensures { result.now ≡ selected_settings file.now state.now }
 {
-    match with_value(file.sets.as_slice(), state.selected) {
-        Some(c) => c.settings.as_slice(),
+    match with_value(&file.sets, state.selected) {
+        Some(c) => &c.settings,
         None => &[],
     }
 }
@@ -44,9 +44,9 @@ pub(crate) fn attributes(file: &DescriptorFile, state: &State) -> u8
     ensures { result ≡ shown_attributes file.now state.now }
 {
     let shown = if state.is_configured() {
-        with_value(file.sets.as_slice(), state.selected)
+        with_value(&file.sets, state.selected)
     } else {
-        file.sets.as_slice().first()
+        file.sets.first()
     };
     match shown {
         Some(c) => c.attributes,
@@ -81,7 +81,7 @@ fn is_chosen_with(setting: &Setting, alternates: &[u8; 256], address: u8) -> boo
     ensures { result ≡ has_endpoint alternates.now address setting.now }
 {
     alternates[usize::from(setting.number)] == setting.alternate
-        && any_at(setting.endpoints.as_slice(), address)
+        && any_at(&setting.endpoints, address)
 }
 
 fn any_at(endpoints: &[Endpoint], address: u8) -> bool

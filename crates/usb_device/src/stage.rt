@@ -6,7 +6,7 @@ use crate::description::Description;
 use usb_fields::Toggle;
 
 /// Where a device stands in a transfer.
-#[derive(Clone, Copy)]
+#[derive(Clone, Copy, Debug)]
 pub(crate) enum Stage {
     /// In none.
     Idle,
@@ -23,7 +23,7 @@ pub(crate) enum Stage {
 }
 
 /// Where the bytes of a data stage stand.
-#[derive(Clone, Copy)]
+#[derive(Clone, Copy, Debug)]
 pub(crate) enum Source {
     /// The descriptor at this place of the description.
     Descriptor(usize),
@@ -32,7 +32,7 @@ pub(crate) enum Source {
 }
 
 /// A place in a data stage.
-#[derive(Clone, Copy)]
+#[derive(Clone, Copy, Debug)]
 pub(crate) struct DataStage {
     /// Where the bytes stand.
     pub(crate) source: Source,

@@ -5,7 +5,7 @@ use crate::response::Change;
 
 /// The state of a device (USB 2.0, 9.1.1): with address 0 it is in the Default state, with another
 /// address and no configuration in the Address state, and with both in the Configured state.
-#[derive(Clone, Copy, Debug, PartialEq, Eq)]
+#[derive(Clone, Copy, Debug, PartialEq, Eq, Hash)]
 pub struct State {
     /// The address that the device answers at, 0 to 127.
     pub address: u8,

@@ -2,7 +2,7 @@
 use crate::why::Why;
 
 /// What a reply meant to a [`Transfer`](crate::Transfer).
-#[derive(Clone, Copy, Debug, PartialEq, Eq)]
+#[derive(Clone, Copy, Debug, PartialEq, Eq, Hash)]
 pub enum Heard<'a> {
     /// The transfer goes on, and no byte was kept.
     Again,

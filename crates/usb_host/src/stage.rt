@@ -2,7 +2,7 @@
 use crate::why::Why;
 
 /// The stage that a control transfer is in, or its end (USB 2.0, 8.5.3).
-#[derive(Clone, Copy, Debug, PartialEq, Eq)]
+#[derive(Clone, Copy, Debug, PartialEq, Eq, Hash)]
 pub enum TransferStage {
     /// The setup packet is not acknowledged yet.
     Setup,

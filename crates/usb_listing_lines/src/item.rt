@@ -3,7 +3,7 @@ use usb_fields::{DeviceDescriptor, Qualifier};
 use usb_set::{Configuration, Endpoint, Extra, Sequence, Setting};
 
 /// A descriptor, without those that belong to it.
-#[derive(Clone, Debug, Drop, PartialEq, Eq)]
+#[derive(Clone, Debug, Drop, PartialEq, Eq, Hash)]
 pub enum Item {
     /// The device descriptor.
     Device(DeviceDescriptor),

@@ -5,7 +5,7 @@ ghost use Rattle.usb_listing_lines.specs.Words.{first_word, word_in, word_text};
 ghost use Rattle.usb_listing_lines.specs.inside.Letters.{ends_word, word_with};
 
 /// The first word of a line: which descriptor the line says.
-#[derive(Clone, Copy, Debug, PartialEq, Eq)]
+#[derive(Clone, Copy, Debug, PartialEq, Eq, Hash)]
 pub enum Word {
     /// The device descriptor.
     Device,

@@ -25,11 +25,11 @@ pub(crate) fn check_associations(
     requires survey { IsSurvey survey c.now.settings }
     ensures { OnOk result (out.new.items ≡ out.old.items ++ associations part set c.now) }
 {
-    let number = check_extras(out, next, part, set, 0, c.extras.as_slice())?;
+    let number = check_extras(out, next, part, set, 0, &c.extras)?;
     if survey.bare {
         return Ok(());
     }
-    check_settings(out, next, part, set, number, c.settings.as_slice())?;
+    check_settings(out, next, part, set, number, &c.settings)?;
     Ok(())
 }
 
@@ -61,8 +61,8 @@ fn check_setting(
 ) -> Result<usize, AllocError>
     ensures { IfOk result (Tells (told_at (seen (reads next.now)) part set) out.old.items out.new.items number (flat_map association_in (setting_extras s.now))) }
 {
-    let number = check_extras(out, next, part, set, number, s.extras.as_slice())?;
-    let number = check_endpoints(out, next, part, set, number, s.endpoints.as_slice())?;
+    let number = check_extras(out, next, part, set, number, &s.extras)?;
+    let number = check_endpoints(out, next, part, set, number, &s.endpoints)?;
     Ok(number)
 }
 
@@ -77,7 +77,7 @@ fn check_endpoints(
     ensures { IfOk result (Tells (told_at (seen (reads next.now)) part set) out.old.items out.new.items number (flat_map (λ e. flat_map association_in e.extras) endpoints.now)) }
 {
     for e in endpoints {
-        number = check_extras(out, next, part, set, number, e.extras.as_slice())?;
+        number = check_extras(out, next, part, set, number, &e.extras)?;
     }
     Ok(number)
 }

@@ -15,7 +15,7 @@ pub(crate) fn check_endpoint_counts(
 ) -> Result<(), AllocError>
     ensures { OnOk result (out.new.items ≡ out.old.items ++ endpoint_counts part set c.now) }
 {
-    for (setting, s) in c.settings.as_slice().iter().enumerate() {
+    for (setting, s) in c.settings.iter().enumerate() {
         push_when(
             out,
             usize::from(s.declared_endpoints) != s.endpoints.len(),

@@ -41,8 +41,8 @@ fn tell_missing(
     ensures { OnOk result (out.new.items ≡ out.old.items ++ missing_default_settings part set c.now) }
 {
     let mut told = Marks::new();
-    mark_defaults(&mut told, c.settings.as_slice());
-    tell_others(out, &mut told, part, set, c.settings.as_slice())
+    mark_defaults(&mut told, &c.settings);
+    tell_others(out, &mut told, part, set, &c.settings)
 }
 
 /// Marks the interface numbers that have an alternate setting 0.

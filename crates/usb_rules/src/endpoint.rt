@@ -35,7 +35,7 @@ pub(crate) fn check_endpoints(
     if survey.bare {
         return Ok(());
     }
-    for (setting, s) in c.settings.as_slice().iter().enumerate() {
+    for (setting, s) in c.settings.iter().enumerate() {
         check_setting(wrong_addresses, wrong_sizes, part, set, setting, s)?;
     }
     Ok(())
@@ -52,7 +52,7 @@ fn check_setting(
     ensures addresses { OnOk result (wrong_addresses.new.items ≡ wrong_addresses.old.items ++ addresses_in part set setting s.now) }
     ensures sizes { OnOk result (wrong_sizes.new.items ≡ wrong_sizes.old.items ++ packet_sizes_in part set setting s.now) }
 {
-    for (endpoint, e) in s.endpoints.as_slice().iter().enumerate() {
+    for (endpoint, e) in s.endpoints.iter().enumerate() {
         check_endpoint(
             wrong_addresses,
             wrong_sizes,

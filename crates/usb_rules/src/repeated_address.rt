@@ -27,7 +27,7 @@ pub(crate) fn check_repeated_addresses(
     if survey.bare {
         return Ok(());
     }
-    check_settings(out, part, set, c.settings.as_slice())
+    check_settings(out, part, set, &c.settings)
 }
 
 fn check_settings(
@@ -57,7 +57,7 @@ fn check_setting(
     if s.endpoints.len() < 2 {
         return Ok(());
     }
-    check_endpoints(out, part, set, setting, s.endpoints.as_slice())
+    check_endpoints(out, part, set, setting, &s.endpoints)
 }
 
 fn check_endpoints(

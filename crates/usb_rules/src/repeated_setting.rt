@@ -30,9 +30,9 @@ pub(crate) fn check_repeated_settings(
         return Ok(());
     }
     if c.settings.len() <= FEW {
-        return tell_among_few(out, part, set, c.settings.as_slice());
+        return tell_among_few(out, part, set, &c.settings);
     }
-    tell_repeated(out, part, set, c.settings.as_slice())
+    tell_repeated(out, part, set, &c.settings)
 }
 
 /// Looks back from each setting, which a few settings allow.

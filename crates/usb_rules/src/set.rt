@@ -24,9 +24,9 @@ use usb_set::Configuration;
 pub(crate) fn check_all_sets(found: &mut SetFindings, f: &DescriptorFile) -> Result<(), AllocError>
     ensures { OnOk result (Grew (λ rule. in_parts (in_sets (found_by rule)) f.now) found.old found.new) }
 {
-    check_sets(found, Part::Main, f.sets.as_slice())?;
+    check_sets(found, Part::Main, &f.sets)?;
     if let Some(other) = &f.other {
-        check_sets(found, Part::Other, other.sets.as_slice())?;
+        check_sets(found, Part::Other, &other.sets)?;
     }
     Ok(())
 }
@@ -49,7 +49,7 @@ fn check_set(
     ensures { OnOk result (Grew (λ rule. found_by rule part set c.now) found.old found.new) }
 {
     let mut next = Alternates::new();
-    let survey = survey_of(&mut next, c.settings.as_slice());
+    let survey = survey_of(&mut next, &c.settings);
     check_interface_count(&mut found.interface_counts, survey, part, set, c)?;
     check_number_gap(&mut found.number_gaps, &next, survey, part, set, c)?;
     check_repeated_settings(&mut found.repeated_settings, survey, part, set, c)?;

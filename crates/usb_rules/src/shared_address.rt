@@ -29,7 +29,7 @@ pub(crate) fn check_shared_addresses(
     if c.settings.len() < 2 {
         return Ok(());
     }
-    check_settings(out, part, set, c.settings.as_slice())
+    check_settings(out, part, set, &c.settings)
 }
 
 fn check_settings(
@@ -42,16 +42,8 @@ fn check_settings(
 {
     let mut owners = Owners::new();
     for (setting, s) in settings.iter().enumerate() {
-        check_setting(
-            out,
-            &owners,
-            s.number,
-            part,
-            set,
-            setting,
-            s.endpoints.as_slice(),
-        )?;
-        own_all(&mut owners, s.number, s.endpoints.as_slice());
+        check_setting(out, &owners, s.number, part, set, setting, &s.endpoints)?;
+        own_all(&mut owners, s.number, &s.endpoints);
     }
     Ok(())
 }

@@ -17,9 +17,9 @@ use usb_set::Configuration;
 pub(crate) fn check_values(out: &mut Vec<Finding>, f: &DescriptorFile) -> Result<(), AllocError>
     ensures { OnOk result (out.new.items ≡ out.old.items ++ in_parts values f.now) }
 {
-    check_part(out, Part::Main, f.sets.as_slice())?;
+    check_part(out, Part::Main, &f.sets)?;
     if let Some(other) = &f.other {
-        check_part(out, Part::Other, other.sets.as_slice())?;
+        check_part(out, Part::Other, &other.sets)?;
     }
     Ok(())
 }

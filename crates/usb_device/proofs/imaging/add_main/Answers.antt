@@ -8,7 +8,7 @@ pub returns : goal.returns
 returns c =
     let bytes : c.to_bytes.result ≡ device_bytes c.args.f.now.device = c.to_bytes.ensures in
     let first : c.add.new.self ≡ c.args.image.now ++ c.to_bytes.result ∷ [] = c.in_ok-add.ensures in
-    let sets : c.as_slice.result.now ≡ c.args.f.now.sets = c.as_slice.ensures in
-    let all : c.add_sets.new.image ≡ c.add.new.self ++ map whole_set c.as_slice.result.now = c.in_ok-add_sets.ensures in
-    let joins : c.args.image.now ++ c.to_bytes.result ∷ [] ++ map whole_set c.as_slice.result.now ≡ c.args.image.now ++ (c.to_bytes.result ∷ map whole_set c.as_slice.result.now) = append_assoc c.args.image.now (c.to_bytes.result ∷ []) (map whole_set c.as_slice.result.now) in
+    let sets : c.deref.result.now ≡ c.args.f.now.sets = c.deref.ensures in
+    let all : c.add_sets.new.image ≡ c.add.new.self ++ map whole_set c.deref.result.now = c.in_ok-add_sets.ensures in
+    let joins : c.args.image.now ++ c.to_bytes.result ∷ [] ++ map whole_set c.deref.result.now ≡ c.args.image.now ++ (c.to_bytes.result ∷ map whole_set c.deref.result.now) = append_assoc c.args.image.now (c.to_bytes.result ∷ []) (map whole_set c.deref.result.now) in
     cc

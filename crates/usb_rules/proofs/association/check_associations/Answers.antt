@@ -19,8 +19,8 @@ returns c =
     let new = c.check_settings.new.out.items in
     let between = c.in_ok-number.number in
     let end = c.in_ok-check_settings.field-0 in
-    let first = subst (λ xs. Tells told out middle 0 (flat_map association_in xs) between) c.as_slice.ensures c.in_ok-number.ensures in
-    let rest = subst (λ xs. Tells told middle new between (flat_map (λ s. flat_map association_in (setting_extras s)) xs) end) c.as_slice-2.ensures c.in_ok-check_settings.ensures in
+    let first = subst (λ xs. Tells told out middle 0 (flat_map association_in xs) between) c.deref.ensures c.in_ok-number.ensures in
+    let rest = subst (λ xs. Tells told middle new between (flat_map (λ s. flat_map association_in (setting_extras s)) xs) end) c.deref-2.ensures c.in_ok-check_settings.ensures in
     let both = tells_both told out middle new 0 between end (flat_map association_in set.extras) (flat_map (λ s. flat_map association_in (setting_extras s)) set.settings) first rest in
     both.list ∙ ap (λ xs. out ++ at_each told 0 xs) (associations_of_set set)
     ∙ ap (λ m. out ++ at_each (told_at m c.args.part c.args.set) 0 (associations_of set)) c.requires.entered
@@ -30,7 +30,7 @@ returns-then-survey c =
     let told = told_at (seen (reads c.args.next.now)) c.args.part c.args.set in
     let set = c.args.c.now in
     let out = c.args.out.now.items in
-    let first = subst (λ xs. Tells told out c.check_extras.new.out.items 0 (flat_map association_in xs) c.in_ok-number.number) c.as_slice.ensures c.in_ok-number.ensures in
+    let first = subst (λ xs. Tells told out c.check_extras.new.out.items 0 (flat_map association_in xs) c.in_ok-number.number) c.deref.ensures c.in_ok-number.ensures in
     let none = bare_associations set.settings (sym c.requires.survey.bare ∙ c.if-survey.true) in
     let whole : flat_map association_in set.extras ≡ associations_of set =
     sym (append-nil (flat_map association_in set.extras)) ∙ ap (λ xs. flat_map association_in set.extras ++ xs) (sym none) ∙ associations_of_set set in

@@ -15,7 +15,7 @@ returns c =
     let new = c.check_endpoints.new.out.items in
     let between = c.in_ok-number.number in
     let end = c.in_ok-number-2.number in
-    let first = subst (λ xs. Tells told out middle c.args.number (flat_map association_in xs) between) c.as_slice.ensures c.in_ok-number.ensures in
-    let rest = subst (λ xs. Tells told middle new between (flat_map (λ e. flat_map association_in e.extras) xs) end) c.as_slice-2.ensures c.in_ok-number-2.ensures in
+    let first = subst (λ xs. Tells told out middle c.args.number (flat_map association_in xs) between) c.deref.ensures c.in_ok-number.ensures in
+    let rest = subst (λ xs. Tells told middle new between (flat_map (λ e. flat_map association_in e.extras) xs) end) c.deref-2.ensures c.in_ok-number-2.ensures in
     subst (λ xs. Tells told out new c.args.number xs end) (associations_of_setting s)
     (tells_both told out middle new c.args.number between end (flat_map association_in s.extras) (flat_map (λ e. flat_map association_in e.extras) s.endpoints) first rest)

@@ -8,7 +8,7 @@ pub loop-endpoint-preserved : goal.loop-endpoint-preserved
 loop-endpoint-preserved c =
     let endpoints = c.args.s.now.endpoints in
     let at = c.loop-endpoint.endpoint in
-    let same = c.as_slice-e-items.ensures in
+    let same = c.deref-e-items.ensures in
     let long = ap length same in
     let below : at < length endpoints = omega (arith, long) in
     let is = c.e-item.is ∙ ap (λ xs. get_or xs at c.e-item.result) same in

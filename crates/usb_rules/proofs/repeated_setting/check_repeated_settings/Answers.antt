@@ -11,10 +11,10 @@ returns-then-survey c =
 
 pub returns-then-len-le-FEW : goal.returns-then-len-le-FEW
 returns-then-len-le-FEW c =
-    let is = ap (pairing c.args.part c.args.set none_yet 0) c.as_slice.ensures ∙ repeated_settings_are c.args.part c.args.set c.args.c.now.settings in
+    let is = ap (pairing c.args.part c.args.set none_yet 0) c.deref.ensures ∙ repeated_settings_are c.args.part c.args.set c.args.c.now.settings in
     subst (λ found. OnOk c.tell_among_few.result (c.tell_among_few.new.out.items ≡ c.args.out.now.items ++ found)) is c.tell_among_few.ensures
 
 pub returns : goal.returns
 returns c =
-    let is = ap (pairing c.args.part c.args.set none_yet 0) c.as_slice-2.ensures ∙ repeated_settings_are c.args.part c.args.set c.args.c.now.settings in
+    let is = ap (pairing c.args.part c.args.set none_yet 0) c.deref-2.ensures ∙ repeated_settings_are c.args.part c.args.set c.args.c.now.settings in
     subst (λ found. OnOk c.tell_repeated.result (c.tell_repeated.new.out.items ≡ c.args.out.now.items ++ found)) is c.tell_repeated.ensures

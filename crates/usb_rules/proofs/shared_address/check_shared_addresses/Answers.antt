@@ -7,7 +7,7 @@ use Rattle.usb_rules.proofs.shared_address.check_shared_addresses.Goals as goal
 
 pub returns : goal.returns
 returns c =
-    let is = ap (owning c.args.part c.args.set unowned 0) c.as_slice.ensures ∙ shared_is c.args.part c.args.set c.args.c.now in
+    let is = ap (owning c.args.part c.args.set unowned 0) c.deref.ensures ∙ shared_is c.args.part c.args.set c.args.c.now in
     subst (λ found. OnOk c.check_settings.result (c.check_settings.new.out.items ≡ c.args.out.now.items ++ found)) is c.check_settings.ensures
 
 pub returns-then-len-lt2 : goal.returns-then-len-lt2

@@ -29,13 +29,13 @@ returns-in-Some c =
 pub returns-in-Some-find_text : goal.returns-in-Some-find_text
 returns-in-Some-find_text c =
     let within : c.in-Some-find_text.place < length c.in-Some-2.strings.texts = c.in-Some-find_text.ensures.within in
-    let named : c.as_slice.result.now ≡ named_indices c.self.inside.file = cc in
-    let is : c.find_text.result ≡ text_place c.in-Some-2.strings c.as_slice.result.now c.args.index c.args.language = c.find_text.ensures.text in
+    let named : c.deref.result.now ≡ named_indices c.self.inside.file = cc in
+    let is : c.find_text.result ≡ text_place c.in-Some-2.strings c.deref.result.now c.args.index c.args.language = c.find_text.ensures.text in
     let there : Some c.in-Some-find_text.place ≡ text_place c.in-Some-2.strings (named_indices c.self.inside.file) c.args.index c.args.language = cc in
     subst (λ (d : Described). IsFound d.file (string_at d.file.strings (named_indices d.file) c.args.index c.args.language) (c.self.inside.strings + 1 + c.in-Some-find_text.place)) c.self.view_is
     (text_found c.self.inside.file c.in-Some-2.strings (named_indices c.self.inside.file) c.args.index c.args.language c.self.inside.strings c.in-Some-find_text.place c.in-Some-2.is c.if-index-eq0.false c.self.invariant.strings there within)
 
 pub find_text-requires : goal.find_text-requires
 find_text-requires c =
-    let named : c.as_slice.result.now ≡ named_indices c.self.inside.file = cc in
+    let named : c.deref.result.now ≡ named_indices c.self.inside.file = cc in
     rw named (texts_as_many c.self.inside.file c.in-Some-2.strings c.in-Some-2.is c.self.invariant.accepted.strings)
