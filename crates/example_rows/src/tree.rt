@@ -40,7 +40,7 @@ impl Fields<'_> {
             digits.push_str(word)?;
         }
         let bytes = digits_of(self.alloc, digits.as_str())?;
-        Ok(Sequence::from_vec(units_of(self.alloc, bytes.as_slice())?))
+        Ok(Sequence::from_vec(units_of(self.alloc, &bytes)?))
     }
 }
 

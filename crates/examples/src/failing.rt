@@ -75,7 +75,7 @@ fn case_and_number(alloc: Global, row: &Row) -> Result<(Case, usize)> {
 pub(crate) fn failing_reads(alloc: Global, row: &Row) -> Result<String> {
     let (case, step) = case_and_number(alloc, row)?;
     for calls in 0..=case.input.len().saturating_add(1) {
-        let mut reader = Pieces::new(case.input.as_slice(), step, calls);
+        let mut reader = Pieces::new(&case.input, step, calls);
         let mut text = Vec::new(alloc);
         let outcome = case.command.run(alloc, &mut reader, &mut text);
         if reader.failed == 0 {
@@ -118,7 +118,7 @@ fn failing_writer(alloc: Global, case: &Case, step: usize, end: End) -> Result<u
             .command
             .run(alloc, &mut case.input.as_slice(), &mut sheet);
         ensure!(
-            case.written.as_slice().starts_with(sheet.text.as_slice()),
+            case.written.as_slice().starts_with(&sheet.text),
             "no front of the output after {calls} calls"
         );
         if !sheet.ended {
@@ -147,7 +147,7 @@ pub(crate) fn failing_write(alloc: Global, row: &Row) -> Result<String> {
         .command
         .run(alloc, &mut case.input.as_slice(), &mut sheet);
     ensure!(
-        case.written.as_slice().starts_with(sheet.text.as_slice()),
+        case.written.as_slice().starts_with(&sheet.text),
         "no front of the output"
     );
     let status = verdict(&outcome);
@@ -182,7 +182,7 @@ pub(crate) fn endless(alloc: Global, row: &Row) -> Result<String> {
     let (command, words) = row.words.split_first().context("no command")?;
     let command = Command::of_word(command.as_str())?;
     let bytes = changed_text(alloc, words, row.lines.as_str())?;
-    let mut reader = Endless::new(bytes.as_slice());
+    let mut reader = Endless::new(&bytes);
     let mut text = Vec::new(alloc);
     let outcome = command.run(alloc, &mut reader, &mut text);
     ensure!(text.is_empty(), "something is written");

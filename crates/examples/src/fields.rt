@@ -102,12 +102,12 @@ pub(crate) fn units(alloc: Global, words: &[String]) -> Result<String> {
     let bytes = bytes_of(alloc, words)?;
     match read_units(alloc, bytes.as_slice()) {
         Ok(units) => {
-            let again = write_units(alloc, units.as_slice())?;
+            let again = write_units(alloc, &units)?;
             ensure!(
                 again.as_slice() == bytes.as_slice(),
                 "other bytes are written"
             );
-            written_units(alloc, units.as_slice())
+            written_units(alloc, &units)
         }
         Err(fault) => fault_of_units(alloc, fault),
     }
@@ -117,7 +117,7 @@ pub(crate) fn units(alloc: Global, words: &[String]) -> Result<String> {
 pub(crate) fn write_string(alloc: Global, words: &[String]) -> Result<String> {
     let units = units_of(alloc, bytes_of(alloc, words)?.as_slice())?;
     match write_units(alloc, units.as_slice()) {
-        Ok(bytes) => Ok(hex::encode(alloc, bytes.as_slice())?),
+        Ok(bytes) => Ok(hex::encode(alloc, &bytes)?),
         Err(fault) => fault_of_units(alloc, fault),
     }
 }

@@ -44,7 +44,7 @@ fn indices(alloc: Global, indices: &[u8]) -> Result<String> {
 /// What breaks the rules of chapter 9 in the file that the bytes are.
 pub(crate) fn findings(alloc: Global, words: &[String]) -> Result<String> {
     let bytes = bytes_of(alloc, words)?;
-    let file = read_file(alloc, bytes.as_slice())?;
+    let file = read_file(alloc, &bytes)?;
     let found = check(alloc, &file)?;
     if found.is_empty() {
         return Ok(String::from_str(alloc, "no findings")?);
@@ -81,10 +81,10 @@ pub(crate) fn write_lines(alloc: Global, lines: &str) -> Result<String> {
     match write_file(alloc, &file) {
         Ok(bytes) => {
             ensure!(
-                read_file(alloc, bytes.as_slice())? == file,
+                read_file(alloc, &bytes)? == file,
                 "another file is read back"
             );
-            Ok(hex::encode(alloc, bytes.as_slice())?)
+            Ok(hex::encode(alloc, &bytes)?)
         }
         Err(fault) => Ok(format!(in alloc; "fault {}", fault.number())?),
     }

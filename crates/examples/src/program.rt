@@ -19,12 +19,12 @@ pub(crate) fn usbdesc(alloc: Global, words: &[String]) -> Result<Answer> {
             line.push(word.clone()?)?;
         }
     }
-    let bytes = bytes_of(alloc, input.as_slice())?;
+    let bytes = bytes_of(alloc, &input)?;
     let mut output = Vec::new(alloc);
     let mut errors = Vec::new(alloc);
     let status = run(
         alloc,
-        line.as_slice(),
+        &line,
         &mut bytes.as_slice(),
         &mut output,
         &mut errors,
@@ -49,7 +49,7 @@ pub(crate) fn build(alloc: Global, words: &[String], lines: &str) -> Result<Answ
         &mut output,
         &mut errors,
     );
-    let digits = hex::encode(alloc, output.as_slice())?;
+    let digits = hex::encode(alloc, &output)?;
     let words = if digits.is_empty() {
         format!(in alloc; "{status}")?
     } else {

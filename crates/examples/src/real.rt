@@ -25,15 +25,15 @@ pub(crate) fn go_through<R: Files + AllocGlobal>(rt: &R, kind: Kind, name: &str)
     };
     let bytes = fs::read(rt, format!(in alloc; "{name}.{ending}")?)?;
     let wanted = fs::read(rt, format!(in alloc; "{name}.txt")?)?;
-    let text = list(alloc, bytes.as_slice())?;
+    let text = list(alloc, &bytes)?;
     ensure!(text.as_slice() == wanted.as_slice(), "another listing");
     match kind {
-        Kind::Set => write_set_again(alloc, bytes.as_slice())?,
+        Kind::Set => write_set_again(alloc, &bytes)?,
         Kind::File => {
-            write_file_again(alloc, bytes.as_slice())?;
+            write_file_again(alloc, &bytes)?;
             let findings = fs::read(rt, format!(in alloc; "{name}.check")?)?;
-            compare_findings(alloc, bytes.as_slice(), findings.as_slice())?;
-            build_again(alloc, wanted.as_slice(), bytes.as_slice())?;
+            compare_findings(alloc, &bytes, &findings)?;
+            build_again(alloc, &wanted, &bytes)?;
         }
     }
     let lines = text.iter().filter(|byte| **byte == b'\n').count();
@@ -100,7 +100,7 @@ pub(crate) fn build<R: Files + AllocGlobal>(rt: &R, name: &str) -> Result<String
     let alloc = rt.alloc();
     let text = fs::read(rt, format!(in alloc; "{name}.txt")?)?;
     let bytes = fs::read(rt, format!(in alloc; "{name}.file")?)?;
-    build_again(alloc, text.as_slice(), bytes.as_slice())?;
+    build_again(alloc, &text, &bytes)?;
     let lines = text.iter().filter(|byte| **byte == b'\n').count();
     Ok(format!(in alloc; "{lines} lines, {} bytes", bytes.len())?)
 }

@@ -16,16 +16,16 @@ type Read = std::result::Result<(Configuration, usize), SetFault>;
 /// How many bytes the set has that the bytes begin with, or their fault; whichever way they are cut.
 pub(crate) fn set(alloc: Global, words: &[String]) -> Result<String> {
     let bytes = bytes_of(alloc, words)?;
-    let whole = read(alloc, bytes.as_slice(), bytes.len())?;
+    let whole = read(alloc, &bytes, bytes.len())?;
     for length in LENGTHS {
-        let again = read(alloc, bytes.as_slice(), length)?;
+        let again = read(alloc, &bytes, length)?;
         ensure!(
             again == whole,
             "pieces of {length} bytes give another answer"
         );
     }
     if bytes.len() <= SHORT {
-        cut_everywhere(alloc, bytes.as_slice(), &whole)?;
+        cut_everywhere(alloc, &bytes, &whole)?;
     }
     match whole {
         Ok((set, length)) => {
@@ -196,9 +196,9 @@ pub(crate) fn encode_lines(alloc: Global, lines: &str) -> Result<String> {
                 "a refusal is told of a set that has bytes"
             );
             let mut decoder = Decoder::new(alloc);
-            decoder.feed(bytes.as_slice())?;
+            decoder.feed(&bytes)?;
             ensure!(decoder.finish()? == set, "another set is read back");
-            Ok(hex::encode(alloc, bytes.as_slice())?)
+            Ok(hex::encode(alloc, &bytes)?)
         }
         Err(fault) => {
             ensure!(refused == Some(fault), "another refusal is told");

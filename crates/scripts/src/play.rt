@@ -118,7 +118,7 @@ fn load<H: Files + AllocGlobal>(rt: &H, word: &str) -> Result<DescriptorFile> {
         Ok(bytes) => bytes,
         Err(_) => fs::read(rt, format!(in alloc; "files/{word}.file")?)?,
     };
-    read_file(alloc, bytes.as_slice()).context("the descriptors of the device")
+    read_file(alloc, &bytes).context("the descriptors of the device")
 }
 
 /// Plays the steps with a device.
@@ -163,7 +163,7 @@ fn act(
         }
         Step::In(ready) => serve(alloc, device, *address, Stage::In, ready),
         Step::Out(toggle, bytes, ready) => {
-            let out = Stage::Out(toggle, bytes.as_slice());
+            let out = Stage::Out(toggle, &bytes);
             serve(alloc, device, *address, out, ready)
         }
         Step::Acked => {

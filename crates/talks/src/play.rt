@@ -135,7 +135,7 @@ fn load<H: Files + AllocGlobal>(rt: &H, word: &str) -> Result<DescriptorFile> {
         Ok(bytes) => bytes,
         Err(_) => fs::read(rt, format!(in alloc; "files/{word}.file")?)?,
     };
-    read_file(alloc, bytes.as_slice()).context("the descriptors of the device")
+    read_file(alloc, &bytes).context("the descriptors of the device")
 }
 
 /// Makes the device of the file that was named, at this speed.
@@ -159,14 +159,8 @@ fn finish(alloc: Global, script: &mut Script, line: usize, wanted: &str) -> Resu
     for asked in &script.asked {
         requests.push(asked.setup)?;
     }
-    let talk = converse(
-        alloc,
-        description,
-        script.naks,
-        requests.as_slice(),
-        script.fates.as_slice(),
-    )?;
-    if let Some(ending) = compare(alloc, script.asked.as_slice(), &talk)? {
+    let talk = converse(alloc, description, script.naks, &requests, &script.fates)?;
+    if let Some(ending) = compare(alloc, &script.asked, &talk)? {
         return Ok(Some(ending));
     }
     let outcome = end_text(alloc, &talk)?;

@@ -45,7 +45,7 @@ pub fn reply_text(alloc: Global, reply: Option<&Reply>) -> Result<String, AllocE
         None => String::from_str(alloc, "none"),
         Some(Reply::Done) => String::from_str(alloc, "done"),
         Some(Reply::Refused) => String::from_str(alloc, "stall"),
-        Some(Reply::Bytes(bytes)) => hex::encode(alloc, bytes.as_slice()),
+        Some(Reply::Bytes(bytes)) => hex::encode(alloc, &bytes),
     }
 }
 

@@ -117,7 +117,7 @@ impl Page {
         ensures why { IfErr result (λ fault. fault ≡ OutFault.Write) }
     {
         if self.bytes.len() >= FULL {
-            write_all(w, self.bytes.as_slice())?;
+            write_all(w, &self.bytes)?;
             self.bytes.clear();
         }
         Ok(())
@@ -129,7 +129,7 @@ impl Page {
         ensures err { OnErr result (AppendsFront (W.contents w.old) (W.contents w.new) self) }
         ensures why { IfErr result (λ fault. fault ≡ OutFault.Write) }
     {
-        write_all(w, self.bytes.as_slice())
+        write_all(w, &self.bytes)
     }
 }
 

@@ -7,7 +7,7 @@ use Rattle.usb_listing.specs.Output.{Held}
 use Rattle.usb_tool.specs.Faults.{status_of}
 use Rattle.usb_tool.specs.Input.{Left}
 use Rattle.usb_tool.specs.Lines.{Asks, usbdesc_app, word_texts}
-use Rattle.usb_tool.specs.Runs.{Ends, Failure, Silently, Work}
+use Rattle.usb_tool.specs.Runs.{Ends, Failure, WithStatusZero, Work}
 use Rattle.usb_tool.specs.declared.fault.ToolFault.{ToolFault}
 use Rattle.usb_tool.specs.declared.line.Line.{Line}
 
@@ -25,7 +25,7 @@ module _ (line : Line) (words : List (String Global)) (from to : Left) (held hol
   pub runs_silently : (does : Left → Left → Held → Held → Type 0) (fails : Failure) (outcome : Result ℕ ToolFault)
       → Asks line (subcommand_of usbdesc_app (word_texts words)) → IfOk outcome (λ number. number ≡ 0)
       → OnOk outcome (does from to held holds) → IfErr outcome (fails from to held holds) → status ≡ status_of outcome
-      → Ends line (Silently does) fails words from to held holds status
+      → Ends line (WithStatusZero does) fails words from to held holds status
   runs_silently does fails (Ok number) asked zero done failed ended =
       inl (record { asked = asked; done = (done, ended ∙ zero) })
   runs_silently does fails (Err fault) asked zero done failed ended =

@@ -53,9 +53,9 @@ abbrev pub Ends : Line → Work → Failure → List (String Global) → Left �
 Ends line does fails words from to held holds status =
     IsDone line does words from to held holds status ⊎ IsRefused line fails words from to held holds status
 
--- a command whose number is 0 where it did this
-abbrev pub Silently : (Left → Left → Held → Held → Type 0) → Work
-Silently does from to held holds status = does from to held holds × (status ≡ 0)
+-- a command that ends with status 0 where it did this
+abbrev pub WithStatusZero : (Left → Left → Held → Held → Type 0) → Work
+WithStatusZero does from to held holds status = does from to held holds × (status ≡ 0)
 
 -- the words are no command, for one of the reasons that clap has or for want of memory; nothing is read
 pub record LineIsRefused (words : List (String Global)) (from to : Left) (held holds : Held) (status : ℕ) : Type 0 where
@@ -68,7 +68,7 @@ pub record LineIsRefused (words : List (String Global)) (from to : Left) (held h
 -- what a run has done, and its exit status
 abbrev pub Runs : List (String Global) → Left → Left → Held → Held → ℕ → Type 0
 Runs words from to held holds status =
-    Ends lines.Show (Silently Shown) ShowFails words from to held holds status
+    Ends lines.Show (WithStatusZero Shown) ShowFails words from to held holds status
     ⊎ (Ends lines.Check Checked CheckFails words from to held holds status
-    ⊎ (Ends lines.Build (Silently Built) BuildFails words from to held holds status
+    ⊎ (Ends lines.Build (WithStatusZero Built) BuildFails words from to held holds status
     ⊎ LineIsRefused words from to held holds status))

@@ -34,7 +34,7 @@ pub fn run_build<R: Read, W: Write>(alloc: Global, r: &mut R, w: &mut W) -> Resu
     ensures err { IfErr result (BuildFails (R.remaining r.old) (R.remaining r.new) (W.contents w.old) (W.contents w.new)) }
 {
     let text = read_all(alloc, r, LISTING_LIMIT)?;
-    build_text(alloc, text.as_slice(), w)?;
+    build_text(alloc, &text, w)?;
     Ok(0)
 }
 

@@ -29,7 +29,7 @@ pub fn run_check<R: Read, W: Write>(alloc: Global, r: &mut R, w: &mut W) -> Resu
     ensures err { IfErr result (CheckFails (R.remaining r.old) (R.remaining r.new) (W.contents w.old) (W.contents w.new)) }
 {
     let bytes = read_all(alloc, r, FILE_LIMIT)?;
-    check_bytes(alloc, bytes.as_slice(), w)
+    check_bytes(alloc, &bytes, w)
 }
 
 /// Writes what is found in the file that the bytes are, and flushes the writer.
@@ -39,9 +39,9 @@ fn check_bytes<W: Write>(alloc: Global, bytes: &[u8], w: &mut W) -> Result<u8, T
 {
     let file = read_file(alloc, bytes)?;
     let found = check(alloc, &file)?;
-    let text = text_of(alloc, found.as_slice())?;
+    let text = text_of(alloc, &found)?;
     match write_flushed(w, text.as_slice()) {
-        Ok(()) => Ok(status_of(found.as_slice())),
+        Ok(()) => Ok(status_of(&found)),
         Err(_) => Err(ToolFault::Write),
     }
 }

@@ -67,7 +67,7 @@ fn list_input<W: Write>(
 {
     match intake {
         Intake::Set(set) => list_as_set(alloc, set, count, w),
-        Intake::File(bytes) => list_as_file(alloc, bytes.as_slice(), w),
+        Intake::File(bytes) => list_as_file(alloc, &bytes, w),
     }
 }
 

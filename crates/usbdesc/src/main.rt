@@ -17,7 +17,7 @@ fn main(rt: HostRuntime) -> ExitCode {
     let status = match words(&rt) {
         Ok(words) => run(
             alloc,
-            words.as_slice(),
+            &words,
             &mut rt.reader(),
             &mut io::writer(&rt),
             &mut rt.stderr(),
