@@ -14,9 +14,9 @@ use Rattle.usb_set.specs.declared.tree.Configuration.{Configuration}
 use Rattle.usb_set.specs.declared.tree.Endpoint.{Endpoint as EndpointDescriptor}
 use Rattle.usb_set.specs.declared.tree.Setting.{Setting}
 use Rattle.usb_file_data.specs.declared.file.DescriptorFile.{DescriptorFile}
+use Rattle.usb_description.specs.Descriptors.{descriptor}
 use Rattle.usb_device.specs.declared.state.State.{State}
 use Rattle.usb_device.specs.States.{first_alternates, has_address, is_configured, halt_of, with_halt, without_halt}
-use Rattle.usb_device.specs.Descriptors.{descriptor}
 
 -- the answer to a request: bytes for the data stage, or no data stage and the next state, or a refusal, which the
 -- device tells by STALL (9.2.7)

@@ -1,15 +1,10 @@
--- What callers see of a description and of a device.
+-- What callers see of a device.
 use Rattle.std.specs.Prelude.{Bool}
-use Rattle.usb_fields.specs.declared.speed.Speed.{Speed}
 use Rattle.usb_fields.specs.Packet.{Sent}
 use Rattle.usb_file_data.specs.declared.file.DescriptorFile.{DescriptorFile}
+use Rattle.usb_description.specs.Described.{Described}
 use Rattle.usb_device.specs.Requests.{answer}
 use Rattle.usb_device.specs.Step.{DeviceView, Served, served, acked}
-
--- the descriptors of a device, and the speed that it runs at
-pub record Described : Type 0 where
-  pub file : DescriptorFile
-  pub speed : Speed
 
 -- a device: its description, which stays, and what changes
 pub record View : Type 0 where

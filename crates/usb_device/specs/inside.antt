@@ -1,6 +1,3 @@
-pub mod Places
-pub mod Images
-pub mod Descriptions
 pub mod Responses
 pub mod Stages
 pub mod Reactions

@@ -3,10 +3,10 @@
 ghost use Rattle.std.specs.Prelude.{◌≡◌};
 ghost use Rattle.std.specs.Borrow.{sem};
 
-use crate::description::Description;
 use crate::endpoint_zero::{EndpointZero, Reaction};
 use crate::state::State;
 use std::marker::Model;
+use usb_description::Description;
 use usb_fields::{Answer, Transaction};
 
 /// A device on the bus: it answers each transaction as USB 2.0 says, by its description. It takes no

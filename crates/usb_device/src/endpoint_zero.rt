@@ -3,16 +3,16 @@ ghost use Rattle.std.specs.Borrow.{sem};
 ghost use Rattle.std.specs.Prelude.{◌≡◌, ◌<◌, ◌≤◌, ◌/◌, suc, false, take, drop};
 ghost use Rattle.usb_fields.specs.Packet.{reply_of, sent_of};
 ghost use Rattle.usb_fields.specs.Packets.{packets};
+ghost use Rattle.usb_description.specs.Places.{descriptor_at};
 ghost use Rattle.usb_device.specs.Requests.{answer};
 ghost use Rattle.usb_device.specs.Step.{begun, carried_out, is_set_address, next_stage, Sending};
 ghost use Rattle.usb_device.specs.inside.Stages.{data_bytes, IsData, IsSource};
-ghost use Rattle.usb_device.specs.inside.Places.{descriptor_at};
 
-use crate::description::Description;
 use crate::request::Request;
 use crate::response::Response;
 use crate::stage::{DataStage, Source, Stage};
 use crate::state::State;
+use usb_description::Description;
 use usb_fields::{Answer, Setup, Stage as Token, Toggle, Transaction};
 
 /// What a device answers to a transaction, with the bytes left out.

@@ -6,22 +6,18 @@
 //! and [`Device::state`] what it keeps between requests. [`EndpointZero`] is what changes in a device, without the
 //! description.
 //!
-//! - Which descriptors make a device is `specs/Accepted.antt`.
+//! - Descriptions, and which descriptors make a device, stand in the crate usb_description; its public types are named
+//!   here too.
 //! - What comes of each request is `specs/Requests.antt`, a definition for each row of the table, over
-//!   `specs/States.antt` and `specs/Descriptors.antt`.
+//!   `specs/States.antt` and the descriptors of `usb_description/specs/Descriptors.antt`.
 //! - How a device goes through a control transfer is `specs/Step.antt`, whatever the table is.
 //! - What only the functions here cite stands in `specs/inside/`: the code has an offset and a toggle where the
 //!   definition has a list of packets.
 #![tactic(auto)]
 
-mod accepting;
-mod description;
 mod device;
 mod endpoint_zero;
-mod fault;
 mod halts;
-mod image;
-mod imaging;
 pub mod laws;
 mod request;
 mod response;
@@ -29,8 +25,7 @@ mod selected;
 mod stage;
 mod state;
 
-pub use description::Description;
 pub use device::Device;
 pub use endpoint_zero::EndpointZero;
-pub use fault::DescriptionFault;
 pub use state::State;
+pub use usb_description::{Description, DescriptionFault};

@@ -2,7 +2,7 @@
 ghost use Rattle.std.specs.Prelude.{◌≡◌, ◌≤◌, length, take, drop};
 ghost use Rattle.usb_device.specs.inside.Stages.{data_bytes, source_bytes, IsData, IsSource};
 
-use crate::description::Description;
+use usb_description::Description;
 use usb_fields::Toggle;
 
 /// Where a device stands in a transfer.

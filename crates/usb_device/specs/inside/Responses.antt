@@ -2,6 +2,7 @@
 use Rattle.std.specs.Prelude.{◌≡◌, ◌<◌, [], ◌∷◌, length, take, slice_set}
 use Rattle.usb_fields.specs.declared.setup.Setup.{Setup}
 use Rattle.usb_file_data.specs.declared.file.DescriptorFile.{DescriptorFile}
+use Rattle.usb_description.specs.Places.{descriptors, descriptor_at}
 use Rattle.usb_device.specs.declared.request.Request.{Request}
 use Rattle.usb_device.specs.declared.state.State.{State}
 use Rattle.usb_device.specs.declared.response.Change.{Change}
@@ -10,7 +11,6 @@ use Rattle.usb_device.specs.declared.response.Response.{Response}
 use Rattle.usb_device.specs.declared.response.Response.TheVariants as responses
 use Rattle.usb_device.specs.States.{first_alternates}
 use Rattle.usb_device.specs.Requests.{Outcome, Bytes, Done, Refused}
-use Rattle.usb_device.specs.inside.Places.{descriptors, descriptor_at}
 
 -- the state after a change
 abbrev pub changed : State → Change → State

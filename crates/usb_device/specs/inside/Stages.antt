@@ -3,13 +3,13 @@ use Rattle.std.specs.Prelude.{◌≡◌, ℕ, ◌*◌, ◌/◌, ◌<◌, ◌≤�
 use Rattle.usb_fields.specs.Packets.{toggle_of}
 use Rattle.usb_fields.specs.declared.setup.Setup.{Setup}
 use Rattle.usb_file_data.specs.declared.file.DescriptorFile.{DescriptorFile}
+use Rattle.usb_description.specs.Places.{descriptors, descriptor_at}
 use Rattle.usb_device.specs.declared.stage.Source.{Source}
 use Rattle.usb_device.specs.declared.stage.Source.TheVariants.{Descriptor, Kept}
 use Rattle.usb_device.specs.declared.stage.DataStage.{DataStage}
 use Rattle.usb_device.specs.declared.stage.Stage.{Stage}
 use Rattle.usb_device.specs.declared.stage.Stage.TheVariants as stages
 use Rattle.usb_device.specs.Step.{DeviceStage, Idle, Halted, Sending, StatusOut, Over, StatusIn}
-use Rattle.usb_device.specs.inside.Places.{descriptors, descriptor_at}
 
 -- the bytes of a source, where these are kept
 abbrev pub source_bytes : DescriptorFile → Source → List ℕ → List ℕ

@@ -1,0 +1,4 @@
+pub mod PlaceLemmas
+pub mod ImageLemmas
+pub mod AcceptedLemmas
+pub mod SetLemmas

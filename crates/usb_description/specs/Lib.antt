@@ -1,0 +1,5 @@
+pub mod Descriptors
+pub mod Places
+pub mod Accepted
+pub mod Described
+pub mod inside

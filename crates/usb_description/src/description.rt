@@ -1,0 +1,227 @@
+//! What a device tells of itself, ready to be sent.
+ghost use Rattle.std.specs.Prelude.{◌≡◌, ◌<◌, ◌*◌, ◌==◌, length, position, IfErr, IfOk, IfSome, MatchOption, OnOk, None};
+ghost use Rattle.usb_description.specs.Descriptors.{text_place};
+
+use crate::accepting::examine;
+use crate::fault::DescriptionFault;
+use crate::image::Image;
+use crate::imaging::{add_main, add_other, add_strings};
+use std::alloc::Global;
+use std::marker::Model;
+use usb_fields::Speed;
+use usb_file_data::{DescriptorFile, Strings, named};
+
+/// The descriptors of a device, checked, and encoded once.
+///
+/// ```rust
+/// let file = read_file(rt.alloc(), &bytes)?;
+/// let description = Description::new(rt.alloc(), file, Speed::Full)?;
+/// assert_eq!(rt; description.speed(), Speed::Full);
+/// ```
+#[derive(Debug, Drop)]
+pub struct Description {
+    file: DescriptorFile,
+    speed: Speed,
+    /// The indices of the strings, ascending.
+    named: Vec<u8>,
+    /// The descriptors in the order of the file, a set as one.
+    image: Image,
+    /// The place of the qualifier in the image, where there is one.
+    others: usize,
+    /// The place of the language list, where there is one.
+    strings: usize,
+}
+
+impl Model for Description {
+    ghost use Rattle.usb_description.specs.Described.{Described};
+
+    ghost Value = { Described };
+
+    ghost use Rattle.usb_description.specs.inside.Descriptions.{described_of, IsDescription};
+
+    ghost view = { described_of };
+
+    ghost invariant = { IsDescription };
+}
+
+impl Description {
+    ghost use Rattle.usb_description.specs.Accepted.{refusal_of, Accepted, Refuses};
+    ghost use Rattle.usb_description.specs.Descriptors.{descriptor, device_of, other_set_at, qualifier_of, set_at, string_at};
+    ghost use Rattle.usb_description.specs.Places.{descriptors, descriptor_at, IsFound};
+    ghost use Rattle.usb_file_data.specs.Named.{named_indices};
+
+    /// The description of a device of this speed: each of its descriptors is encoded here, once.
+    ///
+    /// # Errors
+    ///
+    /// [`DescriptionFault`], the first that holds in its order. The file is dropped then.
+    #[tactic(auto, using(crate::proofs::AcceptedLemmas::sets_have_bytes, crate::proofs::AcceptedLemmas::other_sets_have_bytes, crate::proofs::AcceptedLemmas::strings_have_bytes))]
+    pub fn new(alloc: Global, f: DescriptorFile, s: Speed) -> Result<Description, DescriptionFault>
+        ensures ok { IfOk result (λ d. d ≡ record { file = f; speed = s }) }
+        ensures accepted { OnOk result (Accepted f s) }
+        ensures err { IfErr result (λ fault. Refuses f s fault) }
+        // No reason stands against a file that is accepted.
+        ensures only { Accepted f s → refusal_of f s ≡ None }
+    {
+        examine(alloc, &f, s)?;
+        let named = named(alloc, &f)?;
+        let mut image = Image::new(alloc);
+        add_main(alloc, &mut image, &f)?;
+        let others = image.len();
+        add_other(alloc, &mut image, &f.other)?;
+        let strings = image.len();
+        add_strings(alloc, &mut image, &f.strings)?;
+        Ok(Description {
+            file: f,
+            speed: s,
+            named,
+            image,
+            others,
+            strings,
+        })
+    }
+
+    /// The descriptors.
+    #[tactic(auto, using(crate::proofs::AcceptedLemmas::packet_some))]
+    pub fn file(&self) -> &DescriptorFile
+        ensures file { result.now ≡ self.now.file }
+        ensures packet { 0 < self.now.file.device.packet }
+        // A description is made of accepted descriptors alone.
+        ensures accepted { Accepted self.now.file self.now.speed }
+    {
+        &self.file
+    }
+
+    /// The speed that the device runs at.
+    pub fn speed(&self) -> Speed
+        ensures { result ≡ self.now.speed }
+    {
+        self.speed
+    }
+
+    /// bMaxPacketSize0, in bytes: how many a data packet of endpoint zero has at most (USB 2.0, 9.6.1). It is never 0.
+    #[tactic(auto, using(crate::proofs::AcceptedLemmas::packet_some))]
+    #[inline(always)]
+    pub fn packet(&self) -> usize
+        ensures packet { result ≡ self.now.file.device.packet }
+        ensures some { 0 < result }
+    {
+        usize::from(self.file.device.packet)
+    }
+
+    /// The bytes of the descriptor at this place, lent from the description: those of a whole set where a set stands
+    /// there (USB 2.0, 9.4.3). Places count from 0, in the order of the file, and [`Description::find`] gives them.
+    #[tactic(auto, using(crate::proofs::PlaceLemmas::descriptor_found))]
+    #[inline(always)]
+    pub fn bytes(&self, place: usize) -> &[u8]
+        requires { place < length (descriptors self.now.file) }
+        ensures { result.now ≡ descriptor_at self.now.file place }
+    {
+        self.image.get(place)
+    }
+
+    /// The place of the descriptor of this type and index, in this language where it is a string, or `None` where the
+    /// device has none such. `kind` and `index` are the high and the low byte of wValue in GET_DESCRIPTOR, and
+    /// `language` is its wIndex (USB 2.0, 9.4.3). [`Description::bytes`] lends what stands there.
+    #[inline(always)]
+    pub fn find(&self, kind: u8, index: u8, language: u16) -> Option<usize>
+        ensures { MatchOption result (descriptor self.now.file kind index language ≡ None) (IsFound self.now.file (descriptor self.now.file kind index language)) }
+    {
+        match kind {
+            1 => self.find_device(index),
+            2 => self.find_set(index),
+            3 => self.find_string(index, language),
+            6 => self.find_qualifier(index),
+            7 => self.find_other_set(index),
+            _ => None,
+        }
+    }
+
+    #[tactic(auto, using(crate::proofs::PlaceLemmas::device_found))]
+    #[inline(always)]
+    fn find_device(&self, index: u8) -> Option<usize>
+        ensures { MatchOption result (device_of self.now.file index ≡ None) (IsFound self.now.file (device_of self.now.file index)) }
+    {
+        let _file = &self.file;
+        if index == 0 { Some(0) } else { None }
+    }
+
+    #[tactic(auto, using(crate::proofs::PlaceLemmas::set_found, crate::proofs::PlaceLemmas::set_missing))]
+    #[inline(always)]
+    fn find_set(&self, index: u8) -> Option<usize>
+        ensures { MatchOption result (set_at self.now.file.sets index ≡ None) (IsFound self.now.file (set_at self.now.file.sets index)) }
+    {
+        if usize::from(index) < self.file.sets.len() {
+            Some(1 + usize::from(index))
+        } else {
+            None
+        }
+    }
+
+    #[tactic(auto, using(crate::proofs::PlaceLemmas::qualifier_found))]
+    #[inline(always)]
+    fn find_qualifier(&self, index: u8) -> Option<usize>
+        ensures { MatchOption result (qualifier_of self.now.file.other index ≡ None) (IsFound self.now.file (qualifier_of self.now.file.other index)) }
+    {
+        match &self.file.other {
+            Some(_) if index == 0 => Some(self.others),
+            _ => None,
+        }
+    }
+
+    #[tactic(auto, using(crate::proofs::PlaceLemmas::other_set_found, crate::proofs::PlaceLemmas::set_missing))]
+    #[inline(always)]
+    fn find_other_set(&self, index: u8) -> Option<usize>
+        ensures { MatchOption result (other_set_at self.now.file.other index ≡ None) (IsFound self.now.file (other_set_at self.now.file.other index)) }
+    {
+        let _count = self.image.len();
+        match &self.file.other {
+            Some(other) if usize::from(index) < other.sets.len() => {
+                Some(self.others + 1 + usize::from(index))
+            }
+            _ => None,
+        }
+    }
+
+    #[tactic(auto, using(crate::proofs::PlaceLemmas::languages_found, crate::proofs::PlaceLemmas::text_found))]
+    #[inline(always)]
+    fn find_string(&self, index: u8, language: u16) -> Option<usize>
+        ensures { MatchOption result (string_at self.now.file.strings (named_indices self.now.file) index language ≡ None) (IsFound self.now.file (string_at self.now.file.strings (named_indices self.now.file) index language)) }
+    {
+        let _count = self.image.len();
+        match &self.file.strings {
+            None => None,
+            Some(_) if index == 0 => Some(self.strings),
+            Some(strings) => match find_text(strings, &self.named, index, language) {
+                Some(place) => Some(self.strings + 1 + place),
+                None => None,
+            },
+        }
+    }
+}
+
+/// The place of a string among the texts.
+fn find_text(strings: &Strings, named: &[u8], index: u8, language: u16) -> Option<usize>
+    requires { length strings.now.texts ≡ length strings.now.languages * length named.now }
+    ensures text { result ≡ text_place strings.now named.now index language }
+    ensures within { IfSome result (λ place. place < length strings.now.texts) }
+{
+    let _count = strings.texts.len();
+    let row = place_of_language(&strings.languages, language)?;
+    let column = place_of_index(named, index)?;
+    Some(row * named.len() + column)
+}
+
+fn place_of_language(languages: &[u16], language: u16) -> Option<usize>
+    ensures place { result ≡ position (λ l. l == language) languages.now }
+    ensures within { IfSome result (λ place. place < length languages.now) }
+{
+    languages.iter().position(|other| *other == language)
+}
+
+fn place_of_index(named: &[u8], index: u8) -> Option<usize>
+    ensures place { result ≡ position (λ n. n == index) named.now }
+    ensures within { IfSome result (λ place. place < length named.now) }
+{
+    named.iter().position(|other| *other == index)
+}
