@@ -6,6 +6,7 @@ pub mod Fronts
 pub mod Next
 pub mod Longest
 pub mod LongestFile
+pub mod ListingLengthLemmas
 pub mod Ends
 pub mod SetFaults
 pub mod Rows

@@ -8,6 +8,7 @@ ghost use Rattle.usb_file.specs.inside.PartLaws.{PartLaws};
 ghost use Rattle.usb_file.specs.FileOrFault.{FileOrFault};
 ghost use Rattle.usb_file_data.specs.declared.file.DescriptorFile.{DescriptorFile};
 ghost use Rattle.usb_file.specs.declared.fault.FileWhy.{FileWhy};
+ghost use Rattle.usb_listing.specs.Listing.{file_lines};
 
 use usb_fields::laws::{device_descriptor_round_trip, qualifier_round_trip, units_round_trip};
 use usb_set::laws::{one_judgement, one_layout};
@@ -28,6 +29,14 @@ pub const FILE_LIMIT: usize = 18 + 2 * 255 * 65_535 + 10 + 254 + 126 * 255 * 254
 pub fn longest_file()
     ensures limit { (f : DescriptorFile) (b : List ℕ) → File f b → length b ≤ FILE_LIMIT }
     ensures attained { (f : DescriptorFile) × (b : List ℕ) × File f b × (length b ≡ FILE_LIMIT) }
+{}
+
+/// The most bytes of a text that is read back: no file's listing has more.
+pub const LISTING_LIMIT: usize = 268_435_456;
+
+/// Each file that has bytes has a listing within the limit.
+pub fn listings_fit()
+    ensures { (f : DescriptorFile) (b : List ℕ) → File f b → length (file_lines f) ≤ LISTING_LIMIT }
 {}
 
 /// Of all bytes exactly one holds: they are those of a file, or they show one fault at one place.

@@ -25,7 +25,7 @@ mod strings;
 mod writing;
 
 pub use fault::{FileFault, FileWhy};
-pub use laws::FILE_LIMIT;
+pub use laws::{FILE_LIMIT, LISTING_LIMIT};
 pub use reading::read_file;
 pub use usb_file_data::{DescriptorFile, NoMemory, Other, Strings, WriteFault, named};
 pub use usb_listing::{OutFault, list, list_set};
