@@ -1,12 +1,12 @@
 -- The faults of a set, as faults of a file.
-use Rattle.std.proofs.Common.{◌≡◌, ◌≢◌, ℕ, ◌+◌, ◌*◌, cond, Bool, true, false, ◌⊎◌, inl, inr, List, [], ◌∷◌, length, Option, Some, None, Err, refl, ap, sym, subst, ◌∙◌}
+use Rattle.std.proofs.Common.{◌≡◌, ◌≢◌, ℕ, ◌+◌, ◌*◌, cond, Bool, true, false, ◌⊎◌, inl, inr, List, [], ◌∷◌, length, Option, Some, None, Err, refl, ap, sym, subst}
 use Rattle.std.specs.Prelude.{nat_lt, ◌==◌}
 use Rattle.usb_set.specs.declared.tree.SetKind.{SetKind}
 use Rattle.usb_set.specs.declared.fault.SetFault.{SetFault}
 use Rattle.usb_set.specs.declared.fault.SetWhy.{SetWhy}
 use Rattle.usb_set.specs.declared.fault.SetWhy.TheVariants as sets
-use Rattle.usb_set.specs.Faults.{Fault, Faulty, IsOpen, header_fault, is_set_type, item_fault, kind_fault, least_length, total_fault, type_fault}
-use Rattle.usb_set.specs.Feeding.{ReadsSet, WantsMemory}
+use Rattle.usb_set.specs.Faults.{Fault, Faulty, IsOpen, header_fault, is_set_type, item_fault, least_length, total_fault}
+use Rattle.usb_set.specs.Feeding.{ReadsSet}
 use Rattle.usb_file.specs.declared.fault.FileFault.{FileFault}
 use Rattle.usb_file.specs.inside.Reading.{SetRefused, set_refusal}
 
