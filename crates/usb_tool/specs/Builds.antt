@@ -3,12 +3,12 @@ use Rattle.std.specs.Prelude.{◌≡◌, ℕ, List}
 use Rattle.std.specs.Io.KnownBytes.{Appends, Keeps}
 use Rattle.usb_file_data.specs.declared.file.DescriptorFile.{DescriptorFile}
 use Rattle.usb_file_data.specs.File.{File}
+use Rattle.usb_file.specs.declared.laws.TheConstants.{LISTING_LIMIT}
 use Rattle.usb_listing.specs.Listing.{file_lines}
 use Rattle.usb_listing.specs.Output.{AppendsFront, Held}
 use Rattle.usb_listing_reader.specs.Listings.{ListFaulty}
 use Rattle.usb_tool.specs.Failing.{Fails, Succeeds}
 use Rattle.usb_tool.specs.Input.{Left}
-use Rattle.usb_tool.specs.declared.build.TheConstants.{LISTING_LIMIT}
 use Rattle.usb_tool.specs.declared.fault.ToolFault.{ToolFault}
 use Rattle.usb_tool.specs.declared.fault.ToolFault.TheVariants as faults
 

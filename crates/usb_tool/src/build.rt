@@ -8,10 +8,7 @@ use crate::output::write_flushed;
 use crate::whole::read_all;
 use std::alloc::{AllocError, Global};
 use std::io::{Read, Write};
-use usb_file::{DescriptorFile, WriteFault, assemble, write_file};
-
-/// The most bytes of a listing that are read. The listing of every file is shorter.
-pub const LISTING_LIMIT: usize = 268_435_456;
+use usb_file::{DescriptorFile, LISTING_LIMIT, WriteFault, assemble, write_file};
 
 /// Reads a listing of a descriptor file to its end, and writes the bytes of that file. The number in `Ok` is 0.
 ///

@@ -27,13 +27,14 @@ mod set_intake;
 mod show;
 mod whole;
 
-pub use build::{LISTING_LIMIT, run_build};
+pub use build::run_build;
 pub use check::run_check;
 pub use fault::{ToolFault, verdict};
 pub use line::{Line, read_line};
 pub use program::run;
 pub use show::run_show;
 pub use usb_bus::{Fate, Reply, Talk, converse, laws};
+pub use usb_file::LISTING_LIMIT;
 
 #[cfg(test)]
 mod tests;
