@@ -194,7 +194,8 @@ strings_lines_length indices (Some s) h =
 
 -- ---- the file
 
-pub lines_at_most : (f : DescriptorFile) (b : List ℕ) → File f b → length (file_lines f) ≤ 268435456
+-- the lines of fixed widths, 510 sets with five characters for each byte, and 32,130 strings of 640
+pub lines_at_most : (f : DescriptorFile) (b : List ℕ) → File f b → length (file_lines f) ≤ 187678174
 lines_at_most f b h =
     let few = few_sets f b h in
     let layouts = or_parts (list_any has_no_layout f.sets) (list_any has_no_layout (other_sets f.other)) h.layouts in

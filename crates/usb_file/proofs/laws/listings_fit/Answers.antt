@@ -1,5 +1,6 @@
+use Rattle.std.proofs.Common.{arith}
 use Rattle.usb_file.proofs.ListingLengthLemmas.{lines_at_most}
 use Rattle.usb_file.proofs.laws.listings_fit.Goals as goal
 
 pub returns : goal.returns
-returns c = lines_at_most
+returns c = λ f b h. omega (arith, lines_at_most f b h)
