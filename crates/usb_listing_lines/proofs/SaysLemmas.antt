@@ -1,16 +1,13 @@
 -- What a line says.
-use Rattle.std.proofs.Common.{◌≡◌, ℕ, ◌==◌, Bool, true, false, cond, List, [], ◌∷◌, ◌++◌, Option, Some, None, unwrap_or, length, drop, refl, ap, sym, ◌∙◌, subst, codes}
+use Rattle.std.proofs.Common.{◌≡◌, ℕ, List, [], ◌∷◌, ◌++◌, Option, Some, None, length, drop, refl, ap, sym, ◌∙◌, subst, codes}
 use Rattle.std.specs.Prelude.{option_and_then}
-use Rattle.std.specs.Str.{bytes_eq}
-use Rattle.std.proofs.lemmas.Slice.Eq.{bytes_eq-Decides}
 use Rattle.usb_set.specs.declared.tree.Extra.TheVariants as extras
 use Rattle.usb_set.specs.declared.tree.SetKind.{SetKind}
 use Rattle.usb_set.specs.declared.tree.SetKind.TheVariants as kinds
 use Rattle.usb_listing_lines.specs.declared.item.Item.{Item}
 use Rattle.usb_listing_lines.specs.declared.item.Item.TheVariants as items
 use Rattle.usb_listing_lines.specs.declared.word.Word.{Word}
-use Rattle.usb_listing_lines.specs.declared.word.Word.TheVariants as words
-use Rattle.usb_listing_lines.specs.Words.{all_words, first_word, word_among, word_in, word_text}
+use Rattle.usb_listing_lines.specs.Words.{first_word, word_in, word_text}
 use Rattle.usb_listing_lines.specs.Item.{IsItem, Says, item_word, set_word}
 use Rattle.usb_listing_lines.specs.inside.Items.{item_in, item_of_line}
 use Rattle.usb_listing_lines.proofs.ItemLemmas.{item_fields, line_is}

@@ -1,6 +1,6 @@
 -- The fields of a line, read.
 use Rattle.std.specs.Str.{bytes_eq}
-use Rattle.std.specs.Prelude.{◌<◌, ◌≡◌, codes, ℕ, ◌*◌, ◌≤◌, ◌==◌, ◌||◌, nat_lt, length, if◌then◌else◌, Option, Some, None, Bool, true, false, List, [], ◌∷◌, ◌++◌}
+use Rattle.std.specs.Prelude.{◌<◌, codes, ℕ, ◌*◌, ◌≤◌, ◌==◌, ◌||◌, nat_lt, length, if◌then◌else◌, Option, Some, None, Bool, true, false, List, [], ◌∷◌, ◌++◌}
 use Rattle.usb_listing_lines.specs.inside.Digits.{pair_value}
 
 -- a byte that was read, and what stands behind it
