@@ -18,10 +18,8 @@ use std::alloc::Global;
 use std::rt::{Clock, Env};
 use std::time::Instant;
 use std::{env, io};
+use usb_file::LISTING_LIMIT;
 use work::Work;
-
-/// The most bytes of input: those of a listing.
-const LONGEST: usize = 268_435_456;
 
 fn main(rt: HostRuntime) -> Result<()> {
     let alloc = rt.alloc();
@@ -44,14 +42,14 @@ fn read_set(rt: &impl Input, alloc: Global) -> Result<Vec<u8>> {
     let mut reader = rt.reader();
     let mut buffer = [0u8; 4096];
     let mut bytes = Vec::new(alloc);
-    for _ in 0..=LONGEST {
+    for _ in 0..=LISTING_LIMIT {
         let count = io::Read::read(&mut reader, &mut buffer)?;
         if count == 0 {
             break;
         }
         bytes.extend_from_slice(&buffer[..count])?;
     }
-    ensure!(bytes.len() <= LONGEST, "the input is longer than a listing");
+    ensure!(bytes.len() <= LISTING_LIMIT, "the input is longer than a listing");
     Ok(bytes)
 }
 

@@ -11,6 +11,7 @@ ghost use Rattle.usb_file.specs.declared.fault.FileWhy.{FileWhy};
 ghost use Rattle.usb_listing.specs.Listing.{file_lines};
 
 use usb_fields::laws::{device_descriptor_round_trip, qualifier_round_trip, units_round_trip};
+use usb_listing_reader::laws as listings;
 use usb_set::laws::{one_judgement, one_layout};
 
 /// Bytes are those of one file at most, and a file has one list of bytes at most.
@@ -38,6 +39,14 @@ pub const LISTING_LIMIT: usize = 268_435_456;
 pub fn listings_fit()
     ensures { (f : DescriptorFile) (b : List ℕ) → File f b → length (file_lines f) ≤ LISTING_LIMIT }
 {}
+
+/// Files with one listing have the same bytes: what is listed of a file is read back to the bytes of that file.
+pub fn listings_go_round()
+    ensures { (f g : DescriptorFile) (b d : List ℕ) → File f b → File g d → file_lines f ≡ file_lines g → b ≡ d }
+{
+    one_file();
+    listings::one_file();
+}
 
 /// Of all bytes exactly one holds: they are those of a file, or they show one fault at one place.
 pub fn one_answer()

@@ -22,11 +22,11 @@ module _ (line : Line) (words : List (String Global)) (from to : Left) (held hol
       inr (record { fault = fault; asked = asked; failed = failed; ended = ended })
 
   -- and of a command whose number is 0
-  pub runs_silently : (does : Left → Left → Held → Held → Type 0) (fails : Failure) (outcome : Result ℕ ToolFault)
+  pub runs_with_status_zero : (does : Left → Left → Held → Held → Type 0) (fails : Failure) (outcome : Result ℕ ToolFault)
       → Asks line (subcommand_of usbdesc_app (word_texts words)) → IfOk outcome (λ number. number ≡ 0)
       → OnOk outcome (does from to held holds) → IfErr outcome (fails from to held holds) → status ≡ status_of outcome
       → Ends line (WithStatusZero does) fails words from to held holds status
-  runs_silently does fails (Ok number) asked zero done failed ended =
+  runs_with_status_zero does fails (Ok number) asked zero done failed ended =
       inl (record { asked = asked; done = (done, ended ∙ zero) })
-  runs_silently does fails (Err fault) asked zero done failed ended =
+  runs_with_status_zero does fails (Err fault) asked zero done failed ended =
       inr (record { fault = fault; asked = asked; failed = failed; ended = ended })

@@ -1,6 +1,6 @@
 use Rattle.std.proofs.Common.{inl, inr, subst}
 use Rattle.clap.specs.Words.{subcommand_of}
-use Rattle.usb_tool.proofs.Running.{runs_command, runs_silently}
+use Rattle.usb_tool.proofs.Running.{runs_command, runs_with_status_zero}
 use Rattle.usb_tool.specs.Lines.{Asks, usbdesc_app, word_texts}
 use Rattle.usb_tool.specs.declared.line.Line.{Line}
 use Rattle.usb_tool.proofs.program.run.Goals as goal
@@ -8,7 +8,7 @@ use Rattle.usb_tool.proofs.program.run.Goals as goal
 pub returns-in-Ok-Show : goal.returns-in-Ok-Show
 returns-in-Ok-Show g c =
     let asked = subst (λ (line : Line). Asks line (subcommand_of usbdesc_app (word_texts c.args.words.now))) c.in-Ok-Show.field-0-is c.in-Ok-Show.ensures.line in
-    inl (runs_silently _ _ _ _ _ _ _ _ _ _ asked c.run_show.ensures.number c.run_show.ensures.shown c.run_show.ensures.err c.finish.ensures)
+    inl (runs_with_status_zero _ _ _ _ _ _ _ _ _ _ asked c.run_show.ensures.number c.run_show.ensures.shown c.run_show.ensures.err c.finish.ensures)
 
 pub returns-in-Ok-Check : goal.returns-in-Ok-Check
 returns-in-Ok-Check g c =
@@ -18,4 +18,4 @@ returns-in-Ok-Check g c =
 pub returns-in-Ok-Build : goal.returns-in-Ok-Build
 returns-in-Ok-Build g c =
     let asked = subst (λ (line : Line). Asks line (subcommand_of usbdesc_app (word_texts c.args.words.now))) c.in-Ok-Build.field-0-is c.in-Ok-Build.ensures.line in
-    inr (inr (inl (runs_silently _ _ _ _ _ _ _ _ _ _ asked c.run_build.ensures.number c.run_build.ensures.built c.run_build.ensures.err c.finish-in-Ok-Build.ensures)))
+    inr (inr (inl (runs_with_status_zero _ _ _ _ _ _ _ _ _ _ asked c.run_build.ensures.number c.run_build.ensures.built c.run_build.ensures.err c.finish-in-Ok-Build.ensures)))
