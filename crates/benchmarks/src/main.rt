@@ -49,7 +49,10 @@ fn read_set(rt: &impl Input, alloc: Global) -> Result<Vec<u8>> {
         }
         bytes.extend_from_slice(&buffer[..count])?;
     }
-    ensure!(bytes.len() <= LISTING_LIMIT, "the input is longer than a listing");
+    ensure!(
+        bytes.len() <= LISTING_LIMIT,
+        "the input is longer than a listing"
+    );
     Ok(bytes)
 }
 
