@@ -289,5 +289,5 @@ pub fn set_of(alloc: Global, lines: &str) -> Result<Configuration> {
         builder.add(line).context(format_args!("in {line}"))?;
     }
     builder.close_set()?;
-    builder.sets.into_vec().pop().context("no set")
+    builder.sets.pop().context("no set")
 }
