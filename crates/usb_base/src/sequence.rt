@@ -206,6 +206,3 @@ impl<T: fmt::Debug> fmt::Debug for Sequence<T> {
         f.debug_list().entries(self.as_slice()).finish()
     }
 }
-
-#[cfg(test)]
-mod tests;

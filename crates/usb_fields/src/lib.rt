@@ -34,6 +34,3 @@ pub use qualifier::Qualifier;
 pub use setup::{Class, Direction, Recipient, Setup};
 pub use speed::Speed;
 pub use units::{read_units, write_units};
-
-#[cfg(test)]
-mod tests;

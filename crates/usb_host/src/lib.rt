@@ -26,6 +26,3 @@ pub use heard::Heard;
 pub use limits::{LimitFault, Limits};
 pub use transfer::Transfer;
 pub use why::Why;
-
-#[cfg(test)]
-mod tests;

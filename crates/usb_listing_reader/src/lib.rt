@@ -14,6 +14,3 @@ mod step;
 
 pub use assembling::assemble;
 pub use fault::{ListFault, ListWhy};
-
-#[cfg(test)]
-mod tests;

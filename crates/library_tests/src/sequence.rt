@@ -1,7 +1,8 @@
-use super::*;
-use std::alloc::AllocError;
+//! The list type of all public fields, used as a list.
+use std::alloc::{AllocError, Global};
 use std::collections::HashSet;
 use std::test::Fail;
+use usb_base::Sequence;
 
 fn one_to_three(alloc: Global) -> Result<Sequence<u8>, AllocError> {
     let mut sequence = Sequence::new(alloc);

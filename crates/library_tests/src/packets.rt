@@ -1,4 +1,5 @@
-use super::*;
+//! Packets that borrow their bytes.
+use usb_fields::{Answer, Stage, Toggle, Transaction, laws};
 
 /// Packets are compared by what they carry, wherever it lies.
 #[test]
