@@ -35,6 +35,3 @@ pub use program::run;
 pub use show::run_show;
 pub use usb_bus::{Fate, Reply, Talk, converse, laws};
 pub use usb_file::LISTING_LIMIT;
-
-#[cfg(test)]
-mod tests;
