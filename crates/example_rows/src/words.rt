@@ -116,7 +116,7 @@ fn overwrite(bytes: &mut Vec<u8>, place: usize, others: Vec<u8>) -> Result<()> {
 }
 
 /// The bytes that digits say.
-pub(crate) fn digits_of(alloc: Global, digits: &str) -> Result<Vec<u8>> {
+pub fn digits_of(alloc: Global, digits: &str) -> Result<Vec<u8>> {
     Ok(hex::decode(alloc, digits)?)
 }
 

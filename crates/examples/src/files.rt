@@ -1,6 +1,7 @@
 //! Rows on descriptor files.
+use crate::tree::file_of;
 use anyhow::{Result, ensure};
-use example_rows::{bytes_of, file_of};
+use example_rows::bytes_of;
 use std::alloc::Global;
 use usb_file::{FileFault, FileWhy, check, named, read_file, write_file};
 

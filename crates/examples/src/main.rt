@@ -12,6 +12,7 @@ mod messages;
 mod program;
 mod real;
 mod sets;
+mod tree;
 
 use anyhow::{Context, Result, bail, ensure};
 use example_rows::rows_of;

@@ -1,6 +1,7 @@
 //! Rows on configuration sets.
+use crate::tree::set_of;
 use anyhow::{Context, Result, ensure};
-use example_rows::{bytes_of, set_of};
+use example_rows::bytes_of;
 use std::alloc::Global;
 use usb_set::{Configuration, Decoder, Progress, SetFault, encode, refusal};
 

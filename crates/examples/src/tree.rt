@@ -1,8 +1,8 @@
 //! Sets and files made from lines, also such as no bytes can have.
 //!
 //! A line says a descriptor as a listing does, but that a string is `units` with four digits for each.
-use crate::words::{digits_of, units_of};
 use anyhow::{Context, Result, bail};
+use example_rows::{digits_of, units_of};
 use std::alloc::Global;
 use usb_fields::{DeviceDescriptor, Qualifier};
 use usb_file::{DescriptorFile, Other, Strings};
@@ -274,7 +274,7 @@ fn qualifier(fields: &mut Fields<'_>) -> Result<Qualifier> {
 }
 
 /// The file of the lines.
-pub fn file_of(alloc: Global, lines: &str) -> Result<DescriptorFile> {
+pub(crate) fn file_of(alloc: Global, lines: &str) -> Result<DescriptorFile> {
     let mut builder = Builder::new(alloc);
     for line in lines.lines() {
         builder.add(line).context(format_args!("in {line}"))?;
@@ -283,7 +283,7 @@ pub fn file_of(alloc: Global, lines: &str) -> Result<DescriptorFile> {
 }
 
 /// The one set of the lines.
-pub fn set_of(alloc: Global, lines: &str) -> Result<Configuration> {
+pub(crate) fn set_of(alloc: Global, lines: &str) -> Result<Configuration> {
     let mut builder = Builder::new(alloc);
     for line in lines.lines() {
         builder.add(line).context(format_args!("in {line}"))?;
