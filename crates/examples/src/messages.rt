@@ -1,62 +1,22 @@
 //! Rows on the faults: each has a number and a message.
-use crate::end_messages::{of_description, of_limits, of_list, of_list_why, of_transfer};
+use crate::end_messages::of_ends;
 use anyhow::{Context, Result, bail};
 use std::alloc::Global;
+use std::fmt::Display;
 use usb_fields::{FieldFault, UnitFault};
 use usb_file::{FileFault, FileWhy, OutFault, WriteFault};
 use usb_set::{EncodeFault, SetFault, SetWhy};
 use usb_tool::{ToolFault, verdict};
 
-/// The message of the fault of the type that the first word names, with the number that the second is.
-pub(crate) fn message(alloc: Global, words: &[String]) -> Result<String> {
-    let [name, number] = words else {
-        bail!("not a type and a number");
-    };
-    let number = number.parse::<u8>()?;
-    let found = match name.as_str() {
-        "FieldFault" => of_field(alloc, number)?,
-        "UnitFault" => of_units(alloc, number)?,
-        "SetWhy" => of_set_why(alloc, number)?,
-        "SetFault" => of_set(alloc, number)?,
-        "EncodeFault" => of_encoding(alloc, number)?,
-        "FileWhy" => of_file_why(alloc, number)?,
-        "FileFault" => of_file(alloc, number)?,
-        "WriteFault" => of_writing(alloc, number)?,
-        "OutFault" => of_output(alloc, number)?,
-        "ToolFault" => of_tool(alloc, number)?,
-        "ListWhy" => of_list_why(alloc, number)?,
-        "ListFault" => of_list(alloc, number)?,
-        "DescriptionFault" => of_description(alloc, number)?,
-        "LimitFault" => of_limits(alloc, number)?,
-        "Why" => of_transfer(alloc, number)?,
-        _ => bail!("no such type"),
-    };
-    found.context("no fault of that number")
-}
+const FIELD_FAULTS: [FieldFault; 2] = [FieldFault::Length, FieldFault::Kind];
 
-fn of_field(alloc: Global, number: u8) -> Result<Option<String>> {
-    for fault in [FieldFault::Length, FieldFault::Kind] {
-        if fault.number() == number {
-            return Ok(Some(format!(in alloc; "{fault}")?));
-        }
-    }
-    Ok(None)
-}
-
-fn of_units(alloc: Global, number: u8) -> Result<Option<String>> {
-    for fault in [
-        UnitFault::Length,
-        UnitFault::Kind,
-        UnitFault::Odd,
-        UnitFault::TooLong,
-        UnitFault::Memory,
-    ] {
-        if fault.number() == number {
-            return Ok(Some(format!(in alloc; "{fault}")?));
-        }
-    }
-    Ok(None)
-}
+const UNIT_FAULTS: [UnitFault; 5] = [
+    UnitFault::Length,
+    UnitFault::Kind,
+    UnitFault::Odd,
+    UnitFault::TooLong,
+    UnitFault::Memory,
+];
 
 /// All that can be wrong with a set.
 const SET_WHYS: [SetWhy; 10] = [
@@ -72,42 +32,12 @@ const SET_WHYS: [SetWhy; 10] = [
     SetWhy::Memory,
 ];
 
-/// What is wrong with a set, by its number.
-fn set_why(number: u8) -> Option<SetWhy> {
-    SET_WHYS.iter().find(|why| why.number() == number).copied()
-}
-
-fn of_set_why(alloc: Global, number: u8) -> Result<Option<String>> {
-    match set_why(number) {
-        Some(why) => Ok(Some(format!(in alloc; "{why}")?)),
-        None => Ok(None),
-    }
-}
-
-/// The message of a fault at 27.
-fn of_set(alloc: Global, number: u8) -> Result<Option<String>> {
-    match set_why(number) {
-        Some(why) => {
-            let fault = SetFault { at: 27, why };
-            Ok(Some(format!(in alloc; "{fault}")?))
-        }
-        None => Ok(None),
-    }
-}
-
-fn of_encoding(alloc: Global, number: u8) -> Result<Option<String>> {
-    for fault in [
-        EncodeFault::Tail,
-        EncodeFault::RawKind,
-        EncodeFault::TooLong,
-        EncodeFault::Memory,
-    ] {
-        if fault.number() == number {
-            return Ok(Some(format!(in alloc; "{fault}")?));
-        }
-    }
-    Ok(None)
-}
+const ENCODE_FAULTS: [EncodeFault; 4] = [
+    EncodeFault::Tail,
+    EncodeFault::RawKind,
+    EncodeFault::TooLong,
+    EncodeFault::Memory,
+];
 
 /// What can be wrong with a file; in a set, that a descriptor ends past wTotalLength.
 const FILE_WHYS: [FileWhy; 8] = [
@@ -121,51 +51,94 @@ const FILE_WHYS: [FileWhy; 8] = [
     FileWhy::Memory,
 ];
 
+const WRITE_FAULTS: [WriteFault; 5] = [
+    WriteFault::Count,
+    WriteFault::Kind,
+    WriteFault::Layout,
+    WriteFault::Texts,
+    WriteFault::Memory,
+];
+
+const OUT_FAULTS: [OutFault; 2] = [OutFault::Write, OutFault::Memory];
+
+/// The message of the fault of the type that the first word names, with the number that the second is.
+pub(crate) fn message(alloc: Global, words: &[String]) -> Result<String> {
+    let [name, number] = words else {
+        bail!("not a type and a number");
+    };
+    let found = of_name(alloc, name.as_str(), number.parse::<u8>()?)?;
+    found.context("no fault of that number")
+}
+
+/// The message of the fault of this type with this number; a fault of a set is one at 27, of a file at 45.
+fn of_name(alloc: Global, name: &str, number: u8) -> Result<Option<String>> {
+    match name {
+        "FieldFault" => shown(
+            alloc,
+            FIELD_FAULTS
+                .iter()
+                .find(|fault| fault.number() == number)
+                .copied(),
+        ),
+        "UnitFault" => shown(
+            alloc,
+            UNIT_FAULTS
+                .iter()
+                .find(|fault| fault.number() == number)
+                .copied(),
+        ),
+        "SetWhy" => shown(alloc, set_why(number)),
+        "SetFault" => match set_why(number) {
+            Some(why) => shown(alloc, Some(SetFault { at: 27, why })),
+            None => Ok(None),
+        },
+        "EncodeFault" => shown(
+            alloc,
+            ENCODE_FAULTS
+                .iter()
+                .find(|fault| fault.number() == number)
+                .copied(),
+        ),
+        "FileWhy" => shown(alloc, file_why(number)),
+        "FileFault" => match file_why(number) {
+            Some(why) => shown(alloc, Some(FileFault { at: 45, why })),
+            None => Ok(None),
+        },
+        "WriteFault" => shown(
+            alloc,
+            WRITE_FAULTS
+                .iter()
+                .find(|fault| fault.number() == number)
+                .copied(),
+        ),
+        "OutFault" => shown(
+            alloc,
+            OUT_FAULTS
+                .iter()
+                .find(|fault| fault.number() == number)
+                .copied(),
+        ),
+        "ToolFault" => of_tool(alloc, number),
+        _ => of_ends(alloc, name, number),
+    }
+}
+
+/// The message of a fault, if there is one.
+pub(crate) fn shown<T: Display + Drop>(alloc: Global, fault: Option<T>) -> Result<Option<String>> {
+    match fault {
+        Some(fault) => Ok(Some(format!(in alloc; "{fault}")?)),
+        None => Ok(None),
+    }
+}
+
+/// What is wrong with a set, by its number.
+fn set_why(number: u8) -> Option<SetWhy> {
+    SET_WHYS.iter().find(|why| why.number() == number).copied()
+}
+
 /// What is wrong with a file, by its number.
 fn file_why(number: u8) -> Option<FileWhy> {
     FILE_WHYS.iter().find(|why| why.number() == number).copied()
-}
-
-fn of_file_why(alloc: Global, number: u8) -> Result<Option<String>> {
-    match file_why(number) {
-        Some(why) => Ok(Some(format!(in alloc; "{why}")?)),
-        None => Ok(None),
-    }
-}
-
-/// The message of a fault at 45.
-fn of_file(alloc: Global, number: u8) -> Result<Option<String>> {
-    match file_why(number) {
-        Some(why) => {
-            let fault = FileFault { at: 45, why };
-            Ok(Some(format!(in alloc; "{fault}")?))
-        }
-        None => Ok(None),
-    }
-}
-
-fn of_writing(alloc: Global, number: u8) -> Result<Option<String>> {
-    for fault in [
-        WriteFault::Count,
-        WriteFault::Kind,
-        WriteFault::Layout,
-        WriteFault::Texts,
-        WriteFault::Memory,
-    ] {
-        if fault.number() == number {
-            return Ok(Some(format!(in alloc; "{fault}")?));
-        }
-    }
-    Ok(None)
-}
-
-fn of_output(alloc: Global, number: u8) -> Result<Option<String>> {
-    for fault in [OutFault::Write, OutFault::Memory] {
-        if fault.number() == number {
-            return Ok(Some(format!(in alloc; "{fault}")?));
-        }
-    }
-    Ok(None)
 }
 
 /// The line of a fault of the program, and the status that it ends with.
