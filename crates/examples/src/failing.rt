@@ -6,6 +6,9 @@ use std::alloc::Global;
 use std::io::{Read, Write};
 use usb_tool::{ToolFault, run_build, run_check, run_show, verdict};
 
+/// What a run comes to.
+type Outcome = std::result::Result<u8, ToolFault>;
+
 /// A command that reads its input to the end and then writes.
 #[derive(Clone, Copy, Debug, PartialEq, Eq)]
 enum Command {
@@ -24,12 +27,7 @@ impl Command {
         }
     }
 
-    fn run<R: Read, W: Write>(
-        self,
-        alloc: Global,
-        r: &mut R,
-        w: &mut W,
-    ) -> std::result::Result<u8, ToolFault> {
+    fn run<R: Read, W: Write>(self, alloc: Global, r: &mut R, w: &mut W) -> Outcome {
         match self {
             Command::Show => run_show(alloc, r, w),
             Command::Check => run_check(alloc, r, w),
@@ -71,38 +69,46 @@ fn case_and_number(alloc: Global, row: &Row) -> Result<(Case, usize)> {
 }
 
 /// Reads with a reader that gives so many bytes a call, which fails once at each of its calls in turn and
-/// would go on: it is not asked again, and nothing is written. Says how many calls there are.
+/// would go on. Says how many calls there are.
 pub(crate) fn failing_reads(alloc: Global, row: &Row) -> Result<String> {
     let (case, step) = case_and_number(alloc, row)?;
     for calls in 0..=case.input.len().saturating_add(1) {
         let mut reader = Pieces::new(&case.input, step, calls);
-        let mut text = Vec::new(alloc);
-        let outcome = case.command.run(alloc, &mut reader, &mut text);
-        if reader.failed == 0 {
-            ensure!(
-                outcome == Ok(case.number) && text == case.written,
-                "something else is written after {calls} calls"
-            );
+        let fails = fails_to_read(alloc, &case, &mut reader).context(format_args!(
+            "after {calls} calls"
+        ))?;
+        if !fails {
             return Ok(format!(in alloc; "{calls} calls")?);
         }
-        ensure!(
-            outcome == Err(ToolFault::Read),
-            "call {calls} fails and that is not told"
-        );
-        ensure!(
-            text.is_empty(),
-            "something is written though call {calls} fails"
-        );
-        ensure!(
-            reader.failed == 1 && reader.after == 0,
-            "it is asked again after call {calls}"
-        );
     }
     bail!("the reading does not end")
 }
 
-/// Writes to a writer that takes so many bytes a call, and fails at each of its calls in turn, in two ways:
-/// what it holds then is that much of the output. Says how many calls there are.
+/// Whether the reader fails in a run: then it is not asked again, and nothing is written.
+fn fails_to_read(alloc: Global, case: &Case, reader: &mut Pieces<'_>) -> Result<bool> {
+    let mut text = Vec::new(alloc);
+    let outcome = case.command.run(alloc, reader, &mut text);
+    if reader.failed == 0 {
+        ensure!(
+            outcome == Ok(case.number) && text == case.written,
+            "something else is written"
+        );
+        return Ok(false);
+    }
+    ensure!(
+        outcome == Err(ToolFault::Read),
+        "a call fails and that is not told"
+    );
+    ensure!(text.is_empty(), "something is written though a call fails");
+    ensure!(
+        reader.failed == 1 && reader.after == 0,
+        "it is asked again after the call that fails"
+    );
+    Ok(true)
+}
+
+/// Writes to a writer that takes so many bytes a call, and fails at each of its calls in turn, in two ways.
+/// Says how many calls there are.
 pub(crate) fn failing_writes(alloc: Global, row: &Row) -> Result<String> {
     let (case, step) = case_and_number(alloc, row)?;
     let calls = failing_writer(alloc, &case, step, End::Fails)?;
@@ -114,22 +120,12 @@ pub(crate) fn failing_writes(alloc: Global, row: &Row) -> Result<String> {
 fn failing_writer(alloc: Global, case: &Case, step: usize, end: End) -> Result<usize> {
     for calls in 0..=case.written.len() {
         let mut sheet = Sheet::new(alloc, step, calls, end);
-        let outcome = case
-            .command
-            .run(alloc, &mut case.input.as_slice(), &mut sheet);
-        ensure!(
-            case.written.as_slice().starts_with(&sheet.text),
-            "no front of the output after {calls} calls"
-        );
-        if !sheet.ended {
-            ensure!(outcome == Ok(case.number), "a fault though no call failed");
-            ensure!(sheet.text == case.written, "less than all is written");
+        let fails = fails_to_write(alloc, case, &mut sheet).context(format_args!(
+            "after {calls} calls"
+        ))?;
+        if !fails {
             return Ok(calls);
         }
-        ensure!(
-            outcome == Err(ToolFault::Write),
-            "call {calls} fails and that is not told"
-        );
         ensure!(
             sheet.text.len() <= calls.saturating_mul(step),
             "more is written than the calls took"
@@ -138,25 +134,51 @@ fn failing_writer(alloc: Global, case: &Case, step: usize, end: End) -> Result<u
     bail!("the writing does not end")
 }
 
+/// Whether the writer fails in a run: then it holds a front of the output, and else all of it.
+fn fails_to_write(alloc: Global, case: &Case, sheet: &mut Sheet) -> Result<bool> {
+    let outcome = write_to(alloc, case, sheet)?;
+    if !sheet.ended {
+        ensure!(outcome == Ok(case.number), "a fault though no call failed");
+        ensure!(sheet.text == case.written, "less than all is written");
+        return Ok(false);
+    }
+    ensure!(
+        outcome == Err(ToolFault::Write),
+        "a call fails and that is not told"
+    );
+    Ok(true)
+}
+
+/// What a run with this writer comes to, which then holds a front of the output.
+fn write_to(alloc: Global, case: &Case, sheet: &mut Sheet) -> Result<Outcome> {
+    let outcome = case.command.run(alloc, &mut case.input.as_slice(), sheet);
+    ensure!(
+        case.written.as_slice().starts_with(&sheet.text),
+        "no front of the output"
+    );
+    Ok(outcome)
+}
+
+/// The exit status, and the fault if there is one.
+fn told(alloc: Global, outcome: &Outcome) -> Result<String> {
+    let status = verdict(outcome);
+    match outcome {
+        Ok(_) => Ok(format!(in alloc; "{status}")?),
+        Err(fault) => Ok(format!(in alloc; "{status} {fault}")?),
+    }
+}
+
 /// What comes of a write that fails after so many calls that took a byte each: the fault of the run, and how much
 /// of the output is written.
 pub(crate) fn failing_write(alloc: Global, row: &Row) -> Result<String> {
     let (case, calls) = case_and_number(alloc, row)?;
     let mut sheet = Sheet::new(alloc, 1, calls, End::Fails);
-    let outcome = case
-        .command
-        .run(alloc, &mut case.input.as_slice(), &mut sheet);
-    ensure!(
-        case.written.as_slice().starts_with(&sheet.text),
-        "no front of the output"
-    );
-    let status = verdict(&outcome);
-    match outcome {
-        Ok(_) => Ok(format!(in alloc; "{status}")?),
-        Err(fault) => {
-            Ok(format!(in alloc; "{status} {fault}, {} bytes written", sheet.text.len())?)
-        }
+    let outcome = write_to(alloc, &case, &mut sheet)?;
+    let told = told(alloc, &outcome)?;
+    if outcome.is_ok() {
+        return Ok(told);
     }
+    Ok(format!(in alloc; "{told}, {} bytes written", sheet.text.len())?)
 }
 
 /// What comes of a flush that fails: the fault of the run, after the whole output.
@@ -165,15 +187,9 @@ pub(crate) fn failing_flush(alloc: Global, row: &Row) -> Result<String> {
     let case = case_of(alloc, row.lines.as_str(), command.as_str(), words)?;
     let mut sheet = Sheet::new(alloc, usize::MAX, usize::MAX, End::Fails);
     sheet.flushes = false;
-    let outcome = case
-        .command
-        .run(alloc, &mut case.input.as_slice(), &mut sheet);
+    let outcome = write_to(alloc, &case, &mut sheet)?;
     ensure!(sheet.text == case.written, "less than all is written");
-    let status = verdict(&outcome);
-    match outcome {
-        Ok(_) => Ok(format!(in alloc; "{status}")?),
-        Err(fault) => Ok(format!(in alloc; "{status} {fault}")?),
-    }
+    told(alloc, &outcome)
 }
 
 /// What comes of the bytes with zeros without end behind them, of which nothing is written, and how many bytes are
@@ -186,10 +202,9 @@ pub(crate) fn endless(alloc: Global, row: &Row) -> Result<String> {
     let mut text = Vec::new(alloc);
     let outcome = command.run(alloc, &mut reader, &mut text);
     ensure!(text.is_empty(), "something is written");
-    let status = verdict(&outcome);
-    let given = reader.given;
-    match outcome {
-        Ok(_) => Ok(format!(in alloc; "{status}")?),
-        Err(fault) => Ok(format!(in alloc; "{status} {fault}, {given} bytes read")?),
+    let told = told(alloc, &outcome)?;
+    if outcome.is_ok() {
+        return Ok(told);
     }
+    Ok(format!(in alloc; "{told}, {} bytes read", reader.given)?)
 }

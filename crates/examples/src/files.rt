@@ -3,23 +3,38 @@ use crate::tree::file_of;
 use anyhow::{Result, ensure};
 use example_rows::bytes_of;
 use std::alloc::Global;
-use usb_file::{FileFault, FileWhy, check, named, read_file, write_file};
+use usb_file::{
+    DescriptorFile, FileFault, FileWhy, WriteFault, check, named, read_file, write_file,
+};
 
 /// The named indices of the file that the bytes are, or their fault. A file gives its bytes again.
 pub(crate) fn file(alloc: Global, words: &[String]) -> Result<String> {
     let bytes = bytes_of(alloc, words)?;
-    match read_file(alloc, bytes.as_slice()) {
+    match read(alloc, &bytes) {
         Ok(file) => {
-            let again = write_file(alloc, &file)?;
-            ensure!(
-                again.as_slice() == bytes.as_slice(),
-                "other bytes are written"
-            );
+            write_again(alloc, &bytes, &file)?;
             ensure!(file.clone()? == file, "a copy is another file");
-            indices(alloc, named(alloc, &file)?.as_slice())
+            indices(alloc, &file)
         }
         Err(fault) => told(alloc, fault),
     }
+}
+
+/// The file that the bytes are, or their fault.
+pub(crate) fn read(alloc: Global, bytes: &[u8]) -> std::result::Result<DescriptorFile, FileFault> {
+    read_file(alloc, bytes)
+}
+
+/// The bytes of the file, or why it has none.
+fn written(alloc: Global, file: &DescriptorFile) -> std::result::Result<Vec<u8>, WriteFault> {
+    write_file(alloc, file)
+}
+
+/// Writes the file to the bytes from which it was read.
+pub(crate) fn write_again(alloc: Global, bytes: &[u8], file: &DescriptorFile) -> Result<()> {
+    let again = written(alloc, file)?;
+    ensure!(again.as_slice() == bytes, "other bytes are written");
+    Ok(())
 }
 
 fn told(alloc: Global, fault: FileFault) -> Result<String> {
@@ -33,10 +48,10 @@ fn told(alloc: Global, fault: FileFault) -> Result<String> {
     }
 }
 
-/// The named indices, as digits.
-fn indices(alloc: Global, indices: &[u8]) -> Result<String> {
+/// The named indices of the file, as digits.
+fn indices(alloc: Global, file: &DescriptorFile) -> Result<String> {
     let mut text = String::from_str(alloc, "named")?;
-    for index in indices {
+    for index in named(alloc, file)?.iter() {
         text.push_str(format!(in alloc; " {index:02x}")?.as_str())?;
     }
     Ok(text)
@@ -45,15 +60,15 @@ fn indices(alloc: Global, indices: &[u8]) -> Result<String> {
 /// What breaks the rules of chapter 9 in the file that the bytes are.
 pub(crate) fn findings(alloc: Global, words: &[String]) -> Result<String> {
     let bytes = bytes_of(alloc, words)?;
-    let file = read_file(alloc, &bytes)?;
+    let file = read(alloc, &bytes)?;
     let found = check(alloc, &file)?;
-    if found.is_empty() {
-        return Ok(String::from_str(alloc, "no findings")?);
-    }
     let mut text = String::new(alloc);
     for finding in found.iter() {
         let comma = if text.is_empty() { "" } else { ", " };
         text.push_str(format!(in alloc; "{comma}{finding}")?.as_str())?;
+    }
+    if text.is_empty() {
+        text.push_str("no findings")?;
     }
     Ok(text)
 }
@@ -67,7 +82,7 @@ pub(crate) fn fronts(alloc: Global, words: &[String]) -> Result<String> {
             at: length,
             why: FileWhy::Truncated,
         };
-        let fault = read_file(alloc, front).err();
+        let fault = read(alloc, front).err();
         ensure!(
             fault == Some(truncated),
             "the front of {length} bytes is answered so: {fault:?}"
@@ -79,12 +94,9 @@ pub(crate) fn fronts(alloc: Global, words: &[String]) -> Result<String> {
 /// The bytes of the file that the lines say, or why it has none. It is read back.
 pub(crate) fn write_lines(alloc: Global, lines: &str) -> Result<String> {
     let file = file_of(alloc, lines)?;
-    match write_file(alloc, &file) {
+    match written(alloc, &file) {
         Ok(bytes) => {
-            ensure!(
-                read_file(alloc, &bytes)? == file,
-                "another file is read back"
-            );
+            ensure!(read(alloc, &bytes)? == file, "another file is read back");
             Ok(hex::encode(alloc, &bytes)?)
         }
         Err(fault) => Ok(format!(in alloc; "fault {}", fault.number())?),
@@ -93,6 +105,5 @@ pub(crate) fn write_lines(alloc: Global, lines: &str) -> Result<String> {
 
 /// The named indices of the file that the lines say.
 pub(crate) fn named_lines(alloc: Global, lines: &str) -> Result<String> {
-    let file = file_of(alloc, lines)?;
-    indices(alloc, named(alloc, &file)?.as_slice())
+    indices(alloc, &file_of(alloc, lines)?)
 }

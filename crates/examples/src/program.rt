@@ -1,8 +1,9 @@
 //! Rows on the program: what it does with words and an input.
-use anyhow::{Context, Result, ensure};
+use crate::real::{count_lines, fault_of};
+use anyhow::{Result, ensure};
 use example_rows::{Answer, bytes_of, change};
 use std::alloc::Global;
-use usb_tool::{run, run_build};
+use usb_tool::run;
 
 /// The exit status of the program with these words, `<` and its input, and what it writes.
 pub(crate) fn usbdesc(alloc: Global, words: &[String]) -> Result<Answer> {
@@ -83,7 +84,7 @@ pub(crate) fn cuts(alloc: Global, lines: &str) -> Result<String> {
     let (mut whole, mut line) = (0usize, 0usize);
     for length in 0..lines.len() {
         let front = lines.as_bytes().get(..length).unwrap_or(&[]);
-        let ends = front.iter().filter(|byte| **byte == b'\n').count();
+        let ends = count_lines(front);
         let fault = fault_of(alloc, front)?;
         let place = ends.saturating_add(1);
         let wanted = if matches!(front.last(), None | Some(b'\n')) {
@@ -96,13 +97,4 @@ pub(crate) fn cuts(alloc: Global, lines: &str) -> Result<String> {
         ensure!(fault == wanted, "cut at {length}: {fault}");
     }
     Ok(format!(in alloc; "{whole} missing, {line} broken")?)
-}
-
-/// The line of the fault of a text that is no listing.
-fn fault_of(alloc: Global, text: &[u8]) -> Result<String> {
-    let mut bytes = Vec::new(alloc);
-    let outcome = run_build(alloc, &mut &text[..], &mut bytes);
-    ensure!(bytes.is_empty(), "something is written");
-    let fault = outcome.err().context("a front is a listing")?;
-    Ok(format!(in alloc; "{fault}")?)
 }

@@ -3,7 +3,7 @@ use crate::tree::set_of;
 use anyhow::{Context, Result, ensure};
 use example_rows::bytes_of;
 use std::alloc::Global;
-use usb_set::{Configuration, Decoder, Progress, SetFault, encode, refusal};
+use usb_set::{Configuration, Decoder, EncodeFault, Progress, SetFault, encode, refusal};
 
 /// The lengths of the pieces in which each set is fed.
 const LENGTHS: [usize; 8] = [1, 2, 3, 64, 254, 255, 256, 65_535];
@@ -18,29 +18,47 @@ type Read = std::result::Result<(Configuration, usize), SetFault>;
 pub(crate) fn set(alloc: Global, words: &[String]) -> Result<String> {
     let bytes = bytes_of(alloc, words)?;
     let whole = read(alloc, &bytes, bytes.len())?;
-    for length in LENGTHS {
-        let again = read(alloc, &bytes, length)?;
-        ensure!(
-            again == whole,
-            "pieces of {length} bytes give another answer"
-        );
-    }
+    cut_evenly(alloc, &bytes, &whole)?;
     if bytes.len() <= SHORT {
         cut_everywhere(alloc, &bytes, &whole)?;
     }
-    match whole {
+    match &whole {
         Ok((set, length)) => {
-            write_again(alloc, bytes.as_slice().get(..length), &set)?;
+            write_again(alloc, bytes.as_slice().get(..*length), set)?;
             Ok(format!(in alloc; "done {length}")?)
         }
-        Err(fault) => Ok(format!(in alloc; "fault {} at {}", fault.why.number(), fault.at)?),
+        Err(fault) => told_fault(alloc, *fault),
     }
 }
 
+/// A fault and its place.
+fn told_fault(alloc: Global, fault: SetFault) -> Result<String> {
+    Ok(format!(in alloc; "fault {} at {}", fault.why.number(), fault.at)?)
+}
+
+/// The set that the bytes are.
+pub(crate) fn decoded(alloc: Global, bytes: &[u8]) -> Result<Configuration> {
+    let mut decoder = Decoder::new(alloc);
+    decoder.feed(bytes)?;
+    Ok(decoder.finish()?)
+}
+
+/// The bytes of the set, or why it has none, which `refusal` tells as well.
+fn encoded(
+    alloc: Global,
+    set: &Configuration,
+) -> Result<std::result::Result<Vec<u8>, EncodeFault>> {
+    let outcome = encode(alloc, set);
+    ensure!(
+        outcome.as_ref().err() == refusal(set).as_ref(),
+        "another refusal is told"
+    );
+    Ok(outcome)
+}
+
 /// Writes the set to the bytes from which it was read.
-fn write_again(alloc: Global, bytes: Option<&[u8]>, set: &Configuration) -> Result<()> {
-    ensure!(refusal(set).is_none(), "the encoder would refuse it");
-    let again = encode(alloc, set)?;
+pub(crate) fn write_again(alloc: Global, bytes: Option<&[u8]>, set: &Configuration) -> Result<()> {
+    let again = encoded(alloc, set)??;
     ensure!(bytes == Some(again.as_slice()), "other bytes are written");
     Ok(())
 }
@@ -52,6 +70,17 @@ fn read(alloc: Global, bytes: &[u8], length: usize) -> Result<Read> {
         reading.take(piece)?;
     }
     reading.finish()
+}
+
+/// Reads the bytes in pieces of each of the lengths.
+fn cut_evenly(alloc: Global, bytes: &[u8], whole: &Read) -> Result<()> {
+    for length in LENGTHS {
+        ensure!(
+            read(alloc, bytes, length)? == *whole,
+            "pieces of {length} bytes give another answer"
+        );
+    }
+    Ok(())
 }
 
 /// Reads the bytes in two pieces, cut at each place.
@@ -129,13 +158,18 @@ pub(crate) fn feed(alloc: Global, words: &[String]) -> Result<String> {
     let mut decoder = Decoder::new(alloc);
     let mut told = Told::new(alloc);
     for piece in bytes.chunks(length) {
-        told.add(match decoder.feed(piece) {
-            Ok(Progress::More) => format!(in alloc; "more")?,
-            Ok(Progress::Done { used }) => format!(in alloc; "done {used}")?,
-            Err(fault) => format!(in alloc; "fault {} at {}", fault.why.number(), fault.at)?,
-        })?;
+        told.add(answer_to(alloc, &mut decoder, piece)?)?;
     }
     told.finish()
+}
+
+/// What the decoder answers to one piece.
+fn answer_to(alloc: Global, decoder: &mut Decoder, piece: &[u8]) -> Result<String> {
+    match decoder.feed(piece) {
+        Ok(Progress::More) => Ok(String::from_str(alloc, "more")?),
+        Ok(Progress::Done { used }) => Ok(format!(in alloc; "done {used}")?),
+        Err(fault) => told_fault(alloc, fault),
+    }
 }
 
 /// Answers in a row, counted.
@@ -185,25 +219,14 @@ impl Told {
     }
 }
 
-/// The bytes of the set that the lines say, or why it has none, which `refusal` tells as well.
+/// The bytes of the set that the lines say, from which it is read back, or why it has none.
 pub(crate) fn encode_lines(alloc: Global, lines: &str) -> Result<String> {
     let set = set_of(alloc, lines)?;
-    let outcome = encode(alloc, &set);
-    let refused = refusal(&set);
-    match outcome {
+    match encoded(alloc, &set)? {
         Ok(bytes) => {
-            ensure!(
-                refused.is_none(),
-                "a refusal is told of a set that has bytes"
-            );
-            let mut decoder = Decoder::new(alloc);
-            decoder.feed(&bytes)?;
-            ensure!(decoder.finish()? == set, "another set is read back");
+            ensure!(decoded(alloc, &bytes)? == set, "another set is read back");
             Ok(hex::encode(alloc, &bytes)?)
         }
-        Err(fault) => {
-            ensure!(refused == Some(fault), "another refusal is told");
-            Ok(format!(in alloc; "fault {}", fault.number())?)
-        }
+        Err(fault) => Ok(format!(in alloc; "fault {}", fault.number())?),
     }
 }
