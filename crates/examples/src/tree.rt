@@ -75,7 +75,7 @@ impl Builder {
         }
     }
 
-    /// Adds what one line says.
+    /// Adds what one line says: a descriptor of the set in work, or a part of the file.
     fn add(&mut self, line: &str) -> Result<()> {
         let mut words = line.split_whitespace();
         let word = words.next().unwrap_or("");
@@ -83,21 +83,12 @@ impl Builder {
             alloc: self.alloc,
             words,
         };
-        if self.add_to_set(word, &mut fields)? {
-            return Ok(());
-        }
-        self.close_set()?;
-        self.add_to_file(word, &mut fields)
-    }
-
-    /// Adds a descriptor that belongs to a set, if it is one.
-    fn add_to_set(&mut self, word: &str, fields: &mut Fields<'_>) -> Result<bool> {
         if word == "interface" {
             self.close_setting()?;
-            self.setting = Some(setting(fields)?);
+            self.setting = Some(setting(&mut fields)?);
         } else if word == "endpoint" {
             self.close_endpoint()?;
-            self.endpoint = Some(endpoint(fields)?);
+            self.endpoint = Some(endpoint(&mut fields)?);
         } else if word == "raw" {
             let raw = Raw {
                 kind: fields.byte()?,
@@ -105,11 +96,12 @@ impl Builder {
             };
             self.add_extra(Extra::Raw(raw))?;
         } else if word == "association" {
-            self.add_extra(Extra::Association(association(fields)?))?;
+            self.add_extra(Extra::Association(association(&mut fields)?))?;
         } else {
-            return Ok(false);
+            self.close_set()?;
+            self.add_to_file(word, &mut fields)?;
         }
-        Ok(true)
+        Ok(())
     }
 
     /// Adds a raw descriptor or an association to the nearest descriptor that owns such.
