@@ -20,12 +20,13 @@ pub(crate) fn file(alloc: Global, words: &[String]) -> Result<String> {
     }
 }
 
-/// The file that the bytes are, or their fault.
+/// The file that the bytes are, or their fault. A call of its own, so that its callers are proved without the long
+/// contract of `read_file`.
 pub(crate) fn read(alloc: Global, bytes: &[u8]) -> std::result::Result<DescriptorFile, FileFault> {
     read_file(alloc, bytes)
 }
 
-/// The bytes of the file, or why it has none.
+/// The bytes of the file, or why it has none; a call of its own likewise.
 fn written(alloc: Global, file: &DescriptorFile) -> std::result::Result<Vec<u8>, WriteFault> {
     write_file(alloc, file)
 }

@@ -88,7 +88,8 @@ fn build_again(alloc: Global, text: &[u8], wanted: &[u8]) -> Result<()> {
     Ok(())
 }
 
-/// What the program's command answers to a listing, whose bytes it writes.
+/// What the program's command answers to a listing, whose bytes it writes; a call of its own, since its contract is
+/// long.
 pub(crate) fn built(
     alloc: Global,
     mut text: &[u8],
