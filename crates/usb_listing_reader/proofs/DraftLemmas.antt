@@ -1,15 +1,18 @@
 -- On what is kept beside a file so far.
-use Rattle.std.proofs.Common.{◌≡◌, ℕ, zero, suc, ◌-◌, ◌*◌, ◌<◌, ◌==◌, ◌&&◌, not, ltb, List, [], ◌∷◌, Option, Some, None, is_some, length, get_or, refl, ap, ◌∙◌, arith}
+use Rattle.std.proofs.Common.{◌≡◌, ℕ, zero, suc, ◌-◌, ◌*◌, ◌<◌, ◌==◌, ◌&&◌, not, ltb, true, List, [], ◌∷◌, Option, Some, None, is_some, length, get_or, refl, ap, subst, ◌∙◌, arith}
 use Rattle.std.proofs.Math.ListN.{set}
 use Rattle.std.proofs.Math.Dec.{eqb-suc-zero}
 use Rattle.usb_file_data.specs.declared.file.DescriptorFile.{DescriptorFile}
 use Rattle.usb_file_data.specs.declared.file.Other.{Other}
 use Rattle.usb_file_data.specs.declared.file.Strings.{Strings}
 use Rattle.usb_file_data.specs.Named.{named_indices}
+use Rattle.usb_set.specs.declared.tree.Configuration.{Configuration}
+use Rattle.usb_listing_lines.specs.declared.item.Item.{Item}
+use Rattle.usb_listing_lines.specs.declared.item.Item.TheVariants as items
 use Rattle.usb_listing_lines.specs.declared.word.Word.{Word}
 use Rattle.usb_listing_lines.specs.declared.word.Word.TheVariants as words
-use Rattle.usb_listing_reader.specs.Order.{last_of, may_follow, with_last}
-use Rattle.usb_listing_reader.specs.inside.Drafts.{is_string}
+use Rattle.usb_listing_reader.specs.Order.{has_interface, last_of, may_follow, set_in_work, with_last}
+use Rattle.usb_listing_reader.specs.inside.Drafts.{has_room, is_string}
 
 -- only strings follow the languages
 pub only_string : (f : DescriptorFile) (o : Option Other) (s : Strings) (w : Word)
@@ -70,6 +73,46 @@ set_end f d (x ∷ y ∷ ys) (suc i) e = ap (λ (zs : List _). x ∷ zs) (set_en
 pub with_last_is : {A : Type 0} (f : A → A) (d : A) (xs : List A) → 0 < length xs → set xs (length xs - 1) (f (get_or xs (length xs - 1) d)) ≡ with_last f xs
 with_last_is f d xs lt = set_end f d xs (length xs - 1) (omega arith)
 
-pub with_last_none : {A : Type 0} (f : A → A) (xs : List A) → length xs ≡ 0 → with_last f xs ≡ xs
-with_last_none f [] e = refl
-with_last_none f (x ∷ xs) e = absurd (omega arith)
+-- ---- a descriptor that may follow has its place
+
+filled : {A : Type 0} (xs : List A) → not (length xs == 0) ≡ true → 0 < length xs
+filled [] e = absurd (let h = e in cc)
+filled (x ∷ xs) e = omega arith
+
+pub has_settings : (c : Configuration) → has_interface (Some c) ≡ true → 0 < length c.settings
+has_settings c e = filled c.settings e
+
+no_room : (item : Item) → has_room item None ≡ true → ⊥
+no_room (items.Device d) e = cc
+no_room (items.Set c) e = cc
+no_room (items.Interface s) e = cc
+no_room (items.Endpoint p) e = cc
+no_room (items.Extra x) e = cc
+no_room (items.Qualifier q) e = cc
+no_room (items.Languages us) e = cc
+no_room (items.String us) e = cc
+
+pub room_some : (item : Item) (sets : List Configuration) → has_room item (last_of sets) ≡ true → 0 < length sets
+room_some item [] e = absurd (no_room item e)
+room_some item (c ∷ sets) e = omega arith
+
+pub room_at : (item : Item) (sets : List Configuration) (d : Configuration) → has_room item (last_of sets) ≡ true → has_room item (Some (get_or sets (length sets - 1) d)) ≡ true
+room_at item sets d e = subst (λ o. has_room item o ≡ true) (last_at sets d (room_some item sets e)) e
+
+pub room_main : (item : Item) (sets : List Configuration) (s : Option Strings) → has_room item (set_in_work sets None s) ≡ true → has_room item (last_of sets) ≡ true
+room_main item sets None e = e
+room_main item sets (Some s) e = absurd (no_room item e)
+
+pub room_other : (item : Item) (sets : List Configuration) (o : Other) (s : Option Strings) → has_room item (set_in_work sets (Some o) s) ≡ true → has_room item (last_of o.sets) ≡ true
+room_other item sets o None e = e
+room_other item sets o (Some s) e = absurd (no_room item e)
+
+pub no_device : (f : DescriptorFile) (o : Option Other) (s : Option Strings) → may_follow f o s words.Device ≡ true → ⊥
+no_device f None None e = cc
+no_device f None (Some s) e = cc
+no_device f (Some o) None e = cc
+no_device f (Some o) (Some s) e = cc
+
+pub no_string_first : (f : DescriptorFile) (o : Option Other) → may_follow f o None words.String ≡ true → ⊥
+no_string_first f None e = cc
+no_string_first f (Some o) e = cc

@@ -1,6 +1,5 @@
 -- A line that is found by its line feed.
-use Rattle.std.proofs.Common.{◌≡◌, ◌≢◌, ℕ, zero, suc, ◌+◌, ◌-◌, ◌<◌, ◌≤◌, ◌==◌, ◌&&◌, Bool, true, false, cond, List, [], ◌∷◌, ◌++◌, Option, Some, None, Result, Ok, Err, length, take, drop, slice_index, refl, ap, sym, subst, ◌∙◌, append_assoc, append-nil, arith}
-use Rattle.std.specs.Prelude.{IfErr, MatchOption}
+use Rattle.std.proofs.Common.{◌≡◌, ◌≢◌, ℕ, zero, suc, ◌+◌, ◌-◌, ◌<◌, ◌&&◌, Bool, true, false, cond, List, [], ◌∷◌, ◌++◌, Option, Some, None, Ok, Err, length, take, drop, slice_index, refl, ap, sym, subst, ◌∙◌, append_assoc, append-nil, arith}
 use Rattle.std.specs.List.{list_all}
 use Rattle.std.proofs.lemmas.Bool.{eqb-true, eq-eqb}
 use Rattle.std.proofs.lemmas.List.{length-drop, take_all}
@@ -16,7 +15,7 @@ use Rattle.usb_listing_reader.specs.declared.draft.Draft.{Draft}
 use Rattle.usb_listing_reader.specs.declared.fault.ListWhy.{ListWhy}
 use Rattle.usb_listing_reader.specs.declared.fault.ListWhy.TheVariants as whys
 use Rattle.usb_listing_reader.specs.Order.{may_stand}
-use Rattle.usb_listing_reader.specs.Listings.{FirstLine, IsBegun, LineFaulty, NoLineGoesOn}
+use Rattle.usb_listing_reader.specs.Listings.{IsBegun, LineFaulty, NoLineGoesOn}
 use Rattle.usb_listing_reader.specs.inside.Drafts.{HasWork, Refuses, Stepped, TakesLine, Told, so_far}
 use Rattle.usb_listing_reader.specs.inside.Lines.{Cut, HasNoFeed}
 use Rattle.usb_listing_reader.specs.inside.Walking.{add_item, add_line, add_word}

@@ -20,6 +20,7 @@ use Rattle.usb_listing_lines.specs.declared.item.Item.TheVariants as items
 use Rattle.usb_listing_lines.specs.Item.{IsItem, StandsAlone, item_word, set_word}
 use Rattle.usb_listing_reader.specs.Order.{setting_items, file_and, file_items, has_interface, last_of, length_of, may_follow, other_items, set_and, set_items, set_with, setting_with, strings_items, with_last, work_length}
 use Rattle.usb_listing_reader.specs.Listings.{IsFront, IsInOrder, StringsFollow, is_over}
+use Rattle.usb_listing_reader.specs.inside.Drafts.{has_room}
 use Rattle.usb_listing_reader.proofs.OrderLemmas.{Joins, map-push, flat_map-push, set_more, some_length}
 
 -- ---- the last element of a list, changed
@@ -68,13 +69,6 @@ IsInner (items.Interface s) = Unit {0}
 IsInner (items.Endpoint e) = Unit {0}
 IsInner (items.Extra x) = Unit {0}
 IsInner item = ⊥
-
--- what its word asks of the set in work
-abbrev pub has_room : Item → Option Configuration → Bool
-has_room (items.Interface s) work = is_some work
-has_room (items.Endpoint e) work = has_interface work
-has_room (items.Extra x) work = is_some work
-has_room item work = false
 
 pub in_work : (item : Item) (sets : List Configuration) → StandsAlone item → IsInner item → has_room item (last_of sets) ≡ true → InWork sets item
 in_work (items.Interface s) sets alone inner e = cases (last_of sets) refl e

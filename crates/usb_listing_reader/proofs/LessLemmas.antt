@@ -28,7 +28,8 @@ use Rattle.usb_listing_reader.specs.Order.{endpoint_with, file_and, file_items, 
 use Rattle.usb_listing_reader.specs.Listings.{IsBegun, IsFront, IsInOrder, StringsFollow, is_over, items_of}
 use Rattle.usb_listing_reader.specs.inside.Walking.{add}
 use Rattle.usb_listing_reader.proofs.OrderLemmas.{Joins, flat_map-push, set_more}
-use Rattle.usb_listing_reader.proofs.FrontLemmas.{InWork, IsInner, behind_all, behind_main, behind_other, has_room, kind_kept, last_flat, last_push, length-push, length-with_last, made, strings_more}
+use Rattle.usb_listing_reader.specs.inside.Drafts.{has_room}
+use Rattle.usb_listing_reader.proofs.FrontLemmas.{InWork, IsInner, behind_all, behind_main, behind_other, kind_kept, last_flat, last_push, length-push, length-with_last, made, strings_more}
 use Rattle.usb_listing_reader.proofs.LengthLemmas.{longer}
 use Rattle.usb_listing_reader.proofs.WholeLemmas.{all_split}
 

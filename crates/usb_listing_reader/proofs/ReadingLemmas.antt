@@ -1,10 +1,9 @@
 -- A listing read line by line.
-use Rattle.std.proofs.Common.{◌≡◌, ◌≢◌, inl, inr, ℕ, zero, suc, ◌+◌, ◌<◌, true, false, List, [], ◌∷◌, ◌++◌, Option, Some, None, Result, Ok, Err, length, take, drop, slice_index, refl, ap, sym, subst, ◌∙◌, append_assoc, append-nil, length-append, arith, codes}
-use Rattle.std.specs.List.{flat_map, list_all}
+use Rattle.std.proofs.Common.{◌≡◌, ◌≢◌, inl, inr, ℕ, ◌+◌, ◌<◌, true, false, List, [], ◌∷◌, ◌++◌, Option, Some, None, Result, Ok, Err, length, refl, ap, sym, subst, ◌∙◌, append_assoc, append-nil, length-append, arith, codes}
+use Rattle.std.specs.List.{flat_map}
 use Rattle.usb_file_data.specs.declared.file.DescriptorFile.{DescriptorFile}
 use Rattle.usb_file_data.specs.File.{file_bytes}
 use Rattle.usb_listing_lines.specs.declared.item.Item.{Item}
-use Rattle.usb_listing_lines.specs.Words.{is_printable}
 use Rattle.usb_listing_lines.specs.Item.{Says, item_line}
 use Rattle.usb_listing.specs.Listing.{file_lines}
 use Rattle.usb_listing_reader.specs.declared.draft.Draft.{Draft}
@@ -14,7 +13,7 @@ use Rattle.usb_listing_reader.specs.declared.fault.ListFault.{ListFault}
 use Rattle.usb_listing_reader.specs.declared.fault.ListWhy.{ListWhy}
 use Rattle.usb_listing_reader.specs.declared.fault.ListWhy.TheVariants as whys
 use Rattle.usb_listing_reader.specs.Order.{file_items}
-use Rattle.usb_listing_reader.specs.Listings.{Begins, FirstLine, IsBegun, LineFaulty, ListRefused, Lists, is_whole, items_of, lines_of}
+use Rattle.usb_listing_reader.specs.Listings.{Begins, FirstLine, IsBegun, ListRefused, Lists, is_whole, items_of, lines_of}
 use Rattle.usb_listing_reader.specs.inside.Drafts.{Reading, Refuses, TakesLine, Told, so_far}
 use Rattle.usb_listing_reader.specs.inside.Walking.{add_line}
 use Rattle.usb_listing_reader.proofs.OrderLemmas.{flat_map-push}

@@ -1,11 +1,12 @@
 //! A file with one more descriptor.
-ghost use Rattle.std.specs.Prelude.{◌≡◌, OnOk};
-ghost use Rattle.usb_listing_reader.specs.Order.{endpoint_with, file_and, set_and, set_with, setting_with, setting_with_endpoint, with_last, with_set, with_string, with_work};
-ghost use Rattle.usb_listing_reader.specs.inside.Drafts.{other_and, other_push, strings_push};
+ghost use Rattle.std.specs.Prelude.{◌≡◌, OnOk, Some, true};
+ghost use Rattle.usb_listing_reader.specs.Order.{endpoint_with, file_and, has_interface, last_of, may_follow, set_and, set_in_work, set_with, setting_with, setting_with_endpoint, with_last, with_set, with_string, with_work};
+ghost use Rattle.usb_listing_lines.specs.Item.{item_word};
+ghost use Rattle.usb_listing_reader.specs.inside.Drafts.{has_room};
 
 use std::alloc::{AllocError, Global};
 use usb_file_data::{DescriptorFile, Other, Strings};
-use usb_listing_lines::Item;
+use usb_listing_lines::{Item, Word};
 use usb_set::{Configuration, Endpoint, Extra, Sequence, Setting};
 
 #[tactic(auto, unfolding(crate::specs::Order::endpoint_with))]
@@ -50,21 +51,21 @@ fn add_extra(c: &mut Configuration, extra: Extra) -> Result<(), AllocError>
     Ok(())
 }
 
-#[tactic(auto, using(crate::proofs::DraftLemmas::with_last_is, crate::proofs::DraftLemmas::with_last_none), unfolding(crate::specs::Order::set_and))]
+/// Adds an endpoint to the last interface of a set that has one.
+#[tactic(auto, using(crate::proofs::DraftLemmas::with_last_is, crate::proofs::DraftLemmas::has_settings), unfolding(crate::specs::Order::set_and))]
 fn add_endpoint_to_last(c: &mut Configuration, endpoint: Endpoint) -> Result<(), AllocError>
+    requires { has_interface (Some c.old) ≡ true }
     ensures { OnOk result (c.new ≡ set_and (Item.Endpoint endpoint) c.old) }
 {
-    let count = c.settings.len();
-    if count == 0 {
-        return Ok(());
-    }
-    add_endpoint(c.settings.at_mut(count - 1), endpoint)
+    let last = c.settings.len() - 1;
+    add_endpoint(c.settings.at_mut(last), endpoint)
 }
 
 /// Adds a descriptor to a set, which belongs to the nearest typed one before it.
 #[inline(always)]
 #[tactic(auto, unfolding(crate::specs::Order::set_and))]
 fn add_to_set(c: &mut Configuration, item: Item) -> Result<(), AllocError>
+    requires { has_room item (Some c.old) ≡ true }
     ensures { OnOk result (c.new ≡ set_and item c.old) }
 {
     match item {
@@ -78,70 +79,49 @@ fn add_to_set(c: &mut Configuration, item: Item) -> Result<(), AllocError>
         | Item::Set(_)
         | Item::Qualifier(_)
         | Item::Languages(_)
-        | Item::String(_) => Ok(()),
+        | Item::String(_) => unreachable!(),
     }
 }
 
 #[inline(always)]
-#[tactic(auto, using(crate::proofs::DraftLemmas::with_last_is, crate::proofs::DraftLemmas::with_last_none))]
+#[tactic(auto, using(crate::proofs::DraftLemmas::with_last_is, crate::proofs::DraftLemmas::room_some, crate::proofs::DraftLemmas::room_at))]
 fn add_to_last(sets: &mut Sequence<Configuration>, item: Item) -> Result<(), AllocError>
+    requires { has_room item (last_of sets.old) ≡ true }
     ensures { OnOk result (sets.new ≡ with_last (set_and item) sets.old) }
 {
-    let count = sets.len();
-    if count == 0 {
-        return Ok(());
-    }
-    add_to_set(sets.at_mut(count - 1), item)
-}
-
-fn add_to_other(other: &mut Option<Other>, item: Item) -> Result<(), AllocError>
-    ensures { OnOk result (other.new ≡ other_and item other.old) }
-{
-    match other {
-        None => Ok(()),
-        Some(other) => add_to_last(&mut other.sets, item),
-    }
+    let last = sets.len() - 1;
+    add_to_set(sets.at_mut(last), item)
 }
 
 /// Adds a descriptor to the set that is in work.
+#[tactic(auto, using(crate::proofs::DraftLemmas::room_main, crate::proofs::DraftLemmas::room_other))]
 fn add_inner(f: &mut DescriptorFile, item: Item) -> Result<(), AllocError>
+    requires { has_room item (set_in_work f.old.sets f.old.other f.old.strings) ≡ true }
     ensures { OnOk result (f.new ≡ with_work (set_and item) f.old f.old.other) }
 {
-    if f.other.is_none() {
-        add_to_last(&mut f.sets, item)
-    } else {
-        add_to_other(&mut f.other, item)
-    }
-}
-
-fn push_to_other(other: &mut Option<Other>, c: Configuration) -> Result<(), AllocError>
-    ensures { OnOk result (other.new ≡ other_push c other.old) }
-{
-    match other {
-        None => Ok(()),
-        Some(other) => {
-            other.sets.push(c)?;
-            Ok(())
-        }
+    match &mut f.other {
+        None => add_to_last(&mut f.sets, item),
+        Some(other) => add_to_last(&mut other.sets, item),
     }
 }
 
 fn add_set(f: &mut DescriptorFile, c: Configuration) -> Result<(), AllocError>
     ensures { OnOk result (f.new ≡ with_set c f.old f.old.other) }
 {
-    if f.other.is_none() {
-        f.sets.push(c)?;
-        Ok(())
-    } else {
-        push_to_other(&mut f.other, c)
+    match &mut f.other {
+        None => f.sets.push(c)?,
+        Some(other) => other.sets.push(c)?,
     }
+    Ok(())
 }
 
-fn push_string(strings: &mut Option<Strings>, units: Sequence<u16>) -> Result<(), AllocError>
-    ensures { OnOk result (strings.new ≡ strings_push units strings.old) }
+#[tactic(auto, using(crate::proofs::DraftLemmas::no_string_first))]
+fn add_string(f: &mut DescriptorFile, units: Sequence<u16>) -> Result<(), AllocError>
+    requires { may_follow f.old f.old.other f.old.strings Word.String ≡ true }
+    ensures { OnOk result (f.new ≡ with_string units f.old f.old.strings) }
 {
-    match strings {
-        None => Ok(()),
+    match &mut f.strings {
+        None => unreachable!(),
         Some(strings) => {
             strings.texts.push(units)?;
             Ok(())
@@ -149,18 +129,14 @@ fn push_string(strings: &mut Option<Strings>, units: Sequence<u16>) -> Result<()
     }
 }
 
-fn add_string(f: &mut DescriptorFile, units: Sequence<u16>) -> Result<(), AllocError>
-    ensures { OnOk result (f.new ≡ with_string units f.old f.old.strings) }
-{
-    push_string(&mut f.strings, units)
-}
-
-/// Adds a descriptor to the file.
+/// Adds a descriptor that may follow to the file.
+#[tactic(auto, using(crate::proofs::DraftLemmas::no_device))]
 pub(crate) fn add_item(alloc: Global, f: &mut DescriptorFile, item: Item) -> Result<(), AllocError>
+    requires { may_follow f.old f.old.other f.old.strings (item_word item) ≡ true }
     ensures { OnOk result (f.new ≡ file_and item f.old) }
 {
     match item {
-        Item::Device(_) => Ok(()),
+        Item::Device(_) => unreachable!(),
         Item::Set(c) => add_set(f, c),
         Item::Interface(_) | Item::Endpoint(_) | Item::Extra(_) => add_inner(f, item),
         Item::Qualifier(qualifier) => {

@@ -146,29 +146,22 @@ fn begin(alloc: Global, device: DeviceDescriptor) -> Draft
 }
 
 /// The draft that the first line begins.
-fn begin_with(alloc: Global, item: Item) -> Result<Draft, ListWhy>
+fn begin_with(alloc: Global, item: Item) -> Draft
     requires { may_stand None (item_word item) ≡ true }
-    ensures ok { IfOk result (λ draft. add None item ≡ Ok draft.file) }
-    ensures counted { IfOk result (λ draft. Counted draft) }
-    ensures work { IfOk result (λ draft. draft.work ≤ 65535) }
-    ensures err { IfErr result (λ why. Refuses (add None item) why) }
+    ensures is { add None item ≡ Ok result.file }
+    ensures counted { Counted result }
+    ensures work { result.work ≤ 65535 }
 {
     match item {
-        Item::Device(device) => Ok(begin(alloc, device)),
+        Item::Device(device) => begin(alloc, device),
         Item::Set(_)
         | Item::Interface(_)
         | Item::Endpoint(_)
         | Item::Extra(_)
         | Item::Qualifier(_)
         | Item::Languages(_)
-        | Item::String(_) => Err(ListWhy::Place),
+        | Item::String(_) => unreachable!(),
     }
-}
-
-fn set_draft(draft: &mut Option<Draft>, new: Draft)
-    ensures { draft.new ≡ Some new }
-{
-    *draft = Some(new);
 }
 
 /// Adds a descriptor that may stand next.
@@ -184,13 +177,10 @@ fn add(alloc: Global, draft: &mut Option<Draft>, item: Item) -> Result<(), ListW
 {
     match draft {
         Some(draft) => grow(alloc, draft, item),
-        None => match begin_with(alloc, item) {
-            Ok(begun) => {
-                set_draft(draft, begun);
-                Ok(())
-            }
-            Err(why) => Err(why),
-        },
+        None => {
+            *draft = Some(begin_with(alloc, item));
+            Ok(())
+        }
     }
 }
 

@@ -1,9 +1,8 @@
 -- What is kept beside the file so far.
-use Rattle.std.specs.Prelude.{◌≡◌, ℕ, ◌+◌, ◌*◌, ◌≤◌, ◌⊎◌, Result, Ok, Err, length, Bool, true, false, Option, Some, None, List, [], ◌∷◌, ◌++◌}
+use Rattle.std.specs.Prelude.{◌≡◌, ℕ, ◌+◌, ◌*◌, ◌≤◌, ◌⊎◌, Result, Ok, Err, length, Bool, true, false, Option, Some, None, is_some, List}
 use Rattle.usb_set.specs.declared.tree.Extra.{Extra}
 use Rattle.usb_set.specs.declared.tree.Extra.TheVariants as extras
 use Rattle.usb_file_data.specs.declared.file.DescriptorFile.{DescriptorFile}
-use Rattle.usb_file_data.specs.declared.file.Other.{Other}
 use Rattle.usb_file_data.specs.declared.file.Strings.{Strings}
 use Rattle.usb_file_data.specs.Named.{named_indices}
 use Rattle.usb_set.specs.declared.tree.Configuration.{Configuration}
@@ -14,7 +13,7 @@ use Rattle.usb_listing_lines.specs.declared.word.Word.TheVariants as words
 use Rattle.usb_listing_reader.specs.declared.draft.Draft.{Draft}
 use Rattle.usb_listing_reader.specs.declared.fault.ListWhy.{ListWhy}
 use Rattle.usb_listing_reader.specs.declared.fault.ListWhy.TheVariants as whys
-use Rattle.usb_listing_reader.specs.Order.{set_and, with_last, work_length}
+use Rattle.usb_listing_reader.specs.Order.{has_interface, work_length}
 use Rattle.usb_listing_reader.specs.Listings.{Begins, FirstLine, RestFaulty}
 use Rattle.usb_listing_reader.specs.inside.Walking.{add, add_line}
 
@@ -63,20 +62,12 @@ work_with work (items.Qualifier q) = 0
 work_with work (items.Languages us) = 0
 work_with work (items.String us) = work
 
--- the sets of the other speed, the last of them with one more descriptor
-abbrev pub other_and : Item → Option Other → Option Other
-other_and item None = None
-other_and item (Some o) = Some (record o { sets = with_last (set_and item) o.sets })
-
--- with one more set
-abbrev pub other_push : Configuration → Option Other → Option Other
-other_push c None = None
-other_push c (Some o) = Some (record o { sets = o.sets ++ c ∷ [] })
-
--- the strings with one more
-abbrev pub strings_push : List ℕ → Option Strings → Option Strings
-strings_push us None = None
-strings_push us (Some s) = Some (record s { texts = s.texts ++ us ∷ [] })
+-- whether a descriptor that stands in a set may stand in this one
+abbrev pub has_room : Item → Option Configuration → Bool
+has_room (items.Interface s) work = is_some work
+has_room (items.Endpoint e) work = has_interface work
+has_room (items.Extra x) work = is_some work
+has_room item work = false
 
 -- how many strings there are in all with one more descriptor
 unfoldable pub total_with : DescriptorFile → ℕ → Item → ℕ
