@@ -23,44 +23,56 @@ of_settings rule breaks part i c = at_each (λ j s. when (breaks s) (finding rul
 abbrev pub of_settings_after : ℕ → (List Setting → Setting → Bool) → Part → ℕ → Configuration → List Finding
 of_settings_after rule breaks part i c = at_each_after (λ before j s. when (breaks before s) (finding rule part i j 0)) [] 0 c.settings
 
--- V1 to V9 and V12 in one set
+-- V1 in one set
 abbrev pub interface_counts : Part → ℕ → Configuration → List Finding
 interface_counts = of_set 1 wrong_interface_count
 
+-- V2 in one set
 abbrev pub number_gaps : Part → ℕ → Configuration → List Finding
 number_gaps = of_set 2 has_number_gap
 
+-- V3 in one set, at each setting that stood before
 abbrev pub repeated_settings : Part → ℕ → Configuration → List Finding
 repeated_settings = of_settings_after 3 repeats_setting
 
+-- V4 in one set, at the first setting of each interface number
 abbrev pub missing_default_settings : Part → ℕ → Configuration → List Finding
 missing_default_settings part i c = of_settings_after 4 (lacks_default_setting c.settings) part i c
 
+-- V5 in one set, at each setting
 abbrev pub endpoint_counts : Part → ℕ → Configuration → List Finding
 endpoint_counts = of_settings 5 wrong_endpoint_count
 
+-- V6 in one setting, at each endpoint
 abbrev pub addresses_in : Part → ℕ → ℕ → Setting → List Finding
 addresses_in part i j s = at_each (λ k e. when (wrong_address e.address) (finding 6 part i j k)) 0 s.endpoints
 
+-- V6 in one set
 abbrev pub addresses : Part → ℕ → Configuration → List Finding
 addresses part i c = at_each (addresses_in part i) 0 c.settings
 
+-- V7 in one setting, at each endpoint whose address stood before
 abbrev pub repeated_in_setting : Part → ℕ → ℕ → Setting → List Finding
 repeated_in_setting part i j s = at_each_after (λ before k e. when (repeats_address before e) (finding 7 part i j k)) [] 0 s.endpoints
 
+-- V7 in one set
 abbrev pub repeated_addresses : Part → ℕ → Configuration → List Finding
 repeated_addresses part i c = at_each (repeated_in_setting part i) 0 c.settings
 
+-- V8 in one set, at each endpoint whose address an earlier setting of another interface has
 abbrev pub shared_addresses : Part → ℕ → Configuration → List Finding
 shared_addresses part i c =
     at_each_after (λ before j s. at_each (λ k e. when (shares_address before s e) (finding 8 part i j k)) 0 s.endpoints) [] 0 c.settings
 
+-- V9 in one set
 abbrev pub attributes : Part → ℕ → Configuration → List Finding
 attributes = of_set 9 wrong_attributes
 
+-- V12 in one setting, at each endpoint
 abbrev pub packet_sizes_in : Part → ℕ → ℕ → Setting → List Finding
 packet_sizes_in part i j s = at_each (λ k e. when (wrong_packet_size e.max_packet) (finding 12 part i j k)) 0 s.endpoints
 
+-- V12 in one set
 abbrev pub packet_sizes : Part → ℕ → Configuration → List Finding
 packet_sizes part i c = at_each (packet_sizes_in part i) 0 c.settings
 

@@ -9,12 +9,15 @@ use Rattle.usb_set.specs.declared.tree.Setting.{Setting}
 use Rattle.usb_set.specs.declared.tree.Configuration.{Configuration}
 use Rattle.usb_rules.specs.Places.{stands_in, when, at_each_after}
 
+-- the interface number of a setting (bInterfaceNumber)
 abbrev pub number_of : Setting → ℕ
 number_of s = s.number
 
+-- the address of an endpoint (bEndpointAddress)
 abbrev pub address_of : Endpoint → ℕ
 address_of e = e.address
 
+-- the value by which SET_CONFIGURATION selects a set (bConfigurationValue)
 abbrev pub value_of : Configuration → ℕ
 value_of c = c.value
 
@@ -104,8 +107,8 @@ abbrev pub wrong_packet_size : ℕ → Bool
 wrong_packet_size max_packet = not (bit_and max_packet 0xe000 == 0)
 
 -- V13. An interface association binds no interface (bInterfaceCount is 0) or one that the set doesn't have: a
--- number from bFirstInterface to bFirstInterface + bInterfaceCount - 1, reckoned without wrapping at 256, is no
--- interface number (engineering change notice on interface association descriptors, table 9-Z).
+-- number from bFirstInterface to bFirstInterface + bInterfaceCount - 1 is no interface number. The sum doesn't
+-- wrap at 256 (engineering change notice on interface association descriptors, table 9-Z).
 abbrev pub binds_missing_interface : List Setting → Association → Bool
 binds_missing_interface settings a =
     (a.count == 0) || list_any (λ n. not (stands_in (map number_of settings) n)) (range_with_len a.first a.count)

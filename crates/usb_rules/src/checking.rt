@@ -17,15 +17,15 @@ pub use std::alloc::AllocError as NoMemory;
 /// Everything in the file that breaks a rule of chapter 9: rule by rule, in each rule the device, the main
 /// part and the other part, and in each part by set, setting and endpoint, all counted from 0.
 ///
-/// # Errors
-///
-/// A growth was refused.
-///
 /// ```rust
 /// for finding in check(rt.alloc(), &file)?.iter() {
 ///     println!(rt; "{finding}")?;
 /// }
 /// ```
+///
+/// # Errors
+///
+/// A growth was refused.
 pub fn check(alloc: Global, f: &DescriptorFile) -> Result<Vec<Finding>, NoMemory>
     ensures { IfOk result (λ v. v.items ≡ findings f.now) }
 {

@@ -5,6 +5,11 @@ ghost use Rattle.usb_rules.specs.FindingLine.{finding_line, part_word};
 use std::fmt;
 
 /// A part of a descriptor file.
+///
+/// ```rust
+/// let part = Part::Other;
+/// assert_eq!(rt; format!(in rt.alloc(); "{part}")?.as_str(), "other");
+/// ```
 #[derive(Clone, Copy, Debug, PartialEq, Eq, Hash)]
 pub enum Part {
     /// The device descriptor.

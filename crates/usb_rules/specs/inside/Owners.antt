@@ -24,6 +24,7 @@ is_other owners.Several n = true
 abbrev pub Owned : Type 0
 Owned = ℕ → ℕ → Bool
 
+-- no number has an address
 abbrev pub unowned : Owned
 unowned b m = false
 

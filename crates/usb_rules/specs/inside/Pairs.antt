@@ -10,6 +10,7 @@ use Rattle.usb_rules.specs.Places.{when, finding}
 abbrev pub IsRow : List Bool → Type 0
 IsRow row = length row ≡ 256
 
+-- the rows of a whole table
 pub record IsTable (rows : List (List Bool)) : Type 0 where
   pub all : length rows ≡ 256
   pub each : AllByRecursion IsRow rows

@@ -6,6 +6,7 @@ use Rattle.usb_rules.specs.declared.finding.Finding.{Finding}
 use Rattle.usb_rules.specs.declared.lists.SetFindings.{SetFindings}
 use Rattle.usb_rules.specs.Findings.{interface_counts, number_gaps, repeated_settings, missing_default_settings, endpoint_counts, addresses, repeated_addresses, shared_addresses, attributes, packet_sizes, associations}
 
+-- the rules, each named by what breaks it
 pub data SetRule : Type 0 where
   InterfaceCounts : SetRule
   NumberGaps : SetRule
