@@ -37,6 +37,10 @@ pub enum FileWhy {
 
 impl FileWhy {
     /// The fault's number, from 1 to 8.
+    ///
+    /// ```rust
+    /// assert_eq!(rt; FileWhy::Truncated.number(), 6);
+    /// ```
     pub fn number(self) -> u8
         ensures { result ≡ why_number self }
     {
@@ -63,9 +67,9 @@ impl FileWhy {
 #[derive(Clone, Copy, Debug, Drop, Error, PartialEq, Eq, Hash)]
 #[error("{why} at {at}")]
 pub struct FileFault {
-    /// The place, in bytes from the first byte of the file: of `Set` that of the fault in the set, of
-    /// `SetKind` that of the set's bDescriptorType, of `Truncated` the length of the file, and of every
-    /// other fault that where the part starts.
+    /// The place, in bytes from the first byte of the file. Of `Set` it is that of the fault in the set, of
+    /// `SetKind` that of the set's bDescriptorType, and of `Truncated` the length of the file. Of every other
+    /// fault it is the place where the part starts.
     pub at: usize,
     /// What is wrong there.
     #[source]

@@ -1,15 +1,16 @@
 //! Descriptor files: everything that a USB 2.0 device can tell of itself, as one run of bytes.
 //!
-//! A file is the device descriptor, the configuration sets that bNumConfigurations counts, where the
-//! device has a second speed its qualifier with the sets of that speed, and where a string is named the
-//! language list and the strings (USB 2.0, 9.4.3 and 9.6). [`read_file`] reads it into plain data,
+//! A file begins with the device descriptor and the configuration sets that bNumConfigurations counts. Then
+//! come, where the device has a second speed, its qualifier with the sets of that speed, and where a string is
+//! named, the language list and the strings (USB 2.0, 9.4.3 and 9.6). [`read_file`] reads it into plain data,
 //! [`DescriptorFile`], and [`write_file`] writes it again, each byte as it was. [`named`] tells which
 //! strings a file names, [`check`] which rules of chapter 9 it breaks. [`list`] writes a file as text, a line
 //! for each descriptor, and [`list_set`] one set alone. [`assemble`] reads the text of a file back.
 //!
 //! - The data, what its bytes are and which strings it names stand in the crate usb_file_data, the rules in
-//!   usb_rules, the listings in usb_listing, and listings read back in usb_listing_reader; their public calls and
-//!   types are named here too.
+//!   usb_rules, the listings in usb_listing, and listings read back in usb_listing_reader. Their public calls and
+//!   types are named here too, but for three calls that only crates take: `count_named`, `is_other_kind` and
+//!   `write_all`.
 //! - What is wrong with bytes, and where, is `specs/FileFaults.antt`: the fault is that of the part which
 //!   comes next after a front of a file, `specs/Front.antt`.
 //! - The module [`laws`] states what holds of files and faults, whoever reads them.
@@ -27,7 +28,9 @@ mod writing;
 pub use fault::{FileFault, FileWhy};
 pub use laws::{FILE_LIMIT, LISTING_LIMIT};
 pub use reading::read_file;
-pub use usb_file_data::{DescriptorFile, NoMemory, Other, Strings, WriteFault, named};
+pub use usb_file_data::{
+    DescriptorFile, NoMemory, Other, Strings, WriteFault, named, write_refusal,
+};
 pub use usb_listing::{OutFault, list, list_set};
 pub use usb_listing_reader::{ListFault, ListWhy, assemble};
 pub use usb_rules::{Finding, Part, check};

@@ -6,7 +6,7 @@ ghost use Rattle.usb_file.specs.inside.Reading.{Behind, ReadsNextString, ReadsSt
 use crate::fault::{FileFault, FileWhy};
 use crate::reading::rest;
 use std::alloc::Global;
-use usb_fields::read_units;
+use usb_fields::{UnitFault, read_units};
 use usb_file_data::Strings;
 use usb_set::Sequence;
 
@@ -114,7 +114,8 @@ fn read_string(alloc: Global, least: u8, rest: &[u8]) -> Result<(Sequence<u16>, 
     let used = usize::from(rest[0]);
     match read_units(alloc, &rest[..used]) {
         Ok(units) => Ok((Sequence::from_vec(units), used)),
-        Err(_) => Err(FileFault::new(0, FileWhy::Memory)),
+        Err(UnitFault::Memory) => Err(FileFault::new(0, FileWhy::Memory)),
+        Err(_) => unreachable!(),
     }
 }
 

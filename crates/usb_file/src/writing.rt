@@ -7,9 +7,9 @@ ghost use Rattle.usb_file_data.specs.Named.{other_sets};
 
 use std::alloc::{AllocError, Global};
 use usb_base::known_bytes;
-use usb_fields::write_units;
+use usb_fields::{UnitFault, write_units};
 use usb_file_data::{DescriptorFile, Other, Strings, WriteFault, write_refusal};
-use usb_set::{Configuration, Sequence, encode};
+use usb_set::{Configuration, EncodeFault, Sequence, encode};
 
 /// The bytes of a file: its parts one after another, each written once (USB 2.0, 9.4.3 and 9.6).
 ///
@@ -84,7 +84,8 @@ fn put_set(alloc: Global, out: &mut Vec<u8>, c: &Configuration) -> Result<(), Al
 {
     match encode(alloc, c) {
         Ok(bytes) => out.extend_from_slice(&bytes),
-        Err(_) => Err(AllocError),
+        Err(EncodeFault::Memory) => Err(AllocError),
+        Err(_) => unreachable!(),
     }
 }
 
@@ -126,6 +127,7 @@ fn put_string(alloc: Global, out: &mut Vec<u8>, string: &Sequence<u16>) -> Resul
 {
     match write_units(alloc, string) {
         Ok(bytes) => out.extend_from_slice(&bytes),
-        Err(_) => Err(AllocError),
+        Err(UnitFault::Memory) => Err(AllocError),
+        Err(_) => unreachable!(),
     }
 }

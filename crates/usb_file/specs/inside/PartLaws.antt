@@ -11,8 +11,8 @@ use Rattle.usb_base.specs.Bytes.{AreBytes}
 use Rattle.usb_set.specs.Faults.{Begins, Faulty}
 use Rattle.usb_set.specs.Judgement.{Judgement}
 
--- The bytes of a part are those of one part, bytes without a fault are those of some part, and of bytes
--- where a set is due exactly one holds: a set begins them, they show one fault, or they are open.
+-- The bytes of a part are those of one part, and bytes without a fault are those of some part. Of bytes where
+-- a set is due exactly one holds: a set begins them, they show one fault, or they are open.
 pub record PartLaws : Type 0 where
   pub one_device : (d e : DeviceDescriptor) → device_bytes d ≡ device_bytes e → d ≡ e
   pub device_written : (b : List ℕ) → AreBytes b → device_fault b ≡ None → (d : DeviceDescriptor) × (device_bytes d ≡ b)
