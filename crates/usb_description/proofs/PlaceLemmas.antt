@@ -14,7 +14,7 @@ use Rattle.usb_file_data.specs.declared.file.Strings.{Strings}
 use Rattle.usb_file_data.specs.File.{whole_set}
 use Rattle.std.proofs.Common.{false, ◌==◌}
 use Rattle.std.proofs.lemmas.Grind.{common_steps}
-use Rattle.usb_description.specs.Descriptors.{set_at, device_of, qualifier_of, other_set_at, string_at, text_place}
+use Rattle.usb_description.specs.Descriptors.{set_at, device_of, qualifier_of, other_set_at, string_at, string_place}
 use Rattle.usb_description.specs.Places.{descriptors, descriptor_at, main_descriptors, other_descriptors, string_descriptors, IsFound}
 
 -- an element of a list is one of a longer list
@@ -103,8 +103,8 @@ languages_found f s named index language place is zeroth at =
     found f (string_at f.strings named index language) place (units_bytes s.languages) (rw (is, zeroth) refl) (rw (← first) there)
 
 -- the strings follow it
-pub text_found : (f : DescriptorFile) (s : Strings) (named : List ℕ) (index language place i : ℕ) → f.strings ≡ Some s → (index ≡ 0 → ⊥) → place ≡ length (main_descriptors f ++ other_descriptors f.other) → Some i ≡ text_place s named index language → i < length s.texts → IsFound f (string_at f.strings named index language) (place + 1 + i)
-text_found f s named index language place i is other at there_is within =
+pub string_found : (f : DescriptorFile) (s : Strings) (named : List ℕ) (index language place i : ℕ) → f.strings ≡ Some s → (index ≡ 0 → ⊥) → place ≡ length (main_descriptors f ++ other_descriptors f.other) → Some i ≡ string_place s named index language → i < length s.texts → IsFound f (string_at f.strings named index language) (place + 1 + i)
+string_found f s named index language place i is other at there_is within =
     let there = get_there units_bytes s.texts i within in
     let b = there.0 in
     let next : length (main_descriptors f ++ other_descriptors f.other) + suc i ≡ place + 1 + i = omega arith in
@@ -113,9 +113,9 @@ text_found f s named index language place i is other at there_is within =
     found f (string_at f.strings named index language) (place + 1 + i) b (rw (is, test, ← there_is) there.1)
     (rw (← next) (string_there f (suc i) b mine))
 
--- the strings begin where the descriptors before them end, and the texts that follow are among all
-pub text_below : (f : DescriptorFile) (s : Strings) (place i : ℕ) → f.strings ≡ Some s → place ≡ length (main_descriptors f ++ other_descriptors f.other) → i < length s.texts → place + 1 + i < length (descriptors f)
-text_below f s place i is at within =
+-- the strings begin where the descriptors before them end, and those that follow are among all
+pub string_below : (f : DescriptorFile) (s : Strings) (place i : ℕ) → f.strings ≡ Some s → place ≡ length (main_descriptors f ++ other_descriptors f.other) → i < length s.texts → place + 1 + i < length (descriptors f)
+string_below f s place i is at within =
     let there = get_there units_bytes s.texts i within in
     let next : length (main_descriptors f ++ other_descriptors f.other) + suc i ≡ place + 1 + i = omega arith in
     let mine : slice_get (string_descriptors f.strings) (suc i) ≡ Some there.0 = rw is there.2 in

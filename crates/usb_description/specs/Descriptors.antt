@@ -29,22 +29,22 @@ abbrev pub other_set_at : Option Other → ℕ → Option (List ℕ)
 other_set_at None index = None
 other_set_at (Some other) index = set_at other.sets index
 
--- the place of a string among the texts, where these indices are named: language by language, one for each index in
--- ascending order
-abbrev pub text_place : Strings → List ℕ → ℕ → ℕ → Option ℕ
-text_place s named index language =
+-- the place of a string among those of all languages, where these indices are named: language by language, one for each
+-- index in ascending order
+abbrev pub string_place : Strings → List ℕ → ℕ → ℕ → Option ℕ
+string_place s named index language =
     option_and_then (λ row. option_map (λ column. row * length named + column) (position (λ n. n == index) named))
     (position (λ l. l == language) s.languages)
 
 -- the units of a string
-abbrev pub text_at : Strings → List ℕ → ℕ → ℕ → Option (List ℕ)
-text_at s named index language = option_and_then (slice_get s.texts) (text_place s named index language)
+abbrev pub units_at : Strings → List ℕ → ℕ → ℕ → Option (List ℕ)
+units_at s named index language = option_and_then (slice_get s.texts) (string_place s named index language)
 
 -- string 0 is the language list, and any other index that is named is a string in each language of the list (9.6.7)
 abbrev pub string_at : Option Strings → List ℕ → ℕ → ℕ → Option (List ℕ)
 string_at None named index language = None
 string_at (Some s) named index language =
-    if index == 0 then Some (units_bytes s.languages) else option_map units_bytes (text_at s named index language)
+    if index == 0 then Some (units_bytes s.languages) else option_map units_bytes (units_at s named index language)
 
 -- the descriptor of this type and index, in this language where it is a string (9.4.3)
 abbrev pub descriptor : DescriptorFile → ℕ → ℕ → ℕ → Option (List ℕ)

@@ -1,6 +1,6 @@
 //! What a device tells of itself, ready to be sent.
 ghost use Rattle.std.specs.Prelude.{◌≡◌, ◌<◌, ◌*◌, ◌==◌, length, position, IfErr, IfOk, IfSome, MatchOption, OnOk, None};
-ghost use Rattle.usb_description.specs.Descriptors.{text_place};
+ghost use Rattle.usb_description.specs.Descriptors.{string_place};
 
 use crate::accepting::examine;
 use crate::fault::DescriptionFault;
@@ -142,6 +142,7 @@ impl Description {
     fn find_device(&self, index: u8) -> Option<usize>
         ensures { MatchOption result (device_of self.now.file index ≡ None) (IsFound self.now.file (device_of self.now.file index)) }
     {
+        // For the proof alone: a field that is read brings in what holds of a description.
         let _file = &self.file;
         if index == 0 { Some(0) } else { None }
     }
@@ -174,6 +175,7 @@ impl Description {
     fn find_other_set(&self, index: u8) -> Option<usize>
         ensures { MatchOption result (other_set_at self.now.file.other index ≡ None) (IsFound self.now.file (other_set_at self.now.file.other index)) }
     {
+        // For the proof alone: a place is below the count of all descriptors, which fits a `usize`.
         let _count = self.image.len();
         match &self.file.other {
             Some(other) if usize::from(index) < other.sets.len() => {
@@ -183,7 +185,7 @@ impl Description {
         }
     }
 
-    #[tactic(auto, using(crate::proofs::PlaceLemmas::languages_found, crate::proofs::PlaceLemmas::text_found))]
+    #[tactic(auto, using(crate::proofs::PlaceLemmas::languages_found, crate::proofs::PlaceLemmas::string_found))]
     #[inline(always)]
     fn find_string(&self, index: u8, language: u16) -> Option<usize>
         ensures { MatchOption result (string_at self.now.file.strings (named_indices self.now.file) index language ≡ None) (IsFound self.now.file (string_at self.now.file.strings (named_indices self.now.file) index language)) }
@@ -192,7 +194,7 @@ impl Description {
         match &self.file.strings {
             None => None,
             Some(_) if index == 0 => Some(self.strings),
-            Some(strings) => match find_text(strings, &self.named, index, language) {
+            Some(strings) => match find_place(strings, &self.named, index, language) {
                 Some(place) => Some(self.strings + 1 + place),
                 None => None,
             },
@@ -200,10 +202,10 @@ impl Description {
     }
 }
 
-/// The place of a string among the texts.
-fn find_text(strings: &Strings, named: &[u8], index: u8, language: u16) -> Option<usize>
+/// The place of a string among the strings of all languages.
+fn find_place(strings: &Strings, named: &[u8], index: u8, language: u16) -> Option<usize>
     requires { length strings.now.texts ≡ length strings.now.languages * length named.now }
-    ensures text { result ≡ text_place strings.now named.now index language }
+    ensures place { result ≡ string_place strings.now named.now index language }
     ensures within { IfSome result (λ place. place < length strings.now.texts) }
 {
     let _count = strings.texts.len();

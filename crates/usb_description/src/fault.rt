@@ -7,6 +7,14 @@ use usb_rules::Finding;
 
 /// Why a descriptor file is no description of a device. They are tested in the order `Unwritable`,
 /// `Finding`, `Texts`, `Speed`, and the first that holds is told; `Memory` only where a growth was refused.
+///
+/// ```rust
+/// // At high speed endpoint zero has packets of 64 bytes.
+/// let file = read_file(rt.alloc(), &bytes)?;
+/// assert_eq!(rt; file.device.packet, 8);
+/// let fault = Description::new(rt.alloc(), file, Speed::High).err();
+/// assert_eq!(rt; fault, Some(DescriptionFault::Speed));
+/// ```
 #[derive(Clone, Copy, Debug, Drop, Error, PartialEq, Eq, Hash)]
 pub enum DescriptionFault {
     /// A rule is broken: what [`usb_rules::check`] finds first.

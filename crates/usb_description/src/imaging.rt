@@ -8,9 +8,9 @@ ghost use Rattle.usb_description.specs.Places.{main_descriptors, other_descripto
 
 use crate::image::Image;
 use std::alloc::{AllocError, Global};
-use usb_fields::write_units;
+use usb_fields::{UnitFault, write_units};
 use usb_file_data::{DescriptorFile, Other, Strings};
-use usb_set::{Configuration, Sequence, encode};
+use usb_set::{Configuration, EncodeFault, Sequence, encode};
 
 /// Adds the device descriptor and the sets of the device.
 pub(crate) fn add_main(
@@ -62,7 +62,8 @@ fn add_set(alloc: Global, image: &mut Image, c: &Configuration) -> Result<(), Al
 {
     match encode(alloc, c) {
         Ok(bytes) => image.add(&bytes),
-        Err(_) => Err(AllocError),
+        Err(EncodeFault::Memory) => Err(AllocError),
+        Err(_) => unreachable!(),
     }
 }
 
@@ -79,18 +80,22 @@ pub(crate) fn add_strings(
         None => Ok(()),
         Some(strings) => {
             add_string(alloc, image, &strings.languages)?;
-            add_texts(alloc, image, &strings.texts)
+            add_each_string(alloc, image, &strings.texts)
         }
     }
 }
 
 #[tactic(auto, using(usb_set::proofs::Tests::none_at))]
-fn add_texts(alloc: Global, image: &mut Image, texts: &[Sequence<u16>]) -> Result<(), AllocError>
-    requires { list_any is_long_string texts.now ≡ false }
-    ensures { OnOk result (image.new ≡ image.old ++ map units_bytes texts.now) }
+fn add_each_string(
+    alloc: Global,
+    image: &mut Image,
+    strings: &[Sequence<u16>],
+) -> Result<(), AllocError>
+    requires { list_any is_long_string strings.now ≡ false }
+    ensures { OnOk result (image.new ≡ image.old ++ map units_bytes strings.now) }
 {
-    for text in texts {
-        add_string(alloc, image, text)?;
+    for units in strings {
+        add_string(alloc, image, units)?;
     }
     Ok(())
 }
@@ -101,6 +106,7 @@ fn add_string(alloc: Global, image: &mut Image, units: &Sequence<u16>) -> Result
 {
     match write_units(alloc, units) {
         Ok(bytes) => image.add(&bytes),
-        Err(_) => Err(AllocError),
+        Err(UnitFault::Memory) => Err(AllocError),
+        Err(_) => unreachable!(),
     }
 }
