@@ -8,7 +8,7 @@ use Rattle.usb_fields.specs.Packet.{flipped}
 use Rattle.usb_file_data.specs.declared.file.DescriptorFile.{DescriptorFile}
 use Rattle.usb_device.specs.declared.stage.DataStage.{DataStage}
 use Rattle.usb_device.specs.Step.{Sending, StatusOut, next_stage}
-use Rattle.usb_device.specs.inside.Stages.{data_bytes, source_bytes, IsData}
+use Rattle.usb_device.specs.Stages.{data_bytes, source_bytes, IsData}
 
 -- what is left of a list from one of its elements on
 drop_there : {X : Type 0} (xs : List X) (k : ℕ) (x : X) → slice_get xs k ≡ Some x → drop k xs ≡ x ∷ drop (suc k) xs

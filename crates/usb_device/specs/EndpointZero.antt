@@ -3,7 +3,7 @@
 use Rattle.usb_file_data.specs.declared.file.DescriptorFile.{DescriptorFile}
 use Rattle.usb_device.specs.declared.endpoint_zero.EndpointZero.{EndpointZero}
 use Rattle.usb_device.specs.Step.{DeviceStage, DeviceView}
-use Rattle.usb_device.specs.inside.Stages.{stage_of, IsStage}
+use Rattle.usb_device.specs.Stages.{stage_of, IsStage}
 
 -- the stage that a device with these descriptors is in
 abbrev pub stage_in : DescriptorFile → EndpointZero → DeviceStage

@@ -189,7 +189,7 @@ clear_feature f s q = feature_of (recipient_of q.request_type) false f s q
 abbrev pub set_feature : DescriptorFile → State → Setup → Outcome
 set_feature f s q = feature_of (recipient_of q.request_type) true f s q
 
--- whether the request is to the device, or to an interface
+-- whether the request is to the device
 abbrev pub is_device : Recipient → Bool
 is_device Device = true
 is_device Interface = false
@@ -197,6 +197,7 @@ is_device Endpoint = false
 is_device Other = false
 is_device Reserved = false
 
+-- whether it is to an interface
 abbrev pub is_interface : Recipient → Bool
 is_interface Device = false
 is_interface Interface = true

@@ -11,9 +11,9 @@ use Rattle.usb_device.specs.declared.state.State.{State}
 use Rattle.usb_device.specs.States.{zero}
 use Rattle.usb_device.specs.Requests.{Outcome, Bytes, Done, Refused}
 
--- Where a device stands in a transfer: in none, in one that it refuses, in a data stage that answers with these bytes
--- to a request for `limit` bytes, of whose packets `acked` were acknowledged, in the status stage that follows it, past
--- that, or in the status stage of this request, which was carried out there or not yet.
+-- Where a device stands in a transfer: in none, in one that it refuses, in a data stage, in the status stage that follows
+-- it, past that, or in the status stage of this request. A data stage answers with these bytes to a request for `limit`
+-- bytes, and `acked` of its packets were acknowledged. A request without a data stage was carried out, or not yet.
 pub data DeviceStage : Type 0 where
   Idle : DeviceStage
   Halted : DeviceStage
@@ -33,6 +33,7 @@ pub record Served : Type 0 where
   pub reply : Reply
   pub device : DeviceView
 
+-- this reply, and a device in this state, in this stage, and waiting for an ACK or not
 abbrev pub replies : Reply → State → DeviceStage → Bool → Served
 replies reply s stage pending = record { reply = reply; device = record { state = s; stage = stage; pending = pending } }
 

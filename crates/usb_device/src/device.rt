@@ -45,7 +45,7 @@ impl<'d> Device<'d> {
     ghost use Rattle.usb_fields.specs.Packet.{reply_of, sent_of};
     ghost use Rattle.usb_device.specs.Step.{new_device};
     ghost use Rattle.usb_device.specs.View.{acked_by, served_by};
-    ghost use Rattle.usb_device.specs.inside.Lending.{EndsAs};
+    ghost use Rattle.usb_device.specs.Lending.{EndsAs};
     ghost use Rattle.usb_device.specs.inside.Reactions.{packet_due, reply_with};
 
     /// A device in the Default state, and in no transfer.

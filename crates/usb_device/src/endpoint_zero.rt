@@ -6,7 +6,7 @@ ghost use Rattle.usb_fields.specs.Packets.{packets};
 ghost use Rattle.usb_description.specs.Places.{descriptor_at};
 ghost use Rattle.usb_device.specs.Requests.{answer};
 ghost use Rattle.usb_device.specs.Step.{begun, carried_out, is_set_address, next_stage, Sending};
-ghost use Rattle.usb_device.specs.inside.Stages.{data_bytes, IsData, IsSource};
+ghost use Rattle.usb_device.specs.Stages.{data_bytes, IsData, IsSource};
 
 use crate::request::Request;
 use crate::response::Response;
@@ -43,7 +43,7 @@ pub(crate) enum Reaction {
 /// assert_eq!(rt; endpoint_zero.state().address, 5);
 /// ```
 // What a stage needs stands beside it and not in it, so that a step writes only what it changes.
-#[derive(Clone, Copy, Debug)]
+#[derive(Clone, Copy, Debug, PartialEq, Eq, Hash)]
 pub struct EndpointZero {
     state: State,
     stage: Stage,
@@ -62,7 +62,7 @@ impl EndpointZero {
     ghost use Rattle.usb_file_data.specs.declared.file.DescriptorFile.{DescriptorFile};
     ghost use Rattle.usb_device.specs.EndpointZero.{device_of, IsOf};
     ghost use Rattle.usb_device.specs.inside.Devices.{received_by, replied, sent_by};
-    ghost use Rattle.usb_device.specs.inside.Lending.{PartEndsAs};
+    ghost use Rattle.usb_device.specs.Lending.{PartEndsAs};
     ghost use Rattle.usb_device.specs.inside.Reactions.{packet_due};
 
     /// That of a new device with this description, and of one after a bus reset.
@@ -70,7 +70,6 @@ impl EndpointZero {
         ensures device { device_of d.now.file result ≡ new_device }
         ensures of { IsOf d.now.file result }
     {
-        let _ = d;
         EndpointZero {
             state: State::zero(),
             stage: Stage::Idle,
@@ -197,6 +196,7 @@ impl EndpointZero {
         ensures device { device_of d.now.file self.new ≡ (sent_by d.now.file self.old).device }
         ensures of { IsOf d.now.file self.new }
     {
+        // For the proof alone: a packet size is never 0.
         let _packet = d.packet();
         match self.stage {
             Stage::Sending => {
@@ -247,7 +247,6 @@ impl EndpointZero {
         ensures device { self.new ≡ record self.old { stage = Stage.Halted; pending = false } }
         ensures of { IsOf d.now.file self.new }
     {
-        let _ = d;
         self.stage = Stage::Halted;
         self.pending = false;
         Reaction::Stall

@@ -11,8 +11,9 @@
 //! - What comes of each request is `specs/Requests.antt`, a definition for each row of the table, over
 //!   `specs/States.antt` and the descriptors of `usb_description/specs/Descriptors.antt`.
 //! - How a device goes through a control transfer is `specs/Step.antt`, whatever the table is.
-//! - What only the functions here cite stands in `specs/inside/`: the code has an offset and a toggle where the
-//!   definition has a list of packets.
+//! - What the parts of an [`EndpointZero`] mean is `specs/EndpointZero.antt` and `specs/Stages.antt`: the code has an
+//!   offset and a toggle where the definition has a list of packets.
+//! - What only the functions here cite stands in `specs/inside/`.
 #![tactic(auto)]
 
 mod device;

@@ -1,12 +1,12 @@
 //! Where a device stands in a transfer.
 ghost use Rattle.std.specs.Prelude.{◌≡◌, ◌≤◌, length, take, drop};
-ghost use Rattle.usb_device.specs.inside.Stages.{data_bytes, source_bytes, IsData, IsSource};
+ghost use Rattle.usb_device.specs.Stages.{data_bytes, source_bytes, IsData, IsSource};
 
 use usb_description::Description;
 use usb_fields::Toggle;
 
 /// Where a device stands in a transfer.
-#[derive(Clone, Copy, Debug)]
+#[derive(Clone, Copy, Debug, PartialEq, Eq, Hash)]
 pub(crate) enum Stage {
     /// In none.
     Idle,
@@ -23,7 +23,7 @@ pub(crate) enum Stage {
 }
 
 /// Where the bytes of a data stage stand.
-#[derive(Clone, Copy, Debug)]
+#[derive(Clone, Copy, Debug, PartialEq, Eq, Hash)]
 pub(crate) enum Source {
     /// The descriptor at this place of the description.
     Descriptor(usize),
@@ -32,7 +32,7 @@ pub(crate) enum Source {
 }
 
 /// A place in a data stage.
-#[derive(Clone, Copy, Debug)]
+#[derive(Clone, Copy, Debug, PartialEq, Eq, Hash)]
 pub(crate) struct DataStage {
     /// Where the bytes stand.
     pub(crate) source: Source,
@@ -89,7 +89,7 @@ impl DataStage {
     {
         match self.source {
             Source::Descriptor(place) => d.bytes(place),
-            Source::Kept => self.kept.as_slice(),
+            Source::Kept => &self.kept,
         }
     }
 }

@@ -5,6 +5,14 @@ use crate::response::Change;
 
 /// The state of a device (USB 2.0, 9.1.1): with address 0 it is in the Default state, with another
 /// address and no configuration in the Address state, and with both in the Configured state.
+///
+/// ```rust
+/// // A new device is in the Default state.
+/// let state = Device::new(&description).state();
+/// assert_eq!(rt; state.address, 0);
+/// assert_eq!(rt; state.selected, 0);
+/// assert_eq!(rt; state.halts, 0);
+/// ```
 #[derive(Clone, Copy, Debug, PartialEq, Eq, Hash)]
 pub struct State {
     /// The address that the device answers at, 0 to 127.
