@@ -20,6 +20,7 @@ steps_left bytes packet StatusIn = 1
 steps_left bytes packet Completed = 0
 steps_left bytes packet (Failed why) = 0
 
+-- those of a transfer
 abbrev pub steps : TransferView → ℕ
 steps t = steps_left (t.request.length - t.kept) t.packet t.stage
 

@@ -84,9 +84,11 @@ pub record Taken : Type 0 where
 abbrev pub progress : TransferView → TransferStage → TransferView
 progress t stage = record t { stage = stage; strikes = 0; nak_count = 0 }
 
+-- progress to this stage, and the transfer goes on
 abbrev pub moved : TransferView → TransferStage → Taken
 moved t stage = record { heard = Goes; transfer = progress t stage }
 
+-- progress to the end
 abbrev pub completed : TransferView → Taken
 completed t = record { heard = Completes; transfer = progress t Completed }
 
@@ -108,11 +110,12 @@ delayed t =
     then record { heard = Goes; transfer = record t { nak_count = suc t.nak_count } }
     else failed t Busy
 
--- the stage after an acknowledged SETUP: with wLength 0 there is no data stage
+-- the data stage in this direction
 abbrev pub data_stage : Direction → TransferStage
 data_stage directions.In = DataIn
 data_stage directions.Out = DataOut
 
+-- the stage after an acknowledged SETUP: with wLength 0 there is no data stage
 abbrev pub stage_after_setup : SetupPacket → TransferStage
 stage_after_setup q = if q.length == 0 then StatusIn else data_stage (direction_of q.request_type)
 

@@ -36,15 +36,15 @@ impl Limits {
     /// Limits with the address that the device gets, the number of NAKs without progress that a transfer bears, and
     /// the number of attempts.
     ///
+    /// ```rust
+    /// let limits = Limits::new(1, 16, 3)?;
+    /// assert_eq!(rt; Limits::new(128, 16, 3), Err(LimitFault::Address));
+    /// ```
+    ///
     /// # Errors
     ///
     /// [`LimitFault::Address`] where the address is not 1 to 127, and else [`LimitFault::Attempts`] where the
     /// attempts are not 1 to 8.
-    ///
-    /// ```
-    /// let limits = Limits::new(1, 16, 3)?;
-    /// assert_eq!(Limits::new(128, 16, 3), Err(LimitFault::Address));
-    /// ```
     pub fn new(address: u8, naks: u16, attempts: u8) -> Result<Limits, LimitFault>
         ensures value { IfOk result (λ l. l ≡ record { address = address; naks = naks; attempts = attempts }) }
         ensures ok { OnOk result (limit_fault address attempts ≡ None) }
@@ -78,8 +78,8 @@ impl LimitFault {
 
     /// The fault's number, 1 or 2: a lower one is tested first.
     ///
-    /// ```
-    /// assert_eq!(LimitFault::Address.number(), 1);
+    /// ```rust
+    /// assert_eq!(rt; LimitFault::Address.number(), 1);
     /// ```
     pub fn number(self) -> u8
         ensures { result ≡ limit_fault_number self }

@@ -19,13 +19,13 @@ const STRIKES: u8 = 2;
 /// `next` says `None`. Data packets are kept by their toggle (USB 2.0, 8.6): one that comes again is acknowledged and
 /// discarded.
 ///
-/// ```
+/// ```rust
 /// let mut transfer = Transfer::new(0, 64, 16, Setup::from_bytes(&[0x80, 6, 0, 1, 0, 0, 2, 0]));
 /// transfer.take(Answer::Ack);
 /// let heard = transfer.take(Answer::Data(Toggle::Data1, &[18, 1]));
-/// assert_eq!(heard, Heard::Bytes(&[18, 1]));
-/// assert_eq!(transfer.take(Answer::Ack), Heard::Complete);
-/// assert_eq!(transfer.next(), None);
+/// assert_eq!(rt; heard, Heard::Bytes(&[18, 1]));
+/// assert_eq!(rt; transfer.take(Answer::Ack), Heard::Complete);
+/// assert_eq!(rt; transfer.next(), None);
 /// ```
 #[derive(Debug, Drop)]
 pub struct Transfer {
@@ -62,7 +62,7 @@ impl Transfer {
     /// `packet` is the packet size of the device's endpoint zero, in bytes, and `naks` the number of NAKs without
     /// progress after which one more ends the transfer.
     ///
-    /// ```
+    /// ```rust
     /// let transfer = Transfer::new(5, 64, 16, Setup::from_bytes(&[0x80, 6, 0, 1, 0, 0, 18, 0]));
     /// ```
     pub fn new(address: u8, packet: u8, naks: u16, s: Setup) -> Transfer
@@ -86,7 +86,7 @@ impl Transfer {
 
     /// The transaction that is due, or `None` once the transfer has ended.
     ///
-    /// ```
+    /// ```rust
     /// while let Some(transaction) = transfer.next() {
     ///     transfer.take(send(&transaction));
     /// }
@@ -110,7 +110,7 @@ impl Transfer {
     /// Takes what the transaction that was due brought. A transfer that has ended answers the same `Complete` or
     /// `Failed` from then on, and does not change.
     ///
-    /// ```
+    /// ```rust
     /// match transfer.take(answer) {
     ///     Heard::Again => {}
     ///     Heard::Bytes(bytes) => data.extend_from_slice(bytes)?,
@@ -124,6 +124,7 @@ impl Transfer {
         ensures after { self.new ≡ (taken self.old (reply_of a.entry)).transfer }
         ensures fewer { IsSome (due self.old) → left self.new < left self.old }
     {
+        // For the proof alone: a field that is read brings in what holds of a transfer.
         let _packet = self.packet;
         self.take_at(a)
     }

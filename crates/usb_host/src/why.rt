@@ -29,8 +29,8 @@ impl Why {
 
     /// The reason's number, 1 to 7.
     ///
-    /// ```
-    /// assert_eq!(Why::Busy.number(), 2);
+    /// ```rust
+    /// assert_eq!(rt; Why::Busy.number(), 2);
     /// ```
     pub fn number(self) -> u8
         ensures { result ≡ why_number self }
