@@ -5,9 +5,9 @@
 //! `.ci/memory` has each request refused in turn. A line `spare 7` has seven made first, so that another place of
 //! the rest is refused.
 //!
-//! The exit status is 0 where each step comes out as it is wanted, 1 where one comes out differently, 2 where a
-//! line is no step, 3 where no description is made, and 4 where the last request was refused. The state of a
-//! device is asked for and not compared.
+//! The exit status is 0 where each step comes out as it is wanted, and 1 where one comes out differently. It is 2
+//! where a line is no step, 3 where no description is made, and 4 where the last request was refused. The state of
+//! a device is asked for and not compared.
 #![tactic(auto)]
 
 mod play;

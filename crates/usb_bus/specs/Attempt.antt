@@ -27,6 +27,7 @@ pub data Phase : Type 0 where
   Succeeded : Phase
   Broken : (why : Why) → Phase
 
+-- transfers by a plan: the replies so far, what is in work, and the device
 pub record Attempt : Type 0 where
   pub replies : List Reply
   pub phase : Phase
@@ -46,6 +47,7 @@ reply_from h = if h.transfer.request.length == 0 then replied.Done else replied.
 abbrev pub begins : ℕ → ℕ → ℕ → SetupPacket → HostEnd
 begins address packet naks q = record { transfer = begun address packet naks q; got = [] }
 
+-- what a plan puts in work
 abbrev pub phase_of : ℕ → Plan → Phase
 phase_of naks (Begin address packet q) = Running (begins address packet naks q)
 phase_of naks Success = Succeeded
@@ -53,6 +55,7 @@ phase_of naks (Trouble why) = Broken why
 
 -- For any plan, which says what comes next of the replies so far, and any limit of NAKs.
 module _ (plan : List Reply → Plan) (naks : ℕ) where
+  -- after these replies the plan goes on
   abbrev pub proceed : List Reply → DeviceView → Attempt
   proceed replies d = record { replies = replies; phase = phase_of naks (plan replies); device = d }
 
@@ -69,6 +72,7 @@ module _ (plan : List Reply → Plan) (naks : ℕ) where
   advance replies h _ d = record { replies = replies; phase = Running h; device = d }
 
   module _ (answer : State → SetupPacket → Outcome) (cut : ℕ) where
+    -- one transaction of the transfer in work, and what it brings the plan to; after the end nothing moves
     abbrev pub attempt_step : Fate → List Reply → Phase → DeviceView → Attempt
     attempt_step fate replies (Running h) d =
         let e = step answer cut fate (record { host = h; device = d }) in
@@ -76,6 +80,7 @@ module _ (plan : List Reply → Plan) (naks : ℕ) where
     attempt_step fate replies Succeeded d = record { replies = replies; phase = Succeeded; device = d }
     attempt_step fate replies (Broken why) d = record { replies = replies; phase = Broken why; device = d }
 
+    -- transactions under these fates
     abbrev pub attempt_run : List Fate → Attempt → Attempt
     attempt_run [] x = x
     attempt_run (f ∷ fates) x = attempt_run fates (attempt_step f x.replies x.phase x.device)
@@ -118,7 +123,7 @@ module _ (plan : List Reply → Plan) (naks : ℕ) where
       pub front : replies ++ todo ≡ all
 
     -- What holds after l losses, a of them of ACKs, and b Busy. A plan that succeeds has all replies, and left the device
-    -- in the last state, its address apart, where an ACK was lost. One that breaks does so for a cause.
+    -- in the last state; its address alone may differ, where an ACK was lost. One that breaks does so for a cause.
     abbrev pub Sound : Bool → List Reply → State → ℕ → ℕ → ℕ → List Reply → Phase → DeviceView → Type 0
     Sound loose all last l b a replies (Running h) d = IsTogether loose all last l b a replies h d ⊎ IsSilent all a replies h d
     Sound loose all last l b a replies Succeeded d =

@@ -14,6 +14,7 @@ pub record HostEnd : Type 0 where
   pub transfer : TransferView
   pub got : List ℕ
 
+-- both ends
 pub record Ends : Type 0 where
   pub host : HostEnd
   pub device : DeviceView
@@ -33,6 +34,7 @@ with_heard got (Brings bytes) = got ++ bytes
 with_heard got Completes = got
 with_heard got (Fails why) = got
 
+-- the host's end, where these bytes had come before the reply
 abbrev pub host_after : List ℕ → Taken → HostEnd
 host_after got t = record { transfer = t.transfer; got = with_heard got t.heard }
 

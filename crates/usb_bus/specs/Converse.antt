@@ -27,8 +27,9 @@ abbrev pub end_of : Option Why → Phase
 end_of None = Succeeded
 end_of (Some why) = Broken why
 
--- The talk is a run of both ends: a list of points, each a pair of views, from the start on, one transaction after
--- another under the fates in their order, as many as the talk says, to a point with its replies, its end and its state.
+-- The talk is a run of both ends: a list of points, each a pair of views, from the start on. Each is one transaction after
+-- the one before, under the fates in their order. They are as many as the talk says, and the last has its replies, its
+-- end and its state.
 abbrev pub IsTalkRun : DescriptorFile → ℕ → List SetupPacket → List Fate → Talk → Type 0
 IsTalkRun f naks requests fates talk =
     (points : List Attempt) × (last : Attempt) × (length points ≡ talk.transactions)

@@ -15,8 +15,8 @@ use Rattle.usb_device.specs.Step.{DeviceView, DeviceStage, is_set_address}
 use Rattle.usb_device.specs.Step as device
 use Rattle.usb_bus.specs.Bus.{HostEnd}
 
--- What a table of requests must keep for the ends to agree on the stages: bytes only where they are asked for and go to
--- the host, no data stage for what is only done, and the address changed by SET_ADDRESS alone.
+-- What a table of requests must keep for the ends to agree on the stages. There are bytes only where they are asked for
+-- and go to the host, no data stage for what is only done, and SET_ADDRESS alone changes the address.
 pub record IsAnswering (answer : State → SetupPacket → Outcome) (s : State) (q : SetupPacket) : Type 0 where
   pub bytes : (b : List ℕ) → answer s q ≡ Bytes b → (0 < q.length) × (direction_of q.request_type ≡ directions.In)
   pub done : (t : State) → answer s q ≡ Done t → q.length ≡ 0
@@ -110,6 +110,7 @@ module _ (answer : State → SetupPacket → Outcome) (cut : ℕ) (s : State) (q
   Stages l b a (Failed Malformed) stage awaited got strikes d = ⊥
   Stages l b a (Failed Memory) stage awaited got strikes d = ⊥
 
+  -- both ends, after l losses, b Busy and a lost ACKs, are in this one transfer
   pub record Coupled (l b a : ℕ) (h : HostEnd) (d : DeviceView) : Type 0 where
     pub address : h.transfer.address ≡ s.address
     pub request : h.transfer.request ≡ q

@@ -27,15 +27,17 @@ ack_lost LostDown = 0
 ack_lost LostUp = 0
 ack_lost LostAck = 1
 
--- how many are lost, busy, and lost ACKs
+-- how many are lost
 abbrev pub losses : List Fate → ℕ
 losses [] = 0
 losses (f ∷ fates) = lost f + losses fates
 
+-- how many meet a device that is not ready
 abbrev pub busies : List Fate → ℕ
 busies [] = 0
 busies (f ∷ fates) = busy f + busies fates
 
+-- how many lose the host's ACK
 abbrev pub acks_lost : List Fate → ℕ
 acks_lost [] = 0
 acks_lost (f ∷ fates) = ack_lost f + acks_lost fates

@@ -21,9 +21,9 @@ StaysCoupled =
     (let e = run answer cut fates (record { host = begins d.state.address size naks q; device = d }) in
     Coupled answer cut d.state q size naks (losses fates) (busies fates) (acks_lost fates) e.host e.device)
 
--- Where each transfer of a plan is answered as expected, then over every list of fates: an attempt that succeeds has read
--- all the replies and left the device in the last state, its address apart, where an ACK was lost; one that fails has had
--- three losses, or the ACK of a SET_ADDRESS lost, or more Busy than NAKs are borne.
+-- Where each transfer of a plan is answered as expected, this holds over every list of fates. An attempt that succeeds
+-- has read all the replies and left the device in the last state; its address alone may differ, where an ACK was lost.
+-- One that fails has had three losses, or the ACK of a SET_ADDRESS lost, or more Busy than NAKs are borne.
 abbrev pub AttemptsHaveCauses : Type 0
 AttemptsHaveCauses =
     (plan : List Reply → Plan) (naks : ℕ) (answer : State → SetupPacket → Outcome) (cut : ℕ) (loose : Bool) (all : List Reply) (last : State)
@@ -31,9 +31,9 @@ AttemptsHaveCauses =
     (let x = attempt_run plan naks answer cut fates (proceed plan naks [] d) in
     Sound plan naks answer cut loose all last (losses fates) (busies fates) (acks_lost fates) x.replies x.phase x.device)
 
--- A talk, over every list of fates: where it ends, all replies are those of the table, and so is the state, its address
--- apart where an ACK was lost; where it stops, the replies so far are the first ones, and three losses, a lost ACK or more
--- Busy than NAKs are borne are the cause.
+-- A talk, over every list of fates. Where it ends, all replies are those of the table, and so is the state; its address
+-- alone may differ, where an ACK was lost. Where it stops, the replies so far are the first ones, and the cause is three
+-- losses, a lost ACK, or more Busy than NAKs are borne.
 abbrev pub TalksHaveCauses : Type 0
 TalksHaveCauses =
     (answer : State → SetupPacket → Outcome) (packet naks : ℕ) (qs : List SetupPacket) (fates : List Fate) → 0 < packet → IsTable answer →

@@ -31,6 +31,7 @@ abbrev pub reached : Place → List Reply → Place
 reached p [] = p
 reached p (r ∷ rs) = reached (onward p.left p.address r) rs
 
+-- the transfer of the first request that is left, to this address, or the end
 abbrev pub asked_at : ℕ → ℕ → List SetupPacket → Plan
 asked_at packet address [] = Success
 asked_at packet address (q ∷ qs) = Begin address packet q
@@ -50,9 +51,9 @@ module _ (answer : State → SetupPacket → Outcome) where
   state_after s [] = s
   state_after s (q ∷ qs) = state_after (carried_out s (answer s q)) qs
 
-  -- What a table of requests keeps in every state: bytes only where they are asked for and go to the host, and no more of
-  -- them; no data stage for what is only done; SET_ADDRESS changes the address, to at most 127, and nothing else, and no
-  -- other request changes it.
+  -- What a table of requests keeps in every state. There are bytes only where they are asked for and go to the host, and
+  -- no more of them. What is only done has no data stage. SET_ADDRESS changes the address, to at most 127, and nothing
+  -- else, and no other request changes it.
   pub record IsTable : Type 0 where
     pub bytes : (s : State) (q : SetupPacket) (b : List ℕ) → answer s q ≡ Bytes b → (0 < q.length) × (direction_of q.request_type ≡ directions.In) × (length b ≤ q.length)
     pub done : (s : State) (q : SetupPacket) (t : State) → answer s q ≡ Done t → q.length ≡ 0

@@ -59,10 +59,12 @@ fn follow(request: Setup, reply: &Reply, address: u8) -> u8
 /// follows a SET_ADDRESS that was done. The talk stops at the first transfer that fails; a STALL completes a transfer
 /// with [`Reply::Refused`]. The k-th transaction has the k-th fate, and after the list's end all pass.
 ///
-/// ```
-/// let talk = converse(alloc, &description, 16, &[Setup::from_bytes(&[0x80, 6, 0, 1, 0, 0, 18, 0])], &[Fate::LostUp])?;
-/// assert_eq!(talk.stopped, None);
-/// assert_eq!(talk.transactions, 4);
+/// ```rust
+/// // GET_DESCRIPTOR of the device, in packets of 64 bytes: the ACK of the first SETUP is lost.
+/// let setup = Setup::from_bytes(&[0x80, 6, 0, 1, 0, 0, 18, 0]);
+/// let talk = converse(alloc, &description, 16, &[setup], &[Fate::LostUp])?;
+/// assert_eq!(rt; talk.stopped, None);
+/// assert_eq!(rt; talk.transactions, 4);
 /// ```
 ///
 /// # Errors
@@ -87,7 +89,6 @@ pub fn converse(
     ensures goes_on { IfOk result (λ talk. losses fates.now < 3 → acks_lost fates.now ≡ 0 → busies fates.now ≤ naks → talk.stopped ≡ None) }
 {
     let packet = d.file().device.packet;
-    let _count = requests.len();
     let mut device = Device::new(d);
     let mut replies = Sequence::new(alloc);
     let mut address = 0u8;

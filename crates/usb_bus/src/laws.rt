@@ -21,8 +21,8 @@ pub fn a_talk_has_causes()
     ensures { TalksHaveCauses }
 {}
 
-/// The device's answers to requests are a table that these laws are about: bytes go to the host and are no more than
-/// it asked for, what is only done has no data stage, and SET_ADDRESS changes the address and nothing else does.
+/// The device's answers to requests are a table that these laws are about. Bytes go to the host and are no more than it
+/// asked for, and what is only done has no data stage. SET_ADDRESS changes the address, and nothing else does.
 #[tactic(auto, using(crate::proofs::TableLemmas::table_kept))]
 pub fn a_device_keeps_its_table()
     ensures { (f : DescriptorFile) → IsTable (answer f) }
