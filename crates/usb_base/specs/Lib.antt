@@ -1,3 +1,3 @@
 pub mod Bytes
+pub mod Lending
 pub mod Marks
-pub mod inside

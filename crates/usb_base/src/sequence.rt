@@ -43,7 +43,7 @@ impl<T> Model for Sequence<T> {
 }
 
 impl<T> Sequence<T> {
-    ghost use Rattle.usb_base.specs.inside.Lending.{LendsItem, LendsItemIf};
+    ghost use Rattle.usb_base.specs.Lending.{LendsItem, LendsItemIf};
 
     /// With no element. Allocates nothing.
     pub fn new(alloc: Global) -> Self
@@ -138,7 +138,7 @@ impl<T> DerefSlice for Sequence<T> {
 }
 
 impl<T> DerefSliceMut for Sequence<T> {
-    ghost use Rattle.usb_base.specs.inside.Lending.{LendsItems};
+    ghost use Rattle.usb_base.specs.Lending.{LendsItems};
 
     fn deref_mut(&mut self) -> &mut [T]
         ensures* writes_back { sem 𝓛 (LendsItems T.row self.entry result) }
