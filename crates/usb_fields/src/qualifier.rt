@@ -2,7 +2,8 @@
 ghost use Rattle.std.specs.Prelude.{◌≡◌, Some, IfOk, IfErr};
 
 use crate::fault::FieldFault;
-use crate::field::{fault_in, word_at, word_bytes};
+use crate::field::fault_in;
+use usb_base::{word_at, word_bytes};
 
 /// bLength of a qualifier, in bytes.
 const LENGTH: u8 = 10;

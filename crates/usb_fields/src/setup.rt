@@ -1,7 +1,7 @@
 //! The setup packet of a control transfer (USB 2.0, 9.3).
 ghost use Rattle.std.specs.Prelude.{◌≡◌};
 
-use crate::field::word_at;
+use usb_base::word_at;
 
 /// Which way the data stage goes (bit 7 of bmRequestType).
 #[derive(Clone, Copy, Debug, PartialEq, Eq, Hash)]

@@ -5,8 +5,8 @@ ghost use Rattle.usb_base.specs.Bytes.{little_endian};
 ghost use Rattle.usb_fields.specs.Units.{units_bytes, ReadUnitsFails, WriteUnitsFails};
 
 use crate::fault::UnitFault;
-use crate::field::word_bytes;
 use std::alloc::{AllocError, Global};
+use usb_base::word_bytes;
 
 /// bDescriptorType STRING.
 const KIND: u8 = 3;

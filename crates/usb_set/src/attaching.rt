@@ -5,7 +5,7 @@ ghost use Rattle.usb_set.specs.inside.Reading.{attach, configuration_of, endpoin
 
 use crate::tree::{Association, Configuration, Endpoint, Extra, Raw, SetKind, Setting};
 use std::alloc::{AllocError, Global};
-use usb_base::Sequence;
+use usb_base::{Sequence, word_at};
 
 /// The bytes as a list. No memory is taken where there are none.
 #[inline]
@@ -71,7 +71,7 @@ fn read_endpoint(alloc: Global, body: &[u8]) -> Result<Endpoint, AllocError>
     Ok(Endpoint {
         address: body[0],
         attributes: body[1],
-        max_packet: u16::from(body[2]) + 256 * u16::from(body[3]),
+        max_packet: word_at(body, 2),
         interval: body[4],
         tail: read_bytes(alloc, &body[5..])?,
         extras: Sequence::new(alloc),

@@ -5,6 +5,7 @@ ghost use Rattle.usb_set.specs.inside.Reading.{SplitsDescriptor, first_byte, has
 
 use crate::fault::SetWhy;
 use crate::tree::Configuration;
+use usb_base::word_at;
 
 /// The first fault that the first descriptor's bytes show, and its place.
 pub(crate) fn fault_in_header(bytes: &[u8]) -> Option<(usize, SetWhy)>
@@ -13,8 +14,7 @@ pub(crate) fn fault_in_header(bytes: &[u8]) -> Option<(usize, SetWhy)>
     match bytes {
         [len, ..] if *len < 9 => Some((0, SetWhy::HeaderLength)),
         [_, kind, ..] if !matches!(*kind, 2 | 7) => Some((1, SetWhy::HeaderKind)),
-        [len, _, low, high, ..]
-            if usize::from(*low) + 256 * usize::from(*high) < usize::from(*len) => {
+        [len, _, _, _, ..] if usize::from(word_at(bytes, 2)) < usize::from(*len) => {
             Some((2, SetWhy::Total))
         }
         _ => None,
@@ -66,13 +66,13 @@ pub(crate) fn split_descriptor(bytes: &[u8]) -> Option<(&[u8], &[u8])>
     Some(bytes.split_at(len))
 }
 
-/// wTotalLength of the first descriptor.
-pub(crate) fn total_length(header: &[u8]) -> usize
+/// wTotalLength, as the first descriptor declares it.
+pub(crate) fn declared_total(header: &[u8]) -> usize
     requires { 4 ≤ length header.now }
     ensures value { result ≡ total_of header.now }
     ensures bound { result ≤ 65535 }
 {
-    usize::from(header[2]) + 256 * usize::from(header[3])
+    usize::from(word_at(header, 2))
 }
 
 /// Whether an endpoint would belong to a setting.

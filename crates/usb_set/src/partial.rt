@@ -5,7 +5,7 @@ ghost use Rattle.usb_set.specs.inside.Reading.{first};
 ghost use Rattle.usb_set.specs.inside.Stepping.{InWork, IsStart, IsWanting, fault_at, is_done, past, place_of, whole_tree};
 
 use crate::attaching::{attach, read_configuration};
-use crate::checking::{fault_in_header, fault_in_item, is_in_setting, total_length};
+use crate::checking::{declared_total, fault_in_header, fault_in_item, is_in_setting};
 use crate::fault::{SetFault, SetWhy};
 use crate::tree::Configuration;
 use std::alloc::{AllocError, Global};
@@ -122,7 +122,7 @@ impl Partial {
         match &mut self.tree {
             None => {
                 let c = read_configuration(alloc, item)?;
-                self.total = total_length(item);
+                self.total = declared_total(item);
                 self.place = item.len();
                 self.tree = Some(c);
             }

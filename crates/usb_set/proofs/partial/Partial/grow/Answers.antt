@@ -7,7 +7,7 @@ use Rattle.usb_set.proofs.partial.Partial.grow.Goals as goal
 
 pub returns-in_ok-c-in-None-clause-ok : goal.returns-in_ok-c-in-None-clause-ok
 returns-in_ok-c-in-None-clause-ok c =
-    let is = begun c.args.self.now c.self.inside.tree c.self.inside.total c.self.inside.place c.args.item.now c.in_ok-c-in-None.c c.total_length-self-inside.result _ c.self.view_is c.in-None.is c.in_ok-c-in-None.ensures c.total_length-self-inside.ensures.value refl in
+    let is = begun c.args.self.now c.self.inside.tree c.self.inside.total c.self.inside.place c.args.item.now c.in_ok-c-in-None.c c.declared_total-self-inside.result _ c.self.view_is c.in-None.is c.in_ok-c-in-None.ensures c.declared_total-self-inside.ensures.value refl in
     elim c.match-self-2.branch [ in-Some-1 w ↦ w.self-is ∙ is | in-None-1 w ↦ w.self-is ∙ is ]
 
 pub returns-in_ok-attach-in-Some-clause-ok : goal.returns-in_ok-attach-in-Some-clause-ok
@@ -16,7 +16,7 @@ returns-in_ok-attach-in-Some-clause-ok c =
 
 pub returns-in_ok-c-in-None-clause-start : goal.returns-in_ok-c-in-None-clause-start
 returns-in_ok-c-in-None-clause-start c =
-    let is = begun_start c.args.self.now c.self.inside.tree c.self.inside.total c.self.inside.place c.args.item.now c.in_ok-c-in-None.c c.total_length-self-inside.result _ c.self.view_is c.in-None.is c.requires.fine c.requires.whole
-    c.total_length-self-inside.ensures.value c.total_length-self-inside.ensures.bound refl in
+    let is = begun_start c.args.self.now c.self.inside.tree c.self.inside.total c.self.inside.place c.args.item.now c.in_ok-c-in-None.c c.declared_total-self-inside.result _ c.self.view_is c.in-None.is c.requires.fine c.requires.whole
+    c.declared_total-self-inside.ensures.value c.declared_total-self-inside.ensures.bound refl in
     let P : Reading → Type 0 = λ r. IsStart r in
     elim c.match-self-2.branch [ in-Some-1 w ↦ subst P (sym w.self-is) is | in-None-1 w ↦ subst P (sym w.self-is) is ]
