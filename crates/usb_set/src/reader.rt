@@ -95,7 +95,7 @@ impl Reader {
         ensures { Keeps self.old piece.now result self.new }
     {
         let before = self.current.len();
-        if before < 4 || usize::from(self.current.as_slice()[0]) <= before + piece.len() {
+        if before < 4 || usize::from(self.current[0]) <= before + piece.len() {
             return false;
         }
         keep(&mut self.current, piece);
@@ -161,18 +161,18 @@ impl Reader {
         requires some { 0 < length (current_of self.old) }
         ensures { Steps self.old bytes.now result self.new }
     {
-        let len = usize::from(self.current.as_slice()[0]);
+        let len = usize::from(self.current[0]);
         let before = self.current.len();
         let count = (len - before).min(bytes.len());
         keep(&mut self.current, &bytes[..count]);
-        if let Some(fault) = self.partial.fault_in_more(before, self.current.as_slice()) {
+        if let Some(fault) = self.partial.fault_in_more(before, &self.current) {
             self.current.clear();
             return Step::Refused(fault);
         }
         if self.current.len() < len {
             return Step::Cut;
         }
-        let grown = self.partial.grow(self.alloc, self.current.as_slice());
+        let grown = self.partial.grow(self.alloc, &self.current);
         self.current.clear();
         if grown.is_err() {
             return Step::Refused(self.partial.out_of_memory());

@@ -9,7 +9,7 @@ pub returns : goal.returns
 returns c =
     let work : InWork c.self.inside.partial = work_of c.self.inside.partial c.self.inside.current.items (subst InWork (sym c.self.view_is) c.requires) in
     let four : 4 ≤ length c.self.inside.current.items = omega (arith, c.len-before.ensures.value, c.if-before-lt4.false) in
-    let len_is : c.from.result ≡ first_byte c.self.inside.current.items = c.from.ensures ∙ ap (λ (z : List ℕ). get_or z 0 0) c.as_slice.ensures.value ∙ first_is c.self.inside.current.items 0 (omega (arith, four)) in
+    let len_is : c.from.result ≡ first_byte c.self.inside.current.items = c.from.ensures ∙ ap (λ (z : List ℕ). get_or z 0 0) c.deref.ensures.0 ∙ first_is c.self.inside.current.items 0 (omega (arith, four)) in
     let P : List ℕ → Type 0 = λ z. Steps c.args.self.now c.args.piece.now Cut (with_current c.self.inside.partial z) in
     subst P (sym c.keep.ensures)
     (step_cut c.args.self.now c.self.inside.partial c.self.inside.current.items c.args.piece.now c.self.view_is c.requires

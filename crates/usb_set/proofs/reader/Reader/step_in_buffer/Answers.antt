@@ -15,7 +15,7 @@ pub returns-in-Some : goal.returns-in-Some
 returns-in-Some c =
     step_refused c.args.self.now c.self.inside.partial c.self.inside.partial c.self.inside.current.items c.args.bytes.now c.min-count.result c.in-Some.fault
     c.self.view_is c.requires.work (let P : Reading → Type 0 = λ r. GoesOn r in subst P c.self.view_is c.self.invariant)
-    (ap (fault_at c.self.inside.partial) (sym (c.as_slice-2.ensures.value ∙ c.keep.ensures)) ∙ sym c.in-Some.ensures)
+    (ap (fault_at c.self.inside.partial) (sym (c.deref-2.ensures.0 ∙ c.keep.ensures)) ∙ sym c.in-Some.ensures)
 
 pub returns-then-len : goal.returns-then-len
 returns-then-len c =
@@ -23,11 +23,11 @@ returns-then-len c =
     let short : length (c.self.inside.current.items ++ take c.min-count.result c.args.bytes.now) < c.from-len.result = omega (arith, ap length kept, c.len.ensures.value, c.if-len.true) in
     let all : take c.min-count.result c.args.bytes.now ≡ c.args.bytes.now = takes_all c.self.inside.current.items c.args.bytes.now c.from-len.result c.min-count.result (c.min-count.ensures ∙ ap (λ n. min (c.from-len.result - n) (length c.args.bytes.now)) c.len-before.ensures.value) short in
     let is : c.keep.new.current.items ≡ c.self.inside.current.items ++ c.args.bytes.now = kept ∙ ap (λ (z : List ℕ). c.self.inside.current.items ++ z) all in
-    let len_is : c.from-len.result ≡ first_byte c.self.inside.current.items = c.from-len.ensures ∙ ap (λ (z : List ℕ). get_or z 0 0) c.as_slice.ensures.value ∙ first_is c.self.inside.current.items 0 (some_current c.args.self.now c.self.inside.partial c.self.inside.current.items c.self.view_is c.requires.work c.requires.some) in
+    let len_is : c.from-len.result ≡ first_byte c.self.inside.current.items = c.from-len.ensures ∙ ap (λ (z : List ℕ). get_or z 0 0) c.deref.ensures.0 ∙ first_is c.self.inside.current.items 0 (some_current c.args.self.now c.self.inside.partial c.self.inside.current.items c.self.view_is c.requires.work c.requires.some) in
     let P : List ℕ → Type 0 = λ z. Steps c.args.self.now c.args.bytes.now Cut (with_current c.self.inside.partial z) in
     subst P (sym is)
     (step_cut c.args.self.now c.self.inside.partial c.self.inside.current.items c.args.bytes.now c.self.view_is c.requires.work
-    (ap (fault_at c.self.inside.partial) (sym (c.as_slice-2.ensures.value ∙ is)) ∙ sym c.in_default.ensures)
+    (ap (fault_at c.self.inside.partial) (sym (c.deref-2.ensures.0 ∙ is)) ∙ sym c.in_default.ensures)
     (omega (
       arith,
       short,
@@ -41,7 +41,7 @@ returns-then-is_err c =
     let some = some_current c.args.self.now c.self.inside.partial c.self.inside.current.items c.self.view_is c.requires.work c.requires.some in
     let on : GoesOn (with_current c.self.inside.partial c.self.inside.current.items) = c.self.invariant in
     let kept : c.keep.new.current.items ≡ c.self.inside.current.items ++ take c.min-count.result c.args.bytes.now = c.keep.ensures in
-    let len_is : c.from-len.result ≡ first_byte c.self.inside.current.items = c.from-len.ensures ∙ ap (λ (z : List ℕ). get_or z 0 0) c.as_slice.ensures.value ∙ first_is c.self.inside.current.items 0 some in
+    let len_is : c.from-len.result ≡ first_byte c.self.inside.current.items = c.from-len.ensures ∙ ap (λ (z : List ℕ). get_or z 0 0) c.deref.ensures.0 ∙ first_is c.self.inside.current.items 0 some in
     let ends = ends_here c.self.inside.current.items c.args.bytes.now c.from-len.result c.min-count.result (c.min-count.ensures ∙ ap (λ n. min (c.from-len.result - n) (length c.args.bytes.now)) c.len-before.ensures.value) len_is some
     (on_short c.self.inside.partial c.self.inside.current.items (in_work c.args.self.now c.self.inside.partial c.self.inside.current.items c.self.view_is c.requires.work) on).0
     (λ lt. omega (arith, ap length kept, c.len.ensures.value, c.if-len.false, lt)) in
@@ -52,12 +52,12 @@ returns c =
     let some = some_current c.args.self.now c.self.inside.partial c.self.inside.current.items c.self.view_is c.requires.work c.requires.some in
     let on : GoesOn (with_current c.self.inside.partial c.self.inside.current.items) = c.self.invariant in
     let kept : c.keep.new.current.items ≡ c.self.inside.current.items ++ take c.min-count.result c.args.bytes.now = c.keep.ensures in
-    let len_is : c.from-len.result ≡ first_byte c.self.inside.current.items = c.from-len.ensures ∙ ap (λ (z : List ℕ). get_or z 0 0) c.as_slice.ensures.value ∙ first_is c.self.inside.current.items 0 some in
+    let len_is : c.from-len.result ≡ first_byte c.self.inside.current.items = c.from-len.ensures ∙ ap (λ (z : List ℕ). get_or z 0 0) c.deref.ensures.0 ∙ first_is c.self.inside.current.items 0 some in
     let ends = ends_here c.self.inside.current.items c.args.bytes.now c.from-len.result c.min-count.result (c.min-count.ensures ∙ ap (λ n. min (c.from-len.result - n) (length c.args.bytes.now)) c.len-before.ensures.value) len_is some
     (on_short c.self.inside.partial c.self.inside.current.items (in_work c.args.self.now c.self.inside.partial c.self.inside.current.items c.self.view_is c.requires.work) on).0
     (λ lt. omega (arith, ap length kept, c.len.ensures.value, c.if-len.false, lt)) in
     let P : List ℕ → Type 0 = λ z. Steps c.args.self.now c.args.bytes.now (Took c.min-count.result) (with_current c.grow-grown.new.self z) in
     subst P (sym c.clear-2.ensures)
     (step_took c.args.self.now c.self.inside.partial c.grow-grown.new.self c.self.inside.current.items c.args.bytes.now c.min-count.result c.self.view_is c.requires.work
-    (ap (fault_at c.self.inside.partial) (sym (c.as_slice-2.ensures.value ∙ kept)) ∙ sym c.in_default.ensures) ends.0 ends.1 ends.2
-    (on_ok c.grow-grown.result _ (sym c.is_err.ensures.value ∙ c.if-is_err.false) c.grow-grown.ensures.ok ∙ ap (past c.self.inside.partial) (c.as_slice-3.ensures.value ∙ kept)) c.grow-grown.ensures.start)
+    (ap (fault_at c.self.inside.partial) (sym (c.deref-2.ensures.0 ∙ kept)) ∙ sym c.in_default.ensures) ends.0 ends.1 ends.2
+    (on_ok c.grow-grown.result _ (sym c.is_err.ensures.value ∙ c.if-is_err.false) c.grow-grown.ensures.ok ∙ ap (past c.self.inside.partial) (c.deref-3.ensures.0 ∙ kept)) c.grow-grown.ensures.start)
