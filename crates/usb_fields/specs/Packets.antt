@@ -12,9 +12,9 @@ packets_within (suc most) bytes size limit =
     else if nat_lt (length bytes) size then bytes ∷ []
     else take size bytes ∷ packets_within most (drop size bytes) size (limit - size)
 
--- The packets of a data stage that answers with these bytes, at most `limit` of them, which is wLength, where
--- packets have up to `size` bytes, at least one: packets of `size` bytes until `limit` bytes have gone, or else a
--- shorter packet, which may be empty, to end the stage (8.5.3).
+-- The packets of a data stage that answers with these bytes, at most `limit` of them, which is wLength. Packets
+-- have up to `size` bytes, at least one. There are packets of `size` bytes until `limit` bytes have gone, or else
+-- a shorter packet, which may be empty, to end the stage (8.5.3).
 unfoldable pub packets : List ℕ → ℕ → ℕ → List (List ℕ)
 packets bytes size limit = packets_within limit bytes size limit
 

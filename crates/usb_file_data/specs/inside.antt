@@ -1,3 +1,3 @@
--- What only the functions and proofs of this crate cite.
+-- What no public contract cites.
 pub mod Marks
 pub mod ExtraIndices

@@ -1,4 +1,4 @@
--- The numbers and the texts of the faults.
+-- The numbers of faults, and their messages.
 use Rattle.std.specs.Prelude.{ℕ, List, ◌++◌, codes}
 use Rattle.std.specs.Fmt.{decimal}
 use Rattle.usb_set.specs.declared.fault.SetFault.{SetFault}
@@ -20,7 +20,7 @@ why_number whys.Stray = 8
 why_number whys.Truncated = 9
 why_number whys.Memory = 10
 
--- what a person is told of a fault of bytes
+-- the message of a fault of bytes, for people
 abbrev pub why_message : SetWhy → List ℕ
 why_message whys.HeaderLength = codes "the first bLength is below 9"
 why_message whys.HeaderKind = codes "the first descriptor is no configuration"
@@ -33,7 +33,7 @@ why_message whys.Stray = codes "an endpoint before any interface"
 why_message whys.Truncated = codes "the bytes end before the set does"
 why_message whys.Memory = codes "out of memory"
 
--- the same with its place
+-- the message of a fault with its place
 abbrev pub fault_message : SetFault → List ℕ
 fault_message fault = why_message fault.why ++ codes " at " ++ decimal fault.at
 
@@ -44,7 +44,7 @@ encode_number encodes.RawKind = 2
 encode_number encodes.TooLong = 3
 encode_number encodes.Memory = 4
 
--- what a person is told of a refusal to write
+-- the message of a refusal to write, for people
 abbrev pub encode_message : EncodeFault → List ℕ
 encode_message encodes.Tail = codes "a descriptor would be over 255 bytes"
 encode_message encodes.RawKind = codes "a raw descriptor of a type that a set reads"

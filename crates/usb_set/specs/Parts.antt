@@ -4,13 +4,8 @@ use Rattle.std.specs.List.{flat_map}
 use Rattle.usb_set.specs.declared.tree.Association.{Association}
 use Rattle.usb_set.specs.declared.tree.Extra.{Extra}
 use Rattle.usb_set.specs.declared.tree.Extra.TheVariants as extras
-use Rattle.usb_set.specs.declared.tree.Endpoint.{Endpoint}
 use Rattle.usb_set.specs.declared.tree.Setting.{Setting}
 use Rattle.usb_set.specs.declared.tree.Configuration.{Configuration}
-
--- the endpoints of all settings
-abbrev pub endpoints_of : Configuration → List Endpoint
-endpoints_of c = flat_map (λ s. s.endpoints) c.settings
 
 -- the extras of a setting: its own, then those of its endpoints
 abbrev pub setting_extras : Setting → List Extra

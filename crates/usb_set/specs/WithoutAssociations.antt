@@ -48,13 +48,15 @@ abbrev pub lift_extra : Extra → Extra
 lift_extra (extras.Raw r) = if r.kind == 11 then extras.Association (association_of r.body) else extras.Raw r
 lift_extra (extras.Association a) = extras.Association a
 
--- the same of all extras of an endpoint, of a setting and of a set
+-- the endpoint with each of its extras so
 abbrev pub lift_endpoint : Endpoint → Endpoint
 lift_endpoint e = record e { extras = map lift_extra e.extras }
 
+-- the setting with its extras and those of its endpoints so
 abbrev pub lift_setting : Setting → Setting
 lift_setting s = record s { extras = map lift_extra s.extras; endpoints = map lift_endpoint s.endpoints }
 
+-- the set with all its extras so
 abbrev pub lift : Configuration → Configuration
 lift c = record c { extras = map lift_extra c.extras; settings = map lift_setting c.settings }
 

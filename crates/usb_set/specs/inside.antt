@@ -1,4 +1,4 @@
--- What only the functions and proofs of this crate cite.
+-- What no public contract cites.
 pub mod Reading
 pub mod Stepping
 pub mod Holding
