@@ -3,9 +3,9 @@
 //! It has what both ends of a bus and the descriptor files speak of:
 //!
 //! * [`Setup`], the eight bytes that begin each control transfer (USB 2.0, 9.3), with the
-//!   [`Direction`], [`Class`] and [`Recipient`] that its bmRequestType codes (table 9-2);
-//! * [`DeviceDescriptor`] (9.6.1) and [`Qualifier`] (9.6.2), the descriptors of fixed length;
-//! * [`read_units`] and [`write_units`] for string descriptors and language lists (9.6.7);
+//!   [`Direction`], [`Class`] and [`Recipient`] that its bmRequestType codes (table 9-2).
+//! * [`DeviceDescriptor`] (9.6.1) and [`Qualifier`] (9.6.2), the descriptors of fixed length.
+//! * [`read_units`] and [`write_units`] for string descriptors and language lists (9.6.7).
 //! * [`Transaction`], [`Stage`], [`Toggle`] and [`Answer`], what passes between a host and a device
 //!   (8.4 to 8.6), and [`Speed`].
 //!

@@ -4,6 +4,12 @@ use usb_set::{Configuration, Sequence};
 
 /// What a device is at its other speed: the qualifier, and the sets of that speed (USB 2.0, 9.6.2 and
 /// 9.6.4).
+///
+/// ```rust
+/// if let Some(other) = &file.other {
+///     println!(rt; "{} configurations at the other speed", other.sets.len())?;
+/// }
+/// ```
 #[derive(Clone, Debug, Drop, PartialEq, Eq, Hash)]
 pub struct Other {
     /// The device qualifier descriptor.
@@ -14,6 +20,12 @@ pub struct Other {
 }
 
 /// The strings of a device (USB 2.0, 9.6.7).
+///
+/// ```rust
+/// // The first string in the second language.
+/// let string = &strings.texts[count_named(&file)];
+/// println!(rt; "{:04x}: {} units", strings.languages[1], string.len())?;
+/// ```
 #[derive(Clone, Debug, Drop, PartialEq, Eq, Hash)]
 pub struct Strings {
     /// The language codes of string 0. In a file they are 1 to 126.
@@ -25,6 +37,16 @@ pub struct Strings {
 
 /// All descriptors of a device (USB 2.0, 9.4.3). A value need not have bytes: its counts, kinds and
 /// strings can contradict each other, and then [`write_refusal`](crate::write_refusal) says how.
+///
+/// ```rust
+/// let file = DescriptorFile {
+///     device,
+///     sets,
+///     other: None,
+///     strings: None,
+/// };
+/// assert_eq!(rt; write_refusal(&file), None);
+/// ```
 #[derive(Clone, Debug, Drop, PartialEq, Eq, Hash)]
 pub struct DescriptorFile {
     /// The device descriptor.

@@ -70,7 +70,12 @@ fn any_other_kind(sets: &[Configuration], kind: SetKind) -> bool
     sets.iter().any(|c| is_other_kind(c, kind))
 }
 
-/// Whether the set is of the other kind.
+/// Whether the set is of the other kind than this one.
+///
+/// ```rust
+/// let (set, _) = read_set(alloc, &[9, 7, 9, 0, 0, 1, 0, 0x80, 0x32])?;
+/// assert!(rt; is_other_kind(&set, SetKind::Configuration));
+/// ```
 pub fn is_other_kind(c: &Configuration, kind: SetKind) -> bool
     ensures { result ≡ is_other_kind kind c.now }
 {

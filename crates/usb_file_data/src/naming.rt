@@ -12,7 +12,7 @@ use usb_base::Marks;
 /// Want of memory, as std tells it.
 pub use std::alloc::AllocError as NoMemory;
 
-/// The indices of the strings that the file names, ascending: the numbers 1 to 255 that stand in
+/// The indices of the strings that the file names, ascending. They are the numbers 1 to 255 that stand in
 /// iManufacturer, iProduct or iSerialNumber of the device, or in iConfiguration, iInterface or iFunction
 /// of a set of either speed (USB 2.0, 9.6.1, 9.6.3, 9.6.5, and its ECN on interface associations).
 ///
@@ -31,7 +31,13 @@ pub fn named(alloc: Global, f: &DescriptorFile) -> Result<Vec<u8>, NoMemory>
     marked_numbers(alloc, &mark_file(f), 1, 255)
 }
 
-/// How many strings the file names. Takes no memory.
+/// How many indices of strings the file names. In each language it has as many strings. Takes no memory.
+///
+/// ```rust
+/// file.device.product_text = 2;
+/// file.device.serial_text = 1;
+/// assert_eq!(rt; count_named(&file), 2);
+/// ```
 pub fn count_named(f: &DescriptorFile) -> usize
     ensures count { result ≡ length (named_indices f.now) }
     ensures most { result ≤ 255 }

@@ -9,6 +9,13 @@ use std::fmt;
 
 /// What is wrong with the bytes of a set. Of several cases that hold the first is told. Its `Display` is a
 /// message for people.
+///
+/// ```rust
+/// // wTotalLength is 8, below bLength.
+/// if let Err(fault) = read_set(alloc, &[9, 2, 8, 0]) {
+///     assert_eq!(rt; (fault.why, fault.why.number()), (SetWhy::Total, 3));
+/// }
+/// ```
 #[derive(Clone, Copy, Debug, PartialEq, Eq, Hash)]
 pub enum SetWhy {
     /// The first bLength is below 9.
