@@ -47,6 +47,10 @@ impl From<AllocError> for OutFault {
 
 /// Writes all of the bytes.
 ///
+/// ```rust
+/// write_all(&mut rt.stdout(), b"raw 21 -\n")?;
+/// ```
+///
 /// # Errors
 ///
 /// `Write` at the first call of the writer that fails or takes nothing. A front of the bytes is
