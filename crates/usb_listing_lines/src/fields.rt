@@ -4,15 +4,12 @@ ghost use Rattle.std.specs.List.{list_all};
 ghost use Rattle.arrayvec.specs.ArrayVec.{array_vec_len};
 ghost use Rattle.usb_listing_lines.specs.inside.Digits.{digit_value};
 ghost use Rattle.usb_listing_lines.specs.inside.Items.{fixed_in, tailed_in};
-ghost use Rattle.usb_listing_lines.specs.inside.Fields.{HoldsBoth, behind_space, byte_first, byte_of, bytes_from, pairs_of, tail_of};
+ghost use Rattle.usb_listing_lines.specs.inside.Fields.{behind_space, byte_first, byte_of, bytes_from, pairs_of, tail_of};
 
 use crate::digits::{pair, pair_or};
 use arrayvec::ArrayVec;
 use std::alloc::{AllocError, Global};
 use usb_set::Sequence;
-
-/// The most bytes in the fields of fixed widths of one line: those of a device descriptor.
-pub(crate) const MOST: usize = 16;
 
 /// What stands behind a space.
 #[inline(always)]
@@ -85,18 +82,9 @@ fn decode(alloc: Global, digits: &[u8]) -> Result<Option<Sequence<u8>>, AllocErr
     }
 }
 
-/// The bits of the two.
-#[inline(always)]
-#[tactic(auto, using(crate::proofs::DecodeLemmas::bits_hold))]
-fn bits_of_both(a: u16, b: u16) -> u16
-    ensures { HoldsBoth a b result }
-{
-    a | b
-}
-
 /// Writes the bytes of pairs of digits, and tells whether all are lower-case ones. Whether they are is looked
 /// at once, at the end.
-#[tactic(auto, using(crate::proofs::DecodeLemmas::decoding_none, crate::proofs::DecodeLemmas::decoding_next, crate::proofs::DecodeLemmas::decoding_done))]
+#[tactic(auto, using(crate::proofs::DecodeLemmas::bits_hold, crate::proofs::DecodeLemmas::decoding_none, crate::proofs::DecodeLemmas::decoding_next, crate::proofs::DecodeLemmas::decoding_done))]
 fn decode_into(digits: &[u8], bytes: &mut [u8]) -> bool
     requires { length digits.now ≡ 2 * length bytes.old }
     ensures { pairs_of digits.now ≡ (if result then Some bytes.new else None) }
@@ -104,7 +92,7 @@ fn decode_into(digits: &[u8], bytes: &mut [u8]) -> bool
     let mut bits = 0;
     'bytes: for i in 0..bytes.len() {
         let byte = pair_or(digits[2 * i], digits[2 * i + 1]);
-        bits = bits_of_both(bits, byte);
+        bits |= byte;
         bytes[i] = (byte % 256) as u8;
     }
     bits < 256

@@ -4,7 +4,7 @@ ghost use Rattle.usb_set.specs.Layout.{is_typed};
 ghost use Rattle.usb_listing_lines.specs.declared.item.Item.{Item};
 ghost use Rattle.usb_listing_lines.specs.Item.{Says};
 ghost use Rattle.usb_listing_lines.specs.inside.Fields.{behind_space};
-ghost use Rattle.usb_listing_lines.specs.inside.Items.{association_in, association_of, before_quote, device_in, device_of, endpoint_in, endpoint_of, interface_in, item_in, item_of_line, languages_in, qualifier_in, qualifier_of, quoted, raw_in, raw_of, set_in, set_of, setting_of, string_in};
+ghost use Rattle.usb_listing_lines.specs.inside.Items.{association_in, association_of, before_quote, device_in, device_of, endpoint_in, endpoint_of, interface_in, item_in, languages_in, qualifier_in, qualifier_of, quoted, raw_in, raw_of, set_in, set_of, setting_of, string_in};
 ghost use Rattle.usb_listing_lines.specs.Words.{first_word, word_in, word_text};
 
 use crate::fields::{read_fixed, read_tailed, skip_space};
@@ -162,21 +162,21 @@ fn read_device(text: &[u8]) -> Option<Item>
     ensures { result ≡ device_in text.now }
 {
     let b = read_fixed(&DEVICE, text)?;
-    Some(Item::Device(device_of(b.as_slice())))
+    Some(Item::Device(device_of(&b)))
 }
 
 fn read_qualifier(text: &[u8]) -> Option<Item>
     ensures { result ≡ qualifier_in text.now }
 {
     let b = read_fixed(&QUALIFIER, text)?;
-    Some(Item::Qualifier(qualifier_of(b.as_slice())))
+    Some(Item::Qualifier(qualifier_of(&b)))
 }
 
 fn read_set(alloc: Global, kind: SetKind, text: &[u8]) -> Result<Option<Item>, AllocError>
     ensures { IfOk result (λ found. found ≡ set_in kind text.now) }
 {
     match read_tailed(alloc, &SET, 246, text)? {
-        Some((b, tail)) => Ok(Some(Item::Set(set_of(alloc, kind, b.as_slice(), tail)))),
+        Some((b, tail)) => Ok(Some(Item::Set(set_of(alloc, kind, &b, tail)))),
         None => Ok(None),
     }
 }
@@ -185,7 +185,7 @@ fn read_interface(alloc: Global, text: &[u8]) -> Result<Option<Item>, AllocError
     ensures { IfOk result (λ found. found ≡ interface_in text.now) }
 {
     match read_tailed(alloc, &INTERFACE, 246, text)? {
-        Some((b, tail)) => Ok(Some(Item::Interface(setting_of(alloc, b.as_slice(), tail)))),
+        Some((b, tail)) => Ok(Some(Item::Interface(setting_of(alloc, &b, tail)))),
         None => Ok(None),
     }
 }
@@ -194,7 +194,7 @@ fn read_endpoint(alloc: Global, text: &[u8]) -> Result<Option<Item>, AllocError>
     ensures { IfOk result (λ found. found ≡ endpoint_in text.now) }
 {
     match read_tailed(alloc, &ENDPOINT, 248, text)? {
-        Some((b, tail)) => Ok(Some(Item::Endpoint(endpoint_of(alloc, b.as_slice(), tail)))),
+        Some((b, tail)) => Ok(Some(Item::Endpoint(endpoint_of(alloc, &b, tail)))),
         None => Ok(None),
     }
 }
@@ -211,7 +211,7 @@ fn read_raw(alloc: Global, text: &[u8]) -> Result<Option<Item>, AllocError>
 {
     match read_tailed(alloc, &RAW, 253, text)? {
         Some((b, body)) => {
-            let raw = raw_of(b.as_slice(), body);
+            let raw = raw_of(&b, body);
             if is_typed(raw.kind) {
                 return Ok(None);
             }
@@ -225,10 +225,7 @@ fn read_association(alloc: Global, text: &[u8]) -> Result<Option<Item>, AllocErr
     ensures { IfOk result (λ found. found ≡ association_in text.now) }
 {
     match read_tailed(alloc, &ASSOCIATION, 247, text)? {
-        Some((b, tail)) => Ok(Some(Item::Extra(Extra::Association(association_of(
-            b.as_slice(),
-            tail,
-        ))))),
+        Some((b, tail)) => Ok(Some(Item::Extra(Extra::Association(association_of(&b, tail))))),
         None => Ok(None),
     }
 }
@@ -317,25 +314,23 @@ fn behind(word: Word, line: &[u8]) -> &[u8]
     }
 }
 
-#[tactic(auto, unfolding(crate::specs::inside::Items::item_of_line))]
-fn read_whole(alloc: Global, word: Word, line: &[u8]) -> Result<Option<Item>, AllocError>
-    requires { word_in (first_word line.now) ≡ Some word }
-    ensures { IfOk result (λ found. found ≡ item_of_line line.now) }
-{
-    read_behind(alloc, word, behind(word, line))
-}
-
 /// The descriptor that the line says, which begins with this word ([`word_of`](crate::word_of)); or nothing,
 /// where a field is missing, superfluous or not in its form.
+///
+/// ```rust
+/// if let Some(Item::Extra(Extra::Raw(raw))) = read_item(alloc, Word::Raw, b"raw 21 1001")? {
+///     assert_eq!(rt; (raw.kind, &raw.body[..]), (0x21, [0x10, 0x01].as_slice()));
+/// }
+/// assert_eq!(rt; read_item(alloc, Word::Raw, b"raw 21")?, None);
+/// ```
 ///
 /// # Errors
 ///
 /// A growth was refused.
-#[tactic(auto, using(crate::proofs::SaysLemmas::read_is_said, crate::proofs::SaysLemmas::said_is_read))]
 pub fn read_item(alloc: Global, word: Word, line: &[u8]) -> Result<Option<Item>, AllocError>
     requires { word_in (first_word line.now) ≡ Some word }
     ensures ok { IfOk result (λ found. IfSome found (λ item. Says line.now item)) }
     ensures none { IfOk result (λ found. IfNone found ((item : Item) → Says line.now item → ⊥)) }
 {
-    read_whole(alloc, word, line)
+    read_behind(alloc, word, behind(word, line))
 }

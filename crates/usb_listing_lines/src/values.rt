@@ -1,5 +1,5 @@
 //! The units of a string and the language codes of a line, read.
-ghost use Rattle.std.specs.Prelude.{◌≡◌, ◌≢◌, ◌≤◌, IfOk, MatchOption, None, Some, []};
+ghost use Rattle.std.specs.Prelude.{◌≡◌, ◌≤◌, IfOk, MatchOption, None, Some, []};
 ghost use Rattle.usb_listing.specs.StringListing.{is_plain};
 ghost use Rattle.usb_listing_lines.specs.inside.Units.{number_first, unit_first, value_first, values_from};
 
@@ -36,18 +36,10 @@ fn take_number(text: &[u8]) -> Option<(u16, &[u8])>
 }
 
 /// Whether a unit is written as the character that it is.
-fn is_character(unit: u16) -> bool
+fn is_plain(unit: u16) -> bool
     ensures { result ≡ is_plain unit }
 {
     (0x20..=0x7e).contains(&unit) && unit != 0x22 && unit != 0x5c
-}
-
-/// Whether a byte that is no backslash is a unit that is written as it is.
-fn is_plain(c: u8) -> bool
-    requires { c ≢ 92 }
-    ensures { result ≡ is_plain c }
-{
-    (0x20..=0x7e).contains(&c) && c != b'"'
 }
 
 /// The unit that stands first, and what stands behind it.
@@ -58,13 +50,13 @@ fn take_unit(text: &[u8]) -> Option<(u16, &[u8])>
     match text {
         [b'\\', digits @ ..] => {
             let (unit, rest) = take_number(digits)?;
-            if is_character(unit) {
+            if is_plain(unit) {
                 None
             } else {
                 Some((unit, rest))
             }
         }
-        [c, rest @ ..] if is_plain(*c) => Some((u16::from(*c), rest)),
+        [c, rest @ ..] if is_plain(u16::from(*c)) => Some((u16::from(*c), rest)),
         _ => None,
     }
 }

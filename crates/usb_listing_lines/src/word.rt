@@ -5,6 +5,10 @@ ghost use Rattle.usb_listing_lines.specs.Words.{first_word, word_in, word_text};
 ghost use Rattle.usb_listing_lines.specs.inside.Letters.{ends_word, word_with};
 
 /// The first word of a line: which descriptor the line says.
+///
+/// ```rust
+/// assert_eq!(rt; Word::OtherSpeed.text(), "other_speed");
+/// ```
 #[derive(Clone, Copy, Debug, PartialEq, Eq, Hash)]
 pub enum Word {
     /// The device descriptor.
@@ -50,6 +54,11 @@ impl Word {
 }
 
 /// The word that the line begins with, up to its first space.
+///
+/// ```rust
+/// assert_eq!(rt; word_of(b"raw 21 1001"), Some(Word::Raw));
+/// assert_eq!(rt; word_of(b"raws"), None);
+/// ```
 #[tactic(auto, using(crate::proofs::WordLemmas::word_found, crate::proofs::WordLemmas::word_other, crate::proofs::WordLemmas::no_letter, crate::proofs::WordLemmas::no_word))]
 pub fn word_of(line: &[u8]) -> Option<Word>
     ensures { result ≡ word_in (first_word line.now) }
