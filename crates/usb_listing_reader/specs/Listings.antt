@@ -83,34 +83,35 @@ abbrev pub is_whole : Option DescriptorFile → Bool
 is_whole None = false
 is_whole (Some f) = is_none (write_refusal f)
 
--- The fault of the text behind the lines so far, by the reason:
--- the bytes of the first line end without a line feed, or at a byte that no line has;
+-- ---- the fault of the text behind the lines so far, by the reason
+
+-- the bytes of the first line end without a line feed, or at a byte that no line has
 abbrev pub LineFaulty : List ℕ → Type 0
 LineFaulty rest = (line more : List ℕ) × (rest ≢ []) × (rest ≡ line ++ more) × (list_all is_printable line ≡ true) × NoLineGoesOn more
 
--- its first word is none;
+-- the first line's first word is none
 abbrev pub WordFaulty : List ℕ → Type 0
 WordFaulty rest = (line more : List ℕ) × FirstLine rest line more × ((word : Word) → first_word line ≢ word_text word)
 
--- its word may not stand there;
+-- the first line's word may not stand there
 abbrev pub PlaceFaulty : Option DescriptorFile → List ℕ → Type 0
 PlaceFaulty so_far rest =
     (line more : List ℕ) × (word : Word) × FirstLine rest line more × (first_word line ≡ word_text word)
     × (may_stand so_far word ≡ false)
 
--- it says no descriptor;
+-- the first line says no descriptor
 abbrev pub FieldFaulty : Option DescriptorFile → List ℕ → Type 0
 FieldFaulty so_far rest =
     (line more : List ℕ) × (word : Word) × FirstLine rest line more × (first_word line ≡ word_text word)
     × (may_stand so_far word ≡ true) × ((item : Item) → Says line item → ⊥)
 
--- its descriptor takes the set over 65,535 bytes;
+-- the first line's descriptor takes the set over 65,535 bytes
 abbrev pub TooLongFaulty : Option DescriptorFile → List ℕ → Type 0
 TooLongFaulty so_far rest =
     (line more : List ℕ) × (item : Item) × (f : DescriptorFile) × FirstLine rest line more × (so_far ≡ Some f) × Says line item
     × (may_stand so_far (item_word item) ≡ true) × (65535 < work_length (file_and item f))
 
--- the text ends and something is still due.
+-- the fault of this reason; of Missing, that the text ends and something is still due
 abbrev pub RestFaulty : Option DescriptorFile → List ℕ → ListWhy → Type 0
 RestFaulty so_far rest whys.Line = LineFaulty rest
 RestFaulty so_far rest whys.Word = WordFaulty rest

@@ -71,10 +71,10 @@ abbrev pub has_all_sets : DescriptorFile → Option Other → Bool
 has_all_sets f None = length f.sets == f.device.configurations
 has_all_sets f (Some o) = length o.sets == o.qualifier.configurations
 
--- The word may follow the lines of this file: as many sets as declared, of the part's kind; an interface and
--- an extra only in a set, an endpoint only after an interface of it; a qualifier once, after the sets of the
--- device and before the languages; the languages once, where all sets are there and a string is named; and as
--- many strings as are named in each language.
+-- Whether the word may follow the lines of this file. A set comes in its part, up to as many as declared. An
+-- interface and an extra come only in a set, an endpoint only after an interface of it. The qualifier comes
+-- once, after the sets of the device and before the languages. The languages come once, where all sets are
+-- there and a string is named. As many strings follow as are named in each language.
 abbrev pub may_follow : DescriptorFile → Option Other → Option Strings → Word → Bool
 may_follow f None None words.Configuration = nat_lt (length f.sets) f.device.configurations
 may_follow f (Some o) None words.OtherSpeed = nat_lt (length o.sets) o.qualifier.configurations
@@ -105,11 +105,13 @@ with_last g (x ∷ y ∷ ys) = x ∷ with_last g (y ∷ ys)
 unfoldable pub endpoint_with : Extra → Endpoint → Endpoint
 endpoint_with x e = record e { extras = e.extras ++ x ∷ [] }
 
+-- the interface with one more extra, its own where it has no endpoint yet
 unfoldable pub setting_with : Extra → Setting → Setting
 setting_with x s =
     if length s.endpoints == 0 then record s { extras = s.extras ++ x ∷ [] }
     else record s { endpoints = with_last (endpoint_with x) s.endpoints }
 
+-- the set with one more extra, its own where it has no interface yet
 unfoldable pub set_with : Extra → Configuration → Configuration
 set_with x c =
     if length c.settings == 0 then record c { extras = c.extras ++ x ∷ [] }
@@ -152,10 +154,11 @@ file_and (items.Qualifier q) f = record f { other = Some (record { qualifier = q
 file_and (items.Languages us) f = record f { strings = Some (record { languages = us; texts = [] }) }
 file_and (items.String us) f = with_string us f f.strings
 
--- how many bytes the set in work has
+-- how many bytes a set has, or 0 where there is none
 abbrev pub length_of : Option Configuration → ℕ
 length_of None = 0
 length_of (Some c) = set_length c
 
+-- how many bytes the set in work of a file has
 abbrev pub work_length : DescriptorFile → ℕ
 work_length f = length_of (set_in_work f.sets f.other f.strings)

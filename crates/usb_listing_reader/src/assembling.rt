@@ -166,6 +166,11 @@ fn finish(draft: Option<Draft>, line: usize) -> Result<DescriptorFile, ListFault
 
 /// The file that the text lists. One pass over the text; no line is copied.
 ///
+/// ```rust
+/// let file = assemble(alloc, b"device 0110 00 00 00 40 1234 5678 0100 00 00 00 00\n")?;
+/// assert_eq!(rt; (file.device.vendor, file.sets.len()), (0x1234, 0));
+/// ```
+///
 /// # Errors
 ///
 /// The first line at fault, and in it the first reason; or `Memory` at the line at which a growth was

@@ -5,6 +5,10 @@ ghost use Rattle.usb_listing_reader.specs.Numbers.{why_number};
 use thiserror::Error;
 
 /// What is wrong with a line of a listing. Of several that hold of one line the first is told.
+///
+/// ```rust
+/// assert_eq!(rt; ListWhy::TooLong.number(), 5);
+/// ```
 #[derive(Clone, Copy, Debug, Drop, Error, PartialEq, Eq, Hash)]
 pub enum ListWhy {
     /// The last line lacks its line feed, or a byte is none of 20 to 7e hexadecimal.
@@ -48,12 +52,20 @@ impl ListWhy {
 }
 
 /// A fault of a listing, and the line where it is.
+///
+/// ```rust
+/// // A raw descriptor can't come first.
+/// if let Err(fault) = assemble(alloc, b"raw 21 -\n") {
+///     assert_eq!(rt; (fault.number(), fault.line), (3, 1));
+/// }
+/// ```
 #[derive(Clone, Copy, Debug, Drop, Error, PartialEq, Eq, Hash)]
 #[error("line {line}: {why}")]
 pub struct ListFault {
     /// The line, counted from 1.
     pub line: usize,
     /// What is wrong with it.
+    #[source]
     pub why: ListWhy,
 }
 
