@@ -48,6 +48,7 @@ abbrev pub fault_by_why : SetWhy → SetFault → ToolFault
 fault_by_why whys.Memory fault = faults.Memory
 fault_by_why _ fault = faults.Set fault
 
+-- the program's fault for one of a set
 abbrev pub fault_of_set : SetFault → ToolFault
 fault_of_set fault = fault_by_why fault.why fault
 
@@ -56,6 +57,7 @@ abbrev pub file_fault_by_why : FileWhy → FileFault → ToolFault
 file_fault_by_why files.Memory fault = faults.Memory
 file_fault_by_why _ fault = faults.File fault
 
+-- the program's fault for one of a file
 abbrev pub fault_of_file : FileFault → ToolFault
 fault_of_file fault = file_fault_by_why fault.why fault
 
@@ -64,6 +66,7 @@ abbrev pub list_fault_by_why : ListWhy → ListFault → ToolFault
 list_fault_by_why lists.Memory fault = faults.Memory
 list_fault_by_why _ fault = faults.List fault
 
+-- the program's fault for one of a listing
 abbrev pub fault_of_list : ListFault → ToolFault
 fault_of_list fault = list_fault_by_why fault.why fault
 

@@ -1,7 +1,8 @@
 -- What `show` does to its input and its output.
-use Rattle.std.specs.Prelude.{◌≡◌, ℕ, ◌⊎◌, List, [], ◌∷◌, Bool, true, false, ◌==◌, ◌||◌}
+use Rattle.std.specs.Prelude.{◌≡◌, ℕ, ◌⊎◌, List, [], ◌∷◌, Bool, true, false}
 use Rattle.std.specs.Io.KnownBytes.{Appends, Keeps}
 use Rattle.usb_set.specs.declared.tree.Configuration.{Configuration}
+use Rattle.usb_set.specs.Faults.{is_set_type}
 use Rattle.usb_set.specs.Layout.{Layout}
 use Rattle.usb_file_data.specs.declared.file.DescriptorFile.{DescriptorFile}
 use Rattle.usb_file_data.specs.File.{File}
@@ -21,7 +22,7 @@ use Rattle.usb_tool.specs.declared.fault.ToolFault.TheVariants as faults
 abbrev pub is_one_set : List ℕ → Bool
 is_one_set [] = false
 is_one_set (len ∷ []) = false
-is_one_set (len ∷ kind ∷ rest) = (kind == 2) || (kind == 7)
+is_one_set (len ∷ kind ∷ rest) = is_set_type kind
 
 -- the text is the listing of the set that has these bytes
 pub record IsSetListing (b text : List ℕ) : Type 0 where

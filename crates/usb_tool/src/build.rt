@@ -42,7 +42,7 @@ fn build_text<W: Write>(alloc: Global, text: &[u8], w: &mut W) -> Result<(), Too
 {
     let file = assemble(alloc, text)?;
     let bytes = bytes_of(alloc, &file)?;
-    match write_flushed(w, bytes.as_slice()) {
+    match write_flushed(w, &bytes) {
         Ok(()) => Ok(()),
         Err(_) => Err(ToolFault::Write),
     }

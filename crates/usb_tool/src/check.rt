@@ -40,14 +40,14 @@ fn check_bytes<W: Write>(alloc: Global, bytes: &[u8], w: &mut W) -> Result<u8, T
     let file = read_file(alloc, bytes)?;
     let found = check(alloc, &file)?;
     let text = text_of(alloc, &found)?;
-    match write_flushed(w, text.as_slice()) {
-        Ok(()) => Ok(status_of(&found)),
+    match write_flushed(w, &text) {
+        Ok(()) => Ok(check_status(&found)),
         Err(_) => Err(ToolFault::Write),
     }
 }
 
 /// 1 where something was found.
-fn status_of(found: &[Finding]) -> u8
+fn check_status(found: &[Finding]) -> u8
     ensures { result ≡ check_status found.now }
 {
     match found {

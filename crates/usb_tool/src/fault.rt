@@ -10,6 +10,11 @@ use usb_file::{FileFault, FileWhy, ListFault, ListWhy, OutFault};
 use usb_set::{SetFault, SetWhy};
 
 /// Why a command did not do its work.
+///
+/// ```rust
+/// let fault = ToolFault::Trailing(34);
+/// assert_eq!(rt; format!(in alloc; "{fault}")?.as_str(), "usbdesc: trailing bytes at 34");
+/// ```
 #[derive(Clone, Copy, Debug, PartialEq, Eq, Hash)]
 pub enum ToolFault {
     /// The reader answered an error.

@@ -12,7 +12,9 @@
 //! `specs/Runs.antt`.
 //!
 //! [`converse`] makes control transfers between a host and a device over a bus that loses packets and handshakes.
-//! It and its [`laws`] stand in the crate `usb_bus`.
+//! It takes the description of the device (crate `usb_description`), how many NAKs the host bears, the requests
+//! (`Setup` of `usb_fields`) and a [`Fate`] for each transaction. Its answer is a [`Talk`], with a [`Reply`] for
+//! each request that was completed. It and its [`laws`] stand in the crate `usb_bus`.
 #![tactic(auto)]
 
 mod build;

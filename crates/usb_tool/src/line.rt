@@ -31,7 +31,7 @@ pub enum Line {
 /// want of memory.
 pub fn read_line(alloc: Global, words: &[String]) -> Result<Line, Error>
     ensures line { IfOk result (λ line. Asks line (subcommand_of usbdesc_app (word_texts words.now))) }
-    ensures fails { FailsBy (fault_of usbdesc_app (word_texts words.now)) result }
+    ensures err { FailsBy (fault_of usbdesc_app (word_texts words.now)) result }
 {
     let matches = parse(alloc, words)?;
     Ok(line_of(&matches))
@@ -40,7 +40,7 @@ pub fn read_line(alloc: Global, words: &[String]) -> Result<Line, Error>
 fn parse<'a>(alloc: Global, words: &'a [String]) -> Result<ArgMatches<'a>, Error>
     ensures found { IfOk result (λ m. subcommand_rows_of m ≡ subcommand_of usbdesc_app (word_texts words.entry.now)) }
     ensures asked { IfOk result (λ m. (line : _) × Asks line (subcommand_rows_of m)) }
-    ensures fails { FailsBy (fault_of usbdesc_app (word_texts words.entry.now)) result }
+    ensures err { FailsBy (fault_of usbdesc_app (word_texts words.entry.now)) result }
 {
     command(alloc)?.try_get_matches_from(words)
 }

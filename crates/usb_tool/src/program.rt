@@ -19,7 +19,7 @@ const USAGE: u8 = 2;
 /// Carries out what the words ask for, of which the first is the program's name: `r` is standard input, `w`
 /// standard output and `e` standard error. The result is the exit status: 0 where the command did its work
 /// or help was asked for, 1 where `check` did and has a finding, 2 where the words are no command, and 3 where
-/// the command failed, whose fault's line is then written to `e`. What cannot be written to `e` is lost.
+/// the command failed. The line of its fault is then written to `e`. What cannot be written to `e` is lost.
 ///
 /// ```rust
 /// let words = vec![in alloc; String::from_str(alloc, "usbdesc")?, String::from_str(alloc, "build")?]?;
