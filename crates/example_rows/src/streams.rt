@@ -43,11 +43,16 @@ impl Read for Pieces<'_> {
         self.calls = self.calls.saturating_sub(1);
         let count = self.rest.len().min(buf.len()).min(self.step);
         let (piece, rest) = self.rest.split_at(count);
-        for (to, from) in buf.iter_mut().zip(piece) {
-            *to = *from;
-        }
+        put_front(piece, buf);
         self.rest = rest;
         Ok(count)
+    }
+}
+
+/// Puts the bytes into the front of the buffer.
+fn put_front(bytes: &[u8], buf: &mut [u8]) {
+    for (to, from) in buf.iter_mut().zip(bytes) {
+        *to = *from;
     }
 }
 
@@ -71,12 +76,8 @@ impl<'a> Endless<'a> {
 impl Read for Endless<'_> {
     fn read(&mut self, buf: &mut [u8]) -> Result<usize> {
         let (piece, rest) = self.front.split_at(self.front.len().min(buf.len()));
-        for (to, from) in buf.iter_mut().zip(piece) {
-            *to = *from;
-        }
-        for to in buf.iter_mut().skip(piece.len()) {
-            *to = 0;
-        }
+        buf.fill(0);
+        put_front(piece, buf);
         self.front = rest;
         self.given = self.given.saturating_add(buf.len());
         Ok(buf.len())

@@ -101,7 +101,7 @@ fn put(bytes: &mut Vec<u8>, alloc: Global, word: &str) -> Result<()> {
         bytes.truncate(length.parse::<usize>()?);
         return Ok(());
     }
-    bytes.extend_from_slice(digits_of(alloc, word)?.as_slice())?;
+    bytes.extend_from_slice(&digits_of(alloc, word)?)?;
     Ok(())
 }
 
