@@ -43,20 +43,20 @@ association_of body = record {
   tail = drop 6 body;
 }
 
--- a raw descriptor of type 11 is an association, and any other extra stays
+-- the extra, lifted: a raw descriptor of type 11 is an association, and any other extra stays
 abbrev pub lift_extra : Extra → Extra
 lift_extra (extras.Raw r) = if r.kind == 11 then extras.Association (association_of r.body) else extras.Raw r
 lift_extra (extras.Association a) = extras.Association a
 
--- the endpoint with each of its extras so
+-- an endpoint with each of its extras lifted
 abbrev pub lift_endpoint : Endpoint → Endpoint
 lift_endpoint e = record e { extras = map lift_extra e.extras }
 
--- the setting with its extras and those of its endpoints so
+-- a setting with its own extras and those of its endpoints lifted
 abbrev pub lift_setting : Setting → Setting
 lift_setting s = record s { extras = map lift_extra s.extras; endpoints = map lift_endpoint s.endpoints }
 
--- the set with all its extras so
+-- a set with all its extras lifted
 abbrev pub lift : Configuration → Configuration
 lift c = record c { extras = map lift_extra c.extras; settings = map lift_setting c.settings }
 
