@@ -9,7 +9,7 @@ use Rattle.hex.specs.Hex.{encode_lower, encode_with, lower_digits}
 use Rattle.hex.proofs.HexLemmas.{length-encode_with}
 use Rattle.usb_base.specs.Bytes.{IsByte}
 use Rattle.usb_listing_lines.specs.inside.Digits.{pair_value, value_or}
-use Rattle.usb_listing_lines.specs.inside.Fields.{HoldsBoth, before, pairs_of}
+use Rattle.usb_listing_lines.specs.inside.Fields.{before, pairs_of}
 use Rattle.usb_listing_lines.proofs.DigitLemmas.{pair_again, pair_large, pair_read, pair_small}
 
 -- ---- both ways between bytes and their digits
@@ -104,10 +104,6 @@ decode_done digits bytes i all fits inv =
     inv ∙ ap (λ (d : List ℕ). prepend (take i bytes) (pairs_of d)) (drop_all (2 * i) digits fits)
     ∙ ap Some (append-nil (take i bytes) ∙ take_all i bytes all)
 
--- the bits of two numbers hold both
-pub bits_hold : (a b : ℕ) → HoldsBoth a b (bit_or a b)
-bits_hold a b = record { first = le_or_l a b; second = le_or_r a b; byte = or_of_8 a b }
-
 -- so many pairs are decoded, and these are the bits of all
 pub record Decoding (digits bytes : List ℕ) (i bits : ℕ) : Type 0 where
   pub right : bits < 256 → pairs_of digits ≡ prepend (take i bytes) (pairs_of (drop (2 * i) digits))
@@ -116,28 +112,28 @@ pub record Decoding (digits bytes : List ℕ) (i bits : ℕ) : Type 0 where
 pub decoding_none : (digits bytes : List ℕ) → Decoding digits bytes 0 0
 decoding_none digits bytes = record { right = λ lt. prepend-nil (pairs_of digits); wrong = λ le. absurd (omega arith) }
 
-pub decoding_next : (digits bytes : List ℕ) (i bits byte more : ℕ) → 2 * i + 1 < length digits → i < length bytes
-    → byte ≡ value_or (slice_index digits (2 * i)) * 16 + value_or (slice_index digits (2 * i + 1)) → HoldsBoth bits byte more
-    → Decoding digits bytes i bits → Decoding digits (slice_set bytes i (byte % 256)) (i + 1) more
-decoding_next digits bytes i bits byte more fits room is g d = record { right = right; wrong = wrong }
+pub decoding_next : (digits bytes : List ℕ) (i bits byte : ℕ) → 2 * i + 1 < length digits → i < length bytes
+    → byte ≡ value_or (slice_index digits (2 * i)) * 16 + value_or (slice_index digits (2 * i + 1))
+    → Decoding digits bytes i bits → Decoding digits (slice_set bytes i (byte % 256)) (i + 1) (bit_or bits byte)
+decoding_next digits bytes i bits byte fits room is d = record { right = right; wrong = wrong }
   where
     here : byte < 256 → pair_value (slice_index digits (2 * i)) (slice_index digits (2 * i + 1)) ≡ Some (byte % 256)
     here lt =
         let same : byte % 256 ≡ byte = omega (arith, lt) in
         sym (pair_small (slice_index digits (2 * i)) (slice_index digits (2 * i + 1)) (omega (arith, is, lt))) ∙ ap Some (sym is ∙ sym same)
 
-    right : more < 256 → pairs_of digits ≡ prepend (take (i + 1) (slice_set bytes i (byte % 256))) (pairs_of (drop (2 * (i + 1)) digits))
+    right : bit_or bits byte < 256 → pairs_of digits ≡ prepend (take (i + 1) (slice_set bytes i (byte % 256))) (pairs_of (drop (2 * (i + 1)) digits))
     right lt =
-        let a = g.first in
-        let b = g.second in
+        let a = le_or_l bits byte in
+        let b = le_or_r bits byte in
         decode_step digits bytes i (byte % 256) fits room (here (omega (arith, b, lt))) (d.right (omega (arith, a, lt)))
 
     bad : 256 ≤ byte → bits < 256 → pairs_of digits ≡ None
     bad le lt =
         decode_none digits bytes i fits (sym (pair_large (slice_index digits (2 * i)) (slice_index digits (2 * i + 1)) (omega (arith, is, le)))) (d.right lt)
 
-    wrong : 256 ≤ more → pairs_of digits ≡ None
-    wrong le = elim (cases_lt bits 256) [ inl below ↦ elim (cases_lt byte 256) [ inl small ↦ let lt = g.byte below small in absurd (omega (arith, le, lt)) | inr large ↦ bad large below ] | inr above ↦ d.wrong above ]
+    wrong : 256 ≤ bit_or bits byte → pairs_of digits ≡ None
+    wrong le = elim (cases_lt bits 256) [ inl below ↦ elim (cases_lt byte 256) [ inl small ↦ let lt = or_of_8 bits byte below small in absurd (omega (arith, le, lt)) | inr large ↦ bad large below ] | inr above ↦ d.wrong above ]
 
 pub decoding_done : (digits bytes : List ℕ) (i bits : ℕ) → length bytes ≤ i → length digits ≤ 2 * i → Decoding digits bytes i bits
     → pairs_of digits ≡ cond (ltb bits 256) (Some bytes) None

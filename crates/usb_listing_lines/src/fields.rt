@@ -84,7 +84,7 @@ fn decode(alloc: Global, digits: &[u8]) -> Result<Option<Sequence<u8>>, AllocErr
 
 /// Writes the bytes of pairs of digits, and tells whether all are lower-case ones. Whether they are is looked
 /// at once, at the end.
-#[tactic(auto, using(crate::proofs::DecodeLemmas::bits_hold, crate::proofs::DecodeLemmas::decoding_none, crate::proofs::DecodeLemmas::decoding_next, crate::proofs::DecodeLemmas::decoding_done))]
+#[tactic(auto, using(crate::proofs::DecodeLemmas::decoding_none, crate::proofs::DecodeLemmas::decoding_next, crate::proofs::DecodeLemmas::decoding_done))]
 fn decode_into(digits: &[u8], bytes: &mut [u8]) -> bool
     requires { length digits.now ≡ 2 * length bytes.old }
     ensures { pairs_of digits.now ≡ (if result then Some bytes.new else None) }

@@ -1,6 +1,6 @@
 -- The fields of a line, read.
 use Rattle.std.specs.Str.{bytes_eq}
-use Rattle.std.specs.Prelude.{◌<◌, codes, ℕ, ◌*◌, ◌≤◌, ◌==◌, ◌||◌, nat_lt, length, if◌then◌else◌, Option, Some, None, Bool, true, false, List, [], ◌∷◌, ◌++◌}
+use Rattle.std.specs.Prelude.{codes, ℕ, ◌*◌, ◌==◌, ◌||◌, nat_lt, length, if◌then◌else◌, Option, Some, None, Bool, true, false, List, [], ◌∷◌, ◌++◌}
 use Rattle.usb_listing_lines.specs.inside.Digits.{pair_value}
 
 -- a byte that was read, and what stands behind it
@@ -69,9 +69,3 @@ tail_behind most (Some text) =
 -- a tail that ends a line
 unfoldable pub tail_of : ℕ → List ℕ → Option (List ℕ)
 tail_of most text = tail_behind most (behind_space text)
-
--- a number that is a byte where both are, and only there
-pub record HoldsBoth (a b n : ℕ) : Type 0 where
-  pub first : a ≤ n
-  pub second : b ≤ n
-  pub byte : a < 256 → b < 256 → n < 256
