@@ -52,16 +52,22 @@ struct Totals {
 pub fn totals_text(alloc: Global) -> Result<String> {
     let mut text = String::new(alloc);
     for packet in [64, 8] {
-        let mut bytes = FILE;
-        bytes[PACKET_AT] = packet;
-        let file = read_file(alloc, &bytes).context("the descriptors of a mouse")?;
-        let description = Description::new(alloc, file, Speed::Full).context("a mouse")?;
-        for naks in [0, 2] {
-            let totals = totals_of(alloc, &description, naks)?;
-            text.push_str(line(alloc, packet, naks, totals)?.as_str())?;
-        }
+        add_lines(alloc, packet, &mut text)?;
     }
     Ok(text)
+}
+
+/// Adds the lines of this packet size.
+fn add_lines(alloc: Global, packet: u8, text: &mut String) -> Result<()> {
+    let mut bytes = FILE;
+    bytes[PACKET_AT] = packet;
+    let file = read_file(alloc, &bytes).context("the descriptors of a mouse")?;
+    let description = Description::new(alloc, file, Speed::Full).context("a mouse")?;
+    for naks in [0, 2] {
+        let totals = totals_of(alloc, &description, naks)?;
+        text.push_str(line(alloc, packet, naks, totals)?.as_str())?;
+    }
+    Ok(())
 }
 
 fn line(alloc: Global, packet: u8, naks: u16, t: Totals) -> Result<String, AllocError> {

@@ -3,7 +3,7 @@
 /// What a bus does to one transaction.
 ///
 /// ```rust
-/// // SETUP is lost once, and the device is not ready once: five transactions in the place of three.
+/// // A read of one packet. SETUP is lost once, and the device is not ready once: five transactions in place of three.
 /// let setup = Setup::from_bytes(&[0x80, 6, 0, 1, 0, 0, 18, 0]);
 /// let talk = converse(alloc, &description, 16, &[setup], &[Fate::LostDown, Fate::Pass, Fate::Busy])?;
 /// assert_eq!(rt; talk.transactions, 5);
