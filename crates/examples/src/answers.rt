@@ -8,26 +8,23 @@ use std::alloc::Global;
 pub(crate) fn answer(alloc: Global, row: &Row) -> Result<Answer> {
     let words = row.words.as_slice();
     let lines = row.lines.as_str();
-    if row.call.as_str() == "usbdesc" {
-        return program::usbdesc(alloc, words);
-    }
-    if row.call.as_str() == "build" {
-        return program::build(alloc, words, lines);
-    }
     let text = match row.call.as_str() {
+        "usbdesc" => return program::usbdesc(alloc, words),
+        "feed" => return sets::feed(alloc, words),
         "setup" => fields::setup(alloc, words)?,
         "device" => fields::device(alloc, words)?,
         "qualifier" => fields::qualifier(alloc, words)?,
+        "endpoint" => fields::endpoint(alloc, words)?,
         "units" => fields::units(alloc, words)?,
         "write_units" => fields::write_string(alloc, words)?,
         "set" => sets::set(alloc, words)?,
-        "feed" => sets::feed(alloc, words)?,
         "encode" => sets::encode_lines(alloc, lines)?,
         "file" => files::file(alloc, words)?,
         "check" => files::findings(alloc, words)?,
         "fronts" => files::fronts(alloc, words)?,
         "write" => files::write_lines(alloc, lines)?,
         "named" => files::named_lines(alloc, lines)?,
+        "build" => program::build(alloc, words, lines)?,
         "cuts" => program::cuts(alloc, lines)?,
         "failing_reads" => failing::failing_reads(alloc, row)?,
         "failing_writes" => failing::failing_writes(alloc, row)?,

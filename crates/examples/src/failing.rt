@@ -1,70 +1,44 @@
 //! Rows on readers and writers that fail, with each of the program's commands.
-use crate::program::changed_text;
+use crate::program::{changed_text, told};
 use anyhow::{Context, Result, bail, ensure};
 use example_rows::{End, Endless, Pieces, Row, Sheet};
 use std::alloc::Global;
-use std::io::{Read, Write};
-use usb_tool::{ToolFault, run_build, run_check, run_show, verdict};
 
-/// What a run comes to.
-type Outcome = std::result::Result<u8, ToolFault>;
-
-/// A command that reads its input to the end and then writes.
-#[derive(Clone, Copy, Debug, PartialEq, Eq)]
-enum Command {
-    Show,
-    Check,
-    Build,
-}
-
-impl Command {
-    fn of_word(word: &str) -> Result<Command> {
-        match word {
-            "show" => Ok(Command::Show),
-            "check" => Ok(Command::Check),
-            "build" => Ok(Command::Build),
-            _ => bail!("no command is named {word}"),
-        }
-    }
-
-    fn run<R: Read, W: Write>(self, alloc: Global, r: &mut R, w: &mut W) -> Outcome {
-        match self {
-            Command::Show => run_show(alloc, r, w),
-            Command::Check => run_check(alloc, r, w),
-            Command::Build => run_build(alloc, r, w),
-        }
-    }
-}
-
-/// A run over an input: what it writes, and the number in its `Ok`.
+/// A run of the program over an input: its word, what it writes, and how it ends.
 #[derive(Drop)]
 struct Case {
-    command: Command,
+    word: String,
     input: Vec<u8>,
     written: Vec<u8>,
-    number: u8,
+    told: String,
 }
 
-/// The run that a row asks for. Its first word is the command; its input is the bytes of its lines, once the
-/// words from the second on that are left have changed them.
-fn case_of(alloc: Global, lines: &str, command: &str, words: &[String]) -> Result<Case> {
-    let command = Command::of_word(command)?;
-    let input = changed_text(alloc, words, lines)?;
+/// The word of the program that a row begins with, and its other words.
+fn word_of(row: &Row) -> Result<(&str, &[String])> {
+    let (word, words) = row.words.split_first().context("no command")?;
+    Ok((word.as_str(), words))
+}
+
+/// The run with this word, which succeeds. Its input is the bytes of the row's lines, once the words have changed
+/// them.
+fn case_of(alloc: Global, row: &Row, word: &str, words: &[String]) -> Result<Case> {
+    let input = changed_text(alloc, words, row.lines.as_str())?;
     let mut written = Vec::new(alloc);
-    let number = command.run(alloc, &mut input.as_slice(), &mut written)?;
+    let told = told(alloc, word, &mut input.as_slice(), &mut written)?;
+    ensure!(told.len() == 1, "{told}");
     Ok(Case {
-        command,
+        word: String::from_str(alloc, word)?,
         input,
         written,
-        number,
+        told,
     })
 }
 
 /// The run that a row asks for, behind whose command stands a number.
 fn case_and_number(alloc: Global, row: &Row) -> Result<(Case, usize)> {
-    let (command, words) = row.words.split_first().context("no command")?;
+    let (word, words) = word_of(row)?;
     let (number, words) = words.split_first().context("no number")?;
-    let case = case_of(alloc, row.lines.as_str(), command.as_str(), words)?;
+    let case = case_of(alloc, row, word, words)?;
     Ok((case, number.parse::<usize>()?))
 }
 
@@ -87,18 +61,13 @@ pub(crate) fn failing_reads(alloc: Global, row: &Row) -> Result<String> {
 /// Whether the reader fails in a run: then it is not asked again, and nothing is written.
 fn fails_to_read(alloc: Global, case: &Case, reader: &mut Pieces<'_>) -> Result<bool> {
     let mut text = Vec::new(alloc);
-    let outcome = case.command.run(alloc, reader, &mut text);
+    let told = told(alloc, case.word.as_str(), reader, &mut text)?;
     if reader.failed == 0 {
-        ensure!(
-            outcome == Ok(case.number) && text == case.written,
-            "something else is written"
-        );
+        ensure!(told == case.told, "a fault though no call failed: {told}");
+        ensure!(text == case.written, "something else is written");
         return Ok(false);
     }
-    ensure!(
-        outcome == Err(ToolFault::Read),
-        "a call fails and that is not told"
-    );
+    ensure!(told.as_str() == "3 usbdesc: read failed", "{told}");
     ensure!(text.is_empty(), "something is written though a call fails");
     ensure!(
         reader.failed == 1 && reader.after == 0,
@@ -136,36 +105,24 @@ fn failing_writer(alloc: Global, case: &Case, step: usize, end: End) -> Result<u
 
 /// Whether the writer fails in a run: then it holds a front of the output, and else all of it.
 fn fails_to_write(alloc: Global, case: &Case, sheet: &mut Sheet) -> Result<bool> {
-    let outcome = write_to(alloc, case, sheet)?;
+    let told = write_to(alloc, case, sheet)?;
     if !sheet.ended {
-        ensure!(outcome == Ok(case.number), "a fault though no call failed");
+        ensure!(told == case.told, "a fault though no call failed: {told}");
         ensure!(sheet.text == case.written, "less than all is written");
         return Ok(false);
     }
-    ensure!(
-        outcome == Err(ToolFault::Write),
-        "a call fails and that is not told"
-    );
+    ensure!(told.as_str() == "3 usbdesc: write failed", "{told}");
     Ok(true)
 }
 
-/// What a run with this writer comes to, which then holds a front of the output.
-fn write_to(alloc: Global, case: &Case, sheet: &mut Sheet) -> Result<Outcome> {
-    let outcome = case.command.run(alloc, &mut case.input.as_slice(), sheet);
+/// How a run with this writer ends, which then holds a front of the output.
+fn write_to(alloc: Global, case: &Case, sheet: &mut Sheet) -> Result<String> {
+    let told = told(alloc, case.word.as_str(), &mut case.input.as_slice(), sheet)?;
     ensure!(
-        case.written.as_slice().starts_with(&sheet.text),
+        case.written.starts_with(&sheet.text),
         "no front of the output"
     );
-    Ok(outcome)
-}
-
-/// The exit status, and the fault if there is one.
-fn told(alloc: Global, outcome: &Outcome) -> Result<String> {
-    let status = verdict(outcome);
-    match outcome {
-        Ok(_) => Ok(format!(in alloc; "{status}")?),
-        Err(fault) => Ok(format!(in alloc; "{status} {fault}")?),
-    }
+    Ok(told)
 }
 
 /// What comes of a write that fails after so many calls that took a byte each: the fault of the run, and how much
@@ -173,38 +130,29 @@ fn told(alloc: Global, outcome: &Outcome) -> Result<String> {
 pub(crate) fn failing_write(alloc: Global, row: &Row) -> Result<String> {
     let (case, calls) = case_and_number(alloc, row)?;
     let mut sheet = Sheet::new(alloc, 1, calls, End::Fails);
-    let outcome = write_to(alloc, &case, &mut sheet)?;
-    let told = told(alloc, &outcome)?;
-    if outcome.is_ok() {
-        return Ok(told);
-    }
+    let told = write_to(alloc, &case, &mut sheet)?;
     Ok(format!(in alloc; "{told}, {} bytes written", sheet.text.len())?)
 }
 
 /// What comes of a flush that fails: the fault of the run, after the whole output.
 pub(crate) fn failing_flush(alloc: Global, row: &Row) -> Result<String> {
-    let (command, words) = row.words.split_first().context("no command")?;
-    let case = case_of(alloc, row.lines.as_str(), command.as_str(), words)?;
+    let (word, words) = word_of(row)?;
+    let case = case_of(alloc, row, word, words)?;
     let mut sheet = Sheet::new(alloc, usize::MAX, usize::MAX, End::Fails);
     sheet.flushes = false;
-    let outcome = write_to(alloc, &case, &mut sheet)?;
+    let told = write_to(alloc, &case, &mut sheet)?;
     ensure!(sheet.text == case.written, "less than all is written");
-    told(alloc, &outcome)
+    Ok(told)
 }
 
 /// What comes of the bytes with zeros without end behind them, of which nothing is written, and how many bytes are
 /// read.
 pub(crate) fn endless(alloc: Global, row: &Row) -> Result<String> {
-    let (command, words) = row.words.split_first().context("no command")?;
-    let command = Command::of_word(command.as_str())?;
+    let (word, words) = word_of(row)?;
     let bytes = changed_text(alloc, words, row.lines.as_str())?;
     let mut reader = Endless::new(&bytes);
     let mut text = Vec::new(alloc);
-    let outcome = command.run(alloc, &mut reader, &mut text);
+    let told = told(alloc, word, &mut reader, &mut text)?;
     ensure!(text.is_empty(), "something is written");
-    let told = told(alloc, &outcome)?;
-    if outcome.is_ok() {
-        return Ok(told);
-    }
     Ok(format!(in alloc; "{told}, {} bytes read", reader.given)?)
 }

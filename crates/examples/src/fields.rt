@@ -1,59 +1,36 @@
 //! Rows on single descriptors and setup packets.
-use anyhow::{Result, ensure};
+use anyhow::{Result, bail, ensure};
 use example_rows::{bytes_of, units_of};
 use std::alloc::Global;
-use usb_fields::{
-    Class, DeviceDescriptor, Direction, Qualifier, Recipient, Setup, UnitFault, read_units,
-    write_units,
-};
+use usb_fields::{DeviceDescriptor, Qualifier, Setup, read_units, write_units};
+use usb_set::{Endpoint, Sequence};
+
+/// The number of a fault.
+pub(crate) fn fault(alloc: Global, number: u8) -> Result<String> {
+    Ok(format!(in alloc; "fault {number}")?)
+}
 
 /// The fields of a setup packet, which gives its bytes again.
 pub(crate) fn setup(alloc: Global, words: &[String]) -> Result<String> {
     let bytes = bytes_of(alloc, words)?;
     let Ok(packet) = <&[u8; 8]>::try_from(bytes.as_slice()) else {
-        anyhow::bail!("not eight bytes");
+        bail!("not eight bytes");
     };
     let setup = Setup::from_bytes(packet);
     ensure!(setup.to_bytes() == *packet, "other bytes are written");
-    let direction = direction_word(setup.direction());
-    let class = class_word(setup.class());
-    let recipient = recipient_word(setup.recipient());
+    let direction = setup.direction();
+    let class = setup.class();
+    let recipient = setup.recipient();
     Ok(format!(in alloc;
-        "{:02x} {:02x} {:04x} {:04x} {:04x} {direction} {class} {recipient}",
+        "{:02x} {:02x} {:04x} {:04x} {:04x} {direction:?} {class:?} {recipient:?}",
         setup.request_type, setup.request, setup.value, setup.index, setup.length
     )?)
-}
-
-fn direction_word(direction: Direction) -> &'static str {
-    match direction {
-        Direction::Out => "out",
-        Direction::In => "in",
-    }
-}
-
-fn class_word(class: Class) -> &'static str {
-    match class {
-        Class::Standard => "standard",
-        Class::Class => "class",
-        Class::Vendor => "vendor",
-        Class::Reserved => "reserved",
-    }
-}
-
-fn recipient_word(recipient: Recipient) -> &'static str {
-    match recipient {
-        Recipient::Device => "device",
-        Recipient::Interface => "interface",
-        Recipient::Endpoint => "endpoint",
-        Recipient::Other => "other",
-        Recipient::Reserved => "reserved",
-    }
 }
 
 /// The fields of a device descriptor, which gives its bytes again.
 pub(crate) fn device(alloc: Global, words: &[String]) -> Result<String> {
     let bytes = bytes_of(alloc, words)?;
-    match DeviceDescriptor::read(bytes.as_slice()) {
+    match DeviceDescriptor::read(&bytes) {
         Ok(d) => {
             ensure!(
                 d.to_bytes().as_slice() == bytes.as_slice(),
@@ -75,14 +52,14 @@ pub(crate) fn device(alloc: Global, words: &[String]) -> Result<String> {
                 d.configurations
             )?)
         }
-        Err(fault) => Ok(format!(in alloc; "fault {}", fault.number())?),
+        Err(why) => fault(alloc, why.number()),
     }
 }
 
 /// The fields of a qualifier, which gives its bytes again.
 pub(crate) fn qualifier(alloc: Global, words: &[String]) -> Result<String> {
     let bytes = bytes_of(alloc, words)?;
-    match Qualifier::read(bytes.as_slice()) {
+    match Qualifier::read(&bytes) {
         Ok(q) => {
             ensure!(
                 q.to_bytes().as_slice() == bytes.as_slice(),
@@ -93,37 +70,51 @@ pub(crate) fn qualifier(alloc: Global, words: &[String]) -> Result<String> {
                 q.usb, q.class, q.subclass, q.protocol, q.packet, q.configurations, q.reserved
             )?)
         }
-        Err(fault) => Ok(format!(in alloc; "fault {}", fault.number())?),
+        Err(why) => fault(alloc, why.number()),
     }
+}
+
+/// What an endpoint is by the bytes of its address and its attributes.
+pub(crate) fn endpoint(alloc: Global, words: &[String]) -> Result<String> {
+    let bytes = bytes_of(alloc, words)?;
+    let [address, attributes] = bytes.as_slice() else {
+        bail!("not two bytes");
+    };
+    let endpoint = Endpoint {
+        address: *address,
+        attributes: *attributes,
+        max_packet: 0,
+        interval: 0,
+        tail: Sequence::new(alloc),
+        extras: Sequence::new(alloc),
+    };
+    let direction = endpoint.direction();
+    let kind = endpoint.transfer_type();
+    Ok(format!(in alloc; "{direction:?} {} {kind:?}", endpoint.number())?)
 }
 
 /// The units of a string, which give its bytes again.
 pub(crate) fn units(alloc: Global, words: &[String]) -> Result<String> {
     let bytes = bytes_of(alloc, words)?;
-    match read_units(alloc, bytes.as_slice()) {
+    match read_units(alloc, &bytes) {
         Ok(units) => {
-            let again = write_units(alloc, &units)?;
             ensure!(
-                again.as_slice() == bytes.as_slice(),
+                write_units(alloc, &units)? == bytes,
                 "other bytes are written"
             );
             written_units(alloc, &units)
         }
-        Err(fault) => fault_of_units(alloc, fault),
+        Err(why) => fault(alloc, why.number()),
     }
 }
 
 /// The bytes of a string with these units.
 pub(crate) fn write_string(alloc: Global, words: &[String]) -> Result<String> {
-    let units = units_of(alloc, bytes_of(alloc, words)?.as_slice())?;
-    match write_units(alloc, units.as_slice()) {
+    let units = units_of(alloc, &bytes_of(alloc, words)?)?;
+    match write_units(alloc, &units) {
         Ok(bytes) => Ok(hex::encode(alloc, &bytes)?),
-        Err(fault) => fault_of_units(alloc, fault),
+        Err(why) => fault(alloc, why.number()),
     }
-}
-
-fn fault_of_units(alloc: Global, fault: UnitFault) -> Result<String> {
-    Ok(format!(in alloc; "fault {}", fault.number())?)
 }
 
 /// The units as four digits each, or `none`.

@@ -1,16 +1,16 @@
 //! Rows on descriptor files.
+use crate::fields::fault;
+use crate::program::fault_of;
 use crate::tree::file_of;
 use anyhow::{Result, ensure};
 use example_rows::bytes_of;
 use std::alloc::Global;
-use usb_file::{
-    DescriptorFile, FileFault, FileWhy, WriteFault, check, named, read_file, write_file,
-};
+use usb_file::{DescriptorFile, FileFault, FileWhy, check, named, read_file, write_file};
 
 /// The named indices of the file that the bytes are, or their fault. A file gives its bytes again.
 pub(crate) fn file(alloc: Global, words: &[String]) -> Result<String> {
     let bytes = bytes_of(alloc, words)?;
-    match read(alloc, &bytes) {
+    match read_file(alloc, &bytes) {
         Ok(file) => {
             write_again(alloc, &bytes, &file)?;
             ensure!(file.clone()? == file, "a copy is another file");
@@ -20,21 +20,12 @@ pub(crate) fn file(alloc: Global, words: &[String]) -> Result<String> {
     }
 }
 
-/// The file that the bytes are, or their fault. A call of its own, so that its callers are proved without the long
-/// contract of `read_file`.
-pub(crate) fn read(alloc: Global, bytes: &[u8]) -> std::result::Result<DescriptorFile, FileFault> {
-    read_file(alloc, bytes)
-}
-
-/// The bytes of the file, or why it has none; a call of its own likewise.
-fn written(alloc: Global, file: &DescriptorFile) -> std::result::Result<Vec<u8>, WriteFault> {
-    write_file(alloc, file)
-}
-
 /// Writes the file to the bytes from which it was read.
 pub(crate) fn write_again(alloc: Global, bytes: &[u8], file: &DescriptorFile) -> Result<()> {
-    let again = written(alloc, file)?;
-    ensure!(again.as_slice() == bytes, "other bytes are written");
+    ensure!(
+        write_file(alloc, file)?.as_slice() == bytes,
+        "other bytes are written"
+    );
     Ok(())
 }
 
@@ -61,7 +52,7 @@ fn indices(alloc: Global, file: &DescriptorFile) -> Result<String> {
 /// What breaks the rules of chapter 9 in the file that the bytes are.
 pub(crate) fn findings(alloc: Global, words: &[String]) -> Result<String> {
     let bytes = bytes_of(alloc, words)?;
-    let file = read(alloc, &bytes)?;
+    let file = read_file(alloc, &bytes)?;
     let found = check(alloc, &file)?;
     let mut text = String::new(alloc);
     for finding in found.iter() {
@@ -74,20 +65,23 @@ pub(crate) fn findings(alloc: Global, words: &[String]) -> Result<String> {
     Ok(text)
 }
 
-/// Cuts the file at each length below its own: each front is told to be truncated at its end.
+/// Cuts the file at each length below its own: each front is told to be truncated at its end, by the program too.
 pub(crate) fn fronts(alloc: Global, words: &[String]) -> Result<String> {
     let bytes = bytes_of(alloc, words)?;
     for length in 0..bytes.len() {
-        let front = bytes.as_slice().get(..length).unwrap_or(&[]);
+        let front = bytes.get(..length).unwrap_or(&[]);
         let truncated = FileFault {
             at: length,
             why: FileWhy::Truncated,
         };
-        let fault = read(alloc, front).err();
+        let fault = read_file(alloc, front).err();
         ensure!(
             fault == Some(truncated),
             "the front of {length} bytes is answered so: {fault:?}"
         );
+        let told = fault_of(alloc, "show", front)?;
+        let wanted = format!(in alloc; "usbdesc: file fault 6 at {length}")?;
+        ensure!(told == wanted, "the front of {length} bytes: {told}");
     }
     Ok(format!(in alloc; "{} truncated", bytes.len())?)
 }
@@ -95,12 +89,15 @@ pub(crate) fn fronts(alloc: Global, words: &[String]) -> Result<String> {
 /// The bytes of the file that the lines say, or why it has none. It is read back.
 pub(crate) fn write_lines(alloc: Global, lines: &str) -> Result<String> {
     let file = file_of(alloc, lines)?;
-    match written(alloc, &file) {
+    match write_file(alloc, &file) {
         Ok(bytes) => {
-            ensure!(read(alloc, &bytes)? == file, "another file is read back");
+            ensure!(
+                read_file(alloc, &bytes)? == file,
+                "another file is read back"
+            );
             Ok(hex::encode(alloc, &bytes)?)
         }
-        Err(fault) => Ok(format!(in alloc; "fault {}", fault.number())?),
+        Err(why) => fault(alloc, why.number()),
     }
 }
 

@@ -4,7 +4,6 @@
 #![tactic(auto)]
 
 mod answers;
-mod end_messages;
 mod failing;
 mod fields;
 mod files;
@@ -16,7 +15,6 @@ mod tree;
 
 use anyhow::{Context, Result, bail, ensure};
 use example_rows::rows_of;
-use real::Kind;
 use std::fs;
 use std::rt::Files;
 
@@ -38,9 +36,9 @@ fn go_through<R: Files + AllocGlobal>(rt: &R, line: &str) -> Result<String> {
     if kind == "rows" {
         rows(rt, name)
     } else if kind == "set" {
-        real::go_through(rt, Kind::Set, name)
+        real::set(rt, name)
     } else if kind == "file" {
-        real::go_through(rt, Kind::File, name)
+        real::file(rt, name)
     } else if kind == "listing" {
         real::build(rt, name)
     } else if kind == "broken" {

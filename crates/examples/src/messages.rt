@@ -1,10 +1,11 @@
 //! Rows on the faults: each has a number and a message.
-use crate::end_messages::of_ends;
-use anyhow::{Context, Result, bail};
+use anyhow::{Result, bail};
 use std::alloc::Global;
 use std::fmt::Display;
+use usb_device::DescriptionFault;
 use usb_fields::{FieldFault, UnitFault};
-use usb_file::{FileFault, FileWhy, OutFault, WriteFault};
+use usb_file::{FileFault, FileWhy, Finding, ListFault, ListWhy, OutFault, Part, WriteFault};
+use usb_host::{LimitFault, Why};
 use usb_set::{EncodeFault, SetFault, SetWhy};
 use usb_tool::{ToolFault, verdict};
 
@@ -61,88 +62,100 @@ const WRITE_FAULTS: [WriteFault; 5] = [
 
 const OUT_FAULTS: [OutFault; 2] = [OutFault::Write, OutFault::Memory];
 
-/// The message of the fault of the type that the first word names, with the number that the second is.
+/// All that can be wrong with a line of a listing.
+const LIST_WHYS: [ListWhy; 7] = [
+    ListWhy::Line,
+    ListWhy::Word,
+    ListWhy::Place,
+    ListWhy::Field,
+    ListWhy::TooLong,
+    ListWhy::Missing,
+    ListWhy::Memory,
+];
+
+/// Why there is no device; of the rules, that the second endpoint of a set breaks the twelfth.
+const DESCRIPTION_FAULTS: [DescriptionFault; 5] = [
+    DescriptionFault::Finding(Finding {
+        rule: 12,
+        part: Part::Main,
+        set: 0,
+        setting: 0,
+        endpoint: 1,
+    }),
+    DescriptionFault::Texts,
+    DescriptionFault::Speed,
+    DescriptionFault::Memory,
+    DescriptionFault::Unwritable,
+];
+
+const LIMIT_FAULTS: [LimitFault; 2] = [LimitFault::Address, LimitFault::Attempts];
+
+/// All that can go wrong in a transfer.
+const TRANSFER_WHYS: [Why; 7] = [
+    Why::NoAnswer,
+    Why::Busy,
+    Why::Stalled,
+    Why::TooLong,
+    Why::Unexpected,
+    Why::Malformed,
+    Why::Memory,
+];
+
+/// The message of the fault of the type that the first word names, with the number that the second is. A fault of
+/// a set is one at 27, of a file at 45, and of a listing in line 12.
 pub(crate) fn message(alloc: Global, words: &[String]) -> Result<String> {
     let [name, number] = words else {
         bail!("not a type and a number");
     };
-    let found = of_name(alloc, name.as_str(), number.parse::<u8>()?)?;
-    found.context("no fault of that number")
-}
-
-/// The message of the fault of this type with this number; a fault of a set is one at 27, of a file at 45.
-fn of_name(alloc: Global, name: &str, number: u8) -> Result<Option<String>> {
-    match name {
-        "FieldFault" => shown(
-            alloc,
-            FIELD_FAULTS
-                .iter()
-                .find(|fault| fault.number() == number)
-                .copied(),
-        ),
-        "UnitFault" => shown(
-            alloc,
-            UNIT_FAULTS
-                .iter()
-                .find(|fault| fault.number() == number)
-                .copied(),
-        ),
-        "SetWhy" => shown(alloc, set_why(number)),
-        "SetFault" => match set_why(number) {
-            Some(why) => shown(alloc, Some(SetFault { at: 27, why })),
-            None => Ok(None),
-        },
-        "EncodeFault" => shown(
-            alloc,
-            ENCODE_FAULTS
-                .iter()
-                .find(|fault| fault.number() == number)
-                .copied(),
-        ),
-        "FileWhy" => shown(alloc, file_why(number)),
-        "FileFault" => match file_why(number) {
-            Some(why) => shown(alloc, Some(FileFault { at: 45, why })),
-            None => Ok(None),
-        },
-        "WriteFault" => shown(
-            alloc,
-            WRITE_FAULTS
-                .iter()
-                .find(|fault| fault.number() == number)
-                .copied(),
-        ),
-        "OutFault" => shown(
-            alloc,
-            OUT_FAULTS
-                .iter()
-                .find(|fault| fault.number() == number)
-                .copied(),
-        ),
-        "ToolFault" => of_tool(alloc, number),
-        _ => of_ends(alloc, name, number),
+    let n = number.parse::<u8>()?;
+    match name.as_str() {
+        "FieldFault" => numbered(alloc, &FIELD_FAULTS, FieldFault::number, n),
+        "UnitFault" => numbered(alloc, &UNIT_FAULTS, UnitFault::number, n),
+        "SetWhy" => numbered(alloc, &SET_WHYS, SetWhy::number, n),
+        "SetFault" => {
+            let faults = SET_WHYS.map(|why| SetFault { at: 27, why });
+            numbered(alloc, &faults, SetFault::number, n)
+        }
+        "EncodeFault" => numbered(alloc, &ENCODE_FAULTS, EncodeFault::number, n),
+        "FileWhy" => numbered(alloc, &FILE_WHYS, FileWhy::number, n),
+        "FileFault" => {
+            let faults = FILE_WHYS.map(|why| FileFault { at: 45, why });
+            numbered(alloc, &faults, FileFault::number, n)
+        }
+        "WriteFault" => numbered(alloc, &WRITE_FAULTS, WriteFault::number, n),
+        "OutFault" => numbered(alloc, &OUT_FAULTS, OutFault::number, n),
+        "ToolFault" => of_tool(alloc, n),
+        "ListWhy" => numbered(alloc, &LIST_WHYS, ListWhy::number, n),
+        "ListFault" => {
+            let faults = LIST_WHYS.map(|why| ListFault { line: 12, why });
+            numbered(alloc, &faults, ListFault::number, n)
+        }
+        "DescriptionFault" => numbered(alloc, &DESCRIPTION_FAULTS, DescriptionFault::number, n),
+        "LimitFault" => numbered(alloc, &LIMIT_FAULTS, LimitFault::number, n),
+        "Why" => numbered(alloc, &TRANSFER_WHYS, Why::number, n),
+        _ => bail!("no such type"),
     }
 }
 
-/// The message of a fault, if there is one.
-pub(crate) fn shown<T: Display + Drop>(alloc: Global, fault: Option<T>) -> Result<Option<String>> {
-    match fault {
-        Some(fault) => Ok(Some(format!(in alloc; "{fault}")?)),
-        None => Ok(None),
+/// The message of the fault with this number.
+fn numbered<T: Display + Copy, F: Fn(T) -> u8>(
+    alloc: Global,
+    faults: &[T],
+    number_of: F,
+    number: u8,
+) -> Result<String>
+    requires { F.IsAlwaysCallable number_of }
+{
+    for fault in faults {
+        if number_of(*fault) == number {
+            return Ok(format!(in alloc; "{fault}")?);
+        }
     }
-}
-
-/// What is wrong with a set, by its number.
-fn set_why(number: u8) -> Option<SetWhy> {
-    SET_WHYS.iter().find(|why| why.number() == number).copied()
-}
-
-/// What is wrong with a file, by its number.
-fn file_why(number: u8) -> Option<FileWhy> {
-    FILE_WHYS.iter().find(|why| why.number() == number).copied()
+    bail!("no fault of that number")
 }
 
 /// The line of a fault of the program, and the status that it ends with.
-fn of_tool(alloc: Global, number: u8) -> Result<Option<String>> {
+fn of_tool(alloc: Global, number: u8) -> Result<String> {
     for fault in [
         ToolFault::Read,
         ToolFault::Write,
@@ -151,9 +164,9 @@ fn of_tool(alloc: Global, number: u8) -> Result<Option<String>> {
             at: 45,
             why: FileWhy::Set(SetWhy::Over),
         }),
-        ToolFault::from(usb_file::ListFault {
+        ToolFault::from(ListFault {
             line: 12,
-            why: usb_file::ListWhy::Field,
+            why: ListWhy::Field,
         }),
         ToolFault::from(SetFault {
             at: 27,
@@ -167,8 +180,8 @@ fn of_tool(alloc: Global, number: u8) -> Result<Option<String>> {
     ] {
         if fault.number() == number {
             let status = verdict(&Err(fault));
-            return Ok(Some(format!(in alloc; "{status} {fault}")?));
+            return Ok(format!(in alloc; "{status} {fault}")?);
         }
     }
-    Ok(None)
+    bail!("no fault of that number")
 }

@@ -1,9 +1,37 @@
 //! Rows on the program: what it does with words and an input.
-use crate::real::{count_lines, fault_of};
-use anyhow::{Result, ensure};
+use crate::real::count_lines;
+use anyhow::{Context, Result, ensure};
 use example_rows::{Answer, bytes_of, change};
 use std::alloc::Global;
+use std::io::{Read, Write};
 use usb_tool::run;
+
+/// Runs the program with this word: the exit status, and the line of the fault if there is one. A call of its own,
+/// so that its callers are proved without the long contract of `run`.
+pub(crate) fn told<R: Read, W: Write>(
+    alloc: Global,
+    word: &str,
+    r: &mut R,
+    w: &mut W,
+) -> Result<String> {
+    let mut line = Vec::new(alloc);
+    line.push(String::from_str(alloc, "usbdesc")?)?;
+    line.push(String::from_str(alloc, word)?)?;
+    let mut errors = Vec::new(alloc);
+    let status = run(alloc, &line, r, w, &mut errors);
+    let fault = String::from_utf8(errors)?;
+    let told = format!(in alloc; "{status} {fault}")?;
+    Ok(String::from_str(alloc, told.as_str().trim_end())?)
+}
+
+/// The line of the fault of an input, of which the program with this word writes nothing.
+pub(crate) fn fault_of(alloc: Global, word: &str, mut input: &[u8]) -> Result<String> {
+    let mut output = Vec::new(alloc);
+    let told = told(alloc, word, &mut input, &mut output)?;
+    ensure!(output.is_empty(), "something is written");
+    let fault = told.as_str().strip_prefix("3 ").context("no fault")?;
+    Ok(String::from_str(alloc, fault)?)
+}
 
 /// The exit status of the program with these words, `<` and its input, and what it writes.
 pub(crate) fn usbdesc(alloc: Global, words: &[String]) -> Result<Answer> {
@@ -38,37 +66,16 @@ pub(crate) fn usbdesc(alloc: Global, words: &[String]) -> Result<Answer> {
 }
 
 /// What the program with the word `build` makes of the lines, once the words have changed their bytes: the exit
-/// status, and after success the bytes in digits.
-pub(crate) fn build(alloc: Global, words: &[String], lines: &str) -> Result<Answer> {
+/// status, and after it the bytes in digits, or the line of the fault.
+pub(crate) fn build(alloc: Global, words: &[String], lines: &str) -> Result<String> {
     let text = changed_text(alloc, words, lines)?;
     let mut output = Vec::new(alloc);
-    let mut errors = Vec::new(alloc);
-    let status = run(
-        alloc,
-        command_line(alloc, "build")?.as_slice(),
-        &mut text.as_slice(),
-        &mut output,
-        &mut errors,
-    );
-    let digits = hex::encode(alloc, &output)?;
-    let words = if digits.is_empty() {
-        format!(in alloc; "{status}")?
-    } else {
-        format!(in alloc; "{status} {digits}")?
-    };
-    Ok(Answer {
-        words,
-        output: String::new(alloc),
-        errors: String::from_utf8(errors)?,
-    })
-}
-
-/// The program's name and this word.
-fn command_line(alloc: Global, word: &str) -> Result<Vec<String>> {
-    let mut line = Vec::new(alloc);
-    line.push(String::from_str(alloc, "usbdesc")?)?;
-    line.push(String::from_str(alloc, word)?)?;
-    Ok(line)
+    let mut answer = told(alloc, "build", &mut text.as_slice(), &mut output)?;
+    if !output.is_empty() {
+        answer.push_str(" ")?;
+        answer.push_str(hex::encode(alloc, &output)?.as_str())?;
+    }
+    Ok(answer)
 }
 
 /// The bytes of the lines, once the words have changed them.
@@ -85,7 +92,7 @@ pub(crate) fn cuts(alloc: Global, lines: &str) -> Result<String> {
     for length in 0..lines.len() {
         let front = lines.as_bytes().get(..length).unwrap_or(&[]);
         let ends = count_lines(front);
-        let fault = fault_of(alloc, front)?;
+        let fault = fault_of(alloc, "build", front)?;
         let place = ends.saturating_add(1);
         let wanted = if matches!(front.last(), None | Some(b'\n')) {
             whole = whole.saturating_add(1);

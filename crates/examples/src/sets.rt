@@ -1,9 +1,10 @@
 //! Rows on configuration sets.
+use crate::fields::fault;
 use crate::tree::set_of;
 use anyhow::{Context, Result, ensure};
-use example_rows::bytes_of;
+use example_rows::{Answer, bytes_of};
 use std::alloc::Global;
-use usb_set::{Configuration, Decoder, EncodeFault, Progress, SetFault, encode, refusal};
+use usb_set::{Configuration, Decoder, EncodeFault, Progress, SetFault, encode, read_set, refusal};
 
 /// The lengths of the pieces in which each set is fed.
 const LENGTHS: [usize; 8] = [1, 2, 3, 64, 254, 255, 256, 65_535];
@@ -24,7 +25,7 @@ pub(crate) fn set(alloc: Global, words: &[String]) -> Result<String> {
     }
     match &whole {
         Ok((set, length)) => {
-            write_again(alloc, bytes.as_slice().get(..*length), set)?;
+            write_again(alloc, bytes.get(..*length), set)?;
             Ok(format!(in alloc; "done {length}")?)
         }
         Err(fault) => told_fault(alloc, *fault),
@@ -38,9 +39,9 @@ fn told_fault(alloc: Global, fault: SetFault) -> Result<String> {
 
 /// The set that the bytes are.
 pub(crate) fn decoded(alloc: Global, bytes: &[u8]) -> Result<Configuration> {
-    let mut decoder = Decoder::new(alloc);
-    decoder.feed(bytes)?;
-    Ok(decoder.finish()?)
+    let (set, used) = read_set(alloc, bytes)?;
+    ensure!(used == bytes.len(), "it has {used} bytes");
+    Ok(set)
 }
 
 /// The bytes of the set, or why it has none, which `refusal` tells as well.
@@ -115,25 +116,31 @@ impl Reading {
         }
     }
 
-    /// Feeds a piece. While the set is open, an empty piece changes nothing; after a fault none does.
+    /// Feeds a piece, and an empty one, which changes nothing. After a fault each is answered with it.
     fn take(&mut self, piece: &[u8]) -> Result<()> {
-        match self.decoder.feed(piece) {
+        let answer = self.decoder.feed(piece);
+        ensure!(
+            self.fault.is_none_or(|first| answer == Err(first)),
+            "a fault is forgotten"
+        );
+        let settled = match answer {
             Ok(Progress::More) => {
                 self.length = self.length.saturating_add(piece.len());
-                ensure!(
-                    self.decoder.feed(&[]) == Ok(Progress::More),
-                    "an empty piece is answered so"
-                );
+                answer
             }
-            Ok(Progress::Done { used }) => self.length = self.length.saturating_add(used),
+            Ok(Progress::Done { used }) => {
+                self.length = self.length.saturating_add(used);
+                Ok(Progress::Done { used: 0 })
+            }
             Err(fault) => {
-                ensure!(
-                    self.fault.is_none_or(|first| first == fault),
-                    "a fault is forgotten"
-                );
                 self.fault = Some(fault);
+                answer
             }
-        }
+        };
+        ensure!(
+            self.decoder.feed(&[]) == settled,
+            "an empty piece is answered otherwise"
+        );
         Ok(())
     }
 
@@ -150,17 +157,19 @@ impl Reading {
     }
 }
 
-/// What each piece is answered with, the first word being their length: equal answers in a row are counted.
-pub(crate) fn feed(alloc: Global, words: &[String]) -> Result<String> {
+/// What each piece is answered with, on a line; the first word is their length.
+pub(crate) fn feed(alloc: Global, words: &[String]) -> Result<Answer> {
     let (length, words) = words.split_first().context("no length of the pieces")?;
     let length = length.parse::<usize>()?.max(1);
     let bytes = bytes_of(alloc, words)?;
     let mut decoder = Decoder::new(alloc);
-    let mut told = Told::new(alloc);
+    let mut answer = Answer::of(String::new(alloc), alloc);
     for piece in bytes.chunks(length) {
-        told.add(answer_to(alloc, &mut decoder, piece)?)?;
+        let told = answer_to(alloc, &mut decoder, piece)?;
+        answer.output.push_str(told.as_str())?;
+        answer.output.push_str("\n")?;
     }
-    told.finish()
+    Ok(answer)
 }
 
 /// What the decoder answers to one piece.
@@ -172,53 +181,6 @@ fn answer_to(alloc: Global, decoder: &mut Decoder, piece: &[u8]) -> Result<Strin
     }
 }
 
-/// Answers in a row, counted.
-#[derive(Drop)]
-struct Told {
-    text: String,
-    last: String,
-    count: u32,
-    alloc: Global,
-}
-
-impl Told {
-    fn new(alloc: Global) -> Told {
-        Told {
-            text: String::new(alloc),
-            last: String::new(alloc),
-            count: 0,
-            alloc,
-        }
-    }
-
-    fn add(&mut self, answer: String) -> Result<()> {
-        if answer != self.last {
-            self.close()?;
-            self.last = answer;
-            self.count = 0;
-        }
-        self.count = self.count.saturating_add(1);
-        Ok(())
-    }
-
-    /// Puts the last answer and its count behind the text.
-    fn close(&mut self) -> Result<()> {
-        if self.count > 0 {
-            if !self.text.is_empty() {
-                self.text.push_str(", ")?;
-            }
-            let times = format!(in self.alloc; "{} {}", self.count, self.last)?;
-            self.text.push_str(times.as_str())?;
-        }
-        Ok(())
-    }
-
-    fn finish(mut self) -> Result<String> {
-        self.close()?;
-        Ok(self.text)
-    }
-}
-
 /// The bytes of the set that the lines say, from which it is read back, or why it has none.
 pub(crate) fn encode_lines(alloc: Global, lines: &str) -> Result<String> {
     let set = set_of(alloc, lines)?;
@@ -227,6 +189,6 @@ pub(crate) fn encode_lines(alloc: Global, lines: &str) -> Result<String> {
             ensure!(decoded(alloc, &bytes)? == set, "another set is read back");
             Ok(hex::encode(alloc, &bytes)?)
         }
-        Err(fault) => Ok(format!(in alloc; "fault {}", fault.number())?),
+        Err(why) => fault(alloc, why.number()),
     }
 }

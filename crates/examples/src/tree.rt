@@ -44,7 +44,7 @@ impl Fields<'_> {
     }
 }
 
-/// What was made of the lines so far: whole sets, and the set in work with its last setting and endpoint.
+/// What was made of the lines so far.
 #[derive(Drop)]
 struct Builder {
     alloc: Global,
@@ -54,9 +54,6 @@ struct Builder {
     other_sets: Sequence<Configuration>,
     languages: Option<Sequence<u16>>,
     texts: Sequence<Sequence<u16>>,
-    set: Option<Configuration>,
-    setting: Option<Setting>,
-    endpoint: Option<Endpoint>,
 }
 
 impl Builder {
@@ -69,13 +66,10 @@ impl Builder {
             other_sets: Sequence::new(alloc),
             languages: None,
             texts: Sequence::new(alloc),
-            set: None,
-            setting: None,
-            endpoint: None,
         }
     }
 
-    /// Adds what one line says: a descriptor of the set in work, or a part of the file.
+    /// Adds what one line says: a part of the file, or a descriptor of the last set.
     fn add(&mut self, line: &str) -> Result<()> {
         let mut words = line.split_whitespace();
         let word = words.next().unwrap_or("");
@@ -83,93 +77,18 @@ impl Builder {
             alloc: self.alloc,
             words,
         };
-        if word == "interface" {
-            self.close_setting()?;
-            self.setting = Some(setting(&mut fields)?);
-        } else if word == "endpoint" {
-            self.close_endpoint()?;
-            self.endpoint = Some(endpoint(&mut fields)?);
-        } else if word == "raw" {
-            let raw = Raw {
-                kind: fields.byte()?,
-                body: fields.bytes()?,
-            };
-            self.add_extra(Extra::Raw(raw))?;
-        } else if word == "association" {
-            self.add_extra(Extra::Association(association(&mut fields)?))?;
-        } else {
-            self.close_set()?;
-            self.add_to_file(word, &mut fields)?;
+        match word {
+            "device" => self.device = Some(device(&mut fields)?),
+            "qualifier" => self.qualifier = Some(qualifier(&mut fields)?),
+            "languages" => self.languages = Some(fields.units()?),
+            "units" => self.texts.push(fields.units()?)?,
+            _ if self.qualifier.is_none() => add_to_sets(&mut self.sets, word, &mut fields)?,
+            _ => add_to_sets(&mut self.other_sets, word, &mut fields)?,
         }
         Ok(())
     }
 
-    /// Adds a raw descriptor or an association to the nearest descriptor that owns such.
-    fn add_extra(&mut self, extra: Extra) -> Result<()> {
-        if let Some(endpoint) = &mut self.endpoint {
-            endpoint.extras.push(extra)?;
-        } else if let Some(setting) = &mut self.setting {
-            setting.extras.push(extra)?;
-        } else if let Some(set) = &mut self.set {
-            set.extras.push(extra)?;
-        } else {
-            bail!("no set yet");
-        }
-        Ok(())
-    }
-
-    /// Adds a part of the file.
-    fn add_to_file(&mut self, word: &str, fields: &mut Fields<'_>) -> Result<()> {
-        if word == "configuration" {
-            self.set = Some(configuration(SetKind::Configuration, fields)?);
-        } else if word == "other_speed" {
-            self.set = Some(configuration(SetKind::OtherSpeed, fields)?);
-        } else if word == "device" {
-            self.device = Some(device(fields)?);
-        } else if word == "qualifier" {
-            self.qualifier = Some(qualifier(fields)?);
-        } else if word == "languages" {
-            self.languages = Some(fields.units()?);
-        } else if word == "units" {
-            self.texts.push(fields.units()?)?;
-        } else {
-            bail!("no descriptor is called {word}");
-        }
-        Ok(())
-    }
-
-    fn close_endpoint(&mut self) -> Result<()> {
-        if let Some(endpoint) = self.endpoint.take() {
-            let setting = self.setting.as_mut().context("no interface yet")?;
-            setting.endpoints.push(endpoint)?;
-        }
-        Ok(())
-    }
-
-    fn close_setting(&mut self) -> Result<()> {
-        self.close_endpoint()?;
-        if let Some(setting) = self.setting.take() {
-            let set = self.set.as_mut().context("no set yet")?;
-            set.settings.push(setting)?;
-        }
-        Ok(())
-    }
-
-    /// Puts the set in work to those of the speed in work.
-    fn close_set(&mut self) -> Result<()> {
-        self.close_setting()?;
-        if let Some(set) = self.set.take() {
-            if self.qualifier.is_none() {
-                self.sets.push(set)?;
-            } else {
-                self.other_sets.push(set)?;
-            }
-        }
-        Ok(())
-    }
-
-    fn finish(mut self) -> Result<DescriptorFile> {
-        self.close_set()?;
+    fn finish(self) -> Result<DescriptorFile> {
         let other_sets = self.other_sets;
         let texts = self.texts;
         Ok(DescriptorFile {
@@ -182,6 +101,58 @@ impl Builder {
             strings: self.languages.map(|languages| Strings { languages, texts }),
         })
     }
+}
+
+/// Adds a set, or a descriptor to the last one.
+fn add_to_sets(
+    sets: &mut Sequence<Configuration>,
+    word: &str,
+    fields: &mut Fields<'_>,
+) -> Result<()> {
+    match word {
+        "configuration" => sets.push(configuration(SetKind::Configuration, fields)?)?,
+        "other_speed" => sets.push(configuration(SetKind::OtherSpeed, fields)?)?,
+        _ => add_to_set(sets.last_mut().context("no set yet")?, word, fields)?,
+    }
+    Ok(())
+}
+
+/// Adds an interface, or a descriptor to the nearest one that owns such.
+fn add_to_set(set: &mut Configuration, word: &str, fields: &mut Fields<'_>) -> Result<()> {
+    if word == "interface" {
+        set.settings.push(setting(fields)?)?;
+        return Ok(());
+    }
+    match set.settings.last_mut() {
+        Some(setting) => add_to_setting(setting, word, fields),
+        None => add_extra(&mut set.extras, word, fields),
+    }
+}
+
+/// Adds an endpoint, or an extra to the last one, or to the interface where there is none.
+fn add_to_setting(setting: &mut Setting, word: &str, fields: &mut Fields<'_>) -> Result<()> {
+    if word == "endpoint" {
+        setting.endpoints.push(endpoint(fields)?)?;
+        return Ok(());
+    }
+    match setting.endpoints.last_mut() {
+        Some(endpoint) => add_extra(&mut endpoint.extras, word, fields),
+        None => add_extra(&mut setting.extras, word, fields),
+    }
+}
+
+/// Adds a raw descriptor or an association.
+fn add_extra(extras: &mut Sequence<Extra>, word: &str, fields: &mut Fields<'_>) -> Result<()> {
+    let extra = match word {
+        "raw" => Extra::Raw(Raw {
+            kind: fields.byte()?,
+            body: fields.bytes()?,
+        }),
+        "association" => Extra::Association(association(fields)?),
+        _ => bail!("no descriptor called {word} can stand here"),
+    };
+    extras.push(extra)?;
+    Ok(())
 }
 
 fn configuration(kind: SetKind, fields: &mut Fields<'_>) -> Result<Configuration> {
@@ -265,21 +236,21 @@ fn qualifier(fields: &mut Fields<'_>) -> Result<Qualifier> {
     })
 }
 
-/// The file of the lines.
-pub(crate) fn file_of(alloc: Global, lines: &str) -> Result<DescriptorFile> {
+/// What is made of the lines.
+fn made_of(alloc: Global, lines: &str) -> Result<Builder> {
     let mut builder = Builder::new(alloc);
     for line in lines.lines() {
         builder.add(line).context(format_args!("in {line}"))?;
     }
-    builder.finish()
+    Ok(builder)
+}
+
+/// The file of the lines.
+pub(crate) fn file_of(alloc: Global, lines: &str) -> Result<DescriptorFile> {
+    made_of(alloc, lines)?.finish()
 }
 
 /// The one set of the lines.
 pub(crate) fn set_of(alloc: Global, lines: &str) -> Result<Configuration> {
-    let mut builder = Builder::new(alloc);
-    for line in lines.lines() {
-        builder.add(line).context(format_args!("in {line}"))?;
-    }
-    builder.close_set()?;
-    builder.sets.pop().context("no set")
+    made_of(alloc, lines)?.sets.pop().context("no set")
 }
