@@ -32,6 +32,7 @@ abbrev pub so_far : Option Draft → Option DescriptorFile
 so_far None = None
 so_far (Some d) = Some d.file
 
+-- the counts of a draft, where there is one, are those of its file
 abbrev pub AreCounted : Option Draft → Type 0
 AreCounted None = Unit {0}
 AreCounted (Some d) = Counted d
