@@ -1,3 +1,4 @@
+-- What no public contract cites.
 pub mod Responses
 pub mod Reactions
 pub mod Devices

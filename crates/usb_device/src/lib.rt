@@ -13,7 +13,7 @@
 //! - How a device goes through a control transfer is `specs/Step.antt`, whatever the table is.
 //! - What the parts of an [`EndpointZero`] mean is `specs/EndpointZero.antt` and `specs/Stages.antt`: the code has an
 //!   offset and a toggle where the definition has a list of packets.
-//! - What only the functions here cite stands in `specs/inside/`.
+//! - What no public contract cites stands in `specs/inside/`.
 #![tactic(auto)]
 
 mod device;

@@ -1,1 +1,2 @@
+-- What no public contract cites.
 pub mod Transfers

@@ -10,7 +10,7 @@ use crate::why::Why;
 use std::marker::Model;
 use usb_fields::{Answer, Direction, Setup, Stage, Toggle, Transaction};
 
-/// The strikes in a row that a transfer bears: one more ends it.
+/// The strikes that a transfer bears with no progress between them: one more ends it.
 const STRIKES: u8 = 2;
 
 /// One control transfer, as the host drives it.

@@ -8,7 +8,7 @@ use std::{error, fmt};
 /// The first two blame the bus, and are worth another attempt. The others blame the device, but for the last.
 #[derive(Clone, Copy, Debug, PartialEq, Eq, Hash)]
 pub enum Why {
-    /// Three strikes in a row: transactions that brought no reply, or a packet that came before.
+    /// Three strikes with no progress between them: transactions that brought no reply, or a packet that came before.
     NoAnswer,
     /// More NAKs without progress than the limit allows.
     Busy,

@@ -1,2 +1,2 @@
--- What only the functions and proofs of this crate cite.
+-- What no public contract cites.
 pub mod Pages

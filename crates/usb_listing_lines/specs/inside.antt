@@ -1,3 +1,4 @@
+-- What no public contract cites.
 pub mod Digits
 pub mod Fields
 pub mod Units

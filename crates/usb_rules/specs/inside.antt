@@ -1,3 +1,4 @@
+-- What no public contract cites.
 pub mod SetRules
 pub mod Running
 pub mod Telling
