@@ -21,11 +21,11 @@ use Rattle.usb_bus.specs.Attempt.{Plan, Attempt, Running, Succeeded, Broken, pro
 use Rattle.usb_bus.specs.Talk.{Place, talk_plan, reached, onward, followed, asked_at, replies_to, state_after, IsTable}
 use Rattle.usb_bus.specs.Run.{fates_used, Steps}
 use Rattle.usb_bus.specs.Converse.{first_place, talk_start, end_of, IsTalkRun, HasFirstReplies, HasLastState, HasCause}
-use Rattle.usb_bus.specs.inside.Running.{failure_of, point, Leads, settled}
+use Rattle.usb_bus.specs.inside.Running.{failure_of, point, AreDue, Leads, settled}
 use Rattle.usb_bus.proofs.Attempts.{attempt_all, next_begins}
 use Rattle.usb_bus.proofs.Talks.{talk_follows, reached_append}
 use Rattle.usb_bus.proofs.TableLemmas.{table_kept}
-use Rattle.usb_bus.proofs.Runs.{losses-fates_used, busies-fates_used, acks_lost-fates_used, point-run, points, length-points, Steps-points}
+use Rattle.usb_bus.proofs.Runs.{losses-fates_used, busies-fates_used, acks_lost-fates_used, point-run, points, length-points, AreDue-append, Steps-points}
 
 -- a talk is sound over every list of fates
 pub talk_sound : (answer : State → SetupPacket → Outcome) (packet naks : ℕ) (qs : List SetupPacket) (fates : List Fate) → 0 < packet → IsTable answer →
@@ -68,14 +68,15 @@ module _ (f : DescriptorFile) (naks : ℕ) (qs : List SetupPacket) (fates : List
   abbrev plan : List Reply → Plan
   plan = talk_plan f.device.packet (first_place qs)
 
-  -- the talk stands at x after so many transactions, and goes on from there
+  -- the talk stands at x after so many transactions, each of which was due, and goes on from there
   abbrev pub StandsAt : ℕ → Attempt → Type 0
   StandsAt now x =
-      (m : ℕ) → point plan naks (answer f) f.device.packet fates 0 (now + m) (talk_start f.device.packet naks qs)
-      ≡ point plan naks (answer f) f.device.packet fates now m x
+      AreDue plan naks (answer f) f.device.packet fates 0 now (talk_start f.device.packet naks qs)
+      × ((m : ℕ) → point plan naks (answer f) f.device.packet fates 0 (now + m) (talk_start f.device.packet naks qs)
+      ≡ point plan naks (answer f) f.device.packet fates now m x)
 
   pub stands_first : StandsAt 0 (talk_start f.device.packet naks qs)
-  stands_first m = rw (zero-add m) refl
+  stands_first = (λ i less. absurd (omega arith), λ m. rw (zero-add m) refl)
 
   -- one transfer more
   pub stands_on : (before address : ℕ) (replies : List Reply) (q : SetupPacket) (rest : List SetupPacket) (d : DeviceView) (now : ℕ) (h : HostEnd) (here : DeviceView) →
@@ -83,17 +84,24 @@ module _ (f : DescriptorFile) (naks : ℕ) (qs : List SetupPacket) (fates : List
       Leads (answer f) f.device.packet fates before (begins address f.device.packet naks q) d now h here →
       due h.transfer ≡ None →
       StandsAt now (settles plan naks replies here (settled h.transfer.request.length h.got (failure_of h.transfer.stage)))
-  stands_on before address replies q rest d now h here stands place (n, at, leads) over m =
+  stands_on before address replies q rest d now h here stands place (n, at, leads) over =
       let start = talk_start f.device.packet naks qs in
-      let number : now + m ≡ before + (n + m) = omega arith in
-      let running : proceed plan naks replies d ≡ record { replies = replies; phase = Running (begins address f.device.packet naks q); device = d } =
+      let begin : Attempt = record { replies = replies; phase = Running (begins address f.device.packet naks q); device = d } in
+      let running : proceed plan naks replies d ≡ begin =
       ap (λ p. (let x : Attempt = proceed (λ r. asked_at f.device.packet p.address p.left) naks replies d in x)) place in
-      ap (λ x. point plan naks (answer f) f.device.packet fates 0 x start) number
-      ∙ stands (n + m)
-      ∙ ap (λ x. point plan naks (answer f) f.device.packet fates before (n + m) x) running
-      ∙ leads plan naks replies m
-      ∙ ap (λ x. point plan naks (answer f) f.device.packet fates now m x)
-      (advance-settled plan naks replies h h.transfer.stage here h.transfer.address h.transfer.request over)
+      let led = leads plan naks replies in
+      let from : (j : ℕ) → point plan naks (answer f) f.device.packet fates 0 (before + j) start ≡ point plan naks (answer f) f.device.packet fates before j begin =
+      λ j. stands.1 j ∙ ap (λ x. point plan naks (answer f) f.device.packet fates before j x) running in
+      let due_all = AreDue-append plan naks (answer f) f.device.packet fates 0 before before n start begin stands.0 from led.0 in (
+        subst (λ x. AreDue plan naks (answer f) f.device.packet fates 0 x start) (sym at) due_all,
+        λ m.
+            (let number : now + m ≡ before + (n + m) = omega arith in
+            ap (λ x. point plan naks (answer f) f.device.packet fates 0 x start) number
+            ∙ from (n + m)
+            ∙ led.1 m
+            ∙ ap (λ x. point plan naks (answer f) f.device.packet fates now m x)
+            (advance-settled plan naks replies h h.transfer.stage here h.transfer.address h.transfer.request over)),
+      )
 
   -- the same, as the loop has it
   pub stands_after : (g : DescriptorFile) (size i before address : ℕ) (replies : List Reply) (q : SetupPacket) (d : DeviceView) (now : ℕ) (t : TransferView) (h : HostEnd) (here : DeviceView)
@@ -125,10 +133,10 @@ module _ (f : DescriptorFile) (naks : ℕ) (qs : List SetupPacket) (fates : List
   pub stands_last : (now address : ℕ) (replies : List Reply) (d : DeviceView) →
       StandsAt now (proceed plan naks replies d) → reached (first_place qs) replies ≡ record { left = []; address = address } →
       StandsAt now (record { replies = replies; phase = Succeeded; device = d })
-  stands_last now address replies d stands place m =
+  stands_last now address replies d stands place =
       let done : proceed plan naks replies d ≡ record { replies = replies; phase = Succeeded; device = d } =
       ap (λ p. (let x : Attempt = proceed (λ r. asked_at f.device.packet p.address p.left) naks replies d in x)) place in
-      stands m ∙ ap (λ x. point plan naks (answer f) f.device.packet fates now m x) done
+      (stands.0, λ m. stands.1 m ∙ ap (λ x. point plan naks (answer f) f.device.packet fates now m x) done)
 
   -- the same, as the loop has it
   pub stands_ended : (i now address : ℕ) (replies : List Reply) (d : DeviceView) → StandsAt now (proceed plan naks replies d) →
@@ -147,12 +155,12 @@ module _ (f : DescriptorFile) (naks : ℕ) (qs : List SetupPacket) (fates : List
     at_end : point plan naks (answer f) f.device.packet fates 0 talk.transactions (talk_start f.device.packet naks qs) ≡ last
     at_end =
         let number : talk.transactions ≡ talk.transactions + 0 = omega arith in
-        ap (λ x. point plan naks (answer f) f.device.packet fates 0 x (talk_start f.device.packet naks qs)) number ∙ stands 0
+        ap (λ x. point plan naks (answer f) f.device.packet fates 0 x (talk_start f.device.packet naks qs)) number ∙ stands.1 0
 
     pub is_run : IsTalkRun f naks qs fates talk
     is_run =
         let start = talk_start f.device.packet naks qs in
-        let steps = Steps-points plan naks (answer f) f.device.packet fates 0 talk.transactions start in (
+        let steps = Steps-points plan naks (answer f) f.device.packet fates 0 talk.transactions start stands.0 in (
           points plan naks (answer f) f.device.packet fates 0 talk.transactions start,
           last,
           length-points plan naks (answer f) f.device.packet fates 0 talk.transactions start,

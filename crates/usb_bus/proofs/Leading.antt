@@ -16,6 +16,8 @@ use Rattle.usb_bus.specs.Bus.{HostEnd, exchanged, step}
 use Rattle.usb_bus.specs.Attempt.{Plan, Attempt, Running, advance}
 use Rattle.usb_bus.specs.Run.{fate_at}
 use Rattle.usb_bus.specs.inside.Running.{failure_of, point, Leads}
+use Rattle.usb_bus.specs.Run.{due_in}
+use Rattle.usb_bus.proofs.Runs.{AreDue-more}
 
 -- why a transfer fails, as it tells its caller
 abbrev pub failure_in : Hearing → Option Why
@@ -50,7 +52,7 @@ advance-due plan naks replies h (Failed why) d address q sent e = absurd (cc)
 -- the first transaction of some
 pub Leads-start : (answer : State → SetupPacket → Outcome) (cut : ℕ) (fates : List Fate) (before : ℕ) (h : HostEnd) (d : DeviceView) →
     h.transfer.stage ≡ Setup → Leads answer cut fates before h d before h d
-Leads-start answer cut fates before h d e = (0, omega arith, λ plan naks replies m. rw (zero-add m, e) refl)
+Leads-start answer cut fates before h d e = (0, omega arith, λ plan naks replies. (λ i less. absurd (omega arith), λ m. rw (zero-add m, e) refl))
 
 -- one transaction more
 pub Leads-more : (answer : State → SetupPacket → Outcome) (cut : ℕ) (fates : List Fate) (before : ℕ) (h : HostEnd) (d : DeviceView) (now : ℕ)
@@ -62,17 +64,25 @@ Leads-more answer cut fates before h d now middle there sent last here asks goes
     rw asks goes in (
       suc n,
       omega arith,
-      λ plan naks replies m.
-          (let number : suc n + m ≡ n + suc m = omega arith in
-          let running = advance-due plan naks replies middle middle.transfer.stage there middle.transfer.address middle.transfer.request sent asks in
+      λ plan naks replies.
+          (let running = advance-due plan naks replies middle middle.transfer.stage there middle.transfer.address middle.transfer.request sent asks in
           let start : Attempt = record { replies = replies; phase = Running h; device = d } in
-          let first : point plan naks answer cut fates before (suc n + m) start ≡ point plan naks answer cut fates before (n + suc m) start =
-          ap (λ x. point plan naks answer cut fates before x start) number in
-          let then : point plan naks answer cut fates now (suc m) (advance plan naks replies middle middle.transfer.stage there)
-          ≡ point plan naks answer cut fates now (suc m) (record { replies = replies; phase = Running middle; device = there }) =
-          ap (λ x. point plan naks answer cut fates now (suc m) x) running in
-          let on : point plan naks answer cut fates now (suc m) (record { replies = replies; phase = Running middle; device = there })
-          ≡ point plan naks answer cut fates (suc now) m (advance plan naks replies last last.transfer.stage here) =
-          ap (λ e. point plan naks answer cut fates (suc now) m (advance plan naks replies e.host e.host.transfer.stage e.device)) stepped in
-          first ∙ leads plan naks replies (suc m) ∙ then ∙ on),
+          let led = leads plan naks replies in
+          let none : n ≡ n + 0 = omega arith in
+          let here_due : due_in (point plan naks answer cut fates before n start).phase ≡ Some sent =
+          ap (λ x. due_in (point plan naks answer cut fates before x start).phase) none
+          ∙ ap (λ x. due_in x.phase) (led.1 0 ∙ running) ∙ asks in (
+            AreDue-more plan naks answer cut fates before n start led.0 (sent, here_due),
+            λ m.
+                (let number : suc n + m ≡ n + suc m = omega arith in
+                let first : point plan naks answer cut fates before (suc n + m) start ≡ point plan naks answer cut fates before (n + suc m) start =
+                ap (λ x. point plan naks answer cut fates before x start) number in
+                let then : point plan naks answer cut fates now (suc m) (advance plan naks replies middle middle.transfer.stage there)
+                ≡ point plan naks answer cut fates now (suc m) (record { replies = replies; phase = Running middle; device = there }) =
+                ap (λ x. point plan naks answer cut fates now (suc m) x) running in
+                let on : point plan naks answer cut fates now (suc m) (record { replies = replies; phase = Running middle; device = there })
+                ≡ point plan naks answer cut fates (suc now) m (advance plan naks replies last last.transfer.stage here) =
+                ap (λ e. point plan naks answer cut fates (suc now) m (advance plan naks replies e.host e.host.transfer.stage e.device)) stepped in
+                first ∙ led.1 (suc m) ∙ then ∙ on),
+          )),
     )

@@ -1,5 +1,7 @@
 -- Runs of a talk: their points, and the fates that they use.
-use Rattle.std.proofs.Common.{◌≡◌, ℕ, zero, suc, ◌≤◌, List, [], ◌∷◌, length, drop, refl, sym, ap, ◌∙◌, arith}
+use Rattle.std.proofs.Common.{◌≡◌, ℕ, zero, suc, ◌+◌, ◌-◌, ◌<◌, ◌≤◌, List, [], ◌∷◌, length, drop, Some, refl, sym, ap, ◌∙◌, arith, inl, inr, subst}
+use Rattle.std.proofs.lemmas.Bool.{cases_lt}
+use Rattle.usb_fields.specs.Packet.{Sent}
 use Rattle.usb_fields.specs.declared.setup.Setup.{Setup as SetupPacket}
 use Rattle.usb_device.specs.declared.state.State.{State}
 use Rattle.usb_device.specs.Requests.{Outcome}
@@ -7,8 +9,8 @@ use Rattle.usb_bus.specs.declared.fate.Fate.{Fate}
 use Rattle.usb_bus.specs.declared.reply.Reply.{Reply}
 use Rattle.usb_bus.specs.Fates.{losses, busies, acks_lost}
 use Rattle.usb_bus.specs.Attempt.{Plan, Attempt, attempt_step, attempt_run}
-use Rattle.usb_bus.specs.Run.{fate_at, fates_used, Steps}
-use Rattle.usb_bus.specs.inside.Running.{point}
+use Rattle.usb_bus.specs.Run.{fate_at, fates_used, due_in, Steps}
+use Rattle.usb_bus.specs.inside.Running.{point, AreDue}
 
 -- no more is lost than the list has, and no more is Busy
 pub losses-fates_used : (fates : List Fate) (n : ℕ) → losses (fates_used fates n) ≤ losses fates
@@ -54,7 +56,38 @@ module _ (plan : List Reply → Plan) (naks : ℕ) (answer : State → SetupPack
   length-points k zero x = refl
   length-points k (suc n) x = ap suc (length-points (suc k) n (next k x))
 
-  pub Steps-points : (k n : ℕ) (x : Attempt) → Steps plan naks answer cut fates k x (points k n x) (point plan naks answer cut fates k n x)
+  -- a transaction is due at point n from x on
+  abbrev pub IsDue : ℕ → Attempt → ℕ → Type 0
+  IsDue k x n = (sent : Sent) × (due_in (point plan naks answer cut fates k n x).phase ≡ Some sent)
+
+  -- one point more at which a transaction is due
+  pub AreDue-more : (k n : ℕ) (x : Attempt) → AreDue plan naks answer cut fates k n x → IsDue k x n → AreDue plan naks answer cut fates k (suc n) x
+  AreDue-more k n x due last i less =
+      elim (cases_lt i n) [
+        | inl before ↦ due i before
+        | inr from ↦ (let same : n ≡ i = omega arith in subst (λ j. IsDue k x j) same last)
+      ]
+
+  -- and some more, from where the first ones lead to
+  pub AreDue-append : (k n at m : ℕ) (x y : Attempt) → AreDue plan naks answer cut fates k n x →
+      ((j : ℕ) → point plan naks answer cut fates k (n + j) x ≡ point plan naks answer cut fates at j y) →
+      AreDue plan naks answer cut fates at m y → AreDue plan naks answer cut fates k (n + m) x
+  AreDue-append k n at m x y due leads more i less =
+      elim (cases_lt i n) [
+        | inl before ↦ due i before
+        | inr from ↦
+            let number : n + (i - n) ≡ i = omega arith in
+            let then = more (i - n) (omega arith) in
+            subst (λ j. IsDue k x j) number (then.0, ap (λ z. due_in z.phase) (leads (i - n)) ∙ then.1)
+      ]
+
+  -- the points are steps, where a transaction is due at each
+  pub Steps-points : (k n : ℕ) (x : Attempt) → AreDue plan naks answer cut fates k n x →
+      Steps plan naks answer cut fates k x (points k n x) (point plan naks answer cut fates k n x)
   unfolding points
-  Steps-points k zero x = refl
-  Steps-points k (suc n) x = (refl, Steps-points (suc k) n (next k x))
+  Steps-points k zero x due = refl
+  Steps-points k (suc n) x due =
+      let first = due 0 (omega arith) in (
+        record { sent = first.0; is_due = first.1; next = refl },
+        Steps-points (suc k) n (next k x) (λ i less. due (suc i) (omega arith)),
+      )

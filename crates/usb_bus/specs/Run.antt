@@ -1,12 +1,14 @@
 -- Runs: transactions one after another, each with the next fate.
-use Rattle.std.specs.Prelude.{◌≡◌, ℕ, zero, suc, List, [], ◌∷◌, slice_get, unwrap_or}
+use Rattle.std.specs.Prelude.{◌≡◌, ℕ, zero, suc, List, [], ◌∷◌, Option, Some, None, slice_get, unwrap_or}
+use Rattle.usb_fields.specs.Packet.{Sent}
 use Rattle.usb_fields.specs.declared.setup.Setup.{Setup as SetupPacket}
+use Rattle.usb_host.specs.Transfer.{due}
 use Rattle.usb_device.specs.declared.state.State.{State}
 use Rattle.usb_device.specs.Requests.{Outcome}
 use Rattle.usb_bus.specs.declared.fate.Fate.{Fate}
 use Rattle.usb_bus.specs.declared.fate.Fate.TheVariants.{Pass}
 use Rattle.usb_bus.specs.declared.reply.Reply.{Reply}
-use Rattle.usb_bus.specs.Attempt.{Plan, Attempt, attempt_step}
+use Rattle.usb_bus.specs.Attempt.{Plan, Phase, Running, Succeeded, Broken, Attempt, attempt_step}
 
 -- the fate of transaction k, counted from 0: after the list's end all pass
 abbrev pub fate_at : List Fate → ℕ → Fate
@@ -18,11 +20,21 @@ fates_used fates zero = []
 fates_used [] (suc n) = Pass ∷ fates_used [] n
 fates_used (f ∷ fates) (suc n) = f ∷ fates_used fates n
 
+-- the transaction that is due, where a transfer is in work; after the end there is none
+abbrev pub due_in : Phase → Option Sent
+due_in (Running host) = due host.transfer
+due_in Succeeded = None
+due_in (Broken why) = None
+
 module _ (plan : List Reply → Plan) (naks : ℕ) (answer : State → SetupPacket → Outcome) (cut : ℕ) where
+  -- one transaction under this fate: it is due at x, and y is what it brings x to
+  pub record IsTransaction (fate : Fate) (x y : Attempt) : Type 0 where
+    pub sent : Sent
+    pub is_due : due_in x.phase ≡ Some sent
+    pub next : y ≡ attempt_step plan naks answer cut fate x.replies x.phase x.device
+
   -- These points follow `start`, each one transaction after the one before it, from transaction k on, and the last of
   -- them is `end`.
   abbrev pub Steps : List Fate → ℕ → Attempt → List Attempt → Attempt → Type 0
   Steps fates k start [] end = end ≡ start
-  Steps fates k start (x ∷ points) end =
-      (x ≡ attempt_step plan naks answer cut (fate_at fates k) start.replies start.phase start.device)
-      × Steps fates (suc k) x points end
+  Steps fates k start (x ∷ points) end = IsTransaction (fate_at fates k) start x × Steps fates (suc k) x points end
