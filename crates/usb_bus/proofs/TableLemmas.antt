@@ -65,6 +65,38 @@ goes_kept s q is small =
     when_kept s q (q.length == 0) (Done (record s { address = q.value }))
     (λ z. (grind (arith, nat_tests), (λ i. absurd (cc)), (λ i. (small, refl))))
 
+-- a standard request 5 to the device is SET_ADDRESS
+standard_by : (first second third : Bool) →
+    (if first then classes.Standard else if second then classes.Class else if third then classes.Vendor else classes.Reserved) ≡ classes.Standard →
+    first ≡ true
+standard_by true second third e = refl
+standard_by false true third e = absurd (cc)
+standard_by false false true e = absurd (cc)
+standard_by false false false e = absurd (cc)
+
+device_by : (first second third fourth : Bool) →
+    is_device (if first then Device else if second then Interface else if third then Endpoint else if fourth then Other else Reserved) ≡ true →
+    first ≡ true
+device_by true second third fourth e = refl
+device_by false true third fourth e = e
+device_by false false true fourth e = e
+device_by false false false true e = e
+device_by false false false false e = e
+
+set_by : (q : Setup) → (q.request == 5) ≡ true → class_of q.request_type ≡ classes.Standard → is_device (recipient_of q.request_type) ≡ true →
+    is_set_address q ≡ true
+set_by q code standard device =
+    let n = q.request_type in
+    let kind : (n / 32 % 4 == 0) ≡ true = standard_by (n / 32 % 4 == 0) (n / 32 % 4 == 1) (n / 32 % 4 == 2) standard in
+    let part : (n % 32 == 0) ≡ true = device_by (n % 32 == 0) (n % 32 == 1) (n % 32 == 2) (n % 32 == 3) device in
+    let no_kind : n / 32 % 4 ≡ 0 = grind (arith, nat_tests) in
+    let no_part : n % 32 ≡ 0 = grind (arith, nat_tests) in
+    let low : n % 128 ≡ 0 = omega arith in
+    grind (arith, nat_tests)
+
+first_by : (a b : Bool) (v : ℕ) (c : Bool) → (a && b && nat_lt v 128 && c) ≡ true → a ≡ true
+first_by a b v c e = grind (arith, nat_tests)
+
 below_by : (a b : Bool) (v : ℕ) (c : Bool) → (a && b && nat_lt v 128 && c) ≡ true → v < 128
 below_by a b v c e = grind (arith, nat_tests)
 
@@ -116,15 +148,16 @@ module _ (f : DescriptorFile) (s : State) (q : Setup) where
       when_kept s q (is_interface (recipient_of q.request_type) && is_configured s && names_alternate f s q.index q.value) (does q next)
       (λ e. does_kept s q next refl other)
 
-  row_kept : Kept s q (row f s q)
-  row_kept =
+  row_kept : class_of q.request_type ≡ classes.Standard → Kept s q (row f s q)
+  row_kept standard =
       if_kept s q (q.request == 0) _ _ (λ e. when_kept s q (q.value == 0) _ (λ i. status_kept (recipient_of q.request_type)))
       (λ n0. if_kept s q (q.request == 1) _ _ (λ e. feature_kept false (recipient_of q.request_type) (other_code q 1 e refl))
       (λ n1. if_kept s q (q.request == 3) _ _ (λ e. feature_kept true (recipient_of q.request_type) (other_code q 3 e refl))
       (λ n3. if_kept s q (q.request == 5) _ _
       (λ e. when_kept s q (is_device (recipient_of q.request_type) && not (is_configured s) && nat_lt q.value 128 && (q.index == 0))
       (does q (record s { address = q.value }))
-      (λ i. goes_kept s q e (below_by (is_device (recipient_of q.request_type)) (not (is_configured s)) q.value (q.index == 0) i)))
+      (λ i. goes_kept s q (set_by q e standard (first_by (is_device (recipient_of q.request_type)) (not (is_configured s)) q.value (q.index == 0) i))
+      (below_by (is_device (recipient_of q.request_type)) (not (is_configured s)) q.value (q.index == 0) i)))
       (λ n5. if_kept s q (q.request == 6) _ _
       (λ e. when_kept s q (is_device (recipient_of q.request_type)) _
       (λ i. gives_kept s q (descriptor f (q.value / 256) (q.value % 256) q.index) (other_code q 6 e refl)))
@@ -134,16 +167,16 @@ module _ (f : DescriptorFile) (s : State) (q : Setup) where
       (λ n10. if_kept s q (q.request == 11) _ _ (λ e. interface_kept (other_code q 11 e refl))
       (λ n11. tt)))))))))
 
-  answer_of_kept : (c : Class) → Kept s q (answer_of c f s q)
+  answer_of_kept : (c : Class) → class_of q.request_type ≡ c → Kept s q (answer_of c f s q)
   unfolding answer_of
-  answer_of_kept classes.Standard = row_kept
-  answer_of_kept classes.Class = tt
-  answer_of_kept classes.Vendor = tt
-  answer_of_kept classes.Reserved = tt
+  answer_of_kept classes.Standard e = row_kept e
+  answer_of_kept classes.Class e = tt
+  answer_of_kept classes.Vendor e = tt
+  answer_of_kept classes.Reserved e = tt
 
   answer_kept : Kept s q (answer f s q)
   unfolding answer
-  answer_kept = answer_of_kept (class_of q.request_type)
+  answer_kept = answer_of_kept (class_of q.request_type) refl
 
 -- the table of requests is one that the laws are about
 pub table_kept : (f : DescriptorFile) → IsTable (answer f)

@@ -53,7 +53,7 @@ module _ (answer : State → SetupPacket → Outcome) where
 
   -- What a table of requests keeps in every state. There are bytes only where they are asked for and go to the host, and
   -- no more of them. What is only done has no data stage. SET_ADDRESS changes the address, to at most 127, and nothing
-  -- else, and no other request changes it.
+  -- else, and no other request changes it; a class or vendor request with bRequest 5 is another request.
   pub record IsTable : Type 0 where
     pub bytes : (s : State) (q : SetupPacket) (b : List ℕ) → answer s q ≡ Bytes b → (0 < q.length) × (direction_of q.request_type ≡ directions.In) × (length b ≤ q.length)
     pub done : (s : State) (q : SetupPacket) (t : State) → answer s q ≡ Done t → q.length ≡ 0

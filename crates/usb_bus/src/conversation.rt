@@ -12,13 +12,10 @@ use crate::reply::Reply;
 use crate::talk::Talk;
 use std::alloc::Global;
 use usb_base::Sequence;
-use usb_device::{Description, Device};
+use usb_device::{Description, Device, is_set_address};
 use usb_fields::Setup;
 use usb_file_data::NoMemory;
 use usb_host::{Transfer, Why};
-
-/// bRequest SET_ADDRESS (USB 2.0, table 9-4).
-const SET_ADDRESS: u8 = 5;
 
 /// What a transfer brings to the talk, or why the talk stops.
 fn settle(request: Setup, ended: Ended) -> Result<Reply, Why>
@@ -43,7 +40,7 @@ fn follow(request: Setup, reply: &Reply, address: u8) -> u8
 {
     match reply {
         Reply::Done => {
-            if request.request == SET_ADDRESS {
+            if is_set_address(request) {
                 (request.value % 128) as u8
             } else {
                 address

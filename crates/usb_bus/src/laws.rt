@@ -22,7 +22,8 @@ pub fn a_talk_has_causes()
 {}
 
 /// The device's answers to requests are a table that these laws are about. Bytes go to the host and are no more than it
-/// asked for, and what is only done has no data stage. SET_ADDRESS changes the address, and nothing else does.
+/// asked for, and what is only done has no data stage. SET_ADDRESS changes the address, and nothing else does; a class or
+/// vendor request with the same bRequest is another request.
 #[tactic(auto, using(crate::proofs::TableLemmas::table_kept))]
 pub fn a_device_keeps_its_table()
     ensures { (f : DescriptorFile) → IsTable (answer f) }

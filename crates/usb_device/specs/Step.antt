@@ -1,6 +1,6 @@
 -- A device's end of control transfers: what it answers to a transaction, and where it stands then (USB 2.0, 8.5.3 and
 -- 9.2.6). For any answers to requests, and any packet size of endpoint zero.
-use Rattle.std.specs.Prelude.{ℕ, suc, ◌==◌, ◌||◌, Bool, true, false, List, [], ◌∷◌, drop, if◌then◌else◌}
+use Rattle.std.specs.Prelude.{ℕ, suc, ◌%◌, ◌==◌, ◌||◌, ◌&&◌, Bool, true, false, List, [], ◌∷◌, drop, if◌then◌else◌}
 use Rattle.usb_fields.specs.declared.packet.Toggle.{Toggle}
 use Rattle.usb_fields.specs.declared.packet.Toggle.TheVariants.{Data0, Data1}
 use Rattle.usb_fields.specs.declared.setup.Setup.{Setup}
@@ -45,7 +45,7 @@ stalls s = replies StallReply s Halted false
 abbrev pub new_device : DeviceView
 new_device = record { state = zero; stage = Idle; pending = false }
 
--- a SETUP begins a transfer by its answer, whatever came before it
+-- a SETUP begins a transfer by its answer, and ends the one before it (5.5.5)
 abbrev pub begun : Setup → Outcome → DeviceStage
 begun q (Bytes bytes) = Sending bytes q.length 0
 begun q (Done next) = StatusIn q false
@@ -57,9 +57,10 @@ carried_out s (Bytes bytes) = s
 carried_out s (Done next) = next
 carried_out s Refused = s
 
--- whether the request is SET_ADDRESS, which a device carries out after the status stage and not before (9.4.6)
+-- Whether the request is SET_ADDRESS: the standard request 5 to the device, bits 6..0 of bmRequestType being 0 (tables 9-2
+-- and 9-4). A device carries it out after the status stage and not before (9.4.6).
 abbrev pub is_set_address : Setup → Bool
-is_set_address q = q.request == 5
+is_set_address q = (q.request_type % 128 == 0) && (q.request == 5)
 
 -- IN in the data stage: the first of the packets that are left
 abbrev pub next_packet : State → DeviceStage → ℕ → List (List ℕ) → Served
@@ -67,7 +68,7 @@ next_packet s stage k [] = stalls s
 next_packet s stage k (p ∷ rest) = replies (DataReply (toggle_of k) p) s stage true
 
 -- OUT after a data stage: DATA0 is a packet that came again, an empty DATA1 the status stage, which also says that the
--- last packet came (8.5.3.1)
+-- last packet came (8.5.3.3)
 abbrev pub status_out : State → DeviceStage → Toggle → List ℕ → Served
 status_out s stage Data0 bytes = replies AckReply s stage false
 status_out s stage Data1 [] = replies AckReply s Over false
@@ -101,8 +102,8 @@ module _ (answer : State → Setup → Outcome) (packet : ℕ) where
   served_in s Over = stalls s
   served_in s (StatusIn q carried) = replies (DataReply Data1 []) (status_state s q carried) (StatusIn q true) true
 
-  -- a transaction to the device's address, by its token: a SETUP is taken whether the device is ready or not, and else
-  -- a device that isn't ready answers NAK (8.5.3.1 and 8.4.6.4)
+  -- a transaction to the device's address, by its token: a SETUP is taken whether the device is ready or not (8.4.6.4),
+  -- and a device that isn't ready answers NAK to IN (8.4.6.1) and to OUT (8.4.6.3)
   abbrev pub served_here : DeviceView → Token → Bool → Served
   served_here d (SetupToken b) ready = replies AckReply d.state (begun (setup_of b) (answer d.state (setup_of b))) false
   served_here d InToken false = replies NakReply d.state d.stage false

@@ -1,5 +1,7 @@
-//! A device. Its calls are inlined down to the request of a SETUP, so that an answer, which is of several shapes, needs
-//! no room in memory.
+//! A device: a description, and what changes in it.
+//!
+//! The calls are inlined down to the request of a SETUP, so that an answer, which is of several shapes, needs no room
+//! in memory.
 ghost use Rattle.std.specs.Prelude.{◌≡◌};
 ghost use Rattle.std.specs.Borrow.{sem};
 
@@ -66,7 +68,7 @@ impl<'d> Device<'d> {
     }
 
     /// One transaction. Where `ready` is false the device has no time now: it answers NAK, but to a SETUP,
-    /// which every device has to take (USB 2.0, 8.5.3.1).
+    /// which every device has to take (USB 2.0, 8.4.6.1, 8.4.6.3 and 8.4.6.4).
     #[inline(always)]
     pub fn serve<'a>(&'a mut self, t: &Transaction, ready: bool) -> Answer<'a>
         ensures answer { reply_of result ≡ (served_by self.entry.now.description.file self.entry.now.device (sent_of t.now) ready).reply }

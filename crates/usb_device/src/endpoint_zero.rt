@@ -325,9 +325,17 @@ impl EndpointZero {
     }
 }
 
-/// Whether the request is SET_ADDRESS, which is carried out after the status stage (USB 2.0, 9.4.6).
-fn is_set_address(q: Setup) -> bool
+/// Whether the request is SET_ADDRESS, the standard request 5 to the device: bits 6 to 0 of bmRequestType are zero
+/// (USB 2.0, tables 9-2 and 9-4). Bit 7, the direction, is not looked at. A device carries it out after the status
+/// stage and not before (9.4.6).
+///
+/// ```rust
+/// assert!(rt; is_set_address(Setup::from_bytes(&[0, 5, 9, 0, 0, 0, 0, 0])));
+/// // A vendor request with the same bRequest.
+/// assert!(rt; !is_set_address(Setup::from_bytes(&[0x40, 5, 9, 0, 0, 0, 0, 0])));
+/// ```
+pub fn is_set_address(q: Setup) -> bool
     ensures { result ≡ is_set_address q }
 {
-    q.request == 5
+    q.request_type % 128 == 0 && q.request == 5
 }

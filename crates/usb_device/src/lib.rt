@@ -4,7 +4,7 @@
 //! borrows it: [`Device::serve`] answers a transaction, and lends what it sends from the description, so that a
 //! device takes no memory and can't fail. [`Device::acked`] tells it that the host acknowledged a data packet,
 //! and [`Device::state`] what it keeps between requests. [`EndpointZero`] is what changes in a device, without the
-//! description.
+//! description, and [`is_set_address`] tells the request that a device carries out after its status stage.
 //!
 //! - Descriptions, and which descriptors make a device, stand in the crate usb_description; its public types are named
 //!   here too.
@@ -27,6 +27,6 @@ mod stage;
 mod state;
 
 pub use device::Device;
-pub use endpoint_zero::EndpointZero;
+pub use endpoint_zero::{EndpointZero, is_set_address};
 pub use state::State;
 pub use usb_description::{Description, DescriptionFault};

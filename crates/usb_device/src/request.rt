@@ -1,5 +1,6 @@
-//! The table of standard requests: a function for each row (USB 2.0, 9.4). They are inlined, so that a response,
-//! which is of several shapes, needs no room in memory.
+//! The table of standard requests: a function for each row (USB 2.0, 9.4).
+//!
+//! The functions are inlined, so that a response, which is of several shapes, needs no room in memory.
 ghost use Rattle.std.specs.Prelude.{◌≡◌, ◌∷◌, [], if◌then◌else◌};
 
 use crate::response::{Change, Response};
