@@ -2,7 +2,7 @@
 """A separate reading of listings: the bytes of the file that a text lists, or the first line at fault and why.
 
 It was written from the tables of docs/LISTING.md and docs/FORMATS.md, in another language and by no function of
-this repository; the gate does not run it.
+this repository. The gate compares what it writes (.ci/readings).
 
     building.py FILE..     writes what comes of each listing FILE: its bytes to the file of that name that ends in
                            .file, or the program's line of its fault to the one that ends in .fault

@@ -2,7 +2,8 @@
 """A separate reading of the rules of chapter 9, from which the findings beside the descriptor files come.
 
 It was written from the rules in words, in another language and by no function of this repository, and asks each
-question of the whole set anew, without tables. It stands on reading.py's listing. The gate does not run it.
+question of the whole set anew, without tables. It stands on reading.py's listing. The gate compares what it writes
+(.ci/readings).
 
     checking.py FILE..     writes what is wrong with FILE to the file of that name that ends in .check
 """

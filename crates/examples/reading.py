@@ -2,7 +2,7 @@
 """A separate reading of sets and descriptor files, from which the listings beside the examples come.
 
 It was written from the tables of USB 2.0, 9.5 and 9.6, and of the engineering change notice on interface
-association descriptors, in another language and by no function of this repository; the gate does not run it.
+association descriptors, in another language and by no function of this repository. The gate compares what it writes (.ci/readings).
 
     reading.py set FILE..      writes FILE's listing to the file of that name that ends in .txt
     reading.py file FILE..     the same of a descriptor file

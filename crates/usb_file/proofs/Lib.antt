@@ -5,7 +5,6 @@ pub mod Units
 pub mod Fronts
 pub mod Next
 pub mod Longest
-pub mod LongestFile
 pub mod ListingLengthLemmas
 pub mod Ends
 pub mod SetFaults

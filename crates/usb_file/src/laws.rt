@@ -26,10 +26,9 @@ pub fn one_file()
 /// language list, and a string for each of 126 languages and 255 indices, each as long as it can be.
 pub const FILE_LIMIT: usize = 18 + 2 * 255 * 65_535 + 10 + 254 + 126 * 255 * 254;
 
-/// No file has more bytes than the limit, and some file has as many.
+/// No file has more bytes than the limit.
 pub fn longest_file()
-    ensures limit { (f : DescriptorFile) (b : List ℕ) → File f b → length b ≤ FILE_LIMIT }
-    ensures attained { (f : DescriptorFile) × (b : List ℕ) × File f b × (length b ≡ FILE_LIMIT) }
+    ensures { (f : DescriptorFile) (b : List ℕ) → File f b → length b ≤ FILE_LIMIT }
 {}
 
 /// The most bytes of a text that is read back: no file's listing has more.
