@@ -5,8 +5,9 @@ use Rattle.usb_device.specs.declared.state.State.{State}
 use Rattle.usb_device.specs.Requests.{Outcome}
 use Rattle.usb_bus.specs.declared.fate.Fate.{Fate}
 use Rattle.usb_bus.specs.declared.fate.Fate.TheVariants.{Pass}
-use Rattle.usb_bus.specs.declared.reply.Reply.{Reply}
-use Rattle.usb_bus.specs.Attempt.{Plan, Attempt, attempt_step}
+use Rattle.usb_transfer.specs.declared.reply.Reply.{Reply}
+use Rattle.usb_transfer.specs.Plan.{Plan}
+use Rattle.usb_bus.specs.Attempt.{Attempt, attempt_step}
 
 -- the fate of transaction k, counted from 0: after the list's end all pass
 abbrev pub fate_at : List Fate → ℕ → Fate

@@ -8,14 +8,13 @@ ghost use Rattle.usb_bus.specs.inside.Running.{settled};
 
 use crate::exchange::{Ended, transfer_over};
 use crate::fate::Fate;
-use crate::reply::Reply;
 use crate::talk::Talk;
 use std::alloc::Global;
 use usb_base::Sequence;
 use usb_device::{Description, Device};
 use usb_fields::Setup;
 use usb_file_data::NoMemory;
-use usb_host::{Transfer, Why};
+use usb_transfer::{Reply, Transfer, Why};
 
 /// bRequest SET_ADDRESS (USB 2.0, table 9-4).
 const SET_ADDRESS: u8 = 5;

@@ -28,10 +28,10 @@ use Rattle.usb_file_data.specs.declared.file.DescriptorFile.{DescriptorFile}
 use Rattle.usb_file_data.specs.declared.file.Strings.{Strings}
 use Rattle.usb_file_data.specs.Named.{named_among, named_indices, set_string_indices, string_indices}
 use Rattle.usb_file_data.specs.File.{File, are_wrong_strings, file_bytes, has_no_layout, is_long_string, is_other_kind, sets_bytes, strings_bytes, each_string_bytes, whole_set}
-use Rattle.usb_file.proofs.WholeSets.{layout_is}
+use Rattle.usb_file_data.proofs.WholeSets.{layout_is}
 use Rattle.usb_file.proofs.Next.{right_count, right_strings}
 use Rattle.usb_file.proofs.Units.{length-units_bytes}
-use Rattle.usb_file.specs.Front.{AllSets}
+use Rattle.usb_file_data.specs.Front.{AllSets}
 
 -- ---- lists, whose lengths are lemmas
 
