@@ -5,7 +5,7 @@ use std::alloc::Global;
 use usb_bus::converse;
 use usb_device::Description;
 use usb_fields::{Answer, Setup, Speed, Stage, Toggle};
-use usb_host::{Heard, Transfer};
+use usb_transfer::{Heard, Transfer};
 
 /// The size of a packet, in bytes.
 const PACKET: u8 = 64;

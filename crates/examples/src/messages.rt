@@ -5,7 +5,7 @@ use std::fmt::Display;
 use usb_device::DescriptionFault;
 use usb_fields::{FieldFault, UnitFault};
 use usb_file::{FileFault, FileWhy, Finding, ListFault, ListWhy, OutFault, Part, WriteFault};
-use usb_host::{LimitFault, Why};
+use usb_transfer::{LimitFault, Why};
 use usb_set::{EncodeFault, SetFault, SetWhy};
 use usb_tool::{ToolFault, verdict};
 

@@ -5,7 +5,7 @@ use usb_bus::{Fate, converse};
 use usb_device::Description;
 use usb_fields::{Setup, Speed};
 use usb_file::read_file;
-use usb_host::Why;
+use usb_transfer::Why;
 
 /// A boot mouse with packets of 64 bytes.
 const FILE: [u8; 52] = [

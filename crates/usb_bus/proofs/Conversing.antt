@@ -3,21 +3,22 @@ use Rattle.std.proofs.Common.{◌≡◌, ℕ, suc, ◌+◌, ◌<◌, ◌≤◌, 
 use Rattle.std.proofs.lemmas.List.{append-nil, take_at, nil_from_length, length-drop}
 use Rattle.usb_fields.specs.declared.setup.Setup.{Setup as SetupPacket}
 use Rattle.usb_file_data.specs.declared.file.DescriptorFile.{DescriptorFile}
-use Rattle.usb_host.specs.declared.why.Why.{Why}
-use Rattle.usb_host.specs.declared.why.Why.TheVariants.{NoAnswer, Busy, Stalled, TooLong, Unexpected, Malformed, Memory}
-use Rattle.usb_host.specs.declared.stage.TransferStage.{TransferStage}
-use Rattle.usb_host.specs.declared.stage.TransferStage.TheVariants.{Setup, DataIn, DataOut, StatusOut, StatusIn, Completed, Failed}
-use Rattle.usb_host.specs.Transfer.{TransferView, begun, due, addressed, token_due}
+use Rattle.usb_transfer.specs.declared.why.Why.{Why}
+use Rattle.usb_transfer.specs.declared.why.Why.TheVariants.{NoAnswer, Busy, Stalled, TooLong, Unexpected, Malformed, Memory}
+use Rattle.usb_transfer.specs.declared.stage.TransferStage.{TransferStage}
+use Rattle.usb_transfer.specs.declared.stage.TransferStage.TheVariants.{Setup, DataIn, DataOut, StatusOut, StatusIn, Completed, Failed}
+use Rattle.usb_transfer.specs.Transfer.{TransferView, begun, due, addressed, token_due}
 use Rattle.usb_device.specs.declared.state.State.{State}
 use Rattle.usb_device.specs.Requests.{Outcome, answer}
 use Rattle.usb_device.specs.States.{zero as zero_state}
 use Rattle.usb_device.specs.Step.{DeviceView, new_device}
 use Rattle.usb_bus.specs.declared.fate.Fate.{Fate}
-use Rattle.usb_bus.specs.declared.reply.Reply.{Reply}
+use Rattle.usb_transfer.specs.declared.reply.Reply.{Reply}
 use Rattle.usb_bus.specs.declared.talk.Talk.{Talk}
 use Rattle.usb_bus.specs.Fates.{losses, busies, acks_lost}
 use Rattle.usb_bus.specs.Bus.{HostEnd}
-use Rattle.usb_bus.specs.Attempt.{Plan, Attempt, Running, Succeeded, Broken, proceed, advance, attempt_run, begins, Sound}
+use Rattle.usb_transfer.specs.Plan.{Plan}
+use Rattle.usb_bus.specs.Attempt.{Attempt, Running, Succeeded, Broken, proceed, advance, attempt_run, begins, Sound}
 use Rattle.usb_bus.specs.Talk.{Place, talk_plan, reached, onward, followed, asked_at, replies_to, state_after, IsTable}
 use Rattle.usb_bus.specs.Run.{fates_used, Steps}
 use Rattle.usb_bus.specs.Converse.{first_place, talk_start, end_of, IsTalkRun, HasFirstReplies, HasLastState, HasCause}

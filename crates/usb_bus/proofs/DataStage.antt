@@ -7,7 +7,7 @@ use Rattle.usb_fields.specs.declared.packet.Toggle.TheVariants.{Data0, Data1}
 use Rattle.usb_fields.specs.declared.setup.Setup.{Setup as SetupPacket}
 use Rattle.usb_fields.specs.Packet.{flipped}
 use Rattle.usb_fields.specs.Packets.{packets, joined, toggle_of, is_same_toggle}
-use Rattle.usb_host.specs.declared.stage.TransferStage.TheVariants.{DataIn}
+use Rattle.usb_transfer.specs.declared.stage.TransferStage.TheVariants.{DataIn}
 use Rattle.usb_device.specs.declared.state.State.{State}
 use Rattle.usb_device.specs.Requests.{Outcome, Bytes}
 use Rattle.usb_device.specs.Step.{Sending}

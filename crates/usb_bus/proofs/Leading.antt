@@ -3,17 +3,18 @@ use Rattle.std.proofs.Common.{◌≡◌, ℕ, suc, ◌+◌, List, Option, Some, 
 use Rattle.std.proofs.lemmas.Bool.Decides.{nat_tests}
 use Rattle.usb_fields.specs.Packet.{Sent, Reply as PacketReply}
 use Rattle.usb_fields.specs.declared.setup.Setup.{Setup as SetupPacket}
-use Rattle.usb_host.specs.declared.why.Why.{Why}
-use Rattle.usb_host.specs.declared.stage.TransferStage.{TransferStage}
-use Rattle.usb_host.specs.declared.stage.TransferStage.TheVariants.{Setup, DataIn, DataOut, StatusOut, StatusIn, Completed, Failed}
-use Rattle.usb_host.specs.Transfer.{TransferView, Hearing, Goes, Brings, Completes, Fails, taken_at, due, addressed, token_due}
+use Rattle.usb_transfer.specs.declared.why.Why.{Why}
+use Rattle.usb_transfer.specs.declared.stage.TransferStage.{TransferStage}
+use Rattle.usb_transfer.specs.declared.stage.TransferStage.TheVariants.{Setup, DataIn, DataOut, StatusOut, StatusIn, Completed, Failed}
+use Rattle.usb_transfer.specs.Transfer.{TransferView, Hearing, Goes, Brings, Completes, Fails, taken_at, due, addressed, token_due}
 use Rattle.usb_device.specs.declared.state.State.{State}
 use Rattle.usb_device.specs.Requests.{Outcome}
 use Rattle.usb_device.specs.Step.{DeviceView}
 use Rattle.usb_bus.specs.declared.fate.Fate.{Fate}
-use Rattle.usb_bus.specs.declared.reply.Reply.{Reply}
+use Rattle.usb_transfer.specs.declared.reply.Reply.{Reply}
 use Rattle.usb_bus.specs.Bus.{HostEnd, exchanged, step}
-use Rattle.usb_bus.specs.Attempt.{Plan, Attempt, Running, advance}
+use Rattle.usb_transfer.specs.Plan.{Plan}
+use Rattle.usb_bus.specs.Attempt.{Attempt, Running, advance}
 use Rattle.usb_bus.specs.Run.{fate_at}
 use Rattle.usb_bus.specs.inside.Running.{failure_of, point, Leads}
 use Rattle.usb_bus.specs.Run.{due_in}

@@ -8,9 +8,9 @@ use Rattle.usb_fields.specs.declared.setup.Direction.TheVariants as directions
 use Rattle.usb_fields.specs.Packet.{AckReply, NoReply}
 use Rattle.usb_fields.specs.Packets.{packets}
 use Rattle.usb_fields.specs.Setup.{setup_of, setup_bytes, direction_of}
-use Rattle.usb_host.specs.declared.stage.TransferStage.{TransferStage}
-use Rattle.usb_host.specs.declared.stage.TransferStage.TheVariants.{Setup, DataIn, DataOut, StatusOut, StatusIn}
-use Rattle.usb_host.specs.Transfer.{stage_after_setup}
+use Rattle.usb_transfer.specs.declared.stage.TransferStage.{TransferStage}
+use Rattle.usb_transfer.specs.declared.stage.TransferStage.TheVariants.{Setup, DataIn, DataOut, StatusOut, StatusIn}
+use Rattle.usb_transfer.specs.Transfer.{stage_after_setup}
 use Rattle.usb_device.specs.declared.state.State.{State}
 use Rattle.usb_device.specs.Requests.{Outcome, Bytes, Done, Refused}
 use Rattle.usb_device.specs.Step.{DeviceStage, Served, replies, begun}

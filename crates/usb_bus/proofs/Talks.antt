@@ -5,7 +5,7 @@ use Rattle.usb_fields.specs.declared.setup.Setup.{Setup as SetupPacket}
 use Rattle.usb_device.specs.declared.state.State.{State}
 use Rattle.usb_device.specs.Requests.{Outcome, Bytes, Done, Refused}
 use Rattle.usb_device.specs.Step.{is_set_address, carried_out}
-use Rattle.usb_bus.specs.declared.reply.Reply.{Reply}
+use Rattle.usb_transfer.specs.declared.reply.Reply.{Reply}
 use Rattle.usb_bus.specs.Attempt.{Follows, reply_to}
 use Rattle.usb_bus.specs.Talk.{Place, followed, onward, reached, asked_at, talk_plan, replies_to, state_after, IsTable}
 use Rattle.usb_bus.proofs.Cutting.{packets_cut}

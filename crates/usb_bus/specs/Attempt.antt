@@ -1,25 +1,20 @@
 -- Transfers one after another, each by a plan of what the replies before it ask for, with no bus reset between them.
 use Rattle.std.specs.Prelude.{◌≡◌, ◌≢◌, ℕ, ◌<◌, ◌≤◌, Bool, true, if◌then◌else◌, ◌==◌, ◌⊎◌, List, [], ◌∷◌, ◌++◌}
 use Rattle.usb_fields.specs.declared.setup.Setup.{Setup as SetupPacket}
-use Rattle.usb_host.specs.declared.why.Why.{Why}
-use Rattle.usb_host.specs.declared.why.Why.TheVariants.{NoAnswer, Busy, Stalled, TooLong, Unexpected, Malformed, Memory}
-use Rattle.usb_host.specs.declared.stage.TransferStage.{TransferStage}
-use Rattle.usb_host.specs.declared.stage.TransferStage.TheVariants.{Setup, Completed, Failed}
-use Rattle.usb_host.specs.Transfer.{begun}
+use Rattle.usb_transfer.specs.declared.why.Why.{Why}
+use Rattle.usb_transfer.specs.declared.why.Why.TheVariants.{NoAnswer, Busy, Stalled, TooLong, Unexpected, Malformed, Memory}
+use Rattle.usb_transfer.specs.declared.stage.TransferStage.{TransferStage}
+use Rattle.usb_transfer.specs.declared.stage.TransferStage.TheVariants.{Setup, Completed, Failed}
+use Rattle.usb_transfer.specs.Plan.{Plan, Begin, Success, Trouble}
+use Rattle.usb_transfer.specs.Transfer.{begun}
 use Rattle.usb_device.specs.declared.state.State.{State}
 use Rattle.usb_device.specs.Requests.{Outcome, Bytes, Done, Refused}
 use Rattle.usb_device.specs.Step.{DeviceView, is_set_address, carried_out}
-use Rattle.usb_bus.specs.declared.reply.Reply.{Reply}
-use Rattle.usb_bus.specs.declared.reply.Reply.TheVariants as replied
+use Rattle.usb_transfer.specs.declared.reply.Reply.{Reply}
+use Rattle.usb_transfer.specs.declared.reply.Reply.TheVariants as replied
 use Rattle.usb_bus.specs.declared.fate.Fate.{Fate}
 use Rattle.usb_bus.specs.Bus.{HostEnd, step}
 use Rattle.usb_bus.specs.Coupled.{Coupled, IsAnswering, IsCut}
-
--- what comes next: a transfer, or the end
-pub data Plan : Type 0 where
-  Begin : (address packet : ℕ) (q : SetupPacket) → Plan
-  Success : Plan
-  Trouble : (why : Why) → Plan
 
 -- a transfer in work, or the end
 pub data Phase : Type 0 where

@@ -4,12 +4,13 @@ use Rattle.usb_fields.specs.declared.setup.Setup.{Setup as SetupPacket}
 use Rattle.usb_device.specs.declared.state.State.{State}
 use Rattle.usb_device.specs.Requests.{Outcome, Bytes}
 use Rattle.usb_device.specs.Step.{DeviceView, new_device}
-use Rattle.usb_bus.specs.declared.reply.Reply.{Reply}
+use Rattle.usb_transfer.specs.declared.reply.Reply.{Reply}
 use Rattle.usb_bus.specs.declared.fate.Fate.{Fate}
 use Rattle.usb_bus.specs.Fates.{losses, busies, acks_lost}
 use Rattle.usb_bus.specs.Bus.{run}
 use Rattle.usb_bus.specs.Coupled.{Coupled, IsAnswering, IsCut}
-use Rattle.usb_bus.specs.Attempt.{Plan, Follows, Sound, begins, attempt_run, proceed}
+use Rattle.usb_transfer.specs.Plan.{Plan}
+use Rattle.usb_bus.specs.Attempt.{Follows, Sound, begins, attempt_run, proceed}
 use Rattle.usb_bus.specs.Talk.{talk_plan, replies_to, state_after, IsTable}
 
 -- A transfer begun at the device's address stays coupled over every list of fates.

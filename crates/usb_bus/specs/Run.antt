@@ -2,13 +2,14 @@
 use Rattle.std.specs.Prelude.{◌≡◌, ℕ, zero, suc, List, [], ◌∷◌, Option, Some, None, slice_get, unwrap_or}
 use Rattle.usb_fields.specs.Packet.{Sent}
 use Rattle.usb_fields.specs.declared.setup.Setup.{Setup as SetupPacket}
-use Rattle.usb_host.specs.Transfer.{due}
+use Rattle.usb_transfer.specs.Transfer.{due}
 use Rattle.usb_device.specs.declared.state.State.{State}
 use Rattle.usb_device.specs.Requests.{Outcome}
 use Rattle.usb_bus.specs.declared.fate.Fate.{Fate}
 use Rattle.usb_bus.specs.declared.fate.Fate.TheVariants.{Pass}
-use Rattle.usb_bus.specs.declared.reply.Reply.{Reply}
-use Rattle.usb_bus.specs.Attempt.{Plan, Phase, Running, Succeeded, Broken, Attempt, attempt_step}
+use Rattle.usb_transfer.specs.declared.reply.Reply.{Reply}
+use Rattle.usb_transfer.specs.Plan.{Plan}
+use Rattle.usb_bus.specs.Attempt.{Phase, Running, Succeeded, Broken, Attempt, attempt_step}
 
 -- the fate of transaction k, counted from 0: after the list's end all pass
 abbrev pub fate_at : List Fate → ℕ → Fate

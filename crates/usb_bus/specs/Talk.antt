@@ -6,9 +6,10 @@ use Rattle.usb_fields.specs.Setup.{direction_of}
 use Rattle.usb_device.specs.declared.state.State.{State}
 use Rattle.usb_device.specs.Requests.{Outcome, Bytes, Done}
 use Rattle.usb_device.specs.Step.{is_set_address, carried_out}
-use Rattle.usb_bus.specs.declared.reply.Reply.{Reply}
-use Rattle.usb_bus.specs.declared.reply.Reply.TheVariants as replied
-use Rattle.usb_bus.specs.Attempt.{Plan, Begin, Success, reply_to}
+use Rattle.usb_transfer.specs.declared.reply.Reply.{Reply}
+use Rattle.usb_transfer.specs.declared.reply.Reply.TheVariants as replied
+use Rattle.usb_transfer.specs.Plan.{Plan, Begin, Success}
+use Rattle.usb_bus.specs.Attempt.{reply_to}
 
 -- the requests that are left, and the address that the next one goes to
 pub record Place : Type 0 where

@@ -8,14 +8,13 @@ ghost use Rattle.usb_bus.specs.inside.Running.{settled};
 
 use crate::exchange::{Ended, transfer_over};
 use crate::fate::Fate;
-use crate::reply::Reply;
 use crate::talk::Talk;
 use std::alloc::Global;
 use usb_base::Sequence;
 use usb_device::{Description, Device, is_set_address};
 use usb_fields::Setup;
 use usb_file_data::NoMemory;
-use usb_host::{Transfer, Why};
+use usb_transfer::{Reply, Transfer, Why};
 
 /// What a transfer brings to the talk, or why the talk stops.
 fn settle(request: Setup, ended: Ended) -> Result<Reply, Why>

@@ -1,9 +1,9 @@
 //! One transaction, and one transfer, between two ends.
 ghost use Rattle.std.specs.Prelude.{◌≡◌, ◌<◌, ◌≤◌, ◌+◌, ◌^◌, [], OnOk, IfOk, IsSome, None, Some};
 ghost use Rattle.usb_fields.specs.Packet.{reply_of, sent_of};
-ghost use Rattle.usb_host.specs.Transfer.{taken, due};
-ghost use Rattle.usb_host.specs.Bound.{left};
-ghost use Rattle.usb_host.specs.declared.stage.TransferStage.TheVariants.{Setup};
+ghost use Rattle.usb_transfer.specs.Transfer.{taken, due};
+ghost use Rattle.usb_transfer.specs.Bound.{left};
+ghost use Rattle.usb_transfer.specs.declared.stage.TransferStage.TheVariants.{Setup};
 ghost use Rattle.usb_device.specs.Requests.{answer};
 ghost use Rattle.usb_bus.specs.Bus.{HostEnd, Ends, exchanged, with_heard};
 ghost use Rattle.usb_bus.specs.Run.{fate_at};
@@ -13,7 +13,7 @@ use crate::fate::Fate;
 use std::alloc::{AllocError, Global};
 use usb_device::Device;
 use usb_fields::{Answer, Transaction};
-use usb_host::{Heard, Transfer, Why};
+use usb_transfer::{Heard, Transfer, Why};
 
 /// The fate of a transaction, by its number. After the list's end all pass.
 fn fate_of(fates: &[Fate], number: u128) -> Fate

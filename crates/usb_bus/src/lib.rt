@@ -15,11 +15,10 @@ mod conversation;
 mod exchange;
 mod fate;
 pub mod laws;
-mod reply;
 mod talk;
 
 pub use conversation::converse;
 pub use fate::Fate;
-pub use reply::Reply;
 pub use talk::Talk;
 pub use usb_file_data::NoMemory;
+pub use usb_transfer::Reply;

@@ -1,8 +1,7 @@
 //! A talk between a host and a device.
-use crate::reply::Reply;
 use usb_base::Sequence;
 use usb_device::State;
-use usb_host::Why;
+use usb_transfer::{Reply, Why};
 
 /// What came of a talk.
 #[derive(Clone, Debug, Drop, PartialEq, Eq, Hash)]

@@ -19,13 +19,13 @@ use Rattle.usb_file_data.specs.Named.{named_indices}
 use Rattle.usb_file_data.specs.File.{File, file_bytes, sets_bytes, other_bytes, each_string_bytes, is_other_kind, has_no_layout, are_wrong_strings}
 use Rattle.usb_file.specs.declared.fault.FileWhy.{FileWhy}
 use Rattle.usb_file.specs.declared.fault.FileWhy.TheVariants as files
-use Rattle.usb_file.specs.Front.{AllSets, IsPartStart}
+use Rattle.usb_file_data.specs.Front.{AllSets, IsPartStart}
 use Rattle.usb_file.specs.FileFaults.{NextPart, a_set, a_qualifier, the_languages, a_string, the_end, begins_qualifier, IsNext, NoQualifierIsNext, EndIsNext, is_no_string, string_fault, fixed_fault, PartFaulty, FaultyPart, ReadRefused}
 use Rattle.usb_file.specs.inside.Reading.{ReadSoFar, Behind, SetRefused, ReadsSets, SetsRefused, ReadsQualifier, ReadsOther, OtherRefused, no_qualifier, no_set, ReadsString, StringRefused, ReadsDueStrings, ReadsStrings, StringsRefused, no_languages, no_string}
 use Rattle.usb_base.specs.Bytes.{AreBytes}
-use Rattle.usb_file.proofs.Lists.{behind_main, behind_other, drop_more}
+use Rattle.usb_file_data.proofs.Lists.{behind_main, behind_other, drop_more}
 use Rattle.usb_file.proofs.Units.{length-units_bytes}
-use Rattle.usb_file.proofs.Fronts.{Grown, grow_qualifier, grow_languages, grow_strings, with_strings}
+use Rattle.usb_file_data.proofs.Fronts.{Grown, grow_qualifier, grow_languages, grow_strings, with_strings}
 use Rattle.usb_file.proofs.Next.{right_count, right_none, right_strings, not_none}
 use Rattle.usb_file.proofs.Ends.{is_file, bytes_left, drop_all}
 

@@ -18,19 +18,20 @@ use Rattle.usb_file.specs.declared.fault.FileWhy.TheVariants as files
 use Rattle.usb_file_data.specs.Named.{named_indices}
 use Rattle.usb_file_data.specs.File.{File, file_bytes, is_other_kind, are_wrong_strings}
 use Rattle.usb_base.specs.Bytes.{AreBytes}
-use Rattle.usb_file.proofs.Lists.{bytes_before, bytes_behind}
+use Rattle.usb_file_data.proofs.Lists.{bytes_before, bytes_behind}
 use Rattle.usb_file.specs.inside.PartLaws.{PartLaws}
-use Rattle.usb_file.proofs.Fronts.{Grown, string_with, grow_main, grow_other, grow_qualifier, grow_languages, grow_string, due_main, due_other, due_qualifier, due_strings}
+use Rattle.usb_file_data.proofs.Fronts.{Grown, string_with, grow_main, grow_other, grow_qualifier, grow_languages, grow_string}
+use Rattle.usb_file.proofs.Due.{due_main, due_other, due_qualifier, due_strings}
 use Rattle.usb_file.proofs.Units.{length-units_bytes}
 use Rattle.usb_file.proofs.Next.{all_sets, all_strings, follows, is_next, next_end, next_is}
 use Rattle.usb_file.proofs.Ends as ends
 use Rattle.usb_file.proofs.Unique.{PartIs, IsText, told_same, part_faults}
 use Rattle.usb_file.proofs.Paths.{two_fronts, stuck_by_fault, stuck_at_end, device_first, behind, begun}
-use Rattle.usb_file.specs.Front.{StringsFollow, IsInOrder, IsFront, Splits, AllSets}
+use Rattle.usb_file_data.specs.Front.{StringsFollow, IsInOrder, IsFront, Splits, AllSets}
 use Rattle.usb_file.specs.FileFaults.{NextPart, a_set, a_qualifier, the_languages, a_string, the_end, begins_qualifier, is_no_string, string_fault, fixed_fault, EndIsNext, IsNext, PartFaulty, FaultyPart, FileFaulty}
 use Rattle.usb_file.specs.FileOrFault.{FileOrFault, is_file, is_faulty}
 use Rattle.usb_file.specs.inside.Next.{next_string, next_part}
-use Rattle.usb_file.proofs.Fronts.{with_set, with_qualifier}
+use Rattle.usb_file_data.proofs.Fronts.{with_set, with_qualifier}
 
 -- ---- the part that is due makes a front of a front
 

@@ -5,7 +5,7 @@ use Rattle.usb_file_data.specs.declared.file.DescriptorFile.{DescriptorFile}
 use Rattle.usb_file_data.specs.File.{File, file_bytes}
 use Rattle.usb_file.specs.declared.fault.FileWhy.{FileWhy}
 use Rattle.usb_file.specs.declared.fault.FileWhy.TheVariants as files
-use Rattle.usb_file.specs.Front.{IsFront}
+use Rattle.usb_file_data.specs.Front.{IsFront}
 use Rattle.usb_file.specs.FileFaults.{the_end, EndIsNext, PartFaulty, FileFaulty, ReadRefused}
 use Rattle.usb_base.specs.Bytes.{AreBytes}
 

@@ -1,8 +1,7 @@
 pub mod Exits
-pub mod Lists
-pub mod WholeSets
+pub mod Between
 pub mod Units
-pub mod Fronts
+pub mod Due
 pub mod Next
 pub mod Longest
 pub mod ListingLengthLemmas

@@ -28,7 +28,7 @@ use Rattle.usb_listing.specs.Lines.{written_field, two_bytes}
 use Rattle.usb_listing.specs.SetListing.{raw_line, association_line, extra_line, endpoint_line, endpoint_lines, interface_line, setting_lines, configuration_line, set_lines}
 use Rattle.usb_listing.specs.StringListing.{is_plain, languages_line, written_unit, string_line, strings_lines}
 use Rattle.usb_listing.specs.Listing.{device_line, qualifier_line, other_lines, file_lines}
-use Rattle.usb_file.proofs.WholeSets.{whole_length}
+use Rattle.usb_file_data.proofs.WholeSets.{whole_length}
 use Rattle.usb_file.proofs.Longest.{few_sets, few_strings}
 
 -- ---- lists of texts

@@ -17,10 +17,10 @@ use Rattle.usb_file_data.specs.declared.file.Other.{Other}
 use Rattle.usb_file_data.specs.declared.file.Strings.{Strings}
 use Rattle.usb_file_data.specs.Named.{named_among, other_sets, string_indices}
 use Rattle.usb_file_data.specs.File.{File, whole_set, sets_bytes, other_bytes, each_string_bytes, strings_bytes, has_no_layout, is_long_string, are_wrong_strings}
-use Rattle.usb_file.specs.Front.{AllSets}
-use Rattle.usb_file.proofs.Lists.{bytes_before, bytes_behind}
+use Rattle.usb_file_data.specs.Front.{AllSets}
+use Rattle.usb_file_data.proofs.Lists.{bytes_before, bytes_behind}
 use Rattle.usb_file.proofs.Units.{length-units_bytes}
-use Rattle.usb_file.proofs.WholeSets.{whole_length}
+use Rattle.usb_file_data.proofs.WholeSets.{whole_length}
 use Rattle.usb_file.proofs.Next.{all_sets, all_strings}
 
 -- ---- lists of parts

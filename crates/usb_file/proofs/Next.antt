@@ -7,10 +7,10 @@ use Rattle.usb_file_data.specs.declared.file.Other.{Other}
 use Rattle.usb_file_data.specs.declared.file.Strings.{Strings}
 use Rattle.usb_file_data.specs.Named.{named_indices}
 use Rattle.usb_file_data.specs.File.{has_long_string, has_wrong_count, are_wrong_strings, is_other_miscounted}
-use Rattle.usb_file.specs.Front.{AllSets, StringsFollow, IsInOrder, IsFront}
+use Rattle.usb_file_data.specs.Front.{AllSets, StringsFollow, IsInOrder, IsFront}
 use Rattle.usb_file.specs.FileFaults.{NextPart, a_set, a_qualifier, the_languages, a_string, the_end, begins_qualifier, IsNext, NoQualifierIsNext, MissesSet, MissesString}
 use Rattle.usb_file.specs.inside.Next.{next_string, next_part}
-use Rattle.usb_file.proofs.Fronts.{due_main, due_other, due_qualifier, due_strings}
+use Rattle.usb_file.proofs.Due.{due_main, due_other, due_qualifier, due_strings}
 
 -- ---- counts
 

@@ -21,15 +21,15 @@ use Rattle.usb_file.specs.declared.fault.FileWhy.{FileWhy}
 use Rattle.usb_file_data.specs.Named.{named_indices, other_sets}
 use Rattle.usb_file_data.specs.File.{whole_set, sets_bytes, other_bytes, each_string_bytes, strings_bytes, file_bytes, is_other_kind, has_no_layout, is_long_string}
 use Rattle.usb_base.specs.Bytes.{AreBytes}
-use Rattle.usb_file.proofs.Lists.{bytes_before, bytes_behind, length-push}
+use Rattle.usb_file_data.proofs.Lists.{bytes_before, bytes_behind, length-push}
 use Rattle.usb_file.specs.inside.PartLaws.{PartLaws}
-use Rattle.usb_file.proofs.WholeSets.{no_some}
-use Rattle.usb_file.proofs.Fronts.{due_main, due_other, due_qualifier, due_strings}
+use Rattle.usb_file_data.proofs.WholeSets.{no_some}
+use Rattle.usb_file.proofs.Due.{due_main, due_other, due_qualifier, due_strings}
 use Rattle.usb_file.proofs.Unique.{PartIs, IsSet, one_part, part_or_fault, append_same}
-use Rattle.usb_file.specs.Front.{StringsFollow, IsInOrder, IsFront, Splits, AllSets}
+use Rattle.usb_file_data.specs.Front.{StringsFollow, IsInOrder, IsFront, Splits, AllSets}
 use Rattle.usb_file.specs.FileFaults.{the_languages, a_string, the_end, PartFaulty}
 use Rattle.usb_file.specs.inside.Next.{next_string, next_part}
-use Rattle.usb_file.proofs.Fronts.{with_set, with_strings}
+use Rattle.usb_file_data.proofs.Fronts.{with_set, with_strings}
 
 -- ---- steps
 

@@ -5,8 +5,9 @@ use Rattle.usb_set.specs.declared.tree.SetKind.{SetKind}
 use Rattle.usb_set.specs.declared.tree.Configuration.{Configuration}
 use Rattle.usb_file_data.specs.File.{whole_set, has_no_layout, is_other_kind}
 use Rattle.usb_file.specs.inside.Reading.{ReadsNextSet, ReadsSets}
-use Rattle.usb_file.proofs.Lists.{drop_front, drop_more, length-push, list_any-push, reads_more}
-use Rattle.usb_file.proofs.WholeSets.{layout_is, layout_allowed}
+use Rattle.usb_file_data.proofs.Lists.{drop_front, drop_more, length-push, list_any-push}
+use Rattle.usb_file.proofs.Between.{reads_more}
+use Rattle.usb_file_data.proofs.WholeSets.{layout_is, layout_allowed}
 
 -- a part that is read from a place lies within the bytes
 within_all : (b p : List ℕ) (place end : ℕ) → place ≤ length b → drop place b ≡ p ++ drop end b → end ≡ place + length p → end ≤ length b

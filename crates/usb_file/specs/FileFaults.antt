@@ -13,7 +13,7 @@ use Rattle.usb_file.specs.declared.fault.FileWhy.{FileWhy}
 use Rattle.usb_file.specs.declared.fault.FileWhy.TheVariants as files
 use Rattle.usb_file_data.specs.Named.{named_indices}
 use Rattle.usb_file_data.specs.File.{file_bytes, has_wrong_count, are_wrong_strings, is_other_kind}
-use Rattle.usb_file.specs.Front.{AllSets, IsPartStart, Splits}
+use Rattle.usb_file_data.specs.Front.{AllSets, IsPartStart, Splits}
 
 -- what comes next after a front of a file
 pub data NextPart : Type 0 where

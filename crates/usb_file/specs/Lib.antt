@@ -1,4 +1,3 @@
-pub mod Front
 pub mod FileFaults
 pub mod FileOrFault
 pub mod Numbers

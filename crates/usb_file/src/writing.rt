@@ -77,7 +77,7 @@ fn put_sets(alloc: Global, out: &mut Vec<u8>, sets: &[Configuration]) -> Result<
     Ok(())
 }
 
-#[tactic(auto, using(crate::proofs::WholeSets::layout_is))]
+#[tactic(auto, using(usb_file_data::proofs::WholeSets::layout_is))]
 fn put_set(alloc: Global, out: &mut Vec<u8>, c: &Configuration) -> Result<(), AllocError>
     requires { has_no_layout c.now ≡ false }
     ensures { OnOk result (out.new.items ≡ out.old.items ++ whole_set c.now) }

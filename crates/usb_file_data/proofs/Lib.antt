@@ -1,2 +1,5 @@
 pub mod Folds
 pub mod ExtraMarks
+pub mod Lists
+pub mod WholeSets
+pub mod Fronts

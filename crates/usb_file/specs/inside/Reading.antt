@@ -18,7 +18,7 @@ use Rattle.usb_file.specs.declared.fault.FileWhy.{FileWhy}
 use Rattle.usb_file.specs.declared.fault.FileWhy.TheVariants as files
 use Rattle.usb_file.specs.declared.fault.FileFault.{FileFault}
 use Rattle.usb_file_data.specs.File.{file_bytes, whole_set, has_no_layout, is_other_kind, is_long_string}
-use Rattle.usb_file.specs.Front.{Splits}
+use Rattle.usb_file_data.specs.Front.{Splits}
 use Rattle.usb_file.specs.FileFaults.{SetFaulty, begins_qualifier, fixed_fault, string_fault}
 
 -- the bytes up to this place are those of the file so far

@@ -1,10 +1,11 @@
 use Rattle.std.proofs.Common.{List, refl, zero-add, true, []}
 use Rattle.usb_device.specs.declared.state.State.{State}
 use Rattle.usb_device.specs.Step.{new_device}
-use Rattle.usb_bus.specs.declared.reply.Reply.{Reply}
+use Rattle.usb_transfer.specs.declared.reply.Reply.{Reply}
 use Rattle.usb_bus.proofs.Attempts.{attempt_all, next_begins}
 use Rattle.usb_bus.proofs.Talks.{talk_follows}
-use Rattle.usb_bus.specs.Attempt.{proceed, Plan}
+use Rattle.usb_transfer.specs.Plan.{Plan}
+use Rattle.usb_bus.specs.Attempt.{proceed}
 use Rattle.usb_bus.specs.Talk.{talk_plan, replies_to, state_after, Place}
 use Rattle.usb_bus.proofs.laws.a_talk_has_causes.Goals as goal
 

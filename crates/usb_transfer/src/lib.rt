@@ -18,11 +18,13 @@
 
 mod heard;
 mod limits;
+mod reply;
 mod stage;
 mod transfer;
 mod why;
 
 pub use heard::Heard;
 pub use limits::{LimitFault, Limits};
+pub use reply::Reply;
 pub use transfer::Transfer;
 pub use why::Why;

@@ -1,6 +1,6 @@
 use Rattle.std.proofs.Common.{arith}
-use Rattle.usb_host.proofs.BoundLemmas.{left-begun, most_transactions-few}
-use Rattle.usb_host.proofs.transfer.Transfer.new.Goals as goal
+use Rattle.usb_transfer.proofs.BoundLemmas.{left-begun, most_transactions-few}
+use Rattle.usb_transfer.proofs.transfer.Transfer.new.Goals as goal
 
 pub returns-clause-most : goal.returns-clause-most
 returns-clause-most c = left-begun c.args.address c.args.packet c.args.naks c.args.s

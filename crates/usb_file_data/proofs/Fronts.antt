@@ -1,8 +1,8 @@
--- Fronts of files, and the parts that come next.
-use Rattle.std.proofs.Common.{◌≡◌, ℕ, ◌*◌, ◌<◌, ◌≤◌, true, false, ltb, List, [], ◌∷◌, ◌++◌, length, Option, Some, None, refl, ap, sym, subst, ◌∙◌, arith, append_assoc}
+-- Fronts of files, and each with one part more.
+use Rattle.std.proofs.Common.{◌≡◌, ℕ, ◌*◌, ◌<◌, ◌≤◌, false, List, [], ◌∷◌, ◌++◌, length, Option, Some, None, refl, ap, sym, subst, ◌∙◌, arith, append_assoc}
 use Rattle.std.specs.List.{list_any}
 use Rattle.std.proofs.lemmas.List.{append-nil}
-use Rattle.std.proofs.lemmas.Bool.{lt-ltb, le-ltb, or_parts, or_from, cond-true, cond-false}
+use Rattle.std.proofs.lemmas.Bool.{or_parts, or_from}
 use Rattle.usb_fields.specs.declared.qualifier.Qualifier.{Qualifier}
 use Rattle.usb_fields.specs.Qualifier.{qualifier_bytes}
 use Rattle.usb_fields.specs.Device.{device_bytes}
@@ -16,11 +16,9 @@ use Rattle.usb_file_data.specs.declared.file.Other.{Other}
 use Rattle.usb_file_data.specs.declared.file.Strings.{Strings}
 use Rattle.usb_file_data.specs.Named.{named_indices, other_sets}
 use Rattle.usb_file_data.specs.File.{whole_set, sets_bytes, other_bytes, each_string_bytes, strings_bytes, file_bytes, is_other_kind, has_no_layout, is_long_string}
-use Rattle.usb_file.proofs.Lists.{flat_map-push, list_any-push, length-push, behind_main, behind_other, behind_all}
-use Rattle.usb_file.proofs.WholeSets.{layout_is, layout_allowed}
-use Rattle.usb_file.specs.Front.{StringsFollow, IsInOrder, IsFront, AllSets}
-use Rattle.usb_file.specs.FileFaults.{a_set, a_qualifier, begins_qualifier}
-use Rattle.usb_file.specs.inside.Next.{next_string, next_after_main, next_part}
+use Rattle.usb_file_data.proofs.Lists.{flat_map-push, list_any-push, length-push, behind_main, behind_other, behind_all}
+use Rattle.usb_file_data.proofs.WholeSets.{layout_is, layout_allowed}
+use Rattle.usb_file_data.specs.Front.{StringsFollow, IsInOrder, IsFront, AllSets}
 
 -- with one more set of the other speed
 abbrev pub other_with : Configuration → Option Other → Option Other
@@ -50,7 +48,7 @@ pub record Grown (f g : DescriptorFile) (p : List ℕ) : Type 0 where
   pub is_front : IsFront g
   pub bytes : file_bytes g ≡ file_bytes f ++ p
 
--- ---- the next part
+-- ---- one part more
 
 pub grow_main : (f : DescriptorFile) (c : Configuration) (p : List ℕ) → IsFront f → f.other ≡ None → f.strings ≡ None → length f.sets < f.device.configurations
     → Layout c p → is_other_kind kinds.Configuration c ≡ false → Grown f (with_set kinds.Configuration c f) p
@@ -154,35 +152,3 @@ grow_string f s u front all is_strings follow below short =
       short = or_from _ _ long.0 (list_any-push is_long_string s.texts u long.1 short);
     })
     (string_more s u ∙ sym (ap (λ x. strings_bytes x ++ units_bytes u) is_strings))
-
--- ---- what is due
-
-pub due_main : (f : DescriptorFile) (rest : List ℕ) → length f.sets < f.device.configurations → next_part f rest ≡ a_set kinds.Configuration
-due_main f rest below = cond-true (ltb (length f.sets) f.device.configurations) _ _ (lt-ltb _ _ below)
-
-pub due_after : (f : DescriptorFile) (rest : List ℕ) (o : Option Other) (s : Option Strings) → length f.sets ≡ f.device.configurations → f.other ≡ o → f.strings ≡ s
-    → next_part f rest ≡ next_after_main f o s rest
-due_after f rest o s full is_other is_strings =
-    cond-false (ltb (length f.sets) f.device.configurations) _ _ (le-ltb _ _ (omega (arith, full)))
-    ∙ ap (λ x. next_after_main f x f.strings rest) is_other ∙ ap (λ x. next_after_main f o x rest) is_strings
-
-pub due_other : (f : DescriptorFile) (rest : List ℕ) (o : Other) → length f.sets ≡ f.device.configurations → f.other ≡ Some o
-    → length o.sets < o.qualifier.configurations → next_part f rest ≡ a_set kinds.OtherSpeed
-due_other f rest o full is_other below =
-    due_after f rest (Some o) f.strings full is_other refl ∙ cond-true (ltb (length o.sets) o.qualifier.configurations) _ _ (lt-ltb _ _ below)
-
-pub due_qualifier : (f : DescriptorFile) (rest : List ℕ) → length f.sets ≡ f.device.configurations → f.other ≡ None → f.strings ≡ None
-    → begins_qualifier rest ≡ true → next_part f rest ≡ a_qualifier
-due_qualifier f rest full no_other no_strings begins = due_after f rest None None full no_other no_strings ∙ cond-true (begins_qualifier rest) _ _ begins
-
--- after all sets come the strings
-pub due_strings : (f : DescriptorFile) (rest : List ℕ) → AllSets f f.other → (f.other ≡ None → f.strings ≡ None → begins_qualifier rest ≡ false)
-    → next_part f rest ≡ next_string (length (named_indices f)) f.strings
-due_strings f rest all unless = cases f.other f.strings refl refl all unless
-  where
-    cases : (o : Option Other) (s : Option Strings) → f.other ≡ o → f.strings ≡ s → AllSets f o → (o ≡ None → s ≡ None → begins_qualifier rest ≡ false)
-        → next_part f rest ≡ next_string (length (named_indices f)) s
-    cases None None eo es all unless = due_after f rest None None all eo es ∙ cond-false (begins_qualifier rest) _ _ (unless refl refl)
-    cases None (Some s) eo es all unless = due_after f rest None (Some s) all eo es
-    cases (Some o) s eo es all unless =
-        due_after f rest (Some o) s all.0 eo es ∙ cond-false (ltb (length o.sets) o.qualifier.configurations) _ _ (le-ltb _ _ (omega (arith, all.1)))

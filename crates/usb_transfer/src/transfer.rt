@@ -2,7 +2,7 @@
 //! through memory, so that the parts are inlined.
 ghost use Rattle.std.specs.Prelude.{IsSome, ◌≡◌, ◌<◌, ◌≤◌, ◌+◌, ◌^◌};
 ghost use Rattle.usb_fields.specs.Packet.{reply_of};
-ghost use Rattle.usb_host.specs.Transfer.{stage_after_setup};
+ghost use Rattle.usb_transfer.specs.Transfer.{stage_after_setup};
 
 use crate::heard::Heard;
 use crate::stage::TransferStage;
@@ -41,11 +41,11 @@ pub struct Transfer {
 }
 
 impl Model for Transfer {
-    ghost use Rattle.usb_host.specs.Transfer.{TransferView};
+    ghost use Rattle.usb_transfer.specs.Transfer.{TransferView};
 
     ghost Value = { TransferView };
 
-    ghost use Rattle.usb_host.specs.inside.Transfers.{view_of, IsTransfer};
+    ghost use Rattle.usb_transfer.specs.inside.Transfers.{view_of, IsTransfer};
 
     ghost view = { view_of };
 
@@ -53,9 +53,9 @@ impl Model for Transfer {
 }
 
 impl Transfer {
-    ghost use Rattle.usb_host.specs.Heard.{heard_of};
-    ghost use Rattle.usb_host.specs.Transfer.{begun, due, sent_by, taken, taken_data, taken_status, moved, completed, failed, struck, delayed, with_packet};
-    ghost use Rattle.usb_host.specs.Bound.{left, most_transactions};
+    ghost use Rattle.usb_transfer.specs.Heard.{heard_of};
+    ghost use Rattle.usb_transfer.specs.Transfer.{begun, due, sent_by, taken, taken_data, taken_status, moved, completed, failed, struck, delayed, with_packet};
+    ghost use Rattle.usb_transfer.specs.Bound.{left, most_transactions};
 
     /// A transfer that begins with this setup packet.
     ///
@@ -105,6 +105,19 @@ impl Transfer {
             address: self.address,
             stage,
         })
+    }
+
+    /// How many bytes of the data stage were kept so far, at most wLength.
+    ///
+    /// ```rust
+    /// assert_eq!(rt; transfer.kept(), 18);
+    /// ```
+    #[inline(always)]
+    pub fn kept(&self) -> u16
+        ensures count { result ≡ self.now.kept }
+        ensures most { result ≤ self.now.request.length }
+    {
+        self.kept
     }
 
     /// Takes what the transaction that was due brought. A transfer that has ended answers the same `Complete` or

@@ -1,5 +1,5 @@
 -- Lists that grow at their end.
-use Rattle.std.proofs.Common.{◌≡◌, ℕ, ◌+◌, ◌≤◌, Bool, false, ◌||◌, List, [], ◌∷◌, ◌++◌, length, drop, refl, sym, ap, ◌∙◌, append_assoc, length-append, arith}
+use Rattle.std.proofs.Common.{◌≡◌, ℕ, ◌+◌, Bool, false, ◌||◌, List, [], ◌∷◌, ◌++◌, length, drop, refl, sym, ap, ◌∙◌, append_assoc, length-append, arith}
 use Rattle.std.specs.List.{flat_map, list_any}
 use Rattle.std.proofs.lemmas.Bool.{or_from}
 use Rattle.std.proofs.lemmas.List.{append-nil}
@@ -7,7 +7,6 @@ use Rattle.std.proofs.lemmas.List.Concat.{flat_map-append}
 use Rattle.std.proofs.lemmas.List.Folds.{list_any-append}
 use Rattle.std.proofs.lemmas.Grind.{common_steps}
 use Rattle.usb_base.specs.Bytes.{AreBytes}
-use Rattle.usb_file.specs.inside.Reading.{ReadsAll}
 
 pub flat_map-push : {A : Type 0} (g : A → List ℕ) (xs : List A) (x : A) → flat_map g (xs ++ x ∷ []) ≡ flat_map g xs ++ g x
 flat_map-push g xs x = flat_map-append g xs (x ∷ []) ∙ ap (λ (ys : List ℕ). flat_map g xs ++ ys) (append-nil (g x))
@@ -34,21 +33,6 @@ drop_front (x ∷ a) r = drop_front a r
 
 pub drop_more : (n m : ℕ) (b : List ℕ) → drop m (drop n b) ≡ drop (n + m) b
 drop_more n m b = grind (arith, common_steps)
-
--- ---- elements between two places
-
-pub reads_none : {A : Type 0} (g : A → List ℕ) (b : List ℕ) (place : ℕ) → place ≤ length b → ReadsAll g b place [] place
-reads_none g b place within = record { parts = refl; ends = omega arith; within = within }
-
-pub reads_more : {A : Type 0} (g : A → List ℕ) (b : List ℕ) (start : ℕ) (xs : List A) (mid : ℕ) (x : A) (end : ℕ) → ReadsAll g b start xs mid
-    → drop mid b ≡ g x ++ drop end b → end ≡ mid + length (g x) → end ≤ length b → ReadsAll g b start (xs ++ x ∷ []) end
-reads_more g b start xs mid x end h parts ends within =
-    let pushed = flat_map-push g xs x in
-    record {
-      parts = h.parts ∙ ap (λ r. flat_map g xs ++ r) parts ∙ sym (append_assoc (flat_map g xs) (g x) (drop end b)) ∙ ap (λ l. l ++ drop end b) (sym pushed);
-      ends = omega (arith, h.ends, ends, ap length pushed, length-append (flat_map g xs) (g x));
-      within = within;
-    }
 
 -- ---- bytes
 

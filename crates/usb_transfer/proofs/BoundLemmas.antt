@@ -10,13 +10,13 @@ use Rattle.usb_fields.specs.declared.packet.Toggle.TheVariants.{Data0, Data1}
 use Rattle.usb_fields.specs.declared.setup.Setup.{Setup as SetupPacket}
 use Rattle.usb_fields.specs.declared.setup.Direction.{Direction}
 use Rattle.usb_fields.specs.declared.setup.Direction.TheVariants as directions
-use Rattle.usb_host.specs.declared.why.Why.{Why}
-use Rattle.usb_host.specs.declared.why.Why.TheVariants.{NoAnswer, Busy, Stalled, TooLong, Unexpected}
-use Rattle.usb_host.specs.declared.stage.TransferStage.{TransferStage}
-use Rattle.usb_host.specs.declared.stage.TransferStage.TheVariants.{Setup, DataIn, DataOut, StatusOut, StatusIn, Completed, Failed}
-use Rattle.usb_host.specs.Transfer.{TransferView, begun, addressed, token_due, due, taken, taken_at, taken_data, taken_status, moved, completed, failed, struck, delayed, kept_packet, stage_after_setup, data_stage}
-use Rattle.usb_host.specs.Bound.{left, steps, steps_left, most_transactions}
-use Rattle.usb_host.specs.inside.Transfers.{IsTransfer}
+use Rattle.usb_transfer.specs.declared.why.Why.{Why}
+use Rattle.usb_transfer.specs.declared.why.Why.TheVariants.{NoAnswer, Busy, Stalled, TooLong, Unexpected}
+use Rattle.usb_transfer.specs.declared.stage.TransferStage.{TransferStage}
+use Rattle.usb_transfer.specs.declared.stage.TransferStage.TheVariants.{Setup, DataIn, DataOut, StatusOut, StatusIn, Completed, Failed}
+use Rattle.usb_transfer.specs.Transfer.{TransferView, begun, addressed, token_due, due, taken, taken_at, taken_data, taken_status, moved, completed, failed, struck, delayed, kept_packet, stage_after_setup, data_stage}
+use Rattle.usb_transfer.specs.Bound.{left, steps, steps_left, most_transactions}
+use Rattle.usb_transfer.specs.inside.Transfers.{IsTransfer}
 
 -- while steps of progress are left, transactions are
 some_left : (s n k b : ℕ) → 0 < s → k ≤ 2 → b ≤ n → k + b < s * (n + 3)

@@ -1,7 +1,7 @@
 -- How a transfer's fields are seen, and what holds of them.
 use Rattle.std.specs.Prelude.{◌<◌, ◌≤◌}
-use Rattle.usb_host.specs.Transfer.{TransferView}
-use Rattle.usb_host.specs.declared.transfer.Transfer.TheInside.{Inside}
+use Rattle.usb_transfer.specs.Transfer.{TransferView}
+use Rattle.usb_transfer.specs.declared.transfer.Transfer.TheInside.{Inside}
 
 abbrev pub view_of : Inside → TransferView
 view_of t =

@@ -1,7 +1,7 @@
 -- What a host bears.
 use Rattle.std.specs.Prelude.{ℕ, List, codes, ◌≤◌, ◌==◌, ◌||◌, nat_lt, Option, Some, None, if◌then◌else◌}
-use Rattle.usb_host.specs.declared.limits.LimitFault.{LimitFault}
-use Rattle.usb_host.specs.declared.limits.LimitFault.TheVariants.{Address, Attempts}
+use Rattle.usb_transfer.specs.declared.limits.LimitFault.{LimitFault}
+use Rattle.usb_transfer.specs.declared.limits.LimitFault.TheVariants.{Address, Attempts}
 
 -- what callers see of limits
 pub record LimitView : Type 0 where

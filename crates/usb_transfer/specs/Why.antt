@@ -1,7 +1,7 @@
 -- Why a transfer or an enumeration ended without success.
 use Rattle.std.specs.Prelude.{ℕ, List, codes}
-use Rattle.usb_host.specs.declared.why.Why.{Why}
-use Rattle.usb_host.specs.declared.why.Why.TheVariants.{NoAnswer, Busy, Stalled, TooLong, Unexpected, Malformed, Memory}
+use Rattle.usb_transfer.specs.declared.why.Why.{Why}
+use Rattle.usb_transfer.specs.declared.why.Why.TheVariants.{NoAnswer, Busy, Stalled, TooLong, Unexpected, Malformed, Memory}
 
 -- the number of a reason
 abbrev pub why_number : Why → ℕ

@@ -25,7 +25,7 @@ pub enum Why {
 }
 
 impl Why {
-    ghost use Rattle.usb_host.specs.Why.{why_number};
+    ghost use Rattle.usb_transfer.specs.Why.{why_number};
 
     /// The reason's number, 1 to 7.
     ///
@@ -48,7 +48,7 @@ impl Why {
 }
 
 impl fmt::Display for Why {
-    ghost use Rattle.usb_host.specs.Why.{why_message};
+    ghost use Rattle.usb_transfer.specs.Why.{why_message};
 
     ghost output = { λ why. Some (why_message why) };
 

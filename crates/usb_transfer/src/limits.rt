@@ -19,7 +19,7 @@ pub struct Limits {
 }
 
 impl Model for Limits {
-    ghost use Rattle.usb_host.specs.Limits.{LimitView, IsInRange};
+    ghost use Rattle.usb_transfer.specs.Limits.{LimitView, IsInRange};
 
     ghost Value = { LimitView };
 
@@ -31,7 +31,7 @@ impl Model for Limits {
 }
 
 impl Limits {
-    ghost use Rattle.usb_host.specs.Limits.{limit_fault};
+    ghost use Rattle.usb_transfer.specs.Limits.{limit_fault};
 
     /// Limits with the address that the device gets, the number of NAKs without progress that a transfer bears, and
     /// the number of attempts.
@@ -74,7 +74,7 @@ pub enum LimitFault {
 }
 
 impl LimitFault {
-    ghost use Rattle.usb_host.specs.Limits.{limit_fault_number};
+    ghost use Rattle.usb_transfer.specs.Limits.{limit_fault_number};
 
     /// The fault's number, 1 or 2: a lower one is tested first.
     ///
@@ -92,7 +92,7 @@ impl LimitFault {
 }
 
 impl fmt::Display for LimitFault {
-    ghost use Rattle.usb_host.specs.Limits.{limit_fault_message};
+    ghost use Rattle.usb_transfer.specs.Limits.{limit_fault_message};
 
     ghost output = { λ fault. Some (limit_fault_message fault) };
 
