@@ -108,7 +108,7 @@ impl<T> Sequence<T> {
         self.items.pop()
     }
 
-    /// The element at the index, to be changed in place.
+    /// The element at the index, to be changed in place. The index must be below the length.
     pub fn at_mut(&mut self, index: usize) -> &mut T
         requires { index < length self.old }
         ensures* writes_back { sem 𝓛 (LendsItem T.row self.entry index result) }

@@ -87,7 +87,8 @@ impl EndpointZero {
         self.state
     }
 
-    /// One transaction, as [`Device::serve`](crate::Device::serve) has it.
+    /// One transaction, as [`Device::serve`](crate::Device::serve) has it. The description must be the one that it was
+    /// made for.
     #[inline(always)]
     pub fn serve<'a>(
         &'a mut self,
@@ -268,7 +269,7 @@ impl EndpointZero {
     }
 
     /// The host's ACK of the data packet that [`EndpointZero::serve`] answered right before. Anywhere else, and a
-    /// second time, it changes nothing.
+    /// second time, it changes nothing. The description must be the one that it was made for.
     #[inline(always)]
     pub fn acked(&mut self, d: &Description)
         requires { IsOf d.now.file self.old }
