@@ -271,7 +271,7 @@ pub talk_determined : (f : DescriptorFile) (naks : ℕ) (requests : List SetupPa
     IsTalkRun f naks requests fates a → IsTalkRun f naks requests fates b → a ≡ b
 talk_determined f naks requests fates a b (ps, x, count_a, steps_a, replies_a, phase_a, state_a) (qs, y, count_b, steps_b, replies_b, phase_b, state_b) =
     let same = Steps-same (talk_plan f.device.packet (first_place requests)) naks (answer f) f.device.packet fates 0
-        (talk_start f.device.packet naks requests) ps qs x y steps_a steps_b (ap due_in phase_a ∙ none_due a.stopped) (ap due_in phase_b ∙ none_due b.stopped) in
+    (talk_start f.device.packet naks requests) ps qs x y steps_a steps_b (ap due_in phase_a ∙ none_due a.stopped) (ap due_in phase_b ∙ none_due b.stopped) in
     let stops : stopped_at (end_of a.stopped) ≡ stopped_at (end_of b.stopped) =
     ap stopped_at (sym phase_a ∙ ap (λ z. z.phase) same.1 ∙ phase_b) in
     same_talk a b
