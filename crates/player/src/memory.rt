@@ -15,23 +15,23 @@ const LONGEST: usize = 4096;
 /// The digits of a number of requests for memory.
 const DIGITS: usize = 3;
 
-/// bmRequestType: the standard requests to the device, an interface and an endpoint, a class and a vendor request.
-const REQUEST_TYPES: [u8; 8] = [0x00, 0x80, 0x01, 0x81, 0x02, 0x82, 0x21, 0xc0];
+/// bmRequestType: the standard requests to the device, an interface and an endpoint, and a class request.
+const REQUEST_TYPES: [u8; 7] = [0x00, 0x80, 0x01, 0x81, 0x02, 0x82, 0x21];
 
 /// wValue: small numbers, and the types and indices of descriptors.
-const VALUES: [u16; 10] = [0, 1, 2, 0x0100, 0x0200, 0x0201, 0x0300, 0x0301, 0x0600, 0x0700];
+const VALUES: [u16; 8] = [0, 1, 2, 0x0100, 0x0200, 0x0301, 0x0600, 0x0700];
 
-/// wIndex: interfaces, an endpoint, and a language.
-const INDICES: [u16; 4] = [0, 1, 0x0081, 0x0409];
+/// wIndex: an interface, an endpoint, and a language.
+const INDICES: [u16; 3] = [0, 0x0081, 0x0409];
 
 /// wLength.
-const LENGTHS: [u16; 5] = [0, 1, 2, 18, 255];
+const LENGTHS: [u16; 3] = [0, 2, 255];
 
 /// bRequest is below this (USB 2.0, table 9-4).
 const CODES: u32 = 13;
 
 /// How many requests these make.
-const REQUESTS: u32 = 8 * CODES * 10 * 4 * 5;
+const REQUESTS: u32 = 7 * CODES * 8 * 3 * 3;
 
 /// Makes a device and every request of it. The exit status is 0, or 3 where no description was made, or 4 where the
 /// request for memory after the last transaction was refused.
@@ -46,7 +46,11 @@ pub fn play_requests<R: Input + AllocGlobal>(rt: &R) -> io::Result<u8> {
     for state in 0..3u8 {
         make_requests(&description, state);
     }
-    Ok(if Box::new(rt.alloc(), 0u8).is_ok() { 0 } else { 4 })
+    Ok(if Box::new(rt.alloc(), 0u8).is_ok() {
+        0
+    } else {
+        4
+    })
 }
 
 /// Reads to the end of the input, or until the buffer is full, and answers what was read.
@@ -103,11 +107,11 @@ fn make_requests(description: &Description, state: u8) {
 fn request_of(number: u32) -> Setup {
     let rest = number / CODES;
     Setup {
-        request_type: REQUEST_TYPES[(rest % 8) as usize],
+        request_type: REQUEST_TYPES[(rest % 7) as usize],
         request: (number % CODES) as u8,
-        value: VALUES[(rest / 8 % 10) as usize],
-        index: INDICES[(rest / 80 % 4) as usize],
-        length: LENGTHS[(rest / 320 % 5) as usize],
+        value: VALUES[(rest / 7 % 8) as usize],
+        index: INDICES[(rest / 56 % 3) as usize],
+        length: LENGTHS[(rest / 168 % 3) as usize],
     }
 }
 
