@@ -1,5 +1,6 @@
-//! Every kind of request to a device, to see that it takes no memory. `.ci/memory` has each request for memory refused
-//! in turn: those that make the description, and then the program's own after the last transaction.
+//! Every kind of request to a device, to see that neither it nor a host's transfer takes memory. `.ci/memory` has each
+//! request for memory refused in turn: those that make the description, and then the program's own after the last
+//! transaction.
 //!
 //! The input is three digits and a descriptor file. So many requests for memory are made first, so that another place
 //! of the rest is refused.
@@ -8,6 +9,7 @@ use std::io;
 use usb_device::{Description, Device};
 use usb_fields::{Setup, Speed, Stage, Toggle, Transaction};
 use usb_file::read_file;
+use usb_host::Transfer;
 
 /// The most bytes that the input can have here.
 const LONGEST: usize = 4096;
@@ -29,6 +31,12 @@ const LENGTHS: [u16; 3] = [0, 2, 255];
 
 /// bRequest is below this (USB 2.0, table 9-4).
 const CODES: u32 = 13;
+
+/// More transactions than a transfer of these takes.
+const TRANSACTIONS: u8 = 16;
+
+/// bMaxPacketSize0 of a device at high speed (USB 2.0, 5.5.3).
+const PACKET: u8 = 64;
 
 /// How many requests these make.
 const REQUESTS: u32 = 7 * CODES * 8 * 3 * 3;
@@ -99,7 +107,9 @@ fn make_requests(description: &Description, state: u8) {
         if state > 1 {
             make(&mut device, [0, 9, 1, 0, 0, 0, 0, 0]);
         }
-        make(&mut device, request_of(number).to_bytes());
+        let request = request_of(number);
+        make(&mut device, request.to_bytes());
+        transfer(&mut device, request);
     }
 }
 
@@ -126,6 +136,18 @@ fn make(device: &mut Device<'_>, setup: [u8; 8]) {
     device.acked();
     send(device, address, Stage::Out(Toggle::Data0, &[0]));
     send(device, address, Stage::Out(Toggle::Data1, &[]));
+}
+
+/// The same request by a host that acknowledges each packet, to its end.
+fn transfer(device: &mut Device<'_>, request: Setup) {
+    let mut transfer = Transfer::new(device.state().address, PACKET, 0, request);
+    for _ in 0..TRANSACTIONS {
+        let Some(transaction) = transfer.next() else {
+            break;
+        };
+        let _ = transfer.take(device.serve(&transaction, true));
+        device.acked();
+    }
 }
 
 fn send(device: &mut Device<'_>, address: u8, stage: Stage<'_>) {
