@@ -45,11 +45,10 @@ impl Bench {
     /// What comes of a step that needs no device, if it is one.
     pub fn act(&mut self, alloc: Global, words: &[&str]) -> Result<Option<Outcome>> {
         match words {
-            [verb, word] if *verb == "trace" => match *word {
-                "on" => self.trace(alloc, true),
-                "off" => self.trace(alloc, false),
-                _ => Ok(None),
-            },
+            [verb, word] if *verb == "trace" && matches!(*word, "on" | "off") => {
+                self.traces = *word == "on";
+                Ok(Outcome::done(alloc)?)
+            }
             _ => self.transfer.act(alloc, words),
         }
     }
@@ -57,11 +56,6 @@ impl Bench {
     /// Forgets the talk in work.
     pub fn reset(&mut self) {
         self.talk.reset();
-    }
-
-    fn trace(&mut self, alloc: Global, traces: bool) -> Result<Option<Outcome>> {
-        self.traces = traces;
-        Ok(Outcome::done(alloc)?)
     }
 
     /// What comes of a step with a device, if it is one.

@@ -42,7 +42,10 @@ impl<'d> Driven<'d> {
                 self.device.acked();
                 Ok(Outcome::done(alloc)?)
             }
-            [verb] if *verb == "state" => Ok(Some(Outcome::of(self.state(alloc)?))),
+            [verb] if *verb == "state" => {
+                let state = state_text(alloc, &self.device.state())?;
+                Ok(Some(Outcome::of(state)))
+            }
             [verb, number] if *verb == "address" => match number.parse::<u8>() {
                 Ok(address) => {
                     self.address = address;
@@ -80,14 +83,9 @@ impl<'d> Driven<'d> {
         Ok(Some(Outcome::of(text)))
     }
 
-    /// The device's state.
-    fn state(&self, alloc: Global) -> Result<String> {
-        Ok(state_text(alloc, &self.device.state())?)
-    }
-
     /// What the device holds: its state and its stage.
     pub fn trace(&self, alloc: Global) -> Result<String> {
-        let state = self.state(alloc)?;
+        let state = state_text(alloc, &self.device.state())?;
         let stage = stage_word(self.device.stage());
         Ok(format!(in alloc; "{state} stage={stage}")?)
     }

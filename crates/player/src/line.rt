@@ -1,6 +1,6 @@
 //! The lines of a file, or of standard input.
 use anyhow::Result;
-use std::alloc::Global;
+use std::alloc::{AllocError, Global};
 use std::io::BufRead;
 
 /// A line with a step.
@@ -14,41 +14,46 @@ pub struct Line {
     pub wanted: Option<String>,
 }
 
-/// The next line that has a step. What stands behind a `#` is a comment, and lines without a step are passed over.
+/// The next line that has a step: others are passed over.
 pub fn next_line<R: BufRead>(alloc: Global, lines: &mut R, before: u64) -> Result<Option<Line>> {
     let mut number = before;
     for _ in 0..u64::MAX {
-        let mut text = String::new(alloc);
-        if lines.read_line(&mut text)? == 0 {
+        let Some(text) = read_text(alloc, lines)? else {
             return Ok(None);
-        }
+        };
         number = number.saturating_add(1);
-        let text = without_comment(text.as_str());
-        if !text.is_empty() {
-            return Ok(Some(split(alloc, number, text)?));
+        if let Some(line) = line_of(alloc, number, text.as_str())? {
+            return Ok(Some(line));
         }
     }
     Ok(None)
 }
 
-fn without_comment(text: &str) -> &str {
-    match text.split_once("#") {
-        Some((before, _)) => before.trim(),
-        None => text.trim(),
+/// The text of the next line, or none at the end.
+fn read_text<R: BufRead>(alloc: Global, lines: &mut R) -> Result<Option<String>> {
+    let mut text = String::new(alloc);
+    if lines.read_line(&mut text)? == 0 {
+        return Ok(None);
     }
+    Ok(Some(text))
 }
 
-fn split(alloc: Global, number: u64, text: &str) -> Result<Line> {
-    Ok(match text.split_once("->") {
-        None => Line {
-            number,
-            step: String::from_str(alloc, text)?,
-            wanted: None,
-        },
-        Some((step, wanted)) => Line {
-            number,
-            step: String::from_str(alloc, step.trim())?,
-            wanted: Some(String::from_str(alloc, wanted.trim())?),
-        },
-    })
+/// The line with this text, if it has a step. What stands behind a `#` is a comment.
+fn line_of(alloc: Global, number: u64, text: &str) -> Result<Option<Line>, AllocError> {
+    let text = text
+        .split_once("#")
+        .map_or(text, |(before, _)| before)
+        .trim();
+    if text.is_empty() {
+        return Ok(None);
+    }
+    let (step, wanted) = match text.split_once("->") {
+        Some((step, wanted)) => (step.trim(), Some(String::from_str(alloc, wanted.trim())?)),
+        None => (text, None),
+    };
+    Ok(Some(Line {
+        number,
+        step: String::from_str(alloc, step)?,
+        wanted,
+    }))
 }

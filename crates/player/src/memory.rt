@@ -1,5 +1,6 @@
-//! Every kind of request to a device, to see that it takes no memory. `.ci/memory` has each request for memory refused
-//! in turn: those that make the description, and then the program's own after the last transaction.
+//! Every kind of request to a device, to see that neither it nor a host's transfer takes memory. `.ci/memory` has each
+//! request for memory refused in turn: those that make the description, and then the program's own after the last
+//! transaction.
 //!
 //! The input is three digits and a descriptor file. So many requests for memory are made first, so that another place
 //! of the rest is refused.
@@ -8,6 +9,7 @@ use std::io;
 use usb_device::{Description, Device};
 use usb_fields::{Setup, Speed, Stage, Toggle, Transaction};
 use usb_file::read_file;
+use usb_host::Transfer;
 
 /// The most bytes that the input can have here.
 const LONGEST: usize = 4096;
@@ -15,23 +17,29 @@ const LONGEST: usize = 4096;
 /// The digits of a number of requests for memory.
 const DIGITS: usize = 3;
 
-/// bmRequestType: the standard requests to the device, an interface and an endpoint, a class and a vendor request.
-const REQUEST_TYPES: [u8; 8] = [0x00, 0x80, 0x01, 0x81, 0x02, 0x82, 0x21, 0xc0];
+/// bmRequestType: the standard requests to the device, an interface and an endpoint, and a class request.
+const REQUEST_TYPES: [u8; 7] = [0x00, 0x80, 0x01, 0x81, 0x02, 0x82, 0x21];
 
 /// wValue: small numbers, and the types and indices of descriptors.
-const VALUES: [u16; 10] = [0, 1, 2, 0x0100, 0x0200, 0x0201, 0x0300, 0x0301, 0x0600, 0x0700];
+const VALUES: [u16; 8] = [0, 1, 2, 0x0100, 0x0200, 0x0301, 0x0600, 0x0700];
 
-/// wIndex: interfaces, an endpoint, and a language.
-const INDICES: [u16; 4] = [0, 1, 0x0081, 0x0409];
+/// wIndex: an interface, an endpoint, and a language.
+const INDICES: [u16; 3] = [0, 0x0081, 0x0409];
 
 /// wLength.
-const LENGTHS: [u16; 5] = [0, 1, 2, 18, 255];
+const LENGTHS: [u16; 3] = [0, 2, 255];
 
 /// bRequest is below this (USB 2.0, table 9-4).
 const CODES: u32 = 13;
 
+/// More transactions than a transfer of these takes.
+const TRANSACTIONS: u8 = 16;
+
+/// bMaxPacketSize0 of a device at high speed (USB 2.0, 5.5.3).
+const PACKET: u8 = 64;
+
 /// How many requests these make.
-const REQUESTS: u32 = 8 * CODES * 10 * 4 * 5;
+const REQUESTS: u32 = 7 * CODES * 8 * 3 * 3;
 
 /// Makes a device and every request of it. The exit status is 0, or 3 where no description was made, or 4 where the
 /// request for memory after the last transaction was refused.
@@ -46,7 +54,11 @@ pub fn play_requests<R: Input + AllocGlobal>(rt: &R) -> io::Result<u8> {
     for state in 0..3u8 {
         make_requests(&description, state);
     }
-    Ok(if Box::new(rt.alloc(), 0u8).is_ok() { 0 } else { 4 })
+    Ok(if Box::new(rt.alloc(), 0u8).is_ok() {
+        0
+    } else {
+        4
+    })
 }
 
 /// Reads to the end of the input, or until the buffer is full, and answers what was read.
@@ -95,7 +107,9 @@ fn make_requests(description: &Description, state: u8) {
         if state > 1 {
             make(&mut device, [0, 9, 1, 0, 0, 0, 0, 0]);
         }
-        make(&mut device, request_of(number).to_bytes());
+        let request = request_of(number);
+        make(&mut device, request.to_bytes());
+        transfer(&mut device, request);
     }
 }
 
@@ -103,11 +117,11 @@ fn make_requests(description: &Description, state: u8) {
 fn request_of(number: u32) -> Setup {
     let rest = number / CODES;
     Setup {
-        request_type: REQUEST_TYPES[(rest % 8) as usize],
+        request_type: REQUEST_TYPES[(rest % 7) as usize],
         request: (number % CODES) as u8,
-        value: VALUES[(rest / 8 % 10) as usize],
-        index: INDICES[(rest / 80 % 4) as usize],
-        length: LENGTHS[(rest / 320 % 5) as usize],
+        value: VALUES[(rest / 7 % 8) as usize],
+        index: INDICES[(rest / 56 % 3) as usize],
+        length: LENGTHS[(rest / 168 % 3) as usize],
     }
 }
 
@@ -122,6 +136,18 @@ fn make(device: &mut Device<'_>, setup: [u8; 8]) {
     device.acked();
     send(device, address, Stage::Out(Toggle::Data0, &[0]));
     send(device, address, Stage::Out(Toggle::Data1, &[]));
+}
+
+/// The same request by a host that acknowledges each packet, to its end.
+fn transfer(device: &mut Device<'_>, request: Setup) {
+    let mut transfer = Transfer::new(device.state().address, PACKET, 0, request);
+    for _ in 0..TRANSACTIONS {
+        let Some(transaction) = transfer.next() else {
+            break;
+        };
+        let _ = transfer.take(device.serve(&transaction, true));
+        device.acked();
+    }
 }
 
 fn send(device: &mut Device<'_>, address: u8, stage: Stage<'_>) {

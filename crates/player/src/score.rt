@@ -75,7 +75,10 @@ impl<'n> Score<'n> {
         }
         self.not_steps = self.not_steps.saturating_add(1);
         let number = line.number;
-        self.tell(rt, format!(in rt.alloc(); "line {number}: no step")?.as_str())
+        self.tell(
+            rt,
+            format!(in rt.alloc(); "line {number}: no step")?.as_str(),
+        )
     }
 
     /// Tells how many steps there were, and how many lines came out differently or were none.
@@ -86,7 +89,10 @@ impl<'n> Score<'n> {
             self.tell(rt, format!(in rt.alloc(); "{differing} differ")?.as_str())?;
         }
         if not_steps > 0 {
-            self.tell(rt, format!(in rt.alloc(); "{not_steps} are no step")?.as_str())?;
+            self.tell(
+                rt,
+                format!(in rt.alloc(); "{not_steps} are no step")?.as_str(),
+            )?;
         }
         Ok(())
     }

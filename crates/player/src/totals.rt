@@ -130,15 +130,19 @@ fn count(sum: &mut u128, more: u128) {
     *sum = sum.saturating_add(more);
 }
 
-/// The list of fates that has this number: its digits to base five.
+/// The list of fates that has this number: its digits to base five, the lowest first.
 fn fates_of(number: u32) -> [Fate; 6] {
-    let digit = |place: u32| FATES[(number / place % 5) as usize];
     [
-        digit(1),
-        digit(5),
-        digit(25),
-        digit(125),
-        digit(625),
-        digit(3125),
+        fate_of(number),
+        fate_of(number / 5),
+        fate_of(number / 25),
+        fate_of(number / 125),
+        fate_of(number / 625),
+        fate_of(number / 3125),
     ]
+}
+
+/// The fate of the lowest digit.
+fn fate_of(number: u32) -> Fate {
+    FATES[(number % 5) as usize]
 }

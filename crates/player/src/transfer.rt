@@ -67,12 +67,7 @@ fn read_transfer(address: &str, packet: &str, naks: &str, setup: &str) -> Option
     if packet == 0 {
         return None;
     }
-    Some(Transfer::new(
-        address,
-        packet,
-        naks,
-        Setup::from_bytes(&setup),
-    ))
+    Some(Transfer::new(address, packet, naks, Setup::from_bytes(&setup)))
 }
 
 /// The transaction that is due.
