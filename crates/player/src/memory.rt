@@ -47,7 +47,10 @@ pub fn play_requests<R: Input + AllocGlobal>(rt: &R) -> io::Result<u8> {
     let mut buffer = [0u8; LONGEST];
     let input = read_all(&mut rt.reader(), &mut buffer)?;
     let (digits, bytes) = input.split_at(input.len().min(DIGITS));
-    ask(rt.alloc(), number_of(digits));
+    let times = std::str::from_utf8(digits)
+        .ok()
+        .and_then(|text| text.parse::<u32>().ok());
+    ask(rt.alloc(), times.unwrap_or(0));
     let Some(description) = describe(rt.alloc(), bytes) else {
         return Ok(3);
     };
@@ -76,13 +79,6 @@ fn read_all<'b, R: io::Read>(reader: &mut R, buffer: &'b mut [u8]) -> io::Result
     }
     let count = count.min(buffer.len());
     Ok(&buffer[..count])
-}
-
-fn number_of(digits: &[u8]) -> u32 {
-    match std::str::from_utf8(digits) {
-        Ok(text) => text.parse::<u32>().unwrap_or(0),
-        Err(_) => 0,
-    }
 }
 
 /// Asks for memory so many times, and gives it back.
