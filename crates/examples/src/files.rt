@@ -2,8 +2,8 @@
 use crate::fields::fault;
 use crate::program::fault_of;
 use crate::tree::file_of;
+use crate::words::bytes_of;
 use anyhow::{Result, ensure};
-use example_rows::bytes_of;
 use std::alloc::Global;
 use usb_file::{DescriptorFile, FileFault, FileWhy, check, named, read_file, write_file};
 

@@ -5,9 +5,9 @@ use std::fmt::Display;
 use usb_device::DescriptionFault;
 use usb_fields::{FieldFault, UnitFault};
 use usb_file::{FileFault, FileWhy, Finding, ListFault, ListWhy, OutFault, Part, WriteFault};
-use usb_transfer::{LimitFault, Why};
 use usb_set::{EncodeFault, SetFault, SetWhy};
 use usb_tool::{ToolFault, verdict};
+use usb_transfer::{LimitFault, Why};
 
 const FIELD_FAULTS: [FieldFault; 2] = [FieldFault::Length, FieldFault::Kind];
 

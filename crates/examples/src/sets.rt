@@ -1,8 +1,9 @@
 //! Rows on configuration sets.
 use crate::fields::fault;
+use crate::row::Answer;
 use crate::tree::set_of;
+use crate::words::bytes_of;
 use anyhow::{Context, Result, ensure};
-use example_rows::{Answer, bytes_of};
 use std::alloc::Global;
 use usb_set::{Configuration, Decoder, EncodeFault, Progress, SetFault, encode, read_set, refusal};
 

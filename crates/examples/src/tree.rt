@@ -1,8 +1,8 @@
 //! Sets and files made from lines, also such as no bytes can have.
 //!
 //! A line says a descriptor as a listing does, but that a string is `units` with four digits for each.
+use crate::words::units_of;
 use anyhow::{Context, Result, bail};
-use example_rows::{digits_of, units_of};
 use std::alloc::Global;
 use usb_fields::{DeviceDescriptor, Qualifier};
 use usb_file::{DescriptorFile, Other, Strings};
@@ -30,7 +30,7 @@ impl Fields<'_> {
     fn bytes(&mut self) -> Result<Sequence<u8>> {
         let word = self.words.next().context("a field is missing")?;
         let digits = if word == "-" { "" } else { word };
-        Ok(Sequence::from_vec(digits_of(self.alloc, digits)?))
+        Ok(Sequence::from_vec(hex::decode(self.alloc, digits)?))
     }
 
     /// All that is left, as units of four digits.
@@ -39,7 +39,7 @@ impl Fields<'_> {
         for word in self.words.by_ref() {
             digits.push_str(word)?;
         }
-        let bytes = digits_of(self.alloc, digits.as_str())?;
+        let bytes = hex::decode(self.alloc, digits.as_str())?;
         Ok(Sequence::from_vec(units_of(self.alloc, &bytes)?))
     }
 }

@@ -8,7 +8,7 @@ use std::alloc::Global;
 
 /// One row of a file.
 #[derive(Drop)]
-pub struct Row {
+pub(crate) struct Row {
     /// The number of its line in the file, from 1.
     pub line: usize,
     /// What is asked for.
@@ -23,7 +23,7 @@ pub struct Row {
 
 /// What comes of a row.
 #[derive(Drop, PartialEq, Eq)]
-pub struct Answer {
+pub(crate) struct Answer {
     /// The words behind the arrow.
     pub words: String,
     /// What is written to standard output, or would be: the lines behind `>`.
@@ -34,7 +34,7 @@ pub struct Answer {
 
 impl Answer {
     /// An answer of words alone.
-    pub fn of(words: String, alloc: Global) -> Answer
+    pub(crate) fn of(words: String, alloc: Global) -> Answer
         ensures words { result.words ≡ words }
         ensures output { string_bytes result.output ≡ [] }
         ensures errors { string_bytes result.errors ≡ [] }
@@ -48,7 +48,7 @@ impl Answer {
 }
 
 /// All rows of a text. An error names the line at which it failed.
-pub fn rows_of(alloc: Global, text: &str) -> Result<Vec<Row>> {
+pub(crate) fn rows_of(alloc: Global, text: &str) -> Result<Vec<Row>> {
     let mut names = Names::new(alloc);
     let mut rows = Vec::new(alloc);
     for (before, line) in text.lines().enumerate() {
@@ -74,7 +74,7 @@ fn read_line(
         return names.define(name, word);
     }
     match line.split_once("->") {
-        Some((asked, wanted)) if !is_below(line) => {
+        Some((asked, wanted)) if !matches!(line.as_bytes().first(), Some(b'|' | b'>' | b'!')) => {
             rows.push(begin(alloc, names, place, asked, wanted)?)?;
             Ok(())
         }
@@ -83,11 +83,6 @@ fn read_line(
             add_line(names, row, line)
         }
     }
-}
-
-/// Whether the line belongs to the row above it.
-fn is_below(line: &str) -> bool {
-    matches!(line.as_bytes().first(), Some(b'|' | b'>' | b'!'))
 }
 
 /// The row of its first line.

@@ -75,14 +75,14 @@ fn counted(part: &str) -> (usize, &str) {
 
 /// The bytes that the words say, one after another: digits put more bytes behind, `2=21` puts others from
 /// place 2 on, `..20` leaves the first 20, and `-` says nothing.
-pub fn bytes_of(alloc: Global, words: &[String]) -> Result<Vec<u8>> {
+pub(crate) fn bytes_of(alloc: Global, words: &[String]) -> Result<Vec<u8>> {
     let mut bytes = Vec::new(alloc);
     change(alloc, &mut bytes, words)?;
     Ok(bytes)
 }
 
 /// Does with the bytes what the words say, one after another.
-pub fn change(alloc: Global, bytes: &mut Vec<u8>, words: &[String]) -> Result<()> {
+pub(crate) fn change(alloc: Global, bytes: &mut Vec<u8>, words: &[String]) -> Result<()> {
     for word in words {
         put(bytes, alloc, word.as_str()).context(format_args!("in {word}"))?;
     }
@@ -95,13 +95,13 @@ fn put(bytes: &mut Vec<u8>, alloc: Global, word: &str) -> Result<()> {
         return Ok(());
     }
     if let Some((place, digits)) = word.split_once('=') {
-        return overwrite(bytes, place.parse::<usize>()?, digits_of(alloc, digits)?);
+        return overwrite(bytes, place.parse::<usize>()?, hex::decode(alloc, digits)?);
     }
     if let Some(length) = word.strip_prefix("..") {
         bytes.truncate(length.parse::<usize>()?);
         return Ok(());
     }
-    bytes.extend_from_slice(&digits_of(alloc, word)?)?;
+    bytes.extend_from_slice(&hex::decode(alloc, word)?)?;
     Ok(())
 }
 
@@ -115,13 +115,8 @@ fn overwrite(bytes: &mut Vec<u8>, place: usize, others: Vec<u8>) -> Result<()> {
     Ok(())
 }
 
-/// The bytes that digits say.
-pub fn digits_of(alloc: Global, digits: &str) -> Result<Vec<u8>> {
-    Ok(hex::decode(alloc, digits)?)
-}
-
 /// The units of four digits each, the high byte first.
-pub fn units_of(alloc: Global, bytes: &[u8]) -> Result<Vec<u16>> {
+pub(crate) fn units_of(alloc: Global, bytes: &[u8]) -> Result<Vec<u16>> {
     let mut units = Vec::new(alloc);
     for pair in bytes.chunks(2) {
         match pair {
