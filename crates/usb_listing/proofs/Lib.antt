@@ -1,3 +1,4 @@
 pub mod Pages
 pub mod Rows
 pub mod Lines
+pub mod HasBytes

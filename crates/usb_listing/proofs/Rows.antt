@@ -1,7 +1,7 @@
 -- On texts that are put for each element of a list in turn.
 use Rattle.std.proofs.Common.{◌≡◌, ℕ, ◌+◌, zero, suc, List, [], ◌∷◌, ◌++◌, drop, take, Some, slice_get, refl, sym, ap, ◌∙◌, subst, add-one, append_assoc, append-nil}
 use Rattle.std.specs.List.{flat_map}
-use Rattle.usb_listing.specs.Output.{AppendsFront, Held}
+use Rattle.usb_listing.specs.Output.{AppendsLess, Held}
 use Rattle.usb_listing.specs.inside.Pages.{Puts}
 use Rattle.usb_listing.proofs.Pages.{front_longer, puts_broken, puts_more}
 
@@ -27,9 +27,9 @@ row_put a b c page mid rest f xs i x h p q =
     subst (Puts a c page rest) (sym (take_next f xs i x h)) (puts_more a b c page mid rest (flat_map f (take i xs)) (f x) p q)
 
 pub row_broken : {X : Type 0} (a b c : Held) (page mid : List ℕ) (f : X → List ℕ) (xs : List X) (i : ℕ) (x : X) → slice_get xs i ≡ Some x
-    → Puts a b page mid (flat_map f (take i xs)) → AppendsFront b c (mid ++ f x) → AppendsFront a c (page ++ flat_map f xs)
+    → Puts a b page mid (flat_map f (take i xs)) → AppendsLess b c (mid ++ f x) → AppendsLess a c (page ++ flat_map f xs)
 row_broken a b c page mid f xs i x h p q =
     let short = puts_broken a b c page mid (flat_map f (take i xs)) (f x) p q in
     let here = ap (λ l. page ++ l) (sym (take_next f xs i x h)) in
     let whole = append_assoc page (flat_map f (take (i + 1) xs)) (flat_map f (drop (i + 1) xs)) ∙ ap (λ l. page ++ l) (sym (take_rest f xs (i + 1))) in
-    subst (AppendsFront a c) whole (front_longer a c (page ++ flat_map f (take (i + 1) xs)) (flat_map f (drop (i + 1) xs)) (subst (AppendsFront a c) here short))
+    subst (AppendsLess a c) whole (front_longer a c (page ++ flat_map f (take (i + 1) xs)) (flat_map f (drop (i + 1) xs)) (subst (AppendsLess a c) here short))

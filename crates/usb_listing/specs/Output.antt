@@ -1,5 +1,5 @@
 -- A text on its way to a writer, of which a claim is made where the writer tells its bytes.
-use Rattle.std.specs.Prelude.{◌≡◌, ℕ, List, ◌++◌, Option}
+use Rattle.std.specs.Prelude.{◌≡◌, ℕ, List, ◌∷◌, ◌++◌, Option}
 use Rattle.std.specs.Io.KnownBytes.{Appends}
 use Rattle.usb_listing.specs.declared.output.OutFault.{OutFault}
 use Rattle.usb_listing.specs.declared.output.OutFault.TheVariants as outs
@@ -13,6 +13,14 @@ pub record AppendsFront (old new : Held) (text : List ℕ) : Type 0 where
   pub front : List ℕ
   pub rest : List ℕ
   pub parts : text ≡ front ++ rest
+  pub written : Appends old new front
+
+-- the writer gained a front of the text, and this byte of it and those after it are missing
+pub record AppendsLess (old new : Held) (text : List ℕ) : Type 0 where
+  pub front : List ℕ
+  pub missing : ℕ
+  pub rest : List ℕ
+  pub parts : text ≡ front ++ missing ∷ rest
   pub written : Appends old new front
 
 -- the number of the fault that stopped it

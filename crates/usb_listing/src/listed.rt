@@ -1,7 +1,7 @@
 //! What a listing tells of a value: its lines, put on a page.
 ghost use Rattle.std.specs.Prelude.{◌++◌, OnErr, OnOk};
 ghost use Rattle.std.specs.List.{flat_map};
-ghost use Rattle.usb_listing.specs.Output.{AppendsFront};
+ghost use Rattle.usb_listing.specs.Output.{AppendsLess};
 ghost use Rattle.usb_listing.specs.inside.Pages.{Puts};
 
 use crate::output::OutFault;
@@ -18,7 +18,7 @@ pub(crate) trait Listed {
     /// Puts its lines at the end of the page, which is passed on where it is full.
     fn list<W: Write>(&self, page: &mut Page, w: &mut W) -> Result<(), OutFault>
         ensures ok { OnOk result (Puts (W.contents w.old) (W.contents w.new) page.old page.new (lines self.now)) }
-        ensures err { OnErr result (AppendsFront (W.contents w.old) (W.contents w.new) (page.old ++ lines self.now)) };
+        ensures err { OnErr result (AppendsLess (W.contents w.old) (W.contents w.new) (page.old ++ lines self.now)) };
 }
 
 /// Puts the lines of several values, one value after another.
@@ -28,7 +28,7 @@ pub(crate) fn list_all<T: Listed, W: Write>(
     w: &mut W,
 ) -> Result<(), OutFault>
     ensures ok { OnOk result (Puts (W.contents w.old) (W.contents w.new) page.old page.new (flat_map T.lines items.now)) }
-    ensures err { OnErr result (AppendsFront (W.contents w.old) (W.contents w.new) (page.old ++ flat_map T.lines items.now)) }
+    ensures err { OnErr result (AppendsLess (W.contents w.old) (W.contents w.new) (page.old ++ flat_map T.lines items.now)) }
 {
     for item in items {
         item.list(page, w)?;

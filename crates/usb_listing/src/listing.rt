@@ -2,7 +2,7 @@
 ghost use Rattle.std.specs.Prelude.{◌≡◌, ◌++◌, OnErr, OnOk};
 ghost use Rattle.std.specs.Io.KnownBytes.{Appends};
 ghost use Rattle.usb_listing.specs.Listing.{device_line, file_lines, other_lines, qualifier_line};
-ghost use Rattle.usb_listing.specs.Output.{AppendsFront};
+ghost use Rattle.usb_listing.specs.Output.{AppendsLess};
 ghost use Rattle.usb_listing.specs.inside.Pages.{Puts};
 
 use crate::listed::list_all;
@@ -32,7 +32,7 @@ use usb_file_data::{DescriptorFile, Other};
 /// written then.
 pub fn list<W: Write>(alloc: Global, f: &DescriptorFile, w: &mut W) -> Result<(), OutFault>
     ensures ok { OnOk result (Appends (W.contents w.old) (W.contents w.new) (file_lines f.now)) }
-    ensures err { OnErr result (AppendsFront (W.contents w.old) (W.contents w.new) (file_lines f.now)) }
+    ensures err { OnErr result (AppendsLess (W.contents w.old) (W.contents w.new) (file_lines f.now)) }
 {
     let mut page = Page::new(alloc)?;
     list_file(&mut page, f, w)?;
@@ -41,7 +41,7 @@ pub fn list<W: Write>(alloc: Global, f: &DescriptorFile, w: &mut W) -> Result<()
 
 fn list_file<W: Write>(page: &mut Page, f: &DescriptorFile, w: &mut W) -> Result<(), OutFault>
     ensures ok { OnOk result (Puts (W.contents w.old) (W.contents w.new) page.old page.new (file_lines f.now)) }
-    ensures err { OnErr result (AppendsFront (W.contents w.old) (W.contents w.new) (page.old ++ file_lines f.now)) }
+    ensures err { OnErr result (AppendsLess (W.contents w.old) (W.contents w.new) (page.old ++ file_lines f.now)) }
 {
     put_device(page, &f.device)?;
     list_all(page, &f.sets, w)?;
@@ -51,7 +51,7 @@ fn list_file<W: Write>(page: &mut Page, f: &DescriptorFile, w: &mut W) -> Result
 
 fn list_other<W: Write>(page: &mut Page, other: &Option<Other>, w: &mut W) -> Result<(), OutFault>
     ensures ok { OnOk result (Puts (W.contents w.old) (W.contents w.new) page.old page.new (other_lines other.now)) }
-    ensures err { OnErr result (AppendsFront (W.contents w.old) (W.contents w.new) (page.old ++ other_lines other.now)) }
+    ensures err { OnErr result (AppendsLess (W.contents w.old) (W.contents w.new) (page.old ++ other_lines other.now)) }
 {
     match other {
         None => Ok(()),

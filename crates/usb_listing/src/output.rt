@@ -1,7 +1,7 @@
 //! Writing bytes to a writer that may take a part of them at a time.
 ghost use Rattle.std.specs.Prelude.{◌≡◌, IfErr, OnErr, OnOk};
 ghost use Rattle.std.specs.Io.KnownBytes.{Appends};
-ghost use Rattle.usb_listing.specs.Output.{AppendsFront, out_number};
+ghost use Rattle.usb_listing.specs.Output.{AppendsLess, out_number};
 ghost use Rattle.usb_listing.specs.declared.output.OutFault.TheVariants.{Memory};
 
 use std::alloc::AllocError;
@@ -57,7 +57,7 @@ impl From<AllocError> for OutFault {
 /// written then.
 pub fn write_all<W: Write>(w: &mut W, bytes: &[u8]) -> Result<(), OutFault>
     ensures ok { OnOk result (Appends (W.contents w.old) (W.contents w.new) bytes.now) }
-    ensures err { OnErr result (AppendsFront (W.contents w.old) (W.contents w.new) bytes.now) }
+    ensures err { OnErr result (AppendsLess (W.contents w.old) (W.contents w.new) bytes.now) }
     ensures why { IfErr result (λ fault. fault ≡ OutFault.Write) }
 {
     let mut rest = bytes;

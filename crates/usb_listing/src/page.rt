@@ -4,7 +4,7 @@ ghost use Rattle.hex.specs.Hex.{encode_lower};
 ghost use Rattle.usb_listing.specs.Lines.{written_field, one_byte, two_bytes};
 ghost use Rattle.usb_listing.specs.StringListing.{is_plain, written_unit};
 ghost use Rattle.std.specs.Io.KnownBytes.{Appends};
-ghost use Rattle.usb_listing.specs.Output.{AppendsFront};
+ghost use Rattle.usb_listing.specs.Output.{AppendsLess};
 ghost use Rattle.usb_listing.specs.inside.Pages.{Puts};
 
 use crate::output::{OutFault, write_all};
@@ -113,7 +113,7 @@ impl Page {
     /// Writes the page and empties it, where it is full.
     pub(crate) fn pass_on<W: Write>(&mut self, w: &mut W) -> Result<(), OutFault>
         ensures ok { OnOk result (Puts (W.contents w.old) (W.contents w.new) self.old self.new []) }
-        ensures err { OnErr result (AppendsFront (W.contents w.old) (W.contents w.new) self.old) }
+        ensures err { OnErr result (AppendsLess (W.contents w.old) (W.contents w.new) self.old) }
         ensures why { IfErr result (λ fault. fault ≡ OutFault.Write) }
     {
         if self.bytes.len() >= FULL {
@@ -126,7 +126,7 @@ impl Page {
     /// Writes what the page holds.
     pub(crate) fn finish<W: Write>(self, w: &mut W) -> Result<(), OutFault>
         ensures ok { OnOk result (Appends (W.contents w.old) (W.contents w.new) self) }
-        ensures err { OnErr result (AppendsFront (W.contents w.old) (W.contents w.new) self) }
+        ensures err { OnErr result (AppendsLess (W.contents w.old) (W.contents w.new) self) }
         ensures why { IfErr result (λ fault. fault ≡ OutFault.Write) }
     {
         write_all(w, &self.bytes)

@@ -3,7 +3,7 @@ ghost use Rattle.std.specs.Prelude.{◌≡◌, ◌++◌, OnErr, OnOk};
 ghost use Rattle.std.specs.List.{flat_map};
 ghost use Rattle.std.specs.Io.KnownBytes.{Appends};
 ghost use Rattle.usb_listing.specs.SetListing.{association_line, configuration_line, endpoint_line, endpoint_lines, extra_line, interface_line, raw_line, set_lines, setting_lines, set_word};
-ghost use Rattle.usb_listing.specs.Output.{AppendsFront};
+ghost use Rattle.usb_listing.specs.Output.{AppendsLess};
 ghost use Rattle.usb_listing.specs.inside.Pages.{Puts};
 
 use crate::listed::{Listed, list_all};
@@ -26,7 +26,7 @@ use usb_set::{Association, Configuration, Endpoint, Extra, Raw, SetKind, Setting
 /// written then.
 pub fn list_set<W: Write>(alloc: Global, c: &Configuration, w: &mut W) -> Result<(), OutFault>
     ensures ok { OnOk result (Appends (W.contents w.old) (W.contents w.new) (set_lines c.now)) }
-    ensures err { OnErr result (AppendsFront (W.contents w.old) (W.contents w.new) (set_lines c.now)) }
+    ensures err { OnErr result (AppendsLess (W.contents w.old) (W.contents w.new) (set_lines c.now)) }
 {
     let mut page = Page::new(alloc)?;
     c.list(&mut page, w)?;
@@ -47,7 +47,7 @@ impl Listed for Configuration {
 
 fn list_header<W: Write>(page: &mut Page, c: &Configuration, w: &mut W) -> Result<(), OutFault>
     ensures ok { OnOk result (Puts (W.contents w.old) (W.contents w.new) page.old page.new (configuration_line c.now)) }
-    ensures err { OnErr result (AppendsFront (W.contents w.old) (W.contents w.new) (page.old ++ configuration_line c.now)) }
+    ensures err { OnErr result (AppendsLess (W.contents w.old) (W.contents w.new) (page.old ++ configuration_line c.now)) }
 {
     put_configuration(page, c)?;
     page.pass_on(w)

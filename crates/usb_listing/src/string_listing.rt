@@ -1,7 +1,7 @@
 //! The listing of a device's languages and strings.
 ghost use Rattle.std.specs.Prelude.{◌≡◌, ◌++◌, map, OnErr, OnOk};
 ghost use Rattle.std.specs.List.{flat_map};
-ghost use Rattle.usb_listing.specs.Output.{AppendsFront};
+ghost use Rattle.usb_listing.specs.Output.{AppendsLess};
 ghost use Rattle.usb_listing.specs.inside.Pages.{Puts};
 ghost use Rattle.usb_listing.specs.Lines.{written_field, two_bytes};
 ghost use Rattle.usb_listing.specs.StringListing.{languages_line, string_line, strings_lines, written_unit};
@@ -21,7 +21,7 @@ pub(crate) fn list_strings<W: Write>(
     w: &mut W,
 ) -> Result<(), OutFault>
     ensures ok { OnOk result (Puts (W.contents w.old) (W.contents w.new) page.old page.new (strings_lines strings.now)) }
-    ensures err { OnErr result (AppendsFront (W.contents w.old) (W.contents w.new) (page.old ++ strings_lines strings.now)) }
+    ensures err { OnErr result (AppendsLess (W.contents w.old) (W.contents w.new) (page.old ++ strings_lines strings.now)) }
 {
     match strings {
         None => Ok(()),

@@ -9,7 +9,7 @@ use Rattle.usb_file_data.specs.File.{File}
 use Rattle.usb_file.specs.FileFaults.{FileFaulty}
 use Rattle.usb_file.specs.declared.laws.TheConstants.{FILE_LIMIT}
 use Rattle.usb_listing.specs.Listing.{file_lines}
-use Rattle.usb_listing.specs.Output.{AppendsFront, Held}
+use Rattle.usb_listing.specs.Output.{AppendsFront, AppendsLess, Held}
 use Rattle.usb_listing.specs.SetListing.{set_lines}
 use Rattle.usb_tool.specs.Failing.{Fails, Succeeds}
 use Rattle.usb_tool.specs.Input.{Left}
@@ -53,14 +53,21 @@ pub record WritesListingFront (b : List ℕ) (held holds : Held) : Type 0 where
   pub listing : IsListing (is_one_set b) b text
   pub written : AppendsFront held holds text
 
+-- a front of the listing of the bytes was written, and not all of it
+pub record WritesListingLess (b : List ℕ) (held holds : Held) : Type 0 where
+  pub text : List ℕ
+  pub listing : IsListing (is_one_set b) b text
+  pub written : AppendsLess held holds text
+
 -- How bytes are not shown: nothing was written where they are no set or no file, and else a front of their
--- listing. They are told to be no set only where they are read as one, and no file only where they are not.
+-- listing, which want of memory leaves unfinished. They are told to be no set only where they are read as one,
+-- and no file only where they are not.
 abbrev pub RefusesToShow : List ℕ → Held → Held → ToolFault → Type 0
 RefusesToShow b held holds (faults.File fault) = (is_one_set b ≡ false) × FileFaulty b fault.at fault.why × Keeps held holds
 RefusesToShow b held holds (faults.Set fault) = (is_one_set b ≡ true) × HasFault b fault × Keeps held holds
 RefusesToShow b held holds (faults.Trailing at) = (is_one_set b ≡ true) × GoesOn b at × Keeps held holds
 RefusesToShow b held holds faults.Write = WritesListingFront b held holds
-RefusesToShow b held holds faults.Memory = Keeps held holds ⊎ WritesListingFront b held holds
+RefusesToShow b held holds faults.Memory = Keeps held holds ⊎ WritesListingLess b held holds
 RefusesToShow b held holds fault = ⊥
 
 -- all was read, at most what a file can have, and its listing was written

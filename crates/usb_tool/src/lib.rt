@@ -9,7 +9,8 @@
 //!
 //! [`run`] is the whole program over any standard streams: [`read_line`] reads its command line,
 //! [`ToolFault`] says why a command failed, and [`verdict`] gives the exit status. What a run does is
-//! `specs/Runs.antt`.
+//! `specs/Runs.antt`. Where its words could not be taken, [`refuse_words`] gives the line for standard error and
+//! the status.
 //!
 //! [`converse`] makes control transfers between a host and a device over a bus that loses packets and handshakes.
 //! It takes the description of the device (crate `usb_description`), how many NAKs the host bears, the requests
@@ -28,6 +29,7 @@ mod program;
 mod set_intake;
 mod show;
 mod whole;
+mod words;
 
 pub use build::run_build;
 pub use check::run_check;
@@ -37,3 +39,4 @@ pub use program::run;
 pub use show::run_show;
 pub use usb_bus::{Fate, Reply, Talk, converse, laws};
 pub use usb_file::LISTING_LIMIT;
+pub use words::refuse_words;

@@ -27,8 +27,9 @@ use usb_file::{FILE_LIMIT, list, list_set, read_file};
 ///
 /// `Read` where the reader failed and `TooLarge` at the first byte over [`FILE_LIMIT`]. Of a set `Set` with
 /// the fault of the whole input, and `Trailing` where it goes on after the set; of a file `File` with the
-/// fault of the whole input. Nothing is written then. `Write` where the writer or its flush failed, and
-/// `Memory` where a growth was refused; a front of the listing, or nothing, is written then.
+/// fault of the whole input. Nothing is written then. `Write` where the writer or its flush failed; a front
+/// of the listing is written then, and may be all of it. `Memory` where a growth was refused; at least the
+/// last byte of the listing is not written then.
 pub fn run_show<R: Read, W: Write>(alloc: Global, r: &mut R, w: &mut W) -> Result<u8, ToolFault>
     ensures number { IfOk result (λ number. number ≡ 0) }
     ensures shown { OnOk result (Shown (R.remaining r.old) (R.remaining r.new) (W.contents w.old) (W.contents w.new)) }

@@ -7,10 +7,7 @@
 use std::process::ExitCode;
 use std::rt::Env;
 use std::{env, io};
-use usb_tool::{ToolFault, run, verdict};
-
-/// The exit status where a word of the command line is no text.
-const USAGE: u8 = 2;
+use usb_tool::{refuse_words, run};
 
 fn main(rt: HostRuntime) -> ExitCode {
     let alloc = rt.alloc();
@@ -22,7 +19,11 @@ fn main(rt: HostRuntime) -> ExitCode {
             &mut io::writer(&rt),
             &mut rt.stderr(),
         ),
-        Err(error) => refuse_words(&rt, &error),
+        Err(error) => {
+            let (line, status) = refuse_words(&error);
+            let _ = rt.eprintln(line);
+            status
+        }
     };
     ExitCode::from(status)
 }
@@ -30,16 +31,4 @@ fn main(rt: HostRuntime) -> ExitCode {
 /// The words of the command line, the program's name first.
 fn words<R: Env + AllocGlobal>(rt: &R) -> io::Result<Vec<String>> {
     Ok(env::args(rt)?.collect::<Vec<String>>(rt.alloc())?)
-}
-
-/// The exit status where the command line could not be taken: a word that is no text is a usage fault, and
-/// all else is want of memory.
-fn refuse_words<R: Eprint>(rt: &R, error: &io::Error) -> u8 {
-    if error.kind() == io::ErrorKind::InvalidData {
-        let _ = rt.eprintln("usbdesc: a word of the command line is no text");
-        return USAGE;
-    }
-    let fault = ToolFault::Memory;
-    let _ = rt.eprintln(&fault);
-    verdict(&Err(fault))
 }

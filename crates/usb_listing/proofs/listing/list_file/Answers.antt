@@ -4,7 +4,8 @@ use Rattle.std.proofs.lemmas.Result.{on_err_weaker, on_ok_weaker}
 use Rattle.usb_listing.specs.Listing.{device_line, other_lines}
 use Rattle.usb_listing.specs.SetListing.{set_lines}
 use Rattle.usb_listing.specs.StringListing.{strings_lines}
-use Rattle.usb_listing.proofs.Pages.{broken_after, front_more, on_err, puts_after, puts_broken, puts_more}
+use Rattle.usb_listing.proofs.Pages.{broken_after, front_more, not_begun, on_err, puts_after, puts_broken, puts_more}
+use Rattle.usb_listing.proofs.HasBytes.{device_has, longer}
 use Rattle.usb_listing.proofs.listing.list_file.Goals as goal
 
 pub returns-in_err-list_all-clause-err : goal.returns-in_err-list_all-clause-err
@@ -37,3 +38,7 @@ returns-clause-err g c =
     let main = puts_after _ _ _ _ _ _ _ c.in_ok-put_device.ensures sets in
     let listed = puts_more _ _ _ _ _ _ _ _ main c.in_ok-list_other.ensures.ok in
     on_err_weaker c.list_strings.result (puts_broken _ _ _ _ _ _ _ listed) c.list_strings.ensures.err
+
+pub returns-in_err-put_device-clause-err : goal.returns-in_err-put_device-clause-err
+returns-in_err-put_device-clause-err g c =
+    on_err _ (not_begun _ c.args.page.now _ (longer _ _ (longer _ _ (longer _ _ (device_has c.args.f.now.device)))))

@@ -2,7 +2,8 @@ use Rattle.std.proofs.Common.{◌++◌}
 use Rattle.std.specs.List.{flat_map}
 use Rattle.std.proofs.lemmas.Result.{on_err_weaker, on_ok_weaker}
 use Rattle.usb_listing.specs.SetListing.{endpoint_lines, interface_line, extra_line}
-use Rattle.usb_listing.proofs.Pages.{broken_after, broken_passed, front_more, on_err, puts_after, puts_broken, puts_more, puts_passed}
+use Rattle.usb_listing.proofs.Pages.{broken_after, broken_passed, front_more, not_begun, on_err, puts_after, puts_broken, puts_more, puts_passed}
+use Rattle.usb_listing.proofs.HasBytes.{interface_has, longer}
 use Rattle.usb_listing.proofs.set_listing.SettingListed.list.Goals as goal
 
 pub returns-in_err-list_all-clause-err : goal.returns-in_err-list_all-clause-err
@@ -31,3 +32,7 @@ returns-clause-err g c =
     let endpoints = rw c.deref-2.ensures at c.in_ok-list_all-2.ensures.ok in
     let listed = puts_more _ _ _ _ _ _ _ _ (puts_after _ _ _ _ _ _ _ c.in_ok-put_interface.ensures extras) endpoints in
     on_err_weaker c.pass_on.result (broken_passed _ _ _ _ _ _ listed) c.pass_on.ensures.err
+
+pub returns-in_err-put_interface-clause-err : goal.returns-in_err-put_interface-clause-err
+returns-in_err-put_interface-clause-err g c =
+    on_err _ (not_begun _ c.args.page.now _ (longer _ _ (longer _ _ (interface_has c.args.self.now))))
