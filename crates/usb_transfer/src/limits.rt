@@ -1,5 +1,5 @@
 //! What a host bears.
-ghost use Rattle.std.specs.Prelude.{◌≡◌, IfOk, IfErr, OnOk, Some, None};
+ghost use Rattle.std.specs.Prelude.{◌≡◌, ◌<◌, IfOk, IfErr, OnOk, Some, None};
 
 use std::marker::Model;
 use std::{error, fmt};
@@ -61,6 +61,28 @@ impl Limits {
             naks,
             attempts,
         })
+    }
+
+    /// The address that the device gets, 1 to 127.
+    pub fn address(&self) -> u8
+        ensures { result ≡ self.now.address }
+    {
+        self.address
+    }
+
+    /// The number of NAKs without progress that a transfer bears.
+    pub fn naks(&self) -> u16
+        ensures { result ≡ self.now.naks }
+    {
+        self.naks
+    }
+
+    /// The number of attempts, 1 to 8.
+    pub fn attempts(&self) -> u8
+        ensures value { result ≡ self.now.attempts }
+        ensures some { 0 < result }
+    {
+        self.attempts
     }
 }
 
