@@ -3,3 +3,4 @@ pub mod ExtraMarks
 pub mod Lists
 pub mod WholeSets
 pub mod Fronts
+pub mod Copies

@@ -5,12 +5,14 @@
 //! where a string is named, the language list and the strings. [`DescriptorFile`] holds all of it, [`named`]
 //! tells which strings it names, and [`write_refusal`] why it has no bytes.
 //!
-//! What the bytes of a file are is `specs/File.antt`; which strings are named is `specs/Named.antt`.
+//! What the bytes of a file are is `specs/File.antt`; which strings are named is `specs/Named.antt`. A copy of
+//! a file is that file: the module [`laws`].
 #![tactic(auto)]
 
 mod fault;
 mod file;
 mod judging;
+pub mod laws;
 mod marking;
 mod naming;
 

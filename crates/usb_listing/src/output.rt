@@ -54,7 +54,7 @@ impl From<AllocError> for OutFault {
 /// # Errors
 ///
 /// `Write` at the first call of the writer that fails or takes nothing. A front of the bytes is
-/// written then.
+/// written then, and not all of them.
 pub fn write_all<W: Write>(w: &mut W, bytes: &[u8]) -> Result<(), OutFault>
     ensures ok { OnOk result (Appends (W.contents w.old) (W.contents w.new) bytes.now) }
     ensures err { OnErr result (AppendsLess (W.contents w.old) (W.contents w.new) bytes.now) }

@@ -23,7 +23,7 @@ use usb_set::{Association, Configuration, Endpoint, Extra, Raw, SetKind, Setting
 /// # Errors
 ///
 /// `Write` where the writer failed, `Memory` where a growth was refused. A front of the listing is
-/// written then.
+/// written then, and not all of it.
 pub fn list_set<W: Write>(alloc: Global, c: &Configuration, w: &mut W) -> Result<(), OutFault>
     ensures ok { OnOk result (Appends (W.contents w.old) (W.contents w.new) (set_lines c.now)) }
     ensures err { OnErr result (AppendsLess (W.contents w.old) (W.contents w.new) (set_lines c.now)) }
