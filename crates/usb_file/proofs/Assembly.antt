@@ -25,7 +25,8 @@ use Rattle.usb_file.specs.inside.Reading.{ReadSoFar, Behind, SetRefused, ReadsSe
 use Rattle.usb_base.specs.Bytes.{AreBytes}
 use Rattle.usb_file_data.proofs.Lists.{behind_main, behind_other, drop_more}
 use Rattle.usb_file.proofs.Units.{length-units_bytes}
-use Rattle.usb_file_data.proofs.Fronts.{Grown, grow_qualifier, grow_languages, grow_strings, with_strings}
+use Rattle.usb_file_data.proofs.Fronts.{Grown, grow_qualifier, grow_languages, grow_strings}
+use Rattle.usb_file_data.specs.Front.{with_strings}
 use Rattle.usb_file.proofs.Next.{right_count, right_none, right_strings, not_none}
 use Rattle.usb_file.proofs.Ends.{is_file, bytes_left, drop_all}
 

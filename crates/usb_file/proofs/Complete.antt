@@ -31,7 +31,7 @@ use Rattle.usb_file_data.specs.Front.{StringsFollow, IsInOrder, IsFront, Splits,
 use Rattle.usb_file.specs.FileFaults.{NextPart, a_set, a_qualifier, the_languages, a_string, the_end, begins_qualifier, is_no_string, string_fault, fixed_fault, EndIsNext, IsNext, PartFaulty, FaultyPart, FileFaulty}
 use Rattle.usb_file.specs.FileOrFault.{FileOrFault, is_file, is_faulty}
 use Rattle.usb_file.specs.inside.Next.{next_string, next_part}
-use Rattle.usb_file_data.proofs.Fronts.{with_set, with_qualifier}
+use Rattle.usb_file_data.specs.Front.{with_set, with_qualifier}
 
 -- ---- the part that is due makes a front of a front
 

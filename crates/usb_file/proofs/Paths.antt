@@ -29,7 +29,7 @@ use Rattle.usb_file.proofs.Unique.{PartIs, IsSet, one_part, part_or_fault, appen
 use Rattle.usb_file_data.specs.Front.{StringsFollow, IsInOrder, IsFront, Splits, AllSets}
 use Rattle.usb_file.specs.FileFaults.{the_languages, a_string, the_end, PartFaulty}
 use Rattle.usb_file.specs.inside.Next.{next_string, next_part}
-use Rattle.usb_file_data.proofs.Fronts.{with_set, with_strings}
+use Rattle.usb_file_data.specs.Front.{with_set, with_strings}
 
 -- ---- steps
 

@@ -18,25 +18,7 @@ use Rattle.usb_file_data.specs.Named.{named_indices, other_sets}
 use Rattle.usb_file_data.specs.File.{whole_set, sets_bytes, other_bytes, each_string_bytes, strings_bytes, file_bytes, is_other_kind, has_no_layout, is_long_string}
 use Rattle.usb_file_data.proofs.Lists.{flat_map-push, list_any-push, length-push, behind_main, behind_other, behind_all}
 use Rattle.usb_file_data.proofs.WholeSets.{layout_is, layout_allowed}
-use Rattle.usb_file_data.specs.Front.{StringsFollow, IsInOrder, IsFront, AllSets}
-
--- with one more set of the other speed
-abbrev pub other_with : Configuration → Option Other → Option Other
-other_with c None = None
-other_with c (Some o) = Some (record o { sets = o.sets ++ c ∷ [] })
-
--- with one more set of this kind
-abbrev pub with_set : SetKind → Configuration → DescriptorFile → DescriptorFile
-with_set kinds.Configuration c f = record f { sets = f.sets ++ c ∷ [] }
-with_set kinds.OtherSpeed c f = record f { other = other_with c f.other }
-
--- with this qualifier and no set of the other speed yet
-abbrev pub with_qualifier : Qualifier → DescriptorFile → DescriptorFile
-with_qualifier q f = record f { other = Some (record { qualifier = q; sets = [] }) }
-
--- with these strings
-abbrev pub with_strings : Strings → DescriptorFile → DescriptorFile
-with_strings s f = record f { strings = Some s }
+use Rattle.usb_file_data.specs.Front.{StringsFollow, IsInOrder, IsFront, AllSets, other_with, with_set, with_qualifier, with_strings}
 
 -- with one more string
 abbrev pub string_with : List ℕ → Option Strings → Option Strings

@@ -1,0 +1,4 @@
+pub mod ReadLemmas
+pub mod PartLemmas
+pub mod CostLemmas
+pub mod LowerLemmas

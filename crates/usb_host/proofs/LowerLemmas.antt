@@ -1,0 +1,218 @@
+-- A host asks for fewer and fewer transactions.
+use Rattle.std.proofs.Common.{◌≡◌, ℕ, suc, ◌+◌, ◌-◌, ◌*◌, ◌/◌, ◌<◌, ◌≤◌, ◌==◌, Bool, true, false, ◌&&◌, if◌then◌else◌, nat_lt, List, [], ◌∷◌, ◌++◌, length, inl, inr, refl, ap, sym, ◌∙◌, arith, subst}
+use Rattle.std.specs.Prelude.{Result, Option}
+use Rattle.std.proofs.Math.Nat.{mul-le-mul_right}
+use Rattle.usb_base.specs.Bytes.{AreBytes}
+use Rattle.usb_fields.specs.declared.speed.Speed.{Speed}
+use Rattle.usb_fields.specs.declared.setup.Setup.{Setup as SetupPacket}
+use Rattle.usb_fields.specs.declared.packet.Toggle.TheVariants.{Data0, Data1}
+use Rattle.usb_fields.specs.Packets.{is_same_toggle}
+use Rattle.usb_fields.specs.Packet.{Reply as Answer, NakReply, DataReply, NoReply}
+use Rattle.usb_set.specs.declared.fault.SetFault.{SetFault}
+use Rattle.usb_set.specs.declared.decoder.Progress.{Progress}
+use Rattle.usb_set.specs.Decoding.{Decoding}
+use Rattle.usb_transfer.specs.declared.why.Why.{Why}
+use Rattle.usb_transfer.specs.declared.why.Why.TheVariants.{NoAnswer, Busy, Stalled, TooLong, Unexpected, Malformed, Memory}
+use Rattle.usb_transfer.specs.declared.stage.TransferStage.{TransferStage}
+use Rattle.usb_transfer.specs.declared.stage.TransferStage.TheVariants.{Setup, DataIn, DataOut, StatusOut, StatusIn, Completed, Failed}
+use Rattle.usb_transfer.specs.Limits.{LimitView}
+use Rattle.usb_transfer.specs.Transfer.{TransferView, Hearing, Goes, Brings, Completes, Fails, Taken, taken, taken_at, begun}
+use Rattle.usb_transfer.specs.Bound.{left}
+use Rattle.usb_transfer.specs.Plan.{Plan, Begin, Success, Trouble}
+use Rattle.usb_host.specs.declared.place.Place.{Place}
+use Rattle.usb_host.specs.declared.place.Place.TheVariants.{First, Set, Reported, Stopped}
+use Rattle.usb_host.specs.declared.kept.Kept.{Kept}
+use Rattle.usb_host.specs.declared.kept.Kept.TheVariants as kept
+use Rattle.usb_host.specs.Order.{asks, stopped, set_leads, bytes_lead, done_leads, refused_leads}
+use Rattle.usb_host.specs.Keeping.{nothing_kept, set_kept}
+use Rattle.usb_host.specs.Steps.{HostPhase, ResetDue, Reading, Ended, HostView, entered, enter, reset_in, reset, blames_bus, settled, read_leads, completed_leads, goes_on, KeepsHeard, TakesHeard, TakesIn, Takes}
+use Rattle.usb_host.specs.Cost.{cost, price, most_in_attempt, left_in_attempt, left_to_ask, IsGood, FitsPlace, KeepsBytes, IsSteady, BringsBytes}
+use Rattle.usb_host.specs.Laws.{AsksLess}
+use Rattle.usb_host.proofs.CostLemmas.{Fits, bytes_fall, done_falls, refused_falls, set_fits, Pays, pays, priced}
+
+left_begun : (to packet naks : ℕ) (q : SetupPacket) → left (begun to packet naks q) ≤ (q.length / packet + 3) * (naks + 3)
+unfolding left
+left_begun to packet naks q = (let e : q.length - 0 ≡ q.length = omega arith in rw e (omega arith))
+
+pub fits_bytes : (place : Place) (b b' : List ℕ) → FitsPlace place (kept.Bytes b) → FitsPlace place (kept.Bytes b')
+fits_bytes (Set kind f total) b b' h = h
+fits_bytes place b b' h = tt
+
+pub fits_set : (place : Place) (d d' : Decoding) (o o' : Bool) → FitsPlace place (kept.Set d o) → FitsPlace place (kept.Set d' o')
+fits_set (Set kind f total) d d' o o' h = tt
+fits_set place d d' o o' h = h
+
+pub fits_nothing : (place : Place) → FitsPlace place (nothing_kept place)
+fits_nothing (Set kind f total) = tt
+fits_nothing place = tt
+
+bytes_nothing : (place : Place) → KeepsBytes (nothing_kept place)
+bytes_nothing (Set kind f total) = tt
+bytes_nothing place = tt
+
+pub bytes_more : (a b : List ℕ) → AreBytes a → AreBytes b → AreBytes (a ++ b)
+bytes_more [] b p q = q
+bytes_more (x ∷ a) b p q = (p.0, bytes_more a b p.1 q)
+
+-- what a transfer brings are bytes where the packet had bytes
+abbrev pub HearsBytes : Hearing → Type 0
+HearsBytes (Brings bytes) = AreBytes bytes
+HearsBytes _ = Unit {0}
+
+if_bytes : (b : Bool) (x y : Taken) → HearsBytes x.heard → HearsBytes y.heard → HearsBytes (if b then x else y).heard
+if_bytes true x y p q = p
+if_bytes false x y p q = q
+
+pub hears_bytes : (t : TransferView) (stage : TransferStage) (answer : Answer) → BringsBytes answer → HearsBytes (taken_at t stage answer).heard
+hears_bytes t Setup NoReply w = if_bytes (nat_lt t.strikes 2) _ _ tt tt
+hears_bytes t DataIn NakReply w = if_bytes (nat_lt t.nak_count t.naks) _ _ tt tt
+hears_bytes t DataIn (DataReply toggle bytes) w =
+    if_bytes (nat_lt t.packet (length bytes)) _ _ tt
+    (if_bytes (is_same_toggle toggle t.awaited) _ _
+    (if_bytes (nat_lt t.request.length (t.kept + length bytes)) _ _ tt w) (if_bytes (nat_lt t.strikes 2) _ _ tt tt))
+hears_bytes t DataIn NoReply w = if_bytes (nat_lt t.strikes 2) _ _ tt tt
+hears_bytes t DataOut NakReply w = if_bytes (nat_lt t.nak_count t.naks) _ _ tt tt
+hears_bytes t DataOut NoReply w = if_bytes (nat_lt t.strikes 2) _ _ tt tt
+hears_bytes t StatusOut NakReply w = if_bytes (nat_lt t.nak_count t.naks) _ _ tt tt
+hears_bytes t StatusOut NoReply w = if_bytes (nat_lt t.strikes 2) _ _ tt tt
+hears_bytes t StatusIn NakReply w = if_bytes (nat_lt t.nak_count t.naks) _ _ tt tt
+hears_bytes t StatusIn (DataReply toggle (x ∷ bytes)) w = tt
+hears_bytes t StatusIn (DataReply Data0 []) w = if_bytes (nat_lt t.strikes 2) _ _ tt tt
+hears_bytes t StatusIn (DataReply Data1 []) w = tt
+hears_bytes t StatusIn NoReply w = if_bytes (nat_lt t.strikes 2) _ _ tt tt
+hears_bytes t _ _ w = tt
+
+-- what is kept stays steady
+kept_steady : (place : Place) (old new : Kept) (heard : Hearing) (result : Result Progress SetFault) → FitsPlace place old → KeepsBytes old → HearsBytes heard →
+    KeepsHeard old heard result new → FitsPlace place new × KeepsBytes new
+kept_steady place old new Goes result fits bytes w e = (subst (λ x. FitsPlace place x) (sym e) fits, subst (λ x. KeepsBytes x) (sym e) bytes)
+kept_steady place old new Completes result fits bytes w e = (subst (λ x. FitsPlace place x) (sym e) fits, subst (λ x. KeepsBytes x) (sym e) bytes)
+kept_steady place old new (Fails why) result fits bytes w e = (subst (λ x. FitsPlace place x) (sym e) fits, subst (λ x. KeepsBytes x) (sym e) bytes)
+kept_steady place (kept.Bytes b) (kept.Bytes new) (Brings piece) result fits bytes w e = (fits_bytes place b new fits, subst (λ x. AreBytes x) (sym e) (bytes_more b piece bytes w))
+kept_steady place (kept.Bytes b) (kept.Set new now) (Brings piece) result fits bytes w e = absurd (e)
+kept_steady place (kept.Set d over) (kept.Bytes new) (Brings piece) result fits bytes w e = absurd (e)
+kept_steady place (kept.Set d over) (kept.Set new now) (Brings piece) result fits bytes w e = (fits_set place d new over now fits, tt)
+
+-- a read that begins
+begins_low : (address naks : ℕ) (place : Place) (p : Plan) → asks address place ≡ p → IsGood place →
+    IsSteady (entered naks place p) × (left_in_attempt naks (entered naks place p) ≤ cost place * (naks + 3))
+begins_low address naks place (Begin to packet q) e good =
+    let paid : Pays (Begin to packet q) (price place) = subst (λ x. Pays x (price place)) e (pays address place good) in
+    let begun_left = left_begun to packet naks q in
+    let top = priced place good in
+    let price_is : (q.length / packet + 3) * (naks + 3) ≤ price place * (naks + 3) = mul-le-mul_right (naks + 3) paid.1 in
+    let whole : price place * (naks + 3) + (cost place - price place) * (naks + 3) ≡ cost place * (naks + 3) = split (price place) (cost place) top in
+    ((good, fits_nothing place, bytes_nothing place), omega arith)
+  where
+    split : (p k : ℕ) → p ≤ k → p * (naks + 3) + (k - p) * (naks + 3) ≡ k * (naks + 3)
+    split p k h = (let e : k ≡ p + (k - p) = omega arith in let d : (p + (k - p)) * (naks + 3) ≡ p * (naks + 3) + (k - p) * (naks + 3) = grind arith in sym d ∙ ap (λ x. x * (naks + 3)) (sym e))
+begins_low address naks place Success e good = (tt, omega arith)
+begins_low address naks place (Trouble why) e good = (tt, omega arith)
+
+enters_low : (limits : LimitView) (k : ℕ) (place : Place) → Fits k place →
+    IsSteady (enter limits place) × (left_in_attempt limits.naks (enter limits place) ≤ k * (limits.naks + 3))
+enters_low limits k place fits =
+    let b = begins_low limits.address limits.naks place (asks limits.address place) refl fits.0 in
+    let m : cost place * (limits.naks + 3) ≤ k * (limits.naks + 3) = mul-le-mul_right (limits.naks + 3) fits.1 in
+    let n = b.1 in
+    (b.0, omega arith)
+
+-- a reset leaves nothing of the attempt
+settled_low : (attempts resets naks : ℕ) (new : HostPhase) → IsSteady new →
+    IsSteady (settled attempts resets new) × (left_in_attempt naks (settled attempts resets new) ≤ left_in_attempt naks new)
+settled_low attempts resets naks ResetDue s = (s, omega arith)
+settled_low attempts resets naks (Reading place t k) s = (s, omega arith)
+settled_low attempts resets naks (Ended (Stopped trouble)) s = by_test (blames_bus trouble.why && nat_lt resets attempts)
+  where
+    by_test : (b : Bool) → (let x = if b then ResetDue else Ended (Stopped trouble) in IsSteady x × (left_in_attempt naks x ≤ 0))
+    by_test true = (tt, omega arith)
+    by_test false = (tt, omega arith)
+settled_low attempts resets naks (Ended place) s = (s, omega arith)
+
+-- where bytes lead to that have all come
+reads_low : (speed : Speed) (place : Place) (count : ℕ) (k : Kept) → IsGood place → FitsPlace place k → KeepsBytes k →
+    Fits (cost place - price place) (read_leads speed place count k)
+reads_low speed place count (kept.Bytes bytes) good fits are = bytes_fall speed place bytes good are
+reads_low speed (Set kind f total) count (kept.Set d over) good fits are =
+    set_fits speed (cost (Set kind f total) - 8194) (Set kind f total) kind f total count (set_kept d over) good.0 good.1 (omega arith)
+reads_low speed place count (kept.Set d over) good fits are = absurd (fits)
+
+completed_low : (speed : Speed) (place : Place) (t : TransferView) (k : Kept) → IsGood place → FitsPlace place k → KeepsBytes k →
+    Fits (cost place - price place) (completed_leads speed place t k)
+completed_low speed place t k good fits are = by_length (t.request.length == 0)
+  where
+    by_length : (z : Bool) → Fits (cost place - price place) (if z then done_leads place else read_leads speed place t.kept k)
+    by_length true = done_falls place good
+    by_length false = reads_low speed place t.kept k good fits are
+
+goes_low : (limits : LimitView) (speed : Speed) (place : Place) (t t' : TransferView) (k : Kept) (stage : TransferStage) → IsGood place → FitsPlace place k → KeepsBytes k →
+    left t' < left t →
+    IsSteady (goes_on limits speed place t' k stage)
+    × (left_in_attempt limits.naks (goes_on limits speed place t' k stage) < left t + (cost place - price place) * (limits.naks + 3))
+goes_low limits speed place t t' k Completed good fits are less =
+    let y = enters_low limits (cost place - price place) (completed_leads speed place t' k) (completed_low speed place t' k good fits are) in
+    let z = y.1 in
+    (y.0, omega arith)
+goes_low limits speed place t t' k (Failed Stalled) good fits are less =
+    let y = enters_low limits (cost place - price place) (refused_leads place) (refused_falls place good) in
+    let z = y.1 in
+    (y.0, omega arith)
+goes_low limits speed place t t' k (Failed NoAnswer) good fits are less = (tt, omega arith)
+goes_low limits speed place t t' k (Failed Busy) good fits are less = (tt, omega arith)
+goes_low limits speed place t t' k (Failed TooLong) good fits are less = (tt, omega arith)
+goes_low limits speed place t t' k (Failed Unexpected) good fits are less = (tt, omega arith)
+goes_low limits speed place t t' k (Failed Malformed) good fits are less = (tt, omega arith)
+goes_low limits speed place t t' k (Failed Memory) good fits are less = (tt, omega arith)
+goes_low limits speed place t t' k Setup good fits are less = ((good, fits, are), omega arith)
+goes_low limits speed place t t' k DataIn good fits are less = ((good, fits, are), omega arith)
+goes_low limits speed place t t' k DataOut good fits are less = ((good, fits, are), omega arith)
+goes_low limits speed place t t' k StatusOut good fits are less = ((good, fits, are), omega arith)
+goes_low limits speed place t t' k StatusIn good fits are less = ((good, fits, are), omega arith)
+
+pub takes_low : (limits : LimitView) (speed : Speed) (place : Place) (t : TransferView) (k : Kept) (answer : Answer) (new : HostPhase) → IsSteady (Reading place t k) →
+    BringsBytes answer → left (taken t answer).transfer < left t → TakesHeard limits speed place k (taken t answer) new →
+    IsSteady new × (left_in_attempt limits.naks new < left_in_attempt limits.naks (Reading place t k))
+takes_low limits speed place t k answer new steady bytes less (result, after, keeps, inl (wants, e)) =
+    subst (λ x. IsSteady x × (left_in_attempt limits.naks x < left_in_attempt limits.naks (Reading place t k))) (sym e) (tt, omega arith)
+takes_low limits speed place t k answer new steady bytes less (result, after, keeps, inr (fine, e)) =
+    let by = taken t answer in
+    let still = kept_steady place k after by.heard result steady.1 steady.2 (hears_bytes t t.stage answer bytes) keeps in
+    subst (λ x. IsSteady x × (left_in_attempt limits.naks x < left_in_attempt limits.naks (Reading place t k))) (sym e)
+    (goes_low limits speed place t by.transfer after by.transfer.stage steady.0 still.0 still.1 less)
+
+-- a whole host
+abbrev pub Lower : HostView → HostView → Type 0
+Lower v w = IsSteady w.phase × (left_to_ask w < left_to_ask v)
+
+takes_lower : (v w : HostView) (place : Place) (t : TransferView) (k : Kept) (answer : Answer) → v.phase ≡ Reading place t k → IsSteady v.phase →
+    BringsBytes answer → left (taken t answer).transfer < left t → Takes v answer w → Lower v w
+takes_lower v w place t k answer at steady bytes less takes =
+    let is : TakesIn v (Reading place t k) answer w = subst (λ x. TakesIn v x answer w) at takes in
+    let low = takes_low v.limits v.speed place t k answer is.0 (subst (λ x. IsSteady x) at steady) bytes less is.1 in
+    let rest = settled_low v.limits.attempts v.resets v.limits.naks is.0 low.0 in
+    let below = low.1 in
+    let at_most = rest.1 in
+    let whole : left_in_attempt v.limits.naks v.phase ≡ left_in_attempt v.limits.naks (Reading place t k) = ap (left_in_attempt v.limits.naks) at in
+    subst (λ x. Lower v x) (sym is.2) (rest.0, omega arith)
+
+resets_lower : (v : HostView) → v.phase ≡ ResetDue → v.resets < v.limits.attempts → IsSteady (reset v).phase × (left_to_ask (reset v) ≤ left_to_ask v)
+resets_lower v at below =
+    let b = enters_low v.limits 5273453 First (tt, omega arith) in
+    let low = b.1 in
+    let one : (v.limits.attempts - v.resets) * most_in_attempt v.limits.naks ≡ (v.limits.attempts - suc v.resets) * most_in_attempt v.limits.naks + most_in_attempt v.limits.naks =
+    again v.limits.attempts v.resets (most_in_attempt v.limits.naks) below in
+    let is : reset v ≡ reset_in v ResetDue = ap (reset_in v) at in
+    subst (λ x. IsSteady x.phase × (left_to_ask x ≤ left_to_ask v)) (sym is) (b.0, omega arith)
+  where
+    again : (l r k : ℕ) → r < l → (l - r) * k ≡ (l - suc r) * k + k
+    again l r k h = (let e : l - r ≡ suc (l - suc r) = omega arith in rw e (grind arith))
+
+pub asks_less : AsksLess
+asks_less = record {
+  at_most = λ limits speed.
+      (let e : limits.attempts - 0 ≡ limits.attempts = omega arith in
+      let m : (limits.attempts - 0) * most_in_attempt limits.naks ≡ limits.attempts * most_in_attempt limits.naks = ap (λ x. x * most_in_attempt limits.naks) e in
+      omega arith);
+  resets = resets_lower;
+  takes = takes_lower;
+}

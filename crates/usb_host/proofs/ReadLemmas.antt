@@ -1,0 +1,104 @@
+-- What is written of a descriptor is read, and nothing else is.
+use Rattle.std.proofs.Common.{◌≡◌, ℕ, ◌+◌, ◌*◌, ◌/◌, ◌%◌, ◌≤◌, ◌<◌, ◌==◌, ◌&&◌, Bool, true, false, if◌then◌else◌, nat_lt, List, [], ◌∷◌, length, Option, Some, None, refl, ap, sym, ◌∙◌, arith, subst, slice_index, get_or, zero, suc, lit<}
+use Rattle.std.specs.List.{flat_map}
+use Rattle.std.proofs.lemmas.Bool.Decides.{nat_tests}
+use Rattle.usb_base.specs.Bytes.{AreBytes, little_endian, little_endian_at}
+use Rattle.usb_fields.specs.declared.device.DeviceDescriptor.{DeviceDescriptor}
+use Rattle.usb_fields.specs.declared.qualifier.Qualifier.{Qualifier}
+use Rattle.usb_fields.specs.Device.{device_bytes}
+use Rattle.usb_fields.specs.Qualifier.{qualifier_bytes}
+use Rattle.usb_fields.specs.Units.{units_bytes}
+use Rattle.usb_host.specs.Read.{same_bytes, if_written, device_fields, qualifier_fields, pairs, unit_fields, device_of, qualifier_of, units_of}
+
+pub same_is : (xs ys : List ℕ) → same_bytes xs ys ≡ true → xs ≡ ys
+same_is [] [] e = refl
+same_is [] (y ∷ ys) e = absurd (cc)
+same_is (x ∷ xs) [] e = absurd (cc)
+same_is (x ∷ xs) (y ∷ ys) e =
+    let head : x ≡ y = grind (arith, nat_tests) in
+    let tail : xs ≡ ys = same_is xs ys (grind (arith, nat_tests)) in
+    cc
+
+pub same_self : (b : List ℕ) → same_bytes b b ≡ true
+same_self [] = refl
+same_self (x ∷ b) = (let rest = same_self b in grind (arith, nat_tests))
+
+two_bytes : (n : ℕ) → n % 256 + 256 * (n / 256) ≡ n
+two_bytes n = omega arith
+
+pub written : {X : Type 0} (write : X → List ℕ) (x y : X) (b : List ℕ) → if_written write x b ≡ Some y → (b ≡ write y) × (x ≡ y)
+written write x y b e = by_test (same_bytes (write x) b) refl e
+  where
+    by_test : (t : Bool) → same_bytes (write x) b ≡ t → (if t then Some x else None) ≡ Some y → (b ≡ write y) × (x ≡ y)
+    by_test true t e =
+        let is : x ≡ y = cc in
+        (sym (same_is (write x) b t) ∙ ap write is, is)
+    by_test false t e = absurd (cc)
+
+pub writes : {X : Type 0} (write : X → List ℕ) (x y : X) → x ≡ y → if_written write x (write y) ≡ Some y
+writes write x y is =
+    let same : same_bytes (write x) (write y) ≡ true = subst (λ z. same_bytes (write z) (write y) ≡ true) (sym is) (same_self (write y)) in
+    rw same (ap Some is)
+
+device_back : (d : DeviceDescriptor) → device_fields (device_bytes d) ≡ d
+device_back d = rw (two_bytes d.usb, two_bytes d.vendor, two_bytes d.product, two_bytes d.release) refl
+
+qualifier_back : (q : Qualifier) → qualifier_fields (qualifier_bytes q) ≡ q
+qualifier_back q = rw (two_bytes q.usb) refl
+
+pairs_back : (u : List ℕ) → pairs (flat_map little_endian u) ≡ u
+pairs_back [] = refl
+pairs_back (n ∷ u) = rw (two_bytes n, pairs_back u) refl
+
+-- a descriptor is read back
+pub device_read : (d : DeviceDescriptor) → device_of (device_bytes d) ≡ Some d
+device_read d = writes device_bytes (device_fields (device_bytes d)) d (device_back d)
+
+pub qualifier_read : (q : Qualifier) → qualifier_of (qualifier_bytes q) ≡ Some q
+qualifier_read q = writes qualifier_bytes (qualifier_fields (qualifier_bytes q)) q (qualifier_back q)
+
+pub units_read : (u : List ℕ) → length u ≤ 126 → units_of (units_bytes u) ≡ Some u
+units_read u few =
+    let back : unit_fields (units_bytes u) ≡ u = pairs_back u in
+    let short : nat_lt 126 (length u) ≡ false = grind (arith, nat_tests) in
+    rw (back, short) (writes units_bytes u u refl)
+
+-- and what was read was written
+pub device_written : (b : List ℕ) (d : DeviceDescriptor) → device_of b ≡ Some d → b ≡ device_bytes d
+device_written b d e = (written device_bytes (device_fields b) d b e).0
+
+pub qualifier_written : (b : List ℕ) (q : Qualifier) → qualifier_of b ≡ Some q → b ≡ qualifier_bytes q
+qualifier_written b q e = (written qualifier_bytes (qualifier_fields b) q b e).0
+
+pub units_written : (b u : List ℕ) → units_of b ≡ Some u → (b ≡ units_bytes u) × (length u ≤ 126)
+units_written b u e = by_test (nat_lt 126 (length (unit_fields b))) refl e
+  where
+    by_test : (t : Bool) → nat_lt 126 (length (unit_fields b)) ≡ t → (if t then None else if_written units_bytes (unit_fields b) b) ≡ Some u →
+        (b ≡ units_bytes u) × (length u ≤ 126)
+    by_test true t e = absurd (cc)
+    by_test false t e =
+        let w = written units_bytes (unit_fields b) u b e in
+        let size : length (unit_fields b) ≡ length u = ap length w.1 in
+        (w.0, grind (arith, nat_tests))
+
+-- ---- bytes
+
+pub byte_at : (b : List ℕ) (i : ℕ) → AreBytes b → get_or b i 0 < 256
+byte_at [] i h = lit< tt
+byte_at (x ∷ b) zero h = h.0
+byte_at (x ∷ b) (suc i) h = byte_at b i h.1
+
+-- what the fields of bytes are
+pub device_narrow : (b : List ℕ) (d : DeviceDescriptor) → AreBytes b → device_of b ≡ Some d → (d.configurations < 256) × (d.packet ≡ slice_index b 7)
+device_narrow b d fits e =
+    let is = device_written b d e in
+    let small = byte_at b 17 fits in
+    let at : get_or b 17 0 ≡ d.configurations = ap (λ x. get_or x 17 0) is in
+    (omega arith, sym (ap (λ x. get_or x 7 0) is))
+
+pub qualifier_narrow : (b : List ℕ) (q : Qualifier) → AreBytes b → qualifier_of b ≡ Some q → q.configurations < 256
+qualifier_narrow b q fits e =
+    let is = qualifier_written b q e in
+    let small = byte_at b 8 fits in
+    let at : get_or b 8 0 ≡ q.configurations = ap (λ x. get_or x 8 0) is in
+    omega arith

@@ -1,0 +1,107 @@
+-- How many transactions a host asks for, whatever is answered.
+use Rattle.std.specs.Prelude.{◌≡◌, ℕ, suc, ◌+◌, ◌-◌, ◌*◌, ◌<◌, ◌≤◌, false, List, length, slice_index}
+use Rattle.usb_base.specs.Bytes.{AreBytes}
+use Rattle.usb_fields.specs.Packet.{Reply, DataReply}
+use Rattle.usb_set.specs.declared.tree.SetKind.{SetKind}
+use Rattle.usb_set.specs.declared.tree.SetKind.TheVariants as kinds
+use Rattle.usb_transfer.specs.Bound.{left}
+use Rattle.usb_transfer.specs.Limits.{LimitView}
+use Rattle.usb_host.specs.declared.place.Place.{Place}
+use Rattle.usb_host.specs.declared.place.Place.TheVariants.{First, Address, Device, Header, Set, Qualifier, Languages, Text, Configure, Reported, Stopped}
+use Rattle.usb_host.specs.declared.kept.Kept.{Kept}
+use Rattle.usb_host.specs.declared.kept.Kept.TheVariants as kept
+use Rattle.usb_host.specs.Order.{sets_of, declared_sets}
+use Rattle.usb_host.specs.Steps.{HostPhase, ResetDue, Reading, Ended, HostView, blames_bus}
+
+-- The most steps of progress that reads can take, at packets of 8 bytes: wLength / 8 + 3 each. From the language list
+-- on these are it, 126 times 255 strings, and the configuration.
+abbrev pub strings_cost : ℕ
+strings_cost = 34 + 126 * 255 * 34 + 3
+
+-- after the sets of a kind: the qualifier and 255 sets of the other speed, each with its front
+abbrev pub cost_after : SetKind → ℕ
+cost_after kinds.Configuration = 4 + 255 * 8198 + strings_cost
+cost_after kinds.OtherSpeed = strings_cost
+
+-- from a place on
+abbrev pub cost : Place → ℕ
+cost First = 4 + 3 + 5 + 255 * 8198 + cost_after kinds.Configuration
+cost (Address first) = 3 + 5 + 255 * 8198 + cost_after kinds.Configuration
+cost (Device first) = 5 + 255 * 8198 + cost_after kinds.Configuration
+cost (Header kind f) = (declared_sets kind f - length (sets_of kind f)) * 8198 + cost_after kind
+cost (Set kind f total) = 8194 + (declared_sets kind f - suc (length (sets_of kind f))) * 8198 + cost_after kind
+cost (Qualifier f) = cost_after kinds.Configuration
+cost (Languages f named) = strings_cost
+cost (Text f s named) = (length s.languages * length named - length s.texts) * 34 + 3
+cost (Configure f) = 3
+cost (Reported f) = 0
+cost (Stopped trouble) = 0
+
+-- of the read that is due at a place
+abbrev pub price : Place → ℕ
+price First = 4
+price (Address first) = 3
+price (Device first) = 5
+price (Header kind f) = 4
+price (Set kind f total) = 8194
+price (Qualifier f) = 4
+price (Languages f named) = 34
+price (Text f s named) = 34
+price (Configure f) = 3
+price (Reported f) = 0
+price (Stopped trouble) = 0
+
+-- what one attempt asks for at most, where so many NAKs are borne
+abbrev pub most_in_attempt : ℕ → ℕ
+most_in_attempt naks = 5273453 * (naks + 3)
+
+-- what a host asks for at most
+abbrev pub most : LimitView → ℕ
+most limits = limits.attempts * most_in_attempt limits.naks
+
+-- what may still be asked for in this attempt
+abbrev pub left_in_attempt : ℕ → HostPhase → ℕ
+left_in_attempt naks ResetDue = 0
+left_in_attempt naks (Reading place t k) = left t + (cost place - price place) * (naks + 3)
+left_in_attempt naks (Ended place) = 0
+
+-- what a host may still ask for: in this attempt, and in those that are left
+abbrev pub left_to_ask : HostView → ℕ
+left_to_ask v = (v.limits.attempts - v.resets) * most_in_attempt v.limits.naks + left_in_attempt v.limits.naks v.phase
+
+-- the numbers in an answer are bytes
+abbrev pub BringsBytes : Reply → Type 0
+BringsBytes (DataReply toggle bytes) = AreBytes bytes
+BringsBytes answer = Unit {0}
+
+-- what every place keeps, whatever was replied: packets have 8 bytes at least, and what is read was declared
+abbrev pub IsGood : Place → Type 0
+IsGood First = Unit {0}
+IsGood (Address first) = 8 ≤ slice_index first 7
+IsGood (Device first) = 8 ≤ slice_index first 7
+IsGood (Header kind f) = (8 ≤ f.device.packet) × (length (sets_of kind f) < declared_sets kind f)
+IsGood (Set kind f total) = (8 ≤ f.device.packet) × (length (sets_of kind f) < declared_sets kind f) × (total < 65536)
+IsGood (Qualifier f) = 8 ≤ f.device.packet
+IsGood (Languages f named) = (8 ≤ f.device.packet) × (length named ≤ 255)
+IsGood (Text f s named) = (8 ≤ f.device.packet) × (length s.texts < length s.languages * length named)
+IsGood (Configure f) = 8 ≤ f.device.packet
+IsGood (Reported f) = Unit {0}
+IsGood (Stopped trouble) = blames_bus trouble.why ≡ false
+
+-- a set is being decoded, and the bytes of any other read are kept
+abbrev pub FitsPlace : Place → Kept → Type 0
+FitsPlace (Set kind f total) (kept.Bytes bytes) = ⊥
+FitsPlace (Set kind f total) (kept.Set d over) = Unit {0}
+FitsPlace place (kept.Bytes bytes) = Unit {0}
+FitsPlace place (kept.Set d over) = ⊥
+
+-- what is kept are bytes
+abbrev pub KeepsBytes : Kept → Type 0
+KeepsBytes (kept.Bytes bytes) = AreBytes bytes
+KeepsBytes (kept.Set d over) = Unit {0}
+
+-- what holds of every host that has heard bytes
+abbrev pub IsSteady : HostPhase → Type 0
+IsSteady ResetDue = Unit {0}
+IsSteady (Reading place t k) = IsGood place × FitsPlace place k × KeepsBytes k
+IsSteady (Ended place) = Unit {0}

@@ -1,0 +1,9 @@
+pub mod Requests
+pub mod Read
+pub mod Order
+pub mod Keeping
+pub mod Steps
+pub mod Gathered
+pub mod Cost
+pub mod Laws
+pub mod inside

@@ -1,0 +1,99 @@
+-- What the bytes of a read say.
+use Rattle.std.specs.Prelude.{ℕ, ◌+◌, ◌*◌, ◌==◌, ◌&&◌, ◌||◌, not, nat_lt, Bool, true, false, if◌then◌else◌, List, [], ◌∷◌, length, slice_index, Option, Some, None}
+use Rattle.usb_base.specs.Bytes.{little_endian_at}
+use Rattle.usb_fields.specs.declared.speed.Speed.{Speed}
+use Rattle.usb_fields.specs.declared.speed.Speed.TheVariants.{Low, Full, High}
+use Rattle.usb_fields.specs.declared.device.DeviceDescriptor.{DeviceDescriptor}
+use Rattle.usb_fields.specs.declared.qualifier.Qualifier.{Qualifier}
+use Rattle.usb_fields.specs.Device.{device_bytes}
+use Rattle.usb_fields.specs.Qualifier.{qualifier_bytes}
+use Rattle.usb_fields.specs.Units.{units_bytes}
+
+-- whether both lists have the same bytes
+abbrev pub same_bytes : List ℕ → List ℕ → Bool
+same_bytes [] [] = true
+same_bytes [] (y ∷ ys) = false
+same_bytes (x ∷ xs) [] = false
+same_bytes (x ∷ xs) (y ∷ ys) = (x == y) && same_bytes xs ys
+
+-- this value, where these are the bytes that it is written as
+abbrev pub if_written : {X : Type 0} → (X → List ℕ) → X → List ℕ → Option X
+if_written write x b = if same_bytes (write x) b then Some x else None
+
+-- the fields of a device descriptor, each at its place (9.6.1)
+abbrev pub device_fields : List ℕ → DeviceDescriptor
+device_fields b =
+    record {
+      usb = little_endian_at b 2;
+      class = slice_index b 4;
+      subclass = slice_index b 5;
+      protocol = slice_index b 6;
+      packet = slice_index b 7;
+      vendor = little_endian_at b 8;
+      product = little_endian_at b 10;
+      release = little_endian_at b 12;
+      maker_text = slice_index b 14;
+      product_text = slice_index b 15;
+      serial_text = slice_index b 16;
+      configurations = slice_index b 17;
+    }
+
+-- the fields of a qualifier, each at its place (9.6.2)
+abbrev pub qualifier_fields : List ℕ → Qualifier
+qualifier_fields b =
+    record {
+      usb = little_endian_at b 2;
+      class = slice_index b 4;
+      subclass = slice_index b 5;
+      protocol = slice_index b 6;
+      packet = slice_index b 7;
+      configurations = slice_index b 8;
+      reserved = slice_index b 9;
+    }
+
+-- numbers of two bytes each, the low byte first
+abbrev pub pairs : List ℕ → List ℕ
+pairs (low ∷ high ∷ b) = (low + 256 * high) ∷ pairs b
+pairs _ = []
+
+-- the units behind bLength and bDescriptorType (9.6.7)
+abbrev pub unit_fields : List ℕ → List ℕ
+unit_fields (len ∷ kind ∷ b) = pairs b
+unit_fields _ = []
+
+-- the device descriptor that has these bytes, if there is one
+abbrev pub device_of : List ℕ → Option DeviceDescriptor
+device_of b = if_written device_bytes (device_fields b) b
+
+-- the qualifier that has these bytes, if there is one
+abbrev pub qualifier_of : List ℕ → Option Qualifier
+qualifier_of b = if_written qualifier_bytes (qualifier_fields b) b
+
+-- the units, at most 126, whose string descriptor has these bytes, if there are any
+abbrev pub units_of : List ℕ → Option (List ℕ)
+units_of b = if nat_lt 126 (length (unit_fields b)) then None else if_written units_bytes (unit_fields b) b
+
+-- whether endpoint zero can have packets of this size at the speed (5.5.3)
+abbrev pub packet_fits : Speed → ℕ → Bool
+packet_fits Low p = p == 8
+packet_fits Full p = (p == 8) || (p == 16) || (p == 32) || (p == 64)
+packet_fits High p = p == 64
+
+-- whether these are the first eight bytes of a device descriptor whose packet size fits the speed
+abbrev pub is_first : Speed → List ℕ → Bool
+is_first speed b = (length b == 8) && (slice_index b 0 == 18) && (slice_index b 1 == 1) && packet_fits speed (slice_index b 7)
+
+-- whether there may be a second speed: bcdUSB is at least 2.00, and the speed is not low (9.6.2)
+abbrev pub may_have_second : Speed → DeviceDescriptor → Bool
+may_have_second Low d = false
+may_have_second Full d = not (nat_lt d.usb 0x0200)
+may_have_second High d = not (nat_lt d.usb 0x0200)
+
+-- wTotalLength, where a front of so many bytes has this bLength and type and is that of a set of this type (9.6.3)
+abbrev pub total_said : ℕ → ℕ → ℕ → ℕ → ℕ → Option ℕ
+total_said kind count length_said kind_said total =
+    if (count == 9) && nat_lt 8 length_said && (kind_said == kind) && not (nat_lt total length_said) then Some total else None
+
+-- wTotalLength of the front of a set of this type, where it is well formed
+abbrev pub total_in : ℕ → List ℕ → Option ℕ
+total_in kind b = total_said kind (length b) (slice_index b 0) (slice_index b 1) (little_endian_at b 2)

@@ -1,0 +1,163 @@
+-- A host, as its callers see it, and its steps.
+use Rattle.std.specs.Prelude.{◌≡◌, ℕ, suc, ◌==◌, ◌&&◌, nat_lt, Bool, true, false, if◌then◌else◌, Option, Some, None, Result, Ok, Err, ◌⊎◌}
+use Rattle.usb_fields.specs.declared.speed.Speed.{Speed}
+use Rattle.usb_fields.specs.Packet.{Reply, Sent, sent_of}
+use Rattle.usb_set.specs.declared.fault.SetFault.{SetFault}
+use Rattle.usb_set.specs.declared.decoder.Progress.{Progress}
+use Rattle.usb_file_data.specs.declared.file.DescriptorFile.{DescriptorFile}
+use Rattle.usb_transfer.specs.declared.why.Why.{Why}
+use Rattle.usb_transfer.specs.declared.why.Why.TheVariants.{NoAnswer, Busy, Stalled, TooLong, Unexpected, Malformed, Memory}
+use Rattle.usb_transfer.specs.declared.stage.TransferStage.{TransferStage}
+use Rattle.usb_transfer.specs.declared.stage.TransferStage.TheVariants.{Completed, Failed}
+use Rattle.usb_transfer.specs.Limits.{LimitView}
+use Rattle.usb_transfer.specs.Plan.{Plan, Begin, Success, Trouble as GivesUp}
+use Rattle.usb_transfer.specs.Transfer.{TransferView, Hearing, Goes, Brings, Completes, Fails, Taken, taken, begun, due}
+use Rattle.usb_host.specs.declared.action.Action.{Action}
+use Rattle.usb_host.specs.declared.action.Action.TheVariants as actions
+use Rattle.usb_host.specs.declared.step.Trouble.{Trouble}
+use Rattle.usb_host.specs.declared.place.Place.{Place}
+use Rattle.usb_host.specs.declared.place.Place.TheVariants.{First, Set, Reported, Stopped}
+use Rattle.usb_host.specs.declared.kept.Kept.{Kept}
+use Rattle.usb_host.specs.declared.kept.Kept.TheVariants as kept
+use Rattle.usb_host.specs.Order.{asks, stopped, bytes_lead, set_leads, done_leads, refused_leads}
+use Rattle.usb_host.specs.Keeping.{nothing_kept, WantsMemory, Keeps, set_kept}
+
+-- a bus reset is due; or a read is in work, with its transfer and what is kept of its bytes; or there is an outcome
+pub data HostPhase : Type 0 where
+  ResetDue : HostPhase
+  Reading : (place : Place) (transfer : TransferView) (kept : Kept) → HostPhase
+  Ended : (place : Place) → HostPhase
+
+-- what callers see of a host
+pub record HostView : Type 0 where
+  pub limits : LimitView
+  pub speed : Speed
+  -- the bus resets so far
+  pub resets : ℕ
+  pub phase : HostPhase
+
+-- a new host
+abbrev pub new_host : LimitView → Speed → HostView
+new_host limits speed = record { limits = limits; speed = speed; resets = 0; phase = ResetDue }
+
+-- what a host wants done
+pub data Wanted : Type 0 where
+  WantsReset : Wanted
+  WantsSent : (sent : Sent) → Wanted
+  WantsNothing : Wanted
+
+-- what an action asks for
+abbrev pub wanted_by : Action → Wanted
+wanted_by actions.Reset = WantsReset
+wanted_by (actions.Send t) = WantsSent (sent_of t)
+wanted_by actions.Ended = WantsNothing
+
+-- a transaction, if one is due
+abbrev pub sends : Option Sent → Wanted
+sends None = WantsNothing
+sends (Some sent) = WantsSent sent
+
+-- what a host wants next
+abbrev pub wanted : HostPhase → Wanted
+wanted ResetDue = WantsReset
+wanted (Reading place transfer kept) = sends (due transfer)
+wanted (Ended place) = WantsNothing
+
+-- the outcome at an end
+abbrev pub outcome_at : Place → Option (Result DescriptorFile Trouble)
+outcome_at (Reported f) = Some (Ok f)
+outcome_at (Stopped trouble) = Some (Err trouble)
+outcome_at place = None
+
+-- the outcome, if there is one
+abbrev pub outcome_of : HostPhase → Option (Result DescriptorFile Trouble)
+outcome_of ResetDue = None
+outcome_of (Reading place transfer kept) = None
+outcome_of (Ended place) = outcome_at place
+
+-- what a plan puts in work at a place, where so many NAKs are borne
+abbrev pub entered : ℕ → Place → Plan → HostPhase
+entered naks place (Begin address packet q) = Reading place (begun address packet naks q) (nothing_kept place)
+entered naks place Success = Ended place
+entered naks place (GivesUp why) = Ended place
+
+-- a host comes to a place
+abbrev pub enter : LimitView → Place → HostPhase
+enter limits place = entered limits.naks place (asks limits.address place)
+
+-- Where a host after a bus reset begins: with the first read, and nothing of an attempt before.
+abbrev pub reset_in : HostView → HostPhase → HostView
+reset_in v ResetDue = record v { resets = suc v.resets; phase = enter v.limits First }
+reset_in v phase = v
+
+-- the bus was reset: where no reset is due, nothing changes
+abbrev pub reset : HostView → HostView
+reset v = reset_in v v.phase
+
+-- whether another attempt may help: the bus is blamed, and not the device
+abbrev pub blames_bus : Why → Bool
+blames_bus NoAnswer = true
+blames_bus Busy = true
+blames_bus why = false
+
+-- After trouble that blames the bus, a reset is due while attempts are left.
+abbrev pub settled : ℕ → ℕ → HostPhase → HostPhase
+settled attempts resets (Ended (Stopped trouble)) =
+    if blames_bus trouble.why && nat_lt resets attempts then ResetDue else Ended (Stopped trouble)
+settled attempts resets phase = phase
+
+-- where a read leads to that has completed with so many bytes
+abbrev pub read_leads : Speed → Place → ℕ → Kept → Place
+read_leads speed place count (kept.Bytes bytes) = bytes_lead speed place bytes
+read_leads speed (Set kind f total) count (kept.Set d over) = set_leads speed (Set kind f total) kind f total count (set_kept d over)
+read_leads speed place count (kept.Set d over) = stopped place Malformed
+
+-- where a transfer leads to that has completed
+abbrev pub completed_leads : Speed → Place → TransferView → Kept → Place
+completed_leads speed place t k = if t.request.length == 0 then done_leads place else read_leads speed place t.kept k
+
+-- after an answer, by the stage of the transfer
+abbrev pub goes_on : LimitView → Speed → Place → TransferView → Kept → TransferStage → HostPhase
+goes_on limits speed place t k Completed = enter limits (completed_leads speed place t k)
+goes_on limits speed place t k (Failed Stalled) = enter limits (refused_leads place)
+goes_on limits speed place t k (Failed NoAnswer) = Ended (stopped place NoAnswer)
+goes_on limits speed place t k (Failed Busy) = Ended (stopped place Busy)
+goes_on limits speed place t k (Failed TooLong) = Ended (stopped place TooLong)
+goes_on limits speed place t k (Failed Unexpected) = Ended (stopped place Unexpected)
+goes_on limits speed place t k (Failed Malformed) = Ended (stopped place Malformed)
+goes_on limits speed place t k (Failed Memory) = Ended (stopped place Memory)
+goes_on limits speed place t k stage = Reading place t k
+
+-- the transfer has ended
+abbrev pub IsEnd : Hearing → Type 0
+IsEnd Goes = ⊥
+IsEnd (Brings bytes) = ⊥
+IsEnd Completes = Unit {0}
+IsEnd (Fails why) = Unit {0}
+
+-- new bytes change what is kept, and nothing else does
+abbrev pub KeepsHeard : Kept → Hearing → Result Progress SetFault → Kept → Type 0
+KeepsHeard old (Brings bytes) result new = Keeps old bytes result new
+KeepsHeard old Goes result new = new ≡ old
+KeepsHeard old Completes result new = new ≡ old
+KeepsHeard old (Fails why) result new = new ≡ old
+
+-- A host takes what its transfer made of an answer. The read goes on, or the next one begins; or memory was wanting: for
+-- the new bytes, or where the transfer has ended.
+abbrev pub TakesHeard : LimitView → Speed → Place → Kept → Taken → HostPhase → Type 0
+TakesHeard limits speed place old by new =
+    (result : Result Progress SetFault) × (k : Kept) × KeepsHeard old by.heard result k
+    × (((WantsMemory result ⊎ IsEnd by.heard) × (new ≡ Ended (stopped place Memory)))
+    ⊎ ((WantsMemory result → ⊥) × (new ≡ goes_on limits speed place by.transfer k by.transfer.stage)))
+
+-- by the phase: only a read in work takes an answer
+abbrev pub TakesIn : HostView → HostPhase → Reply → HostView → Type 0
+TakesIn v ResetDue answer w = w ≡ v
+TakesIn v (Ended place) answer w = w ≡ v
+TakesIn v (Reading place transfer k) answer w =
+    (phase : HostPhase) × TakesHeard v.limits v.speed place k (taken transfer answer) phase
+    × (w ≡ record v { phase = settled v.limits.attempts v.resets phase })
+
+-- a host takes an answer
+abbrev pub Takes : HostView → Reply → HostView → Type 0
+Takes v answer w = TakesIn v v.phase answer w

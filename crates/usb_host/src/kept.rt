@@ -1,0 +1,12 @@
+//! What a host keeps of a read.
+use crate::kept_bytes::KeptBytes;
+use usb_set::Decoder;
+
+/// What is kept of the bytes of the read in work.
+#[derive(Debug, Drop)]
+pub enum Kept {
+    /// The bytes.
+    Bytes { bytes: KeptBytes },
+    /// Of a set its decoder, and whether bytes came behind the set's last.
+    Set { decoder: Decoder, over: bool },
+}
