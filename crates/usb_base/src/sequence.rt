@@ -45,7 +45,7 @@ impl<T> Model for Sequence<T> {
 impl<T> Sequence<T> {
     ghost use Rattle.usb_base.specs.Lending.{LendsItem, LendsItemIf};
 
-    /// With no element. Allocates nothing.
+    /// With no element.
     pub fn new(alloc: Global) -> Self
         ensures { result ≡ [] }
     {
@@ -61,7 +61,7 @@ impl<T> Sequence<T> {
         Sequence { items }
     }
 
-    /// The elements as a vector, which takes no memory.
+    /// The elements as a vector.
     pub fn into_vec(self) -> Vec<T>
         ensures { result.items ≡ self }
     {
@@ -100,7 +100,7 @@ impl<T> Sequence<T> {
         self.items.push(value)
     }
 
-    /// Takes the last element off, if there is one. Frees nothing.
+    /// Takes the last element off, if there is one.
     pub fn pop(&mut self) -> Option<T>
         ensures some { IfSome result (λ last. self.old ≡ self.new ++ last ∷ []) }
         ensures none { IfNone result ((self.old ≡ []) × (self.new ≡ [])) }
@@ -108,7 +108,7 @@ impl<T> Sequence<T> {
         self.items.pop()
     }
 
-    /// The element at the index, to be changed in place.
+    /// The element at the index, to be changed in place. The index must be below the length.
     pub fn at_mut(&mut self, index: usize) -> &mut T
         requires { index < length self.old }
         ensures* writes_back { sem 𝓛 (LendsItem T.row self.entry index result) }

@@ -18,15 +18,15 @@ use Rattle.usb_bus.specs.declared.talk.Talk.{Talk}
 use Rattle.usb_bus.specs.Fates.{losses, busies, acks_lost}
 use Rattle.usb_bus.specs.Bus.{HostEnd}
 use Rattle.usb_transfer.specs.Plan.{Plan}
-use Rattle.usb_bus.specs.Attempt.{Attempt, Running, Succeeded, Broken, proceed, advance, attempt_run, begins, Sound}
+use Rattle.usb_bus.specs.Attempt.{Phase, Attempt, Running, Succeeded, Broken, proceed, advance, attempt_run, begins, Sound}
 use Rattle.usb_bus.specs.Talk.{Place, talk_plan, reached, onward, followed, asked_at, replies_to, state_after, IsTable}
-use Rattle.usb_bus.specs.Run.{fates_used, Steps}
+use Rattle.usb_bus.specs.Run.{fates_used, due_in, Steps}
 use Rattle.usb_bus.specs.Converse.{first_place, talk_start, end_of, IsTalkRun, HasFirstReplies, HasLastState, HasCause}
 use Rattle.usb_bus.specs.inside.Running.{failure_of, point, AreDue, Leads, settled}
 use Rattle.usb_bus.proofs.Attempts.{attempt_all, next_begins}
 use Rattle.usb_bus.proofs.Talks.{talk_follows, reached_append}
 use Rattle.usb_bus.proofs.TableLemmas.{table_kept}
-use Rattle.usb_bus.proofs.Runs.{losses-fates_used, busies-fates_used, acks_lost-fates_used, point-run, points, length-points, AreDue-append, Steps-points}
+use Rattle.usb_bus.proofs.Runs.{losses-fates_used, busies-fates_used, acks_lost-fates_used, point-run, points, length-points, AreDue-append, Steps-points, Steps-same}
 
 -- a talk is sound over every list of fates
 pub talk_sound : (answer : State → SetupPacket → Outcome) (packet naks : ℕ) (qs : List SetupPacket) (fates : List Fate) → 0 < packet → IsTable answer →
@@ -242,3 +242,40 @@ module _ (f : DescriptorFile) (naks : ℕ) (qs : List SetupPacket) (fates : List
         let a = acks_lost-fates_used fates talk.transactions in
         let b = busies-fates_used fates talk.transactions in
         ends_by talk.stopped has_cause (omega arith) (omega arith) (omega arith)
+
+-- where a talk has ended nothing is due
+none_due : (stopped : Option Why) → due_in (end_of stopped) ≡ None
+none_due None = refl
+none_due (Some why) = refl
+
+-- why a talk stopped, by its last phase
+stopped_at : Phase → Option Why
+stopped_at (Running host) = None
+stopped_at Succeeded = None
+stopped_at (Broken why) = Some why
+
+stopped_at-end_of : (stopped : Option Why) → stopped_at (end_of stopped) ≡ stopped
+unfolding stopped_at
+stopped_at-end_of None = refl
+stopped_at-end_of (Some why) = refl
+
+same_talk : (a b : Talk) → a.replies ≡ b.replies → a.stopped ≡ b.stopped → a.transactions ≡ b.transactions → a.state ≡ b.state → a ≡ b
+same_talk a b replies stopped transactions state =
+    ap (λ x. (let t : Talk = record a { replies = x } in t)) replies
+    ∙ ap (λ x. (let t : Talk = record a { replies = b.replies; stopped = x } in t)) stopped
+    ∙ ap (λ x. (let t : Talk = record b { transactions = x; state = a.state } in t)) transactions
+    ∙ ap (λ x. (let t : Talk = record b { state = x } in t)) state
+
+-- of one list of requests and fates two talks are one
+pub talk_determined : (f : DescriptorFile) (naks : ℕ) (requests : List SetupPacket) (fates : List Fate) (a b : Talk) →
+    IsTalkRun f naks requests fates a → IsTalkRun f naks requests fates b → a ≡ b
+talk_determined f naks requests fates a b (ps, x, count_a, steps_a, replies_a, phase_a, state_a) (qs, y, count_b, steps_b, replies_b, phase_b, state_b) =
+    let same = Steps-same (talk_plan f.device.packet (first_place requests)) naks (answer f) f.device.packet fates 0
+    (talk_start f.device.packet naks requests) ps qs x y steps_a steps_b (ap due_in phase_a ∙ none_due a.stopped) (ap due_in phase_b ∙ none_due b.stopped) in
+    let stops : stopped_at (end_of a.stopped) ≡ stopped_at (end_of b.stopped) =
+    ap stopped_at (sym phase_a ∙ ap (λ z. z.phase) same.1 ∙ phase_b) in
+    same_talk a b
+    (sym replies_a ∙ ap (λ z. z.replies) same.1 ∙ replies_b)
+    (sym (stopped_at-end_of a.stopped) ∙ stops ∙ stopped_at-end_of b.stopped)
+    (sym count_a ∙ same.0 ∙ count_b)
+    (sym state_a ∙ ap (λ z. z.device.state) same.1 ∙ state_b)

@@ -15,9 +15,8 @@ use Rattle.usb_transfer.specs.declared.reply.Reply.{Reply}
 use Rattle.usb_bus.specs.Bus.{HostEnd, exchanged, step}
 use Rattle.usb_transfer.specs.Plan.{Plan}
 use Rattle.usb_bus.specs.Attempt.{Attempt, Running, advance}
-use Rattle.usb_bus.specs.Run.{fate_at}
+use Rattle.usb_bus.specs.Run.{fate_at, due_in}
 use Rattle.usb_bus.specs.inside.Running.{failure_of, point, Leads}
-use Rattle.usb_bus.specs.Run.{due_in}
 use Rattle.usb_bus.proofs.Runs.{AreDue-more}
 
 -- why a transfer fails, as it tells its caller

@@ -1,5 +1,5 @@
 -- Runs of a talk: their points, and the fates that they use.
-use Rattle.std.proofs.Common.{◌≡◌, ℕ, zero, suc, ◌+◌, ◌-◌, ◌<◌, ◌≤◌, List, [], ◌∷◌, length, drop, Some, refl, sym, ap, ◌∙◌, arith, inl, inr, subst}
+use Rattle.std.proofs.Common.{◌≡◌, ℕ, zero, suc, ◌+◌, ◌-◌, ◌≤◌, List, [], ◌∷◌, length, drop, Some, None, refl, sym, ap, ◌∙◌, arith, inl, inr, subst}
 use Rattle.std.proofs.lemmas.Bool.{cases_lt}
 use Rattle.usb_fields.specs.Packet.{Sent}
 use Rattle.usb_fields.specs.declared.setup.Setup.{Setup as SetupPacket}
@@ -92,3 +92,16 @@ module _ (plan : List Reply → Plan) (naks : ℕ) (answer : State → SetupPack
         record { sent = first.0; is_due = first.1; next = refl },
         Steps-points (suc k) n (next k x) (λ i less. due (suc i) (omega arith)),
       )
+
+  -- two runs from one point that both end where nothing is due are as long as each other, and end alike
+  pub Steps-same : (k : ℕ) (start : Attempt) (ps qs : List Attempt) (x y : Attempt) → Steps plan naks answer cut fates k start ps x →
+      Steps plan naks answer cut fates k start qs y → due_in x.phase ≡ None → due_in y.phase ≡ None → (length ps ≡ length qs) × (x ≡ y)
+  Steps-same k start [] [] x y a b ends over = (refl, a ∙ sym b)
+  Steps-same k start [] (q ∷ qs) x y a b ends over =
+      let clash : None ≡ Some b.0.sent = sym ends ∙ ap (λ z. due_in z.phase) a ∙ b.0.is_due in absurd (cc)
+  Steps-same k start (p ∷ ps) [] x y a b ends over =
+      let clash : None ≡ Some a.0.sent = sym over ∙ ap (λ z. due_in z.phase) b ∙ a.0.is_due in absurd (cc)
+  Steps-same k start (p ∷ ps) (q ∷ qs) x y a b ends over =
+      let same : q ≡ p = b.0.next ∙ sym a.0.next in
+      let rest = Steps-same (suc k) p ps qs x y a.1 (subst (λ z. Steps plan naks answer cut fates (suc k) z qs y) same b.1) ends over in
+      (ap suc rest.0, rest.1)

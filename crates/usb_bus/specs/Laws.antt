@@ -1,17 +1,20 @@
 -- The laws of two ends over a bus.
 use Rattle.std.specs.Prelude.{◌≡◌, ℕ, ◌<◌, Bool, true, List, []}
 use Rattle.usb_fields.specs.declared.setup.Setup.{Setup as SetupPacket}
+use Rattle.usb_file_data.specs.declared.file.DescriptorFile.{DescriptorFile}
 use Rattle.usb_device.specs.declared.state.State.{State}
 use Rattle.usb_device.specs.Requests.{Outcome, Bytes}
 use Rattle.usb_device.specs.Step.{DeviceView, new_device}
 use Rattle.usb_transfer.specs.declared.reply.Reply.{Reply}
 use Rattle.usb_bus.specs.declared.fate.Fate.{Fate}
+use Rattle.usb_bus.specs.declared.talk.Talk.{Talk}
 use Rattle.usb_bus.specs.Fates.{losses, busies, acks_lost}
 use Rattle.usb_bus.specs.Bus.{run}
 use Rattle.usb_bus.specs.Coupled.{Coupled, IsAnswering, IsCut}
 use Rattle.usb_transfer.specs.Plan.{Plan}
 use Rattle.usb_bus.specs.Attempt.{Follows, Sound, begins, attempt_run, proceed}
 use Rattle.usb_bus.specs.Talk.{talk_plan, replies_to, state_after, IsTable}
+use Rattle.usb_bus.specs.Converse.{IsTalkRun}
 
 -- A transfer begun at the device's address stays coupled over every list of fates.
 abbrev pub StaysCoupled : Type 0
@@ -43,3 +46,10 @@ TalksHaveCauses =
     let x = attempt_run plan naks answer packet fates (proceed plan naks [] new_device) in
     Sound plan naks answer packet true (replies_to answer zero_state qs) (state_after answer zero_state qs)
     (losses fates) (busies fates) (acks_lost fates) x.replies x.phase x.device)
+
+-- The same requests under the same fates have one talk: its replies, its end, its state, and how many transactions
+-- there were.
+abbrev pub TalksAreDetermined : Type 0
+TalksAreDetermined =
+    (f : DescriptorFile) (naks : ℕ) (requests : List SetupPacket) (fates : List Fate) (a b : Talk) →
+    IsTalkRun f naks requests fates a → IsTalkRun f naks requests fates b → a ≡ b

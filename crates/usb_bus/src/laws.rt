@@ -4,7 +4,7 @@
 ghost use Rattle.usb_device.specs.Requests.{answer};
 ghost use Rattle.usb_file_data.specs.declared.file.DescriptorFile.{DescriptorFile};
 ghost use Rattle.usb_bus.specs.Talk.{IsTable};
-ghost use Rattle.usb_bus.specs.Laws.{StaysCoupled, AttemptsHaveCauses, TalksHaveCauses};
+ghost use Rattle.usb_bus.specs.Laws.{StaysCoupled, AttemptsHaveCauses, TalksHaveCauses, TalksAreDetermined};
 
 /// A transfer begun at the device's address: whatever the bus loses, both ends stay coupled.
 pub fn a_transfer_stays_coupled()
@@ -19,6 +19,11 @@ pub fn an_attempt_has_causes()
 /// Requests one after another, with no bus reset between them: a talk that stops has a cause.
 pub fn a_talk_has_causes()
     ensures { TalksHaveCauses }
+{}
+
+/// The same requests under the same fates have one talk, so that a run has no more transactions than there were.
+pub fn a_talk_is_determined()
+    ensures { TalksAreDetermined }
 {}
 
 /// The device's answers to requests are a table that these laws are about. Bytes go to the host and are no more than it

@@ -110,7 +110,8 @@ impl Description {
     }
 
     /// The bytes of the descriptor at this place, lent from the description: those of a whole set where a set stands
-    /// there (USB 2.0, 9.4.3). Places count from 0, in the order of the file, and [`Description::find`] gives them.
+    /// there (USB 2.0, 9.4.3). Places count from 0, in the order of the file. There must be a descriptor at the place,
+    /// as there is at each that [`Description::find`] gives.
     #[tactic(auto, using(crate::proofs::PlaceLemmas::descriptor_found))]
     #[inline(always)]
     pub fn bytes(&self, place: usize) -> &[u8]

@@ -31,7 +31,7 @@ impl Model for Image {
 }
 
 impl Image {
-    /// With none. Allocates nothing.
+    /// With none.
     pub(crate) fn new(alloc: Global) -> Image
         ensures { result ≡ [] }
     {

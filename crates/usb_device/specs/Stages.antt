@@ -29,6 +29,15 @@ stage_of f stages.StatusOut d request carried_out = StatusOut
 stage_of f stages.Over d request carried_out = Over
 stage_of f stages.StatusIn d request carried_out = StatusIn request carried_out
 
+-- which stage it is, whatever it holds
+abbrev pub stage_kind : DeviceStage → Stage
+stage_kind Idle = stages.Idle
+stage_kind Halted = stages.Halted
+stage_kind (Sending bytes limit acked) = stages.Sending
+stage_kind StatusOut = stages.StatusOut
+stage_kind Over = stages.Over
+stage_kind (StatusIn request carried_out) = stages.StatusIn
+
 -- the source is there
 abbrev pub IsSource : DescriptorFile → Source → Type 0
 IsSource f (Descriptor place) = place < length (descriptors f)

@@ -6,6 +6,7 @@ ghost use Rattle.std.specs.Prelude.{◌≡◌};
 ghost use Rattle.std.specs.Borrow.{sem};
 
 use crate::endpoint_zero::{EndpointZero, Reaction};
+use crate::stage::Stage;
 use crate::state::State;
 use std::marker::Model;
 use usb_description::Description;
@@ -46,6 +47,7 @@ impl<'d> Model for Device<'d> {
 impl<'d> Device<'d> {
     ghost use Rattle.usb_fields.specs.Packet.{reply_of, sent_of};
     ghost use Rattle.usb_device.specs.Step.{new_device};
+    ghost use Rattle.usb_device.specs.Stages.{stage_kind};
     ghost use Rattle.usb_device.specs.View.{acked_by, served_by};
     ghost use Rattle.usb_device.specs.Lending.{EndsAs};
     ghost use Rattle.usb_device.specs.inside.Reactions.{packet_due, reply_with};
@@ -112,5 +114,12 @@ impl<'d> Device<'d> {
         ensures { result ≡ self.now.device.state }
     {
         self.endpoint_zero.state()
+    }
+
+    /// Where it stands in a transfer.
+    pub fn stage(&self) -> Stage
+        ensures { result ≡ stage_kind self.now.device.stage }
+    {
+        self.endpoint_zero.stage()
     }
 }

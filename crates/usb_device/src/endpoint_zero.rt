@@ -6,7 +6,7 @@ ghost use Rattle.usb_fields.specs.Packets.{packets};
 ghost use Rattle.usb_description.specs.Places.{descriptor_at};
 ghost use Rattle.usb_device.specs.Requests.{answer};
 ghost use Rattle.usb_device.specs.Step.{begun, carried_out, is_set_address, next_stage, Sending};
-ghost use Rattle.usb_device.specs.Stages.{data_bytes, IsData, IsSource};
+ghost use Rattle.usb_device.specs.Stages.{data_bytes, stage_kind, IsData, IsSource};
 
 use crate::request::Request;
 use crate::response::Response;
@@ -87,7 +87,22 @@ impl EndpointZero {
         self.state
     }
 
-    /// One transaction, as [`Device::serve`](crate::Device::serve) has it.
+    /// Where the device stands in a transfer.
+    pub fn stage(&self) -> Stage
+        ensures { (f : DescriptorFile) → result ≡ stage_kind (device_of f self.now).stage }
+    {
+        match self.stage {
+            Stage::Idle => Stage::Idle,
+            Stage::Halted => Stage::Halted,
+            Stage::Sending => Stage::Sending,
+            Stage::StatusOut => Stage::StatusOut,
+            Stage::Over => Stage::Over,
+            Stage::StatusIn => Stage::StatusIn,
+        }
+    }
+
+    /// One transaction, as [`Device::serve`](crate::Device::serve) has it. The description must be the one that it was
+    /// made for.
     #[inline(always)]
     pub fn serve<'a>(
         &'a mut self,
@@ -268,7 +283,7 @@ impl EndpointZero {
     }
 
     /// The host's ACK of the data packet that [`EndpointZero::serve`] answered right before. Anywhere else, and a
-    /// second time, it changes nothing.
+    /// second time, it changes nothing. The description must be the one that it was made for.
     #[inline(always)]
     pub fn acked(&mut self, d: &Description)
         requires { IsOf d.now.file self.old }

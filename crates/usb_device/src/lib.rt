@@ -3,8 +3,9 @@
 //! A [`Description`] is made of the descriptors and a speed, and encodes each descriptor once. A [`Device`]
 //! borrows it: [`Device::serve`] answers a transaction, and lends what it sends from the description, so that a
 //! device takes no memory and can't fail. [`Device::acked`] tells it that the host acknowledged a data packet,
-//! and [`Device::state`] what it keeps between requests. [`EndpointZero`] is what changes in a device, without the
-//! description, and [`is_set_address`] tells the request that a device carries out after its status stage.
+//! [`Device::state`] is what it keeps between requests, and [`Device::stage`] where it stands in a transfer.
+//! [`EndpointZero`] is what changes in a device, without the description, and [`is_set_address`] tells the request that a
+//! device carries out after its status stage.
 //!
 //! - Descriptions, and which descriptors make a device, stand in the crate usb_description; its public types are named
 //!   here too.
@@ -28,5 +29,6 @@ mod state;
 
 pub use device::Device;
 pub use endpoint_zero::{EndpointZero, is_set_address};
+pub use stage::Stage as DeviceStage;
 pub use state::State;
 pub use usb_description::{Description, DescriptionFault};

@@ -7,7 +7,7 @@ use usb_fields::Toggle;
 
 /// Where a device stands in a transfer.
 #[derive(Clone, Copy, Debug, PartialEq, Eq, Hash)]
-pub(crate) enum Stage {
+pub enum Stage {
     /// In none.
     Idle,
     /// In one that it refuses.

@@ -14,7 +14,7 @@ packets_within (suc most) bytes size limit =
 
 -- The packets of a data stage that answers with these bytes, at most `limit` of them, which is wLength. Packets
 -- have up to `size` bytes, at least one. There are packets of `size` bytes until `limit` bytes have gone, or else
--- a shorter packet, which may be empty, to end the stage (8.5.3).
+-- a shorter packet, which may be empty, to end the stage (8.5.3.2).
 unfoldable pub packets : List ℕ → ℕ → ℕ → List (List ℕ)
 packets bytes size limit = packets_within limit bytes size limit
 

@@ -13,7 +13,7 @@ use usb_set::{Configuration, Sequence, SetKind, refusal};
 /// The most units that a string, or languages that a language list, can have (USB 2.0, 9.6.7).
 const MOST_UNITS: usize = 126;
 
-/// Why the file has no bytes, for another cause than memory, if it has none. Takes no memory.
+/// Why the file has no bytes, for another cause than memory, if it has none.
 pub fn write_refusal(f: &DescriptorFile) -> Option<WriteFault>
     ensures { result ≡ write_refusal f.now }
 {

@@ -31,7 +31,7 @@ pub fn named(alloc: Global, f: &DescriptorFile) -> Result<Vec<u8>, NoMemory>
     marked_numbers(alloc, &mark_file(f), 1, 255)
 }
 
-/// How many indices of strings the file names. In each language it has as many strings. Takes no memory.
+/// How many indices of strings the file names. In each language it has as many strings.
 ///
 /// ```rust
 /// file.device.product_text = 2;

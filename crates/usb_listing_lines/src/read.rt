@@ -314,8 +314,8 @@ fn behind(word: Word, line: &[u8]) -> &[u8]
     }
 }
 
-/// The descriptor that the line says, which begins with this word ([`word_of`](crate::word_of)); or nothing,
-/// where a field is missing, superfluous or not in its form.
+/// The descriptor that the line says, or nothing, where a field is missing, superfluous or not in its form. The line
+/// must begin with this word ([`word_of`](crate::word_of) tells it).
 ///
 /// ```rust
 /// if let Some(Item::Extra(Extra::Raw(raw))) = read_item(alloc, Word::Raw, b"raw 21 1001")? {

@@ -7,7 +7,7 @@ use crate::tree::{Association, Configuration, Endpoint, Extra, Raw, SetKind, Set
 use std::alloc::{AllocError, Global};
 use usb_base::{Sequence, word_at};
 
-/// The bytes as a list. No memory is taken where there are none.
+/// The bytes as a list.
 #[inline]
 fn read_bytes(alloc: Global, bytes: &[u8]) -> Result<Sequence<u8>, AllocError>
     ensures { IfOk result (λ s. s ≡ bytes.now) }

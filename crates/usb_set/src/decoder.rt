@@ -56,7 +56,7 @@ impl Decoder {
     ghost use Rattle.usb_set.specs.Decoding.{gathers};
     ghost use Rattle.usb_set.specs.Feeding.{Answers, Finishes, IsNothingNew};
 
-    /// A decoder that has taken no byte. Takes no memory.
+    /// A decoder that has taken no byte.
     pub fn new(alloc: Global) -> Decoder
         ensures { result ≡ gathers [] }
     {
@@ -98,7 +98,7 @@ impl Decoder {
         }
     }
 
-    /// The set, where it was read to its end. Takes no memory.
+    /// The set, where it was read to its end.
     ///
     /// # Errors
     ///

@@ -53,7 +53,7 @@ fn zeros(alloc: Global, count: usize) -> Result<Vec<u8>, AllocError>
     Ok(out)
 }
 
-/// Why [`encode`] refuses the set for another cause than memory, if it does. Takes no memory.
+/// Why [`encode`] refuses the set for another cause than memory, if it does.
 pub fn refusal(c: &Configuration) -> Option<EncodeFault>
     ensures { result ≡ refusal_of c.now }
 {

@@ -1,5 +1,4 @@
-//! One pass over a set, which judges its descriptors and counts their bytes. As one loop nest it is the quicker, so
-//! that its parts are inlined.
+//! One pass over a set, which judges its descriptors and counts their bytes.
 ghost use Rattle.std.specs.Prelude.{◌≡◌, ◌+◌, ◌≤◌, length, false, nat_lt};
 ghost use Rattle.std.specs.List.{flat_map, list_any};
 ghost use Rattle.usb_set.specs.Layout.{has_long_descriptor, has_typed_raw, is_typed_raw, set_bytes};
@@ -12,7 +11,7 @@ use crate::tree::{Configuration, Endpoint, Extra, Setting};
 /// One more than wTotalLength can say: what a set comes to that has no bytes.
 pub(crate) const TOO_LONG: usize = 65536;
 
-/// A part of a set that the pass goes over.
+/// A part of a set that the pass goes over. All parts are inlined, since one loop nest is the quicker.
 trait Measured {
     ghost use Rattle.std.specs.Prelude.{ℕ, Bool, List};
 

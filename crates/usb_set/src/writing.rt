@@ -1,5 +1,4 @@
-//! Each part of a set, written into a buffer that has room for it. As one loop nest it is the quicker, so that the
-//! parts are inlined.
+//! Each part of a set, written into a buffer that has room for it.
 ghost use Rattle.std.specs.Prelude.{◌≡◌, ◌≤◌, length, false};
 ghost use Rattle.std.specs.List.{flat_map, list_any};
 ghost use Rattle.usb_set.specs.Descriptors.{association_descriptor, configuration_descriptor, descriptor_bytes, endpoint_descriptor, interface_descriptor, raw_descriptor, type_number};
@@ -9,7 +8,7 @@ ghost use Rattle.usb_set.specs.inside.Writing.{HasRoom, Puts};
 
 use crate::tree::{Association, Configuration, Endpoint, Extra, Raw, SetKind, Setting};
 
-/// A part of a set that is written as bytes of its own.
+/// A part of a set that is written as bytes of its own. All parts are inlined, since one loop nest is the quicker.
 trait Written {
     ghost use Rattle.std.specs.Prelude.{ℕ, Bool, List};
 

@@ -103,7 +103,8 @@ struck t =
     then record { heard = Goes; transfer = record t { strikes = suc t.strikes } }
     else failed t NoAnswer
 
--- A NAK: one more than are borne ends the transfer. Strikes are neither counted nor cleared.
+-- A NAK of IN (8.4.6.1) or of OUT (8.4.6.3): one more than are borne ends the transfer. Strikes are neither counted nor
+-- cleared.
 abbrev pub delayed : TransferView → Taken
 delayed t =
     if nat_lt t.nak_count t.naks
@@ -119,7 +120,8 @@ data_stage directions.Out = DataOut
 abbrev pub stage_after_setup : SetupPacket → TransferStage
 stage_after_setup q = if q.length == 0 then StatusIn else data_stage (direction_of q.request_type)
 
--- the stage after a data packet of n bytes: a packet below the packet size and the last byte of wLength end the data stage
+-- the stage after a data packet of n bytes: a packet below the packet size and the last byte of wLength end the data
+-- stage (8.5.3.2)
 abbrev pub stage_after_data : TransferView → ℕ → TransferStage
 stage_after_data t n = if nat_lt n t.packet || (t.kept + n == t.request.length) then StatusOut else DataIn
 

@@ -1,5 +1,4 @@
-//! One control transfer, driven reply by reply (USB 2.0, 8.5.3). Behind a call, a reply and what it means would go
-//! through memory, so that the parts are inlined.
+//! One control transfer, driven reply by reply (USB 2.0, 8.5.3).
 ghost use Rattle.std.specs.Prelude.{IsSome, ◌≡◌, ◌<◌, ◌≤◌, ◌+◌, ◌^◌};
 ghost use Rattle.usb_fields.specs.Packet.{reply_of};
 ghost use Rattle.usb_transfer.specs.Transfer.{stage_after_setup};
@@ -60,7 +59,7 @@ impl Transfer {
     /// A transfer that begins with this setup packet.
     ///
     /// `packet` is the packet size of the device's endpoint zero, in bytes, and `naks` the number of NAKs without
-    /// progress after which one more ends the transfer.
+    /// progress after which one more ends the transfer. The packet size must be above 0.
     ///
     /// ```rust
     /// let transfer = Transfer::new(5, 64, 16, Setup::from_bytes(&[0x80, 6, 0, 1, 0, 0, 18, 0]));

@@ -1,0 +1,144 @@
+//! Three requests under every list of six fates, to a device with packets of 64 bytes and to one with packets of 8.
+use anyhow::{Context, Result};
+use std::alloc::{AllocError, Global};
+use usb_bus::{Fate, converse};
+use usb_device::Description;
+use usb_fields::{Setup, Speed};
+use usb_file::read_file;
+use usb_transfer::Why;
+
+/// A boot mouse with packets of 64 bytes.
+const FILE: [u8; 52] = [
+    0x12, 0x01, 0x10, 0x01, 0x00, 0x00, 0x00, 0x40, 0x34, 0x12, 0x78, 0x56, 0x00, 0x01, 0x00, 0x00,
+    0x00, 0x01, 0x09, 0x02, 0x22, 0x00, 0x01, 0x01, 0x00, 0xa0, 0x32, 0x09, 0x04, 0x00, 0x00, 0x01,
+    0x03, 0x01, 0x02, 0x00, 0x09, 0x21, 0x10, 0x01, 0x00, 0x01, 0x22, 0x34, 0x00, 0x07, 0x05, 0x81,
+    0x03, 0x04, 0x00, 0x0a,
+];
+
+/// Where bMaxPacketSize0 stands (USB 2.0, table 9-8).
+const PACKET_AT: usize = 7;
+
+/// SET_ADDRESS 5, GET_DESCRIPTOR of the device, SET_CONFIGURATION 1.
+const REQUESTS: [[u8; 8]; 3] = [
+    [0x00, 0x05, 0x05, 0x00, 0x00, 0x00, 0x00, 0x00],
+    [0x80, 0x06, 0x00, 0x01, 0x00, 0x00, 0x12, 0x00],
+    [0x00, 0x09, 0x01, 0x00, 0x00, 0x00, 0x00, 0x00],
+];
+
+const FATES: [Fate; 5] = [
+    Fate::Pass,
+    Fate::Busy,
+    Fate::LostDown,
+    Fate::LostUp,
+    Fate::LostAck,
+];
+
+/// The number of lists of six fates.
+const LISTS: u32 = 15625;
+
+/// The number of `Why::Busy`.
+const BUSY: u8 = 2;
+
+/// What came of all talks together.
+#[derive(Clone, Copy)]
+struct Totals {
+    ended: u128,
+    no_answer: u128,
+    busy: u128,
+    transactions: u128,
+    replies: u128,
+    addressed: u128,
+    configured: u128,
+}
+
+/// The totals of all lists of six fates, a line for each packet size and each limit of NAKs.
+pub fn totals_text(alloc: Global) -> Result<String> {
+    let mut text = String::new(alloc);
+    for packet in [64, 8] {
+        add_lines(alloc, packet, &mut text)?;
+    }
+    Ok(text)
+}
+
+/// Adds the lines of this packet size.
+fn add_lines(alloc: Global, packet: u8, text: &mut String) -> Result<()> {
+    let mut bytes = FILE;
+    bytes[PACKET_AT] = packet;
+    let file = read_file(alloc, &bytes).context("the descriptors of a mouse")?;
+    let description = Description::new(alloc, file, Speed::Full).context("a mouse")?;
+    for naks in [0, 2] {
+        let totals = totals_of(alloc, &description, naks)?;
+        text.push_str(line(alloc, packet, naks, totals)?.as_str())?;
+    }
+    Ok(())
+}
+
+fn line(alloc: Global, packet: u8, naks: u16, t: Totals) -> Result<String, AllocError> {
+    let ends = format!(in alloc;
+        "{} ended, {} with no answer, {} busy",
+        t.ended, t.no_answer, t.busy
+    )?;
+    let sums = format!(in alloc; "{} transactions, {} replies", t.transactions, t.replies)?;
+    let states = format!(in alloc; "{} at address 5, {} configured", t.addressed, t.configured)?;
+    format!(in alloc; "packets of {packet}, naks {naks}: {ends}, {sums}, {states}\n")
+}
+
+fn totals_of(alloc: Global, description: &Description, naks: u16) -> Result<Totals, AllocError> {
+    let mut totals = Totals {
+        ended: 0,
+        no_answer: 0,
+        busy: 0,
+        transactions: 0,
+        replies: 0,
+        addressed: 0,
+        configured: 0,
+    };
+    for number in 0..LISTS {
+        add_talk(alloc, description, naks, number, &mut totals)?;
+    }
+    Ok(totals)
+}
+
+/// Makes the requests under the list of fates that has this number, and counts what came of them.
+fn add_talk(
+    alloc: Global,
+    description: &Description,
+    naks: u16,
+    number: u32,
+    totals: &mut Totals,
+) -> Result<(), AllocError> {
+    let requests = [
+        Setup::from_bytes(&REQUESTS[0]),
+        Setup::from_bytes(&REQUESTS[1]),
+        Setup::from_bytes(&REQUESTS[2]),
+    ];
+    let fates = fates_of(number);
+    let talk = converse(alloc, description, naks, &requests, &fates)?;
+    match talk.stopped {
+        None => count(&mut totals.ended, 1),
+        Some(why) if why.number() == BUSY => count(&mut totals.busy, 1),
+        Some(_) => count(&mut totals.no_answer, 1),
+    }
+    count(&mut totals.transactions, talk.transactions);
+    count(&mut totals.replies, talk.replies.len() as u128);
+    count(&mut totals.addressed, u128::from(talk.state.address == 5));
+    count(&mut totals.configured, u128::from(talk.state.selected == 1));
+    Ok(())
+}
+
+fn count(sum: &mut u128, more: u128) {
+    *sum = sum.saturating_add(more);
+}
+
+/// The list of fates that has this number: its digits to base five.
+fn fates_of(number: u32) -> [Fate; 6] {
+    let digit = |place: u32| FATES[(number / place % 5) as usize];
+    [
+        digit(1),
+        digit(5),
+        digit(25),
+        digit(125),
+        digit(625),
+        digit(3125),
+    ]
+}
