@@ -2,3 +2,4 @@ pub mod PlaceLemmas
 pub mod ImageLemmas
 pub mod AcceptedLemmas
 pub mod SetLemmas
+pub mod FitLemmas

@@ -1,5 +1,7 @@
 //! What a device tells of itself, ready to be sent.
 ghost use Rattle.std.specs.Prelude.{◌≡◌, ◌<◌, ◌*◌, ◌==◌, length, position, IfErr, IfOk, IfSome, MatchOption, OnOk, None};
+ghost use Rattle.usb_base.specs.Bytes.{AreBytes};
+ghost use Rattle.usb_file_data.specs.File.{file_bytes};
 ghost use Rattle.usb_description.specs.Descriptors.{string_place};
 
 use crate::accepting::examine;
@@ -90,6 +92,15 @@ impl Description {
         ensures accepted { Accepted self.now.file self.now.speed }
     {
         &self.file
+    }
+
+    /// For the proofs of callers: the numbers of the descriptors fit their fields.
+    #[tactic(auto, using(crate::proofs::FitLemmas::file_fits))]
+    pub fn known(&self)
+        ensures { AreBytes (file_bytes self.now.file) }
+    {
+        let _file = &self.file;
+        self.image.known();
     }
 
     /// The speed that the device runs at.

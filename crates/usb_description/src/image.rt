@@ -1,8 +1,11 @@
 //! Byte strings one after another in one buffer.
 ghost use Rattle.std.specs.Prelude.{◌≡◌, ◌<◌, ◌++◌, ◌∷◌, [], length, slice_get, OnOk, Some};
+ghost use Rattle.std.specs.List.{AllByRecursion};
+ghost use Rattle.usb_base.specs.Bytes.{AreBytes};
 
 use std::alloc::{AllocError, Global};
 use std::marker::Model;
+use usb_base::known_bytes;
 
 /// Where a byte string stands.
 #[derive(Clone, Copy, Debug)]
@@ -69,5 +72,13 @@ impl Image {
     {
         let span = self.spans[place];
         &self.bytes[span.start..span.start + span.count]
+    }
+
+    /// For the proofs of callers: their elements are bytes.
+    #[tactic(auto, using(crate::proofs::ImageLemmas::pieces_fit))]
+    pub(crate) fn known(&self)
+        ensures { AllByRecursion AreBytes self.now }
+    {
+        known_bytes(&self.bytes);
     }
 }
