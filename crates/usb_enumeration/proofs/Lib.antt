@@ -1,0 +1,14 @@
+mod AcceptLemmas
+mod TextLemmas
+mod HeadLemmas
+mod OpenLemmas
+mod KeepLemmas
+mod CutLemmas
+mod FollowLemmas
+mod WalkLemmas
+mod ServeLemmas
+mod DescribeLemmas
+mod ReaderLemmas
+mod SeriesLemmas
+mod ImageLemmas
+mod RunLemmas

@@ -1,0 +1,7 @@
+pub mod Script
+pub mod Series
+pub mod Image
+pub mod Run
+pub mod Readers
+pub mod Laws
+pub mod inside

@@ -1,0 +1,4 @@
+//! The enumeration of a device over a bus that loses packets and handshakes.
+#![tactic(auto)]
+
+pub mod laws;
