@@ -12,3 +12,5 @@ mod ReaderLemmas
 mod SeriesLemmas
 mod ImageLemmas
 mod RunLemmas
+mod DueLemmas
+mod EnumerateLemmas

@@ -32,7 +32,7 @@ use Rattle.usb_host.specs.Steps.{HostPhase, ResetDue, Reading, Ended, HostView, 
 use Rattle.usb_enumeration.specs.Script.{configured_state}
 use Rattle.usb_enumeration.specs.Series.{Series, fresh, settle, series_step, series_run, Verdict}
 use Rattle.usb_enumeration.specs.Image.{plan_of, IsImage, StaysImage}
-use Rattle.usb_enumeration.specs.Run.{Pair, new_pair, IsReset, IsTransaction, Runs, EndsWell, GoesWell}
+use Rattle.usb_enumeration.specs.Run.{Pair, new_pair, IsReset, IsTransaction, Runs, EndsWell, GoesWell, KeepsLimits}
 
 -- one transaction more
 fates_used-more : (fates : List Fate) (n : ℕ) → fates_used fates (suc n) ≡ fates_used fates n ++ fate_at fates n ∷ []
@@ -55,7 +55,7 @@ is_due : (o : Option Sent) (sent : Sent) → sends o ≡ WantsSent sent → o �
 is_due None sent e = absurd (cc)
 is_due (Some other) sent e = cc
 
-reset_is : (v : HostView) → v.phase ≡ ResetDue → reset v ≡ record v { resets = suc v.resets; phase = enter v.limits First }
+pub reset_is : (v : HostView) → v.phase ≡ ResetDue → reset v ≡ record v { resets = suc v.resets; phase = enter v.limits First }
 reset_is v e = ap (λ p. reset_in v p) e
 
 module _ (set_of : List ℕ → Option Configuration) (limits : LimitView) (speed : Speed) where
@@ -84,8 +84,8 @@ module _ (set_of : List ℕ → Option Configuration) (limits : LimitView) (spee
     matches : Matches y.host.resets y.host.phase y.device x
 
   -- or memory was wanting
-  abbrev IsWanting : HostPhase → Type 0
-  IsWanting phase = (place : Place) × (phase ≡ Ended (stopped place Memory))
+  abbrev IsWanting : HostView → Type 0
+  IsWanting v = (place : Place) × (v.phase ≡ Ended (stopped place Memory)) × (v.limits ≡ limits) × (v.resets ≤ limits.attempts)
 
   -- an attempt that failed by the bus
   agains_match : (attempts : ℕ) (y : Attempt) (trouble : Trouble) (d : DeviceView) (small : Bool) → nat_lt attempts limits.attempts ≡ small →
@@ -196,7 +196,7 @@ module _ (set_of : List ℕ → Option Configuration) (limits : LimitView) (spee
     reading_matches : (fate : Fate) (x y : Pair) (s : Series) (sent : Sent) (p : HostPhase) → wanted p ≡ WantsSent sent → Follows x s → Matches x.host.resets p x.device s →
         TakesIn x.host p (carried (answer f) f.device.packet x.device sent fate).reply y.host →
         y.device ≡ (carried (answer f) f.device.packet x.device sent fate).device →
-        IsWanting y.host.phase ⊎ Follows y (stepped fate s)
+        IsWanting y.host ⊎ Follows y (stepped fate s)
     reading_matches fate x y s sent ResetDue asks m before takes device = absurd (cc)
     reading_matches fate x y s sent (Ended place) asks m before takes device = absurd (cc)
     reading_matches fate x y s sent (Reading place t k) asks m (few, attempts_are, image, device_is) (phase, heard, host_is) device =
@@ -209,7 +209,12 @@ module _ (set_of : List ℕ → Option Configuration) (limits : LimitView) (spee
         let phase_is : y.host.phase ≡ settled limits.attempts x.host.resets phase =
         ap (λ h. h.phase) host_is ∙ ap (λ l. settled l.attempts x.host.resets phase) m.limits_are in
         elim (attempt_matches fate a.replies a.phase a.device place t k sent phase image (is_due (due t) sent asks) heard_here) [
-          | inl wants ↦ inl (place, phase_is ∙ ap (λ z. settled limits.attempts x.host.resets z) wants)
+          | inl wants ↦ inl (
+            place,
+            phase_is ∙ ap (λ z. settled limits.attempts x.host.resets z) wants,
+            ap (λ h. h.limits) host_is ∙ m.limits_are,
+            subst (λ n. n ≤ limits.attempts) (sym (ap (λ h. h.resets) host_is)) few,
+          )
           | inr ok ↦
               let z = attempt_step plan limits.naks (answer f) f.device.packet fate a.replies a.phase a.device in
               let same_device : z.device ≡ y.device = ok.1 ∙ ap (λ d. (carried (answer f) f.device.packet d sent fate).device) device_is ∙ sym device in
@@ -225,15 +230,15 @@ module _ (set_of : List ℕ → Option Configuration) (limits : LimitView) (spee
               })
         ]
 
-    transaction_matches : (fate : Fate) (x y : Pair) (s : Series) → IsTransaction f fate x y → Follows x s → IsWanting y.host.phase ⊎ Follows y (stepped fate s)
+    transaction_matches : (fate : Fate) (x y : Pair) (s : Series) → IsTransaction f fate x y → Follows x s → IsWanting y.host ⊎ Follows y (stepped fate s)
     transaction_matches fate x y s t m = reading_matches fate x y s t.sent x.host.phase t.due m m.matches t.host t.device
 
     -- a host for which memory was wanting has ended
-    wants_no_reset : (p : HostPhase) → IsWanting p → wanted p ≡ WantsReset → ⊥
-    wants_no_reset p w e = absurd (let z = sym e ∙ ap wanted w.1 in cc)
+    wants_no_reset : (v : HostView) → IsWanting v → wanted v.phase ≡ WantsReset → ⊥
+    wants_no_reset v w e = absurd (let z = sym e ∙ ap wanted w.1 in cc)
 
-    sends_nothing : (p : HostPhase) (sent : Sent) → IsWanting p → wanted p ≡ WantsSent sent → ⊥
-    sends_nothing p sent w e = absurd (let z = sym e ∙ ap wanted w.1 in cc)
+    sends_nothing : (v : HostView) (sent : Sent) → IsWanting v → wanted v.phase ≡ WantsSent sent → ⊥
+    sends_nothing v sent w e = absurd (let z = sym e ∙ ap wanted w.1 in cc)
 
     series_more : (used : List Fate) (fate : Fate) (s : Series) →
         series_run plan limits.naks limits.attempts (answer f) f.device.packet (used ++ fate ∷ []) s
@@ -245,18 +250,18 @@ module _ (set_of : List ℕ → Option Configuration) (limits : LimitView) (spee
     after fates n = series_run plan limits.naks limits.attempts (answer f) f.device.packet (fates_used fates n) (begin 1)
 
     runs_match : (some : 0 < limits.attempts) (fates : List Fate) (earlier : List Pair) (n : ℕ) (last : Pair) → Runs f fates (new_pair limits speed) earlier n last →
-        IsWanting last.host.phase ⊎ Follows last (after fates n)
+        IsWanting last.host ⊎ Follows last (after fates n)
     runs_match some fates [] n last (e, none) =
         let new : Follows (new_pair limits speed) (begin 1) = record { limits_are = refl; speed_is = refl; matches = (some, refl) } in
         inr (subst (λ m. Follows last (after fates m)) (sym none) (subst (λ y. Follows y (begin 1)) (sym e) new))
     runs_match some fates (x ∷ earlier) n last (inl (r, more)) =
         elim (runs_match some fates earlier n x more) [
-          | inl wants ↦ absurd (wants_no_reset x.host.phase wants r.due)
+          | inl wants ↦ absurd (wants_no_reset x.host wants r.due)
           | inr m ↦ inr (resets_match x last (after fates n) r m)
         ]
     runs_match some fates (x ∷ earlier) n last (inr (m, count, t, more)) =
         elim (runs_match some fates earlier m x more) [
-          | inl wants ↦ absurd (sends_nothing x.host.phase t.sent wants t.due)
+          | inl wants ↦ absurd (sends_nothing x.host t.sent wants t.due)
           | inr ok ↦
               let same : stepped (fate_at fates m) (after fates m) ≡ after fates n =
               sym (series_more (fates_used fates m) (fate_at fates m) (begin 1))
@@ -302,3 +307,17 @@ module _ (set_of : List ℕ → Option Configuration) (limits : LimitView) (spee
           | inl wants ↦ subst (λ p. GoesWell f limits (fates_used fates n) last.host.resets last.device.state p) (sym wants.1) (inl refl)
           | inr m ↦ goes all reads (fates_used fates n) (after fates n) last.host.resets last.host.phase last.device m.matches v
         ]
+
+    pub run_keeps : (some : 0 < limits.attempts) (fates : List Fate) (earlier : List Pair) (n : ℕ) (last : Pair) →
+        Runs f fates (new_pair limits speed) earlier n last → KeepsLimits limits last.host
+    run_keeps some fates earlier n last r =
+        elim (runs_match some fates earlier n last r) [
+          | inl wants ↦ (wants.2, wants.3, λ e. absurd (let z = sym e ∙ wants.1 in cc))
+          | inr m ↦ by_phase last.host.resets last.host.phase last.device (after fates n) m.limits_are m.matches
+        ]
+      where
+        by_phase : (resets : ℕ) (phase : HostPhase) (d : DeviceView) (x : Series) → last.host.limits ≡ limits → Matches resets phase d x →
+            (last.host.limits ≡ limits) × (resets ≤ limits.attempts) × (phase ≡ ResetDue → resets < limits.attempts)
+        by_phase resets ResetDue d x e m = (let below = m.0 in (e, omega arith, λ i. below))
+        by_phase resets (Reading place t k) d x e m = (e, m.0, λ i. absurd (cc))
+        by_phase resets (Ended place) d x e m = (e, m.0, λ i. absurd (cc))

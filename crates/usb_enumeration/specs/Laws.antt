@@ -1,5 +1,5 @@
 -- What holds of an enumeration over a bus.
-use Rattle.std.specs.Prelude.{◌≡◌, ℕ, false, List, [], Option}
+use Rattle.std.specs.Prelude.{◌≡◌, ℕ, false, List, [], Option, ◌<◌}
 use Rattle.usb_base.specs.Bytes.{AreBytes}
 use Rattle.usb_fields.specs.declared.setup.Setup.{Setup as SetupPacket}
 use Rattle.usb_fields.specs.declared.speed.Speed.{Speed}
@@ -23,7 +23,7 @@ use Rattle.usb_enumeration.specs.Script.{replies_in, script, configured_state}
 use Rattle.usb_enumeration.specs.Series.{Verdict, fresh, series_run}
 use Rattle.usb_enumeration.specs.Image.{plan_of, StaysImage}
 use Rattle.usb_enumeration.specs.Readers.{ReadsSets}
-use Rattle.usb_enumeration.specs.Run.{Pair, new_pair, Runs, GoesWell}
+use Rattle.usb_enumeration.specs.Run.{Pair, new_pair, Runs, GoesWell, KeepsLimits}
 
 -- For any plan that a device answers as expected, with a reset before each attempt, over every list of fates.
 abbrev pub AttemptsHaveCauses : Type 0
@@ -64,6 +64,12 @@ RunsEndWell =
     Accepted f speed → AreBytes (file_bytes f) → IsInRange limits.address limits.attempts →
     Runs f fates (new_pair limits speed) earlier n last →
     GoesWell f limits (fates_used fates n) last.host.resets last.device.state last.host.phase
+
+-- And the host keeps its limits, and begins no attempt too many.
+abbrev pub RunsKeepLimits : Type 0
+RunsKeepLimits =
+    (limits : LimitView) (speed : Speed) (f : DescriptorFile) (fates : List Fate) (earlier : List Pair) (n : ℕ) (last : Pair) →
+    0 < limits.attempts → Runs f fates (new_pair limits speed) earlier n last → KeepsLimits limits last.host
 
 -- There is a reader of sets that the laws are about.
 abbrev pub SetsAreRead : Type 0

@@ -68,3 +68,7 @@ abbrev pub GoesWell : DescriptorFile → LimitView → List Fate → ℕ → Sta
 GoesWell f limits used attempts s ResetDue = Unit {0}
 GoesWell f limits used attempts s (Reading place transfer kept) = Unit {0}
 GoesWell f limits used attempts s (Ended place) = EndsWell f limits used attempts s place
+
+-- a host keeps its limits, and begins no attempt too many
+abbrev pub KeepsLimits : LimitView → HostView → Type 0
+KeepsLimits limits v = (v.limits ≡ limits) × (v.resets ≤ limits.attempts) × (v.phase ≡ ResetDue → v.resets < limits.attempts)

@@ -1,7 +1,7 @@
 //! What holds of an enumeration over a bus that loses packets and handshakes.
 //!
 //! The functions of these laws do nothing: what they say stands in their contracts.
-ghost use Rattle.usb_enumeration.specs.Laws.{AttemptsHaveCauses, EnumerationsHaveCauses, ReadsTheDescription, KeepsTheImage, RunsEndWell, SetsAreRead};
+ghost use Rattle.usb_enumeration.specs.Laws.{AttemptsHaveCauses, EnumerationsHaveCauses, ReadsTheDescription, KeepsTheImage, RunsEndWell, RunsKeepLimits, SetsAreRead};
 
 use usb_bus::laws::{a_device_keeps_its_table, an_attempt_has_causes};
 use usb_set::laws::{more_bytes, one_judgement, one_layout};
@@ -42,7 +42,8 @@ pub fn descriptions_are_read()
 
 /// Over every bus, a host and a device with a description end with a report of that description, or with a cause.
 pub fn a_run_ends_well()
-    ensures { RunsEndWell }
+    ensures ends { RunsEndWell }
+    ensures limits { RunsKeepLimits }
 {
     an_enumeration_reads_the_description();
     a_host_keeps_the_image();

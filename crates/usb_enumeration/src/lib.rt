@@ -2,3 +2,6 @@
 #![tactic(auto)]
 
 pub mod laws;
+mod run;
+
+pub use run::Run;
