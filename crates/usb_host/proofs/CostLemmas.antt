@@ -48,7 +48,7 @@ among_length xs = filtered_length (λ n. list_any (λ index. index == n) xs) 1 2
 pub named_few : (f : DescriptorFile) → length (named_indices f) ≤ 255
 named_few f = among_length (string_indices f)
 
-few_texts : (x y : ℕ) → x ≤ 126 → y ≤ 255 → x * y ≤ 126 * 255
+pub few_texts : (x y : ℕ) → x ≤ 126 → y ≤ 255 → x * y ≤ 126 * 255
 few_texts x y p q = grind (arith, mul-le-mul_left x q, mul-le-mul_left 255 p)
 
 -- in k at most, and good
@@ -56,17 +56,17 @@ abbrev pub Fits : ℕ → Place → Type 0
 Fits k place = IsGood place × (cost place ≤ k)
 
 stopped_fits : (k : ℕ) (place : Place) → Fits k (stopped place Malformed)
-stopped_fits k place = (refl, omega arith)
+stopped_fits k place = (tt, omega arith)
 
 if_fits : (k : ℕ) (b : Bool) (x y : Place) → (b ≡ true → Fits k x) → (b ≡ false → Fits k y) → Fits k (if b then x else y)
 if_fits k true x y p q = p refl
 if_fits k false x y p q = q refl
 
-texts_fit : (k : ℕ) (f : DescriptorFile) (s : Strings) (named : List ℕ) → 8 ≤ f.device.packet → (length s.languages * length named - length s.texts) * 34 + 3 ≤ k →
-    Fits k (texts_due f s named)
-texts_fit k f s named p e =
+texts_fit : (k : ℕ) (f : DescriptorFile) (s : Strings) (named : List ℕ) → 8 ≤ f.device.packet → length named ≤ 255 → length s.languages ≤ 126 →
+    (length s.languages * length named - length s.texts) * 34 + 3 ≤ k → Fits k (texts_due f s named)
+texts_fit k f s named p n l e =
     if_fits k (nat_lt (length s.texts) (length s.languages * length named)) _ _
-    (λ t. ((p, grind (arith, nat_tests)), e)) (λ t. (p, omega arith))
+    (λ t. ((p, grind (arith, nat_tests), n, l), e)) (λ t. (p, omega arith))
 
 strings_fit : (k : ℕ) (f : DescriptorFile) → 8 ≤ f.device.packet → strings_cost ≤ k → Fits k (strings_due f)
 strings_fit k f p s = if_fits k (length (named_indices f) == 0) _ _ (λ t. (p, omega arith)) (λ t. ((p, named_few f), s))
@@ -147,14 +147,14 @@ languages_fit k place f named b (Some []) e p n s = stopped_fits k place
 languages_fit k place f named b (Some (l ∷ ls)) e p n s =
     (let w = units_written b (l ∷ ls) e in
     let few = few_texts (length (l ∷ ls)) (length named) w.1 n in
-    texts_fit k f (record { languages = l ∷ ls; texts = [] }) named p (omega arith))
+    texts_fit k f (record { languages = l ∷ ls; texts = [] }) named p n w.1 (omega arith))
 
 text_fits : (k : ℕ) (place : Place) (f : DescriptorFile) (s : Strings) (named : List ℕ) (o : Option (List ℕ)) → 8 ≤ f.device.packet →
-    length s.texts < length s.languages * length named → (length s.languages * length named - length s.texts) * 34 + 3 ≤ k + 34 →
-    Fits k (text_leads place f s named o)
-text_fits k place f s named None p below e = stopped_fits k place
-text_fits k place f s named (Some u) p below e =
-    (let size = length-append s.texts (u ∷ []) in texts_fit k f (record s { texts = s.texts ++ u ∷ [] }) named p (omega arith))
+    length s.texts < length s.languages * length named → length named ≤ 255 → length s.languages ≤ 126 →
+    (length s.languages * length named - length s.texts) * 34 + 3 ≤ k + 34 → Fits k (text_leads place f s named o)
+text_fits k place f s named None p below n l e = stopped_fits k place
+text_fits k place f s named (Some u) p below n l e =
+    (let size = length-append s.texts (u ∷ []) in texts_fit k f (record s { texts = s.texts ++ u ∷ [] }) named p n l (omega arith))
 
 -- whatever a read brings takes its price at least
 pub bytes_fall : (speed : Speed) (place : Place) (b : List ℕ) → IsGood place → AreBytes b → Fits (cost place - price place) (bytes_lead speed place b)
@@ -172,17 +172,17 @@ bytes_fall speed (Header kind f) b g w =
 bytes_fall speed (SecondSpeed f) b g w = qualifier_fits speed (cost (SecondSpeed f) - 4) (SecondSpeed f) f b (qualifier_of b) w refl g (omega arith)
 bytes_fall speed (Languages f named) b g w = languages_fit (cost (Languages f named) - 34) (Languages f named) f named b (units_of b) refl g.0 g.1 (omega arith)
 bytes_fall speed (Text f s named) b g w =
-    (let below = g.1 in text_fits (cost (Text f s named) - 34) (Text f s named) f s named (units_of b) g.0 g.1 (omega arith))
-bytes_fall speed place b g w = (refl, omega arith)
+    (let below = g.1 in text_fits (cost (Text f s named) - 34) (Text f s named) f s named (units_of b) g.0 g.1 g.2 g.3 (omega arith))
+bytes_fall speed place b g w = (tt, omega arith)
 
 pub done_falls : (place : Place) → IsGood place → Fits (cost place - price place) (done_leads place)
 done_falls (Address first) g = (g, omega arith)
 done_falls (Configure f) g = (tt, omega arith)
-done_falls place g = (refl, omega arith)
+done_falls place g = (tt, omega arith)
 
 pub refused_falls : (place : Place) → IsGood place → Fits (cost place - price place) (refused_leads place)
 refused_falls (SecondSpeed f) g = strings_fit (cost (SecondSpeed f) - 4) f g (omega arith)
-refused_falls place g = (refl, omega arith)
+refused_falls place g = (tt, omega arith)
 
 -- what a read costs, by its plan
 abbrev pub Pays : Plan → ℕ → Type 0

@@ -1,6 +1,6 @@
 -- A host asks for fewer and fewer transactions.
 use Rattle.std.proofs.Common.{◌≡◌, ℕ, suc, ◌+◌, ◌-◌, ◌*◌, ◌/◌, ◌<◌, ◌≤◌, ◌==◌, Bool, true, false, ◌&&◌, if◌then◌else◌, nat_lt, List, [], ◌∷◌, ◌++◌, length, inl, inr, refl, ap, sym, ◌∙◌, arith, subst}
-use Rattle.std.specs.Prelude.{Result, Option}
+use Rattle.std.specs.Prelude.{Result}
 use Rattle.std.proofs.Math.Nat.{mul-le-mul_right}
 use Rattle.usb_base.specs.Bytes.{AreBytes}
 use Rattle.usb_fields.specs.declared.speed.Speed.{Speed}
@@ -11,7 +11,6 @@ use Rattle.usb_fields.specs.Packet.{Reply as Answer, NakReply, DataReply, NoRepl
 use Rattle.usb_set.specs.declared.fault.SetFault.{SetFault}
 use Rattle.usb_set.specs.declared.decoder.Progress.{Progress}
 use Rattle.usb_set.specs.Decoding.{Decoding}
-use Rattle.usb_transfer.specs.declared.why.Why.{Why}
 use Rattle.usb_transfer.specs.declared.why.Why.TheVariants.{NoAnswer, Busy, Stalled, TooLong, Unexpected, Malformed, Memory}
 use Rattle.usb_transfer.specs.declared.stage.TransferStage.{TransferStage}
 use Rattle.usb_transfer.specs.declared.stage.TransferStage.TheVariants.{Setup, DataIn, DataOut, StatusOut, StatusIn, Completed, Failed}
@@ -20,10 +19,10 @@ use Rattle.usb_transfer.specs.Transfer.{TransferView, Hearing, Goes, Brings, Com
 use Rattle.usb_transfer.specs.Bound.{left}
 use Rattle.usb_transfer.specs.Plan.{Plan, Begin, Success, Trouble}
 use Rattle.usb_host.specs.declared.place.Place.{Place}
-use Rattle.usb_host.specs.declared.place.Place.TheVariants.{First, Set, Reported, Stopped}
+use Rattle.usb_host.specs.declared.place.Place.TheVariants.{First, Set, Stopped}
 use Rattle.usb_host.specs.declared.kept.Kept.{Kept}
 use Rattle.usb_host.specs.declared.kept.Kept.TheVariants as kept
-use Rattle.usb_host.specs.Order.{asks, stopped, set_leads, bytes_lead, done_leads, refused_leads}
+use Rattle.usb_host.specs.Order.{asks, done_leads, refused_leads}
 use Rattle.usb_host.specs.Keeping.{nothing_kept, set_kept}
 use Rattle.usb_host.specs.Steps.{HostPhase, ResetDue, Reading, Ended, HostView, entered, enter, reset_in, reset, blames_bus, settled, read_leads, completed_leads, goes_on, KeepsHeard, TakesHeard, TakesIn, Takes}
 use Rattle.usb_host.specs.Cost.{cost, price, most_in_attempt, left_in_attempt, left_to_ask, IsGood, FitsPlace, KeepsBytes, IsSteady, BringsBytes}
@@ -83,7 +82,7 @@ hears_bytes t StatusIn NoReply w = if_bytes (nat_lt t.strikes 2) _ _ tt tt
 hears_bytes t _ _ w = tt
 
 -- what is kept stays steady
-kept_steady : (place : Place) (old new : Kept) (heard : Hearing) (result : Result Progress SetFault) → FitsPlace place old → KeepsBytes old → HearsBytes heard →
+pub kept_steady : (place : Place) (old new : Kept) (heard : Hearing) (result : Result Progress SetFault) → FitsPlace place old → KeepsBytes old → HearsBytes heard →
     KeepsHeard old heard result new → FitsPlace place new × KeepsBytes new
 kept_steady place old new Goes result fits bytes w e = (subst (λ x. FitsPlace place x) (sym e) fits, subst (λ x. KeepsBytes x) (sym e) bytes)
 kept_steady place old new Completes result fits bytes w e = (subst (λ x. FitsPlace place x) (sym e) fits, subst (λ x. KeepsBytes x) (sym e) bytes)
@@ -137,7 +136,7 @@ reads_low speed (Set kind f total) count (kept.Set d over) good fits are =
     set_fits speed (cost (Set kind f total) - 8194) (Set kind f total) kind f total count (set_kept d over) good.0 good.1 (omega arith)
 reads_low speed place count (kept.Set d over) good fits are = absurd (fits)
 
-completed_low : (speed : Speed) (place : Place) (t : TransferView) (k : Kept) → IsGood place → FitsPlace place k → KeepsBytes k →
+pub completed_low : (speed : Speed) (place : Place) (t : TransferView) (k : Kept) → IsGood place → FitsPlace place k → KeepsBytes k →
     Fits (cost place - price place) (completed_leads speed place t k)
 completed_low speed place t k good fits are = by_length (t.request.length == 0)
   where

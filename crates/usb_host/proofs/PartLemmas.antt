@@ -17,20 +17,19 @@ use Rattle.usb_set.specs.Descriptors.{type_number}
 use Rattle.usb_file_data.specs.declared.file.DescriptorFile.{DescriptorFile}
 use Rattle.usb_file_data.specs.declared.file.Other.{Other}
 use Rattle.usb_file_data.specs.declared.file.Strings.{Strings}
-use Rattle.usb_file_data.specs.File.{File, file_bytes, has_wrong_count, is_other_miscounted, are_wrong_strings, has_long_string, is_other_kind, is_long_string}
+use Rattle.usb_file_data.specs.File.{File, has_wrong_count, is_other_miscounted, are_wrong_strings, has_long_string, is_other_kind, is_long_string}
 use Rattle.usb_file_data.specs.Named.{named_indices}
-use Rattle.usb_file_data.specs.Front.{IsFront, AllSets, StringsFollow, other_with, with_set, with_qualifier, with_strings}
+use Rattle.usb_file_data.specs.Front.{AllSets, StringsFollow, other_with, with_set, with_qualifier, with_strings}
 use Rattle.usb_file_data.proofs.Lists.{list_any-push}
 use Rattle.usb_file_data.proofs.Fronts.{Grown, grow_main, grow_other, grow_qualifier, grow_languages, grow_string}
 use Rattle.usb_transfer.specs.declared.reply.Reply.{Reply}
 use Rattle.usb_transfer.specs.declared.reply.Reply.TheVariants.{Bytes, Done, Refused}
-use Rattle.usb_transfer.specs.declared.why.Why.TheVariants.{Malformed}
 use Rattle.usb_host.specs.declared.place.Place.{Place}
 use Rattle.usb_host.specs.declared.place.Place.TheVariants.{First, Address, Device, Header, Set, Qualifier as SecondSpeed, Languages, Text, Configure, Reported, Stopped}
 use Rattle.usb_host.specs.Read.{same_bytes, device_of, qualifier_of, units_of, is_first, may_have_second, total_in}
-use Rattle.usb_host.specs.Order.{is_first_zero, sets_of, declared_sets, stopped, texts_due, strings_due, after_sets, sets_due, device_leads, header_leads, set_leads, qualifier_leads, languages_lead, text_leads, bytes_lead, done_leads, refused_leads, next}
+use Rattle.usb_host.specs.Order.{is_first_zero, sets_of, declared_sets, texts_due, strings_due, after_sets, sets_due, device_leads, header_leads, set_leads, qualifier_leads, languages_lead, text_leads, bytes_lead, done_leads, refused_leads, next}
 use Rattle.usb_host.specs.Gathered.{part_of, parts_of, reached}
-use Rattle.usb_host.specs.inside.Sound.{IsRead, MainDone, InMain, InOther, InSets, SetsDone, InStrings, Holds}
+use Rattle.usb_host.specs.inside.Sound.{IsRead, MainDone, InSets, SetsDone, InStrings, Holds}
 use Rattle.usb_host.proofs.ReadLemmas.{device_written, qualifier_written, units_written}
 
 if_holds : (b : List ℕ) (t : Bool) (x y : Place) → (t ≡ true → Holds x b) → (t ≡ false → Holds y b) → Holds (if t then x else y) b

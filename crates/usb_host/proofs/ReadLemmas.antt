@@ -1,13 +1,18 @@
 -- What is written of a descriptor is read, and nothing else is.
-use Rattle.std.proofs.Common.{◌≡◌, ℕ, ◌+◌, ◌*◌, ◌/◌, ◌%◌, ◌≤◌, ◌<◌, ◌==◌, ◌&&◌, Bool, true, false, if◌then◌else◌, nat_lt, List, [], ◌∷◌, length, Option, Some, None, refl, ap, sym, ◌∙◌, arith, subst, slice_index, get_or, zero, suc, lit<}
+use Rattle.std.proofs.Common.{◌≡◌, ℕ, ◌+◌, ◌*◌, ◌/◌, ◌%◌, ◌≤◌, ◌<◌, Bool, true, false, if◌then◌else◌, nat_lt, List, [], ◌∷◌, length, Option, Some, None, refl, ap, sym, ◌∙◌, arith, subst, slice_index, get_or, zero, suc, lit<}
+use Rattle.std.specs.Prelude.{IsTrue, ◌↔◌}
 use Rattle.std.specs.List.{flat_map}
 use Rattle.std.proofs.lemmas.Bool.Decides.{nat_tests}
-use Rattle.usb_base.specs.Bytes.{AreBytes, little_endian, little_endian_at}
+use Rattle.usb_base.specs.Bytes.{AreBytes, little_endian}
 use Rattle.usb_fields.specs.declared.device.DeviceDescriptor.{DeviceDescriptor}
 use Rattle.usb_fields.specs.declared.qualifier.Qualifier.{Qualifier}
-use Rattle.usb_fields.specs.Device.{device_bytes}
-use Rattle.usb_fields.specs.Qualifier.{qualifier_bytes}
-use Rattle.usb_fields.specs.Units.{units_bytes}
+use Rattle.usb_fields.specs.declared.fault.FieldFault.{FieldFault}
+use Rattle.usb_fields.specs.declared.fault.UnitFault.{UnitFault}
+use Rattle.usb_fields.specs.Device.{device_bytes, device_fault}
+use Rattle.usb_fields.specs.Fault.{field_fault}
+use Rattle.usb_fields.specs.Qualifier.{qualifier_bytes, qualifier_fault}
+use Rattle.usb_fields.specs.declared.fault.UnitFault.TheVariants as units
+use Rattle.usb_fields.specs.Units.{units_bytes, unit_fault, ReadUnitsFails}
 use Rattle.usb_host.specs.Read.{same_bytes, if_written, device_fields, qualifier_fields, pairs, unit_fields, device_of, qualifier_of, units_of}
 
 pub same_is : (xs ys : List ℕ) → same_bytes xs ys ≡ true → xs ≡ ys
@@ -102,3 +107,70 @@ qualifier_narrow b q fits e =
     let small = byte_at b 8 fits in
     let at : get_or b 8 0 ≡ q.configurations = ap (λ x. get_or x 8 0) is in
     omega arith
+
+-- ---- what the readers of usb_fields answer
+
+pub device_is : (b : List ℕ) (d : DeviceDescriptor) → b ≡ device_bytes d → device_of b ≡ Some d
+device_is b d e = subst (λ x. device_of x ≡ Some d) (sym e) (device_read d)
+
+pub device_long : (b : List ℕ) (d : DeviceDescriptor) → b ≡ device_bytes d → length b ≡ 18
+device_long b d e = ap length e
+
+none_faulty : (size kind : ℕ) (b : List ℕ) (fault : FieldFault) → field_fault size kind b ≡ Some fault → length b ≡ size → slice_index b 0 ≡ size → slice_index b 1 ≡ kind → ⊥
+none_faulty size kind b fault e long first second = grind (arith, nat_tests)
+
+pub device_not : (b : List ℕ) (fault : FieldFault) → device_fault b ≡ Some fault → device_of b ≡ None
+device_not b fault e = by_read (device_of b) refl
+  where
+    by_read : (o : Option DeviceDescriptor) → device_of b ≡ o → device_of b ≡ None
+    by_read None r = r
+    by_read (Some d) r =
+        let is = device_written b d r in
+        absurd (none_faulty 18 1 b fault e (ap length is) (ap (λ x. slice_index x 0) is) (ap (λ x. slice_index x 1) is))
+
+pub qualifier_is : (b : List ℕ) (q : Qualifier) → b ≡ qualifier_bytes q → qualifier_of b ≡ Some q
+qualifier_is b q e = subst (λ x. qualifier_of x ≡ Some q) (sym e) (qualifier_read q)
+
+pub qualifier_not : (b : List ℕ) (fault : FieldFault) → qualifier_fault b ≡ Some fault → qualifier_of b ≡ None
+qualifier_not b fault e = by_read (qualifier_of b) refl
+  where
+    by_read : (o : Option Qualifier) → qualifier_of b ≡ o → qualifier_of b ≡ None
+    by_read None r = r
+    by_read (Some q) r =
+        let is = qualifier_written b q r in
+        absurd (none_faulty 10 6 b fault e (ap length is) (ap (λ x. slice_index x 0) is) (ap (λ x. slice_index x 1) is))
+
+pub units_are : (b u : List ℕ) → b ≡ units_bytes u → length u ≤ 126 → units_of b ≡ Some u
+units_are b u e few = subst (λ x. units_of x ≡ Some u) (sym e) (units_read u few)
+
+length-pairs : (u : List ℕ) → length (flat_map little_endian u) ≡ 2 * length u
+length-pairs [] = refl
+length-pairs (n ∷ u) = (let rest = length-pairs u in omega arith)
+
+no_fault : (u : List ℕ) → unit_fault (units_bytes u) ≡ None
+no_fault u = (let long = length-pairs u in grind (arith, nat_tests))
+
+pub units_not : (b : List ℕ) (fault : UnitFault) → unit_fault b ≡ Some fault → units_of b ≡ None
+units_not b fault e = by_read (units_of b) refl
+  where
+    by_read : (o : Option (List ℕ)) → units_of b ≡ o → units_of b ≡ None
+    by_read None r = r
+    by_read (Some u) r =
+        let none : unit_fault b ≡ None = subst (λ x. unit_fault x ≡ None) (sym (units_written b u r).0) (no_fault u) in
+        absurd (cc)
+
+pub units_refused : (b : List ℕ) (fault : UnitFault) → ReadUnitsFails b fault → (fault ≡ units.Memory → ⊥) → units_of b ≡ None
+units_refused b units.Memory fails not_so = absurd (not_so refl)
+units_refused b units.Length fails not_so = units_not b units.Length fails
+units_refused b units.Kind fails not_so = units_not b units.Kind fails
+units_refused b units.Odd fails not_so = units_not b units.Odd fails
+units_refused b units.TooLong fails not_so = units_not b units.TooLong fails
+
+-- a comparison of slices
+pub same_or_not : (xs ys : List ℕ) (t : Bool) → (IsTrue t ↔ (xs ≡ ys)) → t ≡ same_bytes xs ys
+same_or_not xs ys true e = (let is : xs ≡ ys = e.0 refl in sym (subst (λ z. same_bytes xs z ≡ true) is (same_self xs)))
+same_or_not xs ys false e = by_test (same_bytes xs ys) refl
+  where
+    by_test : (t : Bool) → same_bytes xs ys ≡ t → false ≡ same_bytes xs ys
+    by_test false s = sym s
+    by_test true s = (let not_so : IsTrue false = e.1 (same_is xs ys s) in absurd (cc))

@@ -1,5 +1,5 @@
 -- How many transactions a host asks for, whatever is answered.
-use Rattle.std.specs.Prelude.{◌≡◌, ℕ, suc, ◌+◌, ◌-◌, ◌*◌, ◌<◌, ◌≤◌, false, List, length, slice_index}
+use Rattle.std.specs.Prelude.{ℕ, suc, ◌+◌, ◌-◌, ◌*◌, ◌<◌, ◌≤◌, length, slice_index}
 use Rattle.usb_base.specs.Bytes.{AreBytes}
 use Rattle.usb_fields.specs.Packet.{Reply, DataReply}
 use Rattle.usb_set.specs.declared.tree.SetKind.{SetKind}
@@ -11,7 +11,7 @@ use Rattle.usb_host.specs.declared.place.Place.TheVariants.{First, Address, Devi
 use Rattle.usb_host.specs.declared.kept.Kept.{Kept}
 use Rattle.usb_host.specs.declared.kept.Kept.TheVariants as kept
 use Rattle.usb_host.specs.Order.{sets_of, declared_sets}
-use Rattle.usb_host.specs.Steps.{HostPhase, ResetDue, Reading, Ended, HostView, blames_bus}
+use Rattle.usb_host.specs.Steps.{HostPhase, ResetDue, Reading, Ended, HostView}
 
 -- The most steps of progress that reads can take, at packets of 8 bytes: wLength / 8 + 3 each. From the language list
 -- on these are it, 126 times 255 strings, and the configuration.
@@ -83,10 +83,11 @@ IsGood (Header kind f) = (8 ≤ f.device.packet) × (length (sets_of kind f) < d
 IsGood (Set kind f total) = (8 ≤ f.device.packet) × (length (sets_of kind f) < declared_sets kind f) × (total < 65536)
 IsGood (Qualifier f) = 8 ≤ f.device.packet
 IsGood (Languages f named) = (8 ≤ f.device.packet) × (length named ≤ 255)
-IsGood (Text f s named) = (8 ≤ f.device.packet) × (length s.texts < length s.languages * length named)
+IsGood (Text f s named) =
+    (8 ≤ f.device.packet) × (length s.texts < length s.languages * length named) × (length named ≤ 255) × (length s.languages ≤ 126)
 IsGood (Configure f) = 8 ≤ f.device.packet
 IsGood (Reported f) = Unit {0}
-IsGood (Stopped trouble) = blames_bus trouble.why ≡ false
+IsGood (Stopped trouble) = Unit {0}
 
 -- a set is being decoded, and the bytes of any other read are kept
 abbrev pub FitsPlace : Place → Kept → Type 0

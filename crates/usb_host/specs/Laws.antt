@@ -14,7 +14,7 @@ use Rattle.usb_transfer.specs.Bound.{left}
 use Rattle.usb_host.specs.declared.place.Place.{Place}
 use Rattle.usb_host.specs.declared.place.Place.TheVariants.{First, Reported}
 use Rattle.usb_host.specs.declared.kept.Kept.{Kept}
-use Rattle.usb_host.specs.Steps.{HostPhase, ResetDue, Reading, HostView, new_host, reset, Takes}
+use Rattle.usb_host.specs.Steps.{ResetDue, Reading, HostView, new_host, reset, Takes}
 use Rattle.usb_host.specs.Gathered.{reached, parts_of}
 use Rattle.usb_host.specs.Cost.{most, left_to_ask, BringsBytes, IsSteady}
 

@@ -1,6 +1,10 @@
 //! What a host keeps of a read.
+ghost use Rattle.std.specs.Prelude.{◌≡◌, ◌+◌, ◌≤◌, length};
+
 use crate::kept_bytes::KeptBytes;
-use usb_set::Decoder;
+use crate::place::Place;
+use std::alloc::Global;
+use usb_set::{Decoder, Progress, SetWhy};
 
 /// What is kept of the bytes of the read in work.
 #[derive(Debug, Drop)]
@@ -9,4 +13,47 @@ pub enum Kept {
     Bytes { bytes: KeptBytes },
     /// Of a set its decoder, and whether bytes came behind the set's last.
     Set { decoder: Decoder, over: bool },
+}
+
+impl Kept {
+    ghost use Rattle.usb_host.specs.Keeping.{nothing_kept};
+    ghost use Rattle.usb_host.specs.inside.Leading.{Adds, HasRoom};
+
+    /// What a read begins with at a place.
+    pub fn nothing(alloc: Global, place: &Place) -> Kept
+        ensures { result ≡ nothing_kept place.now }
+    {
+        match place {
+            Place::Set { .. } => Kept::Set {
+                decoder: Decoder::new(alloc),
+                over: false,
+            },
+            _ => Kept::Bytes {
+                bytes: KeptBytes::new(),
+            },
+        }
+    }
+
+    /// Keeps new bytes: those of a set go to its decoder as they came. A fault of the set waits for the end of the
+    /// read. Whether memory was wanting.
+    #[inline(always)]
+    pub fn add(&mut self, piece: &[u8]) -> bool
+        requires { HasRoom self.old (length piece.now) }
+        ensures { Adds self.old piece.now result self.new }
+    {
+        match self {
+            Kept::Bytes { bytes } => {
+                bytes.add(piece);
+                false
+            }
+            Kept::Set { decoder, over } => match decoder.feed(piece) {
+                Ok(Progress::More) => false,
+                Ok(Progress::Done { used }) => {
+                    *over = *over || used < piece.len();
+                    false
+                }
+                Err(fault) => fault.why == SetWhy::Memory,
+            },
+        }
+    }
 }

@@ -1,8 +1,30 @@
 //! Where an enumeration stands.
-use crate::step::Trouble;
+ghost use Rattle.std.specs.Prelude.{◌≡◌, ◌<◌, ◌*◌, IfSome, length};
+ghost use Rattle.usb_host.specs.Order.{declared_sets, header_step as step_of_header, index_due as index_after, language_due as language_after, set_step as step_of_set, sets_of};
+
+use crate::request::{Request, addressing, configuring, getting};
+use crate::sets::{count_declared, count_sets, type_of, value_of_first};
+use crate::step::{Step, Trouble};
 use usb_base::Sequence;
+use usb_fields::Setup;
 use usb_file_data::{DescriptorFile, Strings};
 use usb_set::SetKind;
+use usb_transfer::Why;
+
+/// bDescriptorType of a device (table 9-5).
+const DEVICE: u8 = 1;
+
+/// bDescriptorType of a string (table 9-5).
+const STRING: u8 = 3;
+
+/// bDescriptorType of a device qualifier (table 9-5).
+const QUALIFIER: u8 = 6;
+
+/// The packet size of endpoint zero while it is not known: every device can take packets of 8 bytes (5.5.3).
+const LEAST_PACKET: u8 = 8;
+
+/// The most bytes that a string descriptor can have.
+const LONGEST_STRING: u16 = 255;
 
 /// What is read next, with the file as far as it is read, or the end.
 #[derive(Debug, Drop)]
@@ -55,4 +77,184 @@ pub enum Place {
     Stopped {
         trouble: Trouble,
     },
+}
+
+impl Place {
+    ghost use Rattle.usb_host.specs.Cost.{IsGood};
+    ghost use Rattle.usb_host.specs.Order.{asks, step_of, stopped};
+    ghost use Rattle.usb_host.specs.inside.Leading.{is_bus_trouble as is_bus_trouble_at, is_end as is_end_at, requested};
+
+    /// Whether the enumeration has ended.
+    #[inline(always)]
+    pub fn is_end(&self) -> bool
+        ensures { result ≡ is_end_at self.now }
+    {
+        match self {
+            Place::Reported { .. } | Place::Stopped { .. } => true,
+            _ => false,
+        }
+    }
+
+    /// Whether the enumeration has ended by trouble for which the bus is to blame.
+    #[inline(always)]
+    pub fn is_bus_trouble(&self) -> bool
+        ensures { result ≡ is_bus_trouble_at self.now }
+    {
+        match self {
+            Place::Stopped { trouble } => match trouble.why {
+                Why::NoAnswer | Why::Busy => true,
+                Why::Stalled | Why::TooLong | Why::Unexpected | Why::Malformed | Why::Memory =>
+                    false,
+            },
+            _ => false,
+        }
+    }
+
+    /// The step that is in work.
+    pub fn step(&self) -> Step
+        requires { IsGood self.now }
+        ensures { result ≡ step_of self.now }
+    {
+        match self {
+            Place::First => Step::First,
+            Place::Address { .. } => Step::Address,
+            Place::Device { .. } => Step::Device,
+            Place::Header { kind, file } => header_step(*kind, index_of(*kind, file)),
+            Place::Set { kind, file, .. } => set_step(*kind, index_of(*kind, file)),
+            Place::Qualifier { .. } => Step::Qualifier,
+            Place::Languages { .. } => Step::Languages,
+            Place::Text { strings, named, .. } => Step::Text {
+                language: language_due(strings, named),
+                index: index_due(strings, named),
+            },
+            Place::Configure { .. } | Place::Reported { .. } => Step::Configure,
+            Place::Stopped { trouble } => trouble.step,
+        }
+    }
+
+    /// The end here, for a reason.
+    pub fn stop(&self, why: Why) -> Place
+        requires { IsGood self.now }
+        ensures { result ≡ stopped self.now why }
+    {
+        Place::Stopped {
+            trouble: Trouble {
+                step: self.step(),
+                why,
+            },
+        }
+    }
+
+    /// The transfer that is due, where the device gets this address; after the end there is none.
+    pub fn request(&self, address: u8) -> Option<Request>
+        requires { IsGood self.now }
+        ensures value { result ≡ requested (asks address self.now) }
+        ensures packet { IfSome result (λ r. 0 < r.packet) }
+    {
+        let request = match self {
+            Place::First => Request {
+                address: 0,
+                packet: LEAST_PACKET,
+                setup: getting(DEVICE, 0, 0, 8),
+            },
+            Place::Address { first } => Request {
+                address: 0,
+                packet: first[7],
+                setup: addressing(address),
+            },
+            Place::Device { first } => Request {
+                address,
+                packet: first[7],
+                setup: getting(DEVICE, 0, 0, 18),
+            },
+            Place::Header { kind, file } => {
+                let setup = getting(type_of(*kind), index_of(*kind, file), 0, 9);
+                request_to(file, address, setup)
+            }
+            Place::Set { kind, file, total } => {
+                let setup = getting(type_of(*kind), index_of(*kind, file), 0, *total);
+                request_to(file, address, setup)
+            }
+            Place::Qualifier { file } => request_to(file, address, getting(QUALIFIER, 0, 0, 10)),
+            Place::Languages { file, .. } => {
+                request_to(file, address, getting(STRING, 0, 0, LONGEST_STRING))
+            }
+            Place::Text {
+                file,
+                strings,
+                named,
+            } => {
+                let index = index_due(strings, named);
+                let language = language_due(strings, named);
+                request_to(
+                    file,
+                    address,
+                    getting(STRING, index, language, LONGEST_STRING),
+                )
+            }
+            Place::Configure { file } => {
+                request_to(file, address, configuring(value_of_first(&file.sets)))
+            }
+            Place::Reported { .. } | Place::Stopped { .. } => return None,
+        };
+        Some(request)
+    }
+}
+
+/// A request to a device whose device descriptor was read.
+fn request_to(file: &DescriptorFile, address: u8, setup: Setup) -> Request
+    ensures { result ≡ record { address = address; packet = file.now.device.packet; setup = setup } }
+{
+    Request {
+        address,
+        packet: file.device.packet,
+        setup,
+    }
+}
+
+/// The index of the next set of this kind, of those that the device declares.
+fn index_of(kind: SetKind, file: &DescriptorFile) -> u8
+    requires { length (sets_of kind file.now) < declared_sets kind file.now }
+    ensures { result ≡ length (sets_of kind file.now) }
+{
+    let _declared = count_declared(kind, file);
+    count_sets(kind, file) as u8
+}
+
+/// The index of the next string, of those that are due.
+#[tactic(auto, using(crate::proofs::PlaceLemmas::column_below))]
+fn index_due(strings: &Strings, named: &[u8]) -> u8
+    requires { length strings.now.texts < length strings.now.languages * length named.now }
+    ensures { result ≡ index_after named.now (length strings.now.texts) }
+{
+    named[strings.texts.len() % named.len()]
+}
+
+/// The language of the next string, of those that are due.
+#[tactic(auto, using(crate::proofs::PlaceLemmas::row_below))]
+fn language_due(strings: &Strings, named: &[u8]) -> u16
+    requires { length strings.now.texts < length strings.now.languages * length named.now }
+    ensures { result ≡ language_after strings.now.languages named.now (length strings.now.texts) }
+{
+    strings.languages[strings.texts.len() / named.len()]
+}
+
+/// The step of the front of a set.
+fn header_step(kind: SetKind, index: u8) -> Step
+    ensures { result ≡ step_of_header kind index }
+{
+    match kind {
+        SetKind::Configuration => Step::Header(index),
+        SetKind::OtherSpeed => Step::OtherHeader(index),
+    }
+}
+
+/// The step of a set.
+fn set_step(kind: SetKind, index: u8) -> Step
+    ensures { result ≡ step_of_set kind index }
+{
+    match kind {
+        SetKind::Configuration => Step::Set(index),
+        SetKind::OtherSpeed => Step::OtherSet(index),
+    }
 }

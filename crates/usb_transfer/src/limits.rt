@@ -1,5 +1,5 @@
 //! What a host bears.
-ghost use Rattle.std.specs.Prelude.{◌≡◌, IfOk, IfErr, OnOk, Some, None};
+ghost use Rattle.std.specs.Prelude.{◌≡◌, ◌<◌, IfOk, IfErr, OnOk, Some, None};
 
 use std::marker::Model;
 use std::{error, fmt};
@@ -31,7 +31,7 @@ impl Model for Limits {
 }
 
 impl Limits {
-    ghost use Rattle.usb_transfer.specs.Limits.{limit_fault};
+    ghost use Rattle.usb_transfer.specs.Limits.{IsInRange, limit_fault};
 
     /// Limits with the address that the device gets, the number of NAKs without progress that a transfer bears, and
     /// the number of attempts.
@@ -61,6 +61,36 @@ impl Limits {
             naks,
             attempts,
         })
+    }
+
+    /// For the proofs of callers: address and attempts are in their ranges.
+    pub fn known(&self)
+        ensures range { IsInRange self.now.address self.now.attempts }
+        ensures naks { self.now.naks < 65536 }
+    {
+        let _attempts = self.attempts;
+    }
+
+    /// The address that the device gets, 1 to 127.
+    pub fn address(&self) -> u8
+        ensures { result ≡ self.now.address }
+    {
+        self.address
+    }
+
+    /// The number of NAKs without progress that a transfer bears.
+    pub fn naks(&self) -> u16
+        ensures { result ≡ self.now.naks }
+    {
+        self.naks
+    }
+
+    /// The number of attempts, 1 to 8.
+    pub fn attempts(&self) -> u8
+        ensures value { result ≡ self.now.attempts }
+        ensures some { 0 < result }
+    {
+        self.attempts
     }
 }
 

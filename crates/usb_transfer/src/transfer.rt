@@ -106,6 +106,18 @@ impl Transfer {
         })
     }
 
+    /// The setup packet with which it began.
+    ///
+    /// ```rust
+    /// assert_eq!(rt; transfer.request().length, 18);
+    /// ```
+    #[inline(always)]
+    pub fn request(&self) -> Setup
+        ensures { result ≡ self.now.request }
+    {
+        self.request
+    }
+
     /// How many bytes of the data stage were kept so far, at most wLength.
     ///
     /// ```rust

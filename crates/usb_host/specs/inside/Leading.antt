@@ -1,0 +1,70 @@
+-- Where a read leads to, as a function tells it.
+use Rattle.std.specs.Prelude.{◌≡◌, ◌+◌, ◌≤◌, true, false, Bool, List, length, ℕ, Option, Some, None, Result, Ok, Err, ◌⊎◌}
+use Rattle.std.specs.declared.alloc.AllocError.{AllocError}
+use Rattle.usb_set.specs.declared.fault.SetFault.{SetFault}
+use Rattle.usb_set.specs.declared.decoder.Progress.{Progress}
+use Rattle.usb_transfer.specs.declared.why.Why.{Why}
+use Rattle.usb_transfer.specs.declared.why.Why.TheVariants.{Memory}
+use Rattle.usb_transfer.specs.Plan.{Plan, Begin}
+use Rattle.usb_host.specs.declared.kept.Kept.{Kept}
+use Rattle.usb_host.specs.declared.kept.Kept.TheVariants as kept
+use Rattle.usb_host.specs.declared.place.Place.{Place}
+use Rattle.usb_host.specs.declared.place.Place.TheVariants.{Device, Header, Qualifier as SecondSpeed, Languages, Text, Reported, Stopped}
+use Rattle.usb_host.specs.declared.request.Request.{Request}
+use Rattle.usb_host.specs.declared.step.Step.{Step}
+use Rattle.usb_host.specs.Order.{stopped}
+use Rattle.usb_host.specs.Keeping.{WantsMemory, Keeps}
+use Rattle.usb_host.specs.Steps.{blames_bus}
+
+-- the next place, or why the read of this one is refused; or memory was wanting
+abbrev pub LeadsTo : Place → Place → Result Place Why → Type 0
+LeadsTo here target (Ok place) = place ≡ target
+LeadsTo here target (Err why) = (why ≡ Memory) ⊎ (target ≡ stopped here why)
+
+-- whether an enumeration has ended at a place
+abbrev pub is_end : Place → Bool
+is_end (Reported f) = true
+is_end (Stopped trouble) = true
+is_end place = false
+
+-- the transfer of a plan, where there is one
+abbrev pub requested : Plan → Option Request
+requested (Begin address packet q) = Some (record { address = address; packet = packet; setup = q })
+requested plan = None
+
+-- new bytes were kept, or memory was wanting
+abbrev pub Adds : Kept → List ℕ → Bool → Kept → Type 0
+Adds old piece wants new = (result : Result Progress SetFault) × Keeps old piece result new × Tells wants result
+  where
+    Tells : Bool → Result Progress SetFault → Type 0
+    Tells true result = WantsMemory result
+    Tells false result = WantsMemory result → ⊥
+
+-- a read of bytes that are kept has at most 255 of them
+abbrev pub HasRoom : Kept → ℕ → Type 0
+HasRoom (kept.Bytes bytes) count = length bytes + count ≤ 255
+HasRoom (kept.Set d over) count = Unit {0}
+
+-- a place, or that memory was wanting
+abbrev pub OrMemory : Result Place AllocError → Result Place Why → Type 0
+OrMemory (Ok place) new = new ≡ Ok place
+OrMemory (Err e) new = new ≡ Err Memory
+
+-- the place, or the end at this step
+abbrev pub Settles : Step → Result Place Why → Place → Type 0
+Settles step (Ok place) new = new ≡ place
+Settles step (Err why) new = new ≡ Stopped (record { step = step; why = why })
+
+-- a place whose bytes are read with no decoder and no memory: the first one, or one that reads none
+abbrev pub IsShort : Place → Type 0
+IsShort (Device first) = ⊥
+IsShort (Header kind f) = ⊥
+IsShort (SecondSpeed f) = ⊥
+IsShort (Languages f named) = ⊥
+IsShort (Text f s named) = ⊥
+IsShort place = Unit {0}
+
+-- whether an enumeration has ended by trouble for which the bus is to blame
+abbrev pub is_bus_trouble : Place → Bool
+is_bus_trouble (Stopped trouble) = blames_bus trouble.why
+is_bus_trouble place = false

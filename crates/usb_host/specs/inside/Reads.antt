@@ -1,0 +1,69 @@
+-- A read in work, as the code holds it.
+use Rattle.std.specs.Prelude.{◌≡◌, ◌≤◌, false, if◌then◌else◌, length, Option, Some, None, Result}
+use Rattle.usb_set.specs.declared.fault.SetFault.{SetFault}
+use Rattle.usb_set.specs.declared.decoder.Progress.{Progress}
+use Rattle.usb_fields.specs.declared.speed.Speed.{Speed}
+use Rattle.usb_transfer.specs.declared.why.Why.TheVariants.{Stalled, Memory}
+use Rattle.usb_transfer.specs.declared.stage.TransferStage.{TransferStage}
+use Rattle.usb_transfer.specs.declared.stage.TransferStage.TheVariants as stages
+use Rattle.usb_transfer.specs.Transfer.{TransferView, Hearing, Goes, Brings, Completes, Fails, Taken}
+use Rattle.usb_host.specs.declared.place.Place.{Place}
+use Rattle.usb_host.specs.declared.kept.Kept.{Kept}
+use Rattle.usb_host.specs.declared.kept.Kept.TheVariants as kept
+use Rattle.usb_host.specs.declared.reading.Ending.{Ending}
+use Rattle.usb_host.specs.declared.reading.Ending.TheVariants as endings
+use Rattle.usb_host.specs.Order.{stopped, refused_leads}
+use Rattle.usb_host.specs.Keeping.{WantsMemory}
+use Rattle.usb_host.specs.Steps.{HostPhase, ResetDue, Reading, Ended, KeepsHeard, completed_leads}
+use Rattle.usb_host.specs.Cost.{IsGood, FitsPlace, KeepsBytes}
+use Rattle.usb_host.specs.inside.Leading.{is_end}
+
+-- a transfer that goes on
+abbrev pub IsGoing : TransferStage → Type 0
+IsGoing stages.Completed = ⊥
+IsGoing (stages.Failed why) = ⊥
+IsGoing stage = Unit {0}
+
+-- what is kept has the count that the transfer has, and room for what is left
+abbrev pub IsCounted : TransferView → Kept → Type 0
+IsCounted t (kept.Bytes bytes) = (t.kept ≡ length bytes) × (t.request.length ≤ 255)
+IsCounted t (kept.Set d over) = Unit {0}
+
+-- what holds of a read in work
+pub record IsReading (place : Place) (t : TransferView) (k : Kept) : Type 0 where
+  pub good : IsGood place
+  pub is_read : is_end place ≡ false
+  pub fits : FitsPlace place k
+  pub bytes : KeepsBytes k
+  pub going : IsGoing t.stage
+  pub counted : IsCounted t k
+
+-- how a read ends, by what was heard and what a decoder answered
+abbrev pub EndsBy : Hearing → Result Progress SetFault → Option Ending → Type 0
+EndsBy Goes result None = WantsMemory result → ⊥
+EndsBy (Brings bytes) result None = WantsMemory result → ⊥
+EndsBy (Brings bytes) result (Some (endings.Failed why)) = (why ≡ Memory) × WantsMemory result
+EndsBy Completes result (Some endings.Completed) = WantsMemory result → ⊥
+EndsBy (Fails why) result (Some (endings.Failed w)) = (w ≡ why) × (WantsMemory result → ⊥)
+EndsBy heard result ending = ⊥
+
+-- an answer is heard: what is kept changes, and the read goes on or ends
+abbrev pub Hears : Kept → Taken → TransferView → Kept → Option Ending → Type 0
+Hears old by transfer new ending =
+    (transfer ≡ by.transfer) × ((result : Result Progress SetFault) × KeepsHeard old by.heard result new × EndsBy by.heard result ending)
+
+-- where a read leads to that has ended
+abbrev pub ended_leads : Speed → Place → TransferView → Kept → Ending → Place
+ended_leads speed place t k endings.Completed = completed_leads speed place t k
+ended_leads speed place t k (endings.Failed Stalled) = refused_leads place
+ended_leads speed place t k (endings.Failed why) = stopped place why
+
+-- a place with its read, or the end there
+abbrev pub standing : Place → TransferView → Kept → HostPhase
+standing place t k = if is_end place then Ended place else Reading place t k
+
+-- what holds of a host's phase: of a read in work this
+abbrev pub IsStanding : HostPhase → Type 0
+IsStanding ResetDue = Unit {0}
+IsStanding (Reading place t k) = IsReading place t k
+IsStanding (Ended place) = Unit {0}

@@ -1,0 +1,85 @@
+//! The sets of a file in the making.
+ghost use Rattle.std.specs.Prelude.{◌≡◌, ◌<◌, IfOk, length};
+ghost use Rattle.usb_set.specs.Descriptors.{type_number};
+ghost use Rattle.usb_file_data.specs.Front.{with_set};
+ghost use Rattle.usb_host.specs.Order.{declared_sets, first_value, sets_of, is_first_zero as cannot_be_selected};
+
+use usb_file_data::{DescriptorFile, NoMemory};
+use usb_set::{Configuration, SetKind};
+
+/// The descriptor type of a set of this kind (table 9-5).
+pub fn type_of(kind: SetKind) -> u8
+    ensures { result ≡ type_number kind }
+{
+    match kind {
+        SetKind::Configuration => 2,
+        SetKind::OtherSpeed => 7,
+    }
+}
+
+/// How many sets of this kind are there so far.
+pub fn count_sets(kind: SetKind, file: &DescriptorFile) -> usize
+    ensures { result ≡ length (sets_of kind file.now) }
+{
+    match kind {
+        SetKind::Configuration => file.sets.len(),
+        SetKind::OtherSpeed => match &file.other {
+            Some(other) => other.sets.len(),
+            None => 0,
+        },
+    }
+}
+
+/// How many sets of this kind the device declares, bNumConfigurations.
+pub fn count_declared(kind: SetKind, file: &DescriptorFile) -> u8
+    ensures { result ≡ declared_sets kind file.now }
+{
+    match kind {
+        SetKind::Configuration => file.device.configurations,
+        SetKind::OtherSpeed => match &file.other {
+            Some(other) => other.qualifier.configurations,
+            None => 0,
+        },
+    }
+}
+
+/// bConfigurationValue of the first set, 0 where there is none.
+pub fn value_of_first(sets: &[Configuration]) -> u8
+    ensures { result ≡ first_value sets.now }
+{
+    match sets {
+        [first, ..] => first.value,
+        [] => 0,
+    }
+}
+
+/// Whether the set would be the device's first one, and can't be selected: its value is 0.
+pub fn is_first_zero(kind: SetKind, file: &DescriptorFile, set: &Configuration) -> bool
+    ensures { result ≡ cannot_be_selected kind (sets_of kind file.now) set.now }
+{
+    match kind {
+        SetKind::Configuration => match file.sets.as_slice() {
+            [] => set.value == 0,
+            [_, ..] => false,
+        },
+        SetKind::OtherSpeed => false,
+    }
+}
+
+/// The file with one more set of this kind.
+pub fn add_set(
+    mut file: DescriptorFile,
+    kind: SetKind,
+    set: Configuration,
+) -> Result<DescriptorFile, NoMemory>
+    ensures { IfOk result (λ f. f ≡ with_set kind set file) }
+{
+    let added = match kind {
+        SetKind::Configuration => file.sets.push(set).is_ok(),
+        SetKind::OtherSpeed => match &mut file.other {
+            Some(other) => other.sets.push(set).is_ok(),
+            None => true,
+        },
+    };
+    if added { Ok(file) } else { Err(NoMemory) }
+}
