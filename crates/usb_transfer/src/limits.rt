@@ -65,8 +65,7 @@ impl Limits {
 
     /// For the proofs of callers: address and attempts are in their ranges.
     pub fn known(&self)
-        ensures range { IsInRange self.now.address self.now.attempts }
-        ensures naks { self.now.naks < 65536 }
+        ensures { IsInRange self.now.address self.now.attempts }
     {
         let _attempts = self.attempts;
     }
