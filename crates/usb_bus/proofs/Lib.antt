@@ -1,10 +1,10 @@
 mod OtherStages
 mod DataStage
 mod Keeps
-mod Cutting
+pub mod Cutting
 mod Attempts
 mod Talks
 mod Leading
 mod TableLemmas
-mod Runs
+pub mod Runs
 mod Conversing

@@ -31,7 +31,7 @@ impl Model for Limits {
 }
 
 impl Limits {
-    ghost use Rattle.usb_transfer.specs.Limits.{limit_fault};
+    ghost use Rattle.usb_transfer.specs.Limits.{IsInRange, limit_fault};
 
     /// Limits with the address that the device gets, the number of NAKs without progress that a transfer bears, and
     /// the number of attempts.
@@ -61,6 +61,13 @@ impl Limits {
             naks,
             attempts,
         })
+    }
+
+    /// For the proofs of callers: address and attempts are in their ranges.
+    pub fn known(&self)
+        ensures { IsInRange self.now.address self.now.attempts }
+    {
+        let _attempts = self.attempts;
     }
 
     /// The address that the device gets, 1 to 127.

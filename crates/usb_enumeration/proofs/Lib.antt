@@ -1,0 +1,16 @@
+mod AcceptLemmas
+mod TextLemmas
+mod HeadLemmas
+mod OpenLemmas
+mod KeepLemmas
+mod CutLemmas
+mod FollowLemmas
+mod WalkLemmas
+mod ServeLemmas
+mod DescribeLemmas
+mod ReaderLemmas
+mod SeriesLemmas
+mod ImageLemmas
+mod RunLemmas
+mod DueLemmas
+mod EnumerateLemmas

@@ -1,0 +1,18 @@
+use Rattle.usb_bus.specs.Run.{fates_used}
+use Rattle.usb_enumeration.specs.Script.{replies_in, script}
+use Rattle.usb_enumeration.proofs.RunLemmas.{run_ends, run_keeps}
+use Rattle.usb_enumeration.proofs.laws.a_run_ends_well.Goals as goal
+
+pub returns : goal.returns
+returns c = record {
+  ends = λ limits speed f fates earlier n last accepted fits range runs.
+      let (set_of, exact) = c.descriptions_are_read.ensures in
+      run_ends set_of limits speed (c.a_host_keeps_the_image.ensures set_of limits speed exact) f range.attempts_from
+      (replies_in (script limits.address f.device.packet speed f))
+      (c.an_enumeration_reads_the_description.ensures.reads set_of limits.address speed f exact accepted fits)
+      fates earlier n last runs
+      (c.an_enumeration_reads_the_description.ensures.causes set_of limits speed f (fates_used fates n) exact accepted fits range);
+  limits = λ limits speed f fates earlier n last some runs.
+      let (set_of, exact) = c.descriptions_are_read.ensures in
+      run_keeps set_of limits speed (c.a_host_keeps_the_image.ensures set_of limits speed exact) f some fates earlier n last runs;
+}

@@ -1,0 +1,22 @@
+-- What one step of an enumeration does, and what its loop keeps.
+use Rattle.std.specs.Prelude.{◌≡◌, ℕ, suc, ◌+◌, ◌-◌, List, ◌⊎◌}
+use Rattle.usb_fields.specs.declared.speed.Speed.{Speed}
+use Rattle.usb_file_data.specs.declared.file.DescriptorFile.{DescriptorFile}
+use Rattle.usb_transfer.specs.Limits.{LimitView}
+use Rattle.usb_device.specs.Step.{DeviceView}
+use Rattle.usb_bus.specs.declared.fate.Fate.{Fate}
+use Rattle.usb_bus.specs.Run.{fate_at}
+use Rattle.usb_host.specs.Steps.{HostView}
+use Rattle.usb_enumeration.specs.Run.{Pair, new_pair, IsReset, IsTransaction, Runs}
+
+-- both ends
+abbrev pub both : HostView → DeviceView → Pair
+both host device = record { host = host; device = device }
+
+-- a reset after n transactions, or transaction n under its fate; so many transactions there were then
+abbrev pub Moves : DescriptorFile → List Fate → Pair → ℕ → Pair → ℕ → Type 0
+Moves f fates x n y now = (IsReset x y × (now ≡ n)) ⊎ (IsTransaction f (fate_at fates n) x y × (now ≡ suc n))
+
+-- so many transactions lead to a pair
+abbrev pub LeadsTo : DescriptorFile → Speed → LimitView → List Fate → ℕ → Pair → Type 0
+LeadsTo f speed limits fates n last = (earlier : List Pair) × Runs f fates (new_pair limits speed) earlier n last
