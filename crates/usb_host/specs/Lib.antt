@@ -6,4 +6,5 @@ pub mod Steps
 pub mod Gathered
 pub mod Cost
 pub mod Laws
+pub mod StepText
 pub mod inside

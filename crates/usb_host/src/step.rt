@@ -1,4 +1,8 @@
 //! The steps of an enumeration.
+ghost use Rattle.std.specs.Prelude.{Some};
+ghost use Rattle.usb_host.specs.StepText.{step_text, two_digits};
+
+use std::fmt;
 use usb_transfer::Why;
 
 /// What a host does in an enumeration, one control transfer a step (USB 2.0, 9.1.2 and 9.4).
@@ -31,6 +35,45 @@ pub enum Step {
     },
     /// SET_CONFIGURATION.
     Configure,
+}
+
+/// A byte in two lower-case hexadecimal digits.
+#[derive(Clone, Copy)]
+struct TwoDigits(u8);
+
+impl fmt::Display for TwoDigits {
+    ghost output = { λ byte. Some (two_digits byte.0) };
+
+    fn fmt<W: fmt::Write>(&self, f: &mut fmt::Formatter<W>) -> fmt::Result {
+        let byte = self.0;
+        write!(f, "{byte:02x}")
+    }
+}
+
+/// A word, with the index in decimal where the step is of a set; of a string its language in four hexadecimal digits
+/// and its index in two.
+impl fmt::Display for Step {
+    ghost output = { λ step. Some (step_text step) };
+
+    fn fmt<W: fmt::Write>(&self, f: &mut fmt::Formatter<W>) -> fmt::Result {
+        match *self {
+            Step::First => write!(f, "first"),
+            Step::Address => write!(f, "address"),
+            Step::Device => write!(f, "device"),
+            Step::Header(index) => write!(f, "header {index}"),
+            Step::Set(index) => write!(f, "set {index}"),
+            Step::Qualifier => write!(f, "qualifier"),
+            Step::OtherHeader(index) => write!(f, "other_header {index}"),
+            Step::OtherSet(index) => write!(f, "other_set {index}"),
+            Step::Languages => write!(f, "languages"),
+            Step::Text { language, index } => {
+                let [high, low] = language.to_be_bytes();
+                let (high, low, index) = (TwoDigits(high), TwoDigits(low), TwoDigits(index));
+                write!(f, "text {high}{low} {index}")
+            }
+            Step::Configure => write!(f, "configure"),
+        }
+    }
 }
 
 /// Why an enumeration ended without success, and at which step.
