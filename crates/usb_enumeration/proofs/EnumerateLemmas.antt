@@ -19,12 +19,17 @@ use Rattle.usb_host.specs.declared.step.Trouble.{Trouble}
 use Rattle.usb_host.specs.declared.place.Place.{Place}
 use Rattle.usb_host.specs.declared.place.Place.TheVariants.{Reported, Stopped}
 use Rattle.usb_host.specs.Cost.{most, left_to_ask}
-use Rattle.usb_host.specs.Steps.{HostPhase, ResetDue, Reading, Ended, HostView, WantsNothing, wanted, outcome_at, outcome_of, reset, TakesIn, Takes}
+use Rattle.usb_host.specs.Steps.{HostPhase, ResetDue, Reading, Ended, HostView, WantsReset, WantsNothing, wanted, outcome_at, outcome_of, reset, TakesIn, Takes}
+use Rattle.usb_host.proofs.LowerLemmas.{asks_less}
 use Rattle.usb_enumeration.specs.Script.{configured_state}
 use Rattle.usb_enumeration.specs.Run.{Pair, new_pair, Runs, HasCause, EndsWell, GoesWell, KeepsLimits}
 use Rattle.usb_enumeration.specs.inside.Stepping.{Moves, LeadsTo}
 use Rattle.usb_enumeration.proofs.RunLemmas.{wants_reset, reset_is}
 use Rattle.usb_enumeration.proofs.DueLemmas.{run_due, nothing_wanted}
+
+-- a reset adds nothing to what may be asked for
+pub reset_left : (v : HostView) → wanted v.phase ≡ WantsReset → (v.phase ≡ ResetDue → v.resets < v.limits.attempts) → left_to_ask (reset v) ≤ left_to_ask v
+reset_left v wants some = (let due = wants_reset v.phase wants in (asks_less.resets v due (some due)).1)
 
 -- one step more
 pub leads_on : (f : DescriptorFile) (speed : Speed) (limits : LimitView) (fates : List Fate) (x y : Pair) (n now : ℕ) →
@@ -106,3 +111,8 @@ pub only_memory : (limits : LimitView) (fates : List Fate) (n attempts : ℕ) (w
 only_memory limits fates n attempts why (inl e) few small = e
 only_memory limits fates n attempts why (inr (blamed, all, inl lost)) few small = absurd (let l = losses-fates_used fates n in omega arith)
 only_memory limits fates n attempts why (inr (blamed, all, inr busy)) few small = absurd (let b = busies-fates_used fates n in omega arith)
+
+pub memory_alone : (f : DescriptorFile) (limits : LimitView) (fates : List Fate) (n attempts : ℕ) (s : State) (o : Result DescriptorFile Trouble) →
+    Says f limits (fates_used fates n) attempts s o → losses fates < limits.attempts → busies fates ≤ limits.naks → IfErr o (λ trouble. trouble.why ≡ Memory)
+memory_alone f limits fates n attempts s (Ok g) h few small = tt
+memory_alone f limits fates n attempts s (Err trouble) h few small = only_memory limits fates n attempts trouble.why h few small
