@@ -1,0 +1,277 @@
+#!/usr/bin/env python3
+"""Writes the scripts that say what an enumerating host does, answer by answer, by the second reading of
+enumerating.py. Run it in this folder: it writes ../data/hosts/*.script."""
+
+import os
+import sys
+
+from enumerating import Device, File, Host
+
+sys.path.insert(0, os.path.join(os.path.dirname(os.path.abspath(__file__)), "../../examples"))
+from reading import listing  # noqa: E402
+
+SET = bytes.fromhex("09022200010100a032 0904000001030102 00 092110010001223400 0705810304000a")
+DEVICE = bytes.fromhex("12 01 10 01 00 00 00 40 34 12 78 56 00 01 00 00 00 01")
+MOUSE = DEVICE + SET
+SMALL_PACKETS = MOUSE[:7] + b"\x08" + MOUSE[8:]
+EVERYTHING = b"".join(
+    [
+        bytes.fromhex("12 01 00 02 00 00 00 40 34 12 78 56 00 01 00 01 00 01") + SET,
+        bytes.fromhex("0a 06 00 02 00 00 00 40 01 00") + SET[:1] + b"\x07" + SET[2:],
+        bytes.fromhex("04 03 09 04 0c 03 4d 00 6f 00 75 00 73 00 65 00"),
+    ]
+)
+
+
+def answer_text(answer):
+    if isinstance(answer, str):
+        return answer
+    one, data = answer
+    return f"data{int(one)} {data.hex() or '-'}"
+
+
+def due_text(host):
+    if host.due == "reset":
+        return "reset"
+    if host.due == "ended":
+        return host.result()
+    token = host.transfer.token()
+    words = {"setup": lambda: "setup " + token[1].hex(), "in": lambda: "in", "out": lambda: "out data1 -"}
+    return f"send {host.transfer.address} {words[token[0]]()}"
+
+
+class Script:
+    """The lines of a script, with what must come of each."""
+
+    def __init__(self, title):
+        self.lines = [f"# {title}", "# Written by write_hosts.py, a second reading of docs/HOST.md."]
+
+    def host(self, about, speed="full", address=1, naks=16, attempts=3):
+        host = Host(speed, address, naks, attempts)
+        self.lines += ["", f"# {about}"]
+        self.lines.append(f"host {speed} address {address} naks {naks} attempts {attempts} -> {due_text(host)}")
+        return host
+
+    def answer(self, host, answer):
+        host.take(answer)
+        self.lines.append(f"{answer_text(answer)} -> {due_text(host)}")
+
+    def reset_done(self, host):
+        host.reset_done()
+        self.lines.append(f"reset_done -> {due_text(host)}")
+
+    def play(self, about, file, served=None, more=(), **limits):
+        """A host and a device of this file to the end, and then these further answers, which change nothing."""
+        host, device = self.host(about, **limits), Device(File(file))
+        while host.due != "ended":
+            if host.due == "reset":
+                device.reset()
+                self.reset_done(host)
+                continue
+            answer = device.serve(host.transfer.address, host.transfer.token())
+            if isinstance(answer, tuple):
+                device.acked()
+            self.answer(host, served(host, answer) if served else answer)
+        self.ended(host, file)
+        for answer in more:
+            self.answer(host, answer)
+        return host
+
+    def ended(self, host, file):
+        if host.outcome == 0:
+            lines = listing("file", host.read).splitlines()
+            assert host.read == file
+            for number, line in enumerate(lines, 1):
+                self.lines.append(f"listing {number} -> {line}")
+            self.lines.append(f"listing {len(lines) + 1} -> none")
+
+    def write(self, name):
+        with open(f"../data/hosts/{name}.script", "w", encoding="ascii") as target:
+            target.write("\n".join(self.lines) + "\n")
+
+
+def lies(step, change):
+    """A device that answers a data packet of this step otherwise: `change` is given its bytes."""
+
+    def served(host, answer):
+        if host.step == step and isinstance(answer, tuple) and answer[1]:
+            return answer[0], change(answer[1])
+        return answer
+
+    return served
+
+
+def at(step, stage, answer):
+    """A device that answers so in this stage of this step."""
+    return lambda host, honest: answer if host.step == step and host.transfer.stage == stage else honest
+
+
+def with_bytes(changes):
+    """These bytes written over, each at its place."""
+
+    def change(b):
+        b = bytearray(b)
+        for place, value in changes.items():
+            b[place] = value
+        return bytes(b)
+
+    return change
+
+
+def whole():
+    s = Script("A host that reads a whole device.")
+    s.play("A mouse at full speed: sixteen answers.", MOUSE, more=["ack", "nak", "stall", "silence", (True, b"")])
+    s.play("Everything that a device can tell, at high speed.", EVERYTHING, speed="high")
+    s.play("The same at full speed, with the address 127.", EVERYTHING, address=127)
+    s.play("Packets of eight bytes at low speed.", SMALL_PACKETS, speed="low")
+    s.play("bcdUSB 0200 and no second speed: the qualifier is stalled.", MOUSE[:2] + b"\x00\x02" + MOUSE[4:])
+    s.play("The same at low speed: it isn't asked for.", SMALL_PACKETS[:2] + b"\x00\x02" + SMALL_PACKETS[4:], speed="low")
+    status = lambda host, honest: "stall" if host.step == "qualifier" and host.transfer.stage == "status_out" else honest
+    s.play("A qualifier that is stalled in its status stage is none, whatever came of it.", EVERYTHING_BUT_SECOND, lambda h, a: (True, QUALIFIER) if h.step == "qualifier" and h.transfer.stage == "data" else status(h, a))
+    association = bytes.fromhex("09022300020100 8032 080b000202020100 090400000002020100 09040100000a000000")
+    s.play("A set with an association.", DEVICE + association)
+    two = DEVICE[:17] + b"\x02" + SET + SET[:5] + b"\x02" + SET[6:]
+    s.play("Two configurations: the first one's value is chosen.", two)
+    s.play("Two languages and two strings: language by language.", TWO_LANGUAGES)
+    s.write("whole")
+
+
+QUALIFIER = bytes.fromhex("0a 06 00 02 00 00 00 40 01 00")
+EVERYTHING_BUT_SECOND = EVERYTHING[:52] + EVERYTHING[96:]
+TWO_LANGUAGES = b"".join(
+    [
+        DEVICE[:14] + b"\x01\x00\x02\x01" + SET,
+        bytes.fromhex("06 03 09 04 07 04 04 03 41 00 04 03 42 00 04 03 43 00 04 03 44 00"),
+    ]
+)
+
+
+def hostile():
+    s = Script("Devices that keep no rule.")
+    for about, answers in [
+        ("STALL always.", lambda stage: "stall"),
+        ("NAK always.", lambda stage: "nak"),
+        ("ACK always.", lambda stage: "ack"),
+        ("Silence always.", lambda stage: "silence"),
+        ("ACK to SETUP, and DATA0 to IN.", lambda stage: "ack" if stage == "setup" else (False, DEVICE[:8])),
+        ("ACK to SETUP, and NAK to IN.", lambda stage: "ack" if stage == "setup" else "nak"),
+        ("ACK to SETUP, and STALL to IN.", lambda stage: "ack" if stage == "setup" else "stall"),
+        ("ACK to SETUP, and nine bytes to IN.", lambda stage: "ack" if stage == "setup" else (True, DEVICE[:9])),
+    ]:
+        s.play(about, MOUSE, lambda host, honest: answers(host.transfer.stage))
+    s.play("Another class in the 18 bytes than in the first 8.", MOUSE, lies("device", with_bytes({4: 0xFF})))
+    s.play("Silence always, with one attempt.", MOUSE, lambda host, honest: "silence", attempts=1)
+    s.play("Silence always, with eight attempts.", MOUSE, lambda host, honest: "silence", attempts=8)
+    s.play("NAK to IN always, where no NAK is borne.", MOUSE, lambda h, a: "nak" if h.transfer.stage == "data" else a, naks=0)
+    s.play("A file of an attempt that failed is dropped: silence at the last step of the first attempt.", MOUSE, Silent("configure", 1))
+    s.play("NAKs in the second attempt, more than are borne.", EVERYTHING, Naks("text 0409 01", 1, 3), naks=2)
+    s.write("hostile")
+
+
+class Silent:
+    """Silence at a step in so many attempts."""
+
+    def __init__(self, step, attempts):
+        self.step, self.attempts = step, attempts
+
+    def __call__(self, host, honest):
+        return "silence" if host.step == self.step and host.resets <= self.attempts else honest
+
+
+class Naks:
+    """So many NAKs to the first IN of a step in the first attempts. The device must not be asked meanwhile, so the
+    honest answer is kept until it is given."""
+
+    def __init__(self, step, attempts, naks):
+        self.step, self.attempts, self.naks = step, attempts, naks
+
+    def __call__(self, host, honest):
+        mine = host.step == self.step and host.resets <= self.attempts and host.transfer.stage == "data"
+        if mine and self.naks:
+            self.naks -= 1
+            return "nak"
+        return honest
+
+
+def malformed():
+    s = Script("One read that is malformed for each reason that there is.")
+
+    def lie(about, step, change, file=EVERYTHING, **limits):
+        host = s.play(about, file, lies(step, change), **limits)
+        assert host.outcome in (4, 6) and host.step == step, (about, host.result())
+
+    lie("First: seven bytes.", "first", lambda b: b[:7])
+    lie("First: bLength isn't 18.", "first", with_bytes({0: 17}))
+    lie("First: another type.", "first", with_bytes({1: 2}))
+    lie("First: a packet size of 7.", "first", with_bytes({7: 7}))
+    lie("First: a packet size of 16 at low speed.", "first", with_bytes({7: 16}), SMALL_PACKETS, speed="low")
+    lie("First: a packet size of 32 at high speed.", "first", with_bytes({7: 32}), speed="high")
+    lie("Device: 17 bytes.", "device", lambda b: b[:17])
+    lie("Device: bLength isn't 18.", "device", with_bytes({0: 19}))
+    lie("Device: another type.", "device", with_bytes({1: 3}))
+    lie("Device: the first eight bytes differ from the first read.", "device", with_bytes({6: 1}))
+    lie("Device: no configuration.", "device", with_bytes({17: 0}))
+    for word, kind in (("", 2), ("other_", 7)):
+        lie(f"{word}header: eight bytes.", f"{word}header 0", lambda b: b[:8])
+        lie(f"{word}header: bLength below 9.", f"{word}header 0", with_bytes({0: 8}))
+        lie(f"{word}header: another type.", f"{word}header 0", with_bytes({1: 9 - kind}))
+        lie(f"{word}header: wTotalLength below bLength.", f"{word}header 0", with_bytes({2: 8}))
+        lie(f"{word}set: refused by the decoder.", f"{word}set 0", with_bytes({2: 33}))
+        lie(f"{word}set: done before the last byte.", f"{word}set 0", with_bytes({2: 9}))
+        lie(f"{word}set: not done.", f"{word}set 0", lambda b: b[:33])
+        lie(f"{word}set: whole, and shorter than announced.", f"{word}set 0", lambda b: with_bytes({2: 9})(b)[:9])
+        lie(f"{word}set: of the other kind.", f"{word}set 0", with_bytes({1: 9 - kind}))
+        lie(f"{word}set: 35 bytes in one packet.", f"{word}set 0", lambda b: b + b"\x00")
+    lie("set: the first set's value is 0.", "set 0", with_bytes({5: 0}))
+    lie("Qualifier: nine bytes.", "qualifier", lambda b: b[:9])
+    lie("Qualifier: bLength isn't 10.", "qualifier", with_bytes({0: 9}))
+    lie("Qualifier: another type.", "qualifier", with_bytes({1: 1}))
+    lie("Languages: bLength isn't the number of bytes.", "languages", with_bytes({0: 6}))
+    lie("Languages: another type.", "languages", with_bytes({1: 2}))
+    lie("Languages: three bytes.", "languages", lambda b: b"\x03" + b[1:3])
+    lie("Languages: no language.", "languages", lambda b: b"\x02\x03")
+    lie("Languages: one byte.", "languages", lambda b: b[:1])
+    lie("String: bLength isn't the number of bytes.", "text 0409 01", with_bytes({0: 10}))
+    lie("String: another type.", "text 0409 01", with_bytes({1: 2}))
+    lie("String: eleven bytes.", "text 0409 01", lambda b: b"\x0b" + b[1:11])
+    lie("String: one byte.", "text 0409 01", lambda b: b[:1])
+    for about, total, in (("refused in the middle of the transfer", 33), ("done in the middle of it", 9)):
+        s.play(f"A set that is {about}: the rest is taken, and then judged.", SMALL_PACKETS, in_packets("set 0", total))
+    s.write("malformed")
+
+
+def in_packets(step, total):
+    """A device whose set says another total, in packets of any size."""
+
+    def served(host, answer):
+        if host.step == step and isinstance(answer, tuple) and answer[1] and not host.transfer.got:
+            return answer[0], with_bytes({2: total})(answer[1])
+        return answer
+
+    return served
+
+
+STEPS = "first|address|device|header 0|set 0|qualifier|other_header 0|other_set 0|languages|text 0409 01|configure".split("|")
+
+
+def reasons():
+    s = Script("Each reason at each step where it can come. Want of memory has no answer that brings it.")
+    for step in STEPS:
+        data = "status_in" if step in ("address", "configure") else "data"
+        s.play(f"{step}: no answer.", EVERYTHING, at(step, "setup", "silence"), attempts=1)
+        s.play(f"{step}: no answer, in the status stage.", EVERYTHING, at(step, "status_in" if data == "status_in" else "status_out", "silence"), attempts=1)
+        s.play(f"{step}: busy.", EVERYTHING, at(step, data, "nak"), naks=0, attempts=1)
+        if step != "qualifier":
+            s.play(f"{step}: stalled.", EVERYTHING, at(step, data, "stall"))
+        s.play(f"{step}: too long.", EVERYTHING, at(step, data, (True, bytes(65))))
+        s.play(f"{step}: unexpected.", EVERYTHING, at(step, data, "ack"))
+        s.play(f"{step}: unexpected, a NAK of SETUP.", EVERYTHING, at(step, "setup", "nak"))
+    s.write("reasons")
+
+
+if __name__ == "__main__":
+    os.makedirs("../data/hosts", exist_ok=True)
+    whole()
+    hostile()
+    malformed()
+    reasons()
