@@ -91,6 +91,7 @@ impl EndpointZero {
     pub fn stage(&self) -> Stage
         ensures { (f : DescriptorFile) → result ≡ stage_kind (device_of f self.now).stage }
     {
+        // By cases, since `device_of` says what a stage is by cases.
         match self.stage {
             Stage::Idle => Stage::Idle,
             Stage::Halted => Stage::Halted,

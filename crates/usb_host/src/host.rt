@@ -13,18 +13,16 @@ use usb_fields::{Answer, Speed};
 use usb_file_data::DescriptorFile;
 use usb_transfer::{Limits, Why};
 
-/// A host that reads all descriptors of one device.
+/// A host that reads all descriptors of one device, as far as it stands: what is due, and what a bus reset does. The
+/// call that takes an answer is to come.
 ///
-/// The caller does what [`Host::next`] says: it resets the bus and tells so by [`Host::reset_done`], or sends a
-/// transaction and hands the answer to [`Host::take`]. It goes on until there is an [`Host::outcome`].
+/// The caller does what [`Host::next`] says, and tells of a bus reset by [`Host::reset_done`].
 ///
 /// ```rust
 /// let mut host = Host::new(alloc, Limits::new(1, 16, 3)?, Speed::Full);
 /// assert_eq!(rt; host.next(), Action::Reset);
 /// host.reset_done();
-/// while let Action::Send(transaction) = host.next() {
-///     host.take(send(&transaction));
-/// }
+/// assert_eq!(rt; host.attempts(), 1);
 /// ```
 #[derive(Debug, Drop)]
 pub struct Host {
@@ -51,7 +49,7 @@ impl Host {
     ghost use Rattle.usb_host.specs.Steps.{Takes, new_host, outcome_of, reset, wanted, wanted_by};
     ghost use Rattle.usb_host.specs.Cost.{left_to_ask, most};
 
-    /// A host that has done nothing. Takes no memory.
+    /// A host that has done nothing.
     pub fn new(alloc: Global, limits: Limits, speed: Speed) -> Host
         ensures { result ≡ new_host limits speed }
     {

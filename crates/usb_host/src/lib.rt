@@ -1,4 +1,8 @@
-//! A host that reads all descriptors of a device.
+//! A host that reads all descriptors of a device, as far as it stands.
+//!
+//! The steps of a host are definitions (`specs/Steps.antt`, `specs/Order.antt`), and [`laws`] says what holds of them
+//! whatever a device answers. [`Host`] says what is due. Where each read leads to is written and proved; the call that
+//! takes an answer, and the outcome, are to come.
 #![tactic(auto)]
 
 mod action;
