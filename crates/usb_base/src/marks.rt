@@ -4,7 +4,7 @@ ghost use Rattle.usb_base.specs.Marks.{unmarked, marked, is_marked};
 
 use std::marker::Model;
 
-/// Which of the 256 bytes were added: what a walk that looks back keeps. Takes no memory.
+/// Which of the 256 bytes were added: what a walk that looks back keeps.
 ///
 /// ```rust
 /// let mut seen = Marks::new();
