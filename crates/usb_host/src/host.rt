@@ -93,10 +93,54 @@ impl Host {
         self.reading = begin(self.alloc, &self.limits, Place::First);
     }
 
+    /// Takes what the transaction that was due brought. Where none is due, nothing changes.
+    pub fn take(&mut self, answer: Answer<'_>) {
+        if self.reset_due || self.reading.place.is_end() {
+            return;
+        }
+        self.reading
+            .take(self.alloc, &self.limits, self.speed, answer);
+        if self.reading.place.is_bus_trouble() && self.resets < self.limits.attempts() {
+            self.reset_due = true;
+        }
+    }
+
     /// How often the bus was reset: the attempts so far.
     pub fn attempts(&self) -> u8
         ensures { result ≡ self.now.resets }
     {
         self.resets
+    }
+
+    /// The outcome, once there is one: the file that was read, or the trouble with its step and its reason.
+    pub fn outcome(&self) -> Option<Result<&DescriptorFile, Trouble>> {
+        if self.reset_due {
+            return None;
+        }
+        match &self.reading.place {
+            Place::Reported { file } => Some(Ok(file)),
+            Place::Stopped { trouble } => Some(Err(*trouble)),
+            _ => None,
+        }
+    }
+
+    /// The outcome, as [`Host::outcome`] tells it, with the file handed over.
+    pub fn into_outcome(self) -> Option<Result<DescriptorFile, Trouble>> {
+        let Host {
+            alloc: _,
+            limits: _,
+            speed: _,
+            resets: _,
+            reset_due,
+            reading,
+        } = self;
+        if reset_due {
+            return None;
+        }
+        match reading.place {
+            Place::Reported { file } => Some(Ok(file)),
+            Place::Stopped { trouble } => Some(Err(trouble)),
+            _ => None,
+        }
     }
 }

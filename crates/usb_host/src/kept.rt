@@ -1,5 +1,6 @@
 //! What a host keeps of a read.
-ghost use Rattle.std.specs.Prelude.{◌≡◌, ◌+◌, ◌≤◌, length};
+ghost use Rattle.std.specs.Prelude.{◌≡◌, ◌+◌, ◌≤◌, [], length};
+ghost use Rattle.usb_host.specs.declared.kept.Kept.TheVariants as kept;
 
 use crate::kept_bytes::KeptBytes;
 use crate::place::Place;
@@ -19,6 +20,15 @@ impl Kept {
     ghost use Rattle.usb_host.specs.Keeping.{nothing_kept};
     ghost use Rattle.usb_host.specs.inside.Leading.{Adds, HasRoom};
 
+    /// No byte.
+    pub fn empty() -> Kept
+        ensures { result ≡ kept.Bytes [] }
+    {
+        Kept::Bytes {
+            bytes: KeptBytes::new(),
+        }
+    }
+
     /// What a read begins with at a place.
     pub fn nothing(alloc: Global, place: &Place) -> Kept
         ensures { result ≡ nothing_kept place.now }
@@ -28,9 +38,7 @@ impl Kept {
                 decoder: Decoder::new(alloc),
                 over: false,
             },
-            _ => Kept::Bytes {
-                bytes: KeptBytes::new(),
-            },
+            _ => Kept::empty(),
         }
     }
 

@@ -9,9 +9,11 @@ ghost use Rattle.usb_host.specs.Steps.{TakesHeard, enter};
 ghost use Rattle.usb_host.specs.inside.Reads.{Hears, IsReading, ended_leads, standing};
 
 use crate::kept::Kept;
+use crate::leading::{lead_completed, lead_refused};
 use crate::place::Place;
 use crate::request::getting;
 use std::alloc::Global;
+use std::mem;
 use usb_fields::{Answer, Speed};
 use usb_transfer::{Heard, Limits, Transfer, Why};
 
@@ -56,6 +58,42 @@ impl Reading {
             Heard::Complete => Some(Ending::Completed),
             Heard::Failed(why) => Some(Ending::Failed(why)),
         }
+    }
+
+    /// Goes on to where a read leads that has ended.
+    fn go_on(&mut self, alloc: Global, limits: &Limits, speed: Speed, ending: Ending) {
+        let place = mem::replace(&mut self.place, Place::First);
+        let kept = mem::replace(&mut self.kept, Kept::empty());
+        let next = lead(alloc, speed, place, &self.transfer, kept, ending);
+        *self = begin(alloc, limits, next);
+    }
+
+    /// Takes an answer: the read goes on, or the next one begins.
+    #[inline(always)]
+    pub fn take(&mut self, alloc: Global, limits: &Limits, speed: Speed, answer: Answer<'_>) {
+        if let Some(ending) = self.hear(answer) {
+            self.go_on(alloc, limits, speed, ending);
+        }
+    }
+}
+
+/// Where a read leads to that has ended, or the end where memory is wanting.
+#[tactic(auto, using(crate::proofs::TakeLemmas::leads_good))]
+fn lead(
+    alloc: Global,
+    speed: Speed,
+    place: Place,
+    transfer: &Transfer,
+    kept: Kept,
+    ending: Ending,
+) -> Place
+    requires good { IsGood place }
+    ensures leads { LeadsOn speed place transfer.now kept ending result }
+{
+    match ending {
+        Ending::Completed => lead_completed(alloc, speed, place, transfer, kept),
+        Ending::Failed(Why::Stalled) => lead_refused(alloc, place),
+        Ending::Failed(why) => place.stop(why),
     }
 }
 
