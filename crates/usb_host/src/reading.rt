@@ -4,9 +4,8 @@ ghost use Rattle.usb_fields.specs.Packet.{reply_of};
 ghost use Rattle.usb_transfer.specs.Transfer.{taken};
 ghost use Rattle.usb_transfer.specs.declared.why.Why.TheVariants.{Memory};
 ghost use Rattle.usb_host.specs.Cost.{BringsBytes, FitsPlace, IsGood, KeepsBytes};
-ghost use Rattle.usb_host.specs.Order.{stopped};
 ghost use Rattle.usb_host.specs.Steps.{TakesHeard, enter};
-ghost use Rattle.usb_host.specs.inside.Reads.{Hears, IsReading, ended_leads, standing};
+ghost use Rattle.usb_host.specs.inside.Reads.{GoesOn, Hears, IsReading, LeadsOn, standing};
 
 use crate::kept::Kept;
 use crate::leading::{lead_completed, lead_refused};
@@ -61,11 +60,17 @@ impl Reading {
     }
 
     /// Goes on to where a read leads that has ended.
-    fn go_on(&mut self, alloc: Global, limits: &Limits, speed: Speed, ending: Ending) {
+    #[tactic(auto, using(crate::proofs::TakeLemmas::next_good))]
+    fn go_on(&mut self, alloc: Global, limits: &Limits, speed: Speed, ending: Ending)
+        requires good { IsGood self.old.place }
+        requires fits { FitsPlace self.old.place self.old.kept }
+        requires bytes { KeepsBytes self.old.kept }
+        ensures { GoesOn limits.now speed self.old.place self.old.transfer self.old.kept ending (standing self.new.place self.new.transfer self.new.kept) }
+    {
         let place = mem::replace(&mut self.place, Place::First);
         let kept = mem::replace(&mut self.kept, Kept::empty());
         let next = lead(alloc, speed, place, &self.transfer, kept, ending);
-        *self = begin(alloc, limits, next);
+        drop(mem::replace(self, begin(alloc, limits, next)));
     }
 
     /// Takes an answer: the read goes on, or the next one begins.
@@ -78,7 +83,6 @@ impl Reading {
 }
 
 /// Where a read leads to that has ended, or the end where memory is wanting.
-#[tactic(auto, using(crate::proofs::TakeLemmas::leads_good))]
 fn lead(
     alloc: Global,
     speed: Speed,
