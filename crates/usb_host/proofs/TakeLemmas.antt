@@ -32,14 +32,14 @@ use Rattle.usb_host.proofs.LowerLemmas.{hears_bytes, kept_steady, completed_low}
 use Rattle.usb_host.proofs.CostLemmas.{refused_falls}
 
 -- the stage, by what was heard
-abbrev StageOf : Hearing → TransferStage → Type 0
+abbrev pub StageOf : Hearing → TransferStage → Type 0
 StageOf Goes s = IsGoing s
 StageOf (Brings bytes) s = IsGoing s
 StageOf Completes s = s ≡ Completed
 StageOf (Fails why) s = s ≡ Failed why
 
 -- the bytes that are kept, by what was heard: no more than were asked for
-abbrev CountOf : TransferView → Hearing → TransferView → Type 0
+abbrev pub CountOf : TransferView → Hearing → TransferView → Type 0
 CountOf t Goes u = u.kept ≡ t.kept
 CountOf t (Brings bytes) u = (u.kept ≡ t.kept + length bytes) × (t.kept + length bytes ≤ t.request.length)
 CountOf t Completes u = Unit {0}
