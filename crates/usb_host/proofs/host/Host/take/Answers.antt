@@ -10,7 +10,13 @@ use Rattle.usb_host.proofs.host.Host.take.Goals as goal
 -- src/host.rt: what the read took, and whether another attempt is begun
 pub returns-clause-taken : goal.returns-clause-taken
 returns-clause-taken c =
-    subst (λ v. Takes v (reply_of c.args.answer) _) c.self.view_is
+    subst
+    (λ v. Takes v (reply_of c.args.answer)
+    (the_view (record c.self.inside {
+      reset_due = c.may_try_again-self-inside.result;
+      reading = record { place = c.take.new.self.place; transfer = c.take.new.self.transfer; kept = c.take.new.self.kept };
+    })))
+    c.self.view_is
     (host_takes (view_of c.self.inside) c.self.inside.reading.place c.take.new.self.place c.self.inside.reading.transfer c.take.new.self.transfer
     c.self.inside.reading.kept c.take.new.self.kept (reply_of c.args.answer) c.may_try_again-self-inside.result
     (reads_here c.self.inside.reset_due c.self.inside.reading.place c.self.inside.reading.transfer c.self.inside.reading.kept c.if-self.false (sym c.if-is_end.ensures))
