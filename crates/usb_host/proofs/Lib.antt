@@ -4,4 +4,5 @@ pub mod CostLemmas
 pub mod LowerLemmas
 pub mod PlaceLemmas
 pub mod TakeLemmas
+pub mod GatherLemmas
 pub mod StandLemmas

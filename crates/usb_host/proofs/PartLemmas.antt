@@ -88,8 +88,11 @@ grown f g b p read more = record { is_front = more.is_front; bytes = ap (λ x. x
 strings_hold : (f : DescriptorFile) (b : List ℕ) → SetsDone f b → Holds (strings_due f) b
 strings_hold f b h =
     if_holds b (length (named_indices f) == 0) (Configure f) (Languages f (named_indices f))
-    (λ none fits. is_file f b h.read h.all
-    (subst (λ x. are_wrong_strings (length (named_indices f)) x ≡ false) (sym h.no_strings) (ap not none)) fits)
+    (λ none. (
+      h.read,
+      λ fits. is_file f b h.read h.all
+          (subst (λ x. are_wrong_strings (length (named_indices f)) x ≡ false) (sym h.no_strings) (ap not none)) fits,
+    ))
     (λ some. (h, grind (arith, nat_tests), refl))
 
 all_again : (s : Strings) (f : DescriptorFile) (o : Option Other) → AllSets f o → AllSets (with_strings s f) o
@@ -100,8 +103,11 @@ texts_hold : (f : DescriptorFile) (s : Strings) (named b : List ℕ) → InStrin
 texts_hold f s named b h =
     if_holds b (nat_lt (length s.texts) (length s.languages * length named)) (Text f s named) (Configure (with_strings s f))
     (λ more. (h, grind (arith, nat_tests)))
-    (λ full fits. is_file (with_strings s f) b h.read (all_again s f f.other h.all)
-    (strings_right (length (named_indices f)) s h.follow (subst (λ x. nat_lt (length s.texts) (length s.languages * length x) ≡ false) h.is_named full)) fits)
+    (λ full. (
+      h.read,
+      λ fits. is_file (with_strings s f) b h.read (all_again s f f.other h.all)
+          (strings_right (length (named_indices f)) s h.follow (subst (λ x. nat_lt (length s.texts) (length s.languages * length x) ≡ false) h.is_named full)) fits,
+    ))
 
 all_main : (f : DescriptorFile) → f.other ≡ None → length f.sets ≡ f.device.configurations → AllSets f f.other
 all_main f none e = subst (λ x. AllSets f x) (sym none) e
@@ -290,4 +296,4 @@ module _ (set_of : List ℕ → Option Configuration) (speed : Speed) (right : (
 
   pub reports : (rs : List Reply) (g : DescriptorFile) → reached set_of speed First rs ≡ Reported g → AreBytes (parts_of set_of speed First rs) →
       File g (parts_of set_of speed First rs)
-  reports rs g e = subst (λ place. Holds place (parts_of set_of speed First rs)) e (holds_all First rs [] refl)
+  reports rs g e = (subst (λ place. Holds place (parts_of set_of speed First rs)) e (holds_all First rs [] refl)).1

@@ -1,10 +1,14 @@
 //! A read in work.
-ghost use Rattle.std.specs.Prelude.{◌≡◌, ◌<◌};
+ghost use Rattle.std.specs.Prelude.{◌≡◌, ◌<◌, ◌++◌};
 ghost use Rattle.usb_fields.specs.Packet.{reply_of};
 ghost use Rattle.usb_transfer.specs.Bound.{left};
 ghost use Rattle.usb_transfer.specs.Transfer.{taken};
 ghost use Rattle.usb_host.specs.Cost.{BringsBytes, FitsPlace, IsGood, KeepsBytes};
+ghost use Rattle.usb_file_data.specs.File.{File};
+ghost use Rattle.usb_file_data.specs.declared.file.DescriptorFile.{DescriptorFile};
+ghost use Rattle.usb_host.specs.Gathered.{bytes_at, bytes_in_work};
 ghost use Rattle.usb_host.specs.Steps.{TakesHeard, enter};
+ghost use Rattle.usb_host.specs.declared.place.Place.TheVariants.{Reported};
 ghost use Rattle.usb_host.specs.inside.Reads.{GoesOn, Hears, IsReading, IsStanding, LeadsOn, standing};
 
 use crate::kept::Kept;
@@ -66,7 +70,7 @@ impl Reading {
         requires good { IsGood self.old.place }
         requires fits { FitsPlace self.old.place self.old.kept }
         requires bytes { KeepsBytes self.old.kept }
-        ensures { GoesOn limits.now speed self.old.place self.old.transfer self.old.kept ending (standing self.new.place self.new.transfer self.new.kept) }
+        ensures { GoesOn limits.now speed self.old.place self.old.transfer self.old.kept ending self.new.place (standing self.new.place self.new.transfer self.new.kept) }
     {
         let place = mem::replace(&mut self.place, Place::First);
         let kept = mem::replace(&mut self.kept, Kept::empty());
@@ -81,6 +85,7 @@ impl Reading {
         requires bytes { BringsBytes (reply_of answer) }
         ensures takes { TakesHeard limits.now speed self.old.place self.old.kept (taken self.old.transfer (reply_of answer.entry)) (standing self.new.place self.new.transfer self.new.kept) }
         ensures fewer { left (taken self.old.transfer (reply_of answer.entry)).transfer < left self.old.transfer }
+        ensures reports { (g : DescriptorFile) → self.new.place ≡ Reported g → File g (bytes_at self.old.place ++ bytes_in_work self.old.place self.old.kept) }
         ensures stands { IsStanding (standing self.new.place self.new.transfer self.new.kept) }
     {
         if let Some(ending) = self.hear(answer) {
@@ -111,7 +116,8 @@ fn lead(
 /// The read that begins at a place; at an end the transfer is one that nobody asks for.
 pub fn begin(alloc: Global, limits: &Limits, place: Place) -> Reading
     requires { IsGood place }
-    ensures { standing result.place result.transfer result.kept ≡ enter limits.now place }
+    ensures place { result.place ≡ place }
+    ensures begins { standing result.place result.transfer result.kept ≡ enter limits.now place }
 {
     let kept = Kept::nothing(alloc, &place);
     let (address, packet, setup) = match place.request(limits.address()) {

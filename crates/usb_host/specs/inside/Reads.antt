@@ -18,6 +18,7 @@ use Rattle.usb_host.specs.Keeping.{WantsMemory}
 use Rattle.usb_host.specs.Steps.{HostPhase, ResetDue, Reading, Ended, KeepsHeard, completed_leads, enter}
 use Rattle.usb_host.specs.Cost.{IsGood, FitsPlace, KeepsBytes}
 use Rattle.usb_host.specs.inside.Leading.{is_end}
+use Rattle.usb_host.specs.inside.Sound.{IsWhole, HasSet}
 
 -- a transfer that goes on
 abbrev pub IsGoing : TransferStage → Type 0
@@ -38,6 +39,8 @@ pub record IsReading (place : Place) (t : TransferView) (k : Kept) : Type 0 wher
   pub bytes : KeepsBytes k
   pub going : IsGoing t.stage
   pub counted : IsCounted t k
+  pub whole : IsWhole place
+  pub set : HasSet k
 
 -- how a read ends, by what was heard and what a decoder answered
 abbrev pub EndsBy : Hearing → Result Progress SetFault → Option Ending → Type 0
@@ -64,8 +67,7 @@ abbrev pub LeadsOn : Speed → Place → TransferView → Kept → Ending → Pl
 LeadsOn speed place t k ending next = (next ≡ stopped place Memory) ⊎ (next ≡ ended_leads speed place t k ending)
 
 -- a host comes to where a read leads that has ended
-pub record GoesOn (limits : LimitView) (speed : Speed) (place : Place) (t : TransferView) (k : Kept) (ending : Ending) (new : HostPhase) : Type 0 where
-  pub next : Place
+pub record GoesOn (limits : LimitView) (speed : Speed) (place : Place) (t : TransferView) (k : Kept) (ending : Ending) (next : Place) (new : HostPhase) : Type 0 where
   pub leads : LeadsOn speed place t k ending next
   pub enters : new ≡ enter limits next
 
