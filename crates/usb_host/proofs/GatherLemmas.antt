@@ -1,5 +1,5 @@
 -- What a host has gathered is the front of a file, and a report is the file of it.
-use Rattle.std.proofs.Common.{◌≡◌, ℕ, ◌==◌, Bool, true, false, if◌then◌else◌, List, [], ◌++◌, length, ◌⊎◌, inl, inr, refl, ap, sym, ◌∙◌, subst}
+use Rattle.std.proofs.Common.{◌≡◌, ℕ, ◌==◌, Bool, true, false, if◌then◌else◌, List, ◌++◌, length, inl, inr, refl, ap, sym, subst}
 use Rattle.std.specs.Prelude.{Option, Some, None, Result, Ok, Err}
 use Rattle.std.proofs.lemmas.List.{append-nil}
 use Rattle.usb_base.specs.Bytes.{AreBytes}
@@ -32,10 +32,10 @@ use Rattle.usb_host.specs.Order.{stopped, bytes_lead, set_leads, done_leads, ref
 use Rattle.usb_host.specs.Keeping.{set_kept}
 use Rattle.usb_host.specs.Steps.{KeepsHeard, read_leads, completed_leads}
 use Rattle.usb_host.specs.Gathered.{bytes_at, bytes_kept, bytes_in_work, part_of}
-use Rattle.usb_host.specs.Cost.{FitsPlace, KeepsBytes}
+use Rattle.usb_host.specs.Cost.{KeepsBytes}
 use Rattle.usb_host.specs.inside.Sound.{InSets, Holds, IsWhole, HasSet}
 use Rattle.usb_host.specs.inside.Reads.{EndsBy, LeadsOn, ended_leads}
-use Rattle.usb_host.proofs.PartLemmas.{bytes_hold, set_holds, done_holds, refused_holds}
+use Rattle.usb_host.proofs.PartLemmas.{bytes_hold, set_holds, refused_holds}
 
 -- ---- at a place, what holds after these bytes holds of those of the file there
 

@@ -1,5 +1,5 @@
 -- What a transfer makes of an answer, and a host of that.
-use Rattle.std.proofs.Common.{◌≡◌, ℕ, ◌+◌, ◌≤◌, ◌==◌, ◌||◌, Bool, true, false, if◌then◌else◌, nat_lt, List, [], ◌∷◌, length, ◌⊎◌, inl, inr, refl, ap, sym, ◌∙◌, arith, subst}
+use Rattle.std.proofs.Common.{◌≡◌, ℕ, ◌+◌, ◌≤◌, ◌==◌, ◌||◌, Bool, true, false, if◌then◌else◌, nat_lt, List, [], ◌∷◌, length, inl, inr, refl, ap, sym, ◌∙◌, arith, subst}
 use Rattle.std.specs.Prelude.{Option, Some, None, Result, Ok}
 use Rattle.std.proofs.lemmas.Bool.Decides.{nat_tests}
 use Rattle.usb_fields.specs.declared.speed.Speed.{Speed}
@@ -27,7 +27,7 @@ use Rattle.usb_host.specs.Order.{stopped}
 use Rattle.usb_host.specs.Steps.{Reading, Ended, enter, goes_on, IsEnd, KeepsHeard, TakesHeard}
 use Rattle.usb_host.specs.Cost.{IsGood, FitsPlace, KeepsBytes, BringsBytes}
 use Rattle.usb_host.specs.inside.Leading.{HasRoom, is_end}
-use Rattle.usb_host.specs.inside.Reads.{IsGoing, IsCounted, EndsBy, Hears, LeadsOn, GoesOn, ended_leads, standing}
+use Rattle.usb_host.specs.inside.Reads.{IsGoing, IsCounted, EndsBy, Hears, LeadsOn, ended_leads, standing}
 use Rattle.usb_host.proofs.LowerLemmas.{hears_bytes, kept_steady, completed_low}
 use Rattle.usb_host.proofs.CostLemmas.{refused_falls}
 

@@ -15,16 +15,24 @@ use usb_fields::{Answer, Speed};
 use usb_file_data::DescriptorFile;
 use usb_transfer::Limits;
 
-/// A host that reads all descriptors of one device, as far as it stands: what is due, and what a bus reset does. The
-/// call that takes an answer is to come.
+/// A host that reads all descriptors of one device, and configures it (USB 2.0, 9.1.2 and 9.4).
 ///
-/// The caller does what [`Host::next`] says, and tells of a bus reset by [`Host::reset_done`].
+/// The caller does what [`Host::next`] says. It tells of a bus reset by [`Host::reset_done`], and hands what a
+/// transaction brought to [`Host::take`]. Once the action is `Ended`, there is an outcome, and nothing changes any more.
 ///
 /// ```rust
 /// let mut host = Host::new(alloc, Limits::new(1, 16, 3)?, Speed::Full);
-/// assert_eq!(rt; host.next(), Action::Reset);
-/// host.reset_done();
-/// assert_eq!(rt; host.attempts(), 1);
+/// loop {
+///     match host.next() {
+///         Action::Reset => {
+///             reset_port();
+///             host.reset_done();
+///         }
+///         Action::Send(transaction) => host.take(send(&transaction)),
+///         Action::Ended => break,
+///     }
+/// }
+/// let file = host.into_outcome();
 /// ```
 #[derive(Debug, Drop)]
 pub struct Host {
@@ -54,7 +62,7 @@ impl Host {
     ghost use Rattle.usb_host.specs.Gathered.{gathered};
     ghost use Rattle.usb_host.specs.Cost.{left_to_ask};
 
-    /// A host that has done nothing.
+    /// A host that has done nothing. What it bears and the address that it gives are in `limits`.
     pub fn new(alloc: Global, limits: Limits, speed: Speed) -> Host
         ensures { result ≡ new_host limits speed }
     {
@@ -70,6 +78,10 @@ impl Host {
     }
 
     /// What is to be done next.
+    ///
+    /// ```rust
+    /// assert_eq!(rt; Host::new(alloc, Limits::new(1, 16, 3)?, Speed::Full).next(), Action::Reset);
+    /// ```
     #[inline(always)]
     pub fn next(&self) -> Action
         ensures { wanted_by result ≡ wanted self.now.phase }
@@ -98,7 +110,15 @@ impl Host {
         self.reading = begin(self.alloc, &self.limits, Place::First);
     }
 
-    /// Takes what the transaction that was due brought. Where none is due, nothing changes.
+    /// Takes what the transaction that was due brought: the read in work goes on, or the next one begins, or there is
+    /// an outcome. Where no transaction is due, nothing changes.
+    ///
+    /// After `NoAnswer` or `Busy` a bus reset is due while attempts are left, and what was read is dropped. This is the
+    /// one call that takes memory; where that is wanting, the outcome is `Memory`.
+    ///
+    /// ```rust
+    /// host.take(Answer::Ack);
+    /// ```
     pub fn take(&mut self, answer: Answer<'_>)
         ensures taken { Takes self.old (reply_of answer.entry) self.new }
         ensures reports { (g : DescriptorFile) → outcome_of self.old.phase ≡ None → outcome_of self.new.phase ≡ Some (Ok g) → File g (gathered self.old.phase) }
@@ -113,7 +133,11 @@ impl Host {
         self.reset_due = may_try_again(&self.reading.place, self.resets, &self.limits);
     }
 
-    /// How often the bus was reset: the attempts so far.
+    /// How often the bus was reset: the attempts so far, at most the limit.
+    ///
+    /// ```rust
+    /// assert_eq!(rt; host.attempts(), 1);
+    /// ```
     pub fn attempts(&self) -> u8
         ensures { result ≡ self.now.resets }
     {
@@ -121,6 +145,12 @@ impl Host {
     }
 
     /// The outcome, once there is one: the file that was read, or the trouble with its step and its reason.
+    ///
+    /// ```rust
+    /// if let Some(Ok(file)) = host.outcome() {
+    ///     println!(rt; "{} configurations", file.sets.len())?;
+    /// }
+    /// ```
     pub fn outcome(&self) -> Option<Result<&DescriptorFile, Trouble>>
         ensures { lent_outcome result ≡ outcome_of self.now.phase }
     {
@@ -135,6 +165,14 @@ impl Host {
     }
 
     /// The outcome, as [`Host::outcome`] tells it, with the file handed over.
+    ///
+    /// ```rust
+    /// match host.into_outcome() {
+    ///     Some(Ok(file)) => use_file(file),
+    ///     Some(Err(trouble)) => println!(rt; "{}", trouble.step)?,
+    ///     None => println!(rt; "not ended")?,
+    /// }
+    /// ```
     #[tactic(auto, using(crate::proofs::StandLemmas::outcome_there))]
     pub fn into_outcome(self) -> Option<Result<DescriptorFile, Trouble>>
         ensures { result ≡ outcome_of self.phase }

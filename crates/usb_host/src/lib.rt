@@ -1,8 +1,8 @@
-//! A host that reads all descriptors of a device, as far as it stands.
+//! A host that reads all descriptors of a device over control transfers, and configures it.
 //!
-//! The steps of a host are definitions (`specs/Steps.antt`, `specs/Order.antt`), and [`laws`] says what holds of them
-//! whatever a device answers. [`Host`] says what is due. Where each read leads to is written and proved; the call that
-//! takes an answer, and the outcome, are to come.
+//! [`Host`] says what is due, a bus reset or a transaction, and takes what came back. It drives no bus and knows no
+//! device. The steps of a host are definitions (`specs/Steps.antt`, `specs/Order.antt`), and [`laws`] says what holds of
+//! them whatever a device answers.
 #![tactic(auto)]
 
 mod action;

@@ -1,6 +1,5 @@
-use Rattle.std.proofs.Common.{◌≡◌, ◌<◌, sym, subst}
-use Rattle.usb_fields.specs.Packet.{Sent, reply_of}
-use Rattle.usb_host.specs.Cost.{left_to_ask}
+use Rattle.std.proofs.Common.{◌≡◌, sym, subst}
+use Rattle.usb_fields.specs.Packet.{reply_of}
 use Rattle.usb_host.specs.Steps.{Takes, Reading}
 use Rattle.usb_host.specs.inside.Hosts.{view_of}
 use Rattle.usb_host.specs.contracts.host.Host.{the_view}

@@ -1,4 +1,4 @@
-use Rattle.std.proofs.Common.{◌≡◌, sym, ◌∙◌, subst}
+use Rattle.std.proofs.Common.{sym, ◌∙◌, subst}
 use Rattle.usb_fields.specs.Packet.{reply_of}
 use Rattle.usb_host.specs.inside.Reads.{GoesOn, LeadsOn, IsStanding, standing}
 use Rattle.usb_host.specs.Steps.{TakesHeard}
