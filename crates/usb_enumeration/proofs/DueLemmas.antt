@@ -1,6 +1,6 @@
 -- A read in work has a transaction that is due.
-use Rattle.std.proofs.Common.{◌≡◌, ℕ, Bool, true, false, ◌&&◌, if◌then◌else◌, nat_lt, List, [], ◌∷◌, Some, None, ◌⊎◌, inl, inr, refl, ap, sym, ◌∙◌, subst}
-use Rattle.std.specs.Prelude.{Option, Result, Ok, Err}
+use Rattle.std.proofs.Common.{◌≡◌, ℕ, Bool, true, false, ◌&&◌, if◌then◌else◌, nat_lt, List, [], ◌∷◌, Some, None, inl, inr, refl, ap, sym, ◌∙◌, subst}
+use Rattle.std.specs.Prelude.{Option}
 use Rattle.usb_fields.specs.declared.speed.Speed.{Speed}
 use Rattle.usb_fields.specs.Packet.{Sent, Reply as Answer}
 use Rattle.usb_file_data.specs.declared.file.DescriptorFile.{DescriptorFile}
@@ -11,12 +11,11 @@ use Rattle.usb_transfer.specs.Limits.{LimitView}
 use Rattle.usb_transfer.specs.Plan.{Plan, Begin, Success, Trouble as GivesUp}
 use Rattle.usb_transfer.specs.Transfer.{TransferView, Taken, taken, due, token_due, addressed}
 use Rattle.usb_bus.specs.declared.fate.Fate.{Fate}
-use Rattle.usb_host.specs.declared.step.Trouble.{Trouble}
 use Rattle.usb_host.specs.declared.place.Place.{Place}
 use Rattle.usb_host.specs.declared.place.Place.TheVariants.{First, Stopped}
 use Rattle.usb_host.specs.declared.kept.Kept.{Kept}
 use Rattle.usb_host.specs.Order.{asks, refused_leads}
-use Rattle.usb_host.specs.Steps.{HostPhase, ResetDue, Reading, Ended, HostView, WantsNothing, wanted, sends, entered, enter, reset, settled, blames_bus, goes_on, completed_leads, TakesHeard, TakesIn}
+use Rattle.usb_host.specs.Steps.{HostPhase, ResetDue, Reading, Ended, HostView, WantsNothing, wanted, sends, entered, settled, blames_bus, goes_on, completed_leads, TakesHeard, TakesIn}
 use Rattle.usb_enumeration.specs.Run.{Pair, new_pair, Runs}
 use Rattle.usb_enumeration.proofs.RunLemmas.{wants_reset, reset_is}
 

@@ -1,5 +1,5 @@
 -- The loop of an enumeration, and its end.
-use Rattle.std.proofs.Common.{◌≡◌, ℕ, suc, ◌+◌, ◌-◌, ◌*◌, ◌<◌, ◌≤◌, true, List, [], ◌∷◌, Option, Some, None, Result, Ok, Err, ◌⊎◌, inl, inr, refl, ap, sym, ◌∙◌, arith, subst}
+use Rattle.std.proofs.Common.{◌≡◌, ℕ, suc, ◌+◌, ◌-◌, ◌*◌, ◌<◌, ◌≤◌, true, List, ◌∷◌, Some, Result, Ok, Err, inl, inr, refl, ap, sym, ◌∙◌, arith, subst}
 use Rattle.std.specs.Prelude.{IsSome, IfOk, IfErr}
 use Rattle.std.proofs.lemmas.Nat.{mul-le}
 use Rattle.usb_base.specs.Bytes.{AreBytes}
@@ -10,6 +10,7 @@ use Rattle.usb_file_data.specs.File.{file_bytes}
 use Rattle.usb_transfer.specs.declared.why.Why.{Why}
 use Rattle.usb_transfer.specs.declared.why.Why.TheVariants.{Memory}
 use Rattle.usb_transfer.specs.Limits.{LimitView, IsInRange}
+use Rattle.usb_description.specs.Accepted.{Accepted}
 use Rattle.usb_device.specs.declared.state.State.{State}
 use Rattle.usb_bus.specs.declared.fate.Fate.{Fate}
 use Rattle.usb_bus.specs.Fates.{losses, busies}
@@ -19,10 +20,12 @@ use Rattle.usb_host.specs.declared.step.Trouble.{Trouble}
 use Rattle.usb_host.specs.declared.place.Place.{Place}
 use Rattle.usb_host.specs.declared.place.Place.TheVariants.{Reported, Stopped}
 use Rattle.usb_host.specs.Cost.{most, left_to_ask}
-use Rattle.usb_host.specs.Steps.{HostPhase, ResetDue, Reading, Ended, HostView, WantsReset, WantsNothing, wanted, outcome_at, outcome_of, reset, TakesIn, Takes}
+use Rattle.usb_host.specs.Steps.{HostPhase, ResetDue, Reading, Ended, HostView, WantsReset, WantsNothing, wanted, blames_bus, outcome_at, outcome_of, reset, TakesIn}
 use Rattle.usb_host.proofs.LowerLemmas.{asks_less}
 use Rattle.usb_enumeration.specs.Script.{configured_state}
+use Rattle.usb_enumeration.specs.Enumerate.{HasReadAll}
 use Rattle.usb_enumeration.specs.Run.{Pair, new_pair, Runs, HasCause, EndsWell, GoesWell, KeepsLimits}
+use Rattle.usb_enumeration.specs.Laws.{RunsEndWell}
 use Rattle.usb_enumeration.specs.inside.Stepping.{Moves, LeadsTo}
 use Rattle.usb_enumeration.proofs.RunLemmas.{wants_reset, reset_is}
 use Rattle.usb_enumeration.proofs.DueLemmas.{run_due, nothing_wanted}
@@ -43,6 +46,20 @@ takes_resets : (v w : HostView) (p : HostPhase) (answer : Answer) → TakesIn v 
 takes_resets v w ResetDue answer e = ap (λ h. h.resets) e
 takes_resets v w (Ended place) answer e = ap (λ h. h.resets) e
 takes_resets v w (Reading place t k) answer (phase, heard, e) = ap (λ h. h.resets) e
+
+-- no step adds to the transactions that there were and those that may still be asked for
+pub asks_on : (f : DescriptorFile) (limits : LimitView) (fates : List Fate) (x y : Pair) (n now : ℕ) → KeepsLimits limits x.host → Moves f fates x n y now →
+    (n < now → left_to_ask y.host < left_to_ask x.host) → now + left_to_ask y.host ≤ n + left_to_ask x.host
+asks_on f limits fates x y n now keeps (inl (r, e)) fewer =
+    let some : x.host.phase ≡ ResetDue → x.host.resets < x.host.limits.attempts =
+    λ is. subst (λ l. x.host.resets < l.attempts) (sym keeps.0) (keeps.2 is) in
+    let less = reset_left x.host r.due some in
+    let same : left_to_ask y.host ≡ left_to_ask (reset x.host) = ap (λ v. left_to_ask v) r.host in
+    omega arith
+asks_on f limits fates x y n now keeps (inr (t, e)) fewer =
+    let more : n < now = omega arith in
+    let less = fewer more in
+    omega arith
 
 -- each step falls: a transaction in what may be asked for, a reset in the attempts that are left
 pub falls : (f : DescriptorFile) (limits : LimitView) (fates : List Fate) (x y : Pair) (n now : ℕ) → KeepsLimits limits x.host → Moves f fates x n y now →
@@ -87,6 +104,30 @@ says_at f limits used attempts s (Stopped trouble) (Ok h) good e = absurd (cc)
 says_at f limits used attempts s (Stopped trouble) (Err other) good e =
     (let same : trouble ≡ other = cc in subst (λ t. HasCause limits used attempts t.why) same good)
 says_at f limits used attempts s place o good e = absurd (good)
+
+-- by the law of runs
+pub goes_well : (f : DescriptorFile) (limits : LimitView) (speed : Speed) (fates : List Fate) (n : ℕ) (last : Pair) → RunsEndWell → Accepted f speed →
+    AreBytes (file_bytes f) → IsInRange limits.address limits.attempts → LeadsTo f speed limits fates n last →
+    GoesWell f limits (fates_used fates n) last.host.resets last.device.state last.host.phase
+goes_well f limits speed fates n last ends accepted fits range (earlier, runs) = ends limits speed f fates earlier n last accepted fits range runs
+
+-- what is said of a success, and of any other end
+pub reads : (f : DescriptorFile) (limits : LimitView) (used : List Fate) (attempts : ℕ) (s : State) (o : Result DescriptorFile Trouble) →
+    Says f limits used attempts s o → IfOk o (HasReadAll f limits.address s)
+reads f limits used attempts s (Ok g) h = h
+reads f limits used attempts s (Err trouble) h = tt
+
+pub cause : (f : DescriptorFile) (limits : LimitView) (used : List Fate) (attempts : ℕ) (s : State) (o : Result DescriptorFile Trouble) →
+    Says f limits used attempts s o → IfErr o (λ trouble. HasCause limits used attempts trouble.why)
+cause f limits used attempts s (Ok g) h = tt
+cause f limits used attempts s (Err trouble) h = h
+
+-- want of memory does not blame the bus
+pub all_used : (f : DescriptorFile) (limits : LimitView) (used : List Fate) (attempts : ℕ) (s : State) (o : Result DescriptorFile Trouble) →
+    Says f limits used attempts s o → IfErr o (λ trouble. blames_bus trouble.why ≡ true → attempts ≡ limits.attempts)
+all_used f limits used attempts s (Ok g) h = tt
+all_used f limits used attempts s (Err trouble) (inl e) = λ blamed. absurd (let wrong = sym (ap blames_bus e) ∙ blamed in cc)
+all_used f limits used attempts s (Err trouble) (inr (blamed, all, bad)) = λ again. all
 
 module _ (f : DescriptorFile) (limits : LimitView) (speed : Speed) (fates : List Fate) (n : ℕ) (last : Pair) (leads : LeadsTo f speed limits fates n last)
     (nothing : wanted last.host.phase ≡ WantsNothing)

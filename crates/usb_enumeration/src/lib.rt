@@ -1,7 +1,20 @@
 //! The enumeration of a device over a bus that loses packets and handshakes.
+//!
+//! [`enumerate`] joins a real host and a real device: the host resets the device, reads its descriptors, gives it an
+//! address and configures it, under any list of fates of its transactions. Its answer is a [`Run`].
+//!
+//! - A success has read just the descriptors of the device, whatever was lost on the way.
+//! - Any other end has a cause: as many losses as attempts, more busy transactions than NAKs are borne, or want of
+//!   memory.
+//! - There are at most as many attempts and transactions as the limits allow.
+//!
+//! What a run of both ends is stands in `specs/Run.antt`, and [`laws`] says what holds of every such run.
 #![tactic(auto)]
 
+mod enumeration;
+mod exchange;
 pub mod laws;
 mod run;
 
+pub use enumeration::enumerate;
 pub use run::Run;

@@ -1,5 +1,5 @@
 -- What one step of an enumeration does, and what its loop keeps.
-use Rattle.std.specs.Prelude.{◌≡◌, ℕ, suc, ◌+◌, ◌-◌, List, ◌⊎◌}
+use Rattle.std.specs.Prelude.{◌≡◌, ℕ, suc, List, ◌⊎◌}
 use Rattle.usb_fields.specs.declared.speed.Speed.{Speed}
 use Rattle.usb_file_data.specs.declared.file.DescriptorFile.{DescriptorFile}
 use Rattle.usb_transfer.specs.Limits.{LimitView}

@@ -1,0 +1,98 @@
+//! An enumeration, from a new host and a new device to its outcome.
+ghost use Rattle.std.specs.Prelude.{◌≡◌, ◌<◌, ◌≤◌, ◌+◌, ◌^◌, true, IfErr, IfOk, IfSome, IsNone};
+ghost use Rattle.usb_transfer.specs.declared.why.Why.TheVariants.{Memory};
+ghost use Rattle.usb_bus.specs.Fates.{busies, losses};
+ghost use Rattle.usb_bus.specs.Run.{fates_used};
+ghost use Rattle.usb_host.specs.Cost.{left_to_ask, most};
+ghost use Rattle.usb_host.specs.Steps.{WantsNothing, blames_bus, wanted};
+ghost use Rattle.usb_enumeration.specs.Enumerate.{HasReadAll, IsEnumeration};
+ghost use Rattle.usb_enumeration.specs.Run.{HasCause};
+ghost use Rattle.usb_enumeration.specs.inside.Stepping.{Moves, both};
+
+use crate::exchange::{exchange, fate_of};
+use crate::laws::a_run_ends_well;
+use crate::run::Run;
+use std::alloc::Global;
+use usb_bus::Fate;
+use usb_device::{Description, Device};
+use usb_host::{Action, Host};
+use usb_transfer::Limits;
+
+/// What the host wants next, done at both ends: a bus reset, which has no fate, or a transaction. Answers how many
+/// transactions there were then, or `None` where the host wants nothing more.
+fn step(host: &mut Host, device: &mut Device<'_>, fates: &[Fate], transactions: u64) -> Option<u64>
+    requires few { transactions + left_to_ask host.old < 2 ^ 64 }
+    ensures moves { IfSome result (λ now. Moves device.old.description.file fates.now (both host.old device.old.device) transactions (both host.new device.new.device) now) }
+    ensures fewer { IfSome result (λ now. transactions < now → left_to_ask host.new < left_to_ask host.old) }
+    ensures ended { IsNone result → (wanted host.new.phase ≡ WantsNothing) × (both host.new device.new.device ≡ both host.old device.old.device) }
+    ensures description { device.new.description ≡ device.old.description }
+{
+    match host.next() {
+        Action::Reset => {
+            device.reset();
+            host.reset_done();
+            Some(transactions)
+        }
+        Action::Send(t) => {
+            exchange(host, device, &t, fate_of(fates, transactions));
+            Some(transactions + 1)
+        }
+        Action::Ended => None,
+    }
+}
+
+/// Enumerates a device with this description, over a bus with these fates: a host with these limits reads all its
+/// descriptors, gives it the limits' address and configures it (USB 2.0, 9.1.2).
+///
+/// Both ends are new. The k-th transaction of all attempts has the k-th fate, and after the list's end all pass. A bus
+/// reset is no transaction: it has no fate, and reaches the device. Where an attempt fails for the bus's sake, the host
+/// begins again with a reset, as often as the limits allow. There are at most attempts * (NAKs + 3) * 5,273,453
+/// transactions.
+///
+/// What was read, or why there is none, is the [`Run`]'s outcome. So is want of memory, which ends an enumeration where
+/// a growth was refused.
+///
+/// ```rust
+/// // The ACK of the address's status stage is lost: the host asks at address 1, where no device is yet.
+/// let fates = [Fate::Pass, Fate::Pass, Fate::Pass, Fate::Pass, Fate::LostAck];
+/// let run = enumerate(alloc, &description, Limits::new(1, 16, 3)?, &fates);
+/// assert_eq!(rt; run.outcome, Ok(file));
+/// assert_eq!(rt; run.attempts, 2);
+/// ```
+pub fn enumerate(alloc: Global, d: &Description, limits: Limits, fates: &[Fate]) -> Run
+    ensures run { IsEnumeration d.now.file d.now.speed limits fates.now result }
+
+    // A success has read the description, and the device is configured.
+    ensures reads { IfOk result.outcome (HasReadAll d.now.file limits.address result.state) }
+
+    // Whatever comes of it, it keeps the limits; and where the bus is blamed, all attempts were used.
+    ensures few { result.transactions ≤ most limits }
+    ensures attempts { result.attempts ≤ limits.attempts }
+    ensures all { IfErr result.outcome (λ trouble. blames_bus trouble.why ≡ true → result.attempts ≡ limits.attempts) }
+
+    // An end without success has a cause, and it does not come without one.
+    ensures cause { IfErr result.outcome (λ trouble. HasCause limits (fates_used fates.now result.transactions) result.attempts trouble.why) }
+    ensures succeeds { losses fates.now < limits.attempts → busies fates.now ≤ limits.naks → IfErr result.outcome (λ trouble. trouble.why ≡ Memory) }
+{
+    // For the proof alone: what holds of a description, of limits and of every run.
+    let _file = d.file();
+    d.known();
+    limits.known();
+    a_run_ends_well();
+    let mut host = Host::new(alloc, limits, d.speed());
+    let mut device = Device::new(d);
+    let mut transactions = 0u64;
+    while let Some(now) = step(&mut host, &mut device, fates, transactions) {
+        transactions = now;
+    }
+    let attempts = host.attempts();
+    match host.into_outcome() {
+        Some(outcome) => Run {
+            outcome,
+            attempts,
+            transactions,
+            state: device.state(),
+        },
+        None => unreachable!(),
+    }
+}

@@ -1,0 +1,51 @@
+//! One transaction between a host that enumerates and a device.
+ghost use Rattle.std.specs.Prelude.{◌≡◌, ◌<◌};
+ghost use Rattle.usb_fields.specs.Packet.{Sent, sent_of};
+ghost use Rattle.usb_device.specs.Requests.{answer};
+ghost use Rattle.usb_bus.specs.Bus.{carried};
+ghost use Rattle.usb_bus.specs.Run.{fate_at};
+ghost use Rattle.usb_host.specs.Cost.{left_to_ask};
+ghost use Rattle.usb_host.specs.Steps.{Takes, WantsSent, wanted};
+
+use usb_bus::Fate;
+use usb_device::Device;
+use usb_fields::{Answer, Transaction};
+use usb_host::Host;
+
+/// The fate of a transaction, by its number. After the list's end all pass.
+pub(crate) fn fate_of(fates: &[Fate], number: u64) -> Fate
+    ensures { result ≡ fate_at fates.now number }
+{
+    if number < fates.len() as u64 {
+        fates[number as usize]
+    } else {
+        Fate::Pass
+    }
+}
+
+/// One transaction under a fate: the host takes what the bus leaves of the answer, which the device lends.
+pub(crate) fn exchange(host: &mut Host, device: &mut Device<'_>, t: &Transaction<'_>, fate: Fate)
+    ensures host { Takes host.old (carried (answer device.old.description.file) device.old.description.file.device.packet device.old.device (sent_of t.now) fate).reply host.new }
+    ensures device { device.new ≡ record device.old { device = (carried (answer device.old.description.file) device.old.description.file.device.packet device.old.device (sent_of t.now) fate).device } }
+    ensures fewer { (sent : Sent) → wanted host.old.phase ≡ WantsSent sent → left_to_ask host.new < left_to_ask host.old }
+{
+    match fate {
+        Fate::Pass | Fate::Busy => {
+            let answer = device.serve(t, fate == Fate::Pass);
+            let is_data = matches!(answer, Answer::Data(_, _));
+            host.take(answer);
+            if is_data {
+                device.acked();
+            }
+        }
+        Fate::LostDown => host.take(Answer::Silence),
+        Fate::LostUp => {
+            let _answer = device.serve(t, true);
+            host.take(Answer::Silence);
+        }
+        Fate::LostAck => {
+            let answer = device.serve(t, true);
+            host.take(answer);
+        }
+    }
+}
