@@ -1,4 +1,3 @@
 pub mod Showing
-pub mod LineLemmas
 pub mod Running
 pub mod Intakes

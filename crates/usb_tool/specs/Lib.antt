@@ -5,7 +5,5 @@ pub mod Failing
 pub mod Shows
 pub mod Checks
 pub mod Builds
-pub mod Lines
 pub mod Runs
-pub mod Words
 pub mod inside
