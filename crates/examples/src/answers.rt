@@ -1,6 +1,6 @@
 //! What comes of each call that a row can name.
 use crate::row::{Answer, Row};
-use crate::{failing, fields, files, messages, program, sets};
+use crate::{command_line, failing, fields, files, messages, program, sets};
 use anyhow::{Result, bail};
 use std::alloc::Global;
 
@@ -31,6 +31,10 @@ pub(crate) fn answer(alloc: Global, row: &Row) -> Result<Answer> {
         "failing_write" => failing::failing_write(alloc, row)?,
         "failing_flush" => failing::failing_flush(alloc, row)?,
         "endless" => failing::endless(alloc, row)?,
+        "line" => command_line::line(alloc, words)?,
+        "speed" => command_line::speed(alloc, words)?,
+        "fates" => command_line::fates(alloc, words)?,
+        "settings" => command_line::settings(alloc, words)?,
         "message" => messages::message(alloc, words)?,
         call => bail!("no call is named {call}"),
     };

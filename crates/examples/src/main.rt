@@ -4,6 +4,7 @@
 #![tactic(auto)]
 
 mod answers;
+mod command_line;
 mod failing;
 mod fields;
 mod files;

@@ -6,7 +6,7 @@ use usb_device::DescriptionFault;
 use usb_fields::{FieldFault, UnitFault};
 use usb_file::{FileFault, FileWhy, Finding, ListFault, ListWhy, OutFault, Part, WriteFault};
 use usb_set::{EncodeFault, SetFault, SetWhy};
-use usb_tool::{ToolFault, verdict};
+use usb_tool::{FatesFault, SettingsFault, ToolFault, verdict};
 use usb_transfer::{LimitFault, Why};
 
 const FIELD_FAULTS: [FieldFault; 2] = [FieldFault::Length, FieldFault::Kind];
@@ -90,6 +90,16 @@ const DESCRIPTION_FAULTS: [DescriptionFault; 5] = [
 
 const LIMIT_FAULTS: [LimitFault; 2] = [LimitFault::Address, LimitFault::Attempts];
 
+const FATES_FAULTS: [FatesFault; 2] = [FatesFault::Letter, FatesFault::Memory];
+
+/// Why the options of `enumerate` are refused.
+const SETTINGS_FAULTS: [SettingsFault; 4] = [
+    SettingsFault::Number,
+    SettingsFault::Speed,
+    SettingsFault::Fates,
+    SettingsFault::Memory,
+];
+
 /// All that can go wrong in a transfer.
 const TRANSFER_WHYS: [Why; 7] = [
     Why::NoAnswer,
@@ -132,6 +142,8 @@ pub(crate) fn message(alloc: Global, words: &[String]) -> Result<String> {
         }
         "DescriptionFault" => numbered(alloc, &DESCRIPTION_FAULTS, DescriptionFault::number, n),
         "LimitFault" => numbered(alloc, &LIMIT_FAULTS, LimitFault::number, n),
+        "FatesFault" => numbered(alloc, &FATES_FAULTS, FatesFault::number, n),
+        "SettingsFault" => of_settings(alloc, n),
         "Why" => numbered(alloc, &TRANSFER_WHYS, Why::number, n),
         _ => bail!("no such type"),
     }
@@ -149,6 +161,16 @@ fn numbered<T: Display + Copy, F: Fn(T) -> u8>(
     for fault in faults {
         if number_of(*fault) == number {
             return Ok(format!(in alloc; "{fault}")?);
+        }
+    }
+    bail!("no fault of that number")
+}
+
+/// The line of a fault of the options, and the status that it ends with.
+fn of_settings(alloc: Global, number: u8) -> Result<String> {
+    for fault in SETTINGS_FAULTS {
+        if fault.number() == number {
+            return Ok(format!(in alloc; "{} {fault}", fault.status())?);
         }
     }
     bail!("no fault of that number")

@@ -6,10 +6,10 @@ use Rattle.clap.specs.Words.{subcommand_of}
 use Rattle.usb_listing.specs.Output.{Held}
 use Rattle.usb_tool.specs.Faults.{status_of}
 use Rattle.usb_tool.specs.Input.{Left}
-use Rattle.usb_tool.specs.Lines.{Asks, usbdesc_app, word_texts}
+use Rattle.usb_command_line.specs.Lines.{Asks, usbdesc_app, word_texts}
 use Rattle.usb_tool.specs.Runs.{Ends, Failure, WithStatusZero, Work}
 use Rattle.usb_tool.specs.declared.fault.ToolFault.{ToolFault}
-use Rattle.usb_tool.specs.declared.line.Line.{Line}
+use Rattle.usb_command_line.specs.declared.line.Line.{Line}
 
 module _ (line : Line) (words : List (String Global)) (from to : Left) (held holds : Held) (status : ℕ) where
   -- a run that was asked for a command ends as the command does

@@ -7,7 +7,5 @@ pub mod Checks
 pub mod Builds
 pub mod ResultLines
 pub mod Enumerations
-pub mod Lines
 pub mod Runs
-pub mod Words
 pub mod inside

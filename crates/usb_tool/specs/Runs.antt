@@ -10,11 +10,12 @@ use Rattle.usb_listing.specs.Output.{Held}
 use Rattle.usb_tool.specs.Builds.{BuildFails, Built}
 use Rattle.usb_tool.specs.Checks.{CheckFails, Checked}
 use Rattle.usb_tool.specs.Input.{Left}
-use Rattle.usb_tool.specs.Lines.{Asks, usbdesc_app, word_texts}
+use Rattle.usb_command_line.specs.Lines.{Asks, usbdesc_app, word_texts}
 use Rattle.usb_tool.specs.Shows.{Shown, ShowFails}
 use Rattle.usb_tool.specs.declared.fault.ToolFault.{ToolFault}
-use Rattle.usb_tool.specs.declared.line.Line.{Line}
-use Rattle.usb_tool.specs.declared.line.Line.TheVariants as lines
+use Rattle.usb_command_line.specs.declared.line.Line.{Line}
+use Rattle.usb_command_line.specs.declared.line.Line.TheVariants as lines
+use Rattle.usb_command_line.specs.declared.options.Options.{Options}
 
 -- the exit status of a line that is no command: 0 where it asks for help, else 2
 abbrev pub line_status : ErrorKind → ℕ
@@ -65,10 +66,19 @@ pub record LineIsRefused (words : List (String Global)) (from to : Left) (held h
   pub output : KeepsUnlessHelp kind held holds
   pub ended : status ≡ line_status kind
 
+-- the words ask for an enumeration, which is not there yet; nothing is read or written
+pub record EnumerationIsRefused (words : List (String Global)) (from to : Left) (held holds : Held) (status : ℕ) : Type 0 where
+  pub options : Options
+  pub asked : Asks (lines.Enumerate options) (subcommand_of usbdesc_app (word_texts words))
+  pub input : Keeps from to
+  pub output : Keeps held holds
+  pub ended : status ≡ 2
+
 -- what a run has done, and its exit status
 abbrev pub Runs : List (String Global) → Left → Left → Held → Held → ℕ → Type 0
 Runs words from to held holds status =
     Ends lines.Show (WithStatusZero Shown) ShowFails words from to held holds status
     ⊎ (Ends lines.Check Checked CheckFails words from to held holds status
     ⊎ (Ends lines.Build (WithStatusZero Built) BuildFails words from to held holds status
-    ⊎ LineIsRefused words from to held holds status))
+    ⊎ (EnumerationIsRefused words from to held holds status
+    ⊎ LineIsRefused words from to held holds status)))

@@ -11,7 +11,7 @@
 //! [`run`] is the whole program over any standard streams: [`read_line`] reads its command line,
 //! [`ToolFault`] says why a command failed, and [`verdict`] gives the exit status. What a run does is
 //! `specs/Runs.antt`. Where its words could not be taken, [`refuse_words`] gives the line for standard error and
-//! the status.
+//! the status. What the words say stands in the crate `usb_command_line`.
 //!
 //! [`converse`] makes control transfers between a host and a device over a bus that loses packets and handshakes.
 //! It takes the description of the device (crate `usb_description`), how many NAKs the host bears, the requests
@@ -25,24 +25,24 @@ mod enumeration;
 mod fault;
 mod input;
 mod intake;
-mod line;
 mod output;
 mod program;
 mod result_line;
 mod set_intake;
 mod show;
 mod whole;
-mod words;
 
 pub use build::run_build;
 pub use check::run_check;
 pub use enumeration::run_enumerate;
 pub use fault::{ToolFault, verdict};
-pub use line::{Line, read_line};
 pub use program::run;
 pub use show::run_show;
 pub use usb_bus::{Fate, Reply, Talk, converse, laws};
+pub use usb_command_line::{
+    FatesFault, Line, Options, Settings, SettingsFault, read_fates, read_line, read_speed,
+    refuse_words, settings_of,
+};
 pub use usb_enumeration;
 pub use usb_enumeration::{Run, enumerate};
 pub use usb_file::LISTING_LIMIT;
-pub use words::refuse_words;

@@ -7,11 +7,11 @@ ghost use Rattle.usb_tool.specs.Runs.{KeepsUnlessHelp, Runs, line_status};
 use crate::build::run_build;
 use crate::check::run_check;
 use crate::fault::{ToolFault, verdict};
-use crate::line::{Line, read_line};
 use crate::show::run_show;
 use clap::Error;
 use std::alloc::Global;
 use std::io::{Read, Write};
+use usb_command_line::{Line, read_line};
 
 /// The exit status of a command line that asks for nothing that the program does.
 const USAGE: u8 = 2;
@@ -41,6 +41,7 @@ pub fn run<R: Read, W: Write, E: Write>(
         Ok(Line::Show) => finish(&run_show(alloc, r, w), e),
         Ok(Line::Check) => finish(&run_check(alloc, r, w), e),
         Ok(Line::Build) => finish(&run_build(alloc, r, w), e),
+        Ok(Line::Enumerate(_)) => USAGE,
         Err(error) => explain(&error, w, e),
     }
 }

@@ -1,8 +1,8 @@
-use Rattle.std.proofs.Common.{inl, inr, subst}
+use Rattle.std.proofs.Common.{inl, inr, refl, rules, subst}
 use Rattle.clap.specs.Words.{subcommand_of}
 use Rattle.usb_tool.proofs.Running.{runs_command, runs_with_status_zero}
-use Rattle.usb_tool.specs.Lines.{Asks, usbdesc_app, word_texts}
-use Rattle.usb_tool.specs.declared.line.Line.{Line}
+use Rattle.usb_command_line.specs.Lines.{Asks, usbdesc_app, word_texts}
+use Rattle.usb_command_line.specs.declared.line.Line.{Line}
 use Rattle.usb_tool.proofs.program.run.Goals as goal
 
 pub returns-in-Ok-Show : goal.returns-in-Ok-Show
@@ -19,3 +19,8 @@ pub returns-in-Ok-Build : goal.returns-in-Ok-Build
 returns-in-Ok-Build g c =
     let asked = subst (λ (line : Line). Asks line (subcommand_of usbdesc_app (word_texts c.args.words.now))) c.in-Ok-Build.field-0-is c.in-Ok-Build.ensures.line in
     inr (inr (inl (runs_with_status_zero _ _ _ _ _ _ _ _ _ _ asked c.run_build.ensures.number c.run_build.ensures.built c.run_build.ensures.err c.finish-in-Ok-Build.ensures)))
+
+pub returns-in-Ok-Enumerate : goal.returns-in-Ok-Enumerate
+returns-in-Ok-Enumerate g c =
+    let asked = subst (λ (line : Line). Asks line (subcommand_of usbdesc_app (word_texts c.args.words.now))) c.in-Ok-Enumerate.field-0-is c.in-Ok-Enumerate.ensures.line in
+    inr (inr (inr (inl (record { options = _; asked = asked; input = search rules; output = search rules; ended = refl }))))

@@ -1,7 +1,7 @@
 //! What is said where the words of the command line could not be taken.
 ghost use Rattle.std.specs.Prelude.{◌≡◌};
 ghost use Rattle.std.specs.IoError.{error_kind};
-ghost use Rattle.usb_tool.specs.Words.{words_line, words_status};
+ghost use Rattle.usb_command_line.specs.Words.{words_line, words_status};
 
 use std::io;
 

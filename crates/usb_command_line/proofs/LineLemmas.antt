@@ -1,5 +1,5 @@
 -- What the command of `usbdesc` is, and that words without a fault name one of its subcommands.
-use Rattle.std.proofs.Common.{refl, true, false, ◌≡◌, ◌&&◌, ◌||◌, Bool, ℕ, cond, List, [], ◌∷◌, length, suc, arith, ap, fold, Option, Some, None, is_some, codes, option_map, find, slice_index_or, subst, sym, true≢false, ◌∙◌}
+use Rattle.std.proofs.Common.{refl, true, false, ◌≡◌, ◌&&◌, ◌||◌, Bool, ℕ, cond, List, [], ◌∷◌, length, suc, arith, ap, fold, Option, Some, None, is_some, codes, option_map, find, slice_index_or, subst, sym, true≢false, inl, inr, ◌∙◌}
 use Rattle.std.specs.Prelude.{⊤, IfOk, Result, Ok, Err}
 use Rattle.std.specs.Str.{bytes_eq}
 use Rattle.std.proofs.lemmas.Slice.Eq.{bytes_eq-Decides}
@@ -7,16 +7,19 @@ use Rattle.clap.specs.declared.error.kind.ErrorKind.{ErrorKind}
 use Rattle.clap.specs.declared.error.Error.{Error}
 use Rattle.clap.specs.declared.parser.matches.ArgMatches.{ArgMatches}
 use Rattle.clap.specs.declared.error.kind.ErrorKind.TheVariants.{DisplayHelp, InvalidSubcommand}
-use Rattle.clap.specs.Words.{Text, Row, fault_of, is_simple_and_free, subcommand_of, subcommand_rows_of}
+use Rattle.clap.specs.Words.{Text, Row, fault_of, is_simple, is_simple_and_free, subcommand_of, subcommand_rows_of}
 use Rattle.clap.specs.Kinds.{FailsBy, Kinds, or_else}
 use Rattle.clap.specs.Walk.{Held, Names, Outcome, Rule, Step, Waiting, Walk, after_flag, after_step, answers_to, arg_by_index, done, finished, idle, long_or_other, next, nothing_held, option, plain, plain_word, positional, refused, settled, short_or_plain, subcommand, subcommand_met, subcommand_or_other, to_positional, trailing, value, waits, walk, walk_from, walked, word_met}
 use Rattle.clap.specs.Lexer.{short_of, long_of}
 use Rattle.clap.specs.Simple.{Shape, argument_words, built, entered, help_shape, label_of, names_of, rows_at}
 use Rattle.clap.specs.Faults.{check_fault, defaults_fault, entered_fault, other_fault, settle_fault, turn_fault, walk_fault, word_fault}
 use Rattle.clap.proofs.OnLiterals.{clap_on_literals}
-use Rattle.usb_tool.specs.Lines.{Asks, usbdesc_app}
-use Rattle.usb_tool.specs.declared.line.Line.{Line}
-use Rattle.usb_tool.specs.declared.line.Line.TheVariants as lines
+use Rattle.usb_command_line.specs.Lines.{usbdesc_app}
+use Rattle.usb_command_line.specs.inside.Choosing.{NamesCommand}
+
+pub usbdesc_simple : is_simple usbdesc_app ≡ true
+unfolding clap_on_literals
+usbdesc_simple = refl
 
 pub usbdesc_free : is_simple_and_free usbdesc_app ≡ true
 unfolding clap_on_literals
@@ -126,28 +129,31 @@ help_unanswered name e = go (bytes_eq (codes "help") name) refl
     go false is = refl
     go true is = absurd (true≢false (sym ((bytes_eq-Decides name (codes "help")).1 (sym ((bytes_eq-Decides (codes "help") name).0 is))) ∙ e))
 
--- of four subcommands the last, `help`, isn't the one that is found
-module _ (x y z help : Shape) (rest : List Text) (f : Shape → Bool) where
+-- of five subcommands the last, `help`, isn't the one that is found
+module _ (x y z u help : Shape) (rest : List Text) (f : Shape → Bool) where
   abbrev found : Option (Text × List Row)
-  found = option_map (λ s. rows_at s rest) (find f (x ∷ y ∷ z ∷ help ∷ []))
+  found = option_map (λ s. rows_at s rest) (find f (x ∷ y ∷ z ∷ u ∷ help ∷ []))
 
-  asked_of_four : (a b c : Bool) → x.name ≡ codes "show" → y.name ≡ codes "check" → z.name ≡ codes "build"
-      → f x ≡ a → f y ≡ b → f z ≡ c → f help ≡ false → is_some found ≡ true → (line : Line) × Asks line found
-  asked_of_four true b c show check build first second third last some = (lines.Show, rw first (ap Some show))
-  asked_of_four false true c show check build first second third last some = (lines.Check, rw (first, second) (ap Some check))
-  asked_of_four false false true show check build first second third last some =
-      (lines.Build, rw (first, second, third) (ap Some build))
-  asked_of_four false false false show check build first second third last some =
-      absurd (true≢false (sym (rw (first, second, third, last) at some)))
+  named_of_five : (a b c d : Bool) → x.name ≡ codes "show" → y.name ≡ codes "check" → z.name ≡ codes "build" → u.name ≡ codes "enumerate"
+      → f x ≡ a → f y ≡ b → f z ≡ c → f u ≡ d → f help ≡ false → is_some found ≡ true → NamesCommand found
+  named_of_five true b c d show check build enumerate first second third fourth last some = inl (rw first (ap Some show))
+  named_of_five false true c d show check build enumerate first second third fourth last some =
+      inr (inl (rw (first, second) (ap Some check)))
+  named_of_five false false true d show check build enumerate first second third fourth last some =
+      inr (inr (inl (rw (first, second, third) (ap Some build))))
+  named_of_five false false false true show check build enumerate first second third fourth last some =
+      inr (inr (inr (rw (first, second, third, fourth) (ap Some enumerate))))
+  named_of_five false false false false show check build enumerate first second third fourth last some =
+      absurd (true≢false (sym (rw (first, second, third, fourth, last) at some)))
 
--- `show`, `check`, `build` and the `help` that building adds
+-- the program's subcommands, and the `help` that building adds
 abbrev sub : ℕ → Shape
 sub k = slice_index_or (built usbdesc_app).subs k help_shape
 
-asked_at : (stop : Option (Text × List Text)) → IsNoHelp stop → is_some (entered (built usbdesc_app) stop) ≡ true → (line : Line) × Asks line (entered (built usbdesc_app) stop)
-asked_at None other some = absurd (true≢false (sym some))
-asked_at (Some p) other some =
-    asked_of_four (sub 0) (sub 1) (sub 2) (sub 3) p.1 (λ s. answers_to p.0 (label_of s)) _ _ _ refl refl refl refl refl refl (help_unanswered p.0 other) some
+named_at : (stop : Option (Text × List Text)) → IsNoHelp stop → is_some (entered (built usbdesc_app) stop) ≡ true → NamesCommand (entered (built usbdesc_app) stop)
+named_at None other some = absurd (true≢false (sym some))
+named_at (Some p) other some =
+    named_of_five (sub 0) (sub 1) (sub 2) (sub 3) (sub 4) p.1 (λ s. answers_to p.0 (label_of s)) _ _ _ _ refl refl refl refl refl refl refl refl (help_unanswered p.0 other) some
 
 -- a subcommand is required
 command_met : (rows : List Row) (has : Bool) → check_fault (built usbdesc_app).top rows has ≡ [] → has ≡ true
@@ -159,9 +165,9 @@ first_and_last a b c d e none =
     let after = none_of_both a _ none in
     (after.0, (none_of_both d e (none_of_both c _ (none_of_both b _ after.1).1).1).1)
 
--- words without a fault ask for a line
-pub line_asked : (words : List Text) → fault_of usbdesc_app words ≡ [] → (line : Line) × Asks line (subcommand_of usbdesc_app words)
-line_asked words none =
+-- words without a fault name a command
+pub command_named : (words : List Text) → fault_of usbdesc_app words ≡ [] → NamesCommand (subcommand_of usbdesc_app words)
+command_named words none =
     let a = built usbdesc_app in
     let s = a.top in
     let ws = argument_words usbdesc_app words in
@@ -170,12 +176,10 @@ line_asked words none =
     let has = is_some (entered a end.stopped) in
     let passed = first_and_last (walk_fault s (names_of a) (walk_from nothing_held) ws) (entered_fault a end.stopped)
     (settle_fault s.rules s.args_override_self end.held) (defaults_fault rows s.rules) (check_fault s (finished s.rules end.held) has) none in
-    asked_at end.stopped (walk_no_help s (names_of a) (walk_from nothing_held) ws refl tt passed.0) (command_met (finished s.rules end.held) has passed.1)
+    named_at end.stopped (walk_no_help s (names_of a) (walk_from nothing_held) ws refl tt passed.0) (command_met (finished s.rules end.held) has passed.1)
 
 -- and so do the matches of a parse that succeeds
-pub parse_asks : (words : List Text) (r : Result ArgMatches Error) → FailsBy (fault_of usbdesc_app words) r
-    → IfOk r (λ m. subcommand_rows_of m ≡ subcommand_of usbdesc_app words) → IfOk r (λ m. (line : Line) × Asks line (subcommand_rows_of m))
-parse_asks words (Ok m) none is =
-    let asked = line_asked words none in
-    (asked.0, subst (Asks asked.0) (sym is) asked.1)
-parse_asks words (Err e) fails is = tt
+pub parse_names : (words : List Text) (r : Result ArgMatches Error) → FailsBy (fault_of usbdesc_app words) r
+    → IfOk r (λ m. subcommand_rows_of m ≡ subcommand_of usbdesc_app words) → IfOk r (λ m. NamesCommand (subcommand_rows_of m))
+parse_names words (Ok m) none is = subst NamesCommand (sym is) (command_named words none)
+parse_names words (Err e) fails is = tt

@@ -1,0 +1,6 @@
+pub mod Lines
+pub mod Values
+pub mod Settings
+pub mod Numbers
+pub mod Words
+pub mod inside

@@ -1,0 +1,96 @@
+//! What help says of the commands and of their options.
+
+/// What the program does.
+pub(crate) const ABOUT: &str = "Lists, checks, builds and enumerates USB 2.0 descriptors";
+
+/// What `show` does.
+pub(crate) const SHOW_ABOUT: &str =
+    "Lists the configuration set or descriptor file on standard input, a line for each descriptor";
+
+/// What stands below the help of `show`.
+pub(crate) const SHOW_HELP: &str = "\
+Input:
+  One configuration set where the second byte is 2 or 7: what a device answers when it is
+  asked for a configuration. Any other input is a descriptor file: the device descriptor,
+  its configuration sets, a qualifier and its other-speed sets where there is another speed,
+  and where a string is named the languages and the strings.
+
+Exit status:
+  0  the listing is written
+  2  the command line is no command
+  3  reading, the input or writing is at fault; standard error says how";
+
+/// What `check` does.
+pub(crate) const CHECK_ABOUT: &str =
+    "Checks the descriptor file on standard input by the rules of chapter 9, a line for each finding";
+
+/// What stands below the help of `check`.
+pub(crate) const CHECK_HELP: &str = "\
+Input:
+  A descriptor file: the device descriptor, its configuration sets, a qualifier and its
+  other-speed sets where there is another speed, and where a string is named the languages
+  and the strings.
+
+Exit status:
+  0  no rule is broken; the line 'no findings' is written
+  1  a rule is broken; a line is written for each finding
+  2  the command line is no command
+  3  reading, the input or writing is at fault; standard error says how";
+
+/// What `build` does.
+pub(crate) const BUILD_ABOUT: &str =
+    "Builds the bytes of the descriptor file whose listing is on standard input";
+
+/// What stands below the help of `build`.
+pub(crate) const BUILD_HELP: &str = "\
+Input:
+  The listing of a descriptor file, as 'show' writes it: a line for each descriptor, in the
+  order of the file. It may have been written or changed by hand.
+
+Exit status:
+  0  the bytes of the file are written
+  2  the command line is no command
+  3  reading, the listing or writing is at fault; standard error says how, and of a listing
+     the number of the fault and the first line at fault";
+
+/// What `enumerate` does.
+pub(crate) const ENUMERATE_ABOUT: &str =
+    "Enumerates a device of the descriptor file on standard input, over a bus that may lose packets";
+
+/// What stands below the help of `enumerate`.
+pub(crate) const ENUMERATE_HELP: &str = "\
+Input:
+  A descriptor file: the device descriptor, its configuration sets, a qualifier and its
+  other-speed sets where there is another speed, and where a string is named the languages
+  and the strings.
+
+Fates:
+  A letter for each transaction of the bus, in order. After the last one all arrives.
+  .  all packets arrive
+  n  the device is not ready: it answers NAK to all but a SETUP
+  d  what the host sends is lost
+  u  what the device answers is lost
+  a  the host's ACK of a data packet is lost
+
+Exit status:
+  0  the host has read the device; the result is written, and the listing of what was read
+  1  the file is no device of that speed, or the host gave up; a line is written that says why
+  2  the command line is no command, or an option has a value that it cannot have
+  3  reading, the input or writing is at fault; standard error says how";
+
+/// What `--speed` says.
+pub(crate) const SPEED_HELP: &str = "Speed of the device: low, full or high [default: full]";
+
+/// What `--address` says.
+pub(crate) const ADDRESS_HELP: &str = "Address that the device gets, 1 to 127 [default: 1]";
+
+/// What `--naks` says.
+pub(crate) const NAKS_HELP: &str =
+    "NAKs without progress that a transfer bears, 0 to 65535 [default: 16]";
+
+/// What `--attempts` says.
+pub(crate) const ATTEMPTS_HELP: &str =
+    "How often the host begins anew at most, 1 to 8 [default: 3]";
+
+/// What `--fates` says.
+pub(crate) const FATES_HELP: &str = "What the bus does to each transaction [default: none]";

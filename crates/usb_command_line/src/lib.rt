@@ -1,0 +1,30 @@
+//! The command line of `usbdesc`: what its words say.
+//!
+//! [`read_line`] asks `clap` what the words ask for. Its [`Line`] is a command, and of `enumerate` it has the
+//! [`Options`], which are the texts that stand behind them. Its contract is exact both ways: the line is that of
+//! `clap`'s function of the words, and each fault is `clap`'s own (`specs/Lines.antt`).
+//!
+//! [`settings_of`] makes the [`Settings`] of an enumeration of these texts, with what holds where an option is
+//! absent (`specs/Settings.antt`). It reads the numbers, and [`read_speed`] and [`read_fates`] the other two
+//! (`specs/Values.antt`).
+//!
+//! [`refuse_words`] says what is told where the words could not be taken from the system.
+//!
+//! Nothing here reads an input or writes an output: the commands stand in the crate `usb_tool`.
+#![tactic(auto)]
+
+mod command;
+mod fates;
+mod help;
+mod line;
+mod options;
+mod settings;
+mod speed;
+mod words;
+
+pub use fates::{FatesFault, read_fates};
+pub use line::{Line, read_line};
+pub use options::Options;
+pub use settings::{Settings, SettingsFault, settings_of};
+pub use speed::read_speed;
+pub use words::refuse_words;

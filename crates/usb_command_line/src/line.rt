@@ -1,0 +1,78 @@
+//! What the words of the command line ask for.
+ghost use Rattle.std.specs.Prelude.{◌≡◌, IfOk};
+ghost use Rattle.clap.specs.Words.{fault_of, found_of, rows_of, subcommand_of, subcommand_rows_of};
+ghost use Rattle.clap.specs.Kinds.{FailsBy};
+ghost use Rattle.usb_command_line.specs.Lines.{Asks, HasTexts, usbdesc_app, word_texts};
+ghost use Rattle.usb_command_line.specs.inside.Choosing.{NamesCommand};
+
+use crate::command::usbdesc;
+use crate::options::Options;
+use clap::{ArgMatches, Error};
+use std::alloc::Global;
+
+/// What a command line asks for.
+#[derive(Clone, Copy, Debug, PartialEq, Eq, Hash)]
+pub enum Line<'a> {
+    /// The listing of the set or the file that is the input.
+    Show,
+    /// What breaks a rule of chapter 9 in the file that is the input.
+    Check,
+    /// The bytes of the file whose listing is the input.
+    Build,
+    /// What a host reads of a device that has the descriptors of the file that is the input.
+    Enumerate(Options<'a>),
+}
+
+/// What the words ask for, of which the first is the program's name.
+///
+/// ```rust
+/// let words = vec![in alloc; String::from_str(alloc, "usbdesc")?, String::from_str(alloc, "build")?]?;
+/// assert_eq!(rt; read_line(alloc, &words)?, Line::Build);
+/// ```
+///
+/// # Errors
+///
+/// That of `clap`, whose text and kind it carries: a request for help, words that are no command, a number out
+/// of its range, or want of memory.
+pub fn read_line<'a>(alloc: Global, words: &'a [String]) -> Result<Line<'a>, Error>
+    ensures line { IfOk result (λ line. Asks line (subcommand_of usbdesc_app (word_texts words.entry.now))) }
+    ensures err { FailsBy (fault_of usbdesc_app (word_texts words.entry.now)) result }
+{
+    let matches = parse(alloc, words)?;
+    Ok(line_of(&matches))
+}
+
+fn parse<'a>(alloc: Global, words: &'a [String]) -> Result<ArgMatches<'a>, Error>
+    ensures found { IfOk result (λ m. subcommand_rows_of m ≡ subcommand_of usbdesc_app (word_texts words.entry.now)) }
+    ensures named { IfOk result (λ m. NamesCommand (subcommand_rows_of m)) }
+    ensures err { FailsBy (fault_of usbdesc_app (word_texts words.entry.now)) result }
+{
+    usbdesc(alloc)?.try_get_matches_from(words)
+}
+
+/// What matches ask for. There is always a line: a subcommand is required, and `help`, which `clap` adds, is
+/// an error of the parse.
+fn line_of<'a>(matches: &ArgMatches<'a>) -> Line<'a>
+    requires named { NamesCommand (subcommand_rows_of matches.now) }
+    ensures { Asks result (subcommand_rows_of matches.now) }
+{
+    match matches.subcommand() {
+        Some((name, _)) if name == "show" => Line::Show,
+        Some((name, _)) if name == "check" => Line::Check,
+        Some((name, _)) if name == "build" => Line::Build,
+        Some((name, options)) if name == "enumerate" => Line::Enumerate(options_of(options)),
+        _ => unreachable!(),
+    }
+}
+
+fn options_of<'a>(matches: &ArgMatches<'a>) -> Options<'a>
+    ensures { HasTexts result (rows_of (found_of matches.now)) }
+{
+    Options {
+        speed: matches.get_str("speed"),
+        address: matches.get_str("address"),
+        naks: matches.get_str("naks"),
+        attempts: matches.get_str("attempts"),
+        fates: matches.get_str("fates"),
+    }
+}
