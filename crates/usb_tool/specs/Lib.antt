@@ -5,6 +5,8 @@ pub mod Failing
 pub mod Shows
 pub mod Checks
 pub mod Builds
+pub mod ResultLines
+pub mod Enumerations
 pub mod Lines
 pub mod Runs
 pub mod Words

@@ -5,7 +5,8 @@
 //! those that the writer gains, where the two tell them: `specs/Shows.antt` says what it does, fault by
 //! fault. What each line says stands in the crate `usb_listing`. [`run_check`] writes what breaks a rule of
 //! chapter 9 in a file (`specs/Checks.antt`), and [`run_build`] reads a listing and writes the bytes of its file
-//! (`specs/Builds.antt`).
+//! (`specs/Builds.antt`). [`run_enumerate`] enumerates a device that has the descriptors of a file, over a bus that loses
+//! packets and handshakes, and writes what came of that (`specs/Enumerations.antt`).
 //!
 //! [`run`] is the whole program over any standard streams: [`read_line`] reads its command line,
 //! [`ToolFault`] says why a command failed, and [`verdict`] gives the exit status. What a run does is
@@ -20,12 +21,14 @@
 
 mod build;
 mod check;
+mod enumeration;
 mod fault;
 mod input;
 mod intake;
 mod line;
 mod output;
 mod program;
+mod result_line;
 mod set_intake;
 mod show;
 mod whole;
@@ -33,10 +36,13 @@ mod words;
 
 pub use build::run_build;
 pub use check::run_check;
+pub use enumeration::run_enumerate;
 pub use fault::{ToolFault, verdict};
 pub use line::{Line, read_line};
 pub use program::run;
 pub use show::run_show;
 pub use usb_bus::{Fate, Reply, Talk, converse, laws};
+pub use usb_enumeration;
+pub use usb_enumeration::{Run, enumerate};
 pub use usb_file::LISTING_LIMIT;
 pub use words::refuse_words;
