@@ -21,6 +21,14 @@ use Rattle.usb_tool.specs.inside.Telling.{EndsWith, IsCutShort}
 use Rattle.usb_tool.specs.declared.fault.ToolFault.{ToolFault}
 use Rattle.usb_tool.specs.declared.fault.ToolFault.TheVariants as faults
 
+-- eight texts, joined from the left or from the right
+pub eight_joined : (a b c d e f g h : List ℕ)
+    → a ++ b ++ c ++ d ++ e ++ f ++ g ++ h ≡ a ++ (b ++ (c ++ (d ++ (e ++ (f ++ (g ++ h))))))
+eight_joined a b c d e f g h =
+    append_assoc (a ++ b ++ c ++ d ++ e ++ f) g h ∙ append_assoc (a ++ b ++ c ++ d ++ e) f (g ++ h)
+    ∙ append_assoc (a ++ b ++ c ++ d) e (f ++ (g ++ h)) ∙ append_assoc (a ++ b ++ c) d (e ++ (f ++ (g ++ h)))
+    ∙ append_assoc (a ++ b) c (d ++ (e ++ (f ++ (g ++ h)))) ∙ append_assoc a b (c ++ (d ++ (e ++ (f ++ (g ++ h)))))
+
 -- a refusal that is not for want of memory is for the first reason
 pub first_reason : (f : DescriptorFile) (s : Speed) (fault : DescriptionFault) → Refuses f s fault → fault ≢ refusals.Memory
     → refusal_of f s ≡ Some fault

@@ -7,7 +7,7 @@ ghost use Rattle.usb_tool.specs.inside.Telling.{EndsWith, IsCutShort};
 
 use crate::fault::ToolFault;
 use crate::output::write_flushed;
-use crate::result_line::{refused_line, success_line, trouble_line};
+use crate::result_line::{RefusedLine, SuccessLine, TroubleLine};
 use crate::whole::read_all;
 use std::alloc::Global;
 use std::io::{Read, Write};
@@ -85,7 +85,7 @@ fn tell_refusal<W: Write>(
     ensures ok { IfOk result (EndsWith (refused_line fault) 1 (W.contents w.old) (W.contents w.new)) }
     ensures err { IfErr result (IsCutShort (refused_line fault) (W.contents w.old) (W.contents w.new)) }
 {
-    let line = refused_line(alloc, fault)?;
+    let line = RefusedLine(fault).to_string(alloc)?;
     tell_line(line.as_bytes(), w)
 }
 
@@ -108,7 +108,7 @@ fn tell_success<W: Write>(
     ensures ok { IfOk result (EndsWith (success_line run.now ++ file_lines file.now) 0 (W.contents w.old) (W.contents w.new)) }
     ensures err { IfErr result (IsCutShort (success_line run.now ++ file_lines file.now) (W.contents w.old) (W.contents w.new)) }
 {
-    let line = success_line(alloc, run)?;
+    let line = SuccessLine(run).to_string(alloc)?;
     write_all(w, line.as_bytes())?;
     list(alloc, file, w)?;
     match w.flush() {
@@ -126,7 +126,7 @@ fn tell_trouble<W: Write>(
     ensures ok { IfOk result (EndsWith (trouble_line trouble run.now) 1 (W.contents w.old) (W.contents w.new)) }
     ensures err { IfErr result (IsCutShort (trouble_line trouble run.now) (W.contents w.old) (W.contents w.new)) }
 {
-    let line = trouble_line(alloc, trouble, run)?;
+    let line = TroubleLine(trouble, run).to_string(alloc)?;
     tell_line(line.as_bytes(), w)
 }
 
