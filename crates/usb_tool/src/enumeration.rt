@@ -70,8 +70,12 @@ fn enumerate_bytes<W: Write>(
     let file = read_file(alloc, bytes)?;
     let description = match Description::new(alloc, file, speed) {
         Ok(description) => description,
-        Err(DescriptionFault::Memory) => return Err(ToolFault::Memory),
-        Err(fault) => return tell_refusal(alloc, fault, w),
+        Err(fault) => {
+            if fault == DescriptionFault::Memory {
+                return Err(ToolFault::Memory);
+            }
+            return tell_refusal(alloc, fault, w);
+        }
     };
     let run = enumerate(alloc, &description, limits, fates);
     tell_run(alloc, &run, w)
