@@ -18,7 +18,10 @@ impl<'r> fmt::Display for SuccessLine<'r> {
         let SuccessLine(run) = *self;
         let (attempts, transactions) = (run.attempts, run.transactions);
         let (address, value) = (run.state.address, run.state.selected);
-        write!(f, "success attempts {attempts} transactions {transactions} address {address} value {value}\n")
+        write!(
+            f,
+            "success attempts {attempts} transactions {transactions} address {address} value {value}\n"
+        )
     }
 }
 
@@ -34,7 +37,10 @@ impl<'r> fmt::Display for TroubleLine<'r> {
         let TroubleLine(trouble, run) = *self;
         let (number, step) = (trouble.why.number(), trouble.step);
         let (attempts, transactions) = (run.attempts, run.transactions);
-        write!(f, "trouble {number} {step} attempts {attempts} transactions {transactions}\n")
+        write!(
+            f,
+            "trouble {number} {step} attempts {attempts} transactions {transactions}\n"
+        )
     }
 }
 

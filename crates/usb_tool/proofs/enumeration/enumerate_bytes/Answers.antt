@@ -1,4 +1,4 @@
-use Rattle.std.proofs.Common.{◌≡◌, ◌≢◌, rules, subst}
+use Rattle.std.proofs.Common.{◌≢◌, rules, subst}
 use Rattle.usb_description.specs.Described.{Described}
 use Rattle.usb_description.specs.declared.fault.DescriptionFault.TheVariants.{Memory}
 use Rattle.usb_enumeration.specs.Enumerate.{IsEnumeration}

@@ -24,10 +24,12 @@ returns-in_err-list-clause-err g c =
 
 pub returns-in-Ok-clause-ok : goal.returns-in-Ok-clause-ok
 returns-in-Ok-clause-ok g c =
-    let is : c.as_bytes.result.now ≡ success_line c.args.run.now = search rules in
-    (appends_kept _ _ _ _ (appends_more _ _ _ _ _
-    (subst (λ l. Appends (g.W.Write.contents c.args.w.now) (g.W.Write.contents c.write_all.new.w) l) is c.in_ok-write_all.ensures.ok) c.in_ok-list.ensures.ok)
-    c.in-Ok.ensures.bytes, refl)
+    let is : c.as_bytes.result.now ≡ success_line c.args.run.now = search rules in (
+      appends_kept _ _ _ _ (appends_more _ _ _ _ _
+          (subst (λ l. Appends (g.W.Write.contents c.args.w.now) (g.W.Write.contents c.write_all.new.w) l) is c.in_ok-write_all.ensures.ok) c.in_ok-list.ensures.ok)
+          c.in-Ok.ensures.bytes,
+      refl,
+    )
 
 pub returns-clause-err : goal.returns-clause-err
 returns-clause-err g c =
