@@ -1,3 +1,4 @@
 pub mod Showing
 pub mod Running
 pub mod Intakes
+pub mod Telling

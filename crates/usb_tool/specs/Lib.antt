@@ -5,5 +5,7 @@ pub mod Failing
 pub mod Shows
 pub mod Checks
 pub mod Builds
+pub mod ResultLines
+pub mod Enumerations
 pub mod Runs
 pub mod inside

@@ -5,7 +5,8 @@
 //! those that the writer gains, where the two tell them: `specs/Shows.antt` says what it does, fault by
 //! fault. What each line says stands in the crate `usb_listing`. [`run_check`] writes what breaks a rule of
 //! chapter 9 in a file (`specs/Checks.antt`), and [`run_build`] reads a listing and writes the bytes of its file
-//! (`specs/Builds.antt`).
+//! (`specs/Builds.antt`). [`run_enumerate`] enumerates a device that has the descriptors of a file, over a bus that loses
+//! packets and handshakes, and writes what came of that (`specs/Enumerations.antt`).
 //!
 //! [`run`] is the whole program over any standard streams: [`read_line`] reads its command line,
 //! [`ToolFault`] says why a command failed, and [`verdict`] gives the exit status. What a run does is
@@ -20,17 +21,20 @@
 
 mod build;
 mod check;
+mod enumeration;
 mod fault;
 mod input;
 mod intake;
 mod output;
 mod program;
+mod result_line;
 mod set_intake;
 mod show;
 mod whole;
 
 pub use build::run_build;
 pub use check::run_check;
+pub use enumeration::run_enumerate;
 pub use fault::{ToolFault, verdict};
 pub use program::run;
 pub use show::run_show;
@@ -39,4 +43,6 @@ pub use usb_command_line::{
     FatesFault, Line, Options, Settings, SettingsFault, read_fates, read_line, read_speed,
     refuse_words, settings_of,
 };
+pub use usb_enumeration;
+pub use usb_enumeration::{Run, enumerate};
 pub use usb_file::LISTING_LIMIT;

@@ -1,0 +1,100 @@
+-- What `enumerate` does to its input and its output.
+use Rattle.std.specs.Prelude.{◌≡◌, ℕ, ◌⊎◌, List, ◌++◌, Some, Result, Ok, Err}
+use Rattle.std.specs.Io.KnownBytes.{Appends, Keeps}
+use Rattle.usb_fields.specs.declared.speed.Speed.{Speed}
+use Rattle.usb_file_data.specs.declared.file.DescriptorFile.{DescriptorFile}
+use Rattle.usb_file_data.specs.File.{File}
+use Rattle.usb_file.specs.FileFaults.{FileFaulty}
+use Rattle.usb_file.specs.declared.laws.TheConstants.{FILE_LIMIT}
+use Rattle.usb_listing.specs.Listing.{file_lines}
+use Rattle.usb_listing.specs.Output.{AppendsFront, AppendsLess, Held}
+use Rattle.usb_transfer.specs.Limits.{LimitView}
+use Rattle.usb_description.specs.Accepted.{Accepted, refusal_of}
+use Rattle.usb_description.specs.declared.fault.DescriptionFault.{DescriptionFault}
+use Rattle.usb_bus.specs.declared.fate.Fate.{Fate}
+use Rattle.usb_host.specs.declared.step.Trouble.{Trouble}
+use Rattle.usb_enumeration.specs.Enumerate.{IsEnumeration}
+use Rattle.usb_enumeration.specs.declared.run.Run.{Run}
+use Rattle.usb_tool.specs.Failing.{Fails, Succeeds}
+use Rattle.usb_tool.specs.Input.{Left}
+use Rattle.usb_tool.specs.ResultLines.{refused_line, success_line, trouble_line}
+use Rattle.usb_tool.specs.declared.fault.ToolFault.{ToolFault}
+use Rattle.usb_tool.specs.declared.fault.ToolFault.TheVariants as faults
+
+-- what an enumeration is made under: the limits of the host, the speed of the device, and the fates of the transactions
+pub record Conditions : Type 0 where
+  pub limits : LimitView
+  pub speed : Speed
+  pub fates : List Fate
+
+-- these conditions
+abbrev pub under : LimitView → Speed → List Fate → Conditions
+under limits speed fates = record { limits = limits; speed = speed; fates = fates }
+
+-- what is told of a run with this outcome: after success its line and the listing of the file that was read, and else the
+-- line of its trouble
+abbrev pub run_text : Result DescriptorFile Trouble → Run → List ℕ
+run_text (Ok f) run = success_line run ++ file_lines f
+run_text (Err trouble) run = trouble_line trouble run
+
+-- the exit status
+abbrev pub run_status : Result DescriptorFile Trouble → ℕ
+run_status (Ok f) = 0
+run_status (Err trouble) = 1
+
+-- no device of this speed can be made of the file, and the text is the line of the first reason
+pub record TellsRefusal (c : Conditions) (f : DescriptorFile) (text : List ℕ) (status : ℕ) : Type 0 where
+  pub fault : DescriptionFault
+  pub why : refusal_of f c.speed ≡ Some fault
+  pub told : text ≡ refused_line fault
+  pub ended : status ≡ 1
+
+-- a device was made of the file and enumerated, and the text is what is told of that run
+pub record TellsRun (c : Conditions) (f : DescriptorFile) (text : List ℕ) (status : ℕ) : Type 0 where
+  pub run : Run
+  pub accepted : Accepted f c.speed
+  pub enumerated : IsEnumeration f c.speed c.limits c.fates run
+  pub told : text ≡ run_text run.outcome run
+  pub ended : status ≡ run_status run.outcome
+
+-- the text tells what comes of the file that has these bytes
+pub record Tells (c : Conditions) (b text : List ℕ) (status : ℕ) : Type 0 where
+  pub file : DescriptorFile
+  pub layout : File file b
+  pub told : TellsRefusal c file text status ⊎ TellsRun c file text status
+
+-- what comes of the bytes was written
+pub record WritesResult (c : Conditions) (b : List ℕ) (held holds : Held) (status : ℕ) : Type 0 where
+  pub text : List ℕ
+  pub tells : Tells c b text status
+  pub written : Appends held holds text
+
+-- a front of what comes of the bytes was written
+pub record WritesResultFront (c : Conditions) (b : List ℕ) (held holds : Held) : Type 0 where
+  pub text : List ℕ
+  pub status : ℕ
+  pub tells : Tells c b text status
+  pub written : AppendsFront held holds text
+
+-- a front of what comes of the bytes was written, and not all of it
+pub record WritesResultLess (c : Conditions) (b : List ℕ) (held holds : Held) : Type 0 where
+  pub text : List ℕ
+  pub status : ℕ
+  pub tells : Tells c b text status
+  pub written : AppendsLess held holds text
+
+-- How bytes are not enumerated: nothing was written where they are no file, and else a front of what comes of them,
+-- which want of memory leaves unfinished.
+abbrev pub RefusesToEnumerate : Conditions → List ℕ → Held → Held → ToolFault → Type 0
+RefusesToEnumerate c b held holds (faults.File fault) = FileFaulty b fault.at fault.why × Keeps held holds
+RefusesToEnumerate c b held holds faults.Write = WritesResultFront c b held holds
+RefusesToEnumerate c b held holds faults.Memory = Keeps held holds ⊎ WritesResultLess c b held holds
+RefusesToEnumerate c b held holds fault = ⊥
+
+-- all was read, at most what a file can have, and what comes of it was written
+abbrev pub Enumerated : Conditions → Left → Left → Held → Held → ℕ → Type 0
+Enumerated c from to held holds status = Succeeds FILE_LIMIT (λ b held holds. WritesResult c b held holds status) from to held holds
+
+-- how `enumerate` fails
+abbrev pub EnumerateFails : Conditions → Left → Left → Held → Held → ToolFault → Type 0
+EnumerateFails c = Fails FILE_LIMIT (RefusesToEnumerate c)

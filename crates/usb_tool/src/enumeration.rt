@@ -1,0 +1,146 @@
+//! The command `enumerate`.
+ghost use Rattle.std.specs.Prelude.{◌++◌, IfErr, IfOk};
+ghost use Rattle.usb_listing.specs.Listing.{file_lines};
+ghost use Rattle.usb_tool.specs.Enumerations.{EnumerateFails, Enumerated, RefusesToEnumerate, WritesResult, run_status, run_text, under};
+ghost use Rattle.usb_tool.specs.ResultLines.{refused_line, success_line, trouble_line};
+ghost use Rattle.usb_tool.specs.inside.Telling.{EndsWith, IsCutShort};
+
+use crate::fault::ToolFault;
+use crate::output::write_flushed;
+use crate::result_line::{RefusedLine, SuccessLine, TroubleLine};
+use crate::whole::read_all;
+use std::alloc::Global;
+use std::io::{Read, Write};
+use usb_bus::Fate;
+use usb_description::{Description, DescriptionFault};
+use usb_enumeration::{Run, enumerate};
+use usb_fields::Speed;
+use usb_file::{DescriptorFile, FILE_LIMIT, list, read_file};
+use usb_host::Trouble;
+use usb_listing::write_all;
+use usb_transfer::Limits;
+
+/// Reads a descriptor file to its end, and enumerates a device of this speed that has these descriptors, over a bus with
+/// these fates. It writes a line of what came of that, and after success the listing of the file that the host has read.
+/// The number in `Ok` is 0 after success. It is 1 where the enumeration had trouble, and where no device of this speed
+/// can have the descriptors.
+///
+/// ```rust
+/// let mut input: &[u8] = &[18, 1, 0, 2, 0, 0, 0, 64, 0x34, 0x12, 0x78, 0x56, 0, 1, 0, 0, 0, 0];
+/// let mut lines = Vec::new(alloc);
+/// let limits = Limits::new(1, 16, 3)?;
+/// assert_eq!(rt; run_enumerate(alloc, &mut input, &mut lines, limits, Speed::Full, &[])?, 1);
+/// // A device has a configuration.
+/// assert_eq!(rt; lines.as_slice(), b"refused 1 V10 main 0 0 0\n");
+/// ```
+///
+/// # Errors
+///
+/// `Read` where the reader failed, `TooLarge` at the first byte over [`FILE_LIMIT`], and `File` with the fault of
+/// the whole input. Nothing is written then. `Write` where the writer or its flush failed; a front of the text is
+/// written then, and may be all of it. `Memory` where a growth was refused, but for one of the host, which is a trouble
+/// of the enumeration; at least the last byte of the text is not written then.
+pub fn run_enumerate<R: Read, W: Write>(
+    alloc: Global,
+    r: &mut R,
+    w: &mut W,
+    limits: Limits,
+    speed: Speed,
+    fates: &[Fate],
+) -> Result<u8, ToolFault>
+    ensures enumerated { IfOk result (Enumerated (under limits speed fates.now) (R.remaining r.old) (R.remaining r.new) (W.contents w.old) (W.contents w.new)) }
+    ensures err { IfErr result (EnumerateFails (under limits speed fates.now) (R.remaining r.old) (R.remaining r.new) (W.contents w.old) (W.contents w.new)) }
+{
+    let bytes = read_all(alloc, r, FILE_LIMIT)?;
+    enumerate_bytes(alloc, &bytes, w, limits, speed, fates)
+}
+
+/// Writes what comes of the file that the bytes are, and flushes the writer.
+fn enumerate_bytes<W: Write>(
+    alloc: Global,
+    bytes: &[u8],
+    w: &mut W,
+    limits: Limits,
+    speed: Speed,
+    fates: &[Fate],
+) -> Result<u8, ToolFault>
+    ensures ok { IfOk result (WritesResult (under limits speed fates.now) bytes.now (W.contents w.old) (W.contents w.new)) }
+    ensures err { IfErr result (RefusesToEnumerate (under limits speed fates.now) bytes.now (W.contents w.old) (W.contents w.new)) }
+{
+    let file = read_file(alloc, bytes)?;
+    let description = match Description::new(alloc, file, speed) {
+        Ok(description) => description,
+        Err(fault) => {
+            if fault == DescriptionFault::Memory {
+                return Err(ToolFault::Memory);
+            }
+            return tell_refusal(alloc, fault, w);
+        }
+    };
+    let run = enumerate(alloc, &description, limits, fates);
+    tell_run(alloc, &run, w)
+}
+
+fn tell_refusal<W: Write>(
+    alloc: Global,
+    fault: DescriptionFault,
+    w: &mut W,
+) -> Result<u8, ToolFault>
+    ensures ok { IfOk result (EndsWith (refused_line fault) 1 (W.contents w.old) (W.contents w.new)) }
+    ensures err { IfErr result (IsCutShort (refused_line fault) (W.contents w.old) (W.contents w.new)) }
+{
+    let line = RefusedLine(fault).to_string(alloc)?;
+    tell_line(line.as_bytes(), w)
+}
+
+fn tell_run<W: Write>(alloc: Global, run: &Run, w: &mut W) -> Result<u8, ToolFault>
+    ensures ok { IfOk result (EndsWith (run_text run.now.outcome run.now) (run_status run.now.outcome) (W.contents w.old) (W.contents w.new)) }
+    ensures err { IfErr result (IsCutShort (run_text run.now.outcome run.now) (W.contents w.old) (W.contents w.new)) }
+{
+    match &run.outcome {
+        Ok(file) => tell_success(alloc, run, file, w),
+        Err(trouble) => tell_trouble(alloc, run, *trouble, w),
+    }
+}
+
+fn tell_success<W: Write>(
+    alloc: Global,
+    run: &Run,
+    file: &DescriptorFile,
+    w: &mut W,
+) -> Result<u8, ToolFault>
+    ensures ok { IfOk result (EndsWith (success_line run.now ++ file_lines file.now) 0 (W.contents w.old) (W.contents w.new)) }
+    ensures err { IfErr result (IsCutShort (success_line run.now ++ file_lines file.now) (W.contents w.old) (W.contents w.new)) }
+{
+    let line = SuccessLine(run).to_string(alloc)?;
+    write_all(w, line.as_bytes())?;
+    list(alloc, file, w)?;
+    match w.flush() {
+        Ok(()) => Ok(0),
+        Err(_) => Err(ToolFault::Write),
+    }
+}
+
+fn tell_trouble<W: Write>(
+    alloc: Global,
+    run: &Run,
+    trouble: Trouble,
+    w: &mut W,
+) -> Result<u8, ToolFault>
+    ensures ok { IfOk result (EndsWith (trouble_line trouble run.now) 1 (W.contents w.old) (W.contents w.new)) }
+    ensures err { IfErr result (IsCutShort (trouble_line trouble run.now) (W.contents w.old) (W.contents w.new)) }
+{
+    let line = TroubleLine(trouble, run).to_string(alloc)?;
+    tell_line(line.as_bytes(), w)
+}
+
+/// Writes a line that is all that there is to tell, and flushes the writer.
+fn tell_line<W: Write>(line: &[u8], w: &mut W) -> Result<u8, ToolFault>
+    ensures ok { IfOk result (EndsWith line.now 1 (W.contents w.old) (W.contents w.new)) }
+    ensures err { IfErr result (IsCutShort line.now (W.contents w.old) (W.contents w.new)) }
+{
+    match write_flushed(w, line) {
+        Ok(()) => Ok(1),
+        Err(_) => Err(ToolFault::Write),
+    }
+}
