@@ -7,7 +7,11 @@ use Rattle.usb_listing.specs.Output.{Held}
 use Rattle.usb_tool.specs.Faults.{status_of}
 use Rattle.usb_tool.specs.Input.{Left}
 use Rattle.usb_command_line.specs.Lines.{Asks, usbdesc_app, word_texts}
-use Rattle.usb_tool.specs.Runs.{Ends, Failure, WithStatusZero, Work}
+use Rattle.usb_tool.specs.Runs.{Ends, EndsEnumeration, Failure, WithStatusZero, Work, conditions}
+use Rattle.usb_tool.specs.Enumerations.{EnumerateFails, Enumerated}
+use Rattle.usb_command_line.specs.Settings.{IsSettled}
+use Rattle.usb_command_line.specs.declared.options.Options.{Options}
+use Rattle.usb_command_line.specs.declared.settings.Settings.{Settings}
 use Rattle.usb_tool.specs.declared.fault.ToolFault.{ToolFault}
 use Rattle.usb_command_line.specs.declared.line.Line.{Line}
 
@@ -30,3 +34,13 @@ module _ (line : Line) (words : List (String Global)) (from to : Left) (held hol
       inl (record { asked = asked; done = (done, ended ∙ zero) })
   runs_with_status_zero does fails (Err fault) asked zero done failed ended =
       inr (record { fault = fault; asked = asked; failed = failed; ended = ended })
+
+-- where options were taken, a run ends as the enumeration does
+pub enumeration_ends : (options : Options) (settings : Settings) (from to : Left) (held holds : Held) (status : ℕ) (outcome : Result ℕ ToolFault)
+    → IsSettled options settings → IfOk outcome (Enumerated (conditions settings) from to held holds)
+    → IfErr outcome (EnumerateFails (conditions settings) from to held holds) → status ≡ status_of outcome
+    → EndsEnumeration options from to held holds status
+enumeration_ends options settings from to held holds status (Ok number) settled done failed ended =
+    inl (record { settings = settings; settled = settled; done = subst (Enumerated (conditions settings) from to held holds) (sym ended) done })
+enumeration_ends options settings from to held holds status (Err fault) settled done failed ended =
+    inr (inl (record { settings = settings; fault = fault; settled = settled; failed = failed; ended = ended }))

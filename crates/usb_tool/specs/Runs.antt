@@ -9,13 +9,18 @@ use Rattle.clap.specs.declared.error.kind.ErrorKind.TheVariants as kinds
 use Rattle.usb_listing.specs.Output.{Held}
 use Rattle.usb_tool.specs.Builds.{BuildFails, Built}
 use Rattle.usb_tool.specs.Checks.{CheckFails, Checked}
+use Rattle.usb_tool.specs.Enumerations.{Conditions, EnumerateFails, Enumerated, under}
 use Rattle.usb_tool.specs.Input.{Left}
 use Rattle.usb_command_line.specs.Lines.{Asks, usbdesc_app, word_texts}
 use Rattle.usb_tool.specs.Shows.{Shown, ShowFails}
 use Rattle.usb_tool.specs.declared.fault.ToolFault.{ToolFault}
+use Rattle.usb_command_line.specs.Numbers.{settings_status}
+use Rattle.usb_command_line.specs.Settings.{IsSettled, RefusesOptions}
 use Rattle.usb_command_line.specs.declared.line.Line.{Line}
 use Rattle.usb_command_line.specs.declared.line.Line.TheVariants as lines
 use Rattle.usb_command_line.specs.declared.options.Options.{Options}
+use Rattle.usb_command_line.specs.declared.settings.Settings.{Settings}
+use Rattle.usb_command_line.specs.declared.settings.SettingsFault.{SettingsFault}
 
 -- the exit status of a line that is no command: 0 where it asks for help, else 2
 abbrev pub line_status : ErrorKind → ℕ
@@ -66,13 +71,44 @@ pub record LineIsRefused (words : List (String Global)) (from to : Left) (held h
   pub output : KeepsUnlessHelp kind held holds
   pub ended : status ≡ line_status kind
 
--- the words ask for an enumeration, which is not there yet; nothing is read or written
-pub record EnumerationIsRefused (words : List (String Global)) (from to : Left) (held holds : Held) (status : ℕ) : Type 0 where
-  pub options : Options
-  pub asked : Asks (lines.Enumerate options) (subcommand_of usbdesc_app (word_texts words))
+-- what an enumeration with these settings is made under
+abbrev pub conditions : Settings → Conditions
+conditions s = under s.limits s.speed s.fates.items
+
+-- the options were taken, and the enumeration was made
+pub record EnumerationIsDone (options : Options) (from to : Left) (held holds : Held) (status : ℕ) : Type 0 where
+  pub settings : Settings
+  pub settled : IsSettled options settings
+  pub done : Enumerated (conditions settings) from to held holds status
+
+-- the options were taken, and the command failed
+pub record EnumerationFails (options : Options) (from to : Left) (held holds : Held) (status : ℕ) : Type 0 where
+  pub settings : Settings
+  pub fault : ToolFault
+  pub settled : IsSettled options settings
+  pub failed : EnumerateFails (conditions settings) from to held holds fault
+  pub ended : status ≡ 3
+
+-- the options were refused; nothing is read, and nothing is written to standard output
+pub record OptionsAreRefused (options : Options) (from to : Left) (held holds : Held) (status : ℕ) : Type 0 where
+  pub fault : SettingsFault
+  pub refused : RefusesOptions options fault
   pub input : Keeps from to
   pub output : Keeps held holds
-  pub ended : status ≡ 2
+  pub ended : status ≡ settings_status fault
+
+-- how `enumerate` ends with these options
+abbrev pub EndsEnumeration : Options → Left → Left → Held → Held → ℕ → Type 0
+EndsEnumeration options from to held holds status =
+    EnumerationIsDone options from to held holds status
+    ⊎ (EnumerationFails options from to held holds status
+    ⊎ OptionsAreRefused options from to held holds status)
+
+-- the words ask for an enumeration, and it ended
+pub record Enumerates (words : List (String Global)) (from to : Left) (held holds : Held) (status : ℕ) : Type 0 where
+  pub options : Options
+  pub asked : Asks (lines.Enumerate options) (subcommand_of usbdesc_app (word_texts words))
+  pub ended : EndsEnumeration options from to held holds status
 
 -- what a run has done, and its exit status
 abbrev pub Runs : List (String Global) → Left → Left → Held → Held → ℕ → Type 0
@@ -80,5 +116,5 @@ Runs words from to held holds status =
     Ends lines.Show (WithStatusZero Shown) ShowFails words from to held holds status
     ⊎ (Ends lines.Check Checked CheckFails words from to held holds status
     ⊎ (Ends lines.Build (WithStatusZero Built) BuildFails words from to held holds status
-    ⊎ (EnumerationIsRefused words from to held holds status
+    ⊎ (Enumerates words from to held holds status
     ⊎ LineIsRefused words from to held holds status)))

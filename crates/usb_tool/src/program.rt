@@ -2,24 +2,26 @@
 ghost use Rattle.std.specs.Prelude.{◌≡◌};
 ghost use Rattle.clap.specs.Values.{kind_of};
 ghost use Rattle.usb_tool.specs.Faults.{status_of};
-ghost use Rattle.usb_tool.specs.Runs.{KeepsUnlessHelp, Runs, line_status};
+ghost use Rattle.usb_tool.specs.Runs.{EndsEnumeration, KeepsUnlessHelp, Runs, line_status};
+ghost use Rattle.usb_command_line.specs.Numbers.{settings_status};
 
 use crate::build::run_build;
 use crate::check::run_check;
+use crate::enumeration::run_enumerate;
 use crate::fault::{ToolFault, verdict};
 use crate::show::run_show;
 use clap::Error;
 use std::alloc::Global;
 use std::io::{Read, Write};
-use usb_command_line::{Line, read_line};
+use usb_command_line::{Line, Options, Settings, SettingsFault, read_line, settings_of};
 
 /// The exit status of a command line that asks for nothing that the program does.
 const USAGE: u8 = 2;
 
 /// Carries out what the words ask for, of which the first is the program's name: `r` is standard input, `w`
 /// standard output and `e` standard error. The result is the exit status: 0 where the command did its work
-/// or help was asked for, 1 where `check` did and has a finding, 2 where the words are no command, and 3 where
-/// the command failed. The line of its fault is then written to `e`. What cannot be written to `e` is lost.
+/// or help was asked for, 1 where `check` did and has a finding or `enumerate` did without success, 2 where the words
+/// are no command or an option says nothing, and 3 where the command failed. The line of its fault is then written to `e`. What cannot be written to `e` is lost.
 ///
 /// ```rust
 /// let words = vec![in alloc; String::from_str(alloc, "usbdesc")?, String::from_str(alloc, "build")?]?;
@@ -41,9 +43,40 @@ pub fn run<R: Read, W: Write, E: Write>(
         Ok(Line::Show) => finish(&run_show(alloc, r, w), e),
         Ok(Line::Check) => finish(&run_check(alloc, r, w), e),
         Ok(Line::Build) => finish(&run_build(alloc, r, w), e),
-        Ok(Line::Enumerate(_)) => USAGE,
+        Ok(Line::Enumerate(options)) => enumerate_with(alloc, &options, r, w, e),
         Err(error) => explain(&error, w, e),
     }
+}
+
+/// Enumerates as the options say. What is wrong with them is told before anything is read.
+fn enumerate_with<R: Read, W: Write, E: Write>(
+    alloc: Global,
+    options: &Options<'_>,
+    r: &mut R,
+    w: &mut W,
+    e: &mut E,
+) -> u8
+    ensures { EndsEnumeration options.now (R.remaining r.old) (R.remaining r.new) (W.contents w.old) (W.contents w.new) result }
+{
+    match settings_of(alloc, options) {
+        Ok(settings) => {
+            let Settings {
+                limits,
+                speed,
+                fates,
+            } = settings;
+            finish(&run_enumerate(alloc, r, w, limits, speed, &fates), e)
+        }
+        Err(fault) => refuse(fault, e),
+    }
+}
+
+/// The exit status of options that are refused, after the line of their fault.
+fn refuse<E: Write>(fault: SettingsFault, e: &mut E) -> u8
+    ensures { result ≡ settings_status fault }
+{
+    let _ = writeln!(e, "{fault}");
+    fault.status()
 }
 
 /// The exit status of a command, after the line of its fault.

@@ -1,4 +1,4 @@
-use Rattle.std.proofs.Common.{inl, inr, refl, rules, subst}
+use Rattle.std.proofs.Common.{inl, inr, subst}
 use Rattle.clap.specs.Words.{subcommand_of}
 use Rattle.usb_tool.proofs.Running.{runs_command, runs_with_status_zero}
 use Rattle.usb_command_line.specs.Lines.{Asks, usbdesc_app, word_texts}
@@ -23,4 +23,4 @@ returns-in-Ok-Build g c =
 pub returns-in-Ok-Enumerate : goal.returns-in-Ok-Enumerate
 returns-in-Ok-Enumerate g c =
     let asked = subst (λ (line : Line). Asks line (subcommand_of usbdesc_app (word_texts c.args.words.now))) c.in-Ok-Enumerate.field-0-is c.in-Ok-Enumerate.ensures.line in
-    inr (inr (inr (inl (record { options = _; asked = asked; input = search rules; output = search rules; ended = refl }))))
+    inr (inr (inr (inl (record { options = _; asked = asked; ended = c.enumerate_with.ensures }))))
