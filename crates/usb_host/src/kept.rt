@@ -5,6 +5,7 @@ ghost use Rattle.usb_host.specs.declared.kept.Kept.TheVariants as kept;
 use crate::kept_bytes::KeptBytes;
 use crate::place::Place;
 use std::alloc::Global;
+use std::mem;
 use usb_set::{Decoder, Progress, SetWhy};
 
 /// What is kept of the bytes of the read in work.
@@ -40,6 +41,33 @@ impl Kept {
             },
             _ => Kept::empty(),
         }
+    }
+
+    /// Begins anew, with what a read begins with at a place. The array of a short read stays where it is.
+    pub fn restart(&mut self, alloc: Global, place: &Place)
+        ensures { self.new ≡ nothing_kept place.now }
+    {
+        match place {
+            Place::Set { .. } => drop(mem::replace(
+                self,
+                Kept::Set {
+                    decoder: Decoder::new(alloc),
+                    over: false,
+                },
+            )),
+            _ => self.empty_bytes(),
+        }
+    }
+
+    /// Begins anew with no byte.
+    fn empty_bytes(&mut self)
+        ensures { self.new ≡ kept.Bytes [] }
+    {
+        if let Kept::Bytes { bytes } = self {
+            bytes.clear();
+            return;
+        }
+        drop(mem::replace(self, Kept::empty()));
     }
 
     /// Keeps new bytes: those of a set go to its decoder as they came. A fault of the set waits for the end of the

@@ -26,6 +26,13 @@ impl KeptBytes {
         }
     }
 
+    /// Lets all bytes go.
+    pub fn clear(&mut self)
+        ensures { self.new ≡ [] }
+    {
+        self.bytes.clear();
+    }
+
     /// The bytes.
     pub fn as_slice(&self) -> &[u8]
         ensures { result.now ≡ self.now }

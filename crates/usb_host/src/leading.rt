@@ -17,6 +17,7 @@ use crate::read::{
 use crate::sets::{add_set, count_declared, count_sets, is_first_zero, type_of};
 use crate::step::{Step, Trouble};
 use std::alloc::Global;
+use std::mem;
 use usb_base::Sequence;
 use usb_fields::Speed;
 use usb_file_data::{DescriptorFile, NoMemory, Other, Strings, named};
@@ -344,16 +345,16 @@ pub fn lead_refused(alloc: Global, place: Place) -> Place
     }
 }
 
-/// Where a transfer leads to that has completed, or the end where memory is wanting.
+/// Where a transfer leads to that has completed, or the end where memory is wanting. What was kept is of no more use.
 pub fn lead_completed(
     alloc: Global,
     speed: Speed,
     place: Place,
     transfer: &Transfer,
-    kept: Kept,
+    kept: &mut Kept,
 ) -> Place
     requires { IsGood place }
-    ensures { (result ≡ stopped place Memory) ⊎ (result ≡ completed_leads speed place transfer.now kept) }
+    ensures { (result ≡ stopped place Memory) ⊎ (result ≡ completed_leads speed place transfer.now kept.old) }
 {
     if transfer.request().length == 0 {
         return lead_done(place);
@@ -362,7 +363,8 @@ pub fn lead_completed(
     match kept {
         Kept::Bytes { bytes } => lead_bytes(alloc, speed, step, place, bytes.as_slice()),
         Kept::Set { decoder, over } => {
-            lead_set(alloc, speed, step, place, transfer.kept(), decoder, over)
+            let decoder = mem::replace(decoder, Decoder::new(alloc));
+            lead_set(alloc, speed, step, place, transfer.kept(), decoder, *over)
         }
     }
 }

@@ -3,6 +3,8 @@ ghost use Rattle.std.specs.Prelude.{◌≡◌, ◌<◌, ◌++◌};
 ghost use Rattle.usb_fields.specs.Packet.{reply_of};
 ghost use Rattle.usb_transfer.specs.Bound.{left};
 ghost use Rattle.usb_transfer.specs.Transfer.{taken};
+ghost use Rattle.usb_host.specs.Keeping.{nothing_kept};
+ghost use Rattle.usb_host.specs.declared.kept.Kept.{Kept};
 ghost use Rattle.usb_host.specs.Cost.{BringsBytes, FitsPlace, IsGood, KeepsBytes};
 ghost use Rattle.usb_file_data.specs.File.{File};
 ghost use Rattle.usb_file_data.specs.declared.file.DescriptorFile.{DescriptorFile};
@@ -73,9 +75,10 @@ impl Reading {
         ensures { GoesOn limits.now speed self.old.place self.old.transfer self.old.kept ending self.new.place (standing self.new.place self.new.transfer self.new.kept) }
     {
         let place = mem::replace(&mut self.place, Place::First);
-        let kept = mem::replace(&mut self.kept, Kept::empty());
-        let next = lead(alloc, speed, place, &self.transfer, kept, ending);
-        drop(mem::replace(self, begin(alloc, limits, next)));
+        let next = lead(alloc, speed, place, &self.transfer, &mut self.kept, ending);
+        self.kept.restart(alloc, &next);
+        self.transfer = transfer_at(limits, &next);
+        drop(mem::replace(&mut self.place, next));
     }
 
     /// Takes an answer: the read goes on, or the next one begins.
@@ -100,11 +103,11 @@ fn lead(
     speed: Speed,
     place: Place,
     transfer: &Transfer,
-    kept: Kept,
+    kept: &mut Kept,
     ending: Ending,
 ) -> Place
     requires good { IsGood place }
-    ensures leads { LeadsOn speed place transfer.now kept ending result }
+    ensures leads { LeadsOn speed place transfer.now kept.old ending result }
 {
     match ending {
         Ending::Completed => lead_completed(alloc, speed, place, transfer, kept),
@@ -113,18 +116,25 @@ fn lead(
     }
 }
 
-/// The read that begins at a place; at an end the transfer is one that nobody asks for.
-pub fn begin(alloc: Global, limits: &Limits, place: Place) -> Reading
-    requires { IsGood place }
-    ensures place { result.place ≡ place }
-    ensures begins { standing result.place result.transfer result.kept ≡ enter limits.now place }
+/// The transfer that begins at a place; at an end it is one that nobody asks for.
+fn transfer_at(limits: &Limits, place: &Place) -> Transfer
+    requires { IsGood place.now }
+    ensures { (k : Kept) → k ≡ nothing_kept place.now → standing place.now result k ≡ enter limits.now place.now }
 {
-    let kept = Kept::nothing(alloc, &place);
     let (address, packet, setup) = match place.request(limits.address()) {
         Some(request) => (request.address, request.packet, request.setup),
         None => (0, 1, getting(0, 0, 0, 0)),
     };
-    let transfer = Transfer::new(address, packet, limits.naks(), setup);
+    Transfer::new(address, packet, limits.naks(), setup)
+}
+
+/// The read that begins at a place.
+pub fn begin(alloc: Global, limits: &Limits, place: Place) -> Reading
+    requires { IsGood place }
+    ensures { standing result.place result.transfer result.kept ≡ enter limits.now place }
+{
+    let kept = Kept::nothing(alloc, &place);
+    let transfer = transfer_at(limits, &place);
     Reading {
         place,
         transfer,
