@@ -13,6 +13,7 @@ mod answer;
 mod bench;
 mod descriptors;
 mod driven;
+mod host;
 mod line;
 mod memory;
 mod outcome;
