@@ -4,3 +4,4 @@ pub mod CostLemmas
 pub mod LowerLemmas
 pub mod PlaceLemmas
 pub mod TakeLemmas
+pub mod StandLemmas

@@ -27,19 +27,19 @@ use Rattle.usb_host.specs.Order.{stopped}
 use Rattle.usb_host.specs.Steps.{Reading, Ended, enter, goes_on, IsEnd, KeepsHeard, TakesHeard}
 use Rattle.usb_host.specs.Cost.{IsGood, FitsPlace, KeepsBytes, BringsBytes}
 use Rattle.usb_host.specs.inside.Leading.{HasRoom, is_end}
-use Rattle.usb_host.specs.inside.Reads.{IsGoing, IsCounted, EndsBy, Hears, ended_leads, standing}
+use Rattle.usb_host.specs.inside.Reads.{IsGoing, IsCounted, EndsBy, Hears, LeadsOn, GoesOn, ended_leads, standing}
 use Rattle.usb_host.proofs.LowerLemmas.{hears_bytes, kept_steady, completed_low}
 use Rattle.usb_host.proofs.CostLemmas.{refused_falls}
 
 -- the stage, by what was heard
-abbrev StageOf : Hearing → TransferStage → Type 0
+abbrev pub StageOf : Hearing → TransferStage → Type 0
 StageOf Goes s = IsGoing s
 StageOf (Brings bytes) s = IsGoing s
 StageOf Completes s = s ≡ Completed
 StageOf (Fails why) s = s ≡ Failed why
 
 -- the bytes that are kept, by what was heard: no more than were asked for
-abbrev CountOf : TransferView → Hearing → TransferView → Type 0
+abbrev pub CountOf : TransferView → Hearing → TransferView → Type 0
 CountOf t Goes u = u.kept ≡ t.kept
 CountOf t (Brings bytes) u = (u.kept ≡ t.kept + length bytes) × (t.kept + length bytes ≤ t.request.length)
 CountOf t Completes u = Unit {0}
@@ -155,6 +155,11 @@ leads_good speed place t k (endings.Failed Unexpected) good fits are = tt
 leads_good speed place t k (endings.Failed Malformed) good fits are = tt
 leads_good speed place t k (endings.Failed Memory) good fits are = tt
 
+pub next_good : (speed : Speed) (place : Place) (t : TransferView) (k : Kept) (ending : Ending) (next : Place) → IsGood place → FitsPlace place k → KeepsBytes k →
+    LeadsOn speed place t k ending next → IsGood next
+next_good speed place t k ending next good fits are (inl e) = subst (λ x. IsGood x) (sym e) tt
+next_good speed place t k ending next good fits are (inr e) = subst (λ x. IsGood x) (sym e) (leads_good speed place t k ending good fits are)
+
 -- ---- what a host takes
 
 going_on : (limits : LimitView) (speed : Speed) (place : Place) (t : TransferView) (k : Kept) (stage : TransferStage) → IsGoing stage →
@@ -189,9 +194,6 @@ takes_on limits speed place old by k Completes result e stage keeps fine = absur
 takes_on limits speed place old by k (Fails why) result e stage keeps fine = absurd (fine)
 
 -- the read ends, and leads on or finds no memory
-abbrev pub LeadsOn : Speed → Place → TransferView → Kept → Ending → Place → Type 0
-LeadsOn speed place t k ending next = (next ≡ stopped place Memory) ⊎ (next ≡ ended_leads speed place t k ending)
-
 no_memory : (limits : LimitView) (speed : Speed) (place : Place) (t : TransferView) (k : Kept) (next : Place) → LeadsOn speed place t k (endings.Failed Memory) next →
     enter limits next ≡ Ended (stopped place Memory)
 no_memory limits speed place t k next (inl e) = ap (λ x. enter limits x) e

@@ -1,4 +1,5 @@
 -- A host, as its callers see it, and its steps.
+use Rattle.std.specs.Borrow.{Bor}
 use Rattle.std.specs.Prelude.{◌≡◌, ℕ, suc, ◌==◌, ◌&&◌, nat_lt, Bool, true, false, if◌then◌else◌, Option, Some, None, Result, Ok, Err, ◌⊎◌}
 use Rattle.usb_fields.specs.declared.speed.Speed.{Speed}
 use Rattle.usb_fields.specs.Packet.{Reply, Sent, sent_of}
@@ -74,6 +75,12 @@ abbrev pub outcome_of : HostPhase → Option (Result DescriptorFile Trouble)
 outcome_of ResetDue = None
 outcome_of (Reading place transfer kept) = None
 outcome_of (Ended place) = outcome_at place
+
+-- the same, where the file is lent
+abbrev pub lent_outcome : Option (Result (Bor DescriptorFile) Trouble) → Option (Result DescriptorFile Trouble)
+lent_outcome None = None
+lent_outcome (Some (Ok f)) = Some (Ok f.now)
+lent_outcome (Some (Err trouble)) = Some (Err trouble)
 
 -- what a plan puts in work at a place, where so many NAKs are borne
 abbrev pub entered : ℕ → Place → Plan → HostPhase

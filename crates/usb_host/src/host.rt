@@ -1,6 +1,8 @@
 //! The host.
-ghost use Rattle.std.specs.Prelude.{◌≡◌, ◌<◌, ◌≤◌};
-ghost use Rattle.usb_fields.specs.Packet.{reply_of};
+ghost use Rattle.std.specs.Prelude.{◌≡◌, ◌<◌, ◌&&◌, nat_lt};
+ghost use Rattle.usb_fields.specs.Packet.{Sent, reply_of};
+ghost use Rattle.usb_host.specs.Cost.{BringsBytes};
+ghost use Rattle.usb_host.specs.inside.Leading.{is_bus_trouble};
 
 use crate::action::Action;
 use crate::place::Place;
@@ -11,7 +13,7 @@ use std::marker::Model;
 use usb_base::known_bytes;
 use usb_fields::{Answer, Speed};
 use usb_file_data::DescriptorFile;
-use usb_transfer::{Limits, Why};
+use usb_transfer::Limits;
 
 /// A host that reads all descriptors of one device, as far as it stands: what is due, and what a bus reset does. The
 /// call that takes an answer is to come.
@@ -46,8 +48,8 @@ impl Model for Host {
 }
 
 impl Host {
-    ghost use Rattle.usb_host.specs.Steps.{Takes, new_host, outcome_of, reset, wanted, wanted_by};
-    ghost use Rattle.usb_host.specs.Cost.{left_to_ask, most};
+    ghost use Rattle.usb_host.specs.Steps.{Takes, WantsSent, lent_outcome, new_host, outcome_of, reset, wanted, wanted_by};
+    ghost use Rattle.usb_host.specs.Cost.{left_to_ask};
 
     /// A host that has done nothing.
     pub fn new(alloc: Global, limits: Limits, speed: Speed) -> Host
@@ -94,15 +96,17 @@ impl Host {
     }
 
     /// Takes what the transaction that was due brought. Where none is due, nothing changes.
-    pub fn take(&mut self, answer: Answer<'_>) {
+    pub fn take(&mut self, answer: Answer<'_>)
+        ensures taken { Takes self.old (reply_of answer.entry) self.new }
+        ensures fewer { (sent : Sent) → wanted self.old.phase ≡ WantsSent sent → left_to_ask self.new < left_to_ask self.old }
+    {
         if self.reset_due || self.reading.place.is_end() {
             return;
         }
+        known_answer(answer);
         self.reading
             .take(self.alloc, &self.limits, self.speed, answer);
-        if self.reading.place.is_bus_trouble() && self.resets < self.limits.attempts() {
-            self.reset_due = true;
-        }
+        self.reset_due = may_try_again(&self.reading.place, self.resets, &self.limits);
     }
 
     /// How often the bus was reset: the attempts so far.
@@ -113,7 +117,9 @@ impl Host {
     }
 
     /// The outcome, once there is one: the file that was read, or the trouble with its step and its reason.
-    pub fn outcome(&self) -> Option<Result<&DescriptorFile, Trouble>> {
+    pub fn outcome(&self) -> Option<Result<&DescriptorFile, Trouble>>
+        ensures { lent_outcome result ≡ outcome_of self.now.phase }
+    {
         if self.reset_due {
             return None;
         }
@@ -125,7 +131,10 @@ impl Host {
     }
 
     /// The outcome, as [`Host::outcome`] tells it, with the file handed over.
-    pub fn into_outcome(self) -> Option<Result<DescriptorFile, Trouble>> {
+    #[tactic(auto, using(crate::proofs::StandLemmas::outcome_there))]
+    pub fn into_outcome(self) -> Option<Result<DescriptorFile, Trouble>>
+        ensures { result ≡ outcome_of self.phase }
+    {
         let Host {
             alloc: _,
             limits: _,
@@ -134,13 +143,33 @@ impl Host {
             reset_due,
             reading,
         } = self;
+        let Reading {
+            place,
+            transfer: _,
+            kept: _,
+        } = reading;
         if reset_due {
+            drop(place);
             return None;
         }
-        match reading.place {
-            Place::Reported { file } => Some(Ok(file)),
-            Place::Stopped { trouble } => Some(Err(trouble)),
-            _ => None,
-        }
+        place.into_outcome()
+    }
+}
+
+/// Whether the bus is to blame for the end at a place, and attempts are left.
+#[inline(always)]
+fn may_try_again(place: &Place, resets: u8, limits: &Limits) -> bool
+    ensures { result ≡ (is_bus_trouble place.now && nat_lt resets limits.now.attempts) }
+{
+    place.is_bus_trouble() && resets < limits.attempts()
+}
+
+/// For the proof of a caller: the data of an answer are bytes.
+#[inline(always)]
+fn known_answer(answer: Answer<'_>)
+    ensures { BringsBytes (reply_of answer.entry) }
+{
+    if let Answer::Data(_, bytes) = answer {
+        known_bytes(bytes);
     }
 }

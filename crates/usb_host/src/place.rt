@@ -82,6 +82,7 @@ pub enum Place {
 impl Place {
     ghost use Rattle.usb_host.specs.Cost.{IsGood};
     ghost use Rattle.usb_host.specs.Order.{asks, step_of, stopped};
+    ghost use Rattle.usb_host.specs.Steps.{outcome_at};
     ghost use Rattle.usb_host.specs.inside.Leading.{is_bus_trouble as is_bus_trouble_at, is_end as is_end_at, requested};
 
     /// Whether the enumeration has ended.
@@ -107,6 +108,21 @@ impl Place {
                     false,
             },
             _ => false,
+        }
+    }
+
+    /// The outcome at an end.
+    #[tactic(auto, using(crate::proofs::PlaceLemmas::no_outcome))]
+    pub fn into_outcome(self) -> Option<Result<DescriptorFile, Trouble>>
+        ensures { result ≡ outcome_at self }
+    {
+        match self {
+            Place::Reported { file } => Some(Ok(file)),
+            Place::Stopped { trouble } => Some(Err(trouble)),
+            other => {
+                drop(other);
+                None
+            }
         }
     }
 

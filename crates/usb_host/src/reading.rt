@@ -1,12 +1,11 @@
 //! A read in work.
-ghost use Rattle.std.specs.Prelude.{◌≡◌, ◌⊎◌};
+ghost use Rattle.std.specs.Prelude.{◌≡◌, ◌<◌};
 ghost use Rattle.usb_fields.specs.Packet.{reply_of};
+ghost use Rattle.usb_transfer.specs.Bound.{left};
 ghost use Rattle.usb_transfer.specs.Transfer.{taken};
-ghost use Rattle.usb_transfer.specs.declared.why.Why.TheVariants.{Memory};
 ghost use Rattle.usb_host.specs.Cost.{BringsBytes, FitsPlace, IsGood, KeepsBytes};
-ghost use Rattle.usb_host.specs.Order.{stopped};
 ghost use Rattle.usb_host.specs.Steps.{TakesHeard, enter};
-ghost use Rattle.usb_host.specs.inside.Reads.{Hears, IsReading, ended_leads, standing};
+ghost use Rattle.usb_host.specs.inside.Reads.{GoesOn, Hears, IsReading, IsStanding, LeadsOn, standing};
 
 use crate::kept::Kept;
 use crate::leading::{lead_completed, lead_refused};
@@ -37,13 +36,14 @@ pub struct Reading {
 impl Reading {
     /// Takes an answer into the transfer, and keeps what is new. How the read ended, if it did.
     #[inline(always)]
-    #[tactic(auto, using(crate::proofs::TakeLemmas::room, crate::proofs::TakeLemmas::hears_steady))]
+    #[tactic(auto, using(crate::proofs::TakeLemmas::room, crate::proofs::TakeLemmas::hears_steady, crate::proofs::StandLemmas::going_due))]
     fn hear(&mut self, answer: Answer<'_>) -> Option<Ending>
         requires reading { IsReading self.old.place self.old.transfer self.old.kept }
         requires bytes { BringsBytes (reply_of answer) }
         ensures place { self.new.place ≡ self.old.place }
         ensures fits { FitsPlace self.new.place self.new.kept }
         ensures bytes { KeepsBytes self.new.kept }
+        ensures fewer { left (taken self.old.transfer (reply_of answer.entry)).transfer < left self.old.transfer }
         ensures heard { Hears self.old.kept (taken self.old.transfer (reply_of answer.entry)) self.new.transfer self.new.kept result }
     {
         match self.transfer.take(answer) {
@@ -61,16 +61,28 @@ impl Reading {
     }
 
     /// Goes on to where a read leads that has ended.
-    fn go_on(&mut self, alloc: Global, limits: &Limits, speed: Speed, ending: Ending) {
+    #[tactic(auto, using(crate::proofs::TakeLemmas::next_good))]
+    fn go_on(&mut self, alloc: Global, limits: &Limits, speed: Speed, ending: Ending)
+        requires good { IsGood self.old.place }
+        requires fits { FitsPlace self.old.place self.old.kept }
+        requires bytes { KeepsBytes self.old.kept }
+        ensures { GoesOn limits.now speed self.old.place self.old.transfer self.old.kept ending (standing self.new.place self.new.transfer self.new.kept) }
+    {
         let place = mem::replace(&mut self.place, Place::First);
         let kept = mem::replace(&mut self.kept, Kept::empty());
         let next = lead(alloc, speed, place, &self.transfer, kept, ending);
-        *self = begin(alloc, limits, next);
+        drop(mem::replace(self, begin(alloc, limits, next)));
     }
 
     /// Takes an answer: the read goes on, or the next one begins.
     #[inline(always)]
-    pub fn take(&mut self, alloc: Global, limits: &Limits, speed: Speed, answer: Answer<'_>) {
+    pub fn take(&mut self, alloc: Global, limits: &Limits, speed: Speed, answer: Answer<'_>)
+        requires reading { IsReading self.old.place self.old.transfer self.old.kept }
+        requires bytes { BringsBytes (reply_of answer) }
+        ensures takes { TakesHeard limits.now speed self.old.place self.old.kept (taken self.old.transfer (reply_of answer.entry)) (standing self.new.place self.new.transfer self.new.kept) }
+        ensures fewer { left (taken self.old.transfer (reply_of answer.entry)).transfer < left self.old.transfer }
+        ensures stands { IsStanding (standing self.new.place self.new.transfer self.new.kept) }
+    {
         if let Some(ending) = self.hear(answer) {
             self.go_on(alloc, limits, speed, ending);
         }
@@ -78,7 +90,6 @@ impl Reading {
 }
 
 /// Where a read leads to that has ended, or the end where memory is wanting.
-#[tactic(auto, using(crate::proofs::TakeLemmas::leads_good))]
 fn lead(
     alloc: Global,
     speed: Speed,

@@ -1,11 +1,12 @@
 -- A read in work, as the code holds it.
-use Rattle.std.specs.Prelude.{◌≡◌, ◌≤◌, false, if◌then◌else◌, length, Option, Some, None, Result}
+use Rattle.std.specs.Prelude.{◌≡◌, ◌≤◌, ◌⊎◌, false, if◌then◌else◌, length, Option, Some, None, Result}
 use Rattle.usb_set.specs.declared.fault.SetFault.{SetFault}
 use Rattle.usb_set.specs.declared.decoder.Progress.{Progress}
 use Rattle.usb_fields.specs.declared.speed.Speed.{Speed}
 use Rattle.usb_transfer.specs.declared.why.Why.TheVariants.{Stalled, Memory}
 use Rattle.usb_transfer.specs.declared.stage.TransferStage.{TransferStage}
 use Rattle.usb_transfer.specs.declared.stage.TransferStage.TheVariants as stages
+use Rattle.usb_transfer.specs.Limits.{LimitView}
 use Rattle.usb_transfer.specs.Transfer.{TransferView, Hearing, Goes, Brings, Completes, Fails, Taken}
 use Rattle.usb_host.specs.declared.place.Place.{Place}
 use Rattle.usb_host.specs.declared.kept.Kept.{Kept}
@@ -14,7 +15,7 @@ use Rattle.usb_host.specs.declared.reading.Ending.{Ending}
 use Rattle.usb_host.specs.declared.reading.Ending.TheVariants as endings
 use Rattle.usb_host.specs.Order.{stopped, refused_leads}
 use Rattle.usb_host.specs.Keeping.{WantsMemory}
-use Rattle.usb_host.specs.Steps.{HostPhase, ResetDue, Reading, Ended, KeepsHeard, completed_leads}
+use Rattle.usb_host.specs.Steps.{HostPhase, ResetDue, Reading, Ended, KeepsHeard, completed_leads, enter}
 use Rattle.usb_host.specs.Cost.{IsGood, FitsPlace, KeepsBytes}
 use Rattle.usb_host.specs.inside.Leading.{is_end}
 
@@ -57,6 +58,16 @@ abbrev pub ended_leads : Speed → Place → TransferView → Kept → Ending �
 ended_leads speed place t k endings.Completed = completed_leads speed place t k
 ended_leads speed place t k (endings.Failed Stalled) = refused_leads place
 ended_leads speed place t k (endings.Failed why) = stopped place why
+
+-- a read that has ended leads on, or memory was wanting
+abbrev pub LeadsOn : Speed → Place → TransferView → Kept → Ending → Place → Type 0
+LeadsOn speed place t k ending next = (next ≡ stopped place Memory) ⊎ (next ≡ ended_leads speed place t k ending)
+
+-- a host comes to where a read leads that has ended
+pub record GoesOn (limits : LimitView) (speed : Speed) (place : Place) (t : TransferView) (k : Kept) (ending : Ending) (new : HostPhase) : Type 0 where
+  pub next : Place
+  pub leads : LeadsOn speed place t k ending next
+  pub enters : new ≡ enter limits next
 
 -- a place with its read, or the end there
 abbrev pub standing : Place → TransferView → Kept → HostPhase

@@ -1,0 +1,193 @@
+-- What holds of a read in work still holds of the one that an answer leads to.
+use Rattle.std.proofs.Common.{◌≡◌, ℕ, ◌+◌, ◌<◌, ◌≤◌, ◌&&◌, Bool, true, false, if◌then◌else◌, nat_lt, List, [], ◌++◌, length, refl, ap, sym, ◌∙◌, arith, subst, length-append}
+use Rattle.std.specs.Prelude.{Option, Some, None, IsSome, Result}
+use Rattle.std.proofs.lemmas.Bool.Decides.{nat_tests}
+use Rattle.usb_fields.specs.Packet.{Reply as Answer, Sent}
+use Rattle.usb_fields.specs.declared.speed.Speed.{Speed}
+use Rattle.usb_set.specs.declared.fault.SetFault.{SetFault}
+use Rattle.usb_set.specs.declared.decoder.Progress.{Progress}
+use Rattle.usb_transfer.specs.declared.why.Why.TheVariants.{NoAnswer, Busy, Stalled, TooLong, Unexpected, Malformed, Memory}
+use Rattle.usb_transfer.specs.declared.stage.TransferStage.{TransferStage}
+use Rattle.usb_transfer.specs.declared.stage.TransferStage.TheVariants.{Setup, DataIn, DataOut, StatusOut, StatusIn, Completed, Failed}
+use Rattle.usb_transfer.specs.Bound.{left}
+use Rattle.usb_transfer.specs.Limits.{LimitView}
+use Rattle.usb_transfer.specs.Transfer.{TransferView, Hearing, Goes, Brings, Completes, Fails, Taken, taken, due, token_due, addressed}
+use Rattle.usb_host.specs.declared.place.Place.{Place}
+use Rattle.usb_host.specs.declared.place.Place.TheVariants.{First, Address, Device, Header, Set, Qualifier, Languages, Text, Configure, Reported, Stopped}
+use Rattle.usb_host.specs.declared.kept.Kept.{Kept}
+use Rattle.usb_host.specs.declared.kept.Kept.TheVariants as kept
+use Rattle.usb_host.specs.declared.reading.Ending.{Ending}
+use Rattle.usb_host.specs.Order.{asks}
+use Rattle.usb_host.specs.Keeping.{nothing_kept}
+use Rattle.usb_host.specs.Steps.{HostPhase, Reading, Ended, HostView, outcome_at, outcome_of, enter, settled, KeepsHeard, TakesHeard, TakesIn, Takes}
+use Rattle.usb_host.specs.Cost.{IsGood, FitsPlace, KeepsBytes, BringsBytes, IsSteady, left_to_ask}
+use Rattle.usb_host.specs.inside.Leading.{is_end, is_bus_trouble}
+use Rattle.usb_host.specs.inside.Reads.{IsGoing, IsCounted, IsReading, IsStanding, EndsBy, Hears, GoesOn, standing}
+use Rattle.usb_host.specs.inside.Hosts.{IsPhase, phase_in}
+use Rattle.usb_host.proofs.LowerLemmas.{asks_less}
+use Rattle.usb_host.proofs.TakeLemmas.{StageOf, CountOf, heeds, hears_steady, hears_on, hears_end, next_good}
+
+-- ---- a read that goes on
+
+-- the count stays that of what is kept
+counted_still : (t u : TransferView) (k : Kept) → IsCounted t k → u.kept ≡ t.kept → u.request ≡ t.request → IsCounted u k
+counted_still t u (kept.Bytes b) (count, most) same request = (same ∙ count, subst (λ q. q.length ≤ 255) (sym request) most)
+counted_still t u (kept.Set d over) counted same request = tt
+
+counted_on : (t u : TransferView) (old k : Kept) (heard : Hearing) (result : Result Progress SetFault) → IsCounted t old → CountOf t heard u →
+    u.request ≡ t.request → KeepsHeard old heard result k → EndsBy heard result None → IsCounted u k
+counted_on t u old k Goes result counted count request keeps ends =
+    subst (λ x. IsCounted u x) (sym keeps) (counted_still t u old counted count request)
+counted_on t u (kept.Bytes b) (kept.Bytes new) (Brings bytes) result (counted, most) count request keeps ends =
+    (count.0 ∙ ap (λ x. x + length bytes) counted ∙ sym (length-append b bytes) ∙ ap length (sym keeps), subst (λ q. q.length ≤ 255) (sym request) most)
+counted_on t u (kept.Bytes b) (kept.Set d over) (Brings bytes) result counted count request keeps ends = absurd (keeps)
+counted_on t u (kept.Set d over) (kept.Bytes new) (Brings bytes) result counted count request keeps ends = absurd (keeps)
+counted_on t u (kept.Set d over) (kept.Set e again) (Brings bytes) result counted count request keeps ends = tt
+counted_on t u old k Completes result counted count request keeps ends = absurd (ends)
+counted_on t u old k (Fails why) result counted count request keeps ends = absurd (ends)
+
+-- its transfer goes on
+going_on : (heard : Hearing) (result : Result Progress SetFault) (u : TransferView) → StageOf heard u.stage → EndsBy heard result None → IsGoing u.stage
+going_on Goes result u stage ends = stage
+going_on (Brings bytes) result u stage ends = stage
+going_on Completes result u stage ends = absurd (ends)
+going_on (Fails why) result u stage ends = absurd (ends)
+
+pub still_reading : (place : Place) (t u : TransferView) (old k : Kept) (answer : Answer) → IsReading place t old → BringsBytes answer →
+    Hears old (taken t answer) u k None → IsReading place u k
+still_reading place t u old k answer is bytes (same, (result, keeps, ends)) =
+    let h = heeds t answer is.going in
+    let steady = hears_steady place t old k answer u None is.fits is.bytes bytes (same, (result, keeps, ends)) in
+    let reads : IsReading place (taken t answer).transfer k = record {
+      good = is.good;
+      is_read = is.is_read;
+      fits = steady.0;
+      bytes = steady.1;
+      going = going_on (taken t answer).heard result (taken t answer).transfer h.stage ends;
+      counted = counted_on t (taken t answer).transfer old k (taken t answer).heard result is.counted h.count h.request keeps ends;
+    } in
+    subst (λ x. IsReading place x k) (sym same) reads
+
+-- a transfer that goes on has a transaction that is due
+pub going_due : (t : TransferView) → IsGoing t.stage → IsSome (due t)
+going_due t going = by_stage t.stage going
+  where
+    by_stage : (stage : TransferStage) → IsGoing stage → IsSome (addressed t.address (token_due t.request stage))
+    by_stage Setup going = refl
+    by_stage DataIn going = refl
+    by_stage DataOut going = refl
+    by_stage StatusOut going = refl
+    by_stage StatusIn going = refl
+    by_stage Completed going = absurd (going)
+    by_stage (Failed why) going = absurd (going)
+
+-- ---- a read that begins
+
+pub enters_standing : (limits : LimitView) (place : Place) → IsGood place → IsStanding (enter limits place)
+enters_standing limits First good = record { good = good; is_read = refl; fits = tt; bytes = tt; going = tt; counted = (refl, omega arith) }
+enters_standing limits (Address first) good = record { good = good; is_read = refl; fits = tt; bytes = tt; going = tt; counted = (refl, omega arith) }
+enters_standing limits (Device first) good = record { good = good; is_read = refl; fits = tt; bytes = tt; going = tt; counted = (refl, omega arith) }
+enters_standing limits (Header kind f) good = record { good = good; is_read = refl; fits = tt; bytes = tt; going = tt; counted = (refl, omega arith) }
+enters_standing limits (Set kind f total) good = record { good = good; is_read = refl; fits = tt; bytes = tt; going = tt; counted = tt }
+enters_standing limits (Qualifier f) good = record { good = good; is_read = refl; fits = tt; bytes = tt; going = tt; counted = (refl, omega arith) }
+enters_standing limits (Languages f named) good = record { good = good; is_read = refl; fits = tt; bytes = tt; going = tt; counted = (refl, omega arith) }
+enters_standing limits (Text f s named) good = record { good = good; is_read = refl; fits = tt; bytes = tt; going = tt; counted = (refl, omega arith) }
+enters_standing limits (Configure f) good = record { good = good; is_read = refl; fits = tt; bytes = tt; going = tt; counted = (refl, omega arith) }
+enters_standing limits (Reported f) good = tt
+enters_standing limits (Stopped trouble) good = tt
+
+-- a place with its read stands as such
+stands_here : (place : Place) (t : TransferView) (k : Kept) → is_end place ≡ false → IsReading place t k → IsStanding (standing place t k)
+stands_here place t k reads is = subst (λ b. IsStanding (if b then Ended place else Reading place t k)) (sym reads) is
+
+-- ---- what a host takes, by what its read heard
+
+pub takes_on : (limits : LimitView) (speed : Speed) (place : Place) (t u : TransferView) (old k : Kept) (answer : Answer) → IsReading place t old → BringsBytes answer →
+    Hears old (taken t answer) u k None →
+    TakesHeard limits speed place old (taken t answer) (standing place u k) × IsStanding (standing place u k)
+takes_on limits speed place t u old k answer is bytes hears = (
+  hears_on limits speed place t u old k answer is.going is.is_read hears,
+  stands_here place u k is.is_read (still_reading place t u old k answer is bytes hears),
+)
+
+pub takes_end : (limits : LimitView) (speed : Speed) (place : Place) (t u : TransferView) (old k : Kept) (answer : Answer) (ending : Ending) (new : HostPhase) →
+    IsReading place t old → BringsBytes answer → Hears old (taken t answer) u k (Some ending) → GoesOn limits speed place u k ending new →
+    TakesHeard limits speed place old (taken t answer) new × IsStanding new
+takes_end limits speed place t u old k answer ending new is bytes hears goes =
+    let steady = hears_steady place t old k answer u (Some ending) is.fits is.bytes bytes hears in
+    let good = next_good speed place u k ending goes.next is.good steady.0 steady.1 goes.leads in
+    subst (λ x. TakesHeard limits speed place old (taken t answer) x × IsStanding x) (sym goes.enters)
+    (hears_end limits speed place t u old k answer ending goes.next is.going hears goes.leads, enters_standing limits goes.next good)
+
+-- ---- what comes of trouble for which the bus is to blame
+
+-- a reset is due, where attempts are left
+pub settles : (attempts resets : ℕ) (place : Place) (t : TransferView) (k : Kept) →
+    phase_in (is_bus_trouble place && nat_lt resets attempts) place t k ≡ settled attempts resets (standing place t k)
+settles attempts resets First t k = refl
+settles attempts resets (Address first) t k = refl
+settles attempts resets (Device first) t k = refl
+settles attempts resets (Header kind f) t k = refl
+settles attempts resets (Set kind f total) t k = refl
+settles attempts resets (Qualifier f) t k = refl
+settles attempts resets (Languages f named) t k = refl
+settles attempts resets (Text f s named) t k = refl
+settles attempts resets (Configure f) t k = refl
+settles attempts resets (Reported f) t k = refl
+settles attempts resets (Stopped trouble) t k = refl
+
+-- what holds of the phase then
+pub phase_holds : (attempts resets : ℕ) (place : Place) (t : TransferView) (k : Kept) → IsStanding (standing place t k) →
+    IsPhase attempts resets (phase_in (is_bus_trouble place && nat_lt resets attempts) place t k)
+phase_holds attempts resets place t k stands = by_test (is_bus_trouble place && nat_lt resets attempts) (left_over (is_bus_trouble place))
+  where
+    left_over : (b : Bool) → (b && nat_lt resets attempts) ≡ true → resets < attempts
+    left_over true e = grind (arith, nat_tests)
+    left_over false e = cc
+
+    by_end : (b : Bool) → IsStanding (if b then Ended place else Reading place t k) → IsPhase attempts resets (if b then Ended place else Reading place t k)
+    by_end true s = tt
+    by_end false s = s
+
+    by_test : (b : Bool) → (b ≡ true → resets < attempts) → IsPhase attempts resets (phase_in b place t k)
+    by_test true below = below refl
+    by_test false below = by_end (is_end place) stands
+
+-- ---- a whole host
+
+pub reads_here : (due : Bool) (place : Place) (t : TransferView) (k : Kept) → due ≡ false → is_end place ≡ false → phase_in due place t k ≡ Reading place t k
+reads_here due place t k not_due reads =
+    ap (λ b. phase_in b place t k) not_due ∙ ap (λ b. if b then Ended place else Reading place t k) reads
+
+pub reads_sound : (attempts resets : ℕ) (due : Bool) (place : Place) (t : TransferView) (k : Kept) → due ≡ false → is_end place ≡ false →
+    IsPhase attempts resets (phase_in due place t k) → IsReading place t k
+reads_sound attempts resets due place t k not_due reads is = subst (λ x. IsPhase attempts resets x) (reads_here due place t k not_due reads) is
+
+pub host_takes : (v : HostView) (place here : Place) (t u : TransferView) (k j : Kept) (answer : Answer) (due : Bool) → v.phase ≡ Reading place t k →
+    TakesHeard v.limits v.speed place k (taken t answer) (standing here u j) → due ≡ (is_bus_trouble here && nat_lt v.resets v.limits.attempts) →
+    Takes v answer (record v { phase = phase_in due here u j })
+host_takes v place here t u k j answer due at takes is =
+    subst (λ x. TakesIn v x answer (record v { phase = phase_in due here u j })) (sym at) (
+      standing here u j,
+      takes,
+      ap (λ b. record v { phase = phase_in b here u j }) is ∙ ap (λ x. record v { phase = x }) (settles v.limits.attempts v.resets here u j),
+    )
+
+pub host_asks_less : (v w : HostView) (place : Place) (t : TransferView) (k : Kept) (answer : Answer) → v.phase ≡ Reading place t k → IsReading place t k →
+    BringsBytes answer → left (taken t answer).transfer < left t → Takes v answer w → left_to_ask w < left_to_ask v
+host_asks_less v w place t k answer at is bytes fewer takes =
+    (asks_less.takes v w place t k answer at (subst (λ x. IsSteady x) (sym at) (is.good, is.fits, is.bytes)) bytes fewer takes).1
+
+-- the outcome of a place with its read is that of the place
+pub outcome_there : (place : Place) (t : TransferView) (k : Kept) → outcome_of (standing place t k) ≡ outcome_at place
+outcome_there (Reported f) t k = refl
+outcome_there (Stopped trouble) t k = refl
+outcome_there First t k = refl
+outcome_there (Address first) t k = refl
+outcome_there (Device first) t k = refl
+outcome_there (Header kind f) t k = refl
+outcome_there (Set kind f total) t k = refl
+outcome_there (Qualifier f) t k = refl
+outcome_there (Languages f named) t k = refl
+outcome_there (Text f s named) t k = refl
+outcome_there (Configure f) t k = refl
