@@ -141,7 +141,7 @@ def answer_by_device(device, numbers, tally):
 
 def lines():
     yield from lines_of_any()
-    for name, file in (("a mouse", MOUSE), ("a mouse with packets of 8", SMALL_PACKETS), ("a mouse with everything", EVERYTHING)):
+    for name, file in (("a mouse with packets of 64", MOUSE), ("a mouse with packets of 8", SMALL_PACKETS), ("a mouse with everything", EVERYTHING)):
         device, numbers, tally = Device(File(file)), Numbers(2), Tally()
         for _ in range(LISTS):
             answer_by_device(device, numbers, tally)

@@ -14,7 +14,7 @@ pub(crate) const MOUSE: [u8; 52] = [
 ];
 
 /// A mouse with a second speed and a string.
-pub(crate) const EVERYTHING: [u8; 112] = [
+const EVERYTHING: [u8; 112] = [
     0x12, 0x01, 0x00, 0x02, 0x00, 0x00, 0x00, 0x40, 0x34, 0x12, 0x78, 0x56, 0x00, 0x01, 0x00, 0x01,
     0x00, 0x01, 0x09, 0x02, 0x22, 0x00, 0x01, 0x01, 0x00, 0xa0, 0x32, 0x09, 0x04, 0x00, 0x00, 0x01,
     0x03, 0x01, 0x02, 0x00, 0x09, 0x21, 0x10, 0x01, 0x00, 0x01, 0x22, 0x34, 0x00, 0x07, 0x05, 0x81,
@@ -34,8 +34,14 @@ pub(crate) fn mouse(alloc: Global, packet: u8) -> Result<Description> {
     describe(alloc, &bytes)
 }
 
+/// The mouse with a second speed and a string, at full speed.
+pub(crate) fn everything(alloc: Global) -> Result<Description> {
+    let bytes = EVERYTHING;
+    describe(alloc, &bytes)
+}
+
 /// The device with these descriptors, at full speed.
-pub(crate) fn describe(alloc: Global, bytes: &[u8]) -> Result<Description> {
+fn describe(alloc: Global, bytes: &[u8]) -> Result<Description> {
     let file = read_file(alloc, bytes).context("the descriptors of a mouse")?;
     Description::new(alloc, file, Speed::Full).context("a mouse")
 }

@@ -1,6 +1,6 @@
 //! Hosts that are answered by a fixed generator: by anything, or by a device whose answers are now and then others.
 use crate::answers::Made;
-use crate::devices::{EVERYTHING, MOUSE, describe, mouse};
+use crate::devices::{MOUSE, everything, mouse};
 use crate::numbers::Numbers;
 use crate::tally::{Tally, count};
 use anyhow::Result;
@@ -21,16 +21,18 @@ const MORE: u8 = 4;
 pub(crate) fn totals_text(alloc: Global) -> Result<String> {
     let mut text = String::new(alloc);
     add_any(alloc, &mut text)?;
-    let everything = describe(alloc, &EVERYTHING)?;
-    add_device(alloc, "a mouse", &mouse(alloc, 64)?, &mut text)?;
-    add_device(
-        alloc,
-        "a mouse with packets of 8",
-        &mouse(alloc, 8)?,
-        &mut text,
-    )?;
+    add_mouse(alloc, 64, &mut text)?;
+    add_mouse(alloc, 8, &mut text)?;
+    let everything = everything(alloc)?;
     add_device(alloc, "a mouse with everything", &everything, &mut text)?;
     Ok(text)
+}
+
+/// Hosts that are answered by a mouse with packets of this size, and now and then otherwise.
+fn add_mouse(alloc: Global, packet: u8, text: &mut String) -> Result<()> {
+    let description = mouse(alloc, packet)?;
+    let name = format!(in alloc; "a mouse with packets of {packet}")?;
+    add_device(alloc, name.as_str(), &description, text)
 }
 
 /// Hosts that are answered by anything.
