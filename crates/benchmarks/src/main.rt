@@ -6,6 +6,7 @@
 //! printed. `measure` runs this program on sets of all sizes, and has its instructions counted.
 #![tactic(auto)]
 
+mod enumerating;
 mod files;
 mod host;
 mod listings;

@@ -1,4 +1,5 @@
 //! What is measured.
+use crate::enumerating::{Counted, count_naks, count_transactions};
 use crate::files::file_of;
 use crate::host::{Until, drive_again, take_naks, take_packets, talk_again};
 use crate::listings::assemble_again;
@@ -25,6 +26,10 @@ pub(crate) enum Work {
     HostStatus,
     HostPackets,
     HostNaks,
+    EnumerationHeader,
+    EnumerationSetup,
+    EnumerationPackets,
+    EnumerationNaks,
     Talk,
     CheckSets,
     CheckFile,
@@ -37,7 +42,7 @@ pub(crate) enum Work {
 }
 
 impl Work {
-    pub(crate) const ALL: [Work; 21] = [
+    pub(crate) const ALL: [Work; 25] = [
         Work::DecodeWhole,
         Work::DecodePieces,
         Work::DecodeBytes,
@@ -50,6 +55,10 @@ impl Work {
         Work::HostStatus,
         Work::HostPackets,
         Work::HostNaks,
+        Work::EnumerationHeader,
+        Work::EnumerationSetup,
+        Work::EnumerationPackets,
+        Work::EnumerationNaks,
         Work::Talk,
         Work::CheckSets,
         Work::CheckFile,
@@ -76,6 +85,10 @@ impl Work {
             Work::HostStatus => "host-status",
             Work::HostPackets => "host-packets",
             Work::HostNaks => "host-naks",
+            Work::EnumerationHeader => "enumeration-header",
+            Work::EnumerationSetup => "enumeration-setup",
+            Work::EnumerationPackets => "enumeration-packets",
+            Work::EnumerationNaks => "enumeration-naks",
             Work::Talk => "talk",
             Work::CheckSets => "check-sets",
             Work::CheckFile => "check-file",
@@ -104,6 +117,10 @@ impl Work {
             Work::HostStatus => drive_again(set, Until::Status, rounds),
             Work::HostPackets => take_packets(set, rounds),
             Work::HostNaks => take_naks(set, rounds),
+            Work::EnumerationHeader => count_transactions(alloc, set, Counted::Header, rounds),
+            Work::EnumerationSetup => count_transactions(alloc, set, Counted::Setup, rounds),
+            Work::EnumerationPackets => count_transactions(alloc, set, Counted::Packets, rounds),
+            Work::EnumerationNaks => count_naks(alloc, set, rounds),
             Work::Talk => talk_again(alloc, set, rounds),
             Work::CheckSets => check_sets(alloc, set, copies, rounds),
             Work::CheckFile => check_file(alloc, set, rounds),
