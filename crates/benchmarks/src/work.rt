@@ -1,5 +1,6 @@
 //! What is measured.
 use crate::enumerating::{Counted, count_naks, count_transactions};
+use crate::enumerations::enumerate_again;
 use crate::files::file_of;
 use crate::host::{Until, drive_again, take_naks, take_packets, talk_again};
 use crate::listings::assemble_again;
@@ -30,6 +31,7 @@ pub(crate) enum Work {
     EnumerationSetup,
     EnumerationPackets,
     EnumerationNaks,
+    Enumerate,
     Talk,
     CheckSets,
     CheckFile,
@@ -42,7 +44,7 @@ pub(crate) enum Work {
 }
 
 impl Work {
-    pub(crate) const ALL: [Work; 25] = [
+    pub(crate) const ALL: [Work; 26] = [
         Work::DecodeWhole,
         Work::DecodePieces,
         Work::DecodeBytes,
@@ -59,6 +61,7 @@ impl Work {
         Work::EnumerationSetup,
         Work::EnumerationPackets,
         Work::EnumerationNaks,
+        Work::Enumerate,
         Work::Talk,
         Work::CheckSets,
         Work::CheckFile,
@@ -89,6 +92,7 @@ impl Work {
             Work::EnumerationSetup => "enumeration-setup",
             Work::EnumerationPackets => "enumeration-packets",
             Work::EnumerationNaks => "enumeration-naks",
+            Work::Enumerate => "enumerate",
             Work::Talk => "talk",
             Work::CheckSets => "check-sets",
             Work::CheckFile => "check-file",
@@ -102,7 +106,7 @@ impl Work {
     }
 
     /// Does it so many times over, and answers how many bytes it is of: those of the set, those of a file with so
-    /// many copies of it, those of a listing, or those that a device sent.
+    /// many copies of it, those of a listing, or those that a device sent; of `enumerate`, how many transactions there are.
     pub(crate) fn run(self, alloc: Global, set: &[u8], copies: u32, rounds: u32) -> Result<usize> {
         match self {
             Work::DecodeWhole => decode(alloc, set, rounds, set.len()),
@@ -121,6 +125,7 @@ impl Work {
             Work::EnumerationSetup => count_transactions(alloc, set, Counted::Setup, rounds),
             Work::EnumerationPackets => count_transactions(alloc, set, Counted::Packets, rounds),
             Work::EnumerationNaks => count_naks(alloc, set, rounds),
+            Work::Enumerate => enumerate_again(alloc, set, rounds),
             Work::Talk => talk_again(alloc, set, rounds),
             Work::CheckSets => check_sets(alloc, set, copies, rounds),
             Work::CheckFile => check_file(alloc, set, rounds),
