@@ -1,11 +1,13 @@
 //! Does one kind of work on a configuration set, or on a descriptor file of such sets, many times over, and prints
 //! how long that took.
 //!
-//! The set is standard input, or for `assemble` the listing. The words are the count of rounds, the name of the work, and for files how many copies
+//! The set is standard input, or for `assemble` the listing, and for `enumerate` the descriptor file. The words are the count of rounds, the name of the work, and for files how many copies
 //! of the set one has (1 where the word is left out). With no word each kind of work is done once and no time is
 //! printed. `measure` runs this program on sets of all sizes, and has its instructions counted.
 #![tactic(auto)]
 
+mod enumerating;
+mod enumerations;
 mod files;
 mod host;
 mod listings;

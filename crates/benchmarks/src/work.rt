@@ -1,4 +1,6 @@
 //! What is measured.
+use crate::enumerating::{Counted, count_naks, count_transactions};
+use crate::enumerations::enumerate_again;
 use crate::files::file_of;
 use crate::host::{Until, drive_again, take_naks, take_packets, talk_again};
 use crate::listings::assemble_again;
@@ -25,6 +27,11 @@ pub(crate) enum Work {
     HostStatus,
     HostPackets,
     HostNaks,
+    EnumerationHeader,
+    EnumerationSetup,
+    EnumerationPackets,
+    EnumerationNaks,
+    Enumerate,
     Talk,
     CheckSets,
     CheckFile,
@@ -37,7 +44,7 @@ pub(crate) enum Work {
 }
 
 impl Work {
-    pub(crate) const ALL: [Work; 21] = [
+    pub(crate) const ALL: [Work; 26] = [
         Work::DecodeWhole,
         Work::DecodePieces,
         Work::DecodeBytes,
@@ -50,6 +57,11 @@ impl Work {
         Work::HostStatus,
         Work::HostPackets,
         Work::HostNaks,
+        Work::EnumerationHeader,
+        Work::EnumerationSetup,
+        Work::EnumerationPackets,
+        Work::EnumerationNaks,
+        Work::Enumerate,
         Work::Talk,
         Work::CheckSets,
         Work::CheckFile,
@@ -76,6 +88,11 @@ impl Work {
             Work::HostStatus => "host-status",
             Work::HostPackets => "host-packets",
             Work::HostNaks => "host-naks",
+            Work::EnumerationHeader => "enumeration-header",
+            Work::EnumerationSetup => "enumeration-setup",
+            Work::EnumerationPackets => "enumeration-packets",
+            Work::EnumerationNaks => "enumeration-naks",
+            Work::Enumerate => "enumerate",
             Work::Talk => "talk",
             Work::CheckSets => "check-sets",
             Work::CheckFile => "check-file",
@@ -89,7 +106,7 @@ impl Work {
     }
 
     /// Does it so many times over, and answers how many bytes it is of: those of the set, those of a file with so
-    /// many copies of it, those of a listing, or those that a device sent.
+    /// many copies of it, those of a listing, or those that a device sent; of `enumerate`, how many transactions there are.
     pub(crate) fn run(self, alloc: Global, set: &[u8], copies: u32, rounds: u32) -> Result<usize> {
         match self {
             Work::DecodeWhole => decode(alloc, set, rounds, set.len()),
@@ -104,6 +121,11 @@ impl Work {
             Work::HostStatus => drive_again(set, Until::Status, rounds),
             Work::HostPackets => take_packets(set, rounds),
             Work::HostNaks => take_naks(set, rounds),
+            Work::EnumerationHeader => count_transactions(alloc, set, Counted::Header, rounds),
+            Work::EnumerationSetup => count_transactions(alloc, set, Counted::Setup, rounds),
+            Work::EnumerationPackets => count_transactions(alloc, set, Counted::Packets, rounds),
+            Work::EnumerationNaks => count_naks(alloc, set, rounds),
+            Work::Enumerate => enumerate_again(alloc, set, rounds),
             Work::Talk => talk_again(alloc, set, rounds),
             Work::CheckSets => check_sets(alloc, set, copies, rounds),
             Work::CheckFile => check_file(alloc, set, rounds),

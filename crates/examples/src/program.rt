@@ -7,17 +7,19 @@ use std::alloc::Global;
 use std::io::{Read, Write};
 use usb_tool::run;
 
-/// Runs the program with this word: the exit status, and the line of the fault if there is one. A call of its own,
+/// Runs the program with these words: the exit status, and the line of the fault if there is one. A call of its own,
 /// so that its callers are proved without the long contract of `run`.
 pub(crate) fn told<R: Read, W: Write>(
     alloc: Global,
-    word: &str,
+    words: &str,
     r: &mut R,
     w: &mut W,
 ) -> Result<String> {
     let mut line = Vec::new(alloc);
     line.push(String::from_str(alloc, "usbdesc")?)?;
-    line.push(String::from_str(alloc, word)?)?;
+    for word in words.split_whitespace() {
+        line.push(String::from_str(alloc, word)?)?;
+    }
     let mut errors = Vec::new(alloc);
     let status = run(alloc, &line, r, w, &mut errors);
     let fault = String::from_utf8(errors)?;

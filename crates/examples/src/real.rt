@@ -1,9 +1,10 @@
 //! The examples: each is listed as the text beside it says, and written again to the same bytes. Of a file what
-//! breaks the rules is told as a second text says, and its listing is read back to its bytes. Listings by hand
-//! are read back to the bytes beside them, and broken ones have their fault told.
+//! breaks the rules is told as a second text says, its listing is read back to its bytes, and its device is enumerated
+//! at each speed as a third text says. Listings by hand are read back to the bytes beside them, and broken ones have
+//! their fault told.
 use crate::program::{fault_of, told};
 use crate::{files, sets};
-use anyhow::{Result, ensure};
+use anyhow::{Context, Result, ensure};
 use std::alloc::Global;
 use std::fs;
 use std::rt::Files;
@@ -34,6 +35,10 @@ pub(crate) fn file<R: Files + AllocGlobal>(rt: &R, name: &str) -> Result<String>
     };
     compare(alloc, "check", &bytes, &findings, status)?;
     build_again(alloc, &text, &bytes)?;
+    let results = String::from_utf8(read(rt, name, "enumerate")?)?;
+    for line in results.as_str().lines() {
+        enumerate(alloc, &bytes, line, &text).context(format_args!("{line}"))?;
+    }
     counts(alloc, &bytes, &text)
 }
 
@@ -54,13 +59,35 @@ fn counts(alloc: Global, bytes: &[u8], text: &[u8]) -> Result<String> {
     Ok(format!(in alloc; "{} bytes, {lines} descriptors", bytes.len())?)
 }
 
-/// Runs the program with this word over the input: it writes what is wanted, and ends with this status and no fault.
-fn compare(alloc: Global, word: &str, mut input: &[u8], wanted: &[u8], status: &str) -> Result<()> {
+/// Runs the program with these words over the input: it writes what is wanted, and ends with this status and no fault.
+fn compare(
+    alloc: Global,
+    words: &str,
+    mut input: &[u8],
+    wanted: &[u8],
+    status: &str,
+) -> Result<()> {
     let mut output = Vec::new(alloc);
-    let told = told(alloc, word, &mut input, &mut output)?;
-    ensure!(output.as_slice() == wanted, "{word} writes something else");
-    ensure!(told.as_str() == status, "{word} ends so: {told}");
+    let told = told(alloc, words, &mut input, &mut output)?;
+    ensure!(output.as_slice() == wanted, "{words} writes something else");
+    ensure!(told.as_str() == status, "{words} ends so: {told}");
     Ok(())
+}
+
+/// Enumerates the device of a file at the speed that the line begins with. The rest of the line is the first one that
+/// is written; after success the listing comes behind it.
+fn enumerate(alloc: Global, bytes: &[u8], line: &str, listing: &[u8]) -> Result<()> {
+    let (speed, result) = line.split_once(' ').context("a line of one word")?;
+    let mut wanted = Vec::from_slice(alloc, result.as_bytes())?;
+    wanted.push(b'\n')?;
+    let status = if result.starts_with("success ") {
+        wanted.extend_from_slice(listing)?;
+        "0"
+    } else {
+        "1"
+    };
+    let words = format!(in alloc; "enumerate --speed {speed}")?;
+    compare(alloc, words.as_str(), bytes, &wanted, status)
 }
 
 /// Reads the listing back to the bytes of its file, by the program and by the library's call.

@@ -1,12 +1,14 @@
 #!/usr/bin/env python3
-"""Writes ../data/talks/losses.talk: each single loss in a transfer of each kind, counted by the rules as totals.py reads them.
+"""Writes ../data/talks/losses.talk: each single loss in a transfer of each kind, counted by the rules as talks.py of
+crates/totals reads them.
 
 Run it in this folder; it prints nothing.
 """
-import importlib.util
+import os
+import sys
 
-totals = importlib.util.module_from_spec(spec := importlib.util.spec_from_file_location("totals", "totals.py"))
-spec.loader.exec_module(totals)
+sys.path.insert(0, os.path.join(os.path.dirname(os.path.abspath(__file__)), "../../totals/reading"))
+import talks  # noqa: E402
 
 PACKET = 8
 SET = "09022200010100a0320904000001030102000921100100012234000705810304000a"
@@ -32,12 +34,12 @@ def reply(result):
 
 with open("../data/talks/losses.talk", "w") as out:
     print("# Each single loss in a transfer of each kind, with packets of 8 bytes. losses.py has counted them.", file=out)
-    print(f"file {totals.descriptor(PACKET).hex()}{SET} -> read\nspeed full -> accepted", file=out)
+    print(f"file {talks.descriptor(PACKET).hex()}{SET} -> read\nspeed full -> accepted", file=out)
     for requests, name, places in KINDS:
         for place in places:
             for letter in "dua":
                 fates = "." * place + letter
-                end, count, results, device = totals.talk(PACKET, requests, 16, fates)
+                end, count, results, device = talks.talk(PACKET, requests, 16, fates)
                 print(f"\n# {name}, transaction {place + 1}: {NAMES[letter]}\nfates {fates}", file=out)
                 for request, result in zip(requests, results):
                     print(f"request {request} -> {reply(result)}", file=out)

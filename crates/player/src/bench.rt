@@ -1,5 +1,6 @@
 //! All that steps are played with. Each part knows its own steps: a further one is a file of its own, and a line here.
 use crate::driven::Driven;
+use crate::host::HostInWork;
 use crate::outcome::Outcome;
 use crate::talk::TalkInWork;
 use crate::transfer::TransferInWork;
@@ -12,6 +13,7 @@ use usb_device::Description;
 pub struct Bench {
     talk: TalkInWork,
     transfer: TransferInWork,
+    host: HostInWork,
     traces: bool,
 }
 
@@ -33,11 +35,12 @@ impl<'d> Target<'d> {
 }
 
 impl Bench {
-    /// With no transfer, and with a talk of no requests.
+    /// With no transfer and no host, and with a talk of no requests.
     pub fn new(alloc: Global) -> Bench {
         Bench {
             talk: TalkInWork::new(alloc),
             transfer: TransferInWork::new(),
+            host: HostInWork::new(),
             traces: false,
         }
     }
@@ -49,7 +52,14 @@ impl Bench {
                 self.traces = *word == "on";
                 Ok(Outcome::done(alloc)?)
             }
-            _ => self.transfer.act(alloc, words),
+            [verb, ..] if *verb == "transfer" => {
+                self.host = HostInWork::new();
+                self.transfer.act(alloc, words)
+            }
+            _ => match self.host.act(alloc, words)? {
+                Some(outcome) => Ok(Some(outcome)),
+                None => self.transfer.act(alloc, words),
+            },
         }
     }
 

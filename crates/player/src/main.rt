@@ -1,11 +1,10 @@
 //! Plays files of lines: each says, a line a step, what is done to a device, asked over a bus or answered to a host, and
 //! what must come of it.
 //!
-//! With no word on the command line all files that `list` names are played one after another; then three requests are
-//! made under every list of six fates, and what came of all of them is compared with `totals.txt`, which another
-//! reading of the rules has counted. A word is the name of one file. With the word `-` steps are read from standard
-//! input, and what comes of each is written at once, so that another program can drive what is here. With the word
-//! `memory` a device gets every kind of request, for `.ci/memory`.
+//! With no word on the command line all files that `list` names are played one after another. A word is the name of
+//! one file. With the word `-` steps are read from standard input, and what comes of each is written at once, so that
+//! another program can drive what is here. With the word `memory` a device gets every kind of request, for
+//! `.ci/memory`.
 //!
 //! The lines stand in `docs/SCRIPTS.md`.
 #![tactic(auto)]
@@ -14,6 +13,7 @@ mod answer;
 mod bench;
 mod descriptors;
 mod driven;
+mod host;
 mod line;
 mod memory;
 mod outcome;
@@ -22,7 +22,6 @@ mod score;
 mod sent;
 mod state;
 mod talk;
-mod totals;
 mod transfer;
 mod words;
 
@@ -33,7 +32,6 @@ use std::io::BufReader;
 use std::process::ExitCode;
 use std::rt::{Env, Files};
 use std::{env, fs};
-use totals::totals_text;
 
 fn main(rt: HostRuntime) -> Result<ExitCode> {
     let words = env::args(&rt)?.collect::<Vec<String>>(rt.alloc())?;
@@ -48,20 +46,13 @@ fn main(rt: HostRuntime) -> Result<ExitCode> {
     Ok(ExitCode::from(status))
 }
 
-/// Plays all files of the list, and makes the talks whose totals are known. The status is the worst of theirs.
+/// Plays all files of the list. The status is the worst of theirs.
 fn play_all<R: Files + Print + AllocGlobal>(rt: &R) -> Result<u8> {
     let names = fs::read_to_string(rt, "list")?;
     let mut worst = 0;
     for name in names.as_str().lines() {
         let status = play_file(rt, name)?;
         worst = worst.max(status);
-    }
-    let wanted = fs::read_to_string(rt, "totals.txt")?;
-    let totals = totals_text(rt.alloc())?;
-    print!(rt; "{totals}")?;
-    if totals != wanted {
-        println!(rt; "the totals are others")?;
-        worst = worst.max(1);
     }
     Ok(worst)
 }

@@ -1,22 +1,11 @@
 //! Three requests under every list of six fates, to a device with packets of 64 bytes and to one with packets of 8.
-use anyhow::{Context, Result};
+use crate::devices::mouse;
+use anyhow::Result;
 use std::alloc::{AllocError, Global};
 use usb_bus::{Fate, converse};
 use usb_device::Description;
-use usb_fields::{Setup, Speed};
-use usb_file::read_file;
+use usb_fields::Setup;
 use usb_transfer::Why;
-
-/// A boot mouse with packets of 64 bytes.
-const FILE: [u8; 52] = [
-    0x12, 0x01, 0x10, 0x01, 0x00, 0x00, 0x00, 0x40, 0x34, 0x12, 0x78, 0x56, 0x00, 0x01, 0x00, 0x00,
-    0x00, 0x01, 0x09, 0x02, 0x22, 0x00, 0x01, 0x01, 0x00, 0xa0, 0x32, 0x09, 0x04, 0x00, 0x00, 0x01,
-    0x03, 0x01, 0x02, 0x00, 0x09, 0x21, 0x10, 0x01, 0x00, 0x01, 0x22, 0x34, 0x00, 0x07, 0x05, 0x81,
-    0x03, 0x04, 0x00, 0x0a,
-];
-
-/// Where bMaxPacketSize0 stands (USB 2.0, table 9-8).
-const PACKET_AT: usize = 7;
 
 /// SET_ADDRESS 5, GET_DESCRIPTOR of the device, SET_CONFIGURATION 1.
 const REQUESTS: [[u8; 8]; 3] = [
@@ -52,7 +41,7 @@ struct Totals {
 }
 
 /// The totals of all lists of six fates, a line for each packet size and each limit of NAKs.
-pub fn totals_text(alloc: Global) -> Result<String> {
+pub(crate) fn totals_text(alloc: Global) -> Result<String> {
     let mut text = String::new(alloc);
     for packet in [64, 8] {
         add_lines(alloc, packet, &mut text)?;
@@ -62,10 +51,7 @@ pub fn totals_text(alloc: Global) -> Result<String> {
 
 /// Adds the lines of this packet size.
 fn add_lines(alloc: Global, packet: u8, text: &mut String) -> Result<()> {
-    let mut bytes = FILE;
-    bytes[PACKET_AT] = packet;
-    let file = read_file(alloc, &bytes).context("the descriptors of a mouse")?;
-    let description = Description::new(alloc, file, Speed::Full).context("a mouse")?;
+    let description = mouse(alloc, packet)?;
     for naks in [0, 2] {
         let totals = totals_of(alloc, &description, naks)?;
         text.push_str(line(alloc, packet, naks, totals)?.as_str())?;

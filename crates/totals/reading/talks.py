@@ -1,9 +1,9 @@
 #!/usr/bin/env python3
-"""Writes ../data/totals.txt: three requests over a bus, for every list of six fates.
+"""Three requests over a bus, for every list of six fates.
 
 A reading of the rules of USB 2.0, chapters 8 and 9, that shares no code with the crates: a device with a stage, a host
-with a stage, and a bus between them. The talk gives address 5 to a boot mouse with packets of eight bytes, asks it for
-its device descriptor, and configures it. Run it in this folder; it prints nothing.
+with a stage, and a bus between them. The talk gives address 5 to a boot mouse with packets of 64 or of eight bytes,
+asks it for its device descriptor, and configures it. write_stdout.py beside it writes what must come by it.
 """
 from itertools import product
 
@@ -141,8 +141,7 @@ def totals_line(packet, naks):
             f"{transactions} transactions, {replies} replies, {addressed} at address 5, {configured} configured")
 
 
-if __name__ == "__main__":
-    with open("../data/totals.txt", "w") as out:
-        for packet in (64, 8):
-            for naks in (0, 2):
-                print(totals_line(packet, naks), file=out)
+def lines():
+    for packet in (64, 8):
+        for naks in (0, 2):
+            yield totals_line(packet, naks)

@@ -1,0 +1,239 @@
+//! Enumerations over a bus that loses packets: one or two losses at each of the first places, sixteen NAKs from each
+//! of them on, every list of five fates, and a real mouse under some fates.
+use crate::devices::mouse;
+use crate::tally::count;
+use anyhow::{Context, Result};
+use std::alloc::{AllocError, Global};
+use usb_bus::Fate;
+use usb_device::Description;
+use usb_enumeration::{Run, enumerate};
+use usb_fields::Speed;
+use usb_file::read_file;
+use usb_transfer::Limits;
+
+/// At so many places, of the first transactions, something is lost or busy.
+const PLACES: usize = 24;
+
+/// How many transactions in a row are busy: as many as are borne.
+const BUSY: usize = 16;
+
+const LOSSES: [Fate; 3] = [Fate::LostDown, Fate::LostUp, Fate::LostAck];
+
+const FATES: [Fate; 5] = [
+    Fate::Pass,
+    Fate::Busy,
+    Fate::LostDown,
+    Fate::LostUp,
+    Fate::LostAck,
+];
+
+/// The number of lists of five fates.
+const LISTS: u32 = 3125;
+
+/// Under which fates a real mouse is enumerated, by their letters.
+const LETTERS: [&str; 12] = [
+    "",
+    "......a",
+    "....a",
+    "....a.......a.......a",
+    ".a",
+    "..u",
+    "dd",
+    "ddddddddd",
+    ".nnnnnnnnnnnnnnnn",
+    ".nnnnnnnnnnnnnnnnn",
+    "n.d.n.u.n.a.n.d.n.u.n.a",
+    "........d.........d.........uu.........a........ddd",
+];
+
+/// What came of enumerations together.
+#[derive(Clone, Copy)]
+struct Sums {
+    runs: u64,
+    /// Those that read just the file of the device, and left it with the address and the configuration chosen.
+    succeeded: u64,
+    no_answer: u64,
+    busy: u64,
+    attempts: u64,
+    transactions: u64,
+}
+
+impl Sums {
+    fn new() -> Sums {
+        Sums {
+            runs: 0,
+            succeeded: 0,
+            no_answer: 0,
+            busy: 0,
+            attempts: 0,
+            transactions: 0,
+        }
+    }
+
+    /// Counts one more.
+    fn add(&mut self, description: &Description, run: &Run) {
+        count(&mut self.runs, 1);
+        count(&mut self.attempts, u64::from(run.attempts));
+        count(&mut self.transactions, run.transactions);
+        match &run.outcome {
+            Ok(file) => {
+                let chosen = run.state.address == 1 && run.state.selected == 1;
+                count(
+                    &mut self.succeeded,
+                    u64::from(chosen && file == description.file()),
+                );
+            }
+            Err(trouble) => match trouble.why.number() {
+                1 => count(&mut self.no_answer, 1),
+                2 => count(&mut self.busy, 1),
+                _ => {}
+            },
+        }
+    }
+
+    fn line(&self, alloc: Global, title: &str) -> Result<String, AllocError> {
+        let Sums {
+            runs,
+            succeeded,
+            no_answer,
+            busy,
+            attempts,
+            transactions,
+        } = *self;
+        let ends = format!(in alloc; "{succeeded} succeed, {no_answer} no answer, {busy} busy")?;
+        format!(in alloc;
+            "{title}: {runs} runs, {ends}, {attempts} attempts, {transactions} transactions\n"
+        )
+    }
+}
+
+/// The lines of all enumerations; the bytes are the descriptors of a real mouse.
+pub(crate) fn totals_text(alloc: Global, bytes: &[u8]) -> Result<String> {
+    let mut text = String::new(alloc);
+    let small = mouse(alloc, 8)?;
+    let limits = Limits::new(1, 16, 3)?;
+    text.push_str(losses_line(alloc, &small, limits)?.as_str())?;
+    text.push_str(busy_line(alloc, &small, limits)?.as_str())?;
+    for (packet, naks, attempts) in [(64, 0, 1), (64, 2, 2), (8, 0, 2), (8, 2, 1)] {
+        let limits = Limits::new(1, naks, attempts)?;
+        let line = lists_line(alloc, &mouse(alloc, packet)?, limits)?;
+        text.push_str(format!(in alloc;
+            "packets of {packet}, naks {naks}, attempts {attempts}, {line}"
+        )?.as_str())?;
+    }
+    let file = read_file(alloc, bytes).context("the descriptors of a real mouse")?;
+    let real = Description::new(alloc, file, Speed::Full).context("a real mouse")?;
+    for letters in LETTERS {
+        text.push_str(real_line(alloc, &real, letters)?.as_str())?;
+    }
+    Ok(text)
+}
+
+/// One loss, and two, of each kind at each of the first places.
+fn losses_line(
+    alloc: Global,
+    description: &Description,
+    limits: Limits,
+) -> Result<String, AllocError> {
+    let mut sums = Sums::new();
+    for second in 0..PLACES {
+        for loss in LOSSES {
+            let mut fates = [Fate::Pass; PLACES];
+            fates[second] = loss;
+            sums.add(description, &enumerate(alloc, description, limits, &fates));
+            add_pairs(alloc, description, limits, second, fates, &mut sums);
+        }
+    }
+    sums.line(alloc, "one or two losses among the first 24 transactions")
+}
+
+/// These fates with one more loss, of each kind at each place before this one.
+fn add_pairs(
+    alloc: Global,
+    description: &Description,
+    limits: Limits,
+    second: usize,
+    fates: [Fate; PLACES],
+    sums: &mut Sums,
+) {
+    for first in 0..second.min(PLACES) {
+        for loss in LOSSES {
+            let mut both = fates;
+            both[first] = loss;
+            sums.add(description, &enumerate(alloc, description, limits, &both));
+        }
+    }
+}
+
+/// Sixteen NAKs in a row from each of the first places on.
+fn busy_line(
+    alloc: Global,
+    description: &Description,
+    limits: Limits,
+) -> Result<String, AllocError> {
+    let mut sums = Sums::new();
+    for place in 0..PLACES {
+        let mut fates = Vec::new(alloc);
+        for _ in 0..place {
+            fates.push(Fate::Pass)?;
+        }
+        for _ in 0..BUSY {
+            fates.push(Fate::Busy)?;
+        }
+        sums.add(description, &enumerate(alloc, description, limits, &fates));
+    }
+    sums.line(
+        alloc,
+        "sixteen NAKs in a row from each of the first 24 transactions on",
+    )
+}
+
+/// Every list of five fates.
+fn lists_line(
+    alloc: Global,
+    description: &Description,
+    limits: Limits,
+) -> Result<String, AllocError> {
+    let mut sums = Sums::new();
+    for number in 0..LISTS {
+        let fates = [1, 5, 25, 125, 625].map(|place: u32| fate_of(number / place.max(1)));
+        sums.add(description, &enumerate(alloc, description, limits, &fates));
+    }
+    sums.line(alloc, "all lists of five fates")
+}
+
+/// The fate of a number's lowest digit to base five.
+fn fate_of(number: u32) -> Fate {
+    FATES[(number % 5) as usize]
+}
+
+/// An enumeration under the fates of these letters.
+fn real_line(alloc: Global, description: &Description, letters: &str) -> Result<String> {
+    let mut fates = Vec::new(alloc);
+    for letter in letters.chars() {
+        fates.push(read_fate(letter))?;
+    }
+    let run = enumerate(alloc, description, Limits::new(1, 16, 3)?, &fates);
+    let end = match &run.outcome {
+        Ok(file) if file == description.file() => String::from_str(alloc, "success")?,
+        Ok(_) => String::from_str(alloc, "another file")?,
+        Err(trouble) => format!(in alloc; "trouble {} {}", trouble.why.number(), trouble.step)?,
+    };
+    let (attempts, transactions, state) = (run.attempts, run.transactions, run.state);
+    let counts = format!(in alloc; "attempts {attempts} transactions {transactions}")?;
+    let (address, selected) = (state.address, state.selected);
+    Ok(format!(in alloc;
+        "a real mouse, fates [{letters}]: {end} {counts}, address {address}, configuration {selected}\n"
+    )?)
+}
+
+/// `n` is Busy, `d` LostDown, `u` LostUp, `a` LostAck, and else Pass.
+fn read_fate(letter: char) -> Fate {
+    match letter {
+        'n' => Fate::Busy,
+        'd' => Fate::LostDown,
+        'u' => Fate::LostUp,
+        'a' => Fate::LostAck,
+        _ => Fate::Pass,
+    }
+}
