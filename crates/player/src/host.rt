@@ -5,9 +5,10 @@ use crate::sent::due_text;
 use crate::words::read_speed;
 use anyhow::Result;
 use std::alloc::{AllocError, Global};
+use usb_fields::Speed;
 use usb_file::{DescriptorFile, list};
 use usb_host::{Action, Host};
-use usb_transfer::Limits;
+use usb_transfer::{LimitFault, Limits};
 
 /// The host in work, if there is one.
 #[derive(Drop)]
@@ -40,38 +41,19 @@ impl HostInWork {
         }
     }
 
-    /// Begins with a new host, where its limits are in their ranges.
+    /// A new host in place of the one before, if the words say one. Where its limits are refused there is none.
     fn begin(&mut self, alloc: Global, words: &[&str]) -> Result<Option<Outcome>> {
-        self.host = None;
+        let Some((speed, limits)) = read_host(words) else {
+            return Ok(None);
+        };
         self.transactions = 0;
-        let [
-            speed,
-            "address",
-            address,
-            "naks",
-            naks,
-            "attempts",
-            attempts,
-        ] = words
-        else {
-            return Ok(None);
-        };
-        let Some(speed) = read_speed(speed) else {
-            return Ok(None);
-        };
-        let (Ok(address), Ok(naks), Ok(attempts)) = (
-            address.parse::<u8>(),
-            naks.parse::<u16>(),
-            attempts.parse::<u8>(),
-        ) else {
-            return Ok(None);
-        };
-        match Limits::new(address, naks, attempts) {
+        match limits {
             Ok(limits) => {
                 self.host = Some(Host::new(alloc, limits, speed));
                 self.due(alloc)
             }
             Err(fault) => {
+                self.host = None;
                 let number = fault.number();
                 let text = format!(in alloc; "refused {number}")?;
                 Ok(Some(Outcome::of(text)))
@@ -115,6 +97,26 @@ impl HostInWork {
         };
         Ok(Some(Outcome::of(text)))
     }
+}
+
+/// The speed and the limits of a host, as in `full address 1 naks 16 attempts 3`.
+fn read_host(words: &[&str]) -> Option<(Speed, Result<Limits, LimitFault>)> {
+    match words {
+        [speed, first, address, second, naks, third, attempts]
+            if *first == "address" && *second == "naks" && *third == "attempts" => {
+            let limits = read_limits(address, naks, attempts)?;
+            Some((read_speed(speed)?, limits))
+        }
+        _ => None,
+    }
+}
+
+/// The limits with these numbers, where they are numbers.
+fn read_limits(address: &str, naks: &str, attempts: &str) -> Option<Result<Limits, LimitFault>> {
+    let address = address.parse::<u8>().ok()?;
+    let naks = naks.parse::<u16>().ok()?;
+    let attempts = attempts.parse::<u8>().ok()?;
+    Some(Limits::new(address, naks, attempts))
 }
 
 /// How a host ended, with its attempts and its transactions.
