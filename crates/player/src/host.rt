@@ -5,6 +5,7 @@ use crate::sent::due_text;
 use crate::words::read_speed;
 use anyhow::Result;
 use std::alloc::{AllocError, Global};
+use std::mem;
 use usb_fields::Speed;
 use usb_file::{DescriptorFile, list};
 use usb_host::{Action, Host};
@@ -49,11 +50,14 @@ impl HostInWork {
         self.transactions = 0;
         match limits {
             Ok(limits) => {
-                self.host = Some(Host::new(alloc, limits, speed));
+                drop(mem::replace(
+                    &mut self.host,
+                    Some(Host::new(alloc, limits, speed)),
+                ));
                 self.due(alloc)
             }
             Err(fault) => {
-                self.host = None;
+                drop(self.host.take());
                 let number = fault.number();
                 let text = format!(in alloc; "refused {number}")?;
                 Ok(Some(Outcome::of(text)))

@@ -110,23 +110,65 @@ impl Sums {
 /// The lines of all enumerations; the bytes are the descriptors of a real mouse.
 pub(crate) fn totals_text(alloc: Global, bytes: &[u8]) -> Result<String> {
     let mut text = String::new(alloc);
+    add_fixed(alloc, &mut text)?;
+    for (packet, naks, attempts) in [(64, 0, 1), (64, 2, 2), (8, 0, 2), (8, 2, 1)] {
+        add_lists(alloc, packet, naks, attempts, &mut text)?;
+    }
+    add_real(alloc, bytes, &mut text)?;
+    Ok(text)
+}
+
+/// The lines of losses and NAKs at fixed places.
+fn add_fixed(alloc: Global, text: &mut String) -> Result<()> {
     let small = mouse(alloc, 8)?;
     let limits = Limits::new(1, 16, 3)?;
-    text.push_str(losses_line(alloc, &small, limits)?.as_str())?;
-    text.push_str(busy_line(alloc, &small, limits)?.as_str())?;
-    for (packet, naks, attempts) in [(64, 0, 1), (64, 2, 2), (8, 0, 2), (8, 2, 1)] {
-        let limits = Limits::new(1, naks, attempts)?;
-        let line = lists_line(alloc, &mouse(alloc, packet)?, limits)?;
-        text.push_str(format!(in alloc;
-            "packets of {packet}, naks {naks}, attempts {attempts}, {line}"
-        )?.as_str())?;
-    }
-    let file = read_file(alloc, bytes).context("the descriptors of a real mouse")?;
-    let real = Description::new(alloc, file, Speed::Full).context("a real mouse")?;
+    add_line(losses_line(alloc, &small, limits), text)?;
+    add_line(busy_line(alloc, &small, limits), text)?;
+    Ok(())
+}
+
+/// The line of every list of five fates, under these limits.
+fn add_lists(alloc: Global, packet: u8, naks: u16, attempts: u8, text: &mut String) -> Result<()> {
+    let description = mouse(alloc, packet)?;
+    let limits = Limits::new(1, naks, attempts)?;
+    add_line(
+        format!(in alloc; "packets of {packet}, naks {naks}, attempts {attempts}, "),
+        text,
+    )?;
+    add_line(lists_line(alloc, &description, limits), text)?;
+    Ok(())
+}
+
+/// The lines of a real mouse.
+fn add_real(alloc: Global, bytes: &[u8], text: &mut String) -> Result<()> {
+    let real = real_mouse(alloc, bytes)?;
     for letters in LETTERS {
-        text.push_str(real_line(alloc, &real, letters)?.as_str())?;
+        add_real_line(alloc, &real, letters, text)?;
     }
-    Ok(text)
+    Ok(())
+}
+
+fn add_real_line(
+    alloc: Global,
+    real: &Description,
+    letters: &str,
+    text: &mut String,
+) -> Result<()> {
+    let line = real_line(alloc, real, letters)?;
+    text.push_str(line.as_str())?;
+    Ok(())
+}
+
+/// The device with these descriptors.
+fn real_mouse(alloc: Global, bytes: &[u8]) -> Result<Description> {
+    let file = read_file(alloc, bytes).context("the descriptors of a real mouse")?;
+    Description::new(alloc, file, Speed::Full).context("a real mouse")
+}
+
+/// A line, where memory was not wanting for it.
+fn add_line(line: Result<String, AllocError>, text: &mut String) -> Result<(), AllocError> {
+    let line = line?;
+    text.push_str(line.as_str())
 }
 
 /// One loss, and two, of each kind at each of the first places.
