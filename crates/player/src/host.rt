@@ -50,10 +50,7 @@ impl HostInWork {
         self.transactions = 0;
         match limits {
             Ok(limits) => {
-                drop(mem::replace(
-                    &mut self.host,
-                    Some(Host::new(alloc, limits, speed)),
-                ));
+                drop(mem::replace(&mut self.host, Some(Host::new(alloc, limits, speed))));
                 self.due(alloc)
             }
             Err(fault) => {
