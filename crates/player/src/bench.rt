@@ -53,7 +53,7 @@ impl Bench {
                 Ok(Outcome::done(alloc)?)
             }
             [verb, ..] if *verb == "transfer" => {
-                self.host = HostInWork::new();
+                self.host.clear();
                 self.transfer.act(alloc, words)
             }
             _ => match self.host.act(alloc, words)? {

@@ -27,6 +27,12 @@ impl HostInWork {
         }
     }
 
+    /// Lets the host go.
+    pub fn clear(&mut self) {
+        drop(self.host.take());
+        self.transactions = 0;
+    }
+
     /// What comes of a step of the host, if it is one.
     pub fn act(&mut self, alloc: Global, words: &[&str]) -> Result<Option<Outcome>> {
         match words {

@@ -14,18 +14,26 @@ mod tally;
 
 use anyhow::Result;
 use std::fs;
+use std::rt::Files;
 
 /// The descriptors of a real mouse, which lie beside the program where it runs.
 const REAL_MOUSE: &str = "qemu-usb-mouse.file";
 
 fn main(rt: HostRuntime) -> Result<()> {
-    let alloc = rt.alloc();
-    let talks = talks::totals_text(alloc)?;
-    print!(rt; "{talks}")?;
-    let hosts = hosts::totals_text(alloc)?;
-    print!(rt; "{hosts}")?;
-    let mouse = fs::read(&rt, REAL_MOUSE)?;
-    let enumerations = enumerations::totals_text(alloc, &mouse)?;
-    print!(rt; "{enumerations}")?;
+    show(&rt, talks::totals_text(rt.alloc()))?;
+    show(&rt, hosts::totals_text(rt.alloc()))?;
+    show(&rt, enumerations_text(&rt))
+}
+
+/// The lines of all enumerations.
+fn enumerations_text<R: Files + AllocGlobal>(rt: &R) -> Result<String> {
+    let mouse = fs::read(rt, REAL_MOUSE)?;
+    enumerations::totals_text(rt.alloc(), &mouse)
+}
+
+/// Prints a text.
+fn show<R: Print>(rt: &R, text: Result<String>) -> Result<()> {
+    let text = text?;
+    print!(rt; "{text}")?;
     Ok(())
 }
