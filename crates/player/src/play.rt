@@ -28,12 +28,24 @@ pub fn play<H: Files + Print + AllocGlobal, R: BufRead>(
         descriptors: Descriptors::new(),
         bench: Bench::new(rt.alloc()),
     };
-    let mut made = play_with(rt, lines, &mut game, None)?;
+    let status = play_game(rt, lines, name, &mut game);
+    drop(game);
+    status
+}
+
+/// The same, with what all lines have in common.
+fn play_game<H: Files + Print + AllocGlobal, R: BufRead>(
+    rt: &H,
+    lines: &mut R,
+    name: Option<&str>,
+    game: &mut Game<'_>,
+) -> Result<u8> {
+    let mut made = play_with(rt, lines, game, None)?;
     for _ in 0..u64::MAX {
         let Some(description) = made else {
             break;
         };
-        made = play_with(rt, lines, &mut game, Some(Target::new(&description)))?;
+        made = play_with(rt, lines, game, Some(Target::new(&description)))?;
     }
     if name.is_some() {
         game.score.close(rt)?;
