@@ -51,10 +51,11 @@ fn transact(host: &mut Host, answer: Answer<'_>) -> u64 {
     step(host, answer)
 }
 
-/// A transaction that leads to one that is counted.
+/// A transaction that leads to one that is counted. Its number is turned, so that the compiler makes no one function of
+/// this and the other.
 #[inline(never)]
 fn lead(host: &mut Host, answer: Answer<'_>) -> u64 {
-    step(host, answer)
+    step(host, answer).rotate_left(1)
 }
 
 /// Answers an IN for each packet of these bytes.
