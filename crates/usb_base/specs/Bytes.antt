@@ -14,6 +14,10 @@ AreBytes b = AllByRecursion IsByte b
 abbrev pub little_endian : ℕ → List ℕ
 little_endian n = n % 256 ∷ n / 256 ∷ []
 
+-- the same two bytes, the high one first
+abbrev pub big_endian : ℕ → List ℕ
+big_endian n = n / 256 ∷ n % 256 ∷ []
+
 -- the 16-bit number whose low byte stands at this place
 abbrev pub little_endian_at : List ℕ → ℕ → ℕ
 little_endian_at b at = slice_index b at + 256 * slice_index b (at + 1)

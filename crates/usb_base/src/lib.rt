@@ -5,17 +5,25 @@
 //! * [`known_bytes`], which tells a proof that the elements of a slice of bytes are bytes.
 //! * [`Marks`], a set of bytes, for walks that look back.
 //! * [`word_at`] and [`word_bytes`], which read and write a 16-bit field (USB 2.0, 8.1).
+//! * [`descriptor_type`], [`request`], [`request_type`] and [`feature`], the numbers of the standard's tables (USB 2.0,
+//!   tables 9-2 and 9-4 to 9-6).
 //! * [`laws`]: a copy of a list is that list.
 //! * `specs/Bytes.antt`: what a byte is, and the two bytes of such a field.
 #![tactic(auto)]
 
+pub mod descriptor_type;
+pub mod feature;
 mod known;
 pub mod laws;
 mod marks;
+pub mod request;
+pub mod request_type;
 mod sequence;
+mod width;
 mod words;
 
 pub use known::known_bytes;
 pub use marks::Marks;
 pub use sequence::Sequence;
+pub use width::Width;
 pub use words::{word_at, word_bytes};

@@ -4,15 +4,17 @@ ghost use Rattle.std.specs.Borrow.{sem};
 ghost use Rattle.std.specs.Cmp.Lexicographic.{pointwise, lists_per, lists_equiv};
 ghost use Rattle.std.specs.Hash as fed;
 ghost use Rattle.std.specs.Hash.{items_Alike};
-ghost use Rattle.std.specs.Iterator.Runs.{EveryRun, ItemsMapTo};
+ghost use Rattle.std.specs.Iterator.Runs.{EveryRun, ItemsAre, ItemsMapTo};
 ghost use Rattle.std.specs.Slice.Iter.{iter_rest, iter_steps};
+ghost use Rattle.std.specs.Vec.Iter.{into_iter_items, into_iter_len, into_iter_steps};
+ghost use Rattle.std.specs.declared.alloc.Global.{Global};
 
 use std::alloc::{AllocFailed, Global};
 use std::convert::AsSlice;
 use std::hash::{Hash, Hasher};
 use std::marker::Model;
 use std::ops::{DerefSlice, DerefSliceMut};
-use std::{fmt, slice};
+use std::{fmt, slice, vec};
 
 /// Elements in order: what a public field holds in place of a `Vec`, so that contracts see a list and
 /// compare whole trees.
@@ -28,6 +30,9 @@ use std::{fmt, slice};
 /// for byte in &tail {
 ///     println!(rt; "{byte:02x}")?;
 /// }
+/// // By value, the elements come themselves.
+/// let sum = tail.into_iter().fold(0, |sum, byte| sum ^ byte);
+/// assert_eq!(rt; sum, 0x11);
 /// ```
 #[derive(Clone, Drop)]
 pub struct Sequence<T> {
@@ -108,7 +113,11 @@ impl<T> Sequence<T> {
         self.items.pop()
     }
 
-    /// The element at the index, to be changed in place. The index must be below the length.
+    /// The element at the index, to be changed in place.
+    ///
+    /// # Requires
+    ///
+    /// The index is below the length.
     pub fn at_mut(&mut self, index: usize) -> &mut T
         requires { index < length self.old }
         ensures* writes_back { sem 𝓛 (LendsItem T.row self.entry index result) }
@@ -166,6 +175,19 @@ impl<'a, T> IntoIterator for &'a Sequence<T> {
 
     fn into_iter(self) -> slice::Iter<'a, T> {
         self.iter()
+    }
+}
+
+impl<T: Drop> IntoIterator for Sequence<T> {
+    type Item = T;
+
+    type IntoIter = vec::IntoIter<T>;
+
+    ghost into_iter_gives = { λ s it. (into_iter_items it ≡ s) × (into_iter_len it ≡ length s) × (into_iter_len it < 2 ^ 64)
+        × EveryRun (into_iter_steps {X = T} {Z = Global}) (λ p. ItemsAre p (into_iter_items p.from)) };
+
+    fn into_iter(self) -> vec::IntoIter<T> {
+        self.into_vec().into_iter()
     }
 }
 

@@ -2,11 +2,15 @@
 ghost use Rattle.std.specs.Prelude.{◌≡◌, ◌+◌, ◌<◌, [], ◌∷◌, length, slice_index};
 ghost use Rattle.usb_base.specs.Bytes.{little_endian, little_endian_at};
 
-/// The 16-bit field whose low byte stands at `at`. Its high byte must be there too.
+/// The 16-bit field whose low byte stands at `at`.
 ///
 /// ```rust
 /// assert_eq!(rt; word_at(&[18, 1, 0x10, 0x01], 2), 0x0110);
 /// ```
+///
+/// # Requires
+///
+/// Both bytes of the field are there.
 #[inline]
 pub fn word_at(b: &[u8], at: usize) -> u16
     requires { at + 1 < length b.now }

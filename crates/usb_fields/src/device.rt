@@ -3,6 +3,7 @@ ghost use Rattle.std.specs.Prelude.{◌≡◌, Some, IfOk, IfErr};
 
 use crate::fault::FieldFault;
 use crate::field::fault_in;
+use usb_base::Width::{self, One, Two};
 use usb_base::{word_at, word_bytes};
 
 /// bLength of a device descriptor, in bytes.
@@ -10,6 +11,25 @@ const LENGTH: u8 = 18;
 
 /// bDescriptorType DEVICE.
 const KIND: u8 = 1;
+
+/// Names of the fields of a device descriptor (USB 2.0, table 9-8).
+pub const DEVICE_NAMES: [&str; 12] = [
+    "bcdUSB",
+    "bDeviceClass",
+    "bDeviceSubClass",
+    "bDeviceProtocol",
+    "bMaxPacketSize0",
+    "idVendor",
+    "idProduct",
+    "bcdDevice",
+    "iManufacturer",
+    "iProduct",
+    "iSerialNumber",
+    "bNumConfigurations",
+];
+
+/// Their widths.
+pub const DEVICE_WIDTHS: [Width; 12] = [Two, One, One, One, One, Two, Two, Two, One, One, One, One];
 
 /// A device descriptor: what a device is, apart from its configurations (USB 2.0, table 9-8).
 ///

@@ -2,12 +2,13 @@
 //!
 //! For each format reading and writing undo each other on exactly the legal bytes. The functions of these laws
 //! do nothing: what they say stands in their contracts.
-ghost use Rattle.std.specs.Prelude.{◌≡◌, ◌<◌, ◌≤◌, ◌↔◌, ℕ, List, length, None, IsTrue};
+ghost use Rattle.std.specs.Prelude.{◌≡◌, ◌<◌, ◌≤◌, ◌↔◌, ℕ, List, length, map, None, IsTrue};
 ghost use Rattle.usb_base.specs.Bytes.{AreBytes};
-ghost use Rattle.usb_fields.specs.Device.{device_bytes, device_fault};
+ghost use Rattle.usb_base.specs.Fields.{names, widths};
+ghost use Rattle.usb_fields.specs.Device.{device_bytes, device_fault, device_fields};
 ghost use Rattle.usb_fields.specs.Packet.{reply_of, sent_of};
 ghost use Rattle.usb_fields.specs.Packets.{joined, kept, packets, repeated};
-ghost use Rattle.usb_fields.specs.Qualifier.{qualifier_bytes, qualifier_fault};
+ghost use Rattle.usb_fields.specs.Qualifier.{qualifier_bytes, qualifier_fault, qualifier_fields};
 ghost use Rattle.usb_fields.specs.Setup.{setup_bytes, setup_of};
 ghost use Rattle.usb_fields.specs.Units.{unit_fault, units_bytes};
 ghost use Rattle.usb_fields.specs.declared.device.DeviceDescriptor.{DeviceDescriptor};
@@ -15,7 +16,15 @@ ghost use Rattle.usb_fields.specs.declared.packet.Toggle.TheVariants.{Data1};
 ghost use Rattle.usb_fields.specs.declared.qualifier.Qualifier.{Qualifier};
 ghost use Rattle.usb_fields.specs.declared.setup.Setup.{Setup};
 
+use crate::device::{DEVICE_NAMES, DEVICE_WIDTHS};
 use crate::packet::{Answer, Transaction};
+use crate::qualifier::{QUALIFIER_NAMES, QUALIFIER_WIDTHS};
+
+/// The names and the widths that the code has are those of the standard's fields.
+pub fn fields_are_the_standards()
+    ensures device { (map (λ name. name.now) DEVICE_NAMES ≡ names device_fields) × (DEVICE_WIDTHS ≡ widths device_fields) }
+    ensures qualifier { (map (λ name. name.now) QUALIFIER_NAMES ≡ names qualifier_fields) × (QUALIFIER_WIDTHS ≡ widths qualifier_fields) }
+{}
 
 /// [`Setup::from_bytes`](crate::Setup::from_bytes) and [`Setup::to_bytes`](crate::Setup::to_bytes) undo each
 /// other on all lists of eight bytes.

@@ -5,7 +5,9 @@
 //! * [`Setup`], the eight bytes that begin each control transfer (USB 2.0, 9.3), with the
 //!   [`Direction`], [`Class`] and [`Recipient`] that its bmRequestType codes (table 9-2).
 //! * [`DeviceDescriptor`] (9.6.1) and [`Qualifier`] (9.6.2), the descriptors of fixed length.
-//! * [`read_units`] and [`write_units`] for string descriptors and language lists (9.6.7).
+//! * [`read_units`] and [`write_units`] for string descriptors and language lists (9.6.7), and [`text_of`], the text of
+//!   a string's units.
+//! * [`request`], [`request_type`], [`feature`] and [`descriptor_type`], the numbers of tables 9-2 and 9-4 to 9-6.
 //! * [`Transaction`], [`Stage`], [`Toggle`] and [`Answer`], what passes between a host and a device
 //!   (8.4 to 8.6), and [`Speed`].
 //!
@@ -14,7 +16,7 @@
 //!
 //! Reading and writing undo each other on exactly the legal bytes; [`laws`] says so, a law for each pair. It
 //! also has the law of the packets of a data stage, on which both ends rest.
-//! Only `read_units` and `write_units` take memory.
+//! Only `read_units`, `write_units` and `text_of` take memory.
 #![tactic(auto)]
 
 mod device;
@@ -25,12 +27,15 @@ mod packet;
 mod qualifier;
 mod setup;
 mod speed;
+mod text;
 mod units;
 
-pub use device::DeviceDescriptor;
+pub use device::{DEVICE_NAMES, DEVICE_WIDTHS, DeviceDescriptor};
 pub use fault::{FieldFault, UnitFault};
 pub use packet::{Answer, Stage, Toggle, Transaction};
-pub use qualifier::Qualifier;
+pub use qualifier::{QUALIFIER_NAMES, QUALIFIER_WIDTHS, Qualifier};
 pub use setup::{Class, Direction, Recipient, Setup};
 pub use speed::Speed;
-pub use units::{read_units, write_units};
+pub use text::text_of;
+pub use units::{MOST_UNITS, read_units, write_units, write_units_onto};
+pub use usb_base::{descriptor_type, feature, request, request_type};

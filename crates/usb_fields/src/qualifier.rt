@@ -3,6 +3,7 @@ ghost use Rattle.std.specs.Prelude.{◌≡◌, Some, IfOk, IfErr};
 
 use crate::fault::FieldFault;
 use crate::field::fault_in;
+use usb_base::Width::{self, One, Two};
 use usb_base::{word_at, word_bytes};
 
 /// bLength of a qualifier, in bytes.
@@ -10,6 +11,20 @@ const LENGTH: u8 = 10;
 
 /// bDescriptorType DEVICE_QUALIFIER.
 const KIND: u8 = 6;
+
+/// Names of the fields of a device qualifier (USB 2.0, table 9-9).
+pub const QUALIFIER_NAMES: [&str; 7] = [
+    "bcdUSB",
+    "bDeviceClass",
+    "bDeviceSubClass",
+    "bDeviceProtocol",
+    "bMaxPacketSize0",
+    "bNumConfigurations",
+    "bReserved",
+];
+
+/// Their widths.
+pub const QUALIFIER_WIDTHS: [Width; 7] = [Two, One, One, One, One, One, One];
 
 /// A device qualifier: what a high-speed device would be at its other speed (USB 2.0, table 9-9).
 ///

@@ -126,3 +126,23 @@ impl Setup {
         }
     }
 }
+
+impl From<[u8; 8]> for Setup {
+    ghost use Rattle.usb_fields.specs.Setup.{setup_of};
+
+    ghost from_gives = { λ b s. s ≡ setup_of b };
+
+    fn from(bytes: [u8; 8]) -> Setup {
+        Setup::from_bytes(&bytes)
+    }
+}
+
+impl From<Setup> for [u8; 8] {
+    ghost use Rattle.usb_fields.specs.Setup.{setup_bytes};
+
+    ghost from_gives = { λ s b. b ≡ setup_bytes s };
+
+    fn from(setup: Setup) -> [u8; 8] {
+        setup.to_bytes()
+    }
+}

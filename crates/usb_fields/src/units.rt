@@ -1,5 +1,5 @@
 //! Strings and language lists: descriptors that hold 16-bit units (USB 2.0, 9.6.7).
-ghost use Rattle.std.specs.Prelude.{◌≡◌, ◌≤◌, ◌<◌, ◌*◌, ◌/◌, ◌%◌, length, vec_capacity, IfOk, IfErr, OnOk};
+ghost use Rattle.std.specs.Prelude.{◌≡◌, ◌≤◌, ◌<◌, ◌*◌, ◌/◌, ◌%◌, ◌++◌, length, vec_capacity, IfOk, IfErr, OnErr, OnOk};
 ghost use Rattle.std.specs.List.{flat_map};
 ghost use Rattle.usb_base.specs.Bytes.{little_endian};
 ghost use Rattle.usb_fields.specs.Units.{units_bytes, ReadUnitsFails, WriteUnitsFails};
@@ -11,8 +11,9 @@ use usb_base::word_bytes;
 /// bDescriptorType STRING.
 const KIND: u8 = 3;
 
-/// The most units that a bLength can count.
-const MOST_UNITS: usize = 126;
+/// The most units that a string can have, and the most languages that a language list can: bLength counts no more (USB
+/// 2.0, 9.6.7).
+pub const MOST_UNITS: usize = 126;
 
 /// The units of a string or a language list: the language codes of string 0, and UTF-16 code units of
 /// any other string. They are kept as numbers.
@@ -73,17 +74,39 @@ pub fn write_units(alloc: Global, u: &[u16]) -> Result<Vec<u8>, UnitFault>
     ensures few { OnOk result (length u.now ≤ 126) }
     ensures err { IfErr result (λ fault. WriteUnitsFails u.now fault) }
 {
+    let mut bytes = Vec::new(alloc);
+    write_units_onto(u, &mut bytes)?;
+    Ok(bytes)
+}
+
+/// Adds the bytes of a string or a language list with these units at the end of a list, as [`write_units`] gives them.
+///
+/// ```rust
+/// let mut out = Vec::from_slice(alloc, &[0xff])?;
+/// write_units_onto(&[0x0048], &mut out)?;
+/// assert_eq!(rt; out.as_slice(), [0xff, 4, 3, 0x48, 0x00].as_slice());
+/// ```
+///
+/// # Errors
+///
+/// Those of [`write_units`]. The list then has the elements that it had.
+pub fn write_units_onto(u: &[u16], out: &mut Vec<u8>) -> Result<(), UnitFault>
+    ensures ok { OnOk result (out.new.items ≡ out.old.items ++ units_bytes u.now) }
+    ensures few { OnOk result (length u.now ≤ 126) }
+    ensures err { IfErr result (λ fault. WriteUnitsFails u.now fault) }
+    ensures kept { OnErr result (out.new.items ≡ out.old.items) }
+{
     if u.len() > MOST_UNITS {
         return Err(UnitFault::TooLong);
     }
     let size = 2 + 2 * u.len();
-    let mut bytes = Vec::with_capacity(alloc, size)?;
-    bytes.push_reserved(size as u8);
-    bytes.push_reserved(KIND);
+    out.reserve(size)?;
+    out.push_reserved(size as u8);
+    out.push_reserved(KIND);
     for unit in u {
         let [low, high] = word_bytes(*unit);
-        bytes.push_reserved(low);
-        bytes.push_reserved(high);
+        out.push_reserved(low);
+        out.push_reserved(high);
     }
-    Ok(bytes)
+    Ok(())
 }

@@ -1,1 +1,1 @@
-mod BoundLemmas
+pub mod BoundLemmas

@@ -59,11 +59,15 @@ impl Transfer {
     /// A transfer that begins with this setup packet.
     ///
     /// `packet` is the packet size of the device's endpoint zero, in bytes, and `naks` the number of NAKs without
-    /// progress after which one more ends the transfer. The packet size must be above 0.
+    /// progress after which one more ends the transfer.
     ///
     /// ```rust
     /// let transfer = Transfer::new(5, 64, 16, Setup::from_bytes(&[0x80, 6, 0, 1, 0, 0, 18, 0]));
     /// ```
+    ///
+    /// # Requires
+    ///
+    /// The packet size is above 0.
     pub fn new(address: u8, packet: u8, naks: u16, s: Setup) -> Transfer
         requires { 0 < packet }
         ensures view { result ≡ begun address packet naks s }
