@@ -17,7 +17,8 @@ use Rattle.usb_set.specs.Parts.{setting_extras, extras_of}
 use Rattle.usb_set.specs.Layout.{endpoint_descriptors, setting_descriptors, later_descriptors, is_long, has_long_descriptor, is_typed_raw, has_typed_raw}
 use Rattle.usb_set.specs.WithoutAssociations.{association_of}
 use Rattle.usb_set.specs.Faults.{item_fault, is_interface}
-use Rattle.usb_set.specs.inside.Reading.{with_last, extra_of, setting_of, endpoint_of, endpoint_with_extra, setting_with_extra, setting_with_endpoint, set_with_extra, attach, has_setting}
+use Rattle.usb_set.specs.Building.{has_setting}
+use Rattle.usb_set.specs.inside.Reading.{with_last, extra_of, setting_of, endpoint_of, endpoint_with_extra, setting_with_extra, setting_with_endpoint, set_with_extra, attach}
 
 -- ---- lists
 
@@ -286,7 +287,7 @@ not_typed item n2 n4 n5 n7 =
           (or_from (eqb item.kind 2 || eqb item.kind 4) (eqb item.kind 5) (or_from (eqb item.kind 2) (eqb item.kind 4) (ne_eqb item.kind 2 n2) (ne_eqb item.kind 4 n4)) (ne_eqb item.kind 5 n5)) (ne_eqb item.kind 7 n7)) n
     ]
 
-typed-attach : (c : Configuration) (room : ℕ) (item : Descriptor) → has_typed_raw c ≡ false → item_fault room (has_setting c) (descriptor_bytes item) ≡ None → has_typed_raw (attach c item) ≡ false
+pub typed-attach : (c : Configuration) (room : ℕ) (item : Descriptor) → has_typed_raw c ≡ false → item_fault room (has_setting c) (descriptor_bytes item) ≡ None → has_typed_raw (attach c item) ≡ false
 typed-attach c room item typed fine =
     let shown : item_fault room (has_setting c) ((2 + length item.body) ∷ item.kind ∷ item.body) ≡ None = fine in
     elim (kind_cases item.kind) [

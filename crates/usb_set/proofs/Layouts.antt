@@ -21,10 +21,10 @@ use Rattle.usb_set.proofs.Trees.{setting_typed_parts, typed_parts}
 use Rattle.usb_set.proofs.Items.{untyped, bare, items_again, two_bytes}
 
 -- a descriptor that has no fault where it has room
-record Fine (in_setting : Bool) (item : Descriptor) : Type 0 where
-  type_fits : is_set_type item.kind ≡ false
-  long : least_length item.kind ≤ 2 + length item.body
-  belongs : (item.kind ≡ 5) → in_setting ≡ true
+pub record Fine (in_setting : Bool) (item : Descriptor) : Type 0 where
+  pub type_fits : is_set_type item.kind ≡ false
+  pub long : least_length item.kind ≤ 2 + length item.body
+  pub belongs : (item.kind ≡ 5) → in_setting ≡ true
 
 belongs_none : (in_setting : Bool) (kind : ℕ) (some : SetWhy) → (kind ≡ 5 → in_setting ≡ true) → cond (eqb kind 5) (cond in_setting None (Some some)) None ≡ None
 belongs_none in_setting kind some h =
@@ -33,7 +33,7 @@ belongs_none in_setting kind some h =
       | inr n ↦ cond-false (eqb kind 5) _ _ n
     ]
 
-fine_fault : (room : ℕ) (in_setting : Bool) (item : Descriptor) → Fine in_setting item → 2 + length item.body ≤ room → item_fault room in_setting (descriptor_bytes item) ≡ None
+pub fine_fault : (room : ℕ) (in_setting : Bool) (item : Descriptor) → Fine in_setting item → 2 + length item.body ≤ room → item_fault room in_setting (descriptor_bytes item) ≡ None
 fine_fault room in_setting item h le =
     cond-false (ltb (2 + length item.body) 2) _ _ (le-ltb (2 + length item.body) 2 (omega arith))
     ∙ cond-false (ltb room (2 + length item.body)) _ _ (le-ltb room (2 + length item.body) le)
@@ -41,7 +41,7 @@ fine_fault room in_setting item h le =
     ∙ cond-false (ltb (2 + length item.body) (least_length item.kind)) _ _ (le-ltb (2 + length item.body) (least_length item.kind) h.long)
     ∙ belongs_none in_setting item.kind _ h.belongs
 
-abbrev AllFine : Bool → List Descriptor → Type 0
+abbrev pub AllFine : Bool → List Descriptor → Type 0
 AllFine in_setting [] = Unit {0}
 AllFine in_setting (item ∷ items) = Fine in_setting item × AllFine (in_setting || is_interface item) items
 
@@ -101,7 +101,7 @@ fine_settings s (x ∷ ss) e =
           (λ t f. fine_settings t ss parts.1),
     )
 
-fine_items : (c : Configuration) → has_typed_raw c ≡ false → AllFine false (later_descriptors c)
+pub fine_items : (c : Configuration) → has_typed_raw c ≡ false → AllFine false (later_descriptors c)
 fine_items c e =
     let parts = typed_parts c e in
     fine_append false (map extra_descriptor c.extras) (flat_map setting_descriptors c.settings) (fine_extras false c.extras parts.0) (λ t f. fine_settings t c.settings parts.1)
@@ -120,7 +120,7 @@ type_again kinds.OtherSpeed = refl
 abbrev head_bytes : Configuration → ℕ → List ℕ
 head_bytes c total = descriptor_bytes (configuration_descriptor c total)
 
-configuration_again : (c : Configuration) (total : ℕ) → configuration_of (head_bytes c total) ≡ bare c
+pub configuration_again : (c : Configuration) (total : ℕ) → configuration_of (head_bytes c total) ≡ bare c
 configuration_again c total = ap (λ (k : SetKind). record (bare c) { kind = k }) (kind_again c.kind)
 
 header_again : (c : Configuration) (total : ℕ) → length (head_bytes c total) ≤ total → IsHeader (head_bytes c total)

@@ -16,3 +16,4 @@ pub mod Sets
 pub mod Unrefused
 pub mod ReadBack
 pub mod Lifting
+pub mod Adding

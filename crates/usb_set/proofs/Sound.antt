@@ -11,7 +11,8 @@ use Rattle.usb_base.specs.Bytes.{AreBytes}
 use Rattle.usb_set.specs.Descriptors.{Descriptor, descriptor_bytes, configuration_descriptor, type_number}
 use Rattle.usb_set.specs.Layout.{later_descriptors, set_bytes, is_long}
 use Rattle.usb_set.specs.Faults.{is_whole, is_set_type, header_fault, item_fault, total_of, is_interface, joined, IsHeader, AreItems, Reaches, Faulty, Begins}
-use Rattle.usb_set.specs.inside.Reading.{Reading, first, later, whole, faulty, step, reads, reading_of, after_first, after_later, goes_on, attach, has_setting, configuration_of, first_byte}
+use Rattle.usb_set.specs.Building.{has_setting}
+use Rattle.usb_set.specs.inside.Reading.{Reading, first, later, whole, faulty, step, reads, reading_of, after_first, after_later, goes_on, attach, configuration_of, first_byte}
 use Rattle.usb_set.proofs.ByteByByte.{header_fault-more, header_long, whole_length, option_cases, item_fault-first, fine_length}
 use Rattle.usb_set.proofs.Stands.{header_within, item_within}
 use Rattle.usb_set.proofs.Growth.{flat_map-snoc, IsLegal, later_descriptors-attach, attach-head, legal-attach, has_setting-attach, low_byte, high_byte, not_long}

@@ -9,7 +9,8 @@ use Rattle.usb_set.specs.declared.fault.SetFault.{SetFault}
 use Rattle.usb_set.specs.declared.fault.SetWhy.{SetWhy}
 use Rattle.usb_set.specs.declared.reader.Step.TheVariants.{Took, Cut, Refused}
 use Rattle.usb_set.specs.Faults.{Fault, is_whole, header_fault, total_of}
-use Rattle.usb_set.specs.inside.Reading.{Reading, first, later, whole, faulty, reads, goes_on, attach, has_setting, configuration_of, first_byte}
+use Rattle.usb_set.specs.Building.{has_setting}
+use Rattle.usb_set.specs.inside.Reading.{Reading, first, later, whole, faulty, reads, goes_on, attach, configuration_of, first_byte}
 use Rattle.usb_set.specs.inside.Stepping.{InWork, is_done, place_of, current_of, taken, with_current, partial_of, IsStart, GoesOn, header_at, item_at, fault_at, past, IsWanting, WantsHere, Steps}
 use Rattle.usb_set.proofs.ByteByByte.{reads-append, reads-faulty, waits_in, goes_through, first_fine, first_past, header_fault-front, first_stays, first_leaves, item_fine, item_past, item_fault-front, item_stays, item_leaves, later_waits, later_refuses, refuses_from, header_long, header_settled, whole_length}
 use Rattle.usb_set.proofs.Stands.{header_within}

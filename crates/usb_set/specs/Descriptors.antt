@@ -1,7 +1,8 @@
 -- The descriptors of a configuration set, one by one (USB 2.0, 9.5 and 9.6.3 to 9.6.6, and its ECN on
 -- interface associations, 9.X.Y).
-use Rattle.std.specs.Prelude.{ℕ, ◌+◌, List, ◌∷◌, ◌++◌, length}
+use Rattle.std.specs.Prelude.{ℕ, ◌+◌, List, [], ◌∷◌, ◌++◌, codes, length}
 use Rattle.usb_base.specs.Bytes.{little_endian}
+use Rattle.usb_base.specs.Fields.{Field, byte, word, fields_bytes}
 use Rattle.usb_set.specs.declared.tree.SetKind.{SetKind}
 use Rattle.usb_set.specs.declared.tree.SetKind.TheVariants as kinds
 use Rattle.usb_set.specs.declared.tree.Raw.{Raw}
@@ -25,28 +26,66 @@ descriptor_bytes d = (2 + length d.body) ∷ d.kind ∷ d.body
 abbrev pub raw_descriptor : Raw → Descriptor
 raw_descriptor r = record { kind = r.kind; body = r.body }
 
--- an interface association descriptor: type 11, its fields in order, then what it has beyond them (ECN, 9.X.Y)
+-- the fields of an interface association descriptor, in the order of its bytes (ECN, 9.X.Y)
+abbrev pub association_fields : List (Field Association)
+association_fields =
+    byte (codes "bFirstInterface") (λ a. a.first)
+    ∷ byte (codes "bInterfaceCount") (λ a. a.count)
+    ∷ byte (codes "bFunctionClass") (λ a. a.class)
+    ∷ byte (codes "bFunctionSubClass") (λ a. a.subclass)
+    ∷ byte (codes "bFunctionProtocol") (λ a. a.protocol)
+    ∷ byte (codes "iFunction") (λ a. a.text) ∷ []
+
+-- the descriptor: type 11, its fields, then what it has beyond them
 abbrev pub association_descriptor : Association → Descriptor
-association_descriptor a = record { kind = 11; body = a.first ∷ a.count ∷ a.class ∷ a.subclass ∷ a.protocol ∷ a.text ∷ a.tail }
+association_descriptor a = record { kind = 11; body = fields_bytes association_fields a ++ a.tail }
 
 -- a descriptor that belongs to the typed one before it
 abbrev pub extra_descriptor : Extra → Descriptor
 extra_descriptor (extras.Raw r) = raw_descriptor r
 extra_descriptor (extras.Association a) = association_descriptor a
 
--- an endpoint descriptor: type 5, its fields in order, then what it has beyond them (9.6.6)
-abbrev pub endpoint_descriptor : Endpoint → Descriptor
-endpoint_descriptor e = record { kind = 5; body = e.address ∷ e.attributes ∷ little_endian e.max_packet ++ e.interval ∷ e.tail }
+-- the fields of an endpoint descriptor, in the order of its bytes (9.6.6)
+abbrev pub endpoint_fields : List (Field Endpoint)
+endpoint_fields =
+    byte (codes "bEndpointAddress") (λ e. e.address)
+    ∷ byte (codes "bmAttributes") (λ e. e.attributes)
+    ∷ word (codes "wMaxPacketSize") (λ e. e.max_packet)
+    ∷ byte (codes "bInterval") (λ e. e.interval) ∷ []
 
--- an interface descriptor: type 4, its fields in order, then what it has beyond them (9.6.5)
+-- the descriptor: type 5, its fields, then what it has beyond them
+abbrev pub endpoint_descriptor : Endpoint → Descriptor
+endpoint_descriptor e = record { kind = 5; body = fields_bytes endpoint_fields e ++ e.tail }
+
+-- the fields of an interface descriptor, in the order of its bytes (9.6.5)
+abbrev pub interface_fields : List (Field Setting)
+interface_fields =
+    byte (codes "bInterfaceNumber") (λ s. s.number)
+    ∷ byte (codes "bAlternateSetting") (λ s. s.alternate)
+    ∷ byte (codes "bNumEndpoints") (λ s. s.declared_endpoints)
+    ∷ byte (codes "bInterfaceClass") (λ s. s.class)
+    ∷ byte (codes "bInterfaceSubClass") (λ s. s.subclass)
+    ∷ byte (codes "bInterfaceProtocol") (λ s. s.protocol)
+    ∷ byte (codes "iInterface") (λ s. s.text) ∷ []
+
+-- the descriptor: type 4, its fields, then what it has beyond them
 abbrev pub interface_descriptor : Setting → Descriptor
-interface_descriptor s = record { kind = 4; body = s.number ∷ s.alternate ∷ s.declared_endpoints ∷ s.class ∷ s.subclass ∷ s.protocol ∷ s.text ∷ s.tail }
+interface_descriptor s = record { kind = 4; body = fields_bytes interface_fields s ++ s.tail }
 
 -- the type of a set's first descriptor: CONFIGURATION or OTHER_SPEED_CONFIGURATION (table 9-5)
 abbrev pub type_number : SetKind → ℕ
 type_number kinds.Configuration = 2
 type_number kinds.OtherSpeed = 7
 
--- the first descriptor, with this number as wTotalLength (9.6.3 and 9.6.4)
+-- the fields of a set's first descriptor behind wTotalLength, in the order of its bytes (9.6.3 and 9.6.4)
+abbrev pub configuration_fields : List (Field Configuration)
+configuration_fields =
+    byte (codes "bNumInterfaces") (λ c. c.declared_interfaces)
+    ∷ byte (codes "bConfigurationValue") (λ c. c.value)
+    ∷ byte (codes "iConfiguration") (λ c. c.text)
+    ∷ byte (codes "bmAttributes") (λ c. c.attributes)
+    ∷ byte (codes "bMaxPower") (λ c. c.power) ∷ []
+
+-- the descriptor, with this number as wTotalLength, its fields, then what it has beyond them
 abbrev pub configuration_descriptor : Configuration → ℕ → Descriptor
-configuration_descriptor c total = record { kind = type_number c.kind; body = little_endian total ++ c.declared_interfaces ∷ c.value ∷ c.text ∷ c.attributes ∷ c.power ∷ c.tail }
+configuration_descriptor c total = record { kind = type_number c.kind; body = little_endian total ++ fields_bytes configuration_fields c ++ c.tail }

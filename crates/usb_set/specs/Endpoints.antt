@@ -1,5 +1,5 @@
 -- The fields of an endpoint descriptor that are bits (USB 2.0, 9.6.6).
-use Rattle.std.specs.Prelude.{ℕ, ◌/◌, ◌%◌, ◌==◌, if◌then◌else◌}
+use Rattle.std.specs.Prelude.{ℕ, ◌/◌, ◌%◌, ◌==◌, Option, Some, None, if◌then◌else◌}
 use Rattle.usb_set.specs.declared.endpoint.EndpointDirection.{EndpointDirection}
 use Rattle.usb_set.specs.declared.endpoint.EndpointDirection.TheVariants.{Out, In}
 use Rattle.usb_set.specs.declared.endpoint.TransferType.{TransferType}
@@ -20,3 +20,17 @@ transfer_type_of attributes =
     else if attributes % 4 == 1 then Isochronous
     else if attributes % 4 == 2 then Bulk
     else Interrupt
+
+-- bits 10..0 of wMaxPacketSize, in bytes
+abbrev pub packet_size_of : ℕ → ℕ
+packet_size_of max_packet = max_packet % 2048
+
+-- bits 12..11 of wMaxPacketSize, which count the transactions of a microframe beyond the first: 0, 1 or 2, and 3 is
+-- reserved
+abbrev pub transactions_of : ℕ → Option ℕ
+transactions_of max_packet =
+    let more = max_packet / 2048 % 4 in
+    if more == 0 then Some 1
+    else if more == 1 then Some 2
+    else if more == 2 then Some 3
+    else None

@@ -1,10 +1,13 @@
 pub mod Descriptors
 pub mod Parts
+pub mod Owners
+pub mod Left
 pub mod Layout
 pub mod WithoutAssociations
 pub mod Endpoints
 pub mod Encoding
 pub mod Faults
+pub mod Building
 pub mod Decoding
 pub mod Feeding
 pub mod Judgement

@@ -1,7 +1,8 @@
 //! What the bytes of one descriptor show.
 ghost use Rattle.std.specs.Prelude.{◌≡◌, ◌≤◌, ◌<◌, length, IfSome, IfNone};
 ghost use Rattle.usb_set.specs.Faults.{header_fault, item_fault, total_of};
-ghost use Rattle.usb_set.specs.inside.Reading.{SplitsDescriptor, first_byte, has_setting};
+ghost use Rattle.usb_set.specs.Building.{has_setting};
+ghost use Rattle.usb_set.specs.inside.Reading.{SplitsDescriptor, first_byte};
 
 use crate::fault::SetWhy;
 use crate::tree::Configuration;

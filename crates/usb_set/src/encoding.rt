@@ -1,7 +1,7 @@
 //! A set as its bytes.
-ghost use Rattle.std.specs.Prelude.{◌≡◌, ◌≢◌, ℕ, length, List, IfErr, IfOk, None, Some};
-ghost use Rattle.usb_set.specs.Encoding.{Refuses, refusal_of};
-ghost use Rattle.usb_set.specs.Layout.{Layout};
+ghost use Rattle.std.specs.Prelude.{◌≡◌, ◌≢◌, ◌+◌, ◌++◌, ℕ, length, take, List, IfErr, IfOk, None, OnErr, OnOk, Some};
+ghost use Rattle.usb_set.specs.Encoding.{Refuses, refusal_of, set_length};
+ghost use Rattle.usb_set.specs.Layout.{Layout, set_bytes};
 ghost use Rattle.usb_set.specs.inside.Lengths.{HasLength};
 
 use crate::fault::EncodeFault;
@@ -35,22 +35,62 @@ pub fn encode(alloc: Global, c: &Configuration) -> Result<Vec<u8>, EncodeFault>
     ensures only { (b : List ℕ) → Layout c.now b → refusal_of c.now ≡ None }
 {
     let total = total_length(c)?;
-    let mut out = zeros(alloc, usize::from(total))?;
-    put_set(&mut out, c, total);
+    let mut out = Vec::with_capacity(alloc, usize::from(total))?;
+    add_set(&mut out, c, total)?;
     known_bytes(&out);
     Ok(out)
 }
 
-/// So many zeros, filled in a stretch at a time.
-fn zeros(alloc: Global, count: usize) -> Result<Vec<u8>, AllocError>
-    ensures { IfOk result (λ out. length out.items ≡ count) }
+/// Adds the bytes of a set at the end of a list, as [`encode`] gives them. The set is judged once, and nothing is
+/// copied, so that sets can be written one after another.
+///
+/// ```rust
+/// let (set, used) = read_set(alloc, &[9, 2, 9, 0, 0, 1, 0, 0x80, 0x32])?;
+/// let mut out = Vec::from_slice(alloc, &[0xff])?;
+/// encode_onto(&set, &mut out)?;
+/// assert_eq!(rt; out.as_slice(), &[0xff, 9, 2, 9, 0, 0, 1, 0, 0x80, 0x32]);
+/// ```
+///
+/// # Errors
+///
+/// Those of [`encode`]. The list then has the elements that it had.
+pub fn encode_onto(c: &Configuration, out: &mut Vec<u8>) -> Result<(), EncodeFault>
+    ensures ok { OnOk result (out.new.items ≡ out.old.items ++ set_bytes c.now (set_length c.now)) }
+    // Only a set that has bytes is written.
+    ensures written { OnOk result (refusal_of c.now ≡ None) }
+    ensures err { IfErr result (λ fault. Refuses c.now fault) }
+    ensures kept { OnErr result (out.new.items ≡ out.old.items) }
 {
-    let mut out = Vec::with_capacity(alloc, count)?;
-    while out.len() < count {
-        let end = count.min(out.len() + STRETCH);
-        out.resize(end, 0)?;
+    let total = total_length(c)?;
+    add_set(out, c, total)?;
+    Ok(())
+}
+
+/// Adds the bytes of a set that has so many.
+fn add_set(out: &mut Vec<u8>, c: &Configuration, total: u16) -> Result<(), AllocError>
+    requires { HasLength c.now total }
+    ensures ok { OnOk result (out.new.items ≡ out.old.items ++ set_bytes c.now total) }
+    ensures err { OnErr result (out.new.items ≡ out.old.items) }
+{
+    let start = out.len();
+    add_zeros(out, usize::from(total))?;
+    put_set(out, start, c, total);
+    Ok(())
+}
+
+/// Adds so many zeros, filled in a stretch at a time.
+fn add_zeros(out: &mut Vec<u8>, count: usize) -> Result<(), AllocError>
+    ensures ok { OnOk result (length out.new.items ≡ length out.old.items + count) }
+    ensures front { take (length out.old.items) out.new.items ≡ out.old.items }
+    ensures err { OnErr result (out.new.items ≡ out.old.items) }
+{
+    out.reserve(count)?;
+    let end = out.len() + count;
+    while out.len() < end {
+        let next = end.min(out.len() + STRETCH);
+        out.resize(next, 0)?;
     }
-    Ok(out)
+    Ok(())
 }
 
 /// Why [`encode`] refuses the set for another cause than memory, if it does.

@@ -1,6 +1,6 @@
 //! What an endpoint descriptor says of its endpoint.
 ghost use Rattle.std.specs.Prelude.{◌≡◌};
-ghost use Rattle.usb_set.specs.Endpoints.{direction_of, number_of, transfer_type_of};
+ghost use Rattle.usb_set.specs.Endpoints.{direction_of, number_of, packet_size_of, transactions_of, transfer_type_of};
 
 use crate::tree::Endpoint;
 
@@ -53,6 +53,36 @@ impl Endpoint {
             1 => TransferType::Isochronous,
             2 => TransferType::Bulk,
             _ => TransferType::Interrupt,
+        }
+    }
+    /// Bits 10..0 of wMaxPacketSize: the most bytes of data that a packet of the endpoint has.
+    ///
+    /// ```rust
+    /// // wMaxPacketSize 1400: three transactions of 1024 bytes in a microframe.
+    /// assert_eq!(rt; endpoint.packet_size(), 1024);
+    /// ```
+    pub fn packet_size(&self) -> u16
+        ensures { result ≡ packet_size_of self.now.max_packet }
+    {
+        self.max_packet % 2048
+    }
+
+    /// How many transactions the endpoint can have in a microframe, by bits 12..11 of wMaxPacketSize: 1, 2 or 3, and
+    /// `None` where they have the value that the standard keeps for later. They count for isochronous and interrupt
+    /// endpoints at high speed, and are 0, which says one transaction, for all others.
+    ///
+    /// ```rust
+    /// // wMaxPacketSize 1400: three transactions of 1024 bytes in a microframe.
+    /// assert_eq!(rt; endpoint.transactions(), Some(3));
+    /// ```
+    pub fn transactions(&self) -> Option<u8>
+        ensures { result ≡ transactions_of self.now.max_packet }
+    {
+        match self.max_packet / 2048 % 4 {
+            0 => Some(1),
+            1 => Some(2),
+            2 => Some(3),
+            _ => None,
         }
     }
 }

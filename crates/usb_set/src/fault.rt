@@ -37,7 +37,7 @@ pub enum SetWhy {
     Stray,
     /// The bytes ended before the set was whole.
     Truncated,
-    /// A growth was refused.
+    /// Out of memory: a growth was refused.
     Memory,
 }
 
@@ -140,7 +140,7 @@ pub enum EncodeFault {
     RawKind,
     /// The set would be over 65,535 bytes.
     TooLong,
-    /// A growth was refused.
+    /// Out of memory: a growth was refused.
     Memory,
 }
 

@@ -7,28 +7,44 @@
 //!
 //! - What the bytes of a set are is `specs/Layout.antt`; what is wrong with bytes, and where, is
 //!   `specs/Faults.antt`. The decoder's answers are those of these two, whatever the pieces.
+//! - [`Configuration::endpoints`], [`Configuration::all_extras`] and [`Configuration::associations`] go over a set in the
+//!   order of its bytes, and tell what each part belongs to: `specs/Owners.antt`.
 //! - The module [`laws`] states what holds of layouts and faults, whoever reads them.
 #![tactic(auto)]
 
 mod attaching;
+mod building;
 mod checking;
 mod decoder;
 mod encoding;
 mod endpoint;
+mod endpoints;
+mod extras;
 mod fault;
+mod fields;
 pub mod laws;
 mod lengths;
 mod limits;
+mod longest;
+mod owner;
 mod partial;
 mod reader;
 mod tree;
 mod whole_set;
 mod writing;
 
+pub use building::{add_descriptor, begin_set, next_fault};
 pub use decoder::{Decoder, Progress};
-pub use encoding::{encode, refusal};
+pub use encoding::{encode, encode_onto, refusal};
 pub use endpoint::{EndpointDirection, TransferType};
+pub use endpoints::Endpoints;
+pub use extras::{Associations, Extras};
 pub use fault::{EncodeFault, SetFault, SetWhy};
+pub use fields::{
+    ASSOCIATION_NAMES, ASSOCIATION_WIDTHS, CONFIGURATION_NAMES, CONFIGURATION_WIDTHS,
+    ENDPOINT_NAMES, ENDPOINT_WIDTHS, INTERFACE_NAMES, INTERFACE_WIDTHS,
+};
+pub use owner::Owner;
 pub use tree::{Association, Configuration, Endpoint, Extra, Raw, SetKind, Setting};
 pub use usb_base::Sequence;
 pub use whole_set::read_set;

@@ -4,14 +4,14 @@ ghost use Rattle.std.specs.List.{list_any};
 ghost use Rattle.usb_set.specs.Layout.{has_long_descriptor, has_typed_raw, is_typed, is_typed_raw};
 ghost use Rattle.usb_set.specs.inside.Trees.{is_endpoint_long, is_endpoint_typed, is_extra_long, is_setting_long, is_setting_typed};
 
-use crate::tree::{Configuration, Endpoint, Extra, Setting};
+use crate::tree::{Association, Configuration, Endpoint, Extra, Raw, Setting};
 
 fn is_extra_long(extra: &Extra) -> bool
     ensures { result ≡ is_extra_long extra.now }
 {
     match extra {
-        Extra::Raw(raw) => raw.body.len() > 253,
-        Extra::Association(association) => association.tail.len() > 247,
+        Extra::Raw(raw) => raw.body.len() > Raw::MOST_BODY,
+        Extra::Association(association) => association.tail.len() > Association::MOST_TAIL,
     }
 }
 
@@ -24,7 +24,7 @@ fn any_extra_long(extras: &[Extra]) -> bool
 fn is_endpoint_long(endpoint: &Endpoint) -> bool
     ensures { result ≡ is_endpoint_long endpoint.now }
 {
-    endpoint.tail.len() > 248 || any_extra_long(&endpoint.extras)
+    endpoint.tail.len() > Endpoint::MOST_TAIL || any_extra_long(&endpoint.extras)
 }
 
 fn any_endpoint_long(endpoints: &[Endpoint]) -> bool
@@ -36,7 +36,7 @@ fn any_endpoint_long(endpoints: &[Endpoint]) -> bool
 fn is_setting_long(setting: &Setting) -> bool
     ensures { result ≡ is_setting_long setting.now }
 {
-    setting.tail.len() > 246
+    setting.tail.len() > Setting::MOST_TAIL
         || any_extra_long(&setting.extras)
         || any_endpoint_long(&setting.endpoints)
 }
@@ -51,7 +51,9 @@ fn any_setting_long(settings: &[Setting]) -> bool
 pub(crate) fn has_long_descriptor(c: &Configuration) -> bool
     ensures { result ≡ has_long_descriptor c.now }
 {
-    c.tail.len() > 246 || any_extra_long(&c.extras) || any_setting_long(&c.settings)
+    c.tail.len() > Configuration::MOST_TAIL
+        || any_extra_long(&c.extras)
+        || any_setting_long(&c.settings)
 }
 
 /// Whether a set gives the type a meaning.

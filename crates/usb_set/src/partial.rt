@@ -61,7 +61,7 @@ impl Partial {
         }
     }
 
-    /// Memory is wanting for the descriptor in work.
+    /// Out of memory for the descriptor in work.
     pub(crate) fn out_of_memory(&self) -> SetFault
         ensures { IsWanting (place_of self.now) result }
     {

@@ -20,7 +20,7 @@ pub(crate) enum Step {
     Took(u32),
     /// The end of the bytes.
     Cut,
-    /// A fault, or want of memory.
+    /// A fault, or out of memory.
     Refused(SetFault),
 }
 

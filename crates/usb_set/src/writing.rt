@@ -1,5 +1,5 @@
 //! Each part of a set, written into a buffer that has room for it.
-ghost use Rattle.std.specs.Prelude.{◌≡◌, ◌≤◌, length, false};
+ghost use Rattle.std.specs.Prelude.{◌≡◌, ◌≤◌, ◌+◌, ◌++◌, length, take, false};
 ghost use Rattle.std.specs.List.{flat_map, list_any};
 ghost use Rattle.usb_set.specs.Descriptors.{association_descriptor, configuration_descriptor, descriptor_bytes, endpoint_descriptor, interface_descriptor, raw_descriptor, type_number};
 ghost use Rattle.usb_set.specs.Layout.{has_long_descriptor, set_bytes};
@@ -201,11 +201,11 @@ fn put_tree(out: &mut [u8], at: usize, c: &Configuration, total: u16) -> usize
     put_all(out, settings_at, &c.settings)
 }
 
-/// Fills the buffer with the bytes of the whole set, with this number as wTotalLength.
-pub(crate) fn put_set(out: &mut [u8], c: &Configuration, total: u16)
+/// Writes the bytes of the whole set, with this number as wTotalLength, from this place on to the end of the buffer.
+pub(crate) fn put_set(out: &mut [u8], at: usize, c: &Configuration, total: u16)
     requires short { has_long_descriptor c.now ≡ false }
-    requires room { length out.old ≡ length (set_bytes c.now total) }
-    ensures { out.new ≡ set_bytes c.now total }
+    requires room { length out.old ≡ at + length (set_bytes c.now total) }
+    ensures { out.new ≡ take at out.old ++ set_bytes c.now total }
 {
-    put_tree(out, 0, c, total);
+    put_tree(out, at, c, total);
 }

@@ -9,7 +9,8 @@ use Rattle.usb_set.specs.declared.decoder.Progress.TheVariants.{More, Done}
 use Rattle.usb_set.specs.declared.reader.Step.{Step}
 use Rattle.usb_set.specs.declared.reader.Step.TheVariants.{Took, Cut, Refused}
 use Rattle.usb_set.specs.Faults.{Fault, is_whole, header_fault, item_fault, total_of}
-use Rattle.usb_set.specs.inside.Reading.{Reading, first, later, whole, faulty, reads, goes_on, configuration_of, attach, has_setting, first_byte}
+use Rattle.usb_set.specs.Building.{has_setting}
+use Rattle.usb_set.specs.inside.Reading.{Reading, first, later, whole, faulty, reads, goes_on, configuration_of, attach, first_byte}
 
 -- the set is not read to its end, and shows no fault
 abbrev pub InWork : Reading → Type 0

@@ -1,0 +1,122 @@
+-- A set that is built descriptor by descriptor.
+use Rattle.std.proofs.Common.{◌≡◌, ℕ, ◌+◌, ◌*◌, ◌≤◌, ◌||◌, Bool, true, false, cond, eqb, List, [], ◌∷◌, ◌++◌, length, drop, slice_index, None, refl, sym, ap, subst, append_assoc, append-nil, ◌∙◌, arith}
+use Rattle.std.specs.List.{AllByRecursion}
+use Rattle.std.proofs.lemmas.Bool.{eqb-true}
+use Rattle.usb_base.specs.Bytes.{AreBytes}
+use Rattle.usb_set.specs.declared.tree.SetKind.TheVariants as kinds
+use Rattle.usb_set.specs.declared.tree.Configuration.{Configuration}
+use Rattle.usb_set.specs.Building.{Adds, BeginsWith, IsOneMore, has_setting}
+use Rattle.usb_set.specs.Encoding.{AllFieldsFit, FieldsFit}
+use Rattle.usb_set.specs.Descriptors.{Descriptor, configuration_descriptor, descriptor_bytes, type_number}
+use Rattle.usb_set.specs.Faults.{is_interface, is_set_type, is_whole, item_fault}
+use Rattle.usb_set.specs.Layout.{has_typed_raw, later_descriptors}
+use Rattle.usb_set.specs.inside.Reading.{attach, configuration_of}
+use Rattle.usb_set.proofs.Growth.{attach-head, has_setting-attach, later_descriptors-attach, low_byte, high_byte, typed-attach}
+use Rattle.usb_set.proofs.Complete.{attached}
+use Rattle.usb_set.proofs.Items.{bare, items_again}
+use Rattle.usb_set.proofs.Layouts.{AllFine, configuration_again, fine_fault, fine_items}
+
+-- the descriptor that whole bytes are
+whole_is : (b : List ℕ) → 2 ≤ length b → is_whole b ≡ true → descriptor_bytes (record { kind = slice_index b 1; body = drop 2 b }) ≡ b
+whole_is [] n e = absurd (omega arith)
+whole_is (len ∷ []) n e = absurd (omega arith)
+whole_is (len ∷ kind ∷ body) n e =
+    let is = eqb-true (length (kind ∷ body) + 1) len e in
+    let same : 2 + length body ≡ len = omega (arith, is) in
+    ap (λ k. k ∷ kind ∷ body) same
+
+-- whole bytes without fault are two at least
+two_long : (room : ℕ) (s : Bool) (b : List ℕ) → is_whole b ≡ true → item_fault room s b ≡ None → 2 ≤ length b
+two_long room s [] e fine = cc
+two_long room s (len ∷ rest) e fine = grind arith
+
+pub add_is : (c : Configuration) (b : List ℕ) (room : ℕ) → AreBytes b → is_whole b ≡ true → item_fault room (has_setting c) b ≡ None
+    → Adds c b (attach c (record { kind = slice_index b 1; body = drop 2 b }))
+add_is c [] room fits e fine = absurd cc
+add_is c (len ∷ []) room fits e fine = absurd (omega (arith, two_long room (has_setting c) (len ∷ []) e fine))
+add_is c (len ∷ kind ∷ body) room fits e fine =
+    let item : Descriptor = record { kind = kind; body = body } in
+    let bytes : descriptor_bytes item ≡ len ∷ kind ∷ body = whole_is (len ∷ kind ∷ body) (omega arith) e in
+    let shown : item_fault room (has_setting c) (descriptor_bytes item) ≡ None = ap (item_fault room (has_setting c)) bytes ∙ fine in
+    record { item = item; bytes = bytes; head = attach-head c item; later = later_descriptors-attach c room item shown fits.1.1 }
+
+pub add_typed : (c : Configuration) (b : List ℕ) (room : ℕ) → is_whole b ≡ true → item_fault room (has_setting c) b ≡ None → has_typed_raw c ≡ false
+    → has_typed_raw (attach c (record { kind = slice_index b 1; body = drop 2 b })) ≡ false
+add_typed c b room e fine raws =
+    let item : Descriptor = record { kind = slice_index b 1; body = drop 2 b } in
+    let shown : item_fault room (has_setting c) (descriptor_bytes item) ≡ None =
+    ap (item_fault room (has_setting c)) (whole_is b (two_long room (has_setting c) b e fine) e) ∙ fine in
+    typed-attach c room item raws shown
+
+type_is : (kind : ℕ) → is_set_type kind ≡ true → type_number (cond (eqb kind 2) kinds.Configuration kinds.OtherSpeed) ≡ kind
+type_is kind e = cases (eqb kind 2) refl e
+  where
+    cases : (t : Bool) → eqb kind 2 ≡ t → (t || eqb kind 7) ≡ true → type_number (cond t kinds.Configuration kinds.OtherSpeed) ≡ kind
+    cases true et e = sym (eqb-true kind 2 et)
+    cases false et e = sym (eqb-true kind 7 e)
+
+pub begin_is : (b : List ℕ) → AreBytes b → 9 ≤ length b → is_whole b ≡ true → is_set_type (slice_index b 1) ≡ true → BeginsWith b (configuration_of b)
+begin_is [] fits n e t = absurd (omega arith)
+begin_is (len ∷ []) fits n e t = absurd (omega arith)
+begin_is (len ∷ kind ∷ []) fits n e t = absurd (omega arith)
+begin_is (len ∷ kind ∷ low ∷ []) fits n e t = absurd (omega arith)
+begin_is (len ∷ kind ∷ low ∷ high ∷ []) fits n e t = absurd (omega arith)
+begin_is (len ∷ kind ∷ low ∷ high ∷ p ∷ []) fits n e t = absurd (omega arith)
+begin_is (len ∷ kind ∷ low ∷ high ∷ p ∷ q ∷ []) fits n e t = absurd (omega arith)
+begin_is (len ∷ kind ∷ low ∷ high ∷ p ∷ q ∷ r ∷ []) fits n e t = absurd (omega arith)
+begin_is (len ∷ kind ∷ low ∷ high ∷ p ∷ q ∷ r ∷ s ∷ []) fits n e t = absurd (omega arith)
+begin_is (len ∷ kind ∷ low ∷ high ∷ p ∷ q ∷ r ∷ s ∷ u ∷ tail) fits n e t =
+    let is = eqb-true (length (kind ∷ low ∷ high ∷ p ∷ q ∷ r ∷ s ∷ u ∷ tail) + 1) len e in
+    let count : 2 + length (low ∷ high ∷ p ∷ q ∷ r ∷ s ∷ u ∷ tail) ≡ len = omega (arith, is) in
+    record {
+      total = low + 256 * high;
+      head = rw (type_is kind t, low_byte low high fits.1.1.0, high_byte low high fits.1.1.0) (ap (λ (l : ℕ). l ∷ kind ∷ low ∷ high ∷ p ∷ q ∷ r ∷ s ∷ u ∷ tail) count);
+      later = refl;
+    }
+
+pub one_tree : (c d : Configuration) → has_typed_raw c ≡ false → has_typed_raw d ≡ false → configuration_descriptor c 0 ≡ configuration_descriptor d 0
+    → later_descriptors c ≡ later_descriptors d → c ≡ d
+one_tree c d hc hd head later =
+    let bares : bare c ≡ bare d = sym (configuration_again c 0) ∙ ap (λ (x : Descriptor). configuration_of (descriptor_bytes x)) head ∙ configuration_again d 0 in
+    sym (items_again c hc) ∙ ap (attached (bare c)) later ∙ ap (λ (x : Configuration). attached x (later_descriptors d)) bares ∙ items_again d hd
+
+-- ---- a set without its last descriptor
+
+attached-later : (items : List Descriptor) (c : Configuration) → AllFine (has_setting c) items → AllByRecursion FieldsFit items → later_descriptors (attached c items) ≡ later_descriptors c ++ items
+attached-later [] c fine fits = sym (append-nil (later_descriptors c))
+attached-later (item ∷ items) c fine fits =
+    let room = 2 + length item.body in
+    let more = subst (λ (s : Bool). AllFine s items) (sym (has_setting-attach c item)) fine.1 in
+    attached-later items (attach c item) more fits.1
+    ∙ ap (λ (ds : List Descriptor). ds ++ items) (later_descriptors-attach c room item (fine_fault room (has_setting c) item fine.0 (omega arith)) fits.0.1)
+    ∙ append_assoc (later_descriptors c) (item ∷ []) items
+
+attached-head : (items : List Descriptor) (c : Configuration) (total : ℕ) → configuration_descriptor (attached c items) total ≡ configuration_descriptor c total
+attached-head [] c total = refl
+attached-head (item ∷ items) c total = attached-head items (attach c item) total ∙ attach-head c item total
+
+attached-typed : (items : List Descriptor) (c : Configuration) → AllFine (has_setting c) items → has_typed_raw c ≡ false → has_typed_raw (attached c items) ≡ false
+attached-typed [] c fine raws = raws
+attached-typed (item ∷ items) c fine raws =
+    let room = 2 + length item.body in
+    let more = subst (λ (s : Bool). AllFine s items) (sym (has_setting-attach c item)) fine.1 in
+    attached-typed items (attach c item) more (typed-attach c room item raws (fine_fault room (has_setting c) item fine.0 (omega arith)))
+
+fine_front : (s : Bool) (xs ys : List Descriptor) → AllFine s (xs ++ ys) → AllFine s xs
+fine_front s [] ys h = tt
+fine_front s (x ∷ xs) ys h = (h.0, fine_front (s || is_interface x) xs ys h.1)
+
+fit_front : (xs ys : List Descriptor) → AllByRecursion FieldsFit (xs ++ ys) → AllByRecursion FieldsFit xs
+fit_front [] ys h = tt
+fit_front (x ∷ xs) ys h = (h.0, fit_front xs ys h.1)
+
+pub one_less : (c : Configuration) (ds : List Descriptor) (d : Descriptor) → has_typed_raw c ≡ false → AllFieldsFit c → later_descriptors c ≡ ds ++ d ∷ [] → IsOneMore c ds d
+one_less c ds d raws fits is =
+    let fine = subst (AllFine false) is (fine_items c raws) in
+    let fit = subst (AllByRecursion FieldsFit) is fits.1 in
+    record {
+      before = attached (bare c) ds;
+      head = attached-head ds (bare c);
+      later = attached-later ds (bare c) (fine_front false ds (d ∷ []) fine) (fit_front ds (d ∷ []) fit);
+      raws = attached-typed ds (bare c) (fine_front false ds (d ∷ []) fine) refl;
+    }
