@@ -9,8 +9,8 @@
 //!
 //! - The data, what its bytes are and which strings it names stand in the crate usb_file_data, the rules in
 //!   usb_rules, the listings in usb_listing, and listings read back in usb_listing_reader. Their public calls and
-//!   types are named here too, but for the laws of usb_file_data and usb_listing_reader and three calls that
-//!   only crates take: `count_named`, `is_other_kind` and `write_all`.
+//!   types are named here too, but for the laws of usb_file_data and usb_listing_reader and five calls that
+//!   only crates take: `count_named`, `is_other_kind`, `has_undeclared_sets`, `are_wrong_strings` and `write_all`.
 //! - What is wrong with bytes, and where, is `specs/FileFaults.antt`: the fault is that of the part which
 //!   comes next after a front of a file, `specs/Front.antt`.
 //! - The module [`laws`] states what holds of files and faults, whoever reads them.
@@ -33,5 +33,5 @@ pub use usb_file_data::{
 };
 pub use usb_listing::{OutFault, list, list_set};
 pub use usb_listing_reader::{ListFault, ListWhy, assemble};
-pub use usb_rules::{Finding, Part, check};
+pub use usb_rules::{Finding, Part, Rule, check};
 pub use writing::write_file;

@@ -1,17 +1,20 @@
 //! A file as its bytes.
-ghost use Rattle.std.specs.Prelude.{◌≡◌, ◌++◌, ℕ, List, IfErr, IfOk, None, OnErr, OnOk, false};
+ghost use Rattle.std.specs.Prelude.{◌≡◌, ◌++◌, ℕ, List, IfErr, IfOk, IfSome, None, OnOk, OnSome, false};
 ghost use Rattle.std.specs.List.{list_any};
 ghost use Rattle.usb_fields.specs.Units.{units_bytes};
-ghost use Rattle.usb_file_data.specs.File.{File, WriteRefused, file_bytes, has_long_string, has_no_layout, is_long_string, other_bytes, sets_bytes, strings_bytes, each_string_bytes, whole_set, write_refusal};
+ghost use Rattle.usb_file_data.specs.File.{File, WriteRefused, file_bytes, has_no_layout, has_wrong_layout, other_bytes, sets_bytes, strings_bytes, each_string_bytes, whole_set, write_refusal};
 ghost use Rattle.usb_file_data.specs.Named.{other_sets};
 
-use std::alloc::{AllocError, Global};
+use std::alloc::Global;
 use usb_base::known_bytes;
-use usb_fields::{UnitFault, write_units};
-use usb_file_data::{DescriptorFile, Other, Strings, WriteFault, write_refusal};
-use usb_set::{Configuration, EncodeFault, Sequence, encode};
+use usb_fields::{UnitFault, write_units_onto};
+use usb_file_data::{
+    DescriptorFile, Other, Strings, WriteFault, are_wrong_strings, count_named,
+    has_undeclared_sets, write_refusal,
+};
+use usb_set::{Configuration, EncodeFault, Sequence, encode_onto};
 
-/// The bytes of a file: its parts one after another, each written once (USB 2.0, 9.4.3 and 9.6).
+/// The bytes of a file: its parts one after another, each judged and written once (USB 2.0, 9.4.3 and 9.6).
 ///
 /// ```rust
 /// let bytes = write_file(alloc, &file)?;
@@ -28,106 +31,90 @@ pub fn write_file(alloc: Global, f: &DescriptorFile) -> Result<Vec<u8>, WriteFau
     // A file with a reason has no bytes.
     ensures only { (b : List ℕ) → File f.now b → write_refusal f.now ≡ None }
 {
-    if let Some(fault) = write_refusal(f) {
-        return Err(fault);
-    }
     match file_of(alloc, f) {
-        Ok(out) => {
+        Some(out) => {
             known_bytes(&out);
             Ok(out)
         }
-        Err(_) => Err(WriteFault::Memory),
+        None => Err(first_reason(f)),
     }
 }
 
-/// The bytes of a file against which no reason stands.
-fn file_of(alloc: Global, f: &DescriptorFile) -> Result<Vec<u8>, AllocError>
-    requires { write_refusal f.now ≡ None }
-    ensures { IfOk result (λ b. b.items ≡ file_bytes f.now) }
+/// The first reason why the file isn't written.
+#[cold]
+fn first_reason(f: &DescriptorFile) -> WriteFault
+    ensures { WriteRefused f.now result }
 {
-    let mut out = Vec::new(alloc);
-    out.extend_from_slice(&f.device.to_bytes())?;
-    put_sets(alloc, &mut out, &f.sets)?;
-    put_other(alloc, &mut out, &f.other)?;
-    put_strings(alloc, &mut out, &f.strings)?;
-    Ok(out)
+    match write_refusal(f) {
+        Some(fault) => fault,
+        None => WriteFault::Memory,
+    }
 }
 
-fn put_other(alloc: Global, out: &mut Vec<u8>, other: &Option<Other>) -> Result<(), AllocError>
-    requires { list_any has_no_layout (other_sets other.now) ≡ false }
-    ensures { OnOk result (out.new.items ≡ out.old.items ++ other_bytes other.now) }
+/// The bytes of a file, or `None` where something stands against it or a growth was refused.
+fn file_of(alloc: Global, f: &DescriptorFile) -> Option<Vec<u8>>
+    ensures bytes { IfSome result (λ b. b.items ≡ file_bytes f.now) }
+    ensures allowed { OnSome result (write_refusal f.now ≡ None) }
+{
+    if has_undeclared_sets(f) || are_wrong_strings(count_named(f), &f.strings) {
+        return None;
+    }
+    let mut out = Vec::new(alloc);
+    out.extend_from_slice(&f.device.to_bytes()).ok()?;
+    put_sets(&mut out, &f.sets).ok()?;
+    put_other(&mut out, &f.other).ok()?;
+    put_strings(&mut out, &f.strings).ok()?;
+    Some(out)
+}
+
+fn put_other(out: &mut Vec<u8>, other: &Option<Other>) -> Result<(), EncodeFault>
+    ensures bytes { OnOk result (out.new.items ≡ out.old.items ++ other_bytes other.now) }
+    ensures allowed { OnOk result (list_any has_no_layout (other_sets other.now) ≡ false) }
 {
     match other {
         None => Ok(()),
         Some(other) => {
             out.extend_from_slice(&other.qualifier.to_bytes())?;
-            put_sets(alloc, out, &other.sets)
+            put_sets(out, &other.sets)
         }
     }
 }
 
-#[tactic(auto, using(usb_set::proofs::Tests::none_at))]
-fn put_sets(alloc: Global, out: &mut Vec<u8>, sets: &[Configuration]) -> Result<(), AllocError>
-    requires { list_any has_no_layout sets.now ≡ false }
-    ensures { OnOk result (out.new.items ≡ out.old.items ++ sets_bytes sets.now) }
+fn put_sets(out: &mut Vec<u8>, sets: &[Configuration]) -> Result<(), EncodeFault>
+    ensures bytes { OnOk result (out.new.items ≡ out.old.items ++ sets_bytes sets.now) }
+    ensures allowed { OnOk result (list_any has_no_layout sets.now ≡ false) }
 {
     for c in sets {
-        put_set(alloc, out, c)?;
+        put_set(out, c)?;
     }
     Ok(())
 }
 
-#[tactic(auto, using(usb_file_data::proofs::WholeSets::layout_is))]
-fn put_set(alloc: Global, out: &mut Vec<u8>, c: &Configuration) -> Result<(), AllocError>
-    requires { has_no_layout c.now ≡ false }
-    ensures { OnOk result (out.new.items ≡ out.old.items ++ whole_set c.now) }
+#[tactic(auto, unfolding(usb_file_data::specs::File::whole_set))]
+fn put_set(out: &mut Vec<u8>, c: &Configuration) -> Result<(), EncodeFault>
+    ensures bytes { OnOk result (out.new.items ≡ out.old.items ++ whole_set c.now) }
+    ensures allowed { OnOk result (has_no_layout c.now ≡ false) }
 {
-    match encode(alloc, c) {
-        Ok(bytes) => out.extend_from_slice(&bytes),
-        Err(EncodeFault::Memory) => Err(AllocError),
-        Err(_) => unreachable!(),
-    }
+    encode_onto(c, out)
 }
 
-fn put_strings(
-    alloc: Global,
-    out: &mut Vec<u8>,
-    strings: &Option<Strings>,
-) -> Result<(), AllocError>
-    requires { has_long_string strings.now ≡ false }
+fn put_strings(out: &mut Vec<u8>, strings: &Option<Strings>) -> Result<(), UnitFault>
     ensures { OnOk result (out.new.items ≡ out.old.items ++ strings_bytes strings.now) }
 {
     match strings {
         None => Ok(()),
         Some(strings) => {
-            put_string(alloc, out, &strings.languages)?;
-            put_each_string(alloc, out, &strings.texts)
+            write_units_onto(&strings.languages, out)?;
+            put_each_string(out, &strings.texts)
         }
     }
 }
 
-#[tactic(auto, using(usb_set::proofs::Tests::none_at))]
-fn put_each_string(
-    alloc: Global,
-    out: &mut Vec<u8>,
-    strings: &[Sequence<u16>],
-) -> Result<(), AllocError>
-    requires { list_any is_long_string strings.now ≡ false }
+fn put_each_string(out: &mut Vec<u8>, strings: &[Sequence<u16>]) -> Result<(), UnitFault>
     ensures { OnOk result (out.new.items ≡ out.old.items ++ each_string_bytes strings.now) }
 {
     for string in strings {
-        put_string(alloc, out, string)?;
+        write_units_onto(string, out)?;
     }
     Ok(())
-}
-
-fn put_string(alloc: Global, out: &mut Vec<u8>, string: &Sequence<u16>) -> Result<(), AllocError>
-    requires { is_long_string string.now ≡ false }
-    ensures { OnOk result (out.new.items ≡ out.old.items ++ units_bytes string.now) }
-{
-    match write_units(alloc, string) {
-        Ok(bytes) => out.extend_from_slice(&bytes),
-        Err(UnitFault::Memory) => Err(AllocError),
-        Err(_) => unreachable!(),
-    }
 }

@@ -7,7 +7,6 @@ use Rattle.usb_fields.specs.declared.qualifier.Qualifier.{Qualifier}
 use Rattle.usb_fields.specs.Qualifier.{qualifier_bytes}
 use Rattle.usb_fields.specs.Device.{device_bytes}
 use Rattle.usb_fields.specs.Units.{units_bytes}
-use Rattle.usb_set.specs.declared.tree.SetKind.{SetKind}
 use Rattle.usb_set.specs.declared.tree.SetKind.TheVariants as kinds
 use Rattle.usb_set.specs.declared.tree.Configuration.{Configuration}
 use Rattle.usb_set.specs.Layout.{Layout}

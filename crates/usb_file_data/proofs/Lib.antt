@@ -1,4 +1,5 @@
 pub mod Folds
+pub mod Ranks
 pub mod ExtraMarks
 pub mod Lists
 pub mod WholeSets

@@ -1,4 +1,5 @@
 pub mod Named
+pub mod StringPlaces
 pub mod File
 pub mod Front
 pub mod Numbers

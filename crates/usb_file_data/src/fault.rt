@@ -27,7 +27,7 @@ pub enum WriteFault {
     /// 126 units.
     #[error("the strings are not those that the file names")]
     Texts,
-    /// A growth was refused.
+    /// Out of memory: a growth was refused.
     #[error("out of memory")]
     Memory,
 }

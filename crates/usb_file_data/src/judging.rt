@@ -1,5 +1,5 @@
 //! Why a file has no bytes.
-ghost use Rattle.std.specs.Prelude.{◌≡◌, ℕ, ◌≤◌, length};
+ghost use Rattle.std.specs.Prelude.{◌≡◌, ◌||◌, ℕ, ◌≤◌, length};
 ghost use Rattle.std.specs.List.{list_any};
 ghost use Rattle.usb_set.specs.Descriptors.{type_number};
 ghost use Rattle.usb_file_data.specs.Named.{other_sets};
@@ -8,10 +8,9 @@ ghost use Rattle.usb_file_data.specs.File.{has_no_layout, is_long_string, is_oth
 use crate::fault::WriteFault;
 use crate::file::{DescriptorFile, Other, Strings};
 use crate::naming::count_named;
+use usb_base::descriptor_type;
+use usb_fields::MOST_UNITS;
 use usb_set::{Configuration, Sequence, SetKind, refusal};
-
-/// The most units that a string, or languages that a language list, can have (USB 2.0, 9.6.7).
-const MOST_UNITS: usize = 126;
 
 /// Why the file has no bytes, for another cause than memory, if it has none.
 pub fn write_refusal(f: &DescriptorFile) -> Option<WriteFault>
@@ -30,6 +29,19 @@ pub fn write_refusal(f: &DescriptorFile) -> Option<WriteFault>
         return Some(WriteFault::Texts);
     }
     None
+}
+
+/// Whether the sets are not as many as bNumConfigurations says, or not of the kind that stands there. With the layouts
+/// of the sets and the strings that is all that [`write_refusal`] asks, so that a writer judges each set as it writes it.
+///
+/// ```rust
+/// file.device.configurations += 1;
+/// assert!(rt; has_undeclared_sets(&file));
+/// ```
+pub fn has_undeclared_sets(f: &DescriptorFile) -> bool
+    ensures { result ≡ (has_wrong_count f.now || has_wrong_kind f.now) }
+{
+    has_wrong_count(f) || has_wrong_kind(f)
 }
 
 fn has_wrong_count(f: &DescriptorFile) -> bool
@@ -87,8 +99,8 @@ fn kind_number(kind: SetKind) -> u8
     ensures { result ≡ type_number kind }
 {
     match kind {
-        SetKind::Configuration => 2,
-        SetKind::OtherSpeed => 7,
+        SetKind::Configuration => descriptor_type::CONFIGURATION,
+        SetKind::OtherSpeed => descriptor_type::OTHER_SPEED_CONFIGURATION,
     }
 }
 
@@ -110,8 +122,17 @@ fn has_no_layout(c: &Configuration) -> bool
     refusal(c).is_some()
 }
 
-/// Whether the strings are not those of so many named indices.
-fn are_wrong_strings(count: usize, strings: &Option<Strings>) -> bool
+/// Whether the strings are not those of so many named indices, of which there can be 255: [`WriteFault::Texts`].
+///
+/// ```rust
+/// // A file that names no string has none.
+/// assert!(rt; !are_wrong_strings(0, &None));
+/// ```
+///
+/// # Requires
+///
+/// `count` is at most 255.
+pub fn are_wrong_strings(count: usize, strings: &Option<Strings>) -> bool
     requires { count ≤ 255 }
     ensures { result ≡ are_wrong_strings count strings.now }
 {

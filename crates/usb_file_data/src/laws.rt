@@ -9,7 +9,7 @@ use std::alloc::AllocError;
 ///
 /// # Errors
 ///
-/// Where there is no memory for the copy.
+/// Out of memory.
 pub fn a_copy_is_its_original(f: &DescriptorFile) -> Result<DescriptorFile, AllocError>
     ensures { IfOk result (λ copy. copy ≡ f.now) }
 {
@@ -20,7 +20,7 @@ pub fn a_copy_is_its_original(f: &DescriptorFile) -> Result<DescriptorFile, Allo
 ///
 /// # Errors
 ///
-/// Where there is no memory for the copy.
+/// Out of memory.
 pub fn a_copied_other_is_its_original(other: &Other) -> Result<Other, AllocError>
     ensures { IfOk result (λ copy. copy ≡ other.now) }
 {
@@ -31,7 +31,7 @@ pub fn a_copied_other_is_its_original(other: &Other) -> Result<Other, AllocError
 ///
 /// # Errors
 ///
-/// Where there is no memory for the copy.
+/// Out of memory.
 pub fn copied_strings_are_their_originals(strings: &Strings) -> Result<Strings, AllocError>
     ensures { IfOk result (λ copy. copy ≡ strings.now) }
 {

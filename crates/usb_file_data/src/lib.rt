@@ -15,8 +15,9 @@ mod judging;
 pub mod laws;
 mod marking;
 mod naming;
+mod string;
 
 pub use fault::WriteFault;
 pub use file::{DescriptorFile, Other, Strings};
-pub use judging::{is_other_kind, write_refusal};
+pub use judging::{are_wrong_strings, has_undeclared_sets, is_other_kind, write_refusal};
 pub use naming::{NoMemory, count_named, named};

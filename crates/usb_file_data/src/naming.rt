@@ -9,7 +9,7 @@ use crate::marking::mark_file;
 use std::alloc::Global;
 use usb_base::Marks;
 
-/// Want of memory, as std tells it.
+/// Out of memory, as std tells it.
 pub use std::alloc::AllocError as NoMemory;
 
 /// The indices of the strings that the file names, ascending. They are the numbers 1 to 255 that stand in
@@ -24,9 +24,10 @@ pub use std::alloc::AllocError as NoMemory;
 ///
 /// # Errors
 ///
-/// A growth was refused.
+/// Out of memory.
 pub fn named(alloc: Global, f: &DescriptorFile) -> Result<Vec<u8>, NoMemory>
-    ensures { IfOk result (λ v. v.items ≡ named_indices f.now) }
+    ensures indices { IfOk result (λ v. v.items ≡ named_indices f.now) }
+    ensures most { IfOk result (λ v. length v.items ≤ 255) }
 {
     marked_numbers(alloc, &mark_file(f), 1, 255)
 }
@@ -54,7 +55,8 @@ fn marked_numbers(
     count: usize,
 ) -> Result<Vec<u8>, NoMemory>
     requires { first + count ≤ 256 }
-    ensures { IfOk result (λ v. v.items ≡ marked_among first count (is_marked marks.now)) }
+    ensures numbers { IfOk result (λ v. v.items ≡ marked_among first count (is_marked marks.now)) }
+    ensures most { IfOk result (λ v. length v.items ≤ count) }
 {
     let mut numbers = Vec::new(alloc);
     for i in 0..count {
@@ -68,7 +70,7 @@ fn marked_numbers(
 
 /// How many of `count` numbers from the first on are marked.
 #[tactic(auto, using(crate::proofs::Folds::among_none, crate::proofs::Folds::count_next, crate::proofs::Folds::count_same))]
-fn count_marked(marks: &Marks, first: usize, count: usize) -> usize
+pub(crate) fn count_marked(marks: &Marks, first: usize, count: usize) -> usize
     requires { first + count ≤ 256 }
     ensures count { result ≡ length (marked_among first count (is_marked marks.now)) }
     ensures most { result ≤ count }
