@@ -1,5 +1,5 @@
 -- Each line has a byte, its first letter.
-use Rattle.std.proofs.Common.{◌<◌, ℕ, List, [], ◌∷◌, ◌++◌, map, length, codes, lit<, arith, length-append}
+use Rattle.std.proofs.Common.{◌<◌, ℕ, List, ◌∷◌, ◌++◌, map, drop, length, codes, lit<, arith, length-append}
 use Rattle.usb_fields.specs.declared.device.DeviceDescriptor.{DeviceDescriptor}
 use Rattle.usb_fields.specs.declared.qualifier.Qualifier.{Qualifier}
 use Rattle.usb_set.specs.declared.tree.SetKind.{SetKind}
@@ -12,7 +12,12 @@ use Rattle.usb_set.specs.declared.tree.Endpoint.{Endpoint}
 use Rattle.usb_set.specs.declared.tree.Setting.{Setting}
 use Rattle.usb_set.specs.declared.tree.Configuration.{Configuration}
 use Rattle.std.specs.List.{flat_map}
-use Rattle.usb_listing.specs.Lines.{one_byte, two_bytes, written_field, written_line}
+use Rattle.usb_base.specs.Widths.{cells}
+use Rattle.usb_fields.specs.Device.{device_bytes}
+use Rattle.usb_fields.specs.Qualifier.{qualifier_bytes}
+use Rattle.usb_set.specs.Descriptors.{association_descriptor, configuration_descriptor, endpoint_descriptor, interface_descriptor, type_number}
+use Rattle.usb_listing.specs.Lines.{two_bytes, written_field, written_line}
+use Rattle.usb_listing.specs.Table.{Row, association_row, configuration_row, device_row, endpoint_row, interface_row, qualifier_row, raw_row, row_line}
 use Rattle.usb_listing.specs.Listing.{device_line, qualifier_line}
 use Rattle.usb_listing.specs.SetListing.{association_line, configuration_line, endpoint_line, extra_line, interface_line, raw_line, set_word}
 use Rattle.usb_listing.specs.StringListing.{languages_line, string_line, written_unit}
@@ -28,33 +33,38 @@ word_has kinds.OtherSpeed = lit< tt
 line_has : (word : List ℕ) (fields : List (List ℕ)) → 0 < length word → 0 < length (written_line word fields)
 line_has word fields some = longer (word ++ flat_map written_field fields) (codes "\n") (longer word (flat_map written_field fields) some)
 
+-- so has the line of each descriptor
+row_has : (row : Row) (bytes : List ℕ) → 0 < length row.word → 0 < length (row_line row bytes)
+row_has row bytes some = line_has row.word (cells row.widths row.tail (drop (length row.front) bytes)) some
+
 pub device_has : (d : DeviceDescriptor) → 0 < length (device_line d)
 unfolding device_line
-device_has d = line_has (codes "device") (two_bytes d.usb ∷ one_byte d.class ∷ one_byte d.subclass ∷ one_byte d.protocol ∷ one_byte d.packet ∷ two_bytes d.vendor ∷ two_bytes d.product ∷ two_bytes d.release ∷ one_byte d.maker_text ∷ one_byte d.product_text ∷ one_byte d.serial_text ∷ one_byte d.configurations ∷ []) (lit< tt)
+device_has d = row_has device_row (drop 1 (device_bytes d)) (lit< tt)
 
 pub qualifier_has : (q : Qualifier) → 0 < length (qualifier_line q)
 unfolding qualifier_line
-qualifier_has q = line_has (codes "qualifier") (two_bytes q.usb ∷ one_byte q.class ∷ one_byte q.subclass ∷ one_byte q.protocol ∷ one_byte q.packet ∷ one_byte q.configurations ∷ one_byte q.reserved ∷ []) (lit< tt)
+qualifier_has q = row_has qualifier_row (drop 1 (qualifier_bytes q)) (lit< tt)
 
 pub configuration_has : (c : Configuration) → 0 < length (configuration_line c)
 unfolding configuration_line
-configuration_has c = longer _ _ (longer _ _ (word_has c.kind))
+configuration_has c =
+    row_has (configuration_row (set_word c.kind) (type_number c.kind)) (type_number c.kind ∷ (configuration_descriptor c 0).body) (word_has c.kind)
 
 pub interface_has : (s : Setting) → 0 < length (interface_line s)
 unfolding interface_line
-interface_has s = line_has (codes "interface") (one_byte s.number ∷ one_byte s.alternate ∷ one_byte s.declared_endpoints ∷ one_byte s.class ∷ one_byte s.subclass ∷ one_byte s.protocol ∷ one_byte s.text ∷ s.tail ∷ []) (lit< tt)
+interface_has s = row_has interface_row (4 ∷ (interface_descriptor s).body) (lit< tt)
 
 pub endpoint_has : (e : Endpoint) → 0 < length (endpoint_line e)
 unfolding endpoint_line
-endpoint_has e = line_has (codes "endpoint") (one_byte e.address ∷ one_byte e.attributes ∷ two_bytes e.max_packet ∷ one_byte e.interval ∷ e.tail ∷ []) (lit< tt)
+endpoint_has e = row_has endpoint_row (5 ∷ (endpoint_descriptor e).body) (lit< tt)
 
 raw_has : (r : Raw) → 0 < length (raw_line r)
 unfolding raw_line
-raw_has r = line_has (codes "raw") (one_byte r.kind ∷ r.body ∷ []) (lit< tt)
+raw_has r = row_has raw_row (r.kind ∷ r.body) (lit< tt)
 
 association_has : (a : Association) → 0 < length (association_line a)
 unfolding association_line
-association_has a = line_has (codes "association") (one_byte a.first ∷ one_byte a.count ∷ one_byte a.class ∷ one_byte a.subclass ∷ one_byte a.protocol ∷ one_byte a.text ∷ a.tail ∷ []) (lit< tt)
+association_has a = row_has association_row (11 ∷ (association_descriptor a).body) (lit< tt)
 
 pub extra_has : (extra : Extra) → 0 < length (extra_line extra)
 extra_has (extras.Raw r) = raw_has r

@@ -2,3 +2,4 @@ pub mod Pages
 pub mod Rows
 pub mod Lines
 pub mod HasBytes
+pub mod LineLemmas

@@ -3,9 +3,11 @@
 //! [`list`] writes the listing of a file, and [`list_set`] that of one set alone.
 //!
 //! What a listing is is `specs/Listing.antt`, with the lines of a set in `specs/SetListing.antt`, those of
-//! the strings in `specs/StringListing.antt`, and the form of a line in `specs/Lines.antt`.
+//! the strings in `specs/StringListing.antt`, the form of a line in `specs/Lines.antt`, and the table of lines
+//! in `specs/Table.antt`. The module [`laws`] says that a set's lines are those of its descriptors.
 #![tactic(auto)]
 
+pub mod laws;
 mod listed;
 mod listing;
 mod output;

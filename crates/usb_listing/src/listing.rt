@@ -11,7 +11,7 @@ use crate::page::Page;
 use crate::string_listing::list_strings;
 use std::alloc::{AllocError, Global};
 use std::io::Write;
-use usb_fields::{DeviceDescriptor, Qualifier};
+use usb_fields::{DEVICE_WIDTHS, DeviceDescriptor, QUALIFIER_WIDTHS, Qualifier};
 use usb_file_data::{DescriptorFile, Other};
 
 /// Writes the listing of the file: a line for each descriptor, in the order of the file. A file that has
@@ -62,35 +62,16 @@ fn list_other<W: Write>(page: &mut Page, other: &Option<Other>, w: &mut W) -> Re
     }
 }
 
+#[tactic(auto, unfolding(crate::specs::Listing::device_line))]
 fn put_device(page: &mut Page, d: &DeviceDescriptor) -> Result<(), AllocError>
     ensures { OnOk result (page.new ≡ page.old ++ device_line d.now) }
 {
-    page.put_word("device")?;
-    page.put_number(d.usb)?;
-    page.put_byte(d.class)?;
-    page.put_byte(d.subclass)?;
-    page.put_byte(d.protocol)?;
-    page.put_byte(d.packet)?;
-    page.put_number(d.vendor)?;
-    page.put_number(d.product)?;
-    page.put_number(d.release)?;
-    page.put_byte(d.maker_text)?;
-    page.put_byte(d.product_text)?;
-    page.put_byte(d.serial_text)?;
-    page.put_byte(d.configurations)?;
-    page.end_line()
+    page.put_line("device", &DEVICE_WIDTHS, &d.to_bytes()[2..])
 }
 
+#[tactic(auto, unfolding(crate::specs::Listing::qualifier_line))]
 fn put_qualifier(page: &mut Page, q: &Qualifier) -> Result<(), AllocError>
     ensures { OnOk result (page.new ≡ page.old ++ qualifier_line q.now) }
 {
-    page.put_word("qualifier")?;
-    page.put_number(q.usb)?;
-    page.put_byte(q.class)?;
-    page.put_byte(q.subclass)?;
-    page.put_byte(q.protocol)?;
-    page.put_byte(q.packet)?;
-    page.put_byte(q.configurations)?;
-    page.put_byte(q.reserved)?;
-    page.end_line()
+    page.put_line("qualifier", &QUALIFIER_WIDTHS, &q.to_bytes()[2..])
 }

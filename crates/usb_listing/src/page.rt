@@ -1,7 +1,9 @@
 //! Lines on their way to a writer, some thirty kilobytes at a time.
-ghost use Rattle.std.specs.Prelude.{◌≡◌, ◌+◌, ◌*◌, [], ◌∷◌, ◌++◌, codes, IfErr, IfOk, IfSome, OnErr, OnOk};
+ghost use Rattle.std.specs.Prelude.{◌≡◌, ◌+◌, ◌*◌, [], ◌∷◌, ◌++◌, codes, false, IfErr, IfOk, IfSome, OnErr, OnOk};
 ghost use Rattle.hex.specs.Hex.{encode_lower};
-ghost use Rattle.usb_listing.specs.Lines.{written_field, one_byte, two_bytes};
+ghost use Rattle.std.specs.List.{flat_map};
+ghost use Rattle.usb_base.specs.Widths.{cells};
+ghost use Rattle.usb_listing.specs.Lines.{two_bytes, written_field, written_line};
 ghost use Rattle.usb_listing.specs.StringListing.{is_plain, written_unit};
 ghost use Rattle.std.specs.Io.KnownBytes.{Appends};
 ghost use Rattle.usb_listing.specs.Output.{AppendsLess};
@@ -11,6 +13,7 @@ use crate::output::{OutFault, write_all};
 use std::alloc::{AllocError, Global};
 use std::io::Write;
 use std::marker::Model;
+use usb_base::Width;
 
 /// How many bytes a page has room for at first.
 const ROOM: usize = FULL + 2048;
@@ -51,13 +54,77 @@ impl Page {
         self.bytes.extend_from_slice(word.as_bytes())
     }
 
+    /// Puts a line: its word, and the fields of these widths that the bytes are.
+    #[inline(always)]
+    pub(crate) fn put_line(
+        &mut self,
+        word: &str,
+        widths: &[Width],
+        bytes: &[u8],
+    ) -> Result<(), AllocError>
+        ensures { OnOk result (self.new ≡ self.old ++ written_line word.now (cells widths.now false bytes.now)) }
+    {
+        self.put_word(word)?;
+        self.put_fields(widths, bytes)?;
+        self.end_line()
+    }
+
+    /// Puts a line with a tail: its word, the fields of these widths that the bytes are, and the bytes after them.
+    #[inline(always)]
+    pub(crate) fn put_line_with_tail(
+        &mut self,
+        word: &str,
+        widths: &[Width],
+        bytes: &[u8],
+        tail: &[u8],
+    ) -> Result<(), AllocError>
+        ensures { OnOk result (self.new ≡ self.old ++ written_line word.now (cells widths.now false bytes.now ++ tail.now ∷ [])) }
+    {
+        self.put_word(word)?;
+        self.put_fields(widths, bytes)?;
+        self.put_bytes(tail)?;
+        self.end_line()
+    }
+
+    /// Puts the fields of these widths that the bytes are, the high byte first.
+    #[inline(always)]
+    fn put_fields(&mut self, widths: &[Width], bytes: &[u8]) -> Result<(), AllocError>
+        ensures { OnOk result (self.new ≡ self.old ++ flat_map written_field (cells widths.now false bytes.now)) }
+    {
+        let mut rest = bytes;
+        for width in widths {
+            rest = match (*width, rest) {
+                (Width::One, [byte, more @ ..]) => {
+                    self.put_byte(*byte)?;
+                    more
+                }
+                (Width::Two, [low, high, more @ ..]) => {
+                    self.put_pair(*high, *low)?;
+                    more
+                }
+                _ => return Ok(()),
+            };
+        }
+        Ok(())
+    }
+
     /// Puts a field of one byte.
-    pub(crate) fn put_byte(&mut self, value: u8) -> Result<(), AllocError>
-        ensures { OnOk result (self.new ≡ self.old ++ written_field (one_byte value)) }
+    fn put_byte(&mut self, value: u8) -> Result<(), AllocError>
+        ensures { OnOk result (self.new ≡ self.old ++ written_field (value ∷ [])) }
     {
         let mut field = [b' ', 0, 0];
         // Two digits are room for one byte.
         let _ = hex::encode_to_slice([value], &mut field[1..]);
+        self.bytes.extend_from_slice(&field)
+    }
+
+    /// Puts a field of two bytes.
+    fn put_pair(&mut self, high: u8, low: u8) -> Result<(), AllocError>
+        ensures { OnOk result (self.new ≡ self.old ++ written_field (high ∷ low ∷ [])) }
+    {
+        let mut field = [b' ', 0, 0, 0, 0];
+        // Four digits are room for two bytes.
+        let _ = hex::encode_to_slice([high, low], &mut field[1..]);
         self.bytes.extend_from_slice(&field)
     }
 
@@ -78,14 +145,12 @@ impl Page {
         Ok(())
     }
 
-    /// Puts a field of two bytes, the high one first.
+    /// Puts a number of two bytes.
     pub(crate) fn put_number(&mut self, value: u16) -> Result<(), AllocError>
         ensures { OnOk result (self.new ≡ self.old ++ written_field (two_bytes value)) }
     {
-        let mut field = [b' ', 0, 0, 0, 0];
-        // Four digits are room for two bytes.
-        let _ = hex::encode_to_slice(value.to_be_bytes(), &mut field[1..]);
-        self.bytes.extend_from_slice(&field)
+        let [high, low] = value.to_be_bytes();
+        self.put_pair(high, low)
     }
 
     /// Puts a unit of a string: its character, or a backslash and four digits.

@@ -11,7 +11,14 @@ use crate::output::OutFault;
 use crate::page::Page;
 use std::alloc::{AllocError, Global};
 use std::io::Write;
-use usb_set::{Association, Configuration, Endpoint, Extra, Raw, SetKind, Setting};
+use usb_base::Width;
+use usb_set::{
+    ASSOCIATION_WIDTHS, Association, CONFIGURATION_WIDTHS, Configuration, ENDPOINT_WIDTHS,
+    Endpoint, Extra, INTERFACE_WIDTHS, Raw, SetKind, Setting,
+};
+
+/// The widths of the fields that the line of a raw descriptor has before its body: bDescriptorType.
+const RAW_WIDTHS: [Width; 1] = [Width::One];
 
 /// Writes the listing of the set: a line for each descriptor, in the order of its bytes.
 ///
@@ -98,17 +105,12 @@ fn put_extra(page: &mut Page, extra: &Extra) -> Result<(), AllocError>
     }
 }
 
+#[tactic(auto, unfolding(crate::specs::SetListing::configuration_line))]
 fn put_configuration(page: &mut Page, c: &Configuration) -> Result<(), AllocError>
     ensures { OnOk result (page.new ≡ page.old ++ configuration_line c.now) }
 {
-    page.put_word(set_word(c.kind))?;
-    page.put_byte(c.declared_interfaces)?;
-    page.put_byte(c.value)?;
-    page.put_byte(c.text)?;
-    page.put_byte(c.attributes)?;
-    page.put_byte(c.power)?;
-    page.put_bytes(&c.tail)?;
-    page.end_line()
+    let word = set_word(c.kind);
+    page.put_line_with_tail(word, &CONFIGURATION_WIDTHS, &c.field_bytes(), &c.tail)
 }
 
 fn set_word(kind: SetKind) -> &'static str
@@ -120,52 +122,35 @@ fn set_word(kind: SetKind) -> &'static str
     }
 }
 
+#[tactic(auto, unfolding(crate::specs::SetListing::interface_line))]
 fn put_interface(page: &mut Page, s: &Setting) -> Result<(), AllocError>
     ensures { OnOk result (page.new ≡ page.old ++ interface_line s.now) }
 {
-    page.put_word("interface")?;
-    page.put_byte(s.number)?;
-    page.put_byte(s.alternate)?;
-    page.put_byte(s.declared_endpoints)?;
-    page.put_byte(s.class)?;
-    page.put_byte(s.subclass)?;
-    page.put_byte(s.protocol)?;
-    page.put_byte(s.text)?;
-    page.put_bytes(&s.tail)?;
-    page.end_line()
+    page.put_line_with_tail("interface", &INTERFACE_WIDTHS, &s.field_bytes(), &s.tail)
 }
 
+#[tactic(auto, unfolding(crate::specs::SetListing::endpoint_line))]
 fn put_endpoint(page: &mut Page, e: &Endpoint) -> Result<(), AllocError>
     ensures { OnOk result (page.new ≡ page.old ++ endpoint_line e.now) }
 {
-    page.put_word("endpoint")?;
-    page.put_byte(e.address)?;
-    page.put_byte(e.attributes)?;
-    page.put_number(e.max_packet)?;
-    page.put_byte(e.interval)?;
-    page.put_bytes(&e.tail)?;
-    page.end_line()
+    page.put_line_with_tail("endpoint", &ENDPOINT_WIDTHS, &e.field_bytes(), &e.tail)
 }
 
+#[tactic(auto, unfolding(crate::specs::SetListing::raw_line))]
 fn put_raw(page: &mut Page, raw: &Raw) -> Result<(), AllocError>
     ensures { OnOk result (page.new ≡ page.old ++ raw_line raw.now) }
 {
-    page.put_word("raw")?;
-    page.put_byte(raw.kind)?;
-    page.put_bytes(&raw.body)?;
-    page.end_line()
+    page.put_line_with_tail("raw", &RAW_WIDTHS, &[raw.kind], &raw.body)
 }
 
+#[tactic(auto, unfolding(crate::specs::SetListing::association_line))]
 fn put_association(page: &mut Page, a: &Association) -> Result<(), AllocError>
     ensures { OnOk result (page.new ≡ page.old ++ association_line a.now) }
 {
-    page.put_word("association")?;
-    page.put_byte(a.first)?;
-    page.put_byte(a.count)?;
-    page.put_byte(a.class)?;
-    page.put_byte(a.subclass)?;
-    page.put_byte(a.protocol)?;
-    page.put_byte(a.text)?;
-    page.put_bytes(&a.tail)?;
-    page.end_line()
+    page.put_line_with_tail(
+        "association",
+        &ASSOCIATION_WIDTHS,
+        &a.field_bytes(),
+        &a.tail,
+    )
 }

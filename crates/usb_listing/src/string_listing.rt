@@ -48,8 +48,7 @@ fn put_string(page: &mut Page, units: &[u16]) -> Result<(), AllocError>
 {
     page.put_word("string \"")?;
     put_units(page, units)?;
-    page.put_word("\"")?;
-    page.end_line()
+    page.put_word("\"\n")
 }
 
 fn put_units(page: &mut Page, units: &[u16]) -> Result<(), AllocError>

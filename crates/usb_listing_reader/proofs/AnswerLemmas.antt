@@ -11,10 +11,12 @@ use Rattle.usb_listing_lines.proofs.PrintableLemmas.{line_of, line_of-printable,
 use Rattle.usb_listing_lines.proofs.SaysLemmas.{read_is_said, said_is_read, said_word, word_again, word_read}
 use Rattle.usb_listing_reader.specs.declared.fault.ListWhy.{ListWhy}
 use Rattle.usb_listing_reader.specs.declared.fault.ListWhy.TheVariants as whys
-use Rattle.usb_listing_reader.specs.Order.{file_and, file_items, may_stand, work_length}
+use Rattle.usb_listing_reader.specs.Order.{file_items, length_with, may_stand, set_in_work}
+use Rattle.usb_listing_reader.specs.inside.Growing.{file_and, work_length}
 use Rattle.usb_listing_reader.specs.Listings.{Begins, FirstLine, IsBegun, ListFaulty, Lists, NoLineGoesOn, RestFaulty, is_whole, items_of, lines_of}
 use Rattle.usb_listing_reader.specs.inside.Walking.{Walk, add, add_line, after_line, answer_of, fault_behind, file_end, going, stopped, walk, walk_byte, walk_end}
 use Rattle.usb_listing_reader.proofs.FileLemmas.{file_front, file_whole}
+use Rattle.usb_listing_reader.proofs.LengthLemmas.{with_over, work_is}
 use Rattle.usb_listing_reader.proofs.LessLemmas.{LastLine, front_less}
 use Rattle.usb_listing_reader.proofs.ReadingLemmas.{lines_more}
 use Rattle.usb_listing_reader.proofs.StepLemmas.{no_place, no_word, placed}
@@ -107,8 +109,12 @@ no_item_in : (line : List ℕ) → ((item : Item) → Says line item → ⊥) �
 no_item_in line none None e = refl
 no_item_in line none (Some item) e = absurd (none item (read_is_said line item e))
 
-too_long : (f : DescriptorFile) (item : Item) → 65535 < work_length (file_and item f) → add (Some f) item ≡ Err whys.TooLong
-too_long f item over = ap (λ (b : Bool). cond b (Err whys.TooLong) (Ok (file_and item f))) (lt-ltb _ _ over)
+too_long : (f : DescriptorFile) (line : List ℕ) (item : Item) → Says line item → may_stand (Some f) (item_word item) ≡ true → 65535 < length_with item (set_in_work f.sets f.other f.strings)
+    → add (Some f) item ≡ Err whys.TooLong
+too_long f line item says may over =
+    let same = work_is f item says.is_item.alone may in
+    let more = with_over item (set_in_work f.sets f.other f.strings) over in
+    ap (λ (b : Bool). cond b (Err whys.TooLong) (Ok (file_and item f))) (lt-ltb 65535 (work_length (file_and item f)) (omega (arith, same, more)))
 
 end_missing : (s : Option DescriptorFile) (n : ℕ) → is_whole s ≡ false → file_end s n ≡ Err (fault_behind n whys.Missing)
 end_missing None n e = refl
@@ -124,7 +130,8 @@ fault_told s n rest whys.Place (line, more, w, first, word, may) =
 fault_told s n rest whys.Field (line, more, w, first, word, may, none) =
     stops s n rest line more whys.Field first (placed s line w None (ap word_in word ∙ word_again w) may (no_item_in line none (item_of_line line) refl))
 fault_told s n rest whys.TooLong (line, more, item, f, first, is, says, may, over) =
-    stops s n rest line more whys.TooLong first (said_made s line item says may ∙ ap (λ (z : Option DescriptorFile). add z item) is ∙ too_long f item over)
+    stops s n rest line more whys.TooLong first (said_made s line item says may ∙ ap (λ (z : Option DescriptorFile). add z item) is
+    ∙ too_long f line item says (ap (λ (z : Option DescriptorFile). may_stand z (item_word item)) (sym is) ∙ may) over)
 fault_told s n rest whys.Missing (none, due) = ap (λ (xs : List ℕ). walk_end (walk (going s n []) xs)) none ∙ end_missing s n due
 fault_told s n rest whys.Memory h = absurd h
 

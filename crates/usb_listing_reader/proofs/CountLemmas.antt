@@ -14,7 +14,8 @@ use Rattle.usb_listing_lines.specs.declared.item.Item.TheVariants as items
 use Rattle.usb_listing_lines.specs.Item.{IsItem, item_word, set_word}
 use Rattle.usb_listing_reader.specs.declared.draft.Draft.{Draft}
 use Rattle.usb_listing_reader.specs.declared.fault.ListWhy.TheVariants as whys
-use Rattle.usb_listing_reader.specs.Order.{file_and, may_follow, work_length}
+use Rattle.usb_listing_reader.specs.Order.{may_follow}
+use Rattle.usb_listing_reader.specs.inside.Growing.{file_and, work_length}
 use Rattle.usb_listing_reader.specs.inside.Walking.{add}
 use Rattle.usb_listing_reader.specs.inside.Drafts.{Counted, strings_total, total_with, work_with}
 use Rattle.usb_listing_reader.proofs.FrontLemmas.{made}

@@ -1,6 +1,5 @@
 -- On what is kept beside a file so far.
-use Rattle.std.proofs.Common.{◌≡◌, ℕ, zero, suc, ◌-◌, ◌*◌, ◌<◌, ◌==◌, ◌&&◌, not, ltb, true, List, [], ◌∷◌, Option, Some, None, is_some, length, get_or, refl, ap, subst, ◌∙◌, arith}
-use Rattle.std.proofs.Math.ListN.{set}
+use Rattle.std.proofs.Common.{◌≡◌, ℕ, zero, suc, ◌-◌, ◌*◌, ◌<◌, ◌==◌, ◌&&◌, not, ltb, true, List, [], ◌∷◌, Option, Some, None, is_some, length, get_or, refl, subst, ◌∙◌, arith}
 use Rattle.std.proofs.Math.Dec.{eqb-suc-zero}
 use Rattle.usb_file_data.specs.declared.file.DescriptorFile.{DescriptorFile}
 use Rattle.usb_file_data.specs.declared.file.Other.{Other}
@@ -11,7 +10,7 @@ use Rattle.usb_listing_lines.specs.declared.item.Item.{Item}
 use Rattle.usb_listing_lines.specs.declared.item.Item.TheVariants as items
 use Rattle.usb_listing_lines.specs.declared.word.Word.{Word}
 use Rattle.usb_listing_lines.specs.declared.word.Word.TheVariants as words
-use Rattle.usb_listing_reader.specs.Order.{has_interface, last_of, may_follow, set_in_work, with_last}
+use Rattle.usb_listing_reader.specs.Order.{has_interface, last_of, may_follow, set_in_work}
 use Rattle.usb_listing_reader.specs.inside.Drafts.{has_room, is_string}
 
 -- only strings follow the languages
@@ -59,19 +58,6 @@ last_from (x ∷ y ∷ xs) (suc i) d e = last_from (y ∷ xs) i d (omega arith)
 
 pub last_at : {A : Type 0} (xs : List A) (d : A) → 0 < length xs → last_of xs ≡ Some (get_or xs (length xs - 1) d)
 last_at xs d lt = last_from xs (length xs - 1) d (omega arith)
-
--- ---- the last element, written
-
-set_end : {A : Type 0} (f : A → A) (d : A) (xs : List A) (i : ℕ) → suc i ≡ length xs → set xs i (f (get_or xs i d)) ≡ with_last f xs
-set_end f d [] i e = absurd cc
-set_end f d (x ∷ []) zero e = refl
-set_end f d (x ∷ []) (suc i) e = absurd (omega arith)
-set_end f d (x ∷ y ∷ ys) zero e = absurd (omega arith)
-set_end f d (x ∷ y ∷ ys) (suc i) e = ap (λ (zs : List _). x ∷ zs) (set_end f d (y ∷ ys) i (omega arith))
-
--- to write at the last index
-pub with_last_is : {A : Type 0} (f : A → A) (d : A) (xs : List A) → 0 < length xs → set xs (length xs - 1) (f (get_or xs (length xs - 1) d)) ≡ with_last f xs
-with_last_is f d xs lt = set_end f d xs (length xs - 1) (omega arith)
 
 -- ---- a descriptor that may follow has its place
 

@@ -18,7 +18,9 @@ use Rattle.usb_file_data.specs.Named.{named_indices, other_sets}
 use Rattle.usb_listing_lines.specs.declared.item.Item.{Item}
 use Rattle.usb_listing_lines.specs.declared.item.Item.TheVariants as items
 use Rattle.usb_listing_lines.specs.Item.{IsItem, StandsAlone, item_word, set_word}
-use Rattle.usb_listing_reader.specs.Order.{setting_items, file_and, file_items, has_interface, last_of, length_of, may_follow, other_items, set_and, set_items, set_with, setting_with, strings_items, with_last, work_length}
+use Rattle.usb_set.specs.inside.Reading.{set_with_extra, setting_with_extra, with_last}
+use Rattle.usb_listing_reader.specs.Order.{setting_items, file_items, has_interface, last_of, length_of, may_follow, other_items, set_items, strings_items}
+use Rattle.usb_listing_reader.specs.inside.Growing.{file_and, set_and, work_length}
 use Rattle.usb_listing_reader.specs.Listings.{IsFront, IsInOrder, StringsFollow, is_over}
 use Rattle.usb_listing_reader.specs.inside.Drafts.{has_room}
 use Rattle.usb_listing_reader.proofs.OrderLemmas.{Joins, map-push, flat_map-push, set_more, some_length}
@@ -97,14 +99,14 @@ in_work (items.Languages us) sets alone inner e = absurd inner
 in_work (items.String us) sets alone inner e = absurd inner
 
 pub kind_kept : (item : Item) (c : Configuration) → (set_and item c).kind ≡ c.kind
-unfolding set_and set_with
+unfolding set_and set_with_extra
 kind_kept (items.Device d) c = refl
 kind_kept (items.Set s) c = refl
 kind_kept (items.Interface s) c = refl
 kind_kept (items.Endpoint e) c = refl
 kind_kept (items.Extra x) c = cases (length c.settings == 0)
   where
-    cases : (b : Bool) → (cond b (record c { extras = c.extras ++ x ∷ [] }) (record c { settings = with_last (setting_with x) c.settings })).kind ≡ c.kind
+    cases : (b : Bool) → (cond b (record c { extras = c.extras ++ x ∷ [] }) (record c { settings = with_last (setting_with_extra x) c.settings })).kind ≡ c.kind
     cases true = refl
     cases false = refl
 kind_kept (items.Qualifier q) c = refl

@@ -1,5 +1,5 @@
 -- How many bytes a set has with one more descriptor.
-use Rattle.std.proofs.Common.{◌≡◌, ℕ, ◌+◌, true, List, [], ◌∷◌, ◌++◌, map, Option, Some, None, length, refl, ap, sym, ◌∙◌, append-nil, length-append, arith}
+use Rattle.std.proofs.Common.{◌≡◌, ℕ, ◌+◌, ◌<◌, ◌≤◌, true, List, [], ◌∷◌, ◌++◌, map, Option, Some, None, length, refl, ap, sym, ◌∙◌, append-nil, length-append, arith}
 use Rattle.std.specs.List.{flat_map}
 use Rattle.usb_fields.specs.declared.device.DeviceDescriptor.{DeviceDescriptor}
 use Rattle.usb_set.specs.Descriptors.{Descriptor, configuration_descriptor, descriptor_bytes, endpoint_descriptor, extra_descriptor, interface_descriptor}
@@ -18,7 +18,9 @@ use Rattle.usb_file_data.specs.declared.file.Strings.{Strings}
 use Rattle.usb_listing_lines.specs.declared.item.Item.{Item}
 use Rattle.usb_listing_lines.specs.declared.item.Item.TheVariants as items
 use Rattle.usb_listing_lines.specs.Item.{StandsAlone, item_word, set_word}
-use Rattle.usb_listing_reader.specs.Order.{endpoint_items, file_and, last_of, length_of, may_follow, set_and, set_items, setting_items, with_last, work_length}
+use Rattle.usb_set.specs.inside.Reading.{with_last}
+use Rattle.usb_listing_reader.specs.Order.{endpoint_items, last_of, length_of, length_with, may_follow, set_items, setting_items}
+use Rattle.usb_listing_reader.specs.inside.Growing.{file_and, set_and, work_length}
 use Rattle.usb_listing_reader.specs.inside.Drafts.{extra_length, work_with}
 use Rattle.usb_listing_reader.proofs.OrderLemmas.{Joins, flat_map-push, set_more}
 use Rattle.usb_listing_reader.proofs.FrontLemmas.{InWork, IsInner, in_work, last_of-with_last, last_push, made}
@@ -148,3 +150,27 @@ work_parts d ss (Some o) (Some s) (items.String us) alone may = refl
 
 pub work_is : (f : DescriptorFile) (item : Item) → StandsAlone item → may_follow f f.other f.strings (item_word item) ≡ true → work_length (file_and item f) ≡ work_with (work_length f) item
 work_is f item alone may = work_parts f.device f.sets f.other f.strings item alone may
+
+-- ---- the set that a descriptor belongs to
+
+pub over_with : (item : Item) (work : Option Configuration) → length_of work ≤ 65535 → 65535 < work_with (length_of work) item → 65535 < length_with item work
+unfolding work_with
+over_with (items.Device d) work few over = absurd (omega (arith, few, over))
+over_with (items.Set c) work few over = omega (arith, over)
+over_with (items.Interface s) work few over = omega (arith, over)
+over_with (items.Endpoint e) work few over = omega (arith, over)
+over_with (items.Extra x) work few over = let n = extra_counts x in omega (arith, over, n)
+over_with (items.Qualifier q) work few over = absurd (omega (arith, over))
+over_with (items.Languages us) work few over = absurd (omega (arith, over))
+over_with (items.String us) work few over = absurd (omega (arith, few, over))
+
+pub with_over : (item : Item) (work : Option Configuration) → 65535 < length_with item work → 65535 < work_with (length_of work) item
+unfolding work_with
+with_over (items.Device d) work over = absurd (omega (arith, over))
+with_over (items.Set c) work over = omega (arith, over)
+with_over (items.Interface s) work over = omega (arith, over)
+with_over (items.Endpoint e) work over = omega (arith, over)
+with_over (items.Extra x) work over = let n = extra_counts x in omega (arith, over, n)
+with_over (items.Qualifier q) work over = absurd (omega (arith, over))
+with_over (items.Languages us) work over = absurd (omega (arith, over))
+with_over (items.String us) work over = absurd (omega (arith, over))

@@ -24,7 +24,9 @@ use Rattle.usb_listing_lines.specs.declared.item.Item.{Item}
 use Rattle.usb_listing_lines.specs.declared.item.Item.TheVariants as items
 use Rattle.usb_listing_lines.specs.Item.{IsItem, item_word, set_word}
 use Rattle.usb_listing_reader.specs.declared.fault.ListWhy.TheVariants as whys
-use Rattle.usb_listing_reader.specs.Order.{endpoint_with, file_and, file_items, has_interface, last_of, length_of, may_follow, may_stand, other_items, set_and, set_items, set_with, setting_items, setting_with, setting_with_endpoint, strings_items, with_last, work_length}
+use Rattle.usb_set.specs.inside.Reading.{endpoint_with_extra, set_with_extra, setting_with_endpoint, setting_with_extra, with_last}
+use Rattle.usb_listing_reader.specs.Order.{file_items, has_interface, last_of, length_of, may_follow, may_stand, other_items, set_items, setting_items, strings_items}
+use Rattle.usb_listing_reader.specs.inside.Growing.{file_and, set_and, work_length}
 use Rattle.usb_listing_reader.specs.Listings.{IsBegun, IsFront, IsInOrder, StringsFollow, is_over, items_of}
 use Rattle.usb_listing_reader.specs.inside.Walking.{add}
 use Rattle.usb_listing_reader.proofs.OrderLemmas.{Joins, flat_map-push, set_more}
@@ -68,28 +70,28 @@ length_some (x ∷ xs) some = eqb-suc-zero (length xs)
 
 data SettingLess (s : Setting) : Type 0 where
   lone_setting : s.extras ≡ [] → s.endpoints ≡ [] → SettingLess s
-  less_extra : (before : Setting) (x : Extra) → setting_with x before ≡ s → SettingLess s
+  less_extra : (before : Setting) (x : Extra) → setting_with_extra x before ≡ s → SettingLess s
   less_endpoint : (before : Setting) (e : Endpoint) → e.extras ≡ [] → setting_with_endpoint e before ≡ s → SettingLess s
 
 setting_less : (s : Setting) → SettingLess s
-unfolding endpoint_with setting_with setting_with_endpoint
+unfolding endpoint_with_extra setting_with_extra setting_with_endpoint
 setting_less s = cases (ends s.endpoints)
   where
     none : s.endpoints ≡ [] → Ends Extra s.extras → SettingLess s
     none ee (empty ex) = lone_setting ex ee
     none ee (pushed xs x ex) =
-        let pick : (b : Bool) → b ≡ true → cond b (record s { extras = xs ++ x ∷ [] }) (record s { extras = xs; endpoints = with_last (endpoint_with x) s.endpoints }) ≡ record s { extras = xs ++ x ∷ [] } = λ b e. rw e refl in
+        let pick : (b : Bool) → b ≡ true → cond b (record s { extras = xs ++ x ∷ [] }) (record s { extras = xs; endpoints = with_last (endpoint_with_extra x) s.endpoints }) ≡ record s { extras = xs ++ x ∷ [] } = λ b e. rw e refl in
         less_extra (record s { extras = xs }) x (pick (length s.endpoints == 0) (ap (λ (es : List Endpoint). length es == 0) ee) ∙ (λ i. record s { extras = sym ex i }))
 
     last : (es : List Endpoint) (e : Endpoint) → s.endpoints ≡ es ++ e ∷ [] → Ends Extra e.extras → SettingLess s
     last es e ee (empty ex) = less_endpoint (record s { endpoints = es }) e ex (λ i. record s { endpoints = sym ee i })
     last es e ee (pushed xs x ex) =
         let e' : Endpoint = record e { extras = xs } in
-        let pick : (b : Bool) → b ≡ false → cond b (record s { extras = s.extras ++ x ∷ []; endpoints = es ++ e' ∷ [] }) (record s { endpoints = with_last (endpoint_with x) (es ++ e' ∷ []) }) ≡ record s { endpoints = with_last (endpoint_with x) (es ++ e' ∷ []) } = λ b z. rw z refl in
-        let is : endpoint_with x e' ≡ e = λ i. record e { extras = sym ex i } in
+        let pick : (b : Bool) → b ≡ false → cond b (record s { extras = s.extras ++ x ∷ []; endpoints = es ++ e' ∷ [] }) (record s { endpoints = with_last (endpoint_with_extra x) (es ++ e' ∷ []) }) ≡ record s { endpoints = with_last (endpoint_with_extra x) (es ++ e' ∷ []) } = λ b z. rw z refl in
+        let is : endpoint_with_extra x e' ≡ e = λ i. record e { extras = sym ex i } in
         less_extra (record s { endpoints = es ++ e' ∷ [] }) x
         (pick (length (es ++ e' ∷ []) == 0) (not_empty es e')
-        ∙ ap (λ (ys : List Endpoint). record s { endpoints = ys }) (with_last-push (endpoint_with x) es e' ∙ ap (λ (z : Endpoint). es ++ z ∷ []) is ∙ sym ee))
+        ∙ ap (λ (ys : List Endpoint). record s { endpoints = ys }) (with_last-push (endpoint_with_extra x) es e' ∙ ap (λ (z : Endpoint). es ++ z ∷ []) is ∙ sym ee))
 
     cases : Ends Endpoint s.endpoints → SettingLess s
     cases (empty ee) = none ee (ends s.extras)
@@ -100,22 +102,22 @@ data SetLess (c : Configuration) : Type 0 where
   less_set : (before : Configuration) (item : Item) → IsInner item → Joins item before → set_and item before ≡ c → SetLess c
 
 set_less : (c : Configuration) → SetLess c
-unfolding set_and set_with
+unfolding set_and set_with_extra
 set_less c = cases (ends c.settings)
   where
     none : c.settings ≡ [] → Ends Extra c.extras → SetLess c
     none es (empty ex) = lone_set ex es
     none es (pushed xs x ex) =
-        let pick : (b : Bool) → b ≡ true → cond b (record c { extras = xs ++ x ∷ [] }) (record c { extras = xs; settings = with_last (setting_with x) c.settings }) ≡ record c { extras = xs ++ x ∷ [] } = λ b e. rw e refl in
+        let pick : (b : Bool) → b ≡ true → cond b (record c { extras = xs ++ x ∷ [] }) (record c { extras = xs; settings = with_last (setting_with_extra x) c.settings }) ≡ record c { extras = xs ++ x ∷ [] } = λ b e. rw e refl in
         less_set (record c { extras = xs }) (items.Extra x) tt tt (pick (length c.settings == 0) (ap (λ (ss : List Setting). length ss == 0) es) ∙ (λ i. record c { extras = sym ex i }))
 
     last : (ss : List Setting) (s : Setting) → c.settings ≡ ss ++ s ∷ [] → SettingLess s → SetLess c
     last ss s es (lone_setting ex ee) = less_set (record c { settings = ss }) (items.Interface s) tt (ex, ee) (λ i. record c { settings = sym es i })
     last ss s es (less_extra s' x is) =
-        let pick : (b : Bool) → b ≡ false → cond b (record c { extras = c.extras ++ x ∷ []; settings = ss ++ s' ∷ [] }) (record c { settings = with_last (setting_with x) (ss ++ s' ∷ []) }) ≡ record c { settings = with_last (setting_with x) (ss ++ s' ∷ []) } = λ b z. rw z refl in
+        let pick : (b : Bool) → b ≡ false → cond b (record c { extras = c.extras ++ x ∷ []; settings = ss ++ s' ∷ [] }) (record c { settings = with_last (setting_with_extra x) (ss ++ s' ∷ []) }) ≡ record c { settings = with_last (setting_with_extra x) (ss ++ s' ∷ []) } = λ b z. rw z refl in
         less_set (record c { settings = ss ++ s' ∷ [] }) (items.Extra x) tt tt
         (pick (length (ss ++ s' ∷ []) == 0) (not_empty ss s')
-        ∙ ap (λ (ys : List Setting). record c { settings = ys }) (with_last-push (setting_with x) ss s' ∙ ap (λ (z : Setting). ss ++ z ∷ []) is ∙ sym es))
+        ∙ ap (λ (ys : List Setting). record c { settings = ys }) (with_last-push (setting_with_extra x) ss s' ∙ ap (λ (z : Setting). ss ++ z ∷ []) is ∙ sym es))
     last ss s es (less_endpoint s' e alone is) =
         less_set (record c { settings = ss ++ s' ∷ [] }) (items.Endpoint e) tt (alone, some_push ss s')
         (ap (λ (ys : List Setting). record c { settings = ys }) (with_last-push (setting_with_endpoint e) ss s' ∙ ap (λ (z : Setting). ss ++ z ∷ []) is ∙ sym es))
@@ -214,7 +216,7 @@ short_parts d ss (Some o) None e = short_sets o.sets (or_parts (list_any is_over
 short_parts d ss None (Some s) e = omega arith
 short_parts d ss (Some o) (Some s) e = omega arith
 
-short_work : (f : DescriptorFile) → IsFront f → work_length f ≤ 65535
+pub short_work : (f : DescriptorFile) → IsFront f → work_length f ≤ 65535
 short_work f front = short_parts f.device f.sets f.other f.strings front.short
 
 -- the last line, and the file so far before it

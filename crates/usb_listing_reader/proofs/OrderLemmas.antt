@@ -9,7 +9,9 @@ use Rattle.usb_set.specs.declared.tree.Setting.{Setting}
 use Rattle.usb_set.specs.declared.tree.Configuration.{Configuration}
 use Rattle.usb_listing_lines.specs.declared.item.Item.{Item}
 use Rattle.usb_listing_lines.specs.declared.item.Item.TheVariants as items
-use Rattle.usb_listing_reader.specs.Order.{endpoint_items, endpoint_with, set_and, set_items, set_with, setting_items, setting_with, setting_with_endpoint, with_last}
+use Rattle.usb_set.specs.inside.Reading.{endpoint_with_extra, set_with_extra, setting_with_endpoint, setting_with_extra, with_last}
+use Rattle.usb_listing_reader.specs.Order.{endpoint_items, set_items, setting_items}
+use Rattle.usb_listing_reader.specs.inside.Growing.{set_and}
 
 pub map-push : {A B : Type 0} (f : A → B) (xs : List A) (x : A) → map f (xs ++ x ∷ []) ≡ map f xs ++ f x ∷ []
 map-push f [] x = refl
@@ -36,8 +38,8 @@ some_length (x ∷ xs) e = λ z. cc
 
 -- ---- an endpoint, a setting, a set with one more
 
-endpoint_more : (x : Extra) (e : Endpoint) → endpoint_items (endpoint_with x e) ≡ endpoint_items e ++ items.Extra x ∷ []
-unfolding endpoint_with
+endpoint_more : (x : Extra) (e : Endpoint) → endpoint_items (endpoint_with_extra x e) ≡ endpoint_items e ++ items.Extra x ∷ []
+unfolding endpoint_with_extra
 endpoint_more x e = ap (λ (ys : List Item). items.Endpoint (record e { extras = [] }) ∷ ys) (map-push items.Extra e.extras x)
 
 -- behind extras, where nothing follows them
@@ -46,17 +48,17 @@ extras_more : (head : Item) (extras : List Extra) (x : Extra) (rest : List Item)
 extras_more head extras x rest e =
     rw (e, map-push items.Extra extras x) (append-nil (head ∷ (map items.Extra extras ++ items.Extra x ∷ [])) ∙ ap (λ (ys : List Item). ys ++ items.Extra x ∷ []) (sym (append-nil (head ∷ map items.Extra extras))))
 
-setting_more : (x : Extra) (s : Setting) → setting_items (setting_with x s) ≡ setting_items s ++ items.Extra x ∷ []
-unfolding setting_with
+setting_more : (x : Extra) (s : Setting) → setting_items (setting_with_extra x s) ≡ setting_items s ++ items.Extra x ∷ []
+unfolding setting_with_extra
 setting_more x s = cases (length s.endpoints == 0) refl
   where
     cases : (b : Bool) → (length s.endpoints == 0) ≡ b
-        → setting_items (cond b (record s { extras = s.extras ++ x ∷ [] }) (record s { endpoints = with_last (endpoint_with x) s.endpoints })) ≡ setting_items s ++ items.Extra x ∷ []
+        → setting_items (cond b (record s { extras = s.extras ++ x ∷ [] }) (record s { endpoints = with_last (endpoint_with_extra x) s.endpoints })) ≡ setting_items s ++ items.Extra x ∷ []
     cases true e =
         extras_more (items.Interface (record s { extras = []; endpoints = [] })) s.extras x (flat_map endpoint_items s.endpoints) (ap (flat_map endpoint_items) (no_length s.endpoints e))
     cases false e =
         let front = items.Interface (record s { extras = []; endpoints = [] }) ∷ map items.Extra s.extras in
-        ap (λ (ys : List Item). front ++ ys) (last_more endpoint_items (endpoint_with x) (items.Extra x ∷ []) (endpoint_more x) s.endpoints (some_length s.endpoints e))
+        ap (λ (ys : List Item). front ++ ys) (last_more endpoint_items (endpoint_with_extra x) (items.Extra x ∷ []) (endpoint_more x) s.endpoints (some_length s.endpoints e))
         ∙ sym (append_assoc front (flat_map endpoint_items s.endpoints) (items.Extra x ∷ []))
 
 setting_endpoint_more : (e : Endpoint) → e.extras ≡ [] → (s : Setting) → setting_items (setting_with_endpoint e s) ≡ setting_items s ++ items.Endpoint e ∷ []
@@ -67,17 +69,17 @@ setting_endpoint_more e alone s =
     ap (λ (ys : List Item). front ++ ys) (flat_map-push endpoint_items s.endpoints e ∙ ap (λ (ys : List Item). flat_map endpoint_items s.endpoints ++ ys) one)
     ∙ sym (append_assoc front (flat_map endpoint_items s.endpoints) (items.Endpoint e ∷ []))
 
-set_extra_more : (x : Extra) (c : Configuration) → set_items (set_with x c) ≡ set_items c ++ items.Extra x ∷ []
-unfolding set_with
+set_extra_more : (x : Extra) (c : Configuration) → set_items (set_with_extra x c) ≡ set_items c ++ items.Extra x ∷ []
+unfolding set_with_extra
 set_extra_more x c = cases (length c.settings == 0) refl
   where
     cases : (b : Bool) → (length c.settings == 0) ≡ b
-        → set_items (cond b (record c { extras = c.extras ++ x ∷ [] }) (record c { settings = with_last (setting_with x) c.settings })) ≡ set_items c ++ items.Extra x ∷ []
+        → set_items (cond b (record c { extras = c.extras ++ x ∷ [] }) (record c { settings = with_last (setting_with_extra x) c.settings })) ≡ set_items c ++ items.Extra x ∷ []
     cases true e =
         extras_more (items.Set (record c { extras = []; settings = [] })) c.extras x (flat_map setting_items c.settings) (ap (flat_map setting_items) (no_length c.settings e))
     cases false e =
         let front = items.Set (record c { extras = []; settings = [] }) ∷ map items.Extra c.extras in
-        ap (λ (ys : List Item). front ++ ys) (last_more setting_items (setting_with x) (items.Extra x ∷ []) (setting_more x) c.settings (some_length c.settings e))
+        ap (λ (ys : List Item). front ++ ys) (last_more setting_items (setting_with_extra x) (items.Extra x ∷ []) (setting_more x) c.settings (some_length c.settings e))
         ∙ sym (append_assoc front (flat_map setting_items c.settings) (items.Extra x ∷ []))
 
 -- a descriptor that belongs into a set, at its end

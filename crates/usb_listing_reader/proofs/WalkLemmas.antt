@@ -1,5 +1,5 @@
 -- A listing read byte by byte: what is so of the bytes so far.
-use Rattle.std.proofs.Common.{◌≡◌, ◌≢◌, ℕ, ◌&&◌, ltb, Bool, true, false, cond, List, [], ◌∷◌, ◌++◌, Option, Some, None, unwrap_or, Result, Ok, Err, refl, ap, sym, ◌∙◌, append_assoc, append-nil}
+use Rattle.std.proofs.Common.{◌≡◌, ◌≢◌, ℕ, ◌&&◌, ltb, Bool, true, false, cond, List, [], ◌∷◌, ◌++◌, Option, Some, None, unwrap_or, Result, Ok, Err, refl, ap, sym, ◌∙◌, append_assoc, append-nil, arith}
 use Rattle.std.specs.List.{list_all}
 use Rattle.std.proofs.lemmas.Bool.{ltb-false, ltb-true}
 use Rattle.usb_set.specs.declared.tree.SetKind.{SetKind}
@@ -15,10 +15,13 @@ use Rattle.usb_listing_lines.specs.inside.Items.{item_of_line}
 use Rattle.usb_listing_lines.proofs.SaysLemmas.{read_is_said, said_is_read, said_word, word_again, word_read}
 use Rattle.usb_listing_reader.specs.declared.fault.ListWhy.{ListWhy}
 use Rattle.usb_listing_reader.specs.declared.fault.ListWhy.TheVariants as whys
-use Rattle.usb_listing_reader.specs.Order.{file_and, file_items, may_stand, work_length}
+use Rattle.usb_listing_reader.specs.Order.{file_items, may_stand, set_in_work}
+use Rattle.usb_listing_reader.specs.inside.Growing.{file_and, work_length}
 use Rattle.usb_listing_reader.specs.Listings.{FirstLine, IsBegun, IsFront, RestFaulty, items_of}
 use Rattle.usb_listing_reader.specs.inside.Walking.{Walk, add, add_item, add_line, add_word, after_line, going, stopped, walk, walk_byte}
 use Rattle.usb_listing_reader.proofs.FrontLemmas.{front_first, front_more}
+use Rattle.usb_listing_reader.proofs.LengthLemmas.{over_with, work_is}
+use Rattle.usb_listing_reader.proofs.LessLemmas.{short_work}
 
 abbrev pub Printable : List ℕ → Type 0
 Printable line = list_all is_printable line ≡ true
@@ -107,7 +110,10 @@ makes_next : (f : DescriptorFile) (line : List ℕ) (item : Item) → IsFront f 
 makes_next f line item front print says may = cases (ltb 65535 (work_length (file_and item f))) refl
   where
     cases : (b : Bool) → ltb 65535 (work_length (file_and item f)) ≡ b → Makes (Some f) line (cond b (Err whys.TooLong) (Ok (file_and item f)))
-    cases true e = (line, [], item, f, whole line print, refl, says, may, ltb-true _ _ e)
+    cases true e =
+        let over = ltb-true 65535 (work_length (file_and item f)) e in
+        let same = work_is f item says.is_item.alone may in
+        (line, [], item, f, whole line print, refl, says, may, over_with item (set_in_work f.sets f.other f.strings) (short_work f front) (omega (arith, over, same)))
     cases false e =
         let m = front_more f item (record { front = front; is_item = says.is_item; may = may; few = ltb-false _ _ e }) in
         (m.is_front, item, m.lines, says)

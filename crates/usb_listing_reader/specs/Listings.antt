@@ -15,7 +15,7 @@ use Rattle.usb_listing_lines.specs.Words.{first_word, is_printable, word_text}
 use Rattle.usb_listing_lines.specs.Item.{IsItem, Says, item_word}
 use Rattle.usb_listing_reader.specs.declared.fault.ListWhy.{ListWhy}
 use Rattle.usb_listing_reader.specs.declared.fault.ListWhy.TheVariants as whys
-use Rattle.usb_listing_reader.specs.Order.{file_and, file_items, may_stand, work_length}
+use Rattle.usb_listing_reader.specs.Order.{file_items, length_with, may_stand, set_in_work}
 
 -- The text is the listing of the file, and the file has bytes.
 pub record Lists (text : List ℕ) (f : DescriptorFile) : Type 0 where
@@ -105,11 +105,11 @@ FieldFaulty so_far rest =
     (line more : List ℕ) × (word : Word) × FirstLine rest line more × (first_word line ≡ word_text word)
     × (may_stand so_far word ≡ true) × ((item : Item) → Says line item → ⊥)
 
--- the first line's descriptor takes the set over 65,535 bytes
+-- with the first line's descriptor the set that it belongs to has over 65,535 bytes
 abbrev pub TooLongFaulty : Option DescriptorFile → List ℕ → Type 0
 TooLongFaulty so_far rest =
     (line more : List ℕ) × (item : Item) × (f : DescriptorFile) × FirstLine rest line more × (so_far ≡ Some f) × Says line item
-    × (may_stand so_far (item_word item) ≡ true) × (65535 < work_length (file_and item f))
+    × (may_stand so_far (item_word item) ≡ true) × (65535 < length_with item (set_in_work f.sets f.other f.strings))
 
 -- the fault of this reason; of Missing, that the text ends and something is still due
 abbrev pub RestFaulty : Option DescriptorFile → List ℕ → ListWhy → Type 0

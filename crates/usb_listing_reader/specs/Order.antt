@@ -1,7 +1,6 @@
--- The order of a listing: which line may follow the lines of a file so far, and the file with one more.
-use Rattle.std.specs.Prelude.{ℕ, ◌*◌, List, [], ◌∷◌, ◌++◌, length, map, Bool, true, false, not, nat_lt, ◌==◌, ◌&&◌, Option, Some, None, is_some, if◌then◌else◌}
+-- The order of a listing: which line may follow the lines of a file so far, and how long its set is then.
+use Rattle.std.specs.Prelude.{ℕ, ◌+◌, ◌*◌, List, [], ◌∷◌, ◌++◌, length, map, Bool, true, false, not, nat_lt, ◌==◌, ◌&&◌, Option, Some, None, is_some}
 use Rattle.std.specs.List.{flat_map}
-use Rattle.usb_set.specs.declared.tree.Extra.{Extra}
 use Rattle.usb_set.specs.declared.tree.Endpoint.{Endpoint}
 use Rattle.usb_set.specs.declared.tree.Setting.{Setting}
 use Rattle.usb_set.specs.declared.tree.Configuration.{Configuration}
@@ -14,6 +13,7 @@ use Rattle.usb_listing_lines.specs.declared.item.Item.{Item}
 use Rattle.usb_listing_lines.specs.declared.item.Item.TheVariants as items
 use Rattle.usb_listing_lines.specs.declared.word.Word.{Word}
 use Rattle.usb_listing_lines.specs.declared.word.Word.TheVariants as words
+use Rattle.usb_listing_lines.specs.Item.{item_bytes}
 
 -- ---- the descriptors of a file, in its order
 
@@ -93,72 +93,18 @@ may_stand None words.Device = true
 may_stand None word = false
 may_stand (Some f) word = may_follow f f.other f.strings word
 
--- ---- the file with one more line
-
--- the list with its last element changed
-abbrev pub with_last : {A : Type 0} → (A → A) → List A → List A
-with_last g [] = []
-with_last g (x ∷ []) = g x ∷ []
-with_last g (x ∷ y ∷ ys) = x ∷ with_last g (y ∷ ys)
-
--- an extra belongs to the nearest endpoint, interface or configuration before it
-unfoldable pub endpoint_with : Extra → Endpoint → Endpoint
-endpoint_with x e = record e { extras = e.extras ++ x ∷ [] }
-
--- the interface with one more extra, its own where it has no endpoint yet
-unfoldable pub setting_with : Extra → Setting → Setting
-setting_with x s =
-    if length s.endpoints == 0 then record s { extras = s.extras ++ x ∷ [] }
-    else record s { endpoints = with_last (endpoint_with x) s.endpoints }
-
--- the set with one more extra, its own where it has no interface yet
-unfoldable pub set_with : Extra → Configuration → Configuration
-set_with x c =
-    if length c.settings == 0 then record c { extras = c.extras ++ x ∷ [] }
-    else record c { settings = with_last (setting_with x) c.settings }
-
--- an endpoint belongs to the nearest interface before it
-unfoldable pub setting_with_endpoint : Endpoint → Setting → Setting
-setting_with_endpoint e s = record s { endpoints = s.endpoints ++ e ∷ [] }
-
--- the set with one more descriptor
-unfoldable pub set_and : Item → Configuration → Configuration
-set_and (items.Interface s) c = record c { settings = c.settings ++ s ∷ [] }
-set_and (items.Endpoint e) c = record c { settings = with_last (setting_with_endpoint e) c.settings }
-set_and (items.Extra x) c = set_with x c
-set_and item c = c
-
--- the file with its set in work changed
-abbrev pub with_work : (Configuration → Configuration) → DescriptorFile → Option Other → DescriptorFile
-with_work g f None = record f { sets = with_last g f.sets }
-with_work g f (Some o) = record f { other = Some (record o { sets = with_last g o.sets }) }
-
--- with one more set
-abbrev pub with_set : Configuration → DescriptorFile → Option Other → DescriptorFile
-with_set c f None = record f { sets = f.sets ++ c ∷ [] }
-with_set c f (Some o) = record f { other = Some (record o { sets = o.sets ++ c ∷ [] }) }
-
--- with one more string
-abbrev pub with_string : List ℕ → DescriptorFile → Option Strings → DescriptorFile
-with_string us f None = f
-with_string us f (Some s) = record f { strings = Some (record s { texts = s.texts ++ us ∷ [] }) }
-
--- the file with one more descriptor
-abbrev pub file_and : Item → DescriptorFile → DescriptorFile
-file_and (items.Device d) f = f
-file_and (items.Set c) f = with_set c f f.other
-file_and (items.Interface s) f = with_work (set_and (items.Interface s)) f f.other
-file_and (items.Endpoint e) f = with_work (set_and (items.Endpoint e)) f f.other
-file_and (items.Extra x) f = with_work (set_and (items.Extra x)) f f.other
-file_and (items.Qualifier q) f = record f { other = Some (record { qualifier = q; sets = [] }) }
-file_and (items.Languages us) f = record f { strings = Some (record { languages = us; texts = [] }) }
-file_and (items.String us) f = with_string us f f.strings
+-- ---- how long a set is with one more line
 
 -- how many bytes a set has, or 0 where there is none
 abbrev pub length_of : Option Configuration → ℕ
 length_of None = 0
 length_of (Some c) = set_length c
 
--- how many bytes the set in work of a file has
-abbrev pub work_length : DescriptorFile → ℕ
-work_length f = length_of (set_in_work f.sets f.other f.strings)
+-- How many bytes the set that the line belongs to has with it. The first descriptor of a set begins another one; an
+-- interface, an endpoint and an extra stand behind the descriptors of the set in work; others belong to none.
+abbrev pub length_with : Item → Option Configuration → ℕ
+length_with (items.Set c) work = length (item_bytes (items.Set c))
+length_with (items.Interface s) work = length_of work + length (item_bytes (items.Interface s))
+length_with (items.Endpoint e) work = length_of work + length (item_bytes (items.Endpoint e))
+length_with (items.Extra x) work = length_of work + length (item_bytes (items.Extra x))
+length_with item work = 0

@@ -1,6 +1,8 @@
 //! A file with one more descriptor.
 ghost use Rattle.std.specs.Prelude.{◌≡◌, OnOk, Some, true};
-ghost use Rattle.usb_listing_reader.specs.Order.{endpoint_with, file_and, has_interface, last_of, may_follow, set_and, set_in_work, set_with, setting_with, setting_with_endpoint, with_last, with_set, with_string, with_work};
+ghost use Rattle.usb_set.specs.inside.Reading.{endpoint_with_extra, set_with_extra, setting_with_endpoint, setting_with_extra, with_last};
+ghost use Rattle.usb_listing_reader.specs.Order.{has_interface, last_of, may_follow, set_in_work};
+ghost use Rattle.usb_listing_reader.specs.inside.Growing.{file_and, set_and, with_set, with_string, with_work};
 ghost use Rattle.usb_listing_lines.specs.Item.{item_word};
 ghost use Rattle.usb_listing_reader.specs.inside.Drafts.{has_room};
 
@@ -9,15 +11,15 @@ use usb_file_data::{DescriptorFile, Other, Strings};
 use usb_listing_lines::{Item, Word};
 use usb_set::{Configuration, Endpoint, Extra, Sequence, Setting};
 
-#[tactic(auto, unfolding(crate::specs::Order::endpoint_with))]
+#[tactic(auto, unfolding(usb_set::specs::inside::Reading::endpoint_with_extra))]
 fn add_to_endpoint(e: &mut Endpoint, extra: Extra) -> Result<(), AllocError>
-    ensures { OnOk result (e.new ≡ endpoint_with extra e.old) }
+    ensures { OnOk result (e.new ≡ endpoint_with_extra extra e.old) }
 {
     e.extras.push(extra)?;
     Ok(())
 }
 
-#[tactic(auto, unfolding(crate::specs::Order::setting_with_endpoint))]
+#[tactic(auto, unfolding(usb_set::specs::inside::Reading::setting_with_endpoint))]
 fn add_endpoint(s: &mut Setting, endpoint: Endpoint) -> Result<(), AllocError>
     ensures { OnOk result (s.new ≡ setting_with_endpoint endpoint s.old) }
 {
@@ -25,9 +27,9 @@ fn add_endpoint(s: &mut Setting, endpoint: Endpoint) -> Result<(), AllocError>
     Ok(())
 }
 
-#[tactic(auto, using(crate::proofs::DraftLemmas::with_last_is), unfolding(crate::specs::Order::setting_with))]
+#[tactic(auto, using(usb_set::proofs::Last::with_last_is), unfolding(usb_set::specs::inside::Reading::setting_with_extra))]
 fn add_to_setting(s: &mut Setting, extra: Extra) -> Result<(), AllocError>
-    ensures { OnOk result (s.new ≡ setting_with extra s.old) }
+    ensures { OnOk result (s.new ≡ setting_with_extra extra s.old) }
 {
     let count = s.endpoints.len();
     if count == 0 {
@@ -38,9 +40,9 @@ fn add_to_setting(s: &mut Setting, extra: Extra) -> Result<(), AllocError>
     Ok(())
 }
 
-#[tactic(auto, using(crate::proofs::DraftLemmas::with_last_is), unfolding(crate::specs::Order::set_with))]
+#[tactic(auto, using(usb_set::proofs::Last::with_last_is), unfolding(usb_set::specs::inside::Reading::set_with_extra))]
 fn add_extra(c: &mut Configuration, extra: Extra) -> Result<(), AllocError>
-    ensures { OnOk result (c.new ≡ set_with extra c.old) }
+    ensures { OnOk result (c.new ≡ set_with_extra extra c.old) }
 {
     let count = c.settings.len();
     if count == 0 {
@@ -52,7 +54,7 @@ fn add_extra(c: &mut Configuration, extra: Extra) -> Result<(), AllocError>
 }
 
 /// Adds an endpoint to the last interface of a set that has one.
-#[tactic(auto, using(crate::proofs::DraftLemmas::with_last_is, crate::proofs::DraftLemmas::has_settings), unfolding(crate::specs::Order::set_and))]
+#[tactic(auto, using(usb_set::proofs::Last::with_last_is, crate::proofs::DraftLemmas::has_settings), unfolding(crate::specs::inside::Growing::set_and))]
 fn add_endpoint_to_last(c: &mut Configuration, endpoint: Endpoint) -> Result<(), AllocError>
     requires { has_interface (Some c.old) ≡ true }
     ensures { OnOk result (c.new ≡ set_and (Item.Endpoint endpoint) c.old) }
@@ -63,7 +65,7 @@ fn add_endpoint_to_last(c: &mut Configuration, endpoint: Endpoint) -> Result<(),
 
 /// Adds a descriptor to a set, which belongs to the nearest typed one before it.
 #[inline(always)]
-#[tactic(auto, unfolding(crate::specs::Order::set_and))]
+#[tactic(auto, unfolding(crate::specs::inside::Growing::set_and))]
 fn add_to_set(c: &mut Configuration, item: Item) -> Result<(), AllocError>
     requires { has_room item (Some c.old) ≡ true }
     ensures { OnOk result (c.new ≡ set_and item c.old) }
@@ -84,7 +86,7 @@ fn add_to_set(c: &mut Configuration, item: Item) -> Result<(), AllocError>
 }
 
 #[inline(always)]
-#[tactic(auto, using(crate::proofs::DraftLemmas::with_last_is, crate::proofs::DraftLemmas::room_some, crate::proofs::DraftLemmas::room_at))]
+#[tactic(auto, using(usb_set::proofs::Last::with_last_is, crate::proofs::DraftLemmas::room_some, crate::proofs::DraftLemmas::room_at))]
 fn add_to_last(sets: &mut Sequence<Configuration>, item: Item) -> Result<(), AllocError>
     requires { has_room item (last_of sets.old) ≡ true }
     ensures { OnOk result (sets.new ≡ with_last (set_and item) sets.old) }

@@ -3,7 +3,8 @@ ghost use Rattle.std.specs.Prelude.{◌≡◌, ◌<◌, ◌^◌, ◌≤◌, IfEr
 ghost use Rattle.usb_file_data.specs.Named.{named_indices};
 ghost use Rattle.usb_listing_lines.specs.Words.{first_word, word_in};
 ghost use Rattle.usb_listing_lines.specs.Item.{IsItem, Says, item_word};
-ghost use Rattle.usb_listing_reader.specs.Order.{file_and, may_follow, may_stand};
+ghost use Rattle.usb_listing_reader.specs.Order.{may_follow, may_stand};
+ghost use Rattle.usb_listing_reader.specs.inside.Growing.{file_and};
 ghost use Rattle.usb_listing_reader.specs.inside.Drafts.{Added, AreCounted, Counted, HasWork, Refuses, Stepped, extra_length, so_far, strings_total, total_with, work_with};
 ghost use Rattle.usb_listing_reader.specs.inside.Walking.{add, add_line, file_of};
 

@@ -13,7 +13,8 @@ use Rattle.usb_listing_lines.specs.declared.word.Word.TheVariants as words
 use Rattle.usb_listing_reader.specs.declared.draft.Draft.{Draft}
 use Rattle.usb_listing_reader.specs.declared.fault.ListWhy.{ListWhy}
 use Rattle.usb_listing_reader.specs.declared.fault.ListWhy.TheVariants as whys
-use Rattle.usb_listing_reader.specs.Order.{has_interface, work_length}
+use Rattle.usb_listing_reader.specs.Order.{has_interface}
+use Rattle.usb_listing_reader.specs.inside.Growing.{work_length}
 use Rattle.usb_listing_reader.specs.Listings.{Begins, FirstLine, RestFaulty}
 use Rattle.usb_listing_reader.specs.inside.Walking.{add, add_line}
 

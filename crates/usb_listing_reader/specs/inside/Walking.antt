@@ -10,7 +10,8 @@ use Rattle.usb_listing_lines.specs.inside.Items.{item_of_line}
 use Rattle.usb_listing_reader.specs.declared.fault.ListFault.{ListFault}
 use Rattle.usb_listing_reader.specs.declared.fault.ListWhy.{ListWhy}
 use Rattle.usb_listing_reader.specs.declared.fault.ListWhy.TheVariants as whys
-use Rattle.usb_listing_reader.specs.Order.{file_and, may_stand, work_length}
+use Rattle.usb_listing_reader.specs.Order.{may_stand}
+use Rattle.usb_listing_reader.specs.inside.Growing.{file_and, work_length}
 use Rattle.usb_listing_reader.specs.Listings.{is_whole}
 
 -- a file of its device descriptor alone

@@ -10,6 +10,5 @@ unfolding string_line
 returns c =
     let word : c.put_word.new.self ≡ c.args.page.now ++ codes "string \"" = c.in_ok-put_word.ensures in
     let units : c.put_units.new.page ≡ c.put_word.new.self ++ flat_map written_unit c.args.units.now = c.in_ok-put_units.ensures in
-    let quote : c.put_word-2.new.self ≡ c.put_units.new.page ++ codes "\"" = c.in_ok-put_word-2.ensures in
-    on_ok_weaker c.end_line.result (λ (ended : c.end_line.new.self ≡ c.put_word-2.new.self ++ codes "\n"). rw (ended, quote, units, word)
-    (quoted_put c.args.page.now (codes "string \"") (flat_map written_unit c.args.units.now))) c.end_line.ensures
+    on_ok_weaker c.put_word-2.result (λ (ended : c.put_word-2.new.self ≡ c.put_units.new.page ++ codes "\"\n"). rw (ended, units, word)
+    (quoted_put c.args.page.now (codes "string \"") (flat_map written_unit c.args.units.now) (codes "\"\n"))) c.put_word-2.ensures

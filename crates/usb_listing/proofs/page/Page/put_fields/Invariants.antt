@@ -1,0 +1,10 @@
+use Rattle.std.proofs.Common.{◌≡◌, ◌++◌, drop, false}
+use Rattle.std.specs.List.{flat_map}
+use Rattle.usb_base.specs.Widths.{cells}
+use Rattle.usb_listing.specs.Lines.{written_field}
+use Rattle.usb_listing.proofs.page.Page.put_fields.Given as goal
+
+abbrev pub invariant-loop-width : goal.invariant-loop-width
+invariant-loop-width l =
+    l.self ++ flat_map written_field (cells (drop l.width-index l.widths) false l.rest)
+    ≡ l.initial.self ++ flat_map written_field (cells l.widths false l.bytes)

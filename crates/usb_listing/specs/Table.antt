@@ -1,0 +1,61 @@
+-- The table of lines: which line a descriptor has.
+use Rattle.std.specs.Prelude.{ℕ, ◌==◌, List, [], ◌∷◌, Bool, true, false, codes, drop, length, if◌then◌else◌}
+use Rattle.usb_base.specs.declared.width.Width.{Width}
+use Rattle.usb_base.specs.declared.width.Width.TheVariants.{One}
+use Rattle.usb_base.specs.Fields.{widths}
+use Rattle.usb_base.specs.Widths.{cells}
+use Rattle.usb_fields.specs.Device.{device_fields}
+use Rattle.usb_fields.specs.Qualifier.{qualifier_fields}
+use Rattle.usb_set.specs.Descriptors.{Descriptor, association_fields, configuration_fields, endpoint_fields, interface_fields}
+use Rattle.usb_listing.specs.Lines.{written_line}
+
+-- A row: the word of the line; the bytes behind bLength that the line leaves out, bDescriptorType, and wTotalLength as
+-- 0; the widths of the fields that it says; and whether there may be a tail behind them.
+pub record Row : Type 0 where
+  pub word : List ℕ
+  pub front : List ℕ
+  pub widths : List Width
+  pub tail : Bool
+
+-- the line of a row, for the bytes of a descriptor behind bLength
+abbrev pub row_line : Row → List ℕ → List ℕ
+row_line row bytes = written_line row.word (cells row.widths row.tail (drop (length row.front) bytes))
+
+-- the device descriptor, and the device qualifier (USB 2.0, 9.6.1 and 9.6.2)
+abbrev pub device_row : Row
+device_row = record { word = codes "device"; front = 1 ∷ []; widths = widths device_fields; tail = false }
+
+abbrev pub qualifier_row : Row
+qualifier_row = record { word = codes "qualifier"; front = 6 ∷ []; widths = widths qualifier_fields; tail = false }
+
+-- the first descriptor of a set, by its word and its type (USB 2.0, 9.6.3 and 9.6.4)
+abbrev pub configuration_row : List ℕ → ℕ → Row
+configuration_row word kind = record { word = word; front = kind ∷ 0 ∷ 0 ∷ []; widths = widths configuration_fields; tail = true }
+
+-- the interface, endpoint and interface association descriptors (USB 2.0, 9.6.5 and 9.6.6, and the ECN, 9.X.Y)
+abbrev pub interface_row : Row
+interface_row = record { word = codes "interface"; front = 4 ∷ []; widths = widths interface_fields; tail = true }
+
+abbrev pub endpoint_row : Row
+endpoint_row = record { word = codes "endpoint"; front = 5 ∷ []; widths = widths endpoint_fields; tail = true }
+
+abbrev pub association_row : Row
+association_row = record { word = codes "association"; front = 11 ∷ []; widths = widths association_fields; tail = true }
+
+-- a descriptor that is kept as it stands: bDescriptorType is a field of its line
+abbrev pub raw_row : Row
+raw_row = record { word = codes "raw"; front = []; widths = One ∷ []; tail = true }
+
+-- the row of a descriptor of a set, by its bDescriptorType (table 9-5)
+abbrev pub row_of : ℕ → Row
+row_of kind =
+    if kind == 2 then configuration_row (codes "configuration") 2
+    else if kind == 4 then interface_row
+    else if kind == 5 then endpoint_row
+    else if kind == 7 then configuration_row (codes "other_speed") 7
+    else if kind == 11 then association_row
+    else raw_row
+
+-- the line of a descriptor of a set
+abbrev pub descriptor_line : Descriptor → List ℕ
+descriptor_line d = row_line (row_of d.kind) (d.kind ∷ d.body)
