@@ -5,6 +5,7 @@ use Rattle.std.proofs.lemmas.Bool.Decides.{nat_tests}
 use Rattle.usb_set.specs.declared.tree.Setting.{Setting}
 use Rattle.usb_set.specs.Parts.{association_in, setting_extras}
 use Rattle.usb_rules.specs.declared.finding.Part.{Part}
+use Rattle.usb_rules.specs.declared.rule.Rule.TheVariants as rules
 use Rattle.usb_rules.specs.Places.{when, finding, at_each, at_each_after}
 use Rattle.usb_rules.specs.Rules.{repeats_address, shares_address, wrong_address, wrong_packet_size}
 use Rattle.usb_rules.specs.Findings.{addresses_in, packet_sizes_in, repeated_in_setting}
@@ -45,21 +46,21 @@ flat_map_none f p none (x ∷ xs) h = ap (λ ys. ys ++ flat_map f xs) (none x (a
 
 pub bare_addresses : (part : Part) (i : ℕ) (settings : List Setting) → list_all is_bare settings ≡ true → at_each (addresses_in part i) 0 settings ≡ []
 bare_addresses part i settings h =
-    at_each_none (addresses_in part i) is_bare (λ j s b. ap (at_each (λ k e. when (wrong_address e.address) (finding 6 part i j k)) 0) (bare_endpoints s b)) 0 settings h
+    at_each_none (addresses_in part i) is_bare (λ j s b. ap (at_each (λ k e. when (wrong_address e.address) (finding rules.V6 part i j k)) 0) (bare_endpoints s b)) 0 settings h
 
 pub bare_sizes : (part : Part) (i : ℕ) (settings : List Setting) → list_all is_bare settings ≡ true → at_each (packet_sizes_in part i) 0 settings ≡ []
 bare_sizes part i settings h =
-    at_each_none (packet_sizes_in part i) is_bare (λ j s b. ap (at_each (λ k e. when (wrong_packet_size e.max_packet) (finding 12 part i j k)) 0) (bare_endpoints s b)) 0 settings h
+    at_each_none (packet_sizes_in part i) is_bare (λ j s b. ap (at_each (λ k e. when (wrong_packet_size e.max_packet) (finding rules.V12 part i j k)) 0) (bare_endpoints s b)) 0 settings h
 
 pub bare_repeats : (part : Part) (i : ℕ) (settings : List Setting) → list_all is_bare settings ≡ true → at_each (repeated_in_setting part i) 0 settings ≡ []
 bare_repeats part i settings h =
-    at_each_none (repeated_in_setting part i) is_bare (λ j s b. ap (at_each_after (λ before k e. when (repeats_address before e) (finding 7 part i j k)) [] 0) (bare_endpoints s b)) 0 settings h
+    at_each_none (repeated_in_setting part i) is_bare (λ j s b. ap (at_each_after (λ before k e. when (repeats_address before e) (finding rules.V7 part i j k)) [] 0) (bare_endpoints s b)) 0 settings h
 
 pub bare_shared : (part : Part) (i : ℕ) (settings : List Setting) → list_all is_bare settings ≡ true
-    → at_each_after (λ before j s. at_each (λ k e. when (shares_address before s e) (finding 8 part i j k)) 0 s.endpoints) [] 0 settings ≡ []
+    → at_each_after (λ before j s. at_each (λ k e. when (shares_address before s e) (finding rules.V8 part i j k)) 0 s.endpoints) [] 0 settings ≡ []
 bare_shared part i settings h =
-    at_each_after_none (λ before j s. at_each (λ k e. when (shares_address before s e) (finding 8 part i j k)) 0 s.endpoints) is_bare
-    (λ before j s b. ap (at_each (λ k e. when (shares_address before s e) (finding 8 part i j k)) 0) (bare_endpoints s b)) [] 0 settings h
+    at_each_after_none (λ before j s. at_each (λ k e. when (shares_address before s e) (finding rules.V8 part i j k)) 0 s.endpoints) is_bare
+    (λ before j s b. ap (at_each (λ k e. when (shares_address before s e) (finding rules.V8 part i j k)) 0) (bare_endpoints s b)) [] 0 settings h
 
 bare_setting : (s : Setting) → is_bare s ≡ true → flat_map association_in (setting_extras s) ≡ []
 bare_setting s b =

@@ -10,6 +10,7 @@ use Rattle.usb_set.specs.declared.tree.Setting.{Setting}
 use Rattle.usb_set.specs.declared.tree.Configuration.{Configuration}
 use Rattle.usb_rules.specs.declared.finding.Part.{Part}
 use Rattle.usb_rules.specs.declared.finding.Finding.{Finding}
+use Rattle.usb_rules.specs.declared.rule.Rule.TheVariants as rules
 use Rattle.usb_rules.specs.Places.{stands_in}
 use Rattle.usb_rules.specs.Places.{at_each, at_each_after, when, finding}
 use Rattle.usb_rules.specs.Rules.{address_of, has_elsewhere, shares_address}
@@ -58,14 +59,14 @@ owned_all n t (e ∷ endpoints) b m =
 -- the table knows the settings before
 pub owning_is : (part : Part) (i : ℕ) (before : List Setting) (j : ℕ) (settings : List Setting)
     → owning part i (λ b m. list_any (has_elsewhere m b) before) j settings
-    ≡ at_each_after (λ seen j s. at_each (λ k e. when (list_any (has_elsewhere s.number e.address) seen) (finding 8 part i j k)) 0 s.endpoints) before j settings
+    ≡ at_each_after (λ seen j s. at_each (λ k e. when (list_any (has_elsewhere s.number e.address) seen) (finding rules.V8 part i j k)) 0 s.endpoints) before j settings
 unfolding owning
 owning_is part i before j [] = refl
 owning_is part i before j (s ∷ settings) =
     let t : Owned = λ b m. list_any (has_elsewhere m b) before in
     let next : fold (owned s.number) t s.endpoints ≡ (λ b m. list_any (has_elsewhere m b) (s ∷ before)) =
     funext _ _ (λ b. funext _ _ (λ m. owned_all s.number t s.endpoints b m)) in
-    ap (λ rest. at_each (λ k e. when (t e.address s.number) (finding 8 part i j k)) 0 s.endpoints ++ rest)
+    ap (λ rest. at_each (λ k e. when (t e.address s.number) (finding rules.V8 part i j k)) 0 s.endpoints ++ rest)
     (ap (λ u. owning part i u (j + 1) settings) next ∙ owning_is part i (s ∷ before) (j + 1) settings)
 
 pub shared_is : (part : Part) (i : ℕ) (c : Configuration) → owning part i (λ b m. false) 0 c.settings ≡ shared_addresses part i c
@@ -108,7 +109,7 @@ nobody_at (suc n) (suc b) m = nobody_at n b m
 -- ---- a loop over the settings of a set
 
 abbrev pub shared_of : Part → ℕ → Owned → ℕ → Setting → List Finding
-shared_of part i t j s = at_each (λ k e. when (t e.address s.number) (finding 8 part i j k)) 0 s.endpoints
+shared_of part i t j s = at_each (λ k e. when (t e.address s.number) (finding rules.V8 part i j k)) 0 s.endpoints
 
 owning_more : (part : Part) (i : ℕ) (t : Owned) (j : ℕ) (s : Setting) (settings : List Setting)
     → owning part i t j (s ∷ settings) ≡ shared_of part i t j s ++ owning part i (fold (owned s.number) t s.endpoints) (j + 1) settings
@@ -140,14 +141,14 @@ owning_end part i settings j out whole t h e =
 
 -- ---- one setting alone
 
-none_each : (part : Part) (i j k : ℕ) (endpoints : List Endpoint) → at_each (λ k e. when false (finding 8 part i j k)) k endpoints ≡ []
+none_each : (part : Part) (i j k : ℕ) (endpoints : List Endpoint) → at_each (λ k e. when false (finding rules.V8 part i j k)) k endpoints ≡ []
 none_each part i j k [] = refl
 none_each part i j k (e ∷ endpoints) = none_each part i j (k + 1) endpoints
 
 alone : (part : Part) (i : ℕ) (settings : List Setting) → length settings < 2
-    → at_each_after (λ before j s. at_each (λ k e. when (shares_address before s e) (finding 8 part i j k)) 0 s.endpoints) [] 0 settings ≡ []
+    → at_each_after (λ before j s. at_each (λ k e. when (shares_address before s e) (finding rules.V8 part i j k)) 0 s.endpoints) [] 0 settings ≡ []
 alone part i [] h = refl
-alone part i (s ∷ []) h = append-nil (at_each (λ k e. when false (finding 8 part i 0 k)) 0 s.endpoints) ∙ none_each part i 0 0 s.endpoints
+alone part i (s ∷ []) h = append-nil (at_each (λ k e. when false (finding rules.V8 part i 0 k)) 0 s.endpoints) ∙ none_each part i 0 0 s.endpoints
 alone part i (s ∷ t ∷ settings) h = absurd (omega arith)
 
 pub alone_shares_none : (part : Part) (i : ℕ) (c : Configuration) → length c.settings < 2 → shared_addresses part i c ≡ []

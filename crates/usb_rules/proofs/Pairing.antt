@@ -9,6 +9,7 @@ use Rattle.std.proofs.lemmas.Grind.{common_steps}
 use Rattle.usb_set.specs.declared.tree.Setting.{Setting}
 use Rattle.usb_rules.specs.declared.finding.Part.{Part}
 use Rattle.usb_rules.specs.declared.finding.Finding.{Finding}
+use Rattle.usb_rules.specs.declared.rule.Rule.TheVariants as rules
 use Rattle.usb_rules.specs.Places.{when, finding, at_each_after}
 use Rattle.usb_rules.specs.Rules.{repeats_setting}
 use Rattle.usb_rules.specs.inside.Pairs.{IsRow, none_yet, pair_too, pairing}
@@ -59,7 +60,7 @@ row_length (row ∷ rows) (suc n) h each = row_length rows n (omega arith) each.
 -- ---- a loop over the settings of a set
 
 pairing_more : (part : Part) (i : ℕ) (pairs : ℕ → ℕ → Bool) (j : ℕ) (s : Setting) (settings : List Setting)
-    → pairing part i pairs j (s ∷ settings) ≡ when (pairs s.number s.alternate) (finding 3 part i j 0) ++ pairing part i (pair_too s.number s.alternate pairs) (j + 1) settings
+    → pairing part i pairs j (s ∷ settings) ≡ when (pairs s.number s.alternate) (finding rules.V3 part i j 0) ++ pairing part i (pair_too s.number s.alternate pairs) (j + 1) settings
 unfolding pairing
 pairing_more part i pairs j s settings = refl
 
@@ -69,12 +70,12 @@ pairing_none part i pairs j = refl
 
 pub pairing_next : (part : Part) (i : ℕ) (settings : List Setting) (j : ℕ) (s : Setting) (old new whole : List Finding) (pairs more : ℕ → ℕ → Bool)
     → j < length settings → s ≡ get_or settings j s → old ++ pairing part i pairs j (drop j settings) ≡ whole
-    → new ≡ old ++ when (pairs s.number s.alternate) (finding 3 part i j 0) → more ≡ pair_too s.number s.alternate pairs
+    → new ≡ old ++ when (pairs s.number s.alternate) (finding rules.V3 part i j 0) → more ≡ pair_too s.number s.alternate pairs
     → new ++ pairing part i more (j + 1) (drop (j + 1) settings) ≡ whole
 pairing_next part i settings j s old new whole pairs more below is whole_is new_is more_is =
     let here : drop j settings ≡ s ∷ drop (j + 1) settings = grind (arith, common_steps) in
     let step = pairing_more part i pairs j s (drop (j + 1) settings) in
-    let joined = append_assoc old (when (pairs s.number s.alternate) (finding 3 part i j 0)) (pairing part i (pair_too s.number s.alternate pairs) (j + 1) (drop (j + 1) settings)) in
+    let joined = append_assoc old (when (pairs s.number s.alternate) (finding rules.V3 part i j 0)) (pairing part i (pair_too s.number s.alternate pairs) (j + 1) (drop (j + 1) settings)) in
     cc
 
 pub pairing_end : (part : Part) (i : ℕ) (settings : List Setting) (j : ℕ) (out whole : List Finding) (pairs : ℕ → ℕ → Bool)
@@ -91,14 +92,14 @@ stood settings n a = list_any (λ t. (t.number == n) && (t.alternate == a)) sett
 
 -- the table knows the settings before
 pairing_is : (part : Part) (i : ℕ) (before : List Setting) (j : ℕ) (settings : List Setting)
-    → pairing part i (stood before) j settings ≡ at_each_after (λ seen k s. when (repeats_setting seen s) (finding 3 part i k 0)) before j settings
+    → pairing part i (stood before) j settings ≡ at_each_after (λ seen k s. when (repeats_setting seen s) (finding rules.V3 part i k 0)) before j settings
 unfolding pairing pair_too
 pairing_is part i before j [] = refl
 pairing_is part i before j (s ∷ settings) =
-    ap (λ rest. when (stood before s.number s.alternate) (finding 3 part i j 0) ++ rest) (pairing_is part i (s ∷ before) (j + 1) settings)
+    ap (λ rest. when (stood before s.number s.alternate) (finding rules.V3 part i j 0) ++ rest) (pairing_is part i (s ∷ before) (j + 1) settings)
 
 pub repeated_settings_are : (part : Part) (i : ℕ) (settings : List Setting)
-    → pairing part i none_yet 0 settings ≡ at_each_after (λ seen k s. when (repeats_setting seen s) (finding 3 part i k 0)) [] 0 settings
+    → pairing part i none_yet 0 settings ≡ at_each_after (λ seen k s. when (repeats_setting seen s) (finding rules.V3 part i k 0)) [] 0 settings
 repeated_settings_are part i settings = pairing_is part i [] 0 settings
 
 or_turn : (a b : Bool) → (a || b) ≡ (b || a)

@@ -8,6 +8,7 @@ use Rattle.usb_set.specs.declared.tree.Endpoint.{Endpoint}
 use Rattle.usb_set.specs.declared.tree.Setting.{Setting}
 use Rattle.usb_set.specs.declared.tree.Configuration.{Configuration}
 use Rattle.usb_rules.specs.declared.finding.Part.{Part}
+use Rattle.usb_rules.specs.declared.rule.Rule.TheVariants as rules
 use Rattle.usb_rules.specs.Places.{stands_in, when, finding, at_each, at_each_after}
 use Rattle.usb_rules.specs.Rules.{number_of, address_of, value_of, is_default_of, repeats_address, wrong_value, interface_numbers, is_first}
 use Rattle.usb_rules.specs.Findings.{missing_default_settings}
@@ -80,16 +81,16 @@ at_each_end f xs i out whole h e =
 -- ---- V7
 
 pub repeated_in_setting_are : (part : Part) (i j : ℕ) (endpoints : List Endpoint)
-    → marking address_of (λ marks e. marks e.address) (λ k e. finding 7 part i j k) unmarked 0 endpoints
-    ≡ at_each_after (λ before k e. when (repeats_address before e) (finding 7 part i j k)) [] 0 endpoints
-repeated_in_setting_are part i j endpoints = marking_is address_of (λ marks e. marks e.address) (λ k e. finding 7 part i j k) [] 0 endpoints
+    → marking address_of (λ marks e. marks e.address) (λ k e. finding rules.V7 part i j k) unmarked 0 endpoints
+    ≡ at_each_after (λ before k e. when (repeats_address before e) (finding rules.V7 part i j k)) [] 0 endpoints
+repeated_in_setting_are part i j endpoints = marking_is address_of (λ marks e. marks e.address) (λ k e. finding rules.V7 part i j k) [] 0 endpoints
 
 -- ---- V10
 
 pub values_are : (part : Part) (sets : List Configuration)
-    → marking value_of (λ marks c. (c.value == 0) || marks c.value) (λ i c. finding 10 part i 0 0) unmarked 0 sets
-    ≡ at_each_after (λ before i c. when (wrong_value before c) (finding 10 part i 0 0)) [] 0 sets
-values_are part sets = marking_is value_of (λ marks c. (c.value == 0) || marks c.value) (λ i c. finding 10 part i 0 0) [] 0 sets
+    → marking value_of (λ marks c. (c.value == 0) || marks c.value) (λ i c. finding rules.V10 part i 0 0) unmarked 0 sets
+    ≡ at_each_after (λ before i c. when (wrong_value before c) (finding rules.V10 part i 0 0)) [] 0 sets
+values_are part sets = marking_is value_of (λ marks c. (c.value == 0) || marks c.value) (λ i c. finding rules.V10 part i 0 0) [] 0 sets
 
 -- ---- V4
 
@@ -153,14 +154,14 @@ or-false false = refl
 
 -- every number that has an alternate setting 0, and then every number that stood, is marked
 pub missing_default_settings_are : (part : Part) (i : ℕ) (c : Configuration)
-    → marking number_of (λ marks s. not (marks s.number)) (λ j s. finding 4 part i j 0) (fold marked_default unmarked c.settings) 0 c.settings
+    → marking number_of (λ marks s. not (marks s.number)) (λ j s. finding rules.V4 part i j 0) (fold marked_default unmarked c.settings) 0 c.settings
     ≡ missing_default_settings part i c
 missing_default_settings_are part i c =
     let base : ℕ → Bool = λ n. list_any (is_default_of n) c.settings in
     let is : fold marked_default unmarked c.settings ≡ base = funext _ _ (λ n. defaults_say unmarked c.settings n ∙ or-false (base n)) in
-    ap (λ marks. marking number_of (λ marks s. not (marks s.number)) (λ j s. finding 4 part i j 0) marks 0 c.settings) is
-    ∙ marking_besides number_of (λ marks s. not (marks s.number)) (λ j s. finding 4 part i j 0) base [] 0 c.settings
-    ∙ at_each_after_along _ _ (λ before j s. ap (λ b. when b (finding 4 part i j 0)) (nor (stands_in (map number_of before) s.number) (base s.number))) [] 0 c.settings
+    ap (λ marks. marking number_of (λ marks s. not (marks s.number)) (λ j s. finding rules.V4 part i j 0) marks 0 c.settings) is
+    ∙ marking_besides number_of (λ marks s. not (marks s.number)) (λ j s. finding rules.V4 part i j 0) base [] 0 c.settings
+    ∙ at_each_after_along _ _ (λ before j s. ap (λ b. when b (finding rules.V4 part i j 0)) (nor (stands_in (map number_of before) s.number) (base s.number))) [] 0 c.settings
 
 -- ---- V1 and V2
 
@@ -248,7 +249,7 @@ marks_end settings i marks whole h e =
 -- ---- one alone
 
 pub alone_repeats_none : (part : Part) (i j : ℕ) (endpoints : List Endpoint) → length endpoints < 2
-    → at_each_after (λ before k e. when (repeats_address before e) (finding 7 part i j k)) [] 0 endpoints ≡ []
+    → at_each_after (λ before k e. when (repeats_address before e) (finding rules.V7 part i j k)) [] 0 endpoints ≡ []
 alone_repeats_none part i j [] h = refl
 alone_repeats_none part i j (e ∷ []) h = refl
 alone_repeats_none part i j (e ∷ f ∷ endpoints) h = absurd (omega arith)

@@ -5,6 +5,7 @@ use Rattle.std.proofs.lemmas.Bool.Decides.{nat_tests}
 use Rattle.std.proofs.lemmas.Grind.{common_steps}
 use Rattle.usb_set.specs.declared.tree.Setting.{Setting}
 use Rattle.usb_rules.specs.declared.finding.Part.{Part}
+use Rattle.usb_rules.specs.declared.rule.Rule.TheVariants as rules
 use Rattle.usb_rules.specs.Places.{when, finding, at_each_after, stands_in}
 use Rattle.usb_rules.specs.Rules.{is_default_of, lacks_default_setting, number_of, repeats_setting}
 use Rattle.usb_rules.specs.inside.Alternates.{IsPlain, in_order, plain, raised, seen, zeros}
@@ -87,7 +88,7 @@ still sn sa n a next low above = grind (arith, nat_tests)
 
 repeats_none_after : (part : Part) (i : ℕ) (next : ℕ → ℕ) (before : List Setting) (j : ℕ) (settings : List Setting)
     → IsAbove next before → plain next settings ≡ true
-    → at_each_after (λ seen k s. when (repeats_setting seen s) (finding 3 part i k 0)) before j settings ≡ []
+    → at_each_after (λ seen k s. when (repeats_setting seen s) (finding rules.V3 part i k 0)) before j settings ≡ []
 unfolding plain
 repeats_none_after part i next before j [] above is_plain = refl
 repeats_none_after part i next before j (s ∷ settings) above is_plain =
@@ -95,7 +96,7 @@ repeats_none_after part i next before j (s ∷ settings) above is_plain =
     let here : stood before s.number s.alternate ≡ false = above s.number s.alternate low in
     let after : IsAbove (raised s.number (s.alternate + 1) next) (s ∷ before) = λ n a h.
     ap (λ b. b || stood before n a) (other s.number s.alternate n a next low h) ∙ above n a (still s.number s.alternate n a next low h) in
-    ap (λ b. when b (finding 3 part i j 0) ++ at_each_after (λ seen k s. when (repeats_setting seen s) (finding 3 part i k 0)) (s ∷ before) (j + 1) settings) here
+    ap (λ b. when b (finding rules.V3 part i j 0) ++ at_each_after (λ seen k s. when (repeats_setting seen s) (finding rules.V3 part i k 0)) (s ∷ before) (j + 1) settings) here
     ∙ repeats_none_after part i (raised s.number (s.alternate + 1) next) (s ∷ before) (j + 1) settings after (and_rest _ _ is_plain)
 
 -- ---- and each interface has an alternate setting 0
@@ -129,7 +130,7 @@ none_yet n next h = grind (arith, nat_tests)
 
 lacks_none_after : (part : Part) (i : ℕ) (all : List Setting) (next : ℕ → ℕ) (before : List Setting) (j : ℕ) (settings : List Setting)
     → seen next ≡ stands_in (map number_of before) → IsSplit all before settings → plain next settings ≡ true
-    → at_each_after (λ seen k s. when (lacks_default_setting all seen s) (finding 4 part i k 0)) before j settings ≡ []
+    → at_each_after (λ seen k s. when (lacks_default_setting all seen s) (finding rules.V4 part i k 0)) before j settings ≡ []
 unfolding plain marked
 lacks_none_after part i all next before j [] numbers split is_plain = refl
 lacks_none_after part i all next before j (s ∷ settings) numbers split is_plain =
@@ -141,7 +142,7 @@ lacks_none_after part i all next before j (s ∷ settings) numbers split is_plai
     let after : seen (raised s.number (s.alternate + 1) next) ≡ stands_in (map number_of (s ∷ before)) =
     seen_raised s.number s.alternate next ∙ ap (λ m. marked m s.number) numbers in
     let parts : IsSplit all (s ∷ before) settings = λ q. split q ∙ or_turn (list_any q before) (q s) (list_any q settings) in
-    ap (λ b. when b (finding 4 part i j 0) ++ at_each_after (λ seen k s. when (lacks_default_setting all seen s) (finding 4 part i k 0)) (s ∷ before) (j + 1) settings) lacks
+    ap (λ b. when b (finding rules.V4 part i j 0) ++ at_each_after (λ seen k s. when (lacks_default_setting all seen s) (finding rules.V4 part i k 0)) (s ∷ before) (j + 1) settings) lacks
     ∙ lacks_none_after part i all (raised s.number (s.alternate + 1) next) (s ∷ before) (j + 1) settings after parts (and_rest _ _ is_plain)
 
 pub plain_is : (settings : List Setting) → plain zeros settings ≡ true → IsPlain settings

@@ -7,6 +7,7 @@ use Rattle.usb_file_data.specs.declared.file.Other.{Other}
 use Rattle.usb_rules.specs.declared.finding.Part.{Part}
 use Rattle.usb_rules.specs.declared.finding.Part.TheVariants as parts
 use Rattle.usb_rules.specs.declared.finding.Finding.{Finding}
+use Rattle.usb_rules.specs.declared.rule.Rule.{Rule}
 
 -- whether the number stands in the list
 abbrev pub stands_in : List ℕ → ℕ → Bool
@@ -17,7 +18,7 @@ abbrev pub when : {A : Type 0} → Bool → A → List A
 when holds x = if holds then x ∷ [] else []
 
 -- a finding of a rule at the numbers of a set, a setting and an endpoint
-abbrev pub finding : ℕ → Part → ℕ → ℕ → ℕ → Finding
+abbrev pub finding : Rule → Part → ℕ → ℕ → ℕ → Finding
 finding rule part set setting endpoint = record { rule = rule; part = part; set = set; setting = setting; endpoint = endpoint }
 
 -- what f gives of each element and its number, the numbers counted from `place` on

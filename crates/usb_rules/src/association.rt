@@ -9,6 +9,7 @@ ghost use Rattle.usb_rules.specs.inside.Telling.{Tells, misses_some, told_at};
 use crate::alternates::Alternates;
 use crate::finding::{Finding, Part};
 use crate::push::push_when;
+use crate::rule::Rule;
 use crate::survey::Survey;
 use std::alloc::AllocError;
 use usb_set::{Association, Configuration, Endpoint, Extra, Setting};
@@ -114,7 +115,7 @@ fn check_extra(
     push_when(
         out,
         binds_no_interface(next, a),
-        Finding::at(13, part, set, number, 0),
+        Finding::at(Rule::V13, part, set, number, 0),
     )?;
     // No memory holds so many associations that this is refused.
     number.checked_add(1).ok_or(AllocError)

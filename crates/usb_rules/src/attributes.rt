@@ -4,6 +4,7 @@ ghost use Rattle.usb_rules.specs.Findings.{attributes};
 
 use crate::finding::{Finding, Part};
 use crate::push::push_when;
+use crate::rule::Rule;
 use std::alloc::AllocError;
 use usb_set::Configuration;
 
@@ -22,5 +23,5 @@ pub(crate) fn check_attributes(
     ensures { OnOk result (out.new.items ≡ out.old.items ++ attributes part set c.now) }
 {
     let wrong = c.attributes & ALWAYS_ONE == 0 || c.attributes & ALWAYS_ZERO != 0;
-    push_when(out, wrong, Finding::at(9, part, set, 0, 0))
+    push_when(out, wrong, Finding::at(Rule::V9, part, set, 0, 0))
 }

@@ -4,6 +4,7 @@ ghost use Rattle.usb_rules.specs.Findings.{endpoint_counts};
 
 use crate::finding::{Finding, Part};
 use crate::push::push_when;
+use crate::rule::Rule;
 use std::alloc::AllocError;
 use usb_set::Configuration;
 
@@ -19,7 +20,7 @@ pub(crate) fn check_endpoint_counts(
         push_when(
             out,
             usize::from(s.declared_endpoints) != s.endpoints.len(),
-            Finding::at(5, part, set, setting, 0),
+            Finding::at(Rule::V5, part, set, setting, 0),
         )?;
     }
     Ok(())

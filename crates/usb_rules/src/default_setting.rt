@@ -1,6 +1,7 @@
 //! V4: each interface has an alternate setting 0.
 ghost use Rattle.std.specs.Prelude.{◌≡◌, ◌++◌, OnOk, fold, not};
 ghost use Rattle.usb_rules.specs.Findings.{missing_default_settings};
+ghost use Rattle.usb_rules.specs.declared.rule.Rule.TheVariants as rules;
 ghost use Rattle.usb_rules.specs.Places.{finding};
 ghost use Rattle.usb_rules.specs.Rules.{number_of};
 ghost use Rattle.usb_rules.specs.inside.Alternates.{IsSurvey};
@@ -9,6 +10,7 @@ ghost use Rattle.usb_rules.specs.inside.Running.{marked_default, marking};
 
 use crate::finding::{Finding, Part};
 use crate::push::push_when;
+use crate::rule::Rule;
 use crate::survey::Survey;
 use std::alloc::AllocError;
 use usb_base::Marks;
@@ -71,13 +73,13 @@ fn tell_others(
     set: usize,
     settings: &[Setting],
 ) -> Result<(), AllocError>
-    ensures { OnOk result (out.new.items ≡ out.old.items ++ marking number_of (λ marks s. not (marks s.number)) (λ j s. finding 4 part set j 0) (is_marked told.old) 0 settings.now) }
+    ensures { OnOk result (out.new.items ≡ out.old.items ++ marking number_of (λ marks s. not (marks s.number)) (λ j s. finding rules.V4 part set j 0) (is_marked told.old) 0 settings.now) }
 {
     for (setting, s) in settings.iter().enumerate() {
         push_when(
             out,
             !told.has(s.number),
-            Finding::at(4, part, set, setting, 0),
+            Finding::at(Rule::V4, part, set, setting, 0),
         )?;
         told.add(s.number);
     }

@@ -1,11 +1,13 @@
 //! V11: packet size, class and reserved byte of the device descriptor and the qualifier.
 ghost use Rattle.std.specs.Prelude.{◌≡◌, ◌++◌, OnOk};
 ghost use Rattle.usb_rules.specs.Findings.{descriptors};
+ghost use Rattle.usb_rules.specs.declared.rule.Rule.TheVariants as rules;
 ghost use Rattle.usb_rules.specs.Places.{finding};
 ghost use Rattle.usb_rules.specs.Rules.{wrong_device, wrong_packet, wrong_qualifier};
 
 use crate::finding::{Finding, Part};
 use crate::push::push_when;
+use crate::rule::Rule;
 use std::alloc::AllocError;
 use usb_fields::{DeviceDescriptor, Qualifier};
 use usb_file_data::DescriptorFile;
@@ -25,9 +27,9 @@ pub(crate) fn check_descriptors(
 }
 
 fn at(part: Part) -> Finding
-    ensures { result ≡ finding 11 part 0 0 0 }
+    ensures { result ≡ finding rules.V11 part 0 0 0 }
 {
-    Finding::at(11, part, 0, 0, 0)
+    Finding::at(Rule::V11, part, 0, 0, 0)
 }
 
 fn is_wrong_device(d: &DeviceDescriptor) -> bool

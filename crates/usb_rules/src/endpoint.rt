@@ -1,12 +1,14 @@
 //! V6 and V12: endpoint zero, and the reserved bits of an endpoint's address and packet size.
 ghost use Rattle.std.specs.Prelude.{◌≡◌, ◌++◌, OnOk};
 ghost use Rattle.usb_rules.specs.Findings.{addresses, addresses_in, packet_sizes, packet_sizes_in};
+ghost use Rattle.usb_rules.specs.declared.rule.Rule.TheVariants as rules;
 ghost use Rattle.usb_rules.specs.Places.{finding, when};
 ghost use Rattle.usb_rules.specs.inside.Alternates.{IsSurvey};
 ghost use Rattle.usb_rules.specs.Rules.{wrong_address, wrong_packet_size};
 
 use crate::finding::{Finding, Part};
 use crate::push::push_when;
+use crate::rule::Rule;
 use crate::survey::Survey;
 use std::alloc::AllocError;
 use usb_set::{Configuration, Endpoint, Setting};
@@ -75,18 +77,18 @@ fn check_endpoint(
     endpoint: usize,
     e: &Endpoint,
 ) -> Result<(), AllocError>
-    ensures addresses { OnOk result (wrong_addresses.new.items ≡ wrong_addresses.old.items ++ when (wrong_address e.now.address) (finding 6 part set setting endpoint)) }
-    ensures sizes { OnOk result (wrong_sizes.new.items ≡ wrong_sizes.old.items ++ when (wrong_packet_size e.now.max_packet) (finding 12 part set setting endpoint)) }
+    ensures addresses { OnOk result (wrong_addresses.new.items ≡ wrong_addresses.old.items ++ when (wrong_address e.now.address) (finding rules.V6 part set setting endpoint)) }
+    ensures sizes { OnOk result (wrong_sizes.new.items ≡ wrong_sizes.old.items ++ when (wrong_packet_size e.now.max_packet) (finding rules.V12 part set setting endpoint)) }
 {
     push_when(
         wrong_addresses,
         is_wrong_address(e.address),
-        Finding::at(6, part, set, setting, endpoint),
+        Finding::at(Rule::V6, part, set, setting, endpoint),
     )?;
     push_when(
         wrong_sizes,
         e.max_packet & RESERVED_SIZE != 0,
-        Finding::at(12, part, set, setting, endpoint),
+        Finding::at(Rule::V12, part, set, setting, endpoint),
     )?;
     Ok(())
 }

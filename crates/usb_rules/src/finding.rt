@@ -2,6 +2,7 @@
 ghost use Rattle.std.specs.Prelude.{Some};
 ghost use Rattle.usb_rules.specs.FindingLine.{finding_line, part_word};
 
+use crate::rule::Rule;
 use std::fmt;
 
 /// A part of a descriptor file.
@@ -35,13 +36,13 @@ impl fmt::Display for Part {
 /// A broken rule at its place. Numbers that a rule does not use are 0.
 ///
 /// ```rust
-/// let second_set = Finding { rule: 10, part: Part::Main, set: 1, setting: 0, endpoint: 0 };
+/// let second_set = Finding { rule: Rule::V10, part: Part::Main, set: 1, setting: 0, endpoint: 0 };
 /// assert_eq!(rt; format!(in rt.alloc(); "{second_set}")?.as_str(), "V10 main 1 0 0");
 /// ```
 #[derive(Clone, Copy, Debug, PartialEq, Eq, Hash)]
 pub struct Finding {
-    /// The number of the rule, from 1.
-    pub rule: u8,
+    /// The rule that is broken.
+    pub rule: Rule,
     /// The part that breaks it.
     pub part: Part,
     /// The set's number in its part, from 0.
@@ -57,7 +58,7 @@ impl Finding {
     ghost use Rattle.usb_rules.specs.Places.{finding};
 
     /// The rule's finding at the set, the setting and the endpoint of these numbers.
-    pub(crate) fn at(rule: u8, part: Part, set: usize, setting: usize, endpoint: usize) -> Finding
+    pub(crate) fn at(rule: Rule, part: Part, set: usize, setting: usize, endpoint: usize) -> Finding
         ensures { result ≡ finding rule part set setting endpoint }
     {
         Finding {
@@ -82,6 +83,7 @@ impl fmt::Display for Finding {
             setting,
             endpoint,
         } = *self;
-        write!(f, "V{rule} {part} {set} {setting} {endpoint}")
+        let number = rule.number();
+        write!(f, "V{number} {part} {set} {setting} {endpoint}")
     }
 }

@@ -6,6 +6,7 @@ ghost use Rattle.usb_rules.specs.inside.Alternates.{IsEntered, IsSurvey, reads};
 use crate::alternates::Alternates;
 use crate::finding::{Finding, Part};
 use crate::push::push_when;
+use crate::rule::Rule;
 use crate::survey::Survey;
 use std::alloc::AllocError;
 use usb_set::Configuration;
@@ -23,7 +24,7 @@ pub(crate) fn check_interface_count(
     push_when(
         out,
         usize::from(c.declared_interfaces) != survey.count,
-        Finding::at(1, part, set, 0, 0),
+        Finding::at(Rule::V1, part, set, 0, 0),
     )
 }
 
@@ -42,6 +43,6 @@ pub(crate) fn check_number_gap(
     push_when(
         out,
         next.misses(0, survey.count),
-        Finding::at(2, part, set, 0, 0),
+        Finding::at(Rule::V2, part, set, 0, 0),
     )
 }

@@ -22,6 +22,7 @@ mod pairs;
 mod push;
 mod repeated_address;
 mod repeated_setting;
+mod rule;
 mod set;
 mod shared_address;
 mod survey;
@@ -29,3 +30,4 @@ mod value;
 
 pub use checking::{NoMemory, check};
 pub use finding::{Finding, Part};
+pub use rule::Rule;

@@ -1,6 +1,7 @@
 //! V7: no address twice in one setting.
 ghost use Rattle.std.specs.Prelude.{◌≡◌, ◌++◌, OnOk};
 ghost use Rattle.usb_rules.specs.Findings.{repeated_addresses, repeated_in_setting};
+ghost use Rattle.usb_rules.specs.declared.rule.Rule.TheVariants as rules;
 ghost use Rattle.usb_rules.specs.Places.{at_each, finding};
 ghost use Rattle.usb_rules.specs.Rules.{address_of};
 ghost use Rattle.usb_base.specs.Marks.{unmarked};
@@ -9,6 +10,7 @@ ghost use Rattle.usb_rules.specs.inside.Running.{marking};
 
 use crate::finding::{Finding, Part};
 use crate::push::push_when;
+use crate::rule::Rule;
 use crate::survey::Survey;
 use std::alloc::AllocError;
 use usb_base::Marks;
@@ -67,14 +69,14 @@ fn check_endpoints(
     setting: usize,
     endpoints: &[Endpoint],
 ) -> Result<(), AllocError>
-    ensures { OnOk result (out.new.items ≡ out.old.items ++ marking address_of (λ marks e. marks e.address) (λ k e. finding 7 part set setting k) unmarked 0 endpoints.now) }
+    ensures { OnOk result (out.new.items ≡ out.old.items ++ marking address_of (λ marks e. marks e.address) (λ k e. finding rules.V7 part set setting k) unmarked 0 endpoints.now) }
 {
     let mut seen = Marks::new();
     for (endpoint, e) in endpoints.iter().enumerate() {
         push_when(
             out,
             seen.has(e.address),
-            Finding::at(7, part, set, setting, endpoint),
+            Finding::at(Rule::V7, part, set, setting, endpoint),
         )?;
         seen.add(e.address);
     }

@@ -9,6 +9,7 @@ ghost use Rattle.usb_rules.specs.inside.Pairs.{none_yet, pairing};
 use crate::finding::{Finding, Part};
 use crate::pairs::Pairs;
 use crate::push::push_when;
+use crate::rule::Rule;
 use crate::survey::Survey;
 use std::alloc::AllocError;
 use usb_set::{Configuration, Setting};
@@ -50,7 +51,7 @@ fn tell_among_few(
         push_when(
             out,
             stands_in(&settings[..setting], s),
-            Finding::at(3, part, set, setting, 0),
+            Finding::at(Rule::V3, part, set, setting, 0),
         )?;
     }
     Ok(())
@@ -81,7 +82,7 @@ fn tell_repeated(
         push_when(
             out,
             seen.has(s.number, s.alternate),
-            Finding::at(3, part, set, setting, 0),
+            Finding::at(Rule::V3, part, set, setting, 0),
         )?;
         seen.add(s.number, s.alternate);
     }

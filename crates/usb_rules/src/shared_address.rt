@@ -1,6 +1,7 @@
 //! V8: no address under two interface numbers of one set.
 ghost use Rattle.std.specs.Prelude.{◌≡◌, ◌++◌, OnOk, fold};
 ghost use Rattle.usb_rules.specs.Findings.{shared_addresses};
+ghost use Rattle.usb_rules.specs.declared.rule.Rule.TheVariants as rules;
 ghost use Rattle.usb_rules.specs.Places.{at_each, finding, when};
 ghost use Rattle.usb_rules.specs.inside.Alternates.{IsSurvey};
 ghost use Rattle.usb_rules.specs.inside.Owners.{owned, owning, owns, unowned};
@@ -8,6 +9,7 @@ ghost use Rattle.usb_rules.specs.inside.Owners.{owned, owning, owns, unowned};
 use crate::finding::{Finding, Part};
 use crate::owners::Owners;
 use crate::push::push_when;
+use crate::rule::Rule;
 use crate::survey::Survey;
 use std::alloc::AllocError;
 use usb_set::{Configuration, Endpoint, Setting};
@@ -58,13 +60,13 @@ fn check_setting(
     setting: usize,
     endpoints: &[Endpoint],
 ) -> Result<(), AllocError>
-    ensures { OnOk result (out.new.items ≡ out.old.items ++ at_each (λ k e. when (owns owners.now e.address number) (finding 8 part set setting k)) 0 endpoints.now) }
+    ensures { OnOk result (out.new.items ≡ out.old.items ++ at_each (λ k e. when (owns owners.now e.address number) (finding rules.V8 part set setting k)) 0 endpoints.now) }
 {
     for (endpoint, e) in endpoints.iter().enumerate() {
         push_when(
             out,
             owners.has_other(e.address, number),
-            Finding::at(8, part, set, setting, endpoint),
+            Finding::at(Rule::V8, part, set, setting, endpoint),
         )?;
     }
     Ok(())

@@ -4,6 +4,7 @@ use Rattle.std.specs.List.{list_all}
 use Rattle.usb_set.specs.declared.tree.Setting.{Setting}
 use Rattle.usb_rules.specs.declared.finding.Part.{Part}
 use Rattle.usb_rules.specs.declared.survey.Survey.{Survey}
+use Rattle.usb_rules.specs.declared.rule.Rule.TheVariants as rules
 use Rattle.usb_rules.specs.Places.{finding, when, at_each_after, stands_in}
 use Rattle.usb_rules.specs.Rules.{interface_numbers, lacks_default_setting, number_of, repeats_setting}
 
@@ -34,8 +35,8 @@ plain next (s ∷ settings) = in_order (next s.number) s.alternate && plain (rai
 
 -- in such a set no setting stands twice, and none is missing
 pub record IsPlain (settings : List Setting) : Type 0 where
-  pub repeats_none : (part : Part) (i : ℕ) → at_each_after (λ before j s. when (repeats_setting before s) (finding 3 part i j 0)) [] 0 settings ≡ []
-  pub lacks_none : (part : Part) (i : ℕ) → at_each_after (λ before j s. when (lacks_default_setting settings before s) (finding 4 part i j 0)) [] 0 settings ≡ []
+  pub repeats_none : (part : Part) (i : ℕ) → at_each_after (λ before j s. when (repeats_setting before s) (finding rules.V3 part i j 0)) [] 0 settings ≡ []
+  pub lacks_none : (part : Part) (i : ℕ) → at_each_after (λ before j s. when (lacks_default_setting settings before s) (finding rules.V4 part i j 0)) [] 0 settings ≡ []
 
 -- the entries are those of the interface numbers of the settings
 abbrev pub IsEntered : (ℕ → ℕ) → List Setting → Type 0

@@ -6,6 +6,7 @@ use Rattle.usb_rules.specs.declared.finding.Part.{Part}
 use Rattle.usb_rules.specs.declared.finding.Finding.{Finding}
 use Rattle.usb_rules.specs.declared.owners.Owner.{Owner}
 use Rattle.usb_rules.specs.declared.owners.Owner.TheVariants as owners
+use Rattle.usb_rules.specs.declared.rule.Rule.TheVariants as rules
 use Rattle.usb_rules.specs.Places.{at_each, when, finding}
 
 -- the owner of an address that stands under this number too
@@ -44,5 +45,5 @@ owned n t e = owned_at n t e.address
 unfoldable pub owning : Part → ℕ → Owned → ℕ → List Setting → List Finding
 owning part i t j [] = []
 owning part i t j (s ∷ settings) =
-    at_each (λ k e. when (t e.address s.number) (finding 8 part i j k)) 0 s.endpoints
+    at_each (λ k e. when (t e.address s.number) (finding rules.V8 part i j k)) 0 s.endpoints
     ++ owning part i (fold (owned s.number) t s.endpoints) (j + 1) settings

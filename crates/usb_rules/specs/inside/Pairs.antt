@@ -4,6 +4,7 @@ use Rattle.std.specs.List.{AllByRecursion}
 use Rattle.usb_set.specs.declared.tree.Setting.{Setting}
 use Rattle.usb_rules.specs.declared.finding.Part.{Part}
 use Rattle.usb_rules.specs.declared.finding.Finding.{Finding}
+use Rattle.usb_rules.specs.declared.rule.Rule.TheVariants as rules
 use Rattle.usb_rules.specs.Places.{when, finding}
 
 -- a row for each of 256 numbers, of 256 cells
@@ -31,4 +32,4 @@ tells rows n a = slice_index_or (slice_index_or rows n []) a false
 unfoldable pub pairing : Part → ℕ → (ℕ → ℕ → Bool) → ℕ → List Setting → List Finding
 pairing part i pairs j [] = []
 pairing part i pairs j (s ∷ settings) =
-    when (pairs s.number s.alternate) (finding 3 part i j 0) ++ pairing part i (pair_too s.number s.alternate pairs) (j + 1) settings
+    when (pairs s.number s.alternate) (finding rules.V3 part i j 0) ++ pairing part i (pair_too s.number s.alternate pairs) (j + 1) settings

@@ -1,0 +1,106 @@
+//! The rules, and what each asks.
+ghost use Rattle.std.specs.Prelude.{◌≡◌};
+ghost use Rattle.usb_rules.specs.FindingLine.{rule_number};
+
+/// A rule of chapter 9 of USB 2.0.
+///
+/// ```rust
+/// assert_eq!(rt; Rule::V10.number(), 10);
+/// for rule in Rule::ALL {
+///     println!(rt; "V{} {}", rule.number(), rule.message())?;
+/// }
+/// ```
+#[derive(Clone, Copy, Debug, PartialEq, Eq, Hash)]
+pub enum Rule {
+    /// bNumInterfaces of a set (9.6.3).
+    V1,
+    /// Interface numbers without a gap (9.6.5).
+    V2,
+    /// Alternate settings that can be told apart (9.6.5).
+    V3,
+    /// An alternate setting 0 of each interface (9.6.5).
+    V4,
+    /// bNumEndpoints of a setting (9.6.5).
+    V5,
+    /// Number and reserved bits of an endpoint's address (9.6.6).
+    V6,
+    /// Addresses within a setting (9.6.5 and 9.6.6).
+    V7,
+    /// Addresses of two interfaces (9.6.5).
+    V8,
+    /// bmAttributes of a set (9.6.3).
+    V9,
+    /// The value that selects a set (9.6.3 and 9.4.7).
+    V10,
+    /// Packet size, class and reserved byte of the device descriptor and the qualifier (9.6.1 and 9.6.2).
+    V11,
+    /// Reserved bits of wMaxPacketSize (9.6.6).
+    V12,
+    /// The interfaces of an association (change notice on interface associations).
+    V13,
+}
+
+impl Rule {
+    /// All rules, in their order.
+    pub const ALL: [Rule; 13] = [
+        Rule::V1,
+        Rule::V2,
+        Rule::V3,
+        Rule::V4,
+        Rule::V5,
+        Rule::V6,
+        Rule::V7,
+        Rule::V8,
+        Rule::V9,
+        Rule::V10,
+        Rule::V11,
+        Rule::V12,
+        Rule::V13,
+    ];
+
+    /// Its number, from 1 to 13.
+    pub fn number(self) -> u8
+        ensures { result ≡ rule_number self }
+    {
+        match self {
+            Rule::V1 => 1,
+            Rule::V2 => 2,
+            Rule::V3 => 3,
+            Rule::V4 => 4,
+            Rule::V5 => 5,
+            Rule::V6 => 6,
+            Rule::V7 => 7,
+            Rule::V8 => 8,
+            Rule::V9 => 9,
+            Rule::V10 => 10,
+            Rule::V11 => 11,
+            Rule::V12 => 12,
+            Rule::V13 => 13,
+        }
+    }
+
+    /// What breaks it, in words.
+    pub fn message(self) -> &'static str {
+        match self {
+            Rule::V1 => "bNumInterfaces is not the count of distinct interface numbers",
+            Rule::V2 => "interfaces are not numbered from 0 without a gap",
+            Rule::V3 => "an alternate setting of an interface stands twice",
+            Rule::V4 => "an interface has no alternate setting 0",
+            Rule::V5 => "bNumEndpoints is not the count of the setting's endpoints",
+            Rule::V6 => {
+                "an endpoint has number 0, or one of bits 6 to 4 of bEndpointAddress is one"
+            }
+            Rule::V7 => "two endpoints of a setting have one address",
+            Rule::V8 => "two interfaces of a set claim one endpoint address",
+            Rule::V9 => {
+                "in bmAttributes of a configuration bit 7 is zero, or one of bits 4 to 0 is one"
+            }
+            Rule::V10 => "a part has no set, or a bConfigurationValue is 0 or stands twice",
+            Rule::V11 => {
+                "bMaxPacketSize0 is not 8, 16, 32 or 64, a subclass has no class, or bReserved is not 0"
+            }
+            Rule::V12 => "one of bits 15 to 13 of wMaxPacketSize is one",
+            Rule::V13 => "an association binds no interface, or one that the set does not have",
+        }
+    }
+}
