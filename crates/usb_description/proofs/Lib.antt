@@ -3,3 +3,5 @@ pub mod ImageLemmas
 pub mod AcceptedLemmas
 pub mod SetLemmas
 pub mod FitLemmas
+pub mod RankLemmas
+pub mod Exits

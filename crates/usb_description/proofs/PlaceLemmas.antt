@@ -14,7 +14,8 @@ use Rattle.usb_file_data.specs.declared.file.Strings.{Strings}
 use Rattle.usb_file_data.specs.File.{whole_set}
 use Rattle.std.proofs.Common.{false, ◌==◌}
 use Rattle.std.proofs.lemmas.Grind.{common_steps}
-use Rattle.usb_description.specs.Descriptors.{set_at, device_of, qualifier_of, other_set_at, string_at, string_place}
+use Rattle.usb_file_data.specs.StringPlaces.{string_place}
+use Rattle.usb_description.specs.Descriptors.{set_at, device_of, qualifier_of, other_set_at, string_at}
 use Rattle.usb_description.specs.Places.{descriptors, descriptor_at, main_descriptors, other_descriptors, string_descriptors, IsFound}
 
 -- an element of a list is one of a longer list

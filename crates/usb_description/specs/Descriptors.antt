@@ -1,5 +1,5 @@
 -- The descriptors that a device hands out (USB 2.0, 9.4.3).
-use Rattle.std.specs.Prelude.{ℕ, ◌+◌, ◌*◌, ◌==◌, List, length, slice_get, position, Option, Some, None, option_and_then, if◌then◌else◌}
+use Rattle.std.specs.Prelude.{ℕ, ◌==◌, List, slice_get, Option, Some, None, if◌then◌else◌}
 use Rattle.std.specs.Option.{option_map}
 use Rattle.usb_fields.specs.Device.{device_bytes}
 use Rattle.usb_fields.specs.Qualifier.{qualifier_bytes}
@@ -10,6 +10,7 @@ use Rattle.usb_file_data.specs.declared.file.Other.{Other}
 use Rattle.usb_file_data.specs.declared.file.Strings.{Strings}
 use Rattle.usb_file_data.specs.File.{whole_set}
 use Rattle.usb_file_data.specs.Named.{named_indices}
+use Rattle.usb_file_data.specs.StringPlaces.{units_at}
 
 -- the device descriptor, of index 0 (9.6.1)
 abbrev pub device_of : DescriptorFile → ℕ → Option (List ℕ)
@@ -28,17 +29,6 @@ qualifier_of (Some other) index = if index == 0 then Some (qualifier_bytes other
 abbrev pub other_set_at : Option Other → ℕ → Option (List ℕ)
 other_set_at None index = None
 other_set_at (Some other) index = set_at other.sets index
-
--- the place of a string among those of all languages, where these indices are named: language by language, one for each
--- index in ascending order
-abbrev pub string_place : Strings → List ℕ → ℕ → ℕ → Option ℕ
-string_place s named index language =
-    option_and_then (λ row. option_map (λ column. row * length named + column) (position (λ n. n == index) named))
-    (position (λ l. l == language) s.languages)
-
--- the units of a string
-abbrev pub units_at : Strings → List ℕ → ℕ → ℕ → Option (List ℕ)
-units_at s named index language = option_and_then (slice_get s.texts) (string_place s named index language)
 
 -- string 0 is the language list, and any other index that is named is a string in each language of the list (9.6.7)
 abbrev pub string_at : Option Strings → List ℕ → ℕ → ℕ → Option (List ℕ)

@@ -1,3 +1,4 @@
 -- What no public contract cites.
 pub mod Images
 pub mod Descriptions
+pub mod Ranks

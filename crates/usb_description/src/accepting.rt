@@ -1,31 +1,33 @@
 //! Whether a device can be made of a descriptor file.
-ghost use Rattle.std.specs.Prelude.{◌≡◌, OnOk, IfErr, false};
+ghost use Rattle.std.specs.Prelude.{◌≡◌, ◌≤◌, length, OnOk, IfErr, false};
 ghost use Rattle.std.specs.List.{list_any};
+ghost use Rattle.usb_file_data.specs.Named.{named_indices};
 ghost use Rattle.usb_description.specs.Accepted.{has_early_second_speed, has_other_packets, has_wrong_sets, has_wrong_speed, has_wrong_strings, refusal_of, repeats, repeats_language, stands_in, Accepted, Refuses};
 
 use crate::fault::DescriptionFault;
 use std::alloc::Global;
 use usb_fields::Speed;
-use usb_file_data::{DescriptorFile, Strings, WriteFault, write_refusal};
+use usb_file_data::{DescriptorFile, Strings, WriteFault, are_wrong_strings, write_refusal};
 use usb_rules::check;
 
-/// Refuses a file that is no description of a device of this speed.
+/// Refuses a file that is no description of a device of this speed. Its sets have bytes, and it names so many strings.
 pub(crate) fn examine(
     alloc: Global,
     f: &DescriptorFile,
+    count: usize,
     speed: Speed,
 ) -> Result<(), DescriptionFault>
+    requires sets { has_wrong_sets f.now ≡ false }
+    requires count { count ≡ length (named_indices f.now) }
+    requires most { count ≤ 255 }
     ensures ok { OnOk result (Accepted f.now speed) }
     ensures err { IfErr result (λ fault. Refuses f.now speed fault) }
 {
-    if has_wrong_sets(f) {
-        return Err(DescriptionFault::Unwritable);
-    }
     let findings = check(alloc, f)?;
     if let Some(first) = findings.first() {
         return Err(DescriptionFault::Finding(*first));
     }
-    if has_wrong_strings(f) {
+    if has_wrong_strings(f, count) {
         return Err(DescriptionFault::Texts);
     }
     if has_wrong_speed(f, speed) {
@@ -36,7 +38,7 @@ pub(crate) fn examine(
 
 /// Whether the sets have no bytes, or are not as declared.
 #[tactic(auto, unfolding(crate::specs::Accepted::has_wrong_sets))]
-fn has_wrong_sets(f: &DescriptorFile) -> bool
+pub(crate) fn has_wrong_sets(f: &DescriptorFile) -> bool
     ensures { result ≡ has_wrong_sets f.now }
 {
     match write_refusal(f) {
@@ -45,13 +47,14 @@ fn has_wrong_sets(f: &DescriptorFile) -> bool
     }
 }
 
-/// Whether the strings are not those that the file names, or could not be told apart.
-#[tactic(auto, unfolding(crate::specs::Accepted::has_wrong_sets, crate::specs::Accepted::has_wrong_strings))]
-fn has_wrong_strings(f: &DescriptorFile) -> bool
-    requires { has_wrong_sets f.now ≡ false }
+/// Whether the strings are not those of so many named indices, or could not be told apart.
+#[tactic(auto, unfolding(crate::specs::Accepted::has_wrong_strings))]
+fn has_wrong_strings(f: &DescriptorFile, count: usize) -> bool
+    requires count { count ≡ length (named_indices f.now) }
+    requires most { count ≤ 255 }
     ensures { result ≡ has_wrong_strings f.now }
 {
-    write_refusal(f).is_some() || repeats_language(&f.strings)
+    are_wrong_strings(count, &f.strings) || repeats_language(&f.strings)
 }
 
 /// Whether a language stands twice in the language list.

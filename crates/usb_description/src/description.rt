@@ -1,16 +1,18 @@
 //! What a device tells of itself, ready to be sent.
 ghost use Rattle.std.specs.Prelude.{◌≡◌, ◌<◌, ◌*◌, ◌==◌, length, position, IfErr, IfOk, IfSome, MatchOption, OnOk, None};
+ghost use Rattle.std.specs.Option.{option_copied};
 ghost use Rattle.usb_base.specs.Bytes.{AreBytes};
 ghost use Rattle.usb_file_data.specs.File.{file_bytes};
-ghost use Rattle.usb_description.specs.Descriptors.{string_place};
+ghost use Rattle.usb_file_data.specs.StringPlaces.{string_place};
 
 use crate::accepting::examine;
 use crate::fault::DescriptionFault;
 use crate::image::Image;
-use crate::imaging::{add_main, add_other, add_strings};
+use crate::imaging::{add_speeds, add_strings};
+use crate::ranks::Ranks;
 use std::alloc::Global;
 use std::marker::Model;
-use usb_fields::Speed;
+use usb_fields::{Speed, descriptor_type};
 use usb_file_data::{DescriptorFile, Strings, named};
 
 /// The descriptors of a device, checked, and encoded once.
@@ -24,8 +26,8 @@ use usb_file_data::{DescriptorFile, Strings, named};
 pub struct Description {
     file: DescriptorFile,
     speed: Speed,
-    /// The indices of the strings, ascending.
-    named: Vec<u8>,
+    /// The indices of the strings, ascending, each with its rank among them.
+    named: Ranks,
     /// The descriptors in the order of the file, a set as one.
     image: Image,
     /// The place of the qualifier in the image, where there is one.
@@ -57,7 +59,7 @@ impl Description {
     /// # Errors
     ///
     /// [`DescriptionFault`], the first that holds in its order. The file is dropped then.
-    #[tactic(auto, using(crate::proofs::AcceptedLemmas::sets_have_bytes, crate::proofs::AcceptedLemmas::other_sets_have_bytes, crate::proofs::AcceptedLemmas::strings_have_bytes))]
+    #[tactic(auto, using(crate::proofs::AcceptedLemmas::strings_have_bytes))]
     pub fn new(alloc: Global, f: DescriptorFile, s: Speed) -> Result<Description, DescriptionFault>
         ensures ok { IfOk result (λ d. d ≡ record { file = f; speed = s }) }
         ensures accepted { OnOk result (Accepted f s) }
@@ -65,14 +67,12 @@ impl Description {
         // No reason stands against a file that is accepted.
         ensures only { Accepted f s → refusal_of f s ≡ None }
     {
-        examine(alloc, &f, s)?;
-        let named = named(alloc, &f)?;
         let mut image = Image::new(alloc);
-        add_main(alloc, &mut image, &f)?;
-        let others = image.len();
-        add_other(alloc, &mut image, &f.other)?;
+        let others = add_speeds(&mut image, &f)?;
         let strings = image.len();
-        add_strings(alloc, &mut image, &f.strings)?;
+        let named = Ranks::new(named(alloc, &f)?);
+        examine(alloc, &f, named.len(), s)?;
+        add_strings(&mut image, &f.strings)?;
         Ok(Description {
             file: f,
             speed: s,
@@ -121,8 +121,11 @@ impl Description {
     }
 
     /// The bytes of the descriptor at this place, lent from the description: those of a whole set where a set stands
-    /// there (USB 2.0, 9.4.3). Places count from 0, in the order of the file. There must be a descriptor at the place,
-    /// as there is at each that [`Description::find`] gives.
+    /// there (USB 2.0, 9.4.3). Places count from 0, in the order of the file.
+    ///
+    /// # Requires
+    ///
+    /// A descriptor stands at the place, as at each that [`Description::find`] gives.
     #[tactic(auto, using(crate::proofs::PlaceLemmas::descriptor_found))]
     #[inline(always)]
     pub fn bytes(&self, place: usize) -> &[u8]
@@ -140,12 +143,28 @@ impl Description {
         ensures { MatchOption result (descriptor self.now.file kind index language ≡ None) (IsFound self.now.file (descriptor self.now.file kind index language)) }
     {
         match kind {
-            1 => self.find_device(index),
-            2 => self.find_set(index),
-            3 => self.find_string(index, language),
-            6 => self.find_qualifier(index),
-            7 => self.find_other_set(index),
+            descriptor_type::DEVICE => self.find_device(index),
+            descriptor_type::CONFIGURATION => self.find_set(index),
+            descriptor_type::STRING => self.find_string(index, language),
+            descriptor_type::DEVICE_QUALIFIER => self.find_qualifier(index),
+            descriptor_type::OTHER_SPEED_CONFIGURATION => self.find_other_set(index),
             _ => None,
+        }
+    }
+
+    /// The bytes of the descriptor of this type and index, in this language where it is a string, or `None` where the
+    /// device has none such: [`Description::find`] and [`Description::bytes`] in one call.
+    ///
+    /// ```rust
+    /// let bytes = description.descriptor(descriptor_type::DEVICE, 0, 0);
+    /// assert_eq!(rt; bytes.map(|b| b.len()), Some(18));
+    /// ```
+    pub fn descriptor(&self, kind: u8, index: u8, language: u16) -> Option<&[u8]>
+        ensures { option_copied result ≡ descriptor self.now.file kind index language }
+    {
+        match self.find(kind, index, language) {
+            Some(place) => Some(self.bytes(place)),
+            None => None,
         }
     }
 
@@ -215,14 +234,14 @@ impl Description {
 }
 
 /// The place of a string among the strings of all languages.
-fn find_place(strings: &Strings, named: &[u8], index: u8, language: u16) -> Option<usize>
+fn find_place(strings: &Strings, named: &Ranks, index: u8, language: u16) -> Option<usize>
     requires { length strings.now.texts ≡ length strings.now.languages * length named.now }
     ensures place { result ≡ string_place strings.now named.now index language }
     ensures within { IfSome result (λ place. place < length strings.now.texts) }
 {
     let _count = strings.texts.len();
     let row = place_of_language(&strings.languages, language)?;
-    let column = place_of_index(named, index)?;
+    let column = named.place(index)?;
     Some(row * named.len() + column)
 }
 
@@ -231,11 +250,4 @@ fn place_of_language(languages: &[u16], language: u16) -> Option<usize>
     ensures within { IfSome result (λ place. place < length languages.now) }
 {
     languages.iter().position(|other| *other == language)
-}
-
-fn place_of_index(named: &[u8], index: u8) -> Option<usize>
-    ensures place { result ≡ position (λ n. n == index) named.now }
-    ensures within { IfSome result (λ place. place < length named.now) }
-{
-    named.iter().position(|other| *other == index)
 }

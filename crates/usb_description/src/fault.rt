@@ -28,7 +28,7 @@ pub enum DescriptionFault {
     /// hexadecimal.
     #[error("no device of this speed has such descriptors")]
     Speed,
-    /// A growth was refused.
+    /// Out of memory: a growth was refused.
     #[error("out of memory")]
     Memory,
     /// The sets are not as many as declared or of another kind, or one of them has no bytes.

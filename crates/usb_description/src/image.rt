@@ -1,11 +1,15 @@
 //! Byte strings one after another in one buffer.
-ghost use Rattle.std.specs.Prelude.{◌≡◌, ◌<◌, ◌++◌, ◌∷◌, [], length, slice_get, OnOk, Some};
+ghost use Rattle.std.specs.Prelude.{◌≡◌, ◌<◌, ◌++◌, ◌∷◌, [], false, length, slice_get, IfErr, OnErr, OnOk, Some};
 ghost use Rattle.std.specs.List.{AllByRecursion};
 ghost use Rattle.usb_base.specs.Bytes.{AreBytes};
+ghost use Rattle.usb_fields.specs.Units.{units_bytes, WriteUnitsFails};
+ghost use Rattle.usb_file_data.specs.File.{has_no_layout, whole_set};
 
 use std::alloc::{AllocError, Global};
 use std::marker::Model;
 use usb_base::known_bytes;
+use usb_fields::{UnitFault, write_units_onto};
+use usb_set::{Configuration, EncodeFault, encode_onto};
 
 /// Where a byte string stands.
 #[derive(Clone, Copy, Debug)]
@@ -57,10 +61,32 @@ impl Image {
     {
         let start = self.bytes.len();
         self.bytes.extend_from_slice(piece)?;
-        self.spans.push(Span {
-            start,
-            count: piece.len(),
-        })?;
+        add_span(&mut self.spans, start, piece.len())?;
+        Ok(())
+    }
+
+    /// Adds the bytes of a set at the end, where it has some.
+    #[tactic(auto, unfolding(usb_file_data::specs::File::whole_set))]
+    pub(crate) fn add_set(&mut self, c: &Configuration) -> Result<(), EncodeFault>
+        ensures bytes { OnOk result (self.new ≡ self.old ++ whole_set c.now ∷ []) }
+        ensures allowed { OnOk result (has_no_layout c.now ≡ false) }
+    {
+        let start = self.bytes.len();
+        encode_onto(c, &mut self.bytes)?;
+        let count = self.bytes.len() - start;
+        add_span(&mut self.spans, start, count)?;
+        Ok(())
+    }
+
+    /// Adds the bytes of a string or a language list at the end, where it has not too many units.
+    pub(crate) fn add_string(&mut self, units: &[u16]) -> Result<(), UnitFault>
+        ensures bytes { OnOk result (self.new ≡ self.old ++ units_bytes units.now ∷ []) }
+        ensures long { IfErr result (WriteUnitsFails units.now) }
+    {
+        let start = self.bytes.len();
+        write_units_onto(units, &mut self.bytes)?;
+        let count = self.bytes.len() - start;
+        add_span(&mut self.spans, start, count)?;
         Ok(())
     }
 
@@ -81,4 +107,13 @@ impl Image {
     {
         known_bytes(&self.bytes);
     }
+}
+
+/// Adds one span at the end.
+fn add_span(spans: &mut Vec<Span>, start: usize, count: usize) -> Result<(), AllocError>
+    ensures ok { OnOk result (spans.new.items ≡ spans.old.items ++ record { start = start; count = count } ∷ []) }
+    ensures err { OnErr result (spans.new.items ≡ spans.old.items) }
+{
+    spans.push(Span { start, count })?;
+    Ok(())
 }

@@ -1,111 +1,135 @@
-//! The descriptors of a file, each encoded once.
-ghost use Rattle.std.specs.Prelude.{◌≡◌, ◌++◌, ◌∷◌, [], map, false, OnOk};
+//! The descriptors of a file, each judged and encoded once.
+ghost use Rattle.std.specs.Prelude.{◌≡◌, ◌++◌, ◌∷◌, [], length, map, false, IfErr, IfOk, IfSome, OnOk, OnSome};
 ghost use Rattle.std.specs.List.{list_any};
+ghost use Rattle.usb_fields.specs.declared.speed.Speed.{Speed};
+ghost use Rattle.usb_fields.specs.Qualifier.{qualifier_bytes};
 ghost use Rattle.usb_fields.specs.Units.{units_bytes};
 ghost use Rattle.usb_file_data.specs.File.{has_long_string, has_no_layout, is_long_string, whole_set};
 ghost use Rattle.usb_file_data.specs.Named.{other_sets};
+ghost use Rattle.usb_description.specs.Accepted.{has_wrong_sets, Refuses};
 ghost use Rattle.usb_description.specs.Places.{main_descriptors, other_descriptors, string_descriptors};
 
+use crate::accepting::has_wrong_sets;
+use crate::fault::DescriptionFault;
 use crate::image::Image;
-use std::alloc::{AllocError, Global};
-use usb_fields::{UnitFault, write_units};
-use usb_file_data::{DescriptorFile, Other, Strings};
-use usb_set::{Configuration, EncodeFault, Sequence, encode};
+use std::alloc::AllocError;
+use usb_fields::UnitFault;
+use usb_file_data::{DescriptorFile, Other, Strings, has_undeclared_sets};
+use usb_set::{Configuration, EncodeFault, Sequence};
+
+/// Adds the descriptors of both speeds, and answers how many stand before those of the second.
+pub(crate) fn add_speeds(image: &mut Image, f: &DescriptorFile) -> Result<usize, DescriptionFault>
+    ensures descriptors { OnOk result (image.new ≡ image.old ++ main_descriptors f.now ++ other_descriptors f.now.other) }
+    ensures others { IfOk result (λ place. place ≡ length (image.old ++ main_descriptors f.now)) }
+    ensures allowed { OnOk result (has_wrong_sets f.now ≡ false) }
+    ensures err { IfErr result (λ fault. (s : Speed) → Refuses f.now s fault) }
+{
+    match add_declared(image, f) {
+        Some(others) => Ok(others),
+        None => Err(first_reason(f)),
+    }
+}
+
+/// Why the sets could not be added.
+#[cold]
+fn first_reason(f: &DescriptorFile) -> DescriptionFault
+    ensures { (s : Speed) → Refuses f.now s result }
+{
+    if has_wrong_sets(f) {
+        DescriptionFault::Unwritable
+    } else {
+        DescriptionFault::Memory
+    }
+}
+
+/// The same, or `None` where something stands against the sets or a growth was refused.
+#[tactic(auto, unfolding(crate::specs::Accepted::has_wrong_sets))]
+fn add_declared(image: &mut Image, f: &DescriptorFile) -> Option<usize>
+    ensures descriptors { OnSome result (image.new ≡ image.old ++ main_descriptors f.now ++ other_descriptors f.now.other) }
+    ensures others { IfSome result (λ place. place ≡ length (image.old ++ main_descriptors f.now)) }
+    ensures allowed { OnSome result (has_wrong_sets f.now ≡ false) }
+{
+    if has_undeclared_sets(f) {
+        return None;
+    }
+    add_main(image, f).ok()?;
+    let others = image.len();
+    add_other(image, &f.other).ok()?;
+    Some(others)
+}
 
 /// Adds the device descriptor and the sets of the device.
-pub(crate) fn add_main(
-    alloc: Global,
-    image: &mut Image,
-    f: &DescriptorFile,
-) -> Result<(), AllocError>
-    requires { list_any has_no_layout f.now.sets ≡ false }
-    ensures { OnOk result (image.new ≡ image.old ++ main_descriptors f.now) }
+fn add_main(image: &mut Image, f: &DescriptorFile) -> Result<(), EncodeFault>
+    ensures descriptors { OnOk result (image.new ≡ image.old ++ main_descriptors f.now) }
+    ensures allowed { OnOk result (list_any has_no_layout f.now.sets ≡ false) }
 {
     image.add(&f.device.to_bytes())?;
-    add_sets(alloc, image, &f.sets)?;
+    add_sets(image, &f.sets)?;
     Ok(())
 }
 
 /// Adds the descriptors of the second speed, if there is one.
-pub(crate) fn add_other(
-    alloc: Global,
-    image: &mut Image,
-    other: &Option<Other>,
-) -> Result<(), AllocError>
-    requires { list_any has_no_layout (other_sets other.now) ≡ false }
-    ensures { OnOk result (image.new ≡ image.old ++ other_descriptors other.now) }
+fn add_other(image: &mut Image, other: &Option<Other>) -> Result<(), EncodeFault>
+    ensures descriptors { OnOk result (image.new ≡ image.old ++ other_descriptors other.now) }
+    ensures allowed { OnOk result (list_any has_no_layout (other_sets other.now) ≡ false) }
 {
     match other {
         None => Ok(()),
-        Some(other) => {
-            image.add(&other.qualifier.to_bytes())?;
-            add_sets(alloc, image, &other.sets)
-        }
+        Some(other) => add_second_speed(image, other),
     }
 }
 
-#[tactic(auto, using(usb_set::proofs::Tests::none_at))]
-fn add_sets(alloc: Global, image: &mut Image, sets: &[Configuration]) -> Result<(), AllocError>
-    requires { list_any has_no_layout sets.now ≡ false }
-    ensures { OnOk result (image.new ≡ image.old ++ map whole_set sets.now) }
+/// Adds the qualifier and the sets of the other speed.
+fn add_second_speed(image: &mut Image, other: &Other) -> Result<(), EncodeFault>
+    ensures descriptors { OnOk result (image.new ≡ image.old ++ (qualifier_bytes other.now.qualifier ∷ map whole_set other.now.sets)) }
+    ensures allowed { OnOk result (list_any has_no_layout other.now.sets ≡ false) }
+{
+    image.add(&other.qualifier.to_bytes())?;
+    add_sets(image, &other.sets)?;
+    Ok(())
+}
+
+fn add_sets(image: &mut Image, sets: &[Configuration]) -> Result<(), EncodeFault>
+    ensures descriptors { OnOk result (image.new ≡ image.old ++ map whole_set sets.now) }
+    ensures allowed { OnOk result (list_any has_no_layout sets.now ≡ false) }
 {
     for c in sets {
-        add_set(alloc, image, c)?;
+        image.add_set(c)?;
     }
     Ok(())
 }
 
-#[tactic(auto, using(crate::proofs::SetLemmas::layout_is))]
-fn add_set(alloc: Global, image: &mut Image, c: &Configuration) -> Result<(), AllocError>
-    requires { has_no_layout c.now ≡ false }
-    ensures { OnOk result (image.new ≡ image.old ++ whole_set c.now ∷ []) }
-{
-    match encode(alloc, c) {
-        Ok(bytes) => image.add(&bytes),
-        Err(EncodeFault::Memory) => Err(AllocError),
-        Err(_) => unreachable!(),
-    }
-}
-
 /// Adds the language list and the strings, if there are any.
-pub(crate) fn add_strings(
-    alloc: Global,
-    image: &mut Image,
-    strings: &Option<Strings>,
-) -> Result<(), AllocError>
+pub(crate) fn add_strings(image: &mut Image, strings: &Option<Strings>) -> Result<(), AllocError>
     requires { has_long_string strings.now ≡ false }
     ensures { OnOk result (image.new ≡ image.old ++ string_descriptors strings.now) }
 {
     match strings {
         None => Ok(()),
         Some(strings) => {
-            add_string(alloc, image, &strings.languages)?;
-            add_each_string(alloc, image, &strings.texts)
+            add_string(image, &strings.languages)?;
+            add_each_string(image, &strings.texts)
         }
     }
 }
 
 #[tactic(auto, using(usb_set::proofs::Tests::none_at))]
-fn add_each_string(
-    alloc: Global,
-    image: &mut Image,
-    strings: &[Sequence<u16>],
-) -> Result<(), AllocError>
+fn add_each_string(image: &mut Image, strings: &[Sequence<u16>]) -> Result<(), AllocError>
     requires { list_any is_long_string strings.now ≡ false }
     ensures { OnOk result (image.new ≡ image.old ++ map units_bytes strings.now) }
 {
     for units in strings {
-        add_string(alloc, image, units)?;
+        add_string(image, units)?;
     }
     Ok(())
 }
 
-fn add_string(alloc: Global, image: &mut Image, units: &Sequence<u16>) -> Result<(), AllocError>
+fn add_string(image: &mut Image, units: &Sequence<u16>) -> Result<(), AllocError>
     requires { is_long_string units.now ≡ false }
     ensures { OnOk result (image.new ≡ image.old ++ units_bytes units.now ∷ []) }
 {
-    match write_units(alloc, units) {
-        Ok(bytes) => image.add(&bytes),
+    match image.add_string(units) {
+        Ok(()) => Ok(()),
         Err(UnitFault::Memory) => Err(AllocError),
         Err(_) => unreachable!(),
     }

@@ -17,6 +17,7 @@ mod description;
 mod fault;
 mod image;
 mod imaging;
+mod ranks;
 
 pub use description::Description;
 pub use fault::DescriptionFault;

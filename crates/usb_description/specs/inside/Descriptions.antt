@@ -14,5 +14,5 @@ pub record IsDescription (d : Inside) : Type 0 where
   pub image : d.image ≡ descriptors d.file
   pub others : d.others ≡ length (main_descriptors d.file)
   pub strings : d.strings ≡ length (main_descriptors d.file ++ other_descriptors d.file.other)
-  pub named : d.named.items ≡ named_indices d.file
+  pub named : d.named ≡ named_indices d.file
   pub accepted : Accepted d.file d.speed

@@ -9,7 +9,7 @@ returns-clause-ok c =
     let lent : c.deref.result.now ≡ c.in_ok-findings.findings.items = c.deref.ensures.value in
     let empty = none_first c.deref.result.now (sym c.in_default.ensures.value) in
     record {
-      sets = sym c.if-has_wrong_sets.ensures;
+      sets = c.requires.sets;
       rules = sym told ∙ sym lent ∙ empty;
       strings = sym c.if-has_wrong_strings.ensures;
       speed = sym c.if-has_wrong_speed.ensures;

@@ -1,6 +1,7 @@
 use Rattle.std.proofs.Common.{◌≡◌, ◌+◌, ◌<◌, length, Some, ap, subst, arith}
 use Rattle.usb_file_data.specs.Named.{named_indices}
-use Rattle.usb_description.specs.Descriptors.{string_at, string_place}
+use Rattle.usb_file_data.specs.StringPlaces.{string_place}
+use Rattle.usb_description.specs.Descriptors.{string_at}
 use Rattle.usb_description.specs.Described.{Described}
 use Rattle.usb_description.specs.Places.{descriptors, IsFound}
 use Rattle.usb_description.proofs.AcceptedLemmas.{texts_as_many}
@@ -29,13 +30,13 @@ returns-in-Some c =
 pub returns-in-Some-find_place : goal.returns-in-Some-find_place
 returns-in-Some-find_place c =
     let within : c.in-Some-find_place.place < length c.in-Some-2.strings.texts = c.in-Some-find_place.ensures.within in
-    let named : c.deref.result.now ≡ named_indices c.self.inside.file = cc in
-    let is : c.find_place.result ≡ string_place c.in-Some-2.strings c.deref.result.now c.args.index c.args.language = c.find_place.ensures.place in
+    let named : c.self.inside.named ≡ named_indices c.self.inside.file = c.self.invariant.named in
+    let is : c.find_place.result ≡ string_place c.in-Some-2.strings c.self.inside.named c.args.index c.args.language = c.find_place.ensures.place in
     let there : Some c.in-Some-find_place.place ≡ string_place c.in-Some-2.strings (named_indices c.self.inside.file) c.args.index c.args.language = cc in
     subst (λ (d : Described). IsFound d.file (string_at d.file.strings (named_indices d.file) c.args.index c.args.language) (c.self.inside.strings + 1 + c.in-Some-find_place.place)) c.self.view_is
     (string_found c.self.inside.file c.in-Some-2.strings (named_indices c.self.inside.file) c.args.index c.args.language c.self.inside.strings c.in-Some-find_place.place c.in-Some-2.is c.if-index-eq0.false c.self.invariant.strings there within)
 
 pub find_place-requires : goal.find_place-requires
 find_place-requires c =
-    let named : c.deref.result.now ≡ named_indices c.self.inside.file = cc in
+    let named : c.self.inside.named ≡ named_indices c.self.inside.file = c.self.invariant.named in
     rw named (texts_as_many c.self.inside.file c.in-Some-2.strings c.in-Some-2.is c.self.invariant.accepted.strings)
