@@ -1,7 +1,9 @@
 -- What a device keeps from one request to the next (USB 2.0, 9.1.1 and 9.4).
-use Rattle.std.specs.Prelude.{ℕ, ◌+◌, ◌*◌, ◌/◌, ◌%◌, ◌^◌, ◌==◌, ◌&&◌, Bool, false, not, List, replicate, bit_or, bit_and}
+use Rattle.std.specs.Prelude.{ℕ, ◌+◌, ◌*◌, ◌/◌, ◌%◌, ◌^◌, ◌==◌, ◌&&◌, Bool, false, not, List, replicate, bit_or, bit_and, if◌then◌else◌}
 use Rattle.std.specs.Int.{bit_at, bit_not, w32}
 use Rattle.usb_device.specs.declared.state.State.{State}
+use Rattle.usb_device.specs.declared.device_state.DeviceState.{DeviceState}
+use Rattle.usb_device.specs.declared.device_state.DeviceState.TheVariants.{Default, Address, Configured}
 
 -- the alternate setting 0 for each interface number
 unfoldable pub first_alternates : List ℕ
@@ -18,6 +20,10 @@ has_address s = not (s.address == 0)
 -- in the Configured state: with an address and a configuration (9.1.1.5)
 abbrev pub is_configured : State → Bool
 is_configured s = has_address s && not (s.selected == 0)
+
+-- in which of the states of a device that has power and was reset (9.1.1, table 9-1)
+abbrev pub device_state : State → DeviceState
+device_state s = if is_configured s then Configured else if has_address s then Address else Default
 
 -- the place in the halts of the endpoint with this address: that of its number, and 16 places on where it is IN
 abbrev pub halt_place : ℕ → ℕ

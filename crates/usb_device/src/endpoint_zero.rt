@@ -13,7 +13,7 @@ use crate::response::Response;
 use crate::stage::{DataStage, Source, Stage};
 use crate::state::State;
 use usb_description::Description;
-use usb_fields::{Answer, Setup, Stage as Token, Toggle, Transaction};
+use usb_fields::{Answer, Setup, Stage as Token, Toggle, Transaction, request};
 
 /// What a device answers to a transaction, with the bytes left out.
 #[derive(Clone, Copy)]
@@ -102,8 +102,11 @@ impl EndpointZero {
         }
     }
 
-    /// One transaction, as [`Device::serve`](crate::Device::serve) has it. The description must be the one that it was
-    /// made for.
+    /// One transaction, as [`Device::serve`](crate::Device::serve) has it.
+    ///
+    /// # Requires
+    ///
+    /// The description is the one that it was made for.
     #[inline(always)]
     pub fn serve<'a>(
         &'a mut self,
@@ -284,7 +287,11 @@ impl EndpointZero {
     }
 
     /// The host's ACK of the data packet that [`EndpointZero::serve`] answered right before. Anywhere else, and a
-    /// second time, it changes nothing. The description must be the one that it was made for.
+    /// second time, it changes nothing.
+    ///
+    /// # Requires
+    ///
+    /// The description is the one that it was made for.
     #[inline(always)]
     pub fn acked(&mut self, d: &Description)
         requires { IsOf d.now.file self.old }
@@ -353,5 +360,5 @@ impl EndpointZero {
 pub fn is_set_address(q: Setup) -> bool
     ensures { result ≡ is_set_address q }
 {
-    q.request_type % 128 == 0 && q.request == 5
+    q.request_type % 128 == 0 && q.request == request::SET_ADDRESS
 }

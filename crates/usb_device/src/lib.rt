@@ -3,7 +3,8 @@
 //! A [`Description`] is made of the descriptors and a speed, and encodes each descriptor once. A [`Device`]
 //! borrows it: [`Device::serve`] answers a transaction, and lends what it sends from the description, so that a
 //! device takes no memory and can't fail. [`Device::acked`] tells it that the host acknowledged a data packet,
-//! [`Device::state`] is what it keeps between requests, and [`Device::stage`] where it stands in a transfer.
+//! [`Device::state`] is what it keeps between requests,
+//! [`State::device_state`] in which [`DeviceState`] it then is, and [`Device::stage`] where it stands in a transfer.
 //! [`EndpointZero`] is what changes in a device, without the description, and [`is_set_address`] tells the request that a
 //! device carries out after its status stage.
 //!
@@ -18,6 +19,7 @@
 #![tactic(auto)]
 
 mod device;
+mod device_state;
 mod endpoint_zero;
 mod halts;
 pub mod laws;
@@ -28,6 +30,7 @@ mod stage;
 mod state;
 
 pub use device::Device;
+pub use device_state::DeviceState;
 pub use endpoint_zero::{EndpointZero, is_set_address};
 pub use stage::Stage as DeviceStage;
 pub use state::State;

@@ -7,7 +7,7 @@ use crate::response::{Change, Response};
 use crate::state::State;
 use crate::{halts, selected};
 use usb_description::Description;
-use usb_fields::{Class, Direction, Recipient, Setup};
+use usb_fields::{Class, Direction, Recipient, Setup, feature, request};
 use usb_set::Setting;
 
 /// A request, and the device that it is made to.
@@ -43,15 +43,15 @@ impl<'r> Request<'r> {
         ensures asked { AsksFor self.now result }
     {
         match self.setup.request {
-            0 => self.get_status(),
-            1 => self.change_feature(false),
-            3 => self.change_feature(true),
-            5 => self.set_address(),
-            6 => self.get_descriptor(),
-            8 => self.get_configuration(),
-            9 => self.set_configuration(),
-            10 => self.get_interface(),
-            11 => self.set_interface(),
+            request::GET_STATUS => self.get_status(),
+            request::CLEAR_FEATURE => self.change_feature(false),
+            request::SET_FEATURE => self.change_feature(true),
+            request::SET_ADDRESS => self.set_address(),
+            request::GET_DESCRIPTOR => self.get_descriptor(),
+            request::GET_CONFIGURATION => self.get_configuration(),
+            request::SET_CONFIGURATION => self.set_configuration(),
+            request::GET_INTERFACE => self.get_interface(),
+            request::SET_INTERFACE => self.set_interface(),
             _ => Response::Refused,
         }
     }
@@ -134,14 +134,14 @@ impl<'r> Request<'r> {
         }
     }
 
-    /// DEVICE_REMOTE_WAKEUP is feature 1 (table 9-6).
+    /// DEVICE_REMOTE_WAKEUP (table 9-6).
     #[inline(always)]
     fn change_wakeup(&self, on: bool) -> Response
         ensures answer { says self.now result ≡ wakeup_feature on self.now.description.now.file self.now.state.now self.now.setup }
         ensures asked { AsksFor self.now result }
     {
         if self.state.has_address()
-            && self.setup.value == 1
+            && self.setup.value == feature::DEVICE_REMOTE_WAKEUP
             && self.setup.index == 0
             && selected::any_can_wake(&self.description.file().sets)
         {
@@ -151,13 +151,16 @@ impl<'r> Request<'r> {
         }
     }
 
-    /// ENDPOINT_HALT is feature 0 (table 9-6).
+    /// ENDPOINT_HALT (table 9-6).
     #[inline(always)]
     fn change_halt(&self, on: bool) -> Response
         ensures answer { says self.now result ≡ halt_feature on self.now.description.now.file self.now.state.now self.now.setup }
         ensures asked { AsksFor self.now result }
     {
-        if !self.state.is_configured() || self.setup.value != 0 || self.names_endpoint_zero() {
+        if !self.state.is_configured()
+            || self.setup.value != feature::ENDPOINT_HALT
+            || self.names_endpoint_zero()
+        {
             return Response::Refused;
         }
         match self.endpoint() {
