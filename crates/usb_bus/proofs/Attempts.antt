@@ -1,6 +1,7 @@
 -- An attempt: each transaction keeps an attempt sound.
-use Rattle.std.proofs.Common.{◌≡◌, ◌≢◌, ℕ, ◌+◌, ◌<◌, Bool, true, ◌⊎◌, List, [], ◌∷◌, ◌++◌, refl, ap, sym, ◌∙◌, arith, inl, inr, subst, add-zero, add_assoc}
+use Rattle.std.proofs.Common.{◌≡◌, ◌≢◌, ℕ, ◌+◌, ◌<◌, Bool, true, ◌⊎◌, List, [], ◌∷◌, ◌++◌, refl, ap, sym, ◌∙◌, arith, inl, inr, subst, length, take, zero-add, add-zero, add_assoc, append_assoc}
 use Rattle.std.proofs.lemmas.Bool.Decides.{nat_tests, eqb_tells}
+use Rattle.std.proofs.lemmas.List.{append-nil, take_at}
 use Rattle.usb_fields.specs.declared.packet.Toggle.{Toggle}
 use Rattle.usb_fields.specs.declared.setup.Setup.{Setup as SetupPacket}
 use Rattle.usb_transfer.specs.declared.why.Why.TheVariants.{NoAnswer, Busy, Stalled, TooLong, Unexpected, Malformed, Memory}
@@ -14,9 +15,12 @@ use Rattle.usb_transfer.specs.declared.reply.Reply.TheVariants as replied
 use Rattle.usb_bus.specs.declared.fate.Fate.{Fate}
 use Rattle.usb_bus.specs.Fates.{lost, busy, ack_lost, losses, busies, acks_lost}
 use Rattle.usb_bus.specs.Bus.{HostEnd, step}
-use Rattle.usb_bus.specs.Coupled.{Stages}
+use Rattle.usb_bus.specs.inside.Coupled.{Stages}
 use Rattle.usb_transfer.specs.Plan.{Plan}
-use Rattle.usb_bus.specs.Attempt.{Phase, Running, Succeeded, Broken, Attempt, reply_from, proceed, advance, attempt_step, attempt_run, Follows, IsTogether, Sound}
+use Rattle.usb_bus.specs.Attempt.{Answers, Phase, Running, Succeeded, Broken, Attempt, reply_from, proceed, advance, attempt_step, attempt_run}
+use Rattle.usb_bus.specs.Ending.{AttemptEnds}
+use Rattle.usb_bus.specs.inside.Sound.{AttemptsAreSound, Follows, IsTogether, Sound}
+use Rattle.usb_bus.proofs.Cutting.{alike_cut}
 use Rattle.usb_bus.proofs.Keeps.{keeps}
 
 module _ (plan : List Reply → Plan) (naks : ℕ) (answer : State → SetupPacket → Outcome) (cut : ℕ) (loose : Bool) (all : List Reply) (last : State) where
@@ -179,7 +183,9 @@ module _ (plan : List Reply → Plan) (naks : ℕ) (answer : State → SetupPack
         front = t.front;
         ends = t.ends;
         follows = t.follows;
-        coupled = keeps answer cut t.s t.q t.packet naks t.planned.answering t.planned.is_cut l b a fate (record { host = h; device = d }) t.coupled;
+        coupled = keeps answer cut t.s t.q t.packet naks t.planned.answering
+            (λ bytes e. alike_cut cut t.packet t.q.length bytes (t.planned.is_cut bytes e) (t.planned.answering.bytes bytes e).0)
+            l b a fate (record { host = h; device = d }) t.coupled;
       })
   attempt_keeps l b a fate replies (Running h) d (inr t) =
       let e = step answer cut fate (record { host = h; device = d }) in
@@ -203,3 +209,44 @@ module _ (plan : List Reply → Plan) (naks : ℕ) (answer : State → SetupPack
       rw (← add_assoc l (lost f) (losses fates), ← add_assoc b (busy f) (busies fates), ← add_assoc a (ack_lost f) (acks_lost fates))
       (attempt_all (l + lost f) (b + busy f) (a + ack_lost f) fates (attempt_step plan naks answer cut f x.replies x.phase x.device)
       (attempt_keeps l b a f x.replies x.phase x.device h))
+
+-- an attempt is sound over every list of fates
+pub attempts_sound : AttemptsAreSound
+attempts_sound plan naks answer cut loose all last d fates f =
+    simp zero-add at (attempt_all plan naks answer cut loose all last 0 0 0 fates (proceed plan naks [] d)
+    (next_begins plan naks answer cut loose all last 0 0 0 d.state [] all d refl f))
+
+-- a plan that a device answers is followed
+pub answers_follow : (plan : List Reply → Plan) (naks : ℕ) (answer : State → SetupPacket → Outcome) (cut : ℕ) (all : List Reply) (last s : State) (replies todo : List Reply) →
+    Answers plan naks answer cut last replies s todo → replies ++ todo ≡ all → Follows plan naks answer cut true all last s replies todo
+answers_follow plan naks answer cut all last s replies [] (success, end) whole = (success, end, sym (append-nil replies) ∙ whole)
+answers_follow plan naks answer cut all last s replies (r ∷ todo) (packet, q, planned, more) whole = (
+  packet,
+  (
+    q,
+    (
+      planned,
+      whole,
+      (λ i e. refl),
+      answers_follow plan naks answer cut all last (carried_out s (answer s q)) (replies ++ r ∷ []) todo more (rw append_assoc whole),
+    ),
+  ),
+)
+
+-- what a sound attempt says where it has ended
+module _ (plan : List Reply → Plan) (naks : ℕ) (answer : State → SetupPacket → Outcome) (cut : ℕ) (loose : Bool) (all : List Reply) (last : State) (used : List Fate) where
+  first_by : (replies todo : List Reply) → replies ++ todo ≡ all → replies ≡ take (length replies) all
+  first_by replies todo e = rw (← e) (sym (take_at replies todo (length replies) refl))
+
+  pub sound_ends : (replies : List Reply) (phase : Phase) (d : DeviceView) →
+      Sound plan naks answer cut loose all last (losses used) (busies used) (acks_lost used) replies phase d →
+      AttemptEnds naks used all last replies phase d.state
+  sound_ends replies (Running h) d s = tt
+  sound_ends replies Succeeded d s = (s.0, elim s.1 [ inl e ↦ inl e | inr (z, ok, e) ↦ inr (z, e) ])
+  sound_ends replies (Broken NoAnswer) d s = (first_by replies s.1.0 s.1.1, s.0)
+  sound_ends replies (Broken Busy) d s = (first_by replies s.1.0 s.1.1, s.0)
+  sound_ends replies (Broken Stalled) d s = absurd s
+  sound_ends replies (Broken TooLong) d s = absurd s
+  sound_ends replies (Broken Unexpected) d s = absurd s
+  sound_ends replies (Broken Malformed) d s = absurd s
+  sound_ends replies (Broken Memory) d s = absurd s

@@ -1,6 +1,7 @@
 -- A talk: what its loop keeps, and what holds where it ends.
-use Rattle.std.proofs.Common.{◌≡◌, ℕ, suc, ◌+◌, ◌<◌, ◌≤◌, true, List, [], ◌∷◌, ◌++◌, length, take, drop, Option, Some, None, Result, Ok, Err, refl, sym, ap, ◌∙◌, arith, inl, inr, subst, zero-add}
-use Rattle.std.proofs.lemmas.List.{append-nil, take_at, nil_from_length, length-drop}
+use Rattle.std.proofs.Common.{◌≡◌, ℕ, suc, ◌+◌, ◌<◌, ◌≤◌, List, [], ◌∷◌, ◌++◌, length, take, drop, Option, Some, None, Result, Ok, Err, refl, sym, ap, ◌∙◌, arith, subst, zero-add}
+use Rattle.std.specs.Prelude.{IfSome}
+use Rattle.std.proofs.lemmas.List.{take_all, nil_from_length, length-drop}
 use Rattle.usb_fields.specs.declared.setup.Setup.{Setup as SetupPacket}
 use Rattle.usb_file_data.specs.declared.file.DescriptorFile.{DescriptorFile}
 use Rattle.usb_transfer.specs.declared.why.Why.{Why}
@@ -8,40 +9,24 @@ use Rattle.usb_transfer.specs.declared.why.Why.TheVariants.{NoAnswer, Busy, Stal
 use Rattle.usb_transfer.specs.declared.stage.TransferStage.{TransferStage}
 use Rattle.usb_transfer.specs.declared.stage.TransferStage.TheVariants.{Setup, DataIn, DataOut, StatusOut, StatusIn, Completed, Failed}
 use Rattle.usb_transfer.specs.Transfer.{TransferView, begun, due, addressed, token_due}
-use Rattle.usb_device.specs.declared.state.State.{State}
-use Rattle.usb_device.specs.Requests.{Outcome, answer}
+use Rattle.usb_device.specs.Requests.{answer}
 use Rattle.usb_device.specs.States.{zero as zero_state}
-use Rattle.usb_device.specs.Step.{DeviceView, new_device}
+use Rattle.usb_device.specs.Step.{DeviceView}
 use Rattle.usb_bus.specs.declared.fate.Fate.{Fate}
 use Rattle.usb_transfer.specs.declared.reply.Reply.{Reply}
 use Rattle.usb_bus.specs.declared.talk.Talk.{Talk}
 use Rattle.usb_bus.specs.Fates.{losses, busies, acks_lost}
 use Rattle.usb_bus.specs.Bus.{HostEnd}
 use Rattle.usb_transfer.specs.Plan.{Plan}
-use Rattle.usb_bus.specs.Attempt.{Phase, Attempt, Running, Succeeded, Broken, proceed, advance, attempt_run, begins, Sound}
-use Rattle.usb_bus.specs.Talk.{Place, talk_plan, reached, onward, followed, asked_at, replies_to, state_after, IsTable}
+use Rattle.usb_bus.specs.Attempt.{Phase, Attempt, Running, Succeeded, Broken, proceed, advance, begins}
+use Rattle.usb_bus.specs.Talk.{Place, talk_plan, reached, onward, followed, asked_at, replies_to, state_after}
 use Rattle.usb_bus.specs.Run.{fates_used, due_in, Steps}
-use Rattle.usb_bus.specs.Converse.{first_place, talk_start, end_of, IsTalkRun, HasFirstReplies, HasLastState, HasCause}
+use Rattle.usb_bus.specs.Converse.{first_place, talk_start, end_of, IsTalkRun, HasFirstReplies, HasLastState}
 use Rattle.usb_bus.specs.inside.Running.{failure_of, point, AreDue, Leads, settled}
-use Rattle.usb_bus.proofs.Attempts.{attempt_all, next_begins}
-use Rattle.usb_bus.proofs.Talks.{talk_follows, reached_append}
+use Rattle.usb_bus.specs.Ending.{AttemptEnds, IsCause, IsLast}
+use Rattle.usb_bus.proofs.Talks.{talk_ends, reached_append}
 use Rattle.usb_bus.proofs.TableLemmas.{table_kept}
 use Rattle.usb_bus.proofs.Runs.{losses-fates_used, busies-fates_used, acks_lost-fates_used, point-run, points, length-points, AreDue-append, Steps-points, Steps-same}
-
--- a talk is sound over every list of fates
-pub talk_sound : (answer : State → SetupPacket → Outcome) (packet naks : ℕ) (qs : List SetupPacket) (fates : List Fate) → 0 < packet → IsTable answer →
-    (let plan = talk_plan packet (first_place qs) in
-    let x = attempt_run plan naks answer packet fates (proceed plan naks [] new_device) in
-    Sound plan naks answer packet true (replies_to answer zero_state qs) (state_after answer zero_state qs)
-    (losses fates) (busies fates) (acks_lost fates) x.replies x.phase x.device)
-talk_sound answer packet naks qs fates pos table =
-    let begin : Place = first_place qs in
-    let plan : List Reply → Plan = talk_plan packet begin in
-    let all = replies_to answer zero_state qs in
-    let last = state_after answer zero_state qs in
-    simp zero-add at (attempt_all plan naks answer packet true all last 0 0 0 fates (proceed plan naks [] new_device)
-    (next_begins plan naks answer packet true all last 0 0 0 zero_state [] all new_device refl
-    (talk_follows answer table packet naks pos begin all last qs zero_state [] refl refl refl)))
 
 -- a transfer that has nothing due was settled
 abbrev pub settles : (List Reply → Plan) → ℕ → List Reply → DeviceView → Result Reply Why → Attempt
@@ -175,73 +160,51 @@ module _ (f : DescriptorFile) (naks : ℕ) (qs : List SetupPacket) (fates : List
     abbrev used : List Fate
     used = fates_used fates talk.transactions
 
-    abbrev IsSound : Attempt → Type 0
-    IsSound x =
-        Sound plan naks (answer f) f.device.packet true (replies_to (answer f) zero_state qs) (state_after (answer f) zero_state qs)
-        (losses used) (busies used) (acks_lost used) x.replies x.phase x.device
+    abbrev HasEnded : Attempt → Type 0
+    HasEnded x = AttemptEnds naks used (replies_to (answer f) zero_state qs) (state_after (answer f) zero_state qs) x.replies x.phase x.device.state
 
-    sound : IsSound last
-    sound =
+    has_ended : HasEnded last
+    has_ended =
         let run = point-run plan naks (answer f) f.device.packet fates 0 talk.transactions (talk_start f.device.packet naks qs) in
-        subst IsSound (sym run ∙ at_end) (talk_sound (answer f) f.device.packet naks qs used pos (table_kept f))
+        subst HasEnded (sym run ∙ at_end) (talk_ends (answer f) f.device.packet naks qs used pos (table_kept f))
 
     -- the same by how the talk ended
-    sound_at : (stopped : Option Why) → talk.stopped ≡ stopped → IsSound (record { replies = talk.replies; phase = end_of stopped; device = d })
-    sound_at stopped e = subst (λ x. IsSound (record { replies = talk.replies; phase = end_of x; device = d })) e sound
-
-    first_by : (all todo : List Reply) → talk.replies ++ todo ≡ all → talk.replies ≡ take (length talk.replies) all
-    first_by all todo e = rw (← e) (sym (take_at talk.replies todo (length talk.replies) refl))
-
-    replies_by : (stopped : Option Why) → talk.stopped ≡ stopped → IsSound (record { replies = talk.replies; phase = end_of stopped; device = d }) →
-        HasFirstReplies f qs talk
-    replies_by None e h = first_by (replies_to (answer f) zero_state qs) [] (append-nil talk.replies ∙ h.0)
-    replies_by (Some NoAnswer) e h = first_by (replies_to (answer f) zero_state qs) h.1.0 h.1.1
-    replies_by (Some Busy) e h = first_by (replies_to (answer f) zero_state qs) h.1.0 h.1.1
-    replies_by (Some Stalled) e h = absurd h
-    replies_by (Some TooLong) e h = absurd h
-    replies_by (Some Unexpected) e h = absurd h
-    replies_by (Some Malformed) e h = absurd h
-    replies_by (Some Memory) e h = absurd h
+    ended_at : (stopped : Option Why) → talk.stopped ≡ stopped → HasEnded (record { replies = talk.replies; phase = end_of stopped; device = d })
+    ended_at stopped e = subst (λ x. HasEnded (record { replies = talk.replies; phase = end_of x; device = d })) e has_ended
 
     pub has_first_replies : HasFirstReplies f qs talk
-    has_first_replies = replies_by talk.stopped refl sound
+    has_first_replies = by talk.stopped has_ended
+      where
+        by : (stopped : Option Why) → HasEnded (record { replies = talk.replies; phase = end_of stopped; device = d }) → HasFirstReplies f qs talk
+        by None h = h.0 ∙ sym (take_all (length (replies_to (answer f) zero_state qs)) (replies_to (answer f) zero_state qs) (omega arith)) ∙ ap (λ rs. take (length rs) (replies_to (answer f) zero_state qs)) (sym h.0)
+        by (Some why) h = h.0
 
-    cause_by : (stopped : Option Why) → IsSound (record { replies = talk.replies; phase = end_of stopped; device = d }) → HasCause naks used stopped
-    cause_by None h = tt
-    cause_by (Some NoAnswer) h = h.0
-    cause_by (Some Busy) h = h.0
-    cause_by (Some Stalled) h = absurd h
-    cause_by (Some TooLong) h = absurd h
-    cause_by (Some Unexpected) h = absurd h
-    cause_by (Some Malformed) h = absurd h
-    cause_by (Some Memory) h = absurd h
-
-    pub has_cause : HasCause naks used talk.stopped
-    has_cause = cause_by talk.stopped sound
+    pub has_cause : IfSome talk.stopped (IsCause naks used)
+    has_cause = by talk.stopped has_ended
+      where
+        by : (stopped : Option Why) → HasEnded (record { replies = talk.replies; phase = end_of stopped; device = d }) → IfSome stopped (IsCause naks used)
+        by None h = tt
+        by (Some why) h = h.1
 
     pub has_last_state : talk.stopped ≡ None → HasLastState f qs fates talk
-    has_last_state e =
-        elim (sound_at None e).1 [
-          | inl same ↦ inl (sym state ∙ same)
-          | inr (cost, loose, same) ↦ inr (cost, subst (λ x. state_after (answer f) zero_state qs ≡ record x { address = (state_after (answer f) zero_state qs).address }) state same)
-        ]
+    has_last_state e = subst (λ s. IsLast used (state_after (answer f) zero_state qs) s) state (ended_at None e).1
 
-    ends_by : (stopped : Option Why) → HasCause naks used stopped → losses used < 3 → acks_lost used ≡ 0 → busies used ≤ naks → stopped ≡ None
-    ends_by None h few none patient = refl
-    ends_by (Some NoAnswer) h few none patient = absurd (grind arith)
-    ends_by (Some Busy) h few none patient = absurd (omega arith)
-    ends_by (Some Stalled) h few none patient = absurd h
-    ends_by (Some TooLong) h few none patient = absurd h
-    ends_by (Some Unexpected) h few none patient = absurd h
-    ends_by (Some Malformed) h few none patient = absurd h
-    ends_by (Some Memory) h few none patient = absurd h
+    goes_on_by : (stopped : Option Why) → IfSome stopped (IsCause naks used) → losses used < 3 → acks_lost used ≡ 0 → busies used ≤ naks → stopped ≡ None
+    goes_on_by None h few none patient = refl
+    goes_on_by (Some NoAnswer) h few none patient = absurd (grind arith)
+    goes_on_by (Some Busy) h few none patient = absurd (omega arith)
+    goes_on_by (Some Stalled) h few none patient = absurd h
+    goes_on_by (Some TooLong) h few none patient = absurd h
+    goes_on_by (Some Unexpected) h few none patient = absurd h
+    goes_on_by (Some Malformed) h few none patient = absurd h
+    goes_on_by (Some Memory) h few none patient = absurd h
 
     pub ends : losses fates < 3 → acks_lost fates ≡ 0 → busies fates ≤ naks → talk.stopped ≡ None
     ends few none patient =
         let l = losses-fates_used fates talk.transactions in
         let a = acks_lost-fates_used fates talk.transactions in
         let b = busies-fates_used fates talk.transactions in
-        ends_by talk.stopped has_cause (omega arith) (omega arith) (omega arith)
+        goes_on_by talk.stopped has_cause (omega arith) (omega arith) (omega arith)
 
 -- where a talk has ended nothing is due
 none_due : (stopped : Option Why) → due_in (end_of stopped) ≡ None

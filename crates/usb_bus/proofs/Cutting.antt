@@ -1,9 +1,10 @@
 -- The packets of an answer end the data stage just where the host ends it.
 use Rattle.std.proofs.Common.{◌≡◌, ℕ, zero, suc, ◌+◌, ◌-◌, ◌<◌, ◌≤◌, ◌⊎◌, List, [], ◌∷◌, length, take, drop, sym, arith, inl, inr, subst, length-take, length-drop, zero-add}
 use Rattle.std.proofs.lemmas.Bool.{cases_lt}
-use Rattle.usb_fields.specs.Packets.{packets}
+use Rattle.usb_fields.specs.Packets.{packets, joined}
 use Rattle.usb_fields.proofs.PacketLemmas.{packets-none, packets-short, packets-whole, joined-packets}
-use Rattle.usb_bus.specs.Coupled.{Due, IsCut}
+use Rattle.usb_bus.specs.Answering.{CutsAlike}
+use Rattle.usb_bus.specs.inside.Coupled.{Due, IsCut}
 
 -- one packet more before those that are due
 Due-cons : (n m t : ℕ) (p : List ℕ) (ps : List (List ℕ)) → length p ≡ n → t + length p < m → Due n m (t + length p) ps → Due n m t (p ∷ ps)
@@ -43,3 +44,9 @@ pub packets_cut : (b : List ℕ) (n m : ℕ) → 0 < n → length b ≤ m → 0 
 packets_cut b n m pos fits asked =
     let due : Due n (0 + m) 0 (packets b n m) = Due-packets m b n m 0 pos (omega arith) fits asked in
     record { due = subst (λ x. Due n x 0 (packets b n m)) (zero-add m) due; joins = joined-packets b n m pos fits }
+
+-- so does one that knows another size by which the packets are the same
+pub alike_cut : (cut size limit : ℕ) (b : List ℕ) → CutsAlike cut size limit b → 0 < limit → IsCut cut size limit b
+alike_cut cut size limit b (pos, fits, same) asked =
+    let own = packets_cut b size limit pos fits asked in
+    record { due = subst (λ ps. Due size limit 0 ps) (sym same) own.due; joins = subst (λ ps. joined ps ≡ b) (sym same) own.joins }

@@ -13,7 +13,7 @@ use Rattle.usb_device.specs.Requests.{Outcome, Bytes}
 use Rattle.usb_device.specs.Step.{Sending}
 use Rattle.usb_bus.specs.declared.fate.Fate.{Fate}
 use Rattle.usb_bus.specs.declared.fate.Fate.TheVariants.{Pass, Busy, LostDown, LostUp, LostAck}
-use Rattle.usb_bus.specs.Coupled.{IsReading, Due}
+use Rattle.usb_bus.specs.inside.Coupled.{IsReading, Due}
 use Rattle.usb_bus.proofs.OtherStages.{both, Goal}
 
 pub drop_suc : (k : ℕ) (xs : List (List ℕ)) (p : List ℕ) (rest : List (List ℕ)) →

@@ -1,5 +1,5 @@
 -- Each transaction keeps the two ends coupled.
-use Rattle.std.proofs.Common.{◌≡◌, ℕ, ◌+◌, ◌≤◌, Bool, List, [], ◌∷◌, ◌++◌, length, drop, sym, arith, inl, inr, subst, length-append, add-zero, add_assoc}
+use Rattle.std.proofs.Common.{◌≡◌, ℕ, ◌+◌, ◌≤◌, Bool, List, [], ◌∷◌, ◌++◌, length, drop, refl, sym, arith, inl, inr, subst, length-append, zero-add, add-zero, add_assoc}
 use Rattle.std.proofs.lemmas.Bool.Decides.{nat_tests}
 use Rattle.usb_fields.specs.declared.packet.Toggle.{Toggle}
 use Rattle.usb_fields.specs.declared.setup.Setup.{Setup as SetupPacket}
@@ -14,7 +14,10 @@ use Rattle.usb_device.specs.Step as device
 use Rattle.usb_bus.specs.declared.fate.Fate.{Fate}
 use Rattle.usb_bus.specs.Fates.{lost, busy, ack_lost, losses, busies, acks_lost}
 use Rattle.usb_bus.specs.Bus.{Ends, HostEnd, step, run}
-use Rattle.usb_bus.specs.Coupled.{Stages, IsReading, Coupled, IsAnswering, IsCut, Due, Ahead, debt}
+use Rattle.usb_bus.specs.Attempt.{begins}
+use Rattle.usb_bus.specs.Ending.{TransferEnds}
+use Rattle.usb_bus.specs.inside.Coupled.{Stages, IsReading, Coupled, IsCut, Due, Ahead, debt, StaysCoupled}
+use Rattle.usb_bus.specs.Answering.{IsAnswering}
 use Rattle.usb_bus.proofs.OtherStages.{both, both_at, Goal, status_out_all, data_out_all, data_in_halted, status_in_halted, setup_all, status_in}
 use Rattle.usb_bus.proofs.DataStage.{drop_suc, is_same_toggle-same, is_same_toggle-flipped, rest_joins, all_joins, Due-at, last, inner, behind}
 
@@ -154,3 +157,29 @@ module _ (answer : State → SetupPacket → Outcome) (cut : ℕ) (s : State) (q
     keeps_all l b a (f ∷ fates) e c =
         rw (← add_assoc l (lost f) (losses fates), ← add_assoc b (busy f) (busies fates), ← add_assoc a (ack_lost f) (acks_lost fates))
         (keeps_all (l + lost f) (b + busy f) (a + ack_lost f) fates (step answer cut f e) (keeps l b a f e c))
+
+-- a transfer begun at the device's address stays coupled
+pub stays_coupled : StaysCoupled
+stays_coupled answer cut naks size q d fates w is_cut =
+    simp zero-add at (keeps_all answer cut d.state q size naks w is_cut 0 0 0 fates (record { host = begins d.state.address size naks q; device = d })
+    (record {
+      address = refl;
+      request = refl;
+      packet = refl;
+      naks_are = refl;
+      kept = refl;
+      nak_count = omega arith;
+      stages = (refl, refl, refl, omega arith);
+    }))
+
+-- what coupled ends say of a transfer that has ended
+module _ (answer : State → SetupPacket → Outcome) (cut : ℕ) (s : State) (q : SetupPacket) (size naks l b a : ℕ) where
+  pub stages_end : (stage : TransferStage) (at : DeviceStage) (awaited : Toggle) (got : List ℕ) (strikes : ℕ) (d : State) →
+      Stages answer cut s q size naks l b a stage at awaited got strikes d → TransferEnds answer s q naks l b a stage got d
+  stages_end Setup at awaited got strikes d h = tt
+  stages_end DataIn at awaited got strikes d h = tt
+  stages_end DataOut at awaited got strikes d h = tt
+  stages_end StatusOut at awaited got strikes d h = tt
+  stages_end StatusIn at awaited got strikes d h = tt
+  stages_end Completed at awaited got strikes d h = h
+  stages_end (Failed why) at awaited got strikes d h = h

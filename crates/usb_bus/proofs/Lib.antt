@@ -2,7 +2,7 @@ mod OtherStages
 mod DataStage
 mod Keeps
 pub mod Cutting
-mod Attempts
+pub mod Attempts
 mod Talks
 mod Leading
 mod TableLemmas

@@ -19,7 +19,8 @@ use Rattle.usb_bus.specs.declared.fate.Fate.{Fate}
 use Rattle.usb_bus.specs.declared.fate.Fate.TheVariants.{Pass, Busy, LostDown, LostUp, LostAck}
 use Rattle.usb_bus.specs.Fates.{lost, busy, ack_lost}
 use Rattle.usb_bus.specs.Bus.{Ends, HostEnd, step, hears, with_ack}
-use Rattle.usb_bus.specs.Coupled.{Stages, IsReading, Coupled, IsAnswering, IsCut}
+use Rattle.usb_bus.specs.inside.Coupled.{Stages, IsReading, Coupled, IsCut}
+use Rattle.usb_bus.specs.Answering.{IsAnswering}
 
 -- a setup packet comes as it was sent
 pub setup_of-setup_bytes : (q : SetupPacket) → setup_of (setup_bytes q) ≡ q

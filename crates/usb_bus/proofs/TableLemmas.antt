@@ -16,7 +16,7 @@ use Rattle.usb_device.specs.declared.state.State.{State}
 use Rattle.usb_device.specs.States.{first_alternates, has_address, is_configured, halt_of, without_halt}
 use Rattle.usb_device.specs.Requests.{Outcome, Bytes, Done, Refused, when, bytes_in, gives, tells, does, is_device, is_interface, names_interface, names_alternate, names_endpoint, names_endpoint_zero, selected_settings, interface_addresses, shown_attributes, one_if, can_wake, has_value, changed_halts, status_of, status_of_endpoint, feature_of, set_configuration, set_interface, row, answer_of, answer}
 use Rattle.usb_device.specs.Step.{is_set_address}
-use Rattle.usb_bus.specs.Talk.{IsTable}
+use Rattle.usb_bus.specs.Answering.{IsTable}
 
 -- what an answer keeps, by its kind
 abbrev Kept : State → Setup → Outcome → Type 0
@@ -182,8 +182,11 @@ module _ (f : DescriptorFile) (s : State) (q : Setup) where
 pub table_kept : (f : DescriptorFile) → IsTable (answer f)
 table_kept f =
     record {
-      bytes = λ s q b e. subst (λ a. Kept s q a) e (answer_kept f s q);
-      done = λ s q t e. (subst (λ a. Kept s q a) e (answer_kept f s q)).0;
-      stays = λ s q t e. (subst (λ a. Kept s q a) e (answer_kept f s q)).1;
+      answering = λ s q. record {
+        bytes = λ b e. (let kept = subst (λ a. Kept s q a) e (answer_kept f s q) in (kept.0, kept.1));
+        done = λ t e. (subst (λ a. Kept s q a) e (answer_kept f s q)).0;
+        stays = λ t e. (subst (λ a. Kept s q a) e (answer_kept f s q)).1;
+      };
+      fits = λ s q b e. (subst (λ a. Kept s q a) e (answer_kept f s q)).2;
       goes = λ s q t e. (subst (λ a. Kept s q a) e (answer_kept f s q)).2;
     }

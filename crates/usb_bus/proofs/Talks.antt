@@ -4,11 +4,16 @@ use Rattle.std.proofs.lemmas.List.{append-nil}
 use Rattle.usb_fields.specs.declared.setup.Setup.{Setup as SetupPacket}
 use Rattle.usb_device.specs.declared.state.State.{State}
 use Rattle.usb_device.specs.Requests.{Outcome, Bytes, Done, Refused}
-use Rattle.usb_device.specs.Step.{is_set_address, carried_out}
+use Rattle.usb_device.specs.Step.{is_set_address, carried_out, new_device}
+use Rattle.usb_transfer.specs.Plan.{Plan}
 use Rattle.usb_transfer.specs.declared.reply.Reply.{Reply}
-use Rattle.usb_bus.specs.Attempt.{Follows, reply_to}
-use Rattle.usb_bus.specs.Talk.{Place, followed, onward, reached, asked_at, talk_plan, replies_to, state_after, IsTable}
-use Rattle.usb_bus.proofs.Cutting.{packets_cut}
+use Rattle.usb_bus.specs.inside.Sound.{Follows}
+use Rattle.usb_bus.specs.Attempt.{attempt_run, reply_to}
+use Rattle.usb_bus.specs.Converse.{first_place, talk_start}
+use Rattle.usb_bus.specs.Laws.{TalksHaveCauses}
+use Rattle.usb_bus.proofs.Attempts.{attempts_sound, sound_ends}
+use Rattle.usb_bus.specs.Talk.{Place, followed, onward, reached, asked_at, talk_plan, replies_to, state_after}
+use Rattle.usb_bus.specs.Answering.{IsTable}
 
 pub reached_append : (p : Place) (rs : List Reply) (r : Reply) → reached p (rs ++ r ∷ []) ≡ onward (reached p rs).left (reached p rs).address r
 reached_append p [] r = refl
@@ -26,7 +31,7 @@ module _ (answer : State → SetupPacket → Outcome) (table : IsTable answer) (
           let goes = table.goes s q t e i in
           let low : q.value % 128 ≡ q.value = (let small = goes.0 in omega arith) in
           low ∙ ap (λ x. x.address) (sym goes.1)
-      by_kind false i = sym (table.stays s q t e i)
+      by_kind false i = sym ((table.answering s q).stays t e i)
 
   pub talk_follows : (qs : List SetupPacket) (s : State) (replies : List Reply) →
       reached start replies ≡ record { left = qs; address = s.address } → replies ++ replies_to answer s qs ≡ all → state_after answer s qs ≡ last →
@@ -44,12 +49,8 @@ module _ (answer : State → SetupPacket → Outcome) (table : IsTable answer) (
           (
             record {
               begins = ap (λ p. asked_at n p.address p.left) at;
-              answering = record {
-                bytes = λ b e. (let t = table.bytes s q b e in (t.0, t.1));
-                done = λ t e. table.done s q t e;
-                stays = λ t e i. table.stays s q t e i;
-              };
-              is_cut = λ b e. (let t = table.bytes s q b e in packets_cut b n q.length pos t.2 t.0);
+              answering = table.answering s q;
+              is_cut = λ b e. (pos, table.fits s q b e, refl);
               reply = refl;
               address = λ t e i. (let g = (table.goes s q t e i).1 in rw g refl);
             },
@@ -59,3 +60,15 @@ module _ (answer : State → SetupPacket → Outcome) (table : IsTable answer) (
           ),
         ),
       )
+
+-- a talk is sound over every list of fates, and so are its replies, its cause and its state where it has ended
+pub talk_ends : TalksHaveCauses
+talk_ends answer packet naks qs fates pos table =
+    let s = new_device.state in
+    let all = replies_to answer s qs in
+    let last = state_after answer s qs in
+    let plan : List Reply → Plan = talk_plan packet (first_place qs) in
+    let x = attempt_run plan naks answer packet fates (talk_start packet naks qs) in
+    sound_ends plan naks answer packet true all last fates x.replies x.phase x.device
+    (attempts_sound plan naks answer packet true all last new_device fates
+    (talk_follows answer table packet naks pos (first_place qs) all last qs s [] refl refl refl))

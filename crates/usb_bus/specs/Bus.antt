@@ -1,8 +1,8 @@
 -- One transaction between a host and a device, under a fate.
 use Rattle.std.specs.Prelude.{ℕ, Bool, true, false, if◌then◌else◌, List, [], ◌∷◌, ◌++◌, Option, Some, None}
 use Rattle.usb_fields.specs.declared.setup.Setup.{Setup}
-use Rattle.usb_fields.specs.Packet.{Sent, Reply, AckReply, NakReply, StallReply, DataReply, NoReply}
-use Rattle.usb_transfer.specs.Transfer.{TransferView, Hearing, Goes, Brings, Completes, Fails, Taken, taken, due}
+use Rattle.usb_fields.specs.Packet.{Sent, Reply, DataReply, NoReply}
+use Rattle.usb_transfer.specs.Transfer.{TransferView, Hearing, Brings, Taken, taken, due}
 use Rattle.usb_device.specs.declared.state.State.{State}
 use Rattle.usb_device.specs.Requests.{Outcome}
 use Rattle.usb_device.specs.Step.{DeviceView, Served, served, acked}
@@ -21,18 +21,13 @@ pub record Ends : Type 0 where
 
 -- whether a reply is a data packet, which the host acknowledges
 abbrev pub is_data : Reply → Bool
-is_data AckReply = false
-is_data NakReply = false
-is_data StallReply = false
 is_data (DataReply toggle bytes) = true
-is_data NoReply = false
+is_data reply = false
 
 -- the bytes, and those that came
 abbrev pub with_heard : List ℕ → Hearing → List ℕ
-with_heard got Goes = got
 with_heard got (Brings bytes) = got ++ bytes
-with_heard got Completes = got
-with_heard got (Fails why) = got
+with_heard got heard = got
 
 -- the host's end, where these bytes had come before the reply
 abbrev pub host_after : List ℕ → Taken → HostEnd

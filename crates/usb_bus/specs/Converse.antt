@@ -1,16 +1,15 @@
 -- What a talk with a device promises.
-use Rattle.std.specs.Prelude.{◌≡◌, ℕ, ◌<◌, ◌≤◌, ◌⊎◌, List, [], length, take, Option, Some, None}
+use Rattle.std.specs.Prelude.{◌≡◌, ℕ, List, [], length, take, Option, Some, None}
 use Rattle.usb_fields.specs.declared.setup.Setup.{Setup as SetupPacket}
 use Rattle.usb_file_data.specs.declared.file.DescriptorFile.{DescriptorFile}
 use Rattle.usb_transfer.specs.declared.why.Why.{Why}
-use Rattle.usb_transfer.specs.declared.why.Why.TheVariants.{NoAnswer, Busy, Stalled, TooLong, Unexpected, Malformed, Memory}
 use Rattle.usb_device.specs.Requests.{answer}
 use Rattle.usb_device.specs.States.{zero}
 use Rattle.usb_device.specs.Step.{new_device}
 use Rattle.usb_bus.specs.declared.fate.Fate.{Fate}
 use Rattle.usb_bus.specs.declared.talk.Talk.{Talk}
-use Rattle.usb_bus.specs.Fates.{losses, busies, acks_lost}
 use Rattle.usb_bus.specs.Attempt.{Phase, Succeeded, Broken, Attempt, proceed}
+use Rattle.usb_bus.specs.Ending.{IsLast}
 use Rattle.usb_bus.specs.Talk.{Place, talk_plan, replies_to, state_after}
 use Rattle.usb_bus.specs.Run.{Steps, fates_used}
 
@@ -43,17 +42,4 @@ HasFirstReplies f requests talk = talk.replies ≡ take (length talk.replies) (r
 
 -- the state is the last one that the table gives; its address alone may differ, where an ACK was lost
 abbrev pub HasLastState : DescriptorFile → List SetupPacket → List Fate → Talk → Type 0
-HasLastState f requests fates talk =
-    let last = state_after (answer f) zero requests in
-    (talk.state ≡ last) ⊎ ((0 < acks_lost (fates_used fates talk.transactions)) × (last ≡ record talk.state { address = last.address }))
-
--- a talk that stopped has a cause: no answer, after three losses or a lost ACK, or more Busy than NAKs are borne
-abbrev pub HasCause : ℕ → List Fate → Option Why → Type 0
-HasCause naks used None = Unit {0}
-HasCause naks used (Some NoAnswer) = (3 ≤ losses used) ⊎ (0 < acks_lost used)
-HasCause naks used (Some Busy) = naks < busies used
-HasCause naks used (Some Stalled) = ⊥
-HasCause naks used (Some TooLong) = ⊥
-HasCause naks used (Some Unexpected) = ⊥
-HasCause naks used (Some Malformed) = ⊥
-HasCause naks used (Some Memory) = ⊥
+HasLastState f requests fates talk = IsLast (fates_used fates talk.transactions) (state_after (answer f) zero requests) talk.state

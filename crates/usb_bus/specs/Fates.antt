@@ -1,31 +1,23 @@
 -- What a bus does to transactions, counted.
 use Rattle.std.specs.Prelude.{ℕ, ◌+◌, List, [], ◌∷◌}
 use Rattle.usb_bus.specs.declared.fate.Fate.{Fate}
-use Rattle.usb_bus.specs.declared.fate.Fate.TheVariants.{Pass, Busy, LostDown, LostUp, LostAck}
+use Rattle.usb_bus.specs.declared.fate.Fate.TheVariants.{Pass, Busy, LostAck}
 
 -- 1 where a packet or a handshake is lost
 abbrev pub lost : Fate → ℕ
 lost Pass = 0
 lost Busy = 0
-lost LostDown = 1
-lost LostUp = 1
-lost LostAck = 1
+lost fate = 1
 
 -- 1 where the device is not ready
 abbrev pub busy : Fate → ℕ
-busy Pass = 0
 busy Busy = 1
-busy LostDown = 0
-busy LostUp = 0
-busy LostAck = 0
+busy fate = 0
 
 -- 1 where the host's ACK is lost
 abbrev pub ack_lost : Fate → ℕ
-ack_lost Pass = 0
-ack_lost Busy = 0
-ack_lost LostDown = 0
-ack_lost LostUp = 0
 ack_lost LostAck = 1
+ack_lost fate = 0
 
 -- how many are lost
 abbrev pub losses : List Fate → ℕ

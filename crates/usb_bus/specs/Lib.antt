@@ -1,7 +1,8 @@
 pub mod Fates
 pub mod Bus
-pub mod Coupled
+pub mod Answering
 pub mod Attempt
+pub mod Ending
 pub mod Talk
 pub mod Run
 pub mod Converse

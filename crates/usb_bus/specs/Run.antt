@@ -9,7 +9,7 @@ use Rattle.usb_bus.specs.declared.fate.Fate.{Fate}
 use Rattle.usb_bus.specs.declared.fate.Fate.TheVariants.{Pass}
 use Rattle.usb_transfer.specs.declared.reply.Reply.{Reply}
 use Rattle.usb_transfer.specs.Plan.{Plan}
-use Rattle.usb_bus.specs.Attempt.{Phase, Running, Succeeded, Broken, Attempt, attempt_step}
+use Rattle.usb_bus.specs.Attempt.{Phase, Running, Attempt, attempt_step}
 
 -- the fate of transaction k, counted from 0: after the list's end all pass
 abbrev pub fate_at : List Fate → ℕ → Fate
@@ -24,8 +24,7 @@ fates_used (f ∷ fates) (suc n) = f ∷ fates_used fates n
 -- the transaction that is due, where a transfer is in work; after the end there is none
 abbrev pub due_in : Phase → Option Sent
 due_in (Running host) = due host.transfer
-due_in Succeeded = None
-due_in (Broken why) = None
+due_in phase = None
 
 module _ (plan : List Reply → Plan) (naks : ℕ) (answer : State → SetupPacket → Outcome) (cut : ℕ) where
   -- one transaction under this fate: it is due at x, and y is what it brings x to

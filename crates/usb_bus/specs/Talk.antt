@@ -1,10 +1,8 @@
 -- A talk: requests one after another, each sent to where the replies before it put the device.
-use Rattle.std.specs.Prelude.{◌≡◌, ℕ, ◌<◌, ◌≤◌, ◌%◌, true, false, if◌then◌else◌, List, [], ◌∷◌, length}
+use Rattle.std.specs.Prelude.{ℕ, ◌%◌, if◌then◌else◌, List, [], ◌∷◌}
 use Rattle.usb_fields.specs.declared.setup.Setup.{Setup as SetupPacket}
-use Rattle.usb_fields.specs.declared.setup.Direction.TheVariants as directions
-use Rattle.usb_fields.specs.Setup.{direction_of}
 use Rattle.usb_device.specs.declared.state.State.{State}
-use Rattle.usb_device.specs.Requests.{Outcome, Bytes, Done}
+use Rattle.usb_device.specs.Requests.{Outcome}
 use Rattle.usb_device.specs.Step.{is_set_address, carried_out}
 use Rattle.usb_transfer.specs.declared.reply.Reply.{Reply}
 use Rattle.usb_transfer.specs.declared.reply.Reply.TheVariants as replied
@@ -19,8 +17,7 @@ pub record Place : Type 0 where
 -- a SET_ADDRESS that was done is followed to the low 7 bits of its wValue
 abbrev pub followed : SetupPacket → Reply → ℕ → ℕ
 followed q replied.Done address = if is_set_address q then q.value % 128 else address
-followed q replied.Refused address = address
-followed q (replied.Bytes b) address = address
+followed q reply address = address
 
 -- past the first request, which has this reply
 abbrev pub onward : List SetupPacket → ℕ → Reply → Place
@@ -51,12 +48,3 @@ module _ (answer : State → SetupPacket → Outcome) where
   abbrev pub state_after : State → List SetupPacket → State
   state_after s [] = s
   state_after s (q ∷ qs) = state_after (carried_out s (answer s q)) qs
-
-  -- What a table of requests keeps in every state. There are bytes only where they are asked for and go to the host, and
-  -- no more of them. What is only done has no data stage. SET_ADDRESS changes the address, to at most 127, and nothing
-  -- else, and no other request changes it; a class or vendor request with bRequest 5 is another request.
-  pub record IsTable : Type 0 where
-    pub bytes : (s : State) (q : SetupPacket) (b : List ℕ) → answer s q ≡ Bytes b → (0 < q.length) × (direction_of q.request_type ≡ directions.In) × (length b ≤ q.length)
-    pub done : (s : State) (q : SetupPacket) (t : State) → answer s q ≡ Done t → q.length ≡ 0
-    pub stays : (s : State) (q : SetupPacket) (t : State) → answer s q ≡ Done t → is_set_address q ≡ false → t.address ≡ s.address
-    pub goes : (s : State) (q : SetupPacket) (t : State) → answer s q ≡ Done t → is_set_address q ≡ true → (q.value < 128) × (t ≡ record s { address = q.value })

@@ -1,2 +1,4 @@
 -- What no public contract cites.
+pub mod Coupled
+pub mod Sound
 pub mod Running

@@ -1,9 +1,10 @@
 //! Requests one after another.
-ghost use Rattle.std.specs.Prelude.{◌≡◌, ◌↔◌, ◌<◌, ◌≤◌, IfOk, None, length};
+ghost use Rattle.std.specs.Prelude.{◌≡◌, ◌↔◌, ◌<◌, ◌≤◌, IfOk, IfSome, None, length};
 ghost use Rattle.usb_bus.specs.Fates.{losses, busies, acks_lost};
 ghost use Rattle.usb_bus.specs.Talk.{followed};
 ghost use Rattle.usb_bus.specs.Run.{fates_used};
-ghost use Rattle.usb_bus.specs.Converse.{IsTalkRun, HasFirstReplies, HasLastState, HasCause};
+ghost use Rattle.usb_bus.specs.Ending.{IsCause};
+ghost use Rattle.usb_bus.specs.Converse.{IsTalkRun, HasFirstReplies, HasLastState};
 ghost use Rattle.usb_bus.specs.inside.Running.{settled};
 
 use crate::exchange::{Ended, transfer_over};
@@ -81,7 +82,7 @@ pub fn converse(
     ensures state { IfOk result (λ talk. talk.stopped ≡ None → HasLastState d.now.file requests.now fates.now talk) }
 
     // It stops for a cause, and not without one.
-    ensures cause { IfOk result (λ talk. HasCause naks (fates_used fates.now talk.transactions) talk.stopped) }
+    ensures cause { IfOk result (λ talk. IfSome talk.stopped (IsCause naks (fates_used fates.now talk.transactions))) }
     ensures goes_on { IfOk result (λ talk. losses fates.now < 3 → acks_lost fates.now ≡ 0 → busies fates.now ≤ naks → talk.stopped ≡ None) }
 {
     let packet = d.file().device.packet;

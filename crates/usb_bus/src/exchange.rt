@@ -6,7 +6,6 @@ ghost use Rattle.usb_transfer.specs.Bound.{left};
 ghost use Rattle.usb_transfer.specs.declared.stage.TransferStage.TheVariants.{Setup};
 ghost use Rattle.usb_device.specs.Requests.{answer};
 ghost use Rattle.usb_bus.specs.Bus.{HostEnd, Ends, exchanged, with_heard};
-ghost use Rattle.usb_bus.specs.Run.{fate_at};
 ghost use Rattle.usb_bus.specs.inside.Running.{failure_of, Leads};
 
 use crate::fate::Fate;
@@ -14,17 +13,6 @@ use std::alloc::{AllocError, Global};
 use usb_device::Device;
 use usb_fields::{Answer, Transaction};
 use usb_transfer::{Heard, Transfer, Why};
-
-/// The fate of a transaction, by its number. After the list's end all pass.
-fn fate_of(fates: &[Fate], number: u128) -> Fate
-    ensures { result ≡ fate_at fates.now number }
-{
-    if number < fates.len() as u128 {
-        fates[number as usize]
-    } else {
-        Fate::Pass
-    }
-}
 
 /// The host takes an answer, and keeps the bytes that are new. Answers why the transfer has failed, if it has.
 fn hear(
@@ -116,7 +104,7 @@ pub(crate) fn transfer_over(
     let mut failure = None;
     let mut transactions = before;
     while let Some(t) = transfer.next() {
-        let fate = fate_of(fates, transactions);
+        let fate = Fate::at(fates, transactions);
         failure = exchange(device, transfer, &t, fate, &mut bytes)?;
         transactions += 1;
     }

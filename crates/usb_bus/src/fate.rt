@@ -1,4 +1,5 @@
 //! What happens to one transaction.
+ghost use Rattle.std.specs.Prelude.{◌≡◌};
 
 /// What a bus does to one transaction.
 ///
@@ -20,4 +21,24 @@ pub enum Fate {
     LostUp,
     /// The host's ACK of a data packet does not arrive. Where the answer is no data, all arrives.
     LostAck,
+}
+
+impl Fate {
+    ghost use Rattle.usb_bus.specs.Run.{fate_at};
+
+    /// The fate of a transaction by its number, counted from 0. After the list's end all pass.
+    ///
+    /// ```rust
+    /// assert_eq!(rt; Fate::at(&[Fate::LostAck], 0), Fate::LostAck);
+    /// assert_eq!(rt; Fate::at(&[Fate::LostAck], 1), Fate::Pass);
+    /// ```
+    pub fn at(fates: &[Fate], number: u128) -> Fate
+        ensures { result ≡ fate_at fates.now number }
+    {
+        if number < fates.len() as u128 {
+            fates[number as usize]
+        } else {
+            Fate::Pass
+        }
+    }
 }

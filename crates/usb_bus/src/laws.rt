@@ -1,22 +1,26 @@
-//! What holds of two ends over a bus that loses packets and handshakes.
+//! What holds of two ends over a bus that loses packets and handshakes, once they have come to an end.
 //!
 //! The functions of these laws do nothing: what they say stands in their contracts.
 ghost use Rattle.usb_device.specs.Requests.{answer};
 ghost use Rattle.usb_file_data.specs.declared.file.DescriptorFile.{DescriptorFile};
-ghost use Rattle.usb_bus.specs.Talk.{IsTable};
-ghost use Rattle.usb_bus.specs.Laws.{StaysCoupled, AttemptsHaveCauses, TalksHaveCauses, TalksAreDetermined};
+ghost use Rattle.usb_bus.specs.Answering.{IsTable};
+ghost use Rattle.usb_bus.specs.Laws.{AttemptsHaveCauses, TalksAreDetermined, TalksHaveCauses, TransfersHaveCauses};
 
-/// A transfer begun at the device's address: whatever the bus loses, both ends stay coupled.
-pub fn a_transfer_stays_coupled()
-    ensures { StaysCoupled }
+/// A transfer begun at the device's address. Completed, it brought the device's answer, and the device is in the state that
+/// the answer gives, or the ACK of a SET_ADDRESS was lost. Failed, it was refused, or had three losses, or more busy
+/// transactions than NAKs are borne.
+pub fn a_transfer_has_causes()
+    ensures { TransfersHaveCauses }
 {}
 
-/// Transfers by a plan, with no bus reset between them: a failed attempt has a cause.
+/// Transfers by a plan, with no bus reset between them: a success has all replies, and a failed attempt has a cause.
 pub fn an_attempt_has_causes()
     ensures { AttemptsHaveCauses }
 {}
 
-/// Requests one after another, with no bus reset between them: a talk that stops has a cause.
+/// Requests one after another, with no bus reset between them: a talk that stops has a cause, and one that doesn't has all
+/// replies of the device's table.
+#[tactic(auto, using(crate::proofs::Talks::talk_ends))]
 pub fn a_talk_has_causes()
     ensures { TalksHaveCauses }
 {}

@@ -20,7 +20,7 @@ use Rattle.usb_file_data.specs.File.{whole_set, has_no_layout, sets_bytes, other
 use Rattle.usb_description.specs.Accepted.{Accepted}
 use Rattle.usb_host.specs.Order.{first_value, other_declared}
 use Rattle.usb_host.proofs.ReadLemmas.{byte_at, qualifier_read, units_read}
-use Rattle.usb_enumeration.specs.Readers.{ReadsSets}
+use Rattle.usb_enumeration.specs.inside.Readers.{ReadsSets}
 use Rattle.usb_enumeration.specs.inside.Described.{SetsAreRead, TextsAreRead, OtherIsRead, StringsAreRead, IsDescribed}
 use Rattle.usb_enumeration.proofs.AcceptLemmas.{AreSound, AreStrings, sets_sound, other_sets_sound, strings_right}
 use Rattle.usb_enumeration.proofs.HeadLemmas.{length_is, headed_bytes}

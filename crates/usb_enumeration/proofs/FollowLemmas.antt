@@ -7,8 +7,8 @@ use Rattle.usb_device.specs.Requests.{Outcome}
 use Rattle.usb_device.specs.Step.{carried_out}
 use Rattle.usb_transfer.specs.declared.reply.Reply.{Reply}
 use Rattle.usb_transfer.specs.Plan.{Begin, Success}
-use Rattle.usb_bus.specs.Attempt.{Follows}
-use Rattle.usb_bus.specs.Talk.{IsTable}
+use Rattle.usb_bus.specs.inside.Sound.{Follows}
+use Rattle.usb_bus.specs.Answering.{IsTable}
 use Rattle.usb_fields.specs.declared.speed.Speed.{Speed}
 use Rattle.usb_set.specs.declared.tree.Configuration.{Configuration}
 use Rattle.std.specs.Prelude.{Option}
@@ -17,8 +17,8 @@ use Rattle.usb_host.specs.declared.place.Place.{Place}
 use Rattle.usb_host.specs.declared.place.Place.TheVariants.{First}
 use Rattle.usb_host.specs.Order.{asks, next}
 use Rattle.usb_host.specs.Gathered.{reached}
-use Rattle.usb_enumeration.specs.Script.{Exchange, replies_in}
-use Rattle.usb_enumeration.specs.Image.{plan_of}
+use Rattle.usb_enumeration.specs.inside.Script.{Exchange, replies_in}
+use Rattle.usb_enumeration.specs.inside.Image.{plan_of}
 use Rattle.usb_enumeration.specs.inside.Following.{Walks, Serves}
 
 module _ (set_of : List ℕ → Option Configuration) (speed : Speed) where
@@ -47,11 +47,7 @@ module _ (set_of : List ℕ → Option Configuration) (speed : Speed) where
             (
               record {
                 begins = ap (asks limits.address) at ∙ (w.0 ∙ ap (λ y. Begin y x.packet x.request) d.0.address);
-                answering = record {
-                  bytes = λ b e. (let t = table.bytes s x.request b e in (t.0, t.1));
-                  done = λ t e. table.done s x.request t e;
-                  stays = λ t e i. table.stays s x.request t e i;
-                };
+                answering = table.answering s x.request;
                 is_cut = d.0.is_cut;
                 reply = d.0.reply;
                 address = λ t e i. (let g = (table.goes s x.request t e i).1 in rw g refl);

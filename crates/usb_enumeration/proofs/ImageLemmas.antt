@@ -1,6 +1,6 @@
 -- A host that keeps a cursor and a decoder goes as one that keeps all replies and all bytes.
 use Rattle.std.proofs.Common.{◌≡◌, ℕ, ◌+◌, ◌==◌, Bool, true, false, nat_lt, if◌then◌else◌, List, [], ◌∷◌, ◌++◌, length, ◌⊎◌, inl, inr, refl, ap, sym, ◌∙◌, subst, length-append}
-use Rattle.std.specs.Prelude.{Result}
+use Rattle.std.specs.Prelude.{Result, Option}
 use Rattle.usb_fields.specs.declared.speed.Speed.{Speed}
 use Rattle.usb_fields.specs.declared.packet.Toggle.{Toggle}
 use Rattle.usb_fields.specs.declared.packet.Toggle.TheVariants.{Data0, Data1}
@@ -19,7 +19,6 @@ use Rattle.usb_transfer.specs.declared.reply.Reply.TheVariants as replied
 use Rattle.usb_bus.specs.Bus.{HostEnd, hears, host_after, with_heard}
 use Rattle.usb_transfer.specs.Plan.{Plan}
 use Rattle.usb_bus.specs.Attempt.{Phase, Running, phase_of, reply_from, advance}
-use Rattle.std.specs.Prelude.{Option}
 use Rattle.usb_set.specs.declared.tree.Configuration.{Configuration}
 use Rattle.usb_transfer.specs.Limits.{LimitView}
 use Rattle.usb_host.specs.declared.place.Place.{Place}
@@ -30,9 +29,9 @@ use Rattle.usb_host.specs.Order.{asks, next, stopped, bytes_lead, set_leads, don
 use Rattle.usb_host.specs.Keeping.{nothing_kept, WantsMemory, set_kept}
 use Rattle.usb_host.specs.Gathered.{reached}
 use Rattle.usb_host.specs.Steps.{HostPhase, Reading, Ended, KeepsHeard, TakesHeard, enter, read_leads, completed_leads, goes_on}
-use Rattle.usb_host.specs.Cost.{FitsPlace}
-use Rattle.usb_enumeration.specs.Image.{KeptFrom, IsInWork, IsTransfer, IsImage, plan_of}
-use Rattle.usb_enumeration.specs.Readers.{ReadsSets}
+use Rattle.usb_host.specs.inside.Steady.{FitsPlace}
+use Rattle.usb_enumeration.specs.inside.Image.{KeptFrom, IsInWork, IsTransfer, IsImage, plan_of}
+use Rattle.usb_enumeration.specs.inside.Readers.{ReadsSets}
 use Rattle.usb_enumeration.proofs.FollowLemmas.{walk_append}
 use Rattle.usb_enumeration.proofs.KeepLemmas.{SetLaws, feeds, same_set}
 use Rattle.usb_enumeration.proofs.OpenLemmas.{nothing_is_open}

@@ -13,8 +13,8 @@ use Rattle.usb_set.specs.Feeding.{Answers}
 use Rattle.usb_set.specs.Layout.{Layout}
 use Rattle.usb_set.specs.Faults.{Begins, Faulty, IsOpen}
 use Rattle.usb_host.specs.Keeping.{WantsMemory, is_over, set_kept}
-use Rattle.usb_enumeration.specs.Image.{DecodedFrom}
-use Rattle.usb_enumeration.specs.Readers.{ReadsSets}
+use Rattle.usb_enumeration.specs.inside.Image.{DecodedFrom}
+use Rattle.usb_enumeration.specs.inside.Readers.{ReadsSets}
 
 -- what is used of the laws of sets
 pub record SetLaws : Type 0 where

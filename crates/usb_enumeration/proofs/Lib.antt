@@ -12,5 +12,4 @@ mod ReaderLemmas
 mod SeriesLemmas
 mod ImageLemmas
 mod RunLemmas
-mod DueLemmas
 mod EnumerateLemmas

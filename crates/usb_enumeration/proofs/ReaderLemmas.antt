@@ -1,15 +1,14 @@
 -- There is a reader of sets that reads all sets, and nothing else.
-use Rattle.std.proofs.Common.{◌≡◌, ℕ, ◌==◌, ◌&&◌, Bool, true, false, if◌then◌else◌, nat_lt, List, [], ◌∷◌, ◌++◌, length, Option, Some, None, refl, ap, sym, ◌∙◌, arith, subst}
+use Rattle.std.proofs.Common.{◌≡◌, ℕ, ◌==◌, ◌&&◌, Bool, true, false, if◌then◌else◌, nat_lt, List, [], ◌∷◌, ◌++◌, length, Option, Some, None, refl, ap, sym, ◌∙◌, arith, subst, length-append}
 use Rattle.std.proofs.lemmas.Bool.Decides.{nat_tests}
 use Rattle.std.proofs.lemmas.List.{append-nil, nil_from_length}
-use Rattle.std.proofs.Common.{length-append}
 use Rattle.usb_base.specs.Bytes.{AreBytes}
 use Rattle.usb_set.specs.declared.tree.Configuration.{Configuration}
 use Rattle.usb_set.specs.declared.fault.SetWhy.{SetWhy}
 use Rattle.usb_set.specs.Layout.{Layout}
 use Rattle.usb_set.specs.Faults.{Begins, Faulty}
 use Rattle.usb_set.specs.Judgement.{Judgement, is_set, is_faulty, is_open}
-use Rattle.usb_enumeration.specs.Laws.{SetsAreRead}
+use Rattle.usb_enumeration.specs.inside.Laws.{SetsAreRead}
 
 abbrev are_bytes : List ℕ → Bool
 are_bytes [] = true

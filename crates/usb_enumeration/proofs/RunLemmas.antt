@@ -28,11 +28,13 @@ use Rattle.usb_host.specs.declared.place.Place.TheVariants.{First, Reported, Sto
 use Rattle.usb_host.specs.declared.kept.Kept.{Kept}
 use Rattle.usb_host.specs.Order.{stopped}
 use Rattle.usb_host.specs.Gathered.{reached}
-use Rattle.usb_host.specs.Steps.{HostPhase, ResetDue, Reading, Ended, HostView, WantsReset, WantsSent, wanted, sends, enter, reset, reset_in, settled, blames_bus, TakesHeard, TakesIn}
-use Rattle.usb_enumeration.specs.Script.{configured_state}
-use Rattle.usb_enumeration.specs.Series.{Series, fresh, settle, series_step, series_run, Verdict}
-use Rattle.usb_enumeration.specs.Image.{plan_of, IsImage, StaysImage}
-use Rattle.usb_enumeration.specs.Run.{Pair, new_pair, IsReset, IsTransaction, Runs, EndsWell, GoesWell, KeepsLimits}
+use Rattle.usb_host.specs.Steps.{HostPhase, ResetDue, Reading, Ended, HostView, WantsReset, WantsSent, wanted, sends, enter, settled, blames_bus, TakesHeard, TakesIn}
+use Rattle.usb_enumeration.specs.Enumerate.{configured_state}
+use Rattle.usb_host.proofs.AskingLemmas.{wants_reset, reset_is}
+use Rattle.usb_enumeration.specs.inside.Series.{Series, fresh, settle, series_step, series_run, Verdict}
+use Rattle.usb_enumeration.specs.inside.Image.{plan_of, IsImage, StaysImage}
+use Rattle.usb_enumeration.specs.Run.{Pair, new_pair, IsReset, IsTransaction, Runs}
+use Rattle.usb_enumeration.specs.inside.Ends.{EndsWell, GoesWell, KeepsLimits}
 
 -- one transaction more
 fates_used-more : (fates : List Fate) (n : ℕ) → fates_used fates (suc n) ≡ fates_used fates n ++ fate_at fates n ∷ []
@@ -41,22 +43,10 @@ fates_used-more (f ∷ fates) zero = refl
 fates_used-more [] (suc n) = ap (λ fs. Pass ∷ fs) (fates_used-more [] n)
 fates_used-more (f ∷ fates) (suc n) = ap (λ fs. f ∷ fs) (fates_used-more fates n)
 
--- which phase wants what
-pub wants_reset : (p : HostPhase) → wanted p ≡ WantsReset → p ≡ ResetDue
-wants_reset ResetDue e = refl
-wants_reset (Reading place t k) e = by_due (due t) e
-  where
-    by_due : (o : Option Sent) → sends o ≡ WantsReset → Reading place t k ≡ ResetDue
-    by_due None e = absurd (cc)
-    by_due (Some sent) e = absurd (cc)
-wants_reset (Ended place) e = absurd (cc)
-
+-- what is sent is due
 is_due : (o : Option Sent) (sent : Sent) → sends o ≡ WantsSent sent → o ≡ Some sent
 is_due None sent e = absurd (cc)
 is_due (Some other) sent e = cc
-
-pub reset_is : (v : HostView) → v.phase ≡ ResetDue → reset v ≡ record v { resets = suc v.resets; phase = enter v.limits First }
-reset_is v e = ap (λ p. reset_in v p) e
 
 module _ (set_of : List ℕ → Option Configuration) (limits : LimitView) (speed : Speed) where
   abbrev plan : List Reply → Plan

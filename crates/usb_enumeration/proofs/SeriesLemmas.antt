@@ -12,9 +12,10 @@ use Rattle.usb_transfer.specs.declared.reply.Reply.{Reply}
 use Rattle.usb_bus.specs.declared.fate.Fate.{Fate}
 use Rattle.usb_bus.specs.Fates.{lost, busy, ack_lost, losses, busies, acks_lost}
 use Rattle.usb_transfer.specs.Plan.{Plan}
-use Rattle.usb_bus.specs.Attempt.{Phase, Running, Succeeded, Broken, Attempt, phase_of, proceed, attempt_step, attempt_run, Follows, Sound}
-use Rattle.usb_bus.specs.Laws.{AttemptsHaveCauses}
-use Rattle.usb_enumeration.specs.Series.{Series, fresh, settle, series_step, series_run, Verdict}
+use Rattle.usb_bus.specs.Attempt.{Phase, Running, Succeeded, Broken, Attempt, phase_of, proceed, attempt_step, attempt_run}
+use Rattle.usb_bus.specs.inside.Sound.{Follows, Sound}
+use Rattle.usb_bus.proofs.Attempts.{attempts_sound}
+use Rattle.usb_enumeration.specs.inside.Series.{Series, fresh, settle, series_step, series_run, Verdict}
 
 ack_at_most_lost : (f : Fate) → ack_lost f ≤ lost f
 ack_at_most_lost f = grind arith
@@ -64,13 +65,13 @@ module _ (plan : List Reply → Plan) (naks limit : ℕ) (answer : State → Set
   abbrev Holds : ℕ → ℕ → Series → Type 0
   Holds l b x = Account l b x.attempts x.attempt × ((why : Why) → x.attempt.phase ≡ Broken why → limit ≤ x.attempts)
 
-  module _ (law : AttemptsHaveCauses) (follows : Follows plan naks answer cut false all last new_device.state [] all) where
+  module _ (follows : Follows plan naks answer cut false all last new_device.state [] all) where
     abbrev SoundAt : List Fate → Attempt → Phase → Type 0
     SoundAt since x phase = Sound plan naks answer cut false all last (losses since) (busies since) (acks_lost since) x.replies phase x.device
 
     sound : (since : List Fate) (x : Attempt) (phase : Phase) → x ≡ run since first → x.phase ≡ phase → SoundAt since x phase
     sound since x phase at e =
-        subst (λ p. SoundAt since x p) e (subst (λ y. SoundAt since y y.phase) (sym at) (law plan naks answer cut false all last new_device since follows))
+        subst (λ p. SoundAt since x p) e (subst (λ y. SoundAt since y y.phase) (sym at) (attempts_sound plan naks answer cut false all last new_device since follows))
 
     starts : (l b attempts : ℕ) → (attempts ≤ l + 1) ⊎ (naks < b) → Holds l b (fresh plan naks limit attempts)
     starts l b attempts p = (

@@ -20,25 +20,26 @@ use Rattle.usb_file_data.specs.declared.file.Other.{Other}
 use Rattle.usb_file_data.specs.declared.file.Strings.{Strings}
 use Rattle.usb_file_data.specs.File.{whole_set, is_long_string}
 use Rattle.usb_file_data.specs.Named.{named_indices, other_sets, string_indices}
-use Rattle.usb_description.specs.Descriptors.{descriptor, set_at, string_at, qualifier_of, other_set_at, units_at}
+use Rattle.usb_file_data.specs.StringPlaces.{units_at}
+use Rattle.usb_description.specs.Descriptors.{descriptor, set_at, string_at, qualifier_of, other_set_at}
 use Rattle.usb_description.specs.Accepted.{repeats}
 use Rattle.usb_device.specs.declared.state.State.{State}
 use Rattle.usb_device.specs.States.{zero as zero_state}
 use Rattle.usb_device.specs.Requests.{Bytes, Done, Refused, answer, answer_of, has_value}
 use Rattle.usb_device.specs.Step.{carried_out, is_set_address}
 use Rattle.usb_transfer.specs.declared.reply.Reply.TheVariants as replied
-use Rattle.usb_bus.specs.Coupled.{IsCut}
+use Rattle.usb_bus.specs.Answering.{CutsAlike}
 use Rattle.usb_bus.specs.Attempt.{reply_to}
 use Rattle.usb_host.specs.Requests.{get_descriptor, set_address, set_configuration}
 use Rattle.usb_enumeration.specs.inside.Following.{Serves}
 use Rattle.usb_host.specs.Read.{may_have_second}
 use Rattle.usb_host.specs.Order.{first_value, index_due, language_due}
 use Rattle.usb_enumeration.specs.inside.Described.{IsDescribed}
-use Rattle.usb_enumeration.specs.Script.{Exchange, exchange, set_script, text_script, string_script, other_script, last_script, second_script, script, addressed_state, configured_state}
+use Rattle.usb_enumeration.specs.inside.Script.{Exchange, exchange, set_script, text_script, string_script, other_script, last_script, second_script, script, addressed_state}
+use Rattle.usb_enumeration.specs.Enumerate.{configured_state}
 use Rattle.usb_enumeration.proofs.AcceptLemmas.{AreSound, AreStrings, count_is, other_count_is, sets_sound, other_sets_sound, value_some, packet_right, at_least_8, strings_right, languages_apart}
 use Rattle.usb_enumeration.proofs.HeadLemmas.{headed}
 use Rattle.usb_enumeration.proofs.TextLemmas.{named_once, index_fits, string_found}
-use Rattle.usb_bus.proofs.Cutting.{packets_cut}
 use Rattle.usb_enumeration.proofs.CutLemmas.{first_cut}
 
 units_length : (u : List ℕ) → length (flat_map little_endian u) ≡ 2 * length u
@@ -86,7 +87,7 @@ module _ (f : DescriptorFile) where
 
     -- one read more in front
     reads : (s : State) (packet kind i language wants : ℕ) (b b' : List ℕ) (more : List Exchange) → i < 256 → descriptor f kind i language ≡ Some b →
-        0 < wants → take wants b ≡ b' → IsCut n packet wants b' → D s more →
+        0 < wants → take wants b ≡ b' → CutsAlike n packet wants b' → D s more →
         D s (exchange s.address packet (get_descriptor kind i language wants) (replied.Bytes b') ∷ more)
     reads s packet kind i language wants b b' more small e some at cut d =
         let a : answer f s (get_descriptor kind i language wants) ≡ Bytes b' = found s kind i language b wants small e some ∙ ap Bytes at in
@@ -94,7 +95,7 @@ module _ (f : DescriptorFile) where
           record {
             address = refl;
             reply = ap reply_to a;
-            is_cut = λ x ex. (let same : b' ≡ x = cc in subst (λ y. IsCut n packet wants y) same cut);
+            is_cut = λ x ex. (let same : b' ≡ x = cc in subst (λ y. CutsAlike n packet wants y) same cut);
           },
           (λ z ez. absurd (no_address kind i language wants z)),
           subst (λ x. D x more) kept d,
@@ -121,9 +122,9 @@ module _ (f : DescriptorFile) where
           let long = head.long in
           let here : descriptor f (type_number kind) i 0 ≡ Some b = is i ∙ ap (λ x. option_map whole_set x) (at_drop i all c cs at) in
           reads s n (type_number kind) i 0 9 b (take 9 b) _ (omega arith) here (lit< tt) refl
-          (packets_cut (take 9 b) n 9 pos (simp length-take (omega arith)) (lit< tt))
+          (pos, simp length-take (omega arith), refl)
           (reads s n (type_number kind) i 0 (length b) b b _ (omega arith) here (omega arith) (take_all (length b) b (omega arith))
-          (packets_cut b n (length b) pos (omega arith) (omega arith))
+          (pos, omega arith, refl)
           (serves_sets kind all is (suc i) cs more (drop_next i all c cs at) (omega arith) good.2 d))
 
       reads_units : (i language : ℕ) (u : List ℕ) (more : List Exchange) → i < 256 → length u ≤ 126 → descriptor f 3 i language ≡ Some (units_bytes u) →
@@ -131,7 +132,7 @@ module _ (f : DescriptorFile) where
       reads_units i language u more small short here d =
           let size = units_length u in
           reads s n 3 i language 255 (units_bytes u) (units_bytes u) more small here (lit< tt) (take_all 255 (units_bytes u) (omega arith))
-          (packets_cut (units_bytes u) n 255 pos (omega arith) (lit< tt)) d
+          (pos, omega arith, refl) d
 
       serves_texts : (t : Strings) → f.strings ≡ Some t → AreStrings (named_indices f) t → repeats t.languages ≡ false →
           (k : ℕ) (ts : List (List ℕ)) (more : List Exchange) → drop k t.texts ≡ ts → k + length ts ≡ length t.texts → list_any is_long_string ts ≡ false →
@@ -173,7 +174,7 @@ module _ (f : DescriptorFile) where
           declines s n 6 0 0 10 more (lit< tt) (ap (λ x. qualifier_of x 0) e) d
       serves_other (Some o) more e good few d =
           reads s n 6 0 0 10 (qualifier_bytes o.qualifier) (qualifier_bytes o.qualifier) _ (lit< tt) (ap (λ x. qualifier_of x 0) e) (lit< tt) refl
-          (packets_cut (qualifier_bytes o.qualifier) n 10 pos (omega arith) (lit< tt))
+          (pos, omega arith, refl)
           (serves_sets kinds.OtherSpeed o.sets (λ i. ap (λ x. other_set_at x i) e) 0 o.sets more refl (omega arith) good d)
 
 addressed_done : (f : DescriptorFile) (address : ℕ) → address < 128 → answer f zero_state (set_address address) ≡ Done (addressed_state address)
@@ -242,6 +243,6 @@ module _ (set_of : List ℕ → Option Configuration) (speed : Speed) (address :
       let count = count_is f a.sets in
       reads f last zero_state 8 1 0 0 8 b (take 8 b) _ (lit< tt) refl (lit< tt) refl (first_cut (take 8 b) m p refl)
       (serves_more _ (λ e. absurd (cc))
-      (reads f last there m 1 0 0 18 b b _ (lit< tt) refl (lit< tt) refl (packets_cut b m 18 pos (omega arith) (lit< tt))
+      (reads f last there m 1 0 0 18 b b _ (lit< tt) refl (lit< tt) refl (pos, omega arith, refl)
       (serves_sets f last pos there kinds.Configuration f.sets (λ i. refl) 0 f.sets (second_script address m (may_have_second speed f.device) f) refl (omega arith) (sets_sound f a.sets)
       (serves_second (may_have_second speed f.device) pos))))

@@ -8,7 +8,7 @@ use Rattle.usb_file_data.specs.declared.file.DescriptorFile.{DescriptorFile}
 use Rattle.usb_file_data.specs.declared.file.Strings.{Strings}
 use Rattle.usb_file_data.specs.Named.{named_among, named_indices, string_indices}
 use Rattle.usb_description.specs.Accepted.{stands_in, repeats}
-use Rattle.usb_description.specs.Descriptors.{units_at}
+use Rattle.usb_file_data.specs.StringPlaces.{units_at}
 use Rattle.usb_host.specs.Order.{index_due, language_due}
 
 -- two places of a list in which no number stands twice have two numbers

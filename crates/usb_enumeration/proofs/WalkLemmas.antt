@@ -27,7 +27,7 @@ use Rattle.usb_file_data.specs.Front.{with_set, with_strings}
 use Rattle.usb_enumeration.specs.inside.Following.{Walks}
 use Rattle.usb_host.specs.Order.{stopped, other_declared, is_first_zero, first_value, index_due, language_due, sets_of, declared_sets, texts_due, strings_due, after_sets, sets_due, device_leads, header_leads, set_leads, qualifier_leads, languages_lead, text_leads}
 use Rattle.usb_enumeration.specs.inside.Described.{IsDescribed, SetsAreRead, TextsAreRead, OtherIsRead, StringsAreRead}
-use Rattle.usb_enumeration.specs.Script.{Exchange, exchange, set_script, text_script, string_script, other_script, last_script, named_script, second_script, script}
+use Rattle.usb_enumeration.specs.inside.Script.{Exchange, exchange, set_script, text_script, string_script, other_script, last_script, named_script, second_script, script}
 use Rattle.usb_enumeration.proofs.AcceptLemmas.{AreSound, AreStrings, count_is, other_count_is, sets_sound, other_sets_sound, value_some, packet_right, other_asked, strings_right, no_strings_right}
 use Rattle.usb_enumeration.proofs.HeadLemmas.{headed}
 

@@ -1,13 +1,17 @@
 -- What an enumeration promises.
-use Rattle.std.specs.Prelude.{◌≡◌, ℕ, List, Some}
+use Rattle.std.specs.Prelude.{◌≡◌, ℕ, ◌<◌, ◌≤◌, true, false, List, Some, ◌⊎◌}
 use Rattle.usb_fields.specs.declared.speed.Speed.{Speed}
 use Rattle.usb_file_data.specs.declared.file.DescriptorFile.{DescriptorFile}
+use Rattle.usb_transfer.specs.declared.why.Why.{Why}
+use Rattle.usb_transfer.specs.declared.why.Why.TheVariants.{Memory}
 use Rattle.usb_transfer.specs.Limits.{LimitView}
 use Rattle.usb_device.specs.declared.state.State.{State}
+use Rattle.usb_device.specs.States.{first_alternates}
 use Rattle.usb_bus.specs.declared.fate.Fate.{Fate}
-use Rattle.usb_host.specs.Steps.{outcome_of}
+use Rattle.usb_bus.specs.Fates.{losses, busies}
+use Rattle.usb_host.specs.Order.{first_value}
+use Rattle.usb_host.specs.Steps.{outcome_of, blames_bus}
 use Rattle.usb_enumeration.specs.declared.run.Run.{Run}
-use Rattle.usb_enumeration.specs.Script.{configured_state}
 use Rattle.usb_enumeration.specs.Run.{Pair, new_pair, Runs}
 
 -- The enumeration is a run of both ends, from a new host and a new device on. Each step is a reset, where one is due, or a
@@ -18,7 +22,18 @@ IsEnumeration f speed limits fates run =
     (earlier : List Pair) × (last : Pair) × Runs f fates (new_pair limits speed) earlier run.transactions last
     × (last.host.resets ≡ run.attempts) × (outcome_of last.host.phase ≡ Some run.outcome) × (last.device.state ≡ run.state)
 
+-- the device once it is configured by its first set's value, and nothing else has changed (9.1.1.5)
+abbrev pub configured_state : ℕ → DescriptorFile → State
+configured_state address f = record { address = address; selected = first_value f.sets; alternates = first_alternates; halts = 0; wakeup = false }
+
 -- What a success says: the file that was read is the description, and the device has this address and is configured by the
 -- first set's value.
 abbrev pub HasReadAll : DescriptorFile → ℕ → State → DescriptorFile → Type 0
 HasReadAll f address s g = (g ≡ f) × (s ≡ configured_state address f)
+
+-- Why an enumeration of a device that keeps to the standard ends without success, after these fates: for want of memory;
+-- or it used all attempts, and there was a loss for each, or more Busy than NAKs are borne.
+abbrev pub HasCause : LimitView → List Fate → ℕ → Why → Type 0
+HasCause limits used attempts why =
+    (why ≡ Memory)
+    ⊎ ((blames_bus why ≡ true) × (attempts ≡ limits.attempts) × ((limits.attempts ≤ losses used) ⊎ (limits.naks < busies used)))

@@ -1,76 +1,21 @@
 -- What holds of an enumeration over a bus.
-use Rattle.std.specs.Prelude.{◌≡◌, ℕ, false, List, [], Option, ◌<◌}
+use Rattle.std.specs.Prelude.{◌≤◌, IfErr, IfOk, List}
 use Rattle.usb_base.specs.Bytes.{AreBytes}
-use Rattle.usb_fields.specs.declared.setup.Setup.{Setup as SetupPacket}
 use Rattle.usb_fields.specs.declared.speed.Speed.{Speed}
-use Rattle.usb_set.specs.declared.tree.Configuration.{Configuration}
 use Rattle.usb_file_data.specs.declared.file.DescriptorFile.{DescriptorFile}
 use Rattle.usb_file_data.specs.File.{file_bytes}
-use Rattle.usb_transfer.specs.declared.reply.Reply.{Reply}
 use Rattle.usb_transfer.specs.Limits.{LimitView, IsInRange}
-use Rattle.usb_transfer.specs.Plan.{Plan}
 use Rattle.usb_description.specs.Accepted.{Accepted}
-use Rattle.usb_device.specs.declared.state.State.{State}
-use Rattle.usb_device.specs.Requests.{Outcome, answer}
-use Rattle.usb_device.specs.Step.{new_device}
 use Rattle.usb_bus.specs.declared.fate.Fate.{Fate}
-use Rattle.usb_bus.specs.Fates.{losses, busies}
-use Rattle.usb_bus.specs.Attempt.{Follows}
 use Rattle.usb_bus.specs.Run.{fates_used}
-use Rattle.usb_host.specs.declared.place.Place.TheVariants.{First, Reported}
-use Rattle.usb_host.specs.Gathered.{reached}
-use Rattle.usb_enumeration.specs.Script.{replies_in, script, configured_state}
-use Rattle.usb_enumeration.specs.Series.{Verdict, fresh, series_run}
-use Rattle.usb_enumeration.specs.Image.{plan_of, StaysImage}
-use Rattle.usb_enumeration.specs.Readers.{ReadsSets}
-use Rattle.usb_enumeration.specs.Run.{Pair, new_pair, Runs, GoesWell, KeepsLimits}
+use Rattle.usb_enumeration.specs.declared.run.Run.{Run}
+use Rattle.usb_enumeration.specs.Enumerate.{IsEnumeration, HasReadAll, HasCause}
 
--- For any plan that a device answers as expected, with a reset before each attempt, over every list of fates.
-abbrev pub AttemptsHaveCauses : Type 0
-AttemptsHaveCauses =
-    (plan : List Reply → Plan) (naks limit : ℕ) (answer : State → SetupPacket → Outcome) (cut : ℕ) (all : List Reply) (last : State)
-    (fates : List Fate) → Follows plan naks answer cut false all last new_device.state [] all →
-    (let x = series_run plan naks limit answer cut fates (fresh plan naks limit 1) in
-    Verdict plan naks limit answer cut all last (losses fates) (busies fates) x.attempts x.attempt x.attempt.phase)
-
--- An enumeration of a device with accepted descriptors whose numbers fit their fields, over every list of fates: a success
--- has all replies of the script, and the device is configured.
-abbrev pub EnumerationsHaveCauses : Type 0
-EnumerationsHaveCauses =
-    (set_of : List ℕ → Option Configuration) (limits : LimitView) (speed : Speed) (f : DescriptorFile) (fates : List Fate) →
-    ReadsSets set_of → Accepted f speed → AreBytes (file_bytes f) → IsInRange limits.address limits.attempts →
-    (let plan = plan_of set_of limits speed in
-    let x = series_run plan limits.naks limits.attempts (answer f) f.device.packet fates (fresh plan limits.naks limits.attempts 1) in
-    Verdict plan limits.naks limits.attempts (answer f) f.device.packet (replies_in (script limits.address f.device.packet speed f))
-    (configured_state limits.address f) (losses fates) (busies fates) x.attempts x.attempt x.attempt.phase)
-
--- The replies of the script lead to a report of the descriptors.
-abbrev pub ReadsTheDescription : Type 0
-ReadsTheDescription =
-    (set_of : List ℕ → Option Configuration) (address : ℕ) (speed : Speed) (f : DescriptorFile) →
-    ReadsSets set_of → Accepted f speed → AreBytes (file_bytes f) →
-    reached set_of speed First (replies_in (script address f.device.packet speed f)) ≡ Reported f
-
--- A host that keeps a place, and hands the packets of a set to its decoder as they come, goes as one that keeps all replies
--- and all bytes, unless memory is wanting.
-abbrev pub KeepsTheImage : Type 0
-KeepsTheImage = (set_of : List ℕ → Option Configuration) (limits : LimitView) (speed : Speed) → ReadsSets set_of → StaysImage set_of limits speed
-
--- Whatever a bus does to a host and a device with accepted descriptors, a report is these descriptors, and any other end has
--- a cause.
-abbrev pub RunsEndWell : Type 0
-RunsEndWell =
-    (limits : LimitView) (speed : Speed) (f : DescriptorFile) (fates : List Fate) (earlier : List Pair) (n : ℕ) (last : Pair) →
-    Accepted f speed → AreBytes (file_bytes f) → IsInRange limits.address limits.attempts →
-    Runs f fates (new_pair limits speed) earlier n last →
-    GoesWell f limits (fates_used fates n) last.host.resets last.device.state last.host.phase
-
--- And the host keeps its limits, and begins no attempt too many.
-abbrev pub RunsKeepLimits : Type 0
-RunsKeepLimits =
-    (limits : LimitView) (speed : Speed) (f : DescriptorFile) (fates : List Fate) (earlier : List Pair) (n : ℕ) (last : Pair) →
-    0 < limits.attempts → Runs f fates (new_pair limits speed) earlier n last → KeepsLimits limits last.host
-
--- There is a reader of sets that the laws are about.
-abbrev pub SetsAreRead : Type 0
-SetsAreRead = (set_of : List ℕ → Option Configuration) × ReadsSets set_of
+-- Whatever a bus does to a host and a device with accepted descriptors: an enumeration that has ended begins no attempt too
+-- many. A success has read these descriptors and configured the device, and any other end has a cause.
+abbrev pub EnumerationsEndWell : Type 0
+EnumerationsEndWell =
+    (f : DescriptorFile) (speed : Speed) (limits : LimitView) (fates : List Fate) (run : Run) → Accepted f speed → AreBytes (file_bytes f) →
+    IsInRange limits.address limits.attempts → IsEnumeration f speed limits fates run →
+    (run.attempts ≤ limits.attempts) × IfOk run.outcome (HasReadAll f limits.address run.state)
+    × IfErr run.outcome (λ trouble. HasCause limits (fates_used fates run.transactions) run.attempts trouble.why)

@@ -1,4 +1,10 @@
 -- What no public contract cites.
+pub mod Script
+pub mod Series
+pub mod Readers
+pub mod Image
+pub mod Ends
 pub mod Following
 pub mod Described
 pub mod Stepping
+pub mod Laws

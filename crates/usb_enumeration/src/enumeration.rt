@@ -1,16 +1,15 @@
 //! An enumeration, from a new host and a new device to its outcome.
-ghost use Rattle.std.specs.Prelude.{◌≡◌, ◌<◌, ◌≤◌, ◌+◌, ◌^◌, true, IfErr, IfOk, IfSome, IsNone};
+ghost use Rattle.std.specs.Prelude.{◌≡◌, ◌<◌, ◌≤◌, ◌+◌, ◌^◌, true, IfErr, IfOk, IfSome, IsNone, IsSome};
 ghost use Rattle.usb_transfer.specs.declared.why.Why.TheVariants.{Memory};
 ghost use Rattle.usb_bus.specs.Fates.{busies, losses};
 ghost use Rattle.usb_bus.specs.Run.{fates_used};
 ghost use Rattle.usb_host.specs.Cost.{left_to_ask, most};
-ghost use Rattle.usb_host.specs.Steps.{WantsNothing, blames_bus, wanted};
-ghost use Rattle.usb_enumeration.specs.Enumerate.{HasReadAll, IsEnumeration};
-ghost use Rattle.usb_enumeration.specs.Run.{HasCause};
-ghost use Rattle.usb_enumeration.specs.inside.Stepping.{Moves, both};
+ghost use Rattle.usb_host.specs.Steps.{blames_bus, outcome_of};
+ghost use Rattle.usb_enumeration.specs.Enumerate.{HasReadAll, IsEnumeration, HasCause};
+ghost use Rattle.usb_enumeration.specs.inside.Stepping.{Moves, both, measure};
 
-use crate::exchange::{exchange, fate_of};
-use crate::laws::a_run_ends_well;
+use crate::exchange::exchange;
+use crate::laws::an_enumeration_ends_well;
 use crate::run::Run;
 use std::alloc::Global;
 use usb_bus::Fate;
@@ -20,11 +19,13 @@ use usb_transfer::Limits;
 
 /// What the host wants next, done at both ends: a bus reset, which has no fate, or a transaction. Answers how many
 /// transactions there were then, or `None` where the host wants nothing more.
+#[tactic(auto, using(crate::proofs::EnumerateLemmas::take_falls, crate::proofs::EnumerateLemmas::reset_falls))]
 fn step(host: &mut Host, device: &mut Device<'_>, fates: &[Fate], transactions: u64) -> Option<u64>
     requires few { transactions + left_to_ask host.old < 2 ^ 64 }
     ensures moves { IfSome result (λ now. Moves device.old.description.file fates.now (both host.old device.old.device) transactions (both host.new device.new.device) now) }
-    ensures fewer { IfSome result (λ now. transactions < now → left_to_ask host.new < left_to_ask host.old) }
-    ensures ended { IsNone result → (wanted host.new.phase ≡ WantsNothing) × (both host.new device.new.device ≡ both host.old device.old.device) }
+    ensures fewer { IfSome result (λ now. now + left_to_ask host.new ≤ transactions + left_to_ask host.old) }
+    ensures falls { IfSome result (λ now. measure host.new < measure host.old) }
+    ensures ended { IsNone result → IsSome (outcome_of host.new.phase) × (both host.new device.new.device ≡ both host.old device.old.device) }
     ensures description { device.new.description ≡ device.old.description }
 {
     match host.next() {
@@ -34,7 +35,7 @@ fn step(host: &mut Host, device: &mut Device<'_>, fates: &[Fate], transactions: 
             Some(transactions)
         }
         Action::Send(t) => {
-            exchange(host, device, &t, fate_of(fates, transactions));
+            exchange(host, device, &t, Fate::at(fates, u128::from(transactions)));
             Some(transactions + 1)
         }
         Action::Ended => None,
@@ -78,7 +79,7 @@ pub fn enumerate(alloc: Global, d: &Description, limits: Limits, fates: &[Fate])
     let _file = d.file();
     d.known();
     limits.known();
-    a_run_ends_well();
+    an_enumeration_ends_well();
     let mut host = Host::new(alloc, limits, d.speed());
     let mut device = Device::new(d);
     let mut transactions = 0u64;

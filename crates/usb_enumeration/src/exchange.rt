@@ -3,7 +3,6 @@ ghost use Rattle.std.specs.Prelude.{◌≡◌, ◌<◌};
 ghost use Rattle.usb_fields.specs.Packet.{Sent, sent_of};
 ghost use Rattle.usb_device.specs.Requests.{answer};
 ghost use Rattle.usb_bus.specs.Bus.{carried};
-ghost use Rattle.usb_bus.specs.Run.{fate_at};
 ghost use Rattle.usb_host.specs.Cost.{left_to_ask};
 ghost use Rattle.usb_host.specs.Steps.{Takes, WantsSent, wanted};
 
@@ -11,17 +10,6 @@ use usb_bus::Fate;
 use usb_device::Device;
 use usb_fields::{Answer, Transaction};
 use usb_host::Host;
-
-/// The fate of a transaction, by its number. After the list's end all pass.
-pub(crate) fn fate_of(fates: &[Fate], number: u64) -> Fate
-    ensures { result ≡ fate_at fates.now number }
-{
-    if number < fates.len() as u64 {
-        fates[number as usize]
-    } else {
-        Fate::Pass
-    }
-}
 
 /// One transaction under a fate: the host takes what the bus leaves of the answer, which the device lends.
 pub(crate) fn exchange(host: &mut Host, device: &mut Device<'_>, t: &Transaction<'_>, fate: Fate)

@@ -1,51 +1,14 @@
-//! What holds of an enumeration over a bus that loses packets and handshakes.
+//! What holds of an enumeration over a bus that loses packets and handshakes, once it has ended.
 //!
-//! The functions of these laws do nothing: what they say stands in their contracts.
-ghost use Rattle.usb_enumeration.specs.Laws.{AttemptsHaveCauses, EnumerationsHaveCauses, ReadsTheDescription, KeepsTheImage, RunsEndWell, RunsKeepLimits, SetsAreRead};
+//! The function of the law does nothing: what it says stands in its contract.
+ghost use Rattle.usb_enumeration.specs.Laws.{EnumerationsEndWell};
 
-use usb_bus::laws::{a_device_keeps_its_table, an_attempt_has_causes};
-use usb_set::laws::{more_bytes, one_judgement, one_layout};
+use crate::lemmas::a_run_ends_well;
 
-/// Transfers by a plan, with a bus reset before each attempt: a failure has a loss for each attempt, or more busy
-/// transactions than NAKs are borne.
-pub fn attempts_have_causes()
-    ensures { AttemptsHaveCauses }
+/// Over every bus, an enumeration of a device with a description ends with a report of that description and the device
+/// configured, or with a cause, and with no attempt too many.
+pub fn an_enumeration_ends_well()
+    ensures { EnumerationsEndWell }
 {
-    an_attempt_has_causes();
-}
-
-/// An enumeration of a device: a success has read the description, and configured the device.
-pub fn an_enumeration_reads_the_description()
-    ensures causes { EnumerationsHaveCauses }
-    ensures reads { ReadsTheDescription }
-{
-    attempts_have_causes();
-    a_device_keeps_its_table();
-}
-
-/// A host that keeps a place and a decoder goes as one that keeps all bytes.
-pub fn a_host_keeps_the_image()
-    ensures { KeepsTheImage }
-{
-    one_layout();
-    one_judgement();
-    more_bytes();
-}
-
-/// Descriptions are read: the laws above have a premise on a reader of sets, and there is such a reader.
-pub fn descriptions_are_read()
-    ensures { SetsAreRead }
-{
-    one_layout();
-    one_judgement();
-}
-
-/// Over every bus, a host and a device with a description end with a report of that description, or with a cause.
-pub fn a_run_ends_well()
-    ensures ends { RunsEndWell }
-    ensures limits { RunsKeepLimits }
-{
-    an_enumeration_reads_the_description();
-    a_host_keeps_the_image();
-    descriptions_are_read();
+    a_run_ends_well();
 }

@@ -14,6 +14,7 @@
 mod enumeration;
 mod exchange;
 pub mod laws;
+mod lemmas;
 mod run;
 
 pub use enumeration::enumerate;

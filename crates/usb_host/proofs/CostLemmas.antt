@@ -25,7 +25,8 @@ use Rattle.usb_host.specs.declared.place.Place.{Place}
 use Rattle.usb_host.specs.declared.place.Place.TheVariants.{First, Address, Device, Header, Set, Qualifier as SecondSpeed, Languages, Text, Configure, Reported, Stopped}
 use Rattle.usb_host.specs.Read.{packet_fits, same_bytes, is_first, may_have_second, total_said, total_in, device_of, qualifier_of, units_of}
 use Rattle.usb_host.specs.Order.{is_first_zero, sets_of, declared_sets, other_declared, asks, stopped, texts_due, strings_due, after_sets, sets_due, device_leads, header_leads, set_leads, qualifier_leads, languages_lead, text_leads, bytes_lead, done_leads, refused_leads}
-use Rattle.usb_host.specs.Cost.{strings_cost, cost_after, cost, price, IsGood}
+use Rattle.usb_host.specs.Cost.{strings_cost, cost_after, cost, price}
+use Rattle.usb_host.specs.inside.Steady.{IsGood}
 use Rattle.usb_host.proofs.ReadLemmas.{same_is, byte_at, device_narrow, qualifier_narrow, units_written}
 
 at_least_8 : (speed : Speed) (p : ℕ) → packet_fits speed p ≡ true → 8 ≤ p

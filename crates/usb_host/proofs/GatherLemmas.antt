@@ -32,7 +32,7 @@ use Rattle.usb_host.specs.Order.{stopped, bytes_lead, set_leads, done_leads, ref
 use Rattle.usb_host.specs.Keeping.{set_kept}
 use Rattle.usb_host.specs.Steps.{KeepsHeard, read_leads, completed_leads}
 use Rattle.usb_host.specs.Gathered.{bytes_at, bytes_kept, bytes_in_work, part_of}
-use Rattle.usb_host.specs.Cost.{KeepsBytes}
+use Rattle.usb_host.specs.inside.Steady.{KeepsBytes}
 use Rattle.usb_host.specs.inside.Sound.{InSets, Holds, IsWhole, HasSet}
 use Rattle.usb_host.specs.inside.Reads.{EndsBy, LeadsOn, ended_leads}
 use Rattle.usb_host.proofs.PartLemmas.{bytes_hold, set_holds, refused_holds}

@@ -6,3 +6,5 @@ pub mod PlaceLemmas
 pub mod TakeLemmas
 pub mod GatherLemmas
 pub mod StandLemmas
+pub mod EndLemmas
+pub mod AskingLemmas

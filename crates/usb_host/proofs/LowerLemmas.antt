@@ -25,8 +25,9 @@ use Rattle.usb_host.specs.declared.kept.Kept.TheVariants as kept
 use Rattle.usb_host.specs.Order.{asks, done_leads, refused_leads}
 use Rattle.usb_host.specs.Keeping.{nothing_kept, set_kept}
 use Rattle.usb_host.specs.Steps.{HostPhase, ResetDue, Reading, Ended, HostView, entered, enter, reset_in, reset, blames_bus, settled, read_leads, completed_leads, goes_on, KeepsHeard, TakesHeard, TakesIn, Takes}
-use Rattle.usb_host.specs.Cost.{cost, price, most_in_attempt, left_in_attempt, left_to_ask, IsGood, FitsPlace, KeepsBytes, IsSteady, BringsBytes}
-use Rattle.usb_host.specs.Laws.{AsksLess}
+use Rattle.usb_host.specs.Cost.{cost, price, most_in_attempt, left_in_attempt, left_to_ask, BringsBytes}
+use Rattle.usb_host.specs.inside.Steady.{IsGood, FitsPlace, KeepsBytes, IsSteady}
+use Rattle.usb_host.specs.inside.Asking.{AsksLess}
 use Rattle.usb_host.proofs.CostLemmas.{Fits, bytes_fall, done_falls, refused_falls, set_fits, Pays, pays, priced}
 
 left_begun : (to packet naks : ℕ) (q : SetupPacket) → left (begun to packet naks q) ≤ (q.length / packet + 3) * (naks + 3)

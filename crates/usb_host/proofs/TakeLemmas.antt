@@ -25,7 +25,8 @@ use Rattle.usb_host.specs.declared.reading.Ending.{Ending}
 use Rattle.usb_host.specs.declared.reading.Ending.TheVariants as endings
 use Rattle.usb_host.specs.Order.{stopped}
 use Rattle.usb_host.specs.Steps.{Reading, Ended, enter, goes_on, IsEnd, KeepsHeard, TakesHeard}
-use Rattle.usb_host.specs.Cost.{IsGood, FitsPlace, KeepsBytes, BringsBytes}
+use Rattle.usb_host.specs.inside.Steady.{IsGood, FitsPlace, KeepsBytes}
+use Rattle.usb_host.specs.Cost.{BringsBytes}
 use Rattle.usb_host.specs.inside.Leading.{HasRoom, is_end}
 use Rattle.usb_host.specs.inside.Reads.{IsGoing, IsCounted, EndsBy, Hears, LeadsOn, ended_leads, standing}
 use Rattle.usb_host.proofs.LowerLemmas.{hears_bytes, kept_steady, completed_low}

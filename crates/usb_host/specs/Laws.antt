@@ -1,22 +1,18 @@
 -- What holds of every enumeration, whatever is answered.
-use Rattle.std.specs.Prelude.{◌≡◌, ℕ, ◌<◌, ◌≤◌, List, Option, Some}
+use Rattle.std.specs.Prelude.{◌≡◌, ℕ, suc, ◌<◌, ◌≤◌, ◌⊎◌, List, [], ◌∷◌, Option, Some, IsSome}
 use Rattle.usb_base.specs.Bytes.{AreBytes}
 use Rattle.usb_fields.specs.declared.speed.Speed.{Speed}
-use Rattle.usb_fields.specs.Packet.{Reply as Answer}
+use Rattle.usb_fields.specs.Packet.{Reply as Answer, Sent}
 use Rattle.usb_set.specs.declared.tree.Configuration.{Configuration}
 use Rattle.usb_set.specs.Layout.{Layout}
 use Rattle.usb_file_data.specs.declared.file.DescriptorFile.{DescriptorFile}
 use Rattle.usb_file_data.specs.File.{File}
 use Rattle.usb_transfer.specs.declared.reply.Reply.{Reply}
 use Rattle.usb_transfer.specs.Limits.{LimitView}
-use Rattle.usb_transfer.specs.Transfer.{TransferView, taken}
-use Rattle.usb_transfer.specs.Bound.{left}
-use Rattle.usb_host.specs.declared.place.Place.{Place}
 use Rattle.usb_host.specs.declared.place.Place.TheVariants.{First, Reported}
-use Rattle.usb_host.specs.declared.kept.Kept.{Kept}
-use Rattle.usb_host.specs.Steps.{ResetDue, Reading, HostView, new_host, reset, Takes}
+use Rattle.usb_host.specs.Steps.{HostView, WantsReset, WantsSent, WantsNothing, new_host, wanted, outcome_of, reset, Takes}
 use Rattle.usb_host.specs.Gathered.{reached, parts_of}
-use Rattle.usb_host.specs.Cost.{most, left_to_ask, BringsBytes, IsSteady}
+use Rattle.usb_host.specs.Cost.{most, BringsBytes}
 
 -- Whatever was replied, by whatever device, a success gives the file whose bytes were read.
 abbrev pub ReportsWhatWasRead : Type 0
@@ -25,11 +21,19 @@ ReportsWhatWasRead =
     (replies : List Reply) (g : DescriptorFile) → reached set_of speed First replies ≡ Reported g →
     AreBytes (parts_of set_of speed First replies) → File g (parts_of set_of speed First replies)
 
--- A new host asks for at most `most` transactions, a reset adds none, and each answer that a read in work takes lowers
--- what is left, whatever it is. The premise on `left` is what one transfer promises.
-pub record AsksLess : Type 0 where
-  pub at_most : (limits : LimitView) (speed : Speed) → left_to_ask (new_host limits speed) ≡ most limits
-  pub resets : (v : HostView) → v.phase ≡ ResetDue → v.resets < v.limits.attempts →
-      IsSteady (reset v).phase × (left_to_ask (reset v) ≤ left_to_ask v)
-  pub takes : (v w : HostView) (place : Place) (t : TransferView) (k : Kept) (answer : Answer) → v.phase ≡ Reading place t k → IsSteady v.phase →
-      BringsBytes answer → left (taken t answer).transfer < left t → Takes v answer w → IsSteady w.phase × (left_to_ask w < left_to_ask v)
+-- `last` is reached from a new host by so many transactions, whatever bytes were answered to each, and by bus resets. These
+-- are the hosts on the way, the newest first.
+abbrev pub Asks : HostView → List HostView → ℕ → HostView → Type 0
+Asks new [] n last = (last ≡ new) × (n ≡ 0)
+Asks new (v ∷ earlier) n last =
+    ((wanted v.phase ≡ WantsReset) × (last ≡ reset v) × Asks new earlier n v)
+    ⊎ ((m : ℕ) × (sent : Sent) × (answer : Answer) × (n ≡ suc m) × (wanted v.phase ≡ WantsSent sent) × BringsBytes answer
+    × Takes v answer last × Asks new earlier m v)
+
+-- Whatever is answered, a host asks for at most `most` transactions, and begins no attempt too many; and once it wants
+-- nothing more, it has an outcome.
+abbrev pub HostsEnd : Type 0
+HostsEnd =
+    (limits : LimitView) (speed : Speed) (earlier : List HostView) (n : ℕ) (last : HostView) → 0 < limits.attempts →
+    Asks (new_host limits speed) earlier n last →
+    (n ≤ most limits) × (last.resets ≤ limits.attempts) × (wanted last.phase ≡ WantsNothing → IsSome (outcome_of last.phase))

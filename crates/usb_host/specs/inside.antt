@@ -1,4 +1,6 @@
 -- What no public contract cites.
+pub mod Steady
+pub mod Asking
 pub mod Sound
 pub mod Leading
 pub mod Reads

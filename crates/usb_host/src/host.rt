@@ -1,5 +1,5 @@
 //! The host.
-ghost use Rattle.std.specs.Prelude.{◌≡◌, ◌<◌, ◌&&◌, nat_lt, Ok, None, Some};
+ghost use Rattle.std.specs.Prelude.{◌≡◌, ◌<◌, ◌≤◌, ◌&&◌, nat_lt, IsSome, Ok, None, Some};
 ghost use Rattle.usb_fields.specs.Packet.{Sent, reply_of};
 ghost use Rattle.usb_host.specs.Cost.{BringsBytes};
 ghost use Rattle.usb_host.specs.inside.Leading.{is_bus_trouble};
@@ -56,7 +56,7 @@ impl Model for Host {
 }
 
 impl Host {
-    ghost use Rattle.usb_host.specs.Steps.{Takes, WantsSent, lent_outcome, new_host, outcome_of, reset, wanted, wanted_by};
+    ghost use Rattle.usb_host.specs.Steps.{Takes, WantsNothing, WantsReset, WantsSent, lent_outcome, new_host, outcome_of, reset, wanted, wanted_by};
     ghost use Rattle.usb_file_data.specs.File.{File};
     ghost use Rattle.usb_file_data.specs.declared.file.DescriptorFile.{DescriptorFile};
     ghost use Rattle.usb_host.specs.Gathered.{gathered};
@@ -77,14 +77,15 @@ impl Host {
         }
     }
 
-    /// What is to be done next.
+    /// What is to be done next. Once nothing is, there is an outcome.
     ///
     /// ```rust
     /// assert_eq!(rt; Host::new(alloc, Limits::new(1, 16, 3)?, Speed::Full).next(), Action::Reset);
     /// ```
     #[inline(always)]
     pub fn next(&self) -> Action
-        ensures { wanted_by result ≡ wanted self.now.phase }
+        ensures action { wanted_by result ≡ wanted self.now.phase }
+        ensures ended { wanted_by result ≡ WantsNothing → IsSome (outcome_of self.now.phase) }
     {
         if self.reset_due {
             return Action::Reset;
@@ -98,9 +99,12 @@ impl Host {
         }
     }
 
-    /// The bus was reset: the device has no address and no configuration. Where no reset is due, nothing changes.
+    /// The bus was reset: the device has no address and no configuration. Where no reset is due, nothing changes. No reset
+    /// adds to what may still be asked for, nor to the attempts past their limit.
     pub fn reset_done(&mut self)
-        ensures { self.new ≡ reset self.old }
+        ensures reset { self.new ≡ reset self.old }
+        ensures fewer { left_to_ask self.new ≤ left_to_ask self.old }
+        ensures within { wanted self.old.phase ≡ WantsReset → self.new.resets ≤ self.old.limits.attempts }
     {
         if !self.reset_due {
             return;
@@ -144,7 +148,8 @@ impl Host {
         self.resets
     }
 
-    /// The outcome, once there is one: the file that was read, or the trouble with its step and its reason.
+    /// The outcome, once there is one: the file that was read, or the trouble with its step and its reason. Then nothing
+    /// more is asked for.
     ///
     /// ```rust
     /// if let Some(Ok(file)) = host.outcome() {
@@ -152,7 +157,8 @@ impl Host {
     /// }
     /// ```
     pub fn outcome(&self) -> Option<Result<&DescriptorFile, Trouble>>
-        ensures { lent_outcome result ≡ outcome_of self.now.phase }
+        ensures outcome { lent_outcome result ≡ outcome_of self.now.phase }
+        ensures ended { IsSome result → wanted self.now.phase ≡ WantsNothing }
     {
         if self.reset_due {
             return None;

@@ -1,13 +1,13 @@
 //! What holds of every enumeration, whatever is answered. The functions do nothing: what they say stands in their
 //! contracts.
-ghost use Rattle.usb_host.specs.Laws.{AsksLess, ReportsWhatWasRead};
+ghost use Rattle.usb_host.specs.Laws.{HostsEnd, ReportsWhatWasRead};
 
 /// Whatever a device answers, a success reports the file whose bytes were read.
 pub fn a_report_is_what_was_read()
     ensures { ReportsWhatWasRead }
 {}
 
-/// Whatever is answered, a host ends within a stated number of transactions.
+/// Whatever is answered, a host ends within a stated number of transactions and attempts, with an outcome.
 pub fn a_host_ends()
-    ensures { AsksLess }
+    ensures { HostsEnd }
 {}

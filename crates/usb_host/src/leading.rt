@@ -3,7 +3,7 @@ ghost use Rattle.std.specs.Prelude.{◌≡◌, ◌⊎◌, ◌<◌, ◌≤◌, �
 ghost use Rattle.usb_host.specs.Order.{after_sets as place_after_sets, bytes_lead, device_leads, done_leads, header_leads, languages_lead, qualifier_leads, refused_leads, set_leads, step_of, stopped, sets_due as set_due_at, strings_due as strings_due_at, text_leads, texts_due as text_due_at};
 ghost use Rattle.usb_host.specs.Keeping.{set_kept};
 ghost use Rattle.usb_host.specs.inside.Leading.{IsShort, LeadsTo, OrMemory, Settles};
-ghost use Rattle.usb_host.specs.Cost.{IsGood};
+ghost use Rattle.usb_host.specs.inside.Steady.{IsGood};
 ghost use Rattle.usb_host.specs.Steps.{completed_leads, read_leads};
 ghost use Rattle.usb_transfer.specs.declared.why.Why.TheVariants.{Memory};
 ghost use Rattle.usb_host.specs.declared.kept.Kept.TheVariants as kept;

@@ -1,5 +1,7 @@
 //! Where an enumeration stands.
-ghost use Rattle.std.specs.Prelude.{◌≡◌, ◌<◌, ◌*◌, IfSome, length};
+ghost use Rattle.std.specs.Prelude.{◌≡◌, ◌<◌, ◌*◌, IfSome, length, length as list_length};
+ghost use Rattle.usb_set.specs.Descriptors.{type_number};
+ghost use Rattle.usb_host.specs.Requests.{get_descriptor};
 ghost use Rattle.usb_host.specs.Order.{declared_sets, header_step as step_of_header, index_due as index_after, language_due as language_after, set_step as step_of_set, sets_of};
 
 use crate::request::{Request, addressing, configuring, getting};
@@ -80,7 +82,7 @@ pub enum Place {
 }
 
 impl Place {
-    ghost use Rattle.usb_host.specs.Cost.{IsGood};
+    ghost use Rattle.usb_host.specs.inside.Steady.{IsGood};
     ghost use Rattle.usb_host.specs.Order.{asks, step_of, stopped};
     ghost use Rattle.usb_host.specs.Steps.{outcome_at};
     ghost use Rattle.usb_host.specs.inside.Leading.{is_bus_trouble as is_bus_trouble_at, is_end as is_end_at, requested};
@@ -183,13 +185,9 @@ impl Place {
                 packet: first[7],
                 setup: getting(DEVICE, 0, 0, 18),
             },
-            Place::Header { kind, file } => {
-                let setup = getting(type_of(*kind), index_of(*kind, file), 0, 9);
-                request_to(file, address, setup)
-            }
+            Place::Header { kind, file } => request_to(file, address, getting_set(*kind, file, 9)),
             Place::Set { kind, file, total } => {
-                let setup = getting(type_of(*kind), index_of(*kind, file), 0, *total);
-                request_to(file, address, setup)
+                request_to(file, address, getting_set(*kind, file, *total))
             }
             Place::Qualifier { file } => request_to(file, address, getting(QUALIFIER, 0, 0, 10)),
             Place::Languages { file, .. } => {
@@ -199,15 +197,7 @@ impl Place {
                 file,
                 strings,
                 named,
-            } => {
-                let index = index_due(strings, named);
-                let language = language_due(strings, named);
-                request_to(
-                    file,
-                    address,
-                    getting(STRING, index, language, LONGEST_STRING),
-                )
-            }
+            } => request_to(file, address, getting_text(strings, named)),
             Place::Configure { file } => {
                 request_to(file, address, configuring(value_of_first(&file.sets)))
             }
@@ -226,6 +216,24 @@ fn request_to(file: &DescriptorFile, address: u8, setup: Setup) -> Request
         packet: file.device.packet,
         setup,
     }
+}
+
+/// GET_DESCRIPTOR of the next set of this kind, of at most `length` bytes.
+fn getting_set(kind: SetKind, file: &DescriptorFile, length: u16) -> Setup
+    requires { list_length (sets_of kind file.now) < declared_sets kind file.now }
+    ensures { result ≡ get_descriptor (type_number kind) (list_length (sets_of kind file.now)) 0 length }
+{
+    getting(type_of(kind), index_of(kind, file), 0, length)
+}
+
+/// GET_DESCRIPTOR of the next string, of those that are due.
+fn getting_text(strings: &Strings, named: &[u8]) -> Setup
+    requires { list_length strings.now.texts < list_length strings.now.languages * list_length named.now }
+    ensures { result ≡ get_descriptor 3 (index_after named.now (list_length strings.now.texts)) (language_after strings.now.languages named.now (list_length strings.now.texts)) 255 }
+{
+    let index = index_due(strings, named);
+    let language = language_due(strings, named);
+    getting(STRING, index, language, LONGEST_STRING)
 }
 
 /// The index of the next set of this kind, of those that the device declares.

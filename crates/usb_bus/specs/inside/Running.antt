@@ -3,7 +3,7 @@ use Rattle.std.specs.Prelude.{◌≡◌, ℕ, zero, suc, ◌+◌, ◌<◌, List,
 use Rattle.usb_fields.specs.Packet.{Sent}
 use Rattle.usb_fields.specs.declared.setup.Setup.{Setup as SetupPacket}
 use Rattle.usb_transfer.specs.declared.why.Why.{Why}
-use Rattle.usb_transfer.specs.declared.why.Why.TheVariants.{NoAnswer, Busy, Stalled, TooLong, Unexpected, Malformed, Memory}
+use Rattle.usb_transfer.specs.declared.why.Why.TheVariants.{Stalled}
 use Rattle.usb_transfer.specs.declared.stage.TransferStage.{TransferStage}
 use Rattle.usb_transfer.specs.declared.stage.TransferStage.TheVariants.{Failed}
 use Rattle.usb_device.specs.declared.state.State.{State}
@@ -46,10 +46,5 @@ Leads answer cut fates before h d now h' d' =
 -- what a transfer that has ended brings to the talk: a reply, or the reason why the talk stops
 abbrev pub settled : ℕ → List ℕ → Option Why → Result Reply Why
 settled length got None = Ok (if length == 0 then replied.Done else replied.Bytes got)
-settled length got (Some NoAnswer) = Err NoAnswer
-settled length got (Some Busy) = Err Busy
 settled length got (Some Stalled) = Ok replied.Refused
-settled length got (Some TooLong) = Err TooLong
-settled length got (Some Unexpected) = Err Unexpected
-settled length got (Some Malformed) = Err Malformed
-settled length got (Some Memory) = Err Memory
+settled length got (Some why) = Err why

@@ -7,11 +7,11 @@ use Rattle.usb_transfer.specs.Plan.{Begin}
 use Rattle.usb_device.specs.declared.state.State.{State}
 use Rattle.usb_device.specs.Requests.{Outcome, Bytes}
 use Rattle.usb_device.specs.Step.{carried_out, is_set_address}
-use Rattle.usb_bus.specs.Coupled.{IsCut}
+use Rattle.usb_bus.specs.Answering.{CutsAlike}
 use Rattle.usb_bus.specs.Attempt.{reply_to}
 use Rattle.usb_host.specs.declared.place.Place.{Place}
 use Rattle.usb_host.specs.Order.{asks, next}
-use Rattle.usb_enumeration.specs.Script.{Exchange}
+use Rattle.usb_enumeration.specs.inside.Script.{Exchange}
 
 -- the host's side: from this place the script's requests are due, one after another, and lead to `end`
 module _ (set_of : List ℕ → Option Configuration) (speed : Speed) (address : ℕ) where
@@ -25,7 +25,7 @@ module _ (answer : State → SetupPacket → Outcome) (n : ℕ) where
   pub record IsServed (s : State) (x : Exchange) : Type 0 where
     pub address : x.address ≡ s.address
     pub reply : reply_to (answer s x.request) ≡ x.reply
-    pub is_cut : (b : List ℕ) → answer s x.request ≡ Bytes b → IsCut n x.packet x.request.length b
+    pub is_cut : (b : List ℕ) → answer s x.request ≡ Bytes b → CutsAlike n x.packet x.request.length b
 
   -- the script's requests get the script's replies, from state s to the last one; no SET_ADDRESS stands last
   abbrev pub Serves : State → State → List Exchange → Type 0

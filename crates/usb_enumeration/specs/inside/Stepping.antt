@@ -1,11 +1,12 @@
 -- What one step of an enumeration does, and what its loop keeps.
-use Rattle.std.specs.Prelude.{◌≡◌, ℕ, suc, List, ◌⊎◌}
+use Rattle.std.specs.Prelude.{◌≡◌, ℕ, suc, ◌+◌, ◌-◌, List, ◌⊎◌}
 use Rattle.usb_fields.specs.declared.speed.Speed.{Speed}
 use Rattle.usb_file_data.specs.declared.file.DescriptorFile.{DescriptorFile}
 use Rattle.usb_transfer.specs.Limits.{LimitView}
 use Rattle.usb_device.specs.Step.{DeviceView}
 use Rattle.usb_bus.specs.declared.fate.Fate.{Fate}
 use Rattle.usb_bus.specs.Run.{fate_at}
+use Rattle.usb_host.specs.Cost.{left_to_ask}
 use Rattle.usb_host.specs.Steps.{HostView}
 use Rattle.usb_enumeration.specs.Run.{Pair, new_pair, IsReset, IsTransaction, Runs}
 
@@ -20,3 +21,7 @@ Moves f fates x n y now = (IsReset x y × (now ≡ n)) ⊎ (IsTransaction f (fat
 -- so many transactions lead to a pair
 abbrev pub LeadsTo : DescriptorFile → Speed → LimitView → List Fate → ℕ → Pair → Type 0
 LeadsTo f speed limits fates n last = (earlier : List Pair) × Runs f fates (new_pair limits speed) earlier n last
+
+-- What falls with each step: what may still be asked for, and the attempts that are left.
+abbrev pub measure : HostView → ℕ
+measure v = left_to_ask v + (v.limits.attempts - v.resets)

@@ -16,7 +16,7 @@ use Rattle.usb_host.specs.declared.reading.Ending.TheVariants as endings
 use Rattle.usb_host.specs.Order.{stopped, refused_leads}
 use Rattle.usb_host.specs.Keeping.{WantsMemory}
 use Rattle.usb_host.specs.Steps.{HostPhase, ResetDue, Reading, Ended, KeepsHeard, completed_leads, enter}
-use Rattle.usb_host.specs.Cost.{IsGood, FitsPlace, KeepsBytes}
+use Rattle.usb_host.specs.inside.Steady.{IsGood, FitsPlace, KeepsBytes}
 use Rattle.usb_host.specs.inside.Leading.{is_end}
 use Rattle.usb_host.specs.inside.Sound.{IsWhole, HasSet}
 

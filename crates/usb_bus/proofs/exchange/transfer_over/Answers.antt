@@ -18,11 +18,11 @@ loop-t-preserved c =
     let going : IsSome (due c.loop-t.transfer) = rw asks refl in
     let fewer : left c.exchange.new.transfer < left c.loop-t.transfer = c.in_ok-failure.ensures.fewer going in
     let same =
-    subst (λ x. exchanged (answer x.file) x.file.device.packet before c.loop-t.device.device (Some sent) c.fate_of-fate.result ≡ ends)
+    subst (λ x. exchanged (answer x.file) x.file.device.packet before c.loop-t.device.device (Some sent) c.at-fate.result ≡ ends)
     c.loop-t.invariant.description c.in_ok-failure.ensures.ends
     in
     let goes =
-    subst (λ f. exchanged (answer file) file.device.packet before c.loop-t.device.device (Some sent) f ≡ ends) c.fate_of-fate.ensures same
+    subst (λ f. exchanged (answer file) file.device.packet before c.loop-t.device.device (Some sent) f ≡ ends) c.at-fate.ensures same
     in
     record {
       leads = rw add-one

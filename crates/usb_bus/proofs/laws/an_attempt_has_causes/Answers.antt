@@ -1,9 +1,10 @@
-use Rattle.std.proofs.Common.{refl, zero-add, []}
-use Rattle.usb_bus.proofs.Attempts.{attempt_all, next_begins}
-use Rattle.usb_bus.specs.Attempt.{proceed}
+use Rattle.std.proofs.Common.{true, [], refl}
+use Rattle.usb_bus.specs.Attempt.{Attempt, attempt_run, proceed}
+use Rattle.usb_bus.proofs.Attempts.{answers_follow, attempts_sound, sound_ends}
 use Rattle.usb_bus.proofs.laws.an_attempt_has_causes.Goals as goal
 
 pub returns : goal.returns
-returns c = λ plan naks answer cut loose all last d fates f.
-    simp zero-add at (attempt_all plan naks answer cut loose all last 0 0 0 fates (proceed plan naks [] d)
-    (next_begins plan naks answer cut loose all last 0 0 0 d.state [] all d refl f))
+returns c = λ plan naks answer cut all last d fates answers.
+    let x : Attempt = attempt_run plan naks answer cut fates (proceed plan naks [] d) in
+    sound_ends plan naks answer cut true all last fates x.replies x.phase x.device
+    (attempts_sound plan naks answer cut true all last d fates (answers_follow plan naks answer cut all last d.state [] all answers refl))

@@ -1,36 +1,14 @@
-use Rattle.std.proofs.Common.{◌≡◌, ◌≤◌, ◌+◌, ◌∙◌, Some, [], refl, sym, ap, subst, arith}
+use Rattle.std.proofs.Common.{◌≤◌, ◌∙◌, IfOk, IfErr, [], refl, sym, ap, subst, arith}
 use Rattle.std.specs.Prelude.{IsSome}
 use Rattle.usb_bus.specs.Run.{fates_used}
-use Rattle.usb_host.specs.Cost.{left_to_ask}
-use Rattle.usb_host.specs.Steps.{outcome_of, new_host}
+use Rattle.usb_host.specs.Steps.{new_host}
 use Rattle.usb_host.proofs.LowerLemmas.{asks_less}
-use Rattle.usb_enumeration.specs.Run.{Pair, KeepsLimits}
+use Rattle.usb_enumeration.specs.declared.run.Run.{Run}
+use Rattle.usb_enumeration.specs.Enumerate.{HasReadAll, HasCause, IsEnumeration}
+use Rattle.usb_enumeration.specs.Run.{Pair}
 use Rattle.usb_enumeration.specs.inside.Stepping.{both, Moves, LeadsTo}
-use Rattle.usb_enumeration.proofs.EnumerateLemmas.{asks_on, falls, leads_on, most_few, has_outcome, says, reads, all_used, cause, memory_alone, goes_well, Says}
+use Rattle.usb_enumeration.proofs.EnumerateLemmas.{leads_on, most_few, all_used, memory_alone}
 use Rattle.usb_enumeration.proofs.enumeration.enumerate.Goals as goal
-
--- both ends before a step, and after it
-abbrev before : goal.In-Some → Pair
-before c = both c.loop-now.host c.loop-now.device.device
-
-abbrev after : goal.In-Some → Pair
-after c = both c.step.new.host c.step.new.device.device
-
-moves : (c : goal.In-Some) → Moves c.args.d.now.file c.args.fates.now (before c) c.loop-now.transactions (after c) c.in-Some.now
-moves c =
-    subst (λ d. Moves d.file c.args.fates.now (before c) c.loop-now.transactions (after c) c.in-Some.now) c.loop-now.invariant.description
-    c.in-Some.ensures.moves
-
-keeps : (c : goal.In-Some) → KeepsLimits c.args.limits c.loop-now.host
-keeps c =
-    let (earlier, runs) = c.loop-now.invariant.leads in
-    c.a_run_ends_well.ensures.limits c.args.limits c.args.d.now.speed c.args.d.now.file c.args.fates.now earlier c.loop-now.transactions (before c)
-    c.known-2.ensures.attempts_from runs
-
-asks : (c : goal.In-Some) → c.in-Some.now + left_to_ask c.step.new.host ≤ c.loop-now.transactions + left_to_ask c.loop-now.host
-asks c =
-    asks_on c.args.d.now.file c.args.limits c.args.fates.now (before c) (after c) c.loop-now.transactions c.in-Some.now (keeps c) (moves c)
-    c.in-Some.ensures.fewer
 
 pub loop-now-init : goal.loop-now-init
 loop-now-init c =
@@ -48,17 +26,19 @@ step-requires c =
     let few = c.loop-now.invariant.few in
     record { few = omega arith }
 
-pub loop-now-smaller : goal.loop-now-smaller
-loop-now-smaller c =
-    falls c.args.d.now.file c.args.limits c.args.fates.now (before c) (after c) c.loop-now.transactions c.in-Some.now (keeps c) (moves c) (asks c)
-
 pub loop-now-preserved : goal.loop-now-preserved
 loop-now-preserved c =
-    let now = asks c in
+    let before : Pair = both c.loop-now.host c.loop-now.device.device in
+    let after : Pair = both c.step.new.host c.step.new.device.device in
+    let moves =
+    subst (λ d. Moves d.file c.args.fates.now before c.loop-now.transactions after c.in-Some.now) c.loop-now.invariant.description
+    c.in-Some.ensures.moves
+    in
+    let now = c.in-Some.ensures.fewer in
     let few = c.loop-now.invariant.few in
     record {
-      leads = leads_on c.args.d.now.file c.args.d.now.speed c.args.limits c.args.fates.now (before c) (after c) c.loop-now.transactions c.in-Some.now
-          c.loop-now.invariant.leads (moves c);
+      leads = leads_on c.args.d.now.file c.args.d.now.speed c.args.limits c.args.fates.now before after c.loop-now.transactions c.in-Some.now
+          c.loop-now.invariant.leads moves;
       description = c.in-Some.ensures.description ∙ c.loop-now.invariant.description;
       few = omega arith;
     }
@@ -66,78 +46,54 @@ loop-now-preserved c =
 -- there is an outcome where nothing is wanted
 pub unreachable-requires : goal.unreachable-requires
 unreachable-requires c =
-    let (nothing, same) = c.in_default.ensures.ended refl in
-    let last = both c.step.new.host c.step.new.device.device in
-    let leads : LeadsTo c.args.d.now.file c.args.d.now.speed c.args.limits c.args.fates.now c.loop-now.transactions last =
-    subst (λ p. LeadsTo c.args.d.now.file c.args.d.now.speed c.args.limits c.args.fates.now c.loop-now.transactions p) (sym same) c.loop-now.invariant.leads
-    in
-    let well =
-    goes_well c.args.d.now.file c.args.limits c.args.d.now.speed c.args.fates.now c.loop-now.transactions last c.a_run_ends_well.ensures.ends
-    c.file-file.ensures.accepted c.known.ensures c.known-2.ensures leads
-    in
-    let some = has_outcome c.args.d.now.file c.args.limits c.args.d.now.speed c.args.fates.now c.loop-now.transactions last leads nothing well in
+    let some = (c.in_default.ensures.ended refl).0 in
     absurd (let none = subst (λ o. IsSome o) (sym c.into_outcome.ensures ∙ c.in-None.is) some in cc)
 
--- both ends at the end
-abbrev last : goal.After-state → Pair
-last c = both c.step.new.host c.step.new.device.device
+-- what came of it
+abbrev result : goal.After-state → Run
+result c =
+    record {
+      outcome = c.in-Some-into_outcome.outcome;
+      attempts = c.attempts-attempts.result;
+      transactions = c.loop-now.transactions;
+      state = c.state.result;
+    }
 
-leads : (c : goal.After-state) → LeadsTo c.args.d.now.file c.args.d.now.speed c.args.limits c.args.fates.now c.loop-now.transactions (last c)
-leads c =
+is_run : (c : goal.After-state) → IsEnumeration c.args.d.now.file c.args.d.now.speed c.args.limits c.args.fates.now (result c)
+is_run c =
+    let last : Pair = both c.step.new.host c.step.new.device.device in
+    let leads =
     subst (λ p. LeadsTo c.args.d.now.file c.args.d.now.speed c.args.limits c.args.fates.now c.loop-now.transactions p)
     (sym (c.in_default.ensures.ended refl).1) c.loop-now.invariant.leads
-
-outcome_is : (c : goal.After-state) → outcome_of c.step.new.host.phase ≡ Some c.in-Some-into_outcome.outcome
-outcome_is c = sym c.into_outcome.ensures ∙ c.in-Some-into_outcome.is
-
--- what this end says
-said : (c : goal.After-state) →
-    Says c.args.d.now.file c.args.limits (fates_used c.args.fates.now c.loop-now.transactions) c.attempts-attempts.result c.state.result
-    c.in-Some-into_outcome.outcome
-said c =
-    let well =
-    goes_well c.args.d.now.file c.args.limits c.args.d.now.speed c.args.fates.now c.loop-now.transactions (last c) c.a_run_ends_well.ensures.ends
-    c.file-file.ensures.accepted c.known.ensures c.known-2.ensures (leads c)
     in
-    let there =
-    says c.args.d.now.file c.args.limits c.args.d.now.speed c.args.fates.now c.loop-now.transactions (last c) (leads c)
-    (c.in_default.ensures.ended refl).0 well c.in-Some-into_outcome.outcome (outcome_is c)
-    in
-    rw (c.attempts-attempts.ensures, c.state.ensures) there
+    (leads.0, last, leads.1, sym c.attempts-attempts.ensures, sym c.into_outcome.ensures ∙ c.in-Some-into_outcome.is, sym c.state.ensures)
 
 pub returns-clause-run : goal.returns-clause-run
-returns-clause-run c =
-    let (earlier, runs) = leads c in
-    (earlier, last c, runs, sym c.attempts-attempts.ensures, outcome_is c, sym c.state.ensures)
+returns-clause-run c = is_run c
+
+-- by the law of enumerations that have ended
+ends : (c : goal.After-state) → ((result c).attempts ≤ c.args.limits.attempts) × IfOk (result c).outcome (HasReadAll c.args.d.now.file c.args.limits.address (result c).state)
+    × IfErr (result c).outcome (λ trouble. HasCause c.args.limits (fates_used c.args.fates.now c.loop-now.transactions) (result c).attempts trouble.why)
+ends c =
+    c.an_enumeration_ends_well.ensures c.args.d.now.file c.args.d.now.speed c.args.limits c.args.fates.now (result c)
+    c.file-file.ensures.accepted c.known.ensures c.known-2.ensures (is_run c)
 
 pub returns-clause-reads : goal.returns-clause-reads
-returns-clause-reads c =
-    reads c.args.d.now.file c.args.limits (fates_used c.args.fates.now c.loop-now.transactions) c.attempts-attempts.result c.state.result
-    c.in-Some-into_outcome.outcome (said c)
+returns-clause-reads c = (ends c).1
 
 pub returns-clause-few : goal.returns-clause-few
 returns-clause-few c = (let few = c.loop-now.invariant.few in omega arith)
 
 pub returns-clause-attempts : goal.returns-clause-attempts
-returns-clause-attempts c =
-    let (earlier, runs) = leads c in
-    let kept =
-    c.a_run_ends_well.ensures.limits c.args.limits c.args.d.now.speed c.args.d.now.file c.args.fates.now earlier c.loop-now.transactions (last c)
-    c.known-2.ensures.attempts_from runs
-    in
-    rw c.attempts-attempts.ensures kept.1
+returns-clause-attempts c = (ends c).0
 
 pub returns-clause-all : goal.returns-clause-all
 returns-clause-all c =
-    all_used c.args.d.now.file c.args.limits (fates_used c.args.fates.now c.loop-now.transactions) c.attempts-attempts.result c.state.result
-    c.in-Some-into_outcome.outcome (said c)
+    all_used c.args.limits (fates_used c.args.fates.now c.loop-now.transactions) (result c).attempts (result c).outcome (ends c).2
 
 pub returns-clause-cause : goal.returns-clause-cause
-returns-clause-cause c =
-    cause c.args.d.now.file c.args.limits (fates_used c.args.fates.now c.loop-now.transactions) c.attempts-attempts.result c.state.result
-    c.in-Some-into_outcome.outcome (said c)
+returns-clause-cause c = (ends c).2
 
 pub returns-clause-succeeds : goal.returns-clause-succeeds
 returns-clause-succeeds c =
-    memory_alone c.args.d.now.file c.args.limits c.args.fates.now c.loop-now.transactions c.attempts-attempts.result c.state.result
-    c.in-Some-into_outcome.outcome (said c)
+    memory_alone c.args.limits c.args.fates.now c.loop-now.transactions (result c).attempts (result c).outcome (ends c).2

@@ -1,6 +1,6 @@
-use Rattle.std.proofs.Common.{◌≡◌, ◌≤◌, ◌+◌, ◌-◌}
+use Rattle.std.proofs.Common.{◌≡◌, ◌≤◌, ◌+◌}
 use Rattle.usb_host.specs.Cost.{left_to_ask, most}
-use Rattle.usb_enumeration.specs.inside.Stepping.{both, LeadsTo}
+use Rattle.usb_enumeration.specs.inside.Stepping.{both, LeadsTo, measure}
 use Rattle.usb_enumeration.proofs.enumeration.enumerate.Given as goal
 
 abbrev pub invariant-loop-now : goal.invariant-loop-now
@@ -12,4 +12,4 @@ invariant-loop-now l =
     }
 
 abbrev pub decreases-loop-now : goal.decreases-loop-now
-decreases-loop-now l = left_to_ask l.host + (l.fn.limits.attempts - l.host.resets)
+decreases-loop-now l = measure l.host

@@ -1,7 +1,7 @@
 use Rattle.usb_bus.specs.Run.{fates_used}
-use Rattle.usb_enumeration.specs.Script.{replies_in, script}
+use Rattle.usb_enumeration.specs.inside.Script.{replies_in, script}
 use Rattle.usb_enumeration.proofs.RunLemmas.{run_ends, run_keeps}
-use Rattle.usb_enumeration.proofs.laws.a_run_ends_well.Goals as goal
+use Rattle.usb_enumeration.proofs.lemmas.a_run_ends_well.Goals as goal
 
 pub returns : goal.returns
 returns c = record {

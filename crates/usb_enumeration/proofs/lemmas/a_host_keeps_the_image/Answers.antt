@@ -1,6 +1,6 @@
 use Rattle.usb_enumeration.proofs.ImageLemmas.{stays}
 use Rattle.usb_enumeration.proofs.KeepLemmas.{SetLaws}
-use Rattle.usb_enumeration.proofs.laws.a_host_keeps_the_image.Goals as goal
+use Rattle.usb_enumeration.proofs.lemmas.a_host_keeps_the_image.Goals as goal
 
 pub returns : goal.returns
 returns c = λ set_of limits speed exact.

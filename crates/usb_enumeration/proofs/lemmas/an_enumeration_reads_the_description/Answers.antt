@@ -2,13 +2,14 @@ use Rattle.std.proofs.Common.{[], refl, arith}
 use Rattle.usb_device.specs.Step.{new_device}
 use Rattle.usb_device.specs.Requests.{answer}
 use Rattle.usb_host.specs.declared.place.Place.TheVariants.{First, Reported}
-use Rattle.usb_enumeration.specs.Script.{replies_in, script, configured_state}
-use Rattle.usb_enumeration.specs.Image.{plan_of}
+use Rattle.usb_enumeration.specs.inside.Script.{replies_in, script}
+use Rattle.usb_enumeration.specs.Enumerate.{configured_state}
+use Rattle.usb_enumeration.specs.inside.Image.{plan_of}
 use Rattle.usb_enumeration.proofs.DescribeLemmas.{described}
 use Rattle.usb_enumeration.proofs.FollowLemmas.{follows, walks_to}
 use Rattle.usb_enumeration.proofs.WalkLemmas.{walks_script}
 use Rattle.usb_enumeration.proofs.ServeLemmas.{serves_script}
-use Rattle.usb_enumeration.proofs.laws.an_enumeration_reads_the_description.Goals as goal
+use Rattle.usb_enumeration.proofs.lemmas.an_enumeration_reads_the_description.Goals as goal
 
 pub returns : goal.returns
 returns c = record {

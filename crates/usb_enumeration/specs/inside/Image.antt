@@ -1,11 +1,10 @@
 -- A host that keeps a place and hands the packets of a set to a decoder, against one that keeps all replies and all bytes.
-use Rattle.std.specs.Prelude.{◌≡◌, ℕ, nat_lt, List, length, Option, ◌⊎◌}
+use Rattle.std.specs.Prelude.{◌≡◌, ℕ, nat_lt, List, length, Option, ◌⊎◌, Bool, false}
 use Rattle.usb_fields.specs.declared.speed.Speed.{Speed}
 use Rattle.usb_fields.specs.Packet.{Reply as Answer}
 use Rattle.usb_set.specs.declared.tree.Configuration.{Configuration}
 use Rattle.usb_set.specs.Decoding.{Decoding, gathers, has, refused}
 use Rattle.usb_set.specs.Faults.{Begins, Faulty, IsOpen}
-use Rattle.std.specs.Prelude.{Bool, false}
 use Rattle.usb_transfer.specs.declared.why.Why.TheVariants.{Memory}
 use Rattle.usb_transfer.specs.declared.reply.Reply.{Reply}
 use Rattle.usb_transfer.specs.Limits.{LimitView}
@@ -21,7 +20,7 @@ use Rattle.usb_host.specs.declared.kept.Kept.TheVariants.{Bytes, Set}
 use Rattle.usb_host.specs.Order.{asks, stopped}
 use Rattle.usb_host.specs.Gathered.{reached}
 use Rattle.usb_host.specs.Steps.{HostPhase, Reading, Ended, TakesHeard}
-use Rattle.usb_host.specs.Cost.{FitsPlace}
+use Rattle.usb_host.specs.inside.Steady.{FitsPlace}
 
 -- What bytes that came in pieces have made of a decoder that was told of no want of memory, and whether bytes came behind
 -- the set's last.

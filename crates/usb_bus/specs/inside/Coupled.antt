@@ -1,26 +1,21 @@
 -- What holds between the two ends inside one transfer that was begun at the device's address, whatever was lost in it.
-use Rattle.std.specs.Prelude.{◌≡◌, ℕ, suc, ◌+◌, ◌<◌, ◌≤◌, Bool, true, false, if◌then◌else◌, ◌⊎◌, List, [], ◌∷◌, ◌++◌, length, drop}
+use Rattle.std.specs.Prelude.{◌≡◌, ℕ, suc, ◌+◌, ◌<◌, ◌≤◌, Bool, if◌then◌else◌, ◌⊎◌, List, [], ◌∷◌, ◌++◌, length, drop}
 use Rattle.usb_fields.specs.declared.packet.Toggle.{Toggle}
 use Rattle.usb_fields.specs.declared.packet.Toggle.TheVariants.{Data1}
 use Rattle.usb_fields.specs.declared.setup.Setup.{Setup as SetupPacket}
-use Rattle.usb_fields.specs.declared.setup.Direction.TheVariants as directions
-use Rattle.usb_fields.specs.Setup.{direction_of}
 use Rattle.usb_fields.specs.Packets.{packets, joined, toggle_of, is_same_toggle}
-use Rattle.usb_transfer.specs.declared.why.Why.TheVariants.{NoAnswer, Busy, Stalled, TooLong, Unexpected, Malformed, Memory}
 use Rattle.usb_transfer.specs.declared.stage.TransferStage.{TransferStage}
 use Rattle.usb_transfer.specs.declared.stage.TransferStage.TheVariants.{Setup, DataIn, DataOut, StatusOut, StatusIn, Completed, Failed}
 use Rattle.usb_device.specs.declared.state.State.{State}
 use Rattle.usb_device.specs.Requests.{Outcome, Bytes, Done, Refused}
 use Rattle.usb_device.specs.Step.{DeviceView, DeviceStage, is_set_address}
 use Rattle.usb_device.specs.Step as device
-use Rattle.usb_bus.specs.Bus.{HostEnd}
-
--- What a table of requests must keep for the ends to agree on the stages. There are bytes only where they are asked for
--- and go to the host, no data stage for what is only done, and SET_ADDRESS alone changes the address.
-pub record IsAnswering (answer : State → SetupPacket → Outcome) (s : State) (q : SetupPacket) : Type 0 where
-  pub bytes : (b : List ℕ) → answer s q ≡ Bytes b → (0 < q.length) × (direction_of q.request_type ≡ directions.In)
-  pub done : (t : State) → answer s q ≡ Done t → q.length ≡ 0
-  pub stays : (t : State) → answer s q ≡ Done t → is_set_address q ≡ false → t.address ≡ s.address
+use Rattle.usb_bus.specs.declared.fate.Fate.{Fate}
+use Rattle.usb_bus.specs.Fates.{losses as lost_in, busies, acks_lost}
+use Rattle.usb_bus.specs.Bus.{HostEnd, run}
+use Rattle.usb_bus.specs.Answering.{IsAnswering}
+use Rattle.usb_bus.specs.Attempt.{begins}
+use Rattle.usb_bus.specs.Ending.{TransferEnds}
 
 -- The packets that are still to come, where so many of `limit` bytes came: each but the last is whole and leaves bytes
 -- due, and the last one ends the data stage.
@@ -96,19 +91,9 @@ module _ (answer : State → SetupPacket → Outcome) (cut : ℕ) (s : State) (q
   Stages l b a StatusIn device.Halted awaited got strikes d = IsRefused l strikes d
   Stages l b a StatusIn (device.StatusIn asked carried) awaited got strikes d = IsDone l asked carried strikes d
   Stages l b a StatusIn _ awaited got strikes d = ⊥
-  -- A completed transfer brought the answer. The device is in the next state, or the ACK after which it takes its new
-  -- address was lost.
-  Stages l b a Completed stage awaited got strikes d =
-      ((answer s q ≡ Bytes got) × (d ≡ s))
-      ⊎ ((next : State) × ((answer s q ≡ Done next) × ((d ≡ next) ⊎ ((d ≡ s) × (is_set_address q ≡ true) × (0 < a)))))
-  -- a failed one had three losses, or more Busy than NAKs are borne, or was refused; it fails for no other reason
-  Stages l b a (Failed NoAnswer) stage awaited got strikes d = 3 ≤ l
-  Stages l b a (Failed Busy) stage awaited got strikes d = naks < b
-  Stages l b a (Failed Stalled) stage awaited got strikes d = (answer s q ≡ Refused) × (d ≡ s)
-  Stages l b a (Failed TooLong) stage awaited got strikes d = ⊥
-  Stages l b a (Failed Unexpected) stage awaited got strikes d = ⊥
-  Stages l b a (Failed Malformed) stage awaited got strikes d = ⊥
-  Stages l b a (Failed Memory) stage awaited got strikes d = ⊥
+  -- a transfer that has ended
+  Stages l b a Completed stage awaited got strikes d = TransferEnds answer s q naks l b a Completed got d
+  Stages l b a (Failed why) stage awaited got strikes d = TransferEnds answer s q naks l b a (Failed why) got d
 
   -- both ends, after l losses, b Busy and a lost ACKs, are in this one transfer
   pub record Coupled (l b a : ℕ) (h : HostEnd) (d : DeviceView) : Type 0 where
@@ -119,3 +104,12 @@ module _ (answer : State → SetupPacket → Outcome) (cut : ℕ) (s : State) (q
     pub kept : h.transfer.kept ≡ length h.got
     pub nak_count : h.transfer.nak_count ≤ b
     pub stages : Stages l b a h.transfer.stage d.stage h.transfer.awaited h.got h.transfer.strikes d.state
+
+-- A transfer begun at the device's address stays coupled over every list of fates.
+abbrev pub StaysCoupled : Type 0
+StaysCoupled =
+    (answer : State → SetupPacket → Outcome) (cut naks size : ℕ) (q : SetupPacket) (d : DeviceView) (fates : List Fate) →
+    IsAnswering answer d.state q →
+    ((bytes : List ℕ) → answer d.state q ≡ Bytes bytes → IsCut cut size q.length bytes) →
+    (let e = run answer cut fates (record { host = begins d.state.address size naks q; device = d }) in
+    Coupled answer cut d.state q size naks (lost_in fates) (busies fates) (acks_lost fates) e.host e.device)

@@ -42,10 +42,6 @@ replies_in (x ∷ xs) = x.reply ∷ replies_in xs
 abbrev pub addressed_state : ℕ → State
 addressed_state address = record { address = address; selected = 0; alternates = first_alternates; halts = 0; wakeup = false }
 
--- the device once it is configured by its first set's value, and nothing else has changed (9.1.1.5)
-abbrev pub configured_state : ℕ → DescriptorFile → State
-configured_state address f = record { address = address; selected = first_value f.sets; alternates = first_alternates; halts = 0; wakeup = false }
-
 -- with this address, and packets of this size
 module _ (address packet : ℕ) where
   -- each set from this index on: its front, and the whole of it; and what comes after them

@@ -1,0 +1,68 @@
+-- What holds of transfers by a plan after each transaction.
+use Rattle.std.specs.Prelude.{◌≡◌, ◌≢◌, ℕ, ◌<◌, ◌≤◌, Bool, true, ◌⊎◌, List, [], ◌∷◌, ◌++◌}
+use Rattle.usb_fields.specs.declared.setup.Setup.{Setup as SetupPacket}
+use Rattle.usb_transfer.specs.declared.why.Why.TheVariants.{NoAnswer, Busy, Stalled, TooLong, Unexpected, Malformed, Memory}
+use Rattle.usb_transfer.specs.declared.stage.TransferStage.TheVariants.{Setup}
+use Rattle.usb_transfer.specs.declared.reply.Reply.{Reply}
+use Rattle.usb_transfer.specs.Plan.{Plan, Success}
+use Rattle.usb_device.specs.declared.state.State.{State}
+use Rattle.usb_device.specs.Requests.{Outcome}
+use Rattle.usb_device.specs.Step.{DeviceView, is_set_address, carried_out}
+use Rattle.usb_bus.specs.declared.fate.Fate.{Fate}
+use Rattle.usb_bus.specs.Fates.{losses, busies, acks_lost}
+use Rattle.usb_bus.specs.Bus.{HostEnd}
+use Rattle.usb_bus.specs.Attempt.{Phase, Running, Succeeded, Broken, IsPlanned, proceed, attempt_run}
+use Rattle.usb_bus.specs.inside.Coupled.{Coupled}
+
+-- for any plan, limit of NAKs, answers to requests and packet size of the device
+module _ (plan : List Reply → Plan) (naks : ℕ) (answer : State → SetupPacket → Outcome) (cut : ℕ) where
+  -- From these replies on the plan is answered by `todo` and then succeeds, with all replies and the device's last
+  -- state. `loose` says that the last transfer may be a SET_ADDRESS.
+  abbrev pub Follows : Bool → List Reply → State → State → List Reply → List Reply → Type 0
+  Follows loose all last s replies [] = (plan replies ≡ Success) × (s ≡ last) × (replies ≡ all)
+  Follows loose all last s replies (r ∷ todo) =
+      (packet : ℕ) × ((q : SetupPacket) × (IsPlanned plan naks answer cut s replies r packet q × (replies ++ (r ∷ todo) ≡ all) ×
+      (is_set_address q ≡ true → todo ≡ [] → loose ≡ true) × Follows loose all last (carried_out s (answer s q)) (replies ++ r ∷ []) todo))
+
+  -- both ends together in a transfer of the plan
+  pub record IsTogether (loose : Bool) (all : List Reply) (last : State) (l b a : ℕ) (replies : List Reply) (h : HostEnd) (d : DeviceView) : Type 0 where
+    pub s : State
+    pub r : Reply
+    pub todo : List Reply
+    pub packet : ℕ
+    pub q : SetupPacket
+    pub planned : IsPlanned plan naks answer cut s replies r packet q
+    pub front : replies ++ (r ∷ todo) ≡ all
+    pub ends : is_set_address q ≡ true → todo ≡ [] → loose ≡ true
+    pub follows : Follows loose all last (carried_out s (answer s q)) (replies ++ r ∷ []) todo
+    pub coupled : Coupled answer cut s q packet naks l b a h d
+
+  -- the ACK of a SET_ADDRESS was lost: nothing at the host's address answers
+  pub record IsSilent (all : List Reply) (a : ℕ) (replies : List Reply) (h : HostEnd) (d : DeviceView) : Type 0 where
+    pub asks : h.transfer.stage ≡ Setup
+    pub elsewhere : h.transfer.address ≢ d.state.address
+    pub cost : 0 < a
+    pub todo : List Reply
+    pub front : replies ++ todo ≡ all
+
+  -- What holds after l losses, a of them of ACKs, and b Busy. A plan that succeeds has all replies, and left the device
+  -- in the last state; its address alone may differ, where an ACK was lost. One that breaks does so for a cause.
+  abbrev pub Sound : Bool → List Reply → State → ℕ → ℕ → ℕ → List Reply → Phase → DeviceView → Type 0
+  Sound loose all last l b a replies (Running h) d = IsTogether loose all last l b a replies h d ⊎ IsSilent all a replies h d
+  Sound loose all last l b a replies Succeeded d =
+      (replies ≡ all) × ((d.state ≡ last) ⊎ ((0 < a) × (loose ≡ true) × (last ≡ record d.state { address = last.address })))
+  Sound loose all last l b a replies (Broken NoAnswer) d = ((3 ≤ l) ⊎ (0 < a)) × ((todo : List Reply) × (replies ++ todo ≡ all))
+  Sound loose all last l b a replies (Broken Busy) d = (naks < b) × ((todo : List Reply) × (replies ++ todo ≡ all))
+  Sound loose all last l b a replies (Broken Stalled) d = ⊥
+  Sound loose all last l b a replies (Broken TooLong) d = ⊥
+  Sound loose all last l b a replies (Broken Unexpected) d = ⊥
+  Sound loose all last l b a replies (Broken Malformed) d = ⊥
+  Sound loose all last l b a replies (Broken Memory) d = ⊥
+
+-- Where each transfer of a plan is answered as expected, an attempt is sound over every list of fates.
+abbrev pub AttemptsAreSound : Type 0
+AttemptsAreSound =
+    (plan : List Reply → Plan) (naks : ℕ) (answer : State → SetupPacket → Outcome) (cut : ℕ) (loose : Bool) (all : List Reply) (last : State)
+    (d : DeviceView) (fates : List Fate) → Follows plan naks answer cut loose all last d.state [] all →
+    (let x = attempt_run plan naks answer cut fates (proceed plan naks [] d) in
+    Sound plan naks answer cut loose all last (losses fates) (busies fates) (acks_lost fates) x.replies x.phase x.device)

@@ -1,0 +1,50 @@
+//! What holds of attempts and of runs, for the proof of the law alone.
+//!
+//! The functions do nothing: what they say stands in their contracts.
+ghost use Rattle.usb_enumeration.specs.inside.Laws.{AttemptsHaveCauses, EnumerationsHaveCauses, ReadsTheDescription, KeepsTheImage, RunsEndWell, RunsKeepLimits, SetsAreRead};
+
+use usb_bus::laws::a_device_keeps_its_table;
+use usb_set::laws::{more_bytes, one_judgement, one_layout};
+
+/// Transfers by a plan, with a bus reset before each attempt: a failure has a loss for each attempt, or more busy
+/// transactions than NAKs are borne.
+pub(crate) fn attempts_have_causes()
+    ensures { AttemptsHaveCauses }
+{}
+
+/// An enumeration of a device: a success has read the description, and configured the device.
+pub(crate) fn an_enumeration_reads_the_description()
+    ensures causes { EnumerationsHaveCauses }
+    ensures reads { ReadsTheDescription }
+{
+    attempts_have_causes();
+    a_device_keeps_its_table();
+}
+
+/// A host that keeps a place and a decoder goes as one that keeps all bytes.
+pub(crate) fn a_host_keeps_the_image()
+    ensures { KeepsTheImage }
+{
+    one_layout();
+    one_judgement();
+    more_bytes();
+}
+
+/// Descriptions are read: the laws above have a premise on a reader of sets, and there is such a reader.
+pub(crate) fn descriptions_are_read()
+    ensures { SetsAreRead }
+{
+    one_layout();
+    one_judgement();
+}
+
+/// Over every bus, a host and a device with a description end with a report of that description, or with a cause, and the
+/// host keeps its limits.
+pub(crate) fn a_run_ends_well()
+    ensures ends { RunsEndWell }
+    ensures limits { RunsKeepLimits }
+{
+    an_enumeration_reads_the_description();
+    a_host_keeps_the_image();
+    descriptions_are_read();
+}
