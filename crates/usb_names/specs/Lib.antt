@@ -1,0 +1,3 @@
+pub mod Classes
+pub mod Rows
+pub mod Shown

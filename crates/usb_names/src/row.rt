@@ -1,0 +1,111 @@
+//! Class descriptors by name.
+ghost use Rattle.std.specs.Prelude.{◌≡◌, find, map, option_map};
+ghost use Rattle.std.specs.Option.{option_copied};
+ghost use Rattle.usb_names.specs.Rows.{agrees, first_row, holds, rows_behind, rows_of_class};
+ghost use Rattle.usb_names.specs.Shown.{row_of};
+
+use crate::codes::ClassCodes;
+use crate::field::ClassField;
+use crate::rows::{class_rows, other_rows, standard_rows};
+
+/// A descriptor that a class defines: what it is known by, its name and its fields.
+#[derive(Clone, Copy, Debug)]
+pub struct ClassDescriptor {
+    /// The subclass of the interface; none is any.
+    pub subclass: Option<u8>,
+    /// The protocol of the interface; none is any.
+    pub protocol: Option<u8>,
+    /// bDescriptorType.
+    pub descriptor_type: u8,
+    /// The first byte behind bDescriptorType; none is any.
+    pub first: Option<u8>,
+    /// The name.
+    pub name: &'static str,
+    /// The fields behind bDescriptorType, in order.
+    pub fields: &'static [ClassField],
+    /// The fields that repeat behind those.
+    pub group: &'static [ClassField],
+}
+
+/// A row's code is any code, or this one.
+fn agrees(wanted: Option<u8>, code: Option<u8>) -> bool
+    ensures { result ≡ agrees wanted code }
+{
+    match (wanted, code) {
+        (None, _) => true,
+        (Some(_), None) => false,
+        (Some(wanted), Some(code)) => wanted == code,
+    }
+}
+
+impl ClassDescriptor {
+    fn holds(&self, interface: Option<ClassCodes>, descriptor_type: u8, first: Option<u8>) -> bool
+        ensures { result ≡ holds (row_of self.now) interface descriptor_type first }
+    {
+        self.descriptor_type == descriptor_type
+            && agrees(self.first, first)
+            && agrees(self.subclass, interface.map(|codes| codes.subclass))
+            && agrees(self.protocol, interface.map(|codes| codes.protocol))
+    }
+}
+
+/// The first of these rows that holds.
+fn find_row(
+    rows: &'static [ClassDescriptor],
+    interface: Option<ClassCodes>,
+    descriptor_type: u8,
+    first: Option<u8>,
+) -> Option<&'static ClassDescriptor>
+    ensures { option_copied result ≡ find (λ row. holds (row_of row) interface descriptor_type first) rows.now }
+{
+    rows.iter()
+        .find(|row| row.holds(interface, descriptor_type, first))
+}
+
+/// The same, of the rows as the table says them.
+fn first_row(
+    rows: &'static [ClassDescriptor],
+    interface: Option<ClassCodes>,
+    descriptor_type: u8,
+    first: Option<u8>,
+) -> Option<&'static ClassDescriptor>
+    ensures { option_map row_of (option_copied result) ≡ first_row (map row_of rows.now) interface descriptor_type first }
+{
+    find_row(rows, interface, descriptor_type, first)
+}
+
+/// The descriptor of this type and this first byte of its body, behind an interface of these codes; before any
+/// interface there are none. It is the first row of the table that holds.
+///
+/// ```rust
+/// let hid = ClassCodes { class: 3, subclass: 1, protocol: 2 };
+/// if let Some(descriptor) = class_descriptor(Some(hid), 0x21, Some(0x10)) {
+///     assert_eq!(rt; descriptor.name, "HID");
+/// }
+/// ```
+#[tactic(auto, using(crate::proofs::RowLemmas::find_in_three))]
+pub fn class_descriptor(
+    interface: Option<ClassCodes>,
+    descriptor_type: u8,
+    first: Option<u8>,
+) -> Option<&'static ClassDescriptor>
+    ensures { option_map row_of (option_copied result) ≡ first_row (rows_behind interface) interface descriptor_type first }
+{
+    if let Some(row) = first_row(standard_rows(), interface, descriptor_type, first) {
+        return Some(row);
+    }
+    if let Some(row) = first_row(rows_of_class(interface), interface, descriptor_type, first) {
+        return Some(row);
+    }
+    first_row(other_rows(), interface, descriptor_type, first)
+}
+
+/// The rows of the class of an interface, if there is one.
+fn rows_of_class(interface: Option<ClassCodes>) -> &'static [ClassDescriptor]
+    ensures { map row_of result.now ≡ rows_of_class interface }
+{
+    match interface {
+        Some(codes) => class_rows(codes.class),
+        None => &[],
+    }
+}

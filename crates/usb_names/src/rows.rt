@@ -1,0 +1,234 @@
+//! The rows of the table of class descriptors.
+ghost use Rattle.std.specs.Prelude.{◌≡◌, map};
+ghost use Rattle.usb_names.specs.Rows.{application_rows, audio_rows, cdc_data_rows, class_rows, communications_rows, hid_rows, mass_storage_rows, other_rows, smart_card_rows, standard_rows, video_rows};
+ghost use Rattle.usb_names.specs.Shown.{row_of};
+
+use crate::field::{ClassField, Form};
+use crate::row::ClassDescriptor;
+
+/// A code of a row: `_` is any.
+macro_rules! code {
+    (_) => {
+        None
+    };
+    ($code:literal) => {
+        Some($code)
+    };
+}
+
+/// A row: subclass, protocol, type, first byte of the body, name, fields, and the fields that repeat.
+macro_rules! row {
+    ($subclass:tt $protocol:tt $kind:literal $first:tt $name:literal
+        [$($field:literal $form:ident $width:literal),*] [$($again:literal $again_form:ident $again_width:literal),*]) => {
+        ClassDescriptor {
+            subclass: code!($subclass),
+            protocol: code!($protocol),
+            descriptor_type: $kind,
+            first: code!($first),
+            name: $name,
+            fields: &[$(ClassField { name: $field, width: $width, form: Form::$form }),*],
+            group: &[$(ClassField { name: $again, width: $again_width, form: Form::$again_form }),*],
+        }
+    };
+}
+
+/// The standard types.
+#[tactic(auto, unfolding(crate::specs::Rows::standard_rows))]
+pub(crate) fn standard_rows() -> &'static [ClassDescriptor]
+    ensures { map row_of result.now ≡ standard_rows }
+{
+    &[
+        row!(_ _ 0x01 _ "device" [] []),
+        row!(_ _ 0x03 _ "string" [] []),
+        row!(_ _ 0x06 _ "device qualifier" [] []),
+        row!(_ _ 0x08 _ "interface power" [] []),
+        row!(_ _ 0x09 _ "OTG" ["bmAttributes" Hexadecimal 1, "bcdOTG" Release 2] []),
+        row!(_ _ 0x0a _ "debug" ["bDebugInEndpoint" Hexadecimal 1, "bDebugOutEndpoint" Hexadecimal 1] []),
+        row!(_ _ 0x0f _ "BOS" [] []),
+        row!(_ _ 0x10 _ "device capability" [] []),
+        row!(_ _ 0x30 _ "SuperSpeed endpoint companion" ["bMaxBurst" Decimal 1, "bmAttributes" Hexadecimal 1, "wBytesPerInterval" Decimal 2] []),
+        row!(_ _ 0x31 _ "SuperSpeedPlus isochronous endpoint companion" ["wReserved" Hexadecimal 2, "dwBytesPerInterval" Decimal 4] []),
+    ]
+}
+
+/// Audio: audio 1.0 and 2.0, MIDI 1.0.
+#[tactic(auto, unfolding(crate::specs::Rows::audio_rows))]
+pub(crate) fn audio_rows() -> &'static [ClassDescriptor]
+    ensures { map row_of result.now ≡ audio_rows }
+{
+    &[
+        row!(0x01 0x20 0x24 0x01 "audio 2.0 control header" ["bDescriptorSubtype" Hexadecimal 1, "bcdADC" Release 2, "bCategory" Hexadecimal 1, "wTotalLength" Decimal 2, "bmControls" Hexadecimal 1] []),
+        row!(0x01 0x20 0x24 0x02 "audio 2.0 input terminal" ["bDescriptorSubtype" Hexadecimal 1] []),
+        row!(0x01 0x20 0x24 0x03 "audio 2.0 output terminal" ["bDescriptorSubtype" Hexadecimal 1] []),
+        row!(0x01 0x20 0x24 0x04 "audio 2.0 mixer unit" ["bDescriptorSubtype" Hexadecimal 1] []),
+        row!(0x01 0x20 0x24 0x05 "audio 2.0 selector unit" ["bDescriptorSubtype" Hexadecimal 1] []),
+        row!(0x01 0x20 0x24 0x06 "audio 2.0 feature unit" ["bDescriptorSubtype" Hexadecimal 1] []),
+        row!(0x01 0x20 0x24 0x07 "audio 2.0 effect unit" ["bDescriptorSubtype" Hexadecimal 1] []),
+        row!(0x01 0x20 0x24 0x08 "audio 2.0 processing unit" ["bDescriptorSubtype" Hexadecimal 1] []),
+        row!(0x01 0x20 0x24 0x09 "audio 2.0 extension unit" ["bDescriptorSubtype" Hexadecimal 1] []),
+        row!(0x01 0x20 0x24 0x0a "audio 2.0 clock source" ["bDescriptorSubtype" Hexadecimal 1] []),
+        row!(0x01 0x20 0x24 0x0b "audio 2.0 clock selector" ["bDescriptorSubtype" Hexadecimal 1] []),
+        row!(0x01 0x20 0x24 0x0c "audio 2.0 clock multiplier" ["bDescriptorSubtype" Hexadecimal 1] []),
+        row!(0x01 0x20 0x24 0x0d "audio 2.0 sample rate converter" ["bDescriptorSubtype" Hexadecimal 1] []),
+        row!(0x02 0x20 0x24 0x01 "audio 2.0 streaming" ["bDescriptorSubtype" Hexadecimal 1] []),
+        row!(0x02 0x20 0x24 0x02 "audio 2.0 format type" ["bDescriptorSubtype" Hexadecimal 1] []),
+        row!(0x02 0x20 0x25 0x01 "audio 2.0 data endpoint" ["bDescriptorSubtype" Hexadecimal 1] []),
+        row!(0x01 0x00 0x24 0x01 "audio control header" ["bDescriptorSubtype" Hexadecimal 1, "bcdADC" Release 2, "wTotalLength" Decimal 2, "bInCollection" Decimal 1] ["baInterfaceNr" Decimal 1]),
+        row!(0x01 0x00 0x24 0x02 "audio input terminal" ["bDescriptorSubtype" Hexadecimal 1] []),
+        row!(0x01 0x00 0x24 0x03 "audio output terminal" ["bDescriptorSubtype" Hexadecimal 1] []),
+        row!(0x01 0x00 0x24 0x04 "audio mixer unit" ["bDescriptorSubtype" Hexadecimal 1] []),
+        row!(0x01 0x00 0x24 0x05 "audio selector unit" ["bDescriptorSubtype" Hexadecimal 1] []),
+        row!(0x01 0x00 0x24 0x06 "audio feature unit" ["bDescriptorSubtype" Hexadecimal 1] []),
+        row!(0x01 0x00 0x24 0x07 "audio processing unit" ["bDescriptorSubtype" Hexadecimal 1] []),
+        row!(0x01 0x00 0x24 0x08 "audio extension unit" ["bDescriptorSubtype" Hexadecimal 1] []),
+        row!(0x02 0x00 0x24 0x01 "audio streaming" ["bDescriptorSubtype" Hexadecimal 1] []),
+        row!(0x02 0x00 0x24 0x02 "audio format type" ["bDescriptorSubtype" Hexadecimal 1] []),
+        row!(0x02 0x00 0x24 0x03 "audio format specific" ["bDescriptorSubtype" Hexadecimal 1] []),
+        row!(0x02 0x00 0x25 0x01 "audio data endpoint" ["bDescriptorSubtype" Hexadecimal 1] []),
+        row!(0x03 _ 0x24 0x01 "MIDI header" ["bDescriptorSubtype" Hexadecimal 1, "bcdMSC" Release 2, "wTotalLength" Decimal 2] []),
+        row!(0x03 _ 0x24 0x02 "MIDI in jack" ["bDescriptorSubtype" Hexadecimal 1] []),
+        row!(0x03 _ 0x24 0x03 "MIDI out jack" ["bDescriptorSubtype" Hexadecimal 1] []),
+        row!(0x03 _ 0x24 0x04 "MIDI element" ["bDescriptorSubtype" Hexadecimal 1] []),
+        row!(0x03 _ 0x25 0x01 "MIDI data endpoint" ["bDescriptorSubtype" Hexadecimal 1] []),
+        row!(_ _ 0x24 _ "audio class" ["bDescriptorSubtype" Hexadecimal 1] []),
+        row!(_ _ 0x25 _ "audio endpoint" ["bDescriptorSubtype" Hexadecimal 1] []),
+    ]
+}
+
+/// Communications: CDC 1.2 and its subclasses, NCM 1.0, MBIM 1.0.
+#[tactic(auto, unfolding(crate::specs::Rows::communications_rows))]
+pub(crate) fn communications_rows() -> &'static [ClassDescriptor]
+    ensures { map row_of result.now ≡ communications_rows }
+{
+    &[
+        row!(_ _ 0x24 0x00 "CDC header" ["bDescriptorSubtype" Hexadecimal 1, "bcdCDC" Release 2] []),
+        row!(_ _ 0x24 0x01 "CDC call management" ["bDescriptorSubtype" Hexadecimal 1, "bmCapabilities" Hexadecimal 1, "bDataInterface" Decimal 1] []),
+        row!(_ _ 0x24 0x02 "CDC abstract control" ["bDescriptorSubtype" Hexadecimal 1, "bmCapabilities" Hexadecimal 1] []),
+        row!(_ _ 0x24 0x03 "CDC direct line" ["bDescriptorSubtype" Hexadecimal 1, "bmCapabilities" Hexadecimal 1] []),
+        row!(_ _ 0x24 0x04 "CDC telephone ringer" ["bDescriptorSubtype" Hexadecimal 1] []),
+        row!(_ _ 0x24 0x05 "CDC telephone capabilities" ["bDescriptorSubtype" Hexadecimal 1] []),
+        row!(_ _ 0x24 0x06 "CDC union" ["bDescriptorSubtype" Hexadecimal 1, "bControlInterface" Decimal 1] ["bSubordinateInterface" Decimal 1]),
+        row!(_ _ 0x24 0x07 "CDC country selection" ["bDescriptorSubtype" Hexadecimal 1, "iCountryCodeRelDate" Decimal 1] ["wCountryCode" Hexadecimal 2]),
+        row!(_ _ 0x24 0x0f "CDC Ethernet networking" ["bDescriptorSubtype" Hexadecimal 1, "iMACAddress" Decimal 1, "bmEthernetStatistics" Hexadecimal 4, "wMaxSegmentSize" Decimal 2, "wNumberMCFilters" Hexadecimal 2, "bNumberPowerFilters" Decimal 1] []),
+        row!(_ _ 0x24 0x11 "CDC wireless handset control" ["bDescriptorSubtype" Hexadecimal 1, "bcdVersion" Release 2] []),
+        row!(_ _ 0x24 0x12 "CDC mobile direct line" ["bDescriptorSubtype" Hexadecimal 1, "bcdVersion" Release 2] []),
+        row!(_ _ 0x24 0x13 "CDC mobile direct line detail" ["bDescriptorSubtype" Hexadecimal 1] []),
+        row!(_ _ 0x24 0x14 "CDC device management" ["bDescriptorSubtype" Hexadecimal 1, "bcdVersion" Release 2, "wMaxCommand" Decimal 2] []),
+        row!(_ _ 0x24 0x15 "CDC OBEX" ["bDescriptorSubtype" Hexadecimal 1, "bcdVersion" Release 2] []),
+        row!(_ _ 0x24 0x1a "CDC network control" ["bDescriptorSubtype" Hexadecimal 1, "bcdNcmVersion" Release 2, "bmNetworkCapabilities" Hexadecimal 1] []),
+        row!(_ _ 0x24 0x1b "CDC mobile broadband" ["bDescriptorSubtype" Hexadecimal 1, "bcdMBIMVersion" Release 2, "wMaxControlMessage" Decimal 2, "bNumberFilters" Decimal 1, "bMaxFilterSize" Decimal 1, "wMaxSegmentSize" Decimal 2, "bmNetworkCapabilities" Hexadecimal 1] []),
+        row!(_ _ 0x24 0x1c "CDC mobile broadband, extended" ["bDescriptorSubtype" Hexadecimal 1, "bcdMBIMExtendedVersion" Release 2, "bMaxOutstandingCommandMessages" Decimal 1, "wMTU" Decimal 2] []),
+        row!(_ _ 0x24 _ "CDC functional" ["bDescriptorSubtype" Hexadecimal 1] []),
+    ]
+}
+
+/// HID: HID 1.11, 6.2.1.
+#[tactic(auto, unfolding(crate::specs::Rows::hid_rows))]
+pub(crate) fn hid_rows() -> &'static [ClassDescriptor]
+    ensures { map row_of result.now ≡ hid_rows }
+{
+    &[
+        row!(_ _ 0x21 _ "HID" ["bcdHID" Release 2, "bCountryCode" Decimal 1, "bNumDescriptors" Decimal 1] ["bDescriptorType" ReportType 1, "wDescriptorLength" Decimal 2]),
+    ]
+}
+
+/// Mass storage: USB Attached SCSI.
+#[tactic(auto, unfolding(crate::specs::Rows::mass_storage_rows))]
+pub(crate) fn mass_storage_rows() -> &'static [ClassDescriptor]
+    ensures { map row_of result.now ≡ mass_storage_rows }
+{
+    &[row!(0x06 0x62 0x24 _ "UAS pipe usage" ["bPipeID" Decimal 1, "bReserved" Hexadecimal 1] [])]
+}
+
+/// CDC data: CDC 1.2.
+#[tactic(auto, unfolding(crate::specs::Rows::cdc_data_rows))]
+pub(crate) fn cdc_data_rows() -> &'static [ClassDescriptor]
+    ensures { map row_of result.now ≡ cdc_data_rows }
+{
+    &[
+        row!(_ _ 0x24 0x00 "CDC header" ["bDescriptorSubtype" Hexadecimal 1, "bcdCDC" Release 2] []),
+        row!(_ _ 0x24 0x06 "CDC union" ["bDescriptorSubtype" Hexadecimal 1, "bControlInterface" Decimal 1] ["bSubordinateInterface" Decimal 1]),
+        row!(_ _ 0x24 _ "CDC functional" ["bDescriptorSubtype" Hexadecimal 1] []),
+    ]
+}
+
+/// Smart cards: CCID 1.1.
+#[tactic(auto, unfolding(crate::specs::Rows::smart_card_rows))]
+pub(crate) fn smart_card_rows() -> &'static [ClassDescriptor]
+    ensures { map row_of result.now ≡ smart_card_rows }
+{
+    &[
+        row!(_ _ 0x21 _ "CCID" ["bcdCCID" Release 2, "bMaxSlotIndex" Decimal 1, "bVoltageSupport" Hexadecimal 1, "dwProtocols" Hexadecimal 4, "dwDefaultClock" Decimal 4, "dwMaximumClock" Decimal 4, "bNumClockSupported" Decimal 1, "dwDataRate" Decimal 4, "dwMaxDataRate" Decimal 4, "bNumDataRatesSupported" Decimal 1, "dwMaxIFSD" Decimal 4, "dwSynchProtocols" Hexadecimal 4, "dwMechanical" Hexadecimal 4, "dwFeatures" Hexadecimal 4, "dwMaxCCIDMessageLength" Decimal 4, "bClassGetResponse" Hexadecimal 1, "bClassEnvelope" Hexadecimal 1, "wLcdLayout" Hexadecimal 2, "bPINSupport" Hexadecimal 1, "bMaxCCIDBusySlots" Decimal 1] []),
+    ]
+}
+
+/// Video: UVC 1.5.
+#[tactic(auto, unfolding(crate::specs::Rows::video_rows))]
+pub(crate) fn video_rows() -> &'static [ClassDescriptor]
+    ensures { map row_of result.now ≡ video_rows }
+{
+    &[
+        row!(0x01 _ 0x24 0x01 "video control header" ["bDescriptorSubtype" Hexadecimal 1, "bcdUVC" Release 2, "wTotalLength" Decimal 2, "dwClockFrequency" Decimal 4, "bInCollection" Decimal 1] ["baInterfaceNr" Decimal 1]),
+        row!(0x01 _ 0x24 0x02 "video input terminal" ["bDescriptorSubtype" Hexadecimal 1] []),
+        row!(0x01 _ 0x24 0x03 "video output terminal" ["bDescriptorSubtype" Hexadecimal 1] []),
+        row!(0x01 _ 0x24 0x04 "video selector unit" ["bDescriptorSubtype" Hexadecimal 1] []),
+        row!(0x01 _ 0x24 0x05 "video processing unit" ["bDescriptorSubtype" Hexadecimal 1] []),
+        row!(0x01 _ 0x24 0x06 "video extension unit" ["bDescriptorSubtype" Hexadecimal 1] []),
+        row!(0x01 _ 0x24 0x07 "video encoding unit" ["bDescriptorSubtype" Hexadecimal 1] []),
+        row!(0x01 _ 0x25 0x03 "video interrupt endpoint" ["bDescriptorSubtype" Hexadecimal 1, "wMaxTransferSize" Decimal 2] []),
+        row!(0x02 _ 0x24 0x01 "video input header" ["bDescriptorSubtype" Hexadecimal 1] []),
+        row!(0x02 _ 0x24 0x02 "video output header" ["bDescriptorSubtype" Hexadecimal 1] []),
+        row!(0x02 _ 0x24 0x03 "video still image" ["bDescriptorSubtype" Hexadecimal 1] []),
+        row!(0x02 _ 0x24 0x04 "video format uncompressed" ["bDescriptorSubtype" Hexadecimal 1] []),
+        row!(0x02 _ 0x24 0x05 "video frame uncompressed" ["bDescriptorSubtype" Hexadecimal 1, "bFrameIndex" Decimal 1, "bmCapabilities" Hexadecimal 1, "wWidth" Decimal 2, "wHeight" Decimal 2] []),
+        row!(0x02 _ 0x24 0x06 "video format MJPEG" ["bDescriptorSubtype" Hexadecimal 1] []),
+        row!(0x02 _ 0x24 0x07 "video frame MJPEG" ["bDescriptorSubtype" Hexadecimal 1, "bFrameIndex" Decimal 1, "bmCapabilities" Hexadecimal 1, "wWidth" Decimal 2, "wHeight" Decimal 2] []),
+        row!(0x02 _ 0x24 0x0a "video format MPEG-2 TS" ["bDescriptorSubtype" Hexadecimal 1] []),
+        row!(0x02 _ 0x24 0x0c "video format DV" ["bDescriptorSubtype" Hexadecimal 1] []),
+        row!(0x02 _ 0x24 0x0d "video color matching" ["bDescriptorSubtype" Hexadecimal 1] []),
+        row!(0x02 _ 0x24 0x10 "video format frame based" ["bDescriptorSubtype" Hexadecimal 1] []),
+        row!(0x02 _ 0x24 0x11 "video frame, frame based" ["bDescriptorSubtype" Hexadecimal 1, "bFrameIndex" Decimal 1, "bmCapabilities" Hexadecimal 1, "wWidth" Decimal 2, "wHeight" Decimal 2] []),
+        row!(0x02 _ 0x24 0x12 "video format stream based" ["bDescriptorSubtype" Hexadecimal 1] []),
+        row!(_ _ 0x24 _ "video class" ["bDescriptorSubtype" Hexadecimal 1] []),
+        row!(_ _ 0x25 _ "video endpoint" ["bDescriptorSubtype" Hexadecimal 1] []),
+    ]
+}
+
+/// Application specific: DFU 1.1.
+#[tactic(auto, unfolding(crate::specs::Rows::application_rows))]
+pub(crate) fn application_rows() -> &'static [ClassDescriptor]
+    ensures { map row_of result.now ≡ application_rows }
+{
+    &[
+        row!(0x01 _ 0x21 _ "DFU functional" ["bmAttributes" Hexadecimal 1, "wDetachTimeOut" Decimal 2, "wTransferSize" Decimal 2, "bcdDFUVersion" Release 2] []),
+    ]
+}
+
+/// Class specific types of any class.
+#[tactic(auto, unfolding(crate::specs::Rows::other_rows))]
+pub(crate) fn other_rows() -> &'static [ClassDescriptor]
+    ensures { map row_of result.now ≡ other_rows }
+{
+    &[
+        row!(_ _ 0x21 _ "class specific descriptor" [] []),
+        row!(_ _ 0x24 _ "class specific interface" [] []),
+        row!(_ _ 0x25 _ "class specific endpoint" [] []),
+    ]
+}
+
+/// The rows of a class.
+pub(crate) fn class_rows(class: u8) -> &'static [ClassDescriptor]
+    ensures { map row_of result.now ≡ class_rows class }
+{
+    match class {
+        0x01 => audio_rows(),
+        0x02 => communications_rows(),
+        0x03 => hid_rows(),
+        0x08 => mass_storage_rows(),
+        0x0a => cdc_data_rows(),
+        0x0b => smart_card_rows(),
+        0x0e => video_rows(),
+        0xfe => application_rows(),
+        _ => &[],
+    }
+}
