@@ -1,0 +1,208 @@
+//! Calls on descriptor files.
+use crate::answer::{Answer, Call, refused, right};
+use crate::samples::{
+    EVERYTHING, EVERYTHING_PARTS, EVERYTHING_TEXT, MOUSE, MOUSE_PARTS, MOUSE_TEXT,
+};
+use std::alloc::Global;
+use std::io::Cursor;
+use usb_fields::{UnitFault, read_units, write_units};
+use usb_file::{
+    DescriptorFile, FileWhy, ListWhy, OutFault, WriteFault, assemble, check, list, named,
+    read_file, write_file,
+};
+
+/// More bytes than a listing of these has.
+const PAGE: usize = 512;
+
+/// A file, and what its calls must come to.
+#[derive(Clone, Copy)]
+struct Sample<'a> {
+    bytes: &'a [u8],
+    /// Where its parts begin.
+    parts: &'a [usize],
+    text: &'a str,
+    named: &'a [u8],
+}
+
+/// The calls on a mouse, and on one that breaks two rules.
+pub(crate) fn mouse_calls(alloc: Global) -> [Call; 7] {
+    let sample = Sample {
+        bytes: &MOUSE,
+        parts: &MOUSE_PARTS,
+        text: MOUSE_TEXT,
+        named: &[],
+    };
+    let [read, named, check, write, list, assemble] = answers(alloc, &sample);
+    [
+        Call::new("mouse read_file", read),
+        Call::new("mouse named", named),
+        Call::new("mouse check", check),
+        Call::new("mouse write_file", write),
+        Call::new("mouse list", list),
+        Call::new("mouse assemble", assemble),
+        Call::new("broken check", check_broken(alloc)),
+    ]
+}
+
+/// The calls on a mouse with a second speed and a string.
+pub(crate) fn everything_calls(alloc: Global) -> [Call; 6] {
+    let sample = Sample {
+        bytes: &EVERYTHING,
+        parts: &EVERYTHING_PARTS,
+        text: EVERYTHING_TEXT,
+        named: &[1],
+    };
+    let [read, named, check, write, list, assemble] = answers(alloc, &sample);
+    [
+        Call::new("everything read_file", read),
+        Call::new("everything named", named),
+        Call::new("everything check", check),
+        Call::new("everything write_file", write),
+        Call::new("everything list", list),
+        Call::new("everything assemble", assemble),
+    ]
+}
+
+/// What came of reading, of the named indices, of the rules, of writing, of listing and of reading the listing.
+fn answers(alloc: Global, sample: &Sample<'_>) -> [Answer; 6] {
+    let (read, file) = read_again(alloc, sample);
+    let Some(file) = file else {
+        return [Answer::Wrong; 6];
+    };
+    [
+        read,
+        name(alloc, &file, sample),
+        check_again(alloc, &file, 0),
+        write(alloc, &file, sample),
+        list_again(alloc, &file, sample),
+        assemble_again(alloc, &file, sample),
+    ]
+}
+
+/// Reads the file; where memory is wanting at a part, once more.
+fn read_again(alloc: Global, sample: &Sample<'_>) -> (Answer, Option<DescriptorFile>) {
+    match read_file(alloc, sample.bytes) {
+        Ok(file) => (Answer::Right, Some(file)),
+        Err(fault) => {
+            let there = fault.why == FileWhy::Memory && sample.parts.contains(&fault.at);
+            (refused(there), read_file(alloc, sample.bytes).ok())
+        }
+    }
+}
+
+/// The named indices; where memory is wanting, once more.
+fn name(alloc: Global, file: &DescriptorFile, sample: &Sample<'_>) -> Answer {
+    match named(alloc, file) {
+        Ok(indices) => right(indices.as_slice() == sample.named),
+        Err(_) => refused(match named(alloc, file) {
+            Ok(indices) => indices.as_slice() == sample.named,
+            Err(_) => false,
+        }),
+    }
+}
+
+/// The findings, of which there are so many; where memory is wanting, once more.
+fn check_again(alloc: Global, file: &DescriptorFile, count: usize) -> Answer {
+    match check(alloc, file) {
+        Ok(findings) => right(findings.len() == count),
+        Err(_) => refused(match check(alloc, file) {
+            Ok(findings) => findings.len() == count,
+            Err(_) => false,
+        }),
+    }
+}
+
+/// The findings on the mouse with bNumInterfaces 2 and a bmAttributes of 20 hexadecimal: two.
+fn check_broken(alloc: Global) -> Answer {
+    let mut bytes = MOUSE;
+    bytes[22] = 2;
+    bytes[25] = 0x20;
+    match read_file(alloc, &bytes) {
+        Ok(file) => check_again(alloc, &file, 2),
+        Err(fault) => refused(fault.why == FileWhy::Memory),
+    }
+}
+
+/// Writes the file; where memory is wanting, once more.
+fn write(alloc: Global, file: &DescriptorFile, sample: &Sample<'_>) -> Answer {
+    match write_file(alloc, file) {
+        Ok(bytes) => right(bytes.as_slice() == sample.bytes),
+        Err(WriteFault::Memory) => refused(match write_file(alloc, file) {
+            Ok(bytes) => bytes.as_slice() == sample.bytes,
+            Err(_) => false,
+        }),
+        Err(_) => Answer::Wrong,
+    }
+}
+
+/// Lists the file; where memory is wanting, what was written is a front of the listing.
+fn list_again(alloc: Global, file: &DescriptorFile, sample: &Sample<'_>) -> Answer {
+    let mut page = [0u8; PAGE];
+    let mut writer = Cursor::new(page.as_mut_slice());
+    let outcome = list(alloc, file, &mut writer);
+    let written = writer.position().min(PAGE as u64) as usize;
+    let text = &page[..written];
+    match outcome {
+        Ok(()) => right(text == sample.text.as_bytes()),
+        Err(OutFault::Memory) => refused(sample.text.as_bytes().starts_with(text)),
+        Err(OutFault::Write) => Answer::Wrong,
+    }
+}
+
+/// Reads the listing; where memory is wanting at a line, once more.
+fn assemble_again(alloc: Global, file: &DescriptorFile, sample: &Sample<'_>) -> Answer {
+    let text = sample.text.as_bytes();
+    match assemble(alloc, text) {
+        Ok(assembled) => right(assembled == *file),
+        Err(fault) => {
+            let lines = sample.text.lines().count();
+            let there = fault.why == ListWhy::Memory && fault.line >= 1 && fault.line <= lines;
+            let again = match assemble(alloc, text) {
+                Ok(assembled) => assembled == *file,
+                Err(_) => false,
+            };
+            refused(there && again)
+        }
+    }
+}
+
+/// The calls on a string of 126 units.
+pub(crate) fn unit_calls(alloc: Global) -> [Call; 2] {
+    let units = [0x20ac; 126];
+    let mut bytes = [0xac; 254];
+    for (place, byte) in bytes.iter_mut().enumerate() {
+        if place % 2 == 1 {
+            *byte = 0x20;
+        }
+    }
+    bytes[0] = 254;
+    bytes[1] = 3;
+    [
+        Call::new("units write_units", write_again(alloc, &units, &bytes)),
+        Call::new("units read_units", read_units_again(alloc, &units, &bytes)),
+    ]
+}
+
+/// Writes the units; where memory is wanting, once more.
+fn write_again(alloc: Global, units: &[u16], bytes: &[u8]) -> Answer {
+    match write_units(alloc, units) {
+        Ok(written) => right(written.as_slice() == bytes),
+        Err(UnitFault::Memory) => refused(match write_units(alloc, units) {
+            Ok(written) => written.as_slice() == bytes,
+            Err(_) => false,
+        }),
+        Err(_) => Answer::Wrong,
+    }
+}
+
+/// Reads the units; where memory is wanting, once more.
+fn read_units_again(alloc: Global, units: &[u16], bytes: &[u8]) -> Answer {
+    match read_units(alloc, bytes) {
+        Ok(read) => right(read.as_slice() == units),
+        Err(UnitFault::Memory) => refused(match read_units(alloc, bytes) {
+            Ok(read) => read.as_slice() == units,
+            Err(_) => false,
+        }),
+        Err(_) => Answer::Wrong,
+    }
+}
