@@ -4,7 +4,7 @@ use std::alloc::Global;
 use std::fmt::Display;
 use usb_device::DescriptionFault;
 use usb_fields::{FieldFault, UnitFault};
-use usb_file::{FileFault, FileWhy, Finding, ListFault, ListWhy, OutFault, Part, WriteFault};
+use usb_file::{FileFault, FileWhy, Finding, ListFault, ListWhy, OutFault, Part, Rule, WriteFault};
 use usb_set::{EncodeFault, SetFault, SetWhy};
 use usb_tool::{FatesFault, SettingsFault, ToolFault, verdict};
 use usb_transfer::{LimitFault, Why};
@@ -76,7 +76,7 @@ const LIST_WHYS: [ListWhy; 7] = [
 /// Why there is no device; of the rules, that the second endpoint of a set breaks the twelfth.
 const DESCRIPTION_FAULTS: [DescriptionFault; 5] = [
     DescriptionFault::Finding(Finding {
-        rule: 12,
+        rule: Rule::V12,
         part: Part::Main,
         set: 0,
         setting: 0,

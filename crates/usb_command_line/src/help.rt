@@ -31,6 +31,21 @@ Input:
   other-speed sets where there is another speed, and where a string is named the languages
   and the strings.
 
+Rules:
+  V1   bNumInterfaces is not the count of distinct interface numbers
+  V2   interfaces are not numbered from 0 without a gap
+  V3   an alternate setting of an interface stands twice
+  V4   an interface has no alternate setting 0
+  V5   bNumEndpoints is not the count of the setting's endpoints
+  V6   an endpoint has number 0, or one of bits 6 to 4 of bEndpointAddress is one
+  V7   two endpoints of a setting have one address
+  V8   two interfaces of a set claim one endpoint address
+  V9   in bmAttributes of a configuration bit 7 is zero, or one of bits 4 to 0 is one
+  V10  a part has no set, or a bConfigurationValue is 0 or stands twice
+  V11  bMaxPacketSize0 is not 8, 16, 32 or 64, a subclass has no class, or bReserved is not 0
+  V12  one of bits 15 to 13 of wMaxPacketSize is one
+  V13  an association binds no interface, or one that the set does not have
+
 Exit status:
   0  no rule is broken; the line 'no findings' is written
   1  a rule is broken; a line is written for each finding
