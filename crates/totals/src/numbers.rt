@@ -7,9 +7,9 @@ pub(crate) struct Numbers {
 }
 
 impl Numbers {
-    /// The numbers that begin with this seed.
-    pub(crate) fn new(seed: u32) -> Numbers {
-        Numbers { state: seed }
+    /// The numbers that come after this one.
+    pub(crate) fn new(first: u32) -> Numbers {
+        Numbers { state: first }
     }
 
     /// The next number, below 65,536: the high half, whose periods are long.
