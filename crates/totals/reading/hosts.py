@@ -31,8 +31,8 @@ STEPS = "first address device header set qualifier other_header other_set langua
 class Numbers:
     """The generator of Knuth and Lewis: the high halves of its numbers."""
 
-    def __init__(self, seed):
-        self.state = seed
+    def __init__(self, first):
+        self.state = first
 
     def next(self):
         self.state = (1664525 * self.state + 1013904223) % 2**32
