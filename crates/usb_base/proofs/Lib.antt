@@ -1,3 +1,4 @@
 pub mod ByteLemmas
 pub mod Cells
 pub mod FieldLemmas
+pub mod WordLemmas

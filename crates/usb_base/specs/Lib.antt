@@ -1,4 +1,5 @@
 pub mod Bytes
+pub mod Directions
 pub mod Lending
 pub mod Marks
 pub mod Fields

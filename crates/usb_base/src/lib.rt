@@ -5,13 +5,16 @@
 //! * [`known_bytes`], which tells a proof that the elements of a slice of bytes are bytes.
 //! * [`Marks`], a set of bytes, for walks that look back.
 //! * [`word_at`] and [`word_bytes`], which read and write a 16-bit field (USB 2.0, 8.1).
-//! * [`descriptor_type`], [`request`], [`request_type`] and [`feature`], the numbers of the standard's tables (USB 2.0,
-//!   tables 9-2 and 9-4 to 9-6).
+//! * [`Direction`], which way data goes.
+//! * [`descriptor_type`], [`descriptor_length`], [`request`], [`request_type`] and [`feature`], the numbers of the
+//!   standard's tables (USB 2.0, tables 9-2, 9-4 to 9-6 and 9-8 to 9-13).
 //! * [`laws`]: a copy of a list is that list.
 //! * `specs/Bytes.antt`: what a byte is, and the two bytes of such a field.
 #![tactic(auto)]
 
+pub mod descriptor_length;
 pub mod descriptor_type;
+mod direction;
 pub mod feature;
 mod known;
 pub mod laws;
@@ -22,6 +25,7 @@ mod sequence;
 mod width;
 mod words;
 
+pub use direction::Direction;
 pub use known::known_bytes;
 pub use marks::Marks;
 pub use sequence::Sequence;

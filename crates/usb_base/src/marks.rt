@@ -1,6 +1,6 @@
 //! `Marks`, a set of bytes.
-ghost use Rattle.std.specs.Prelude.{◌≡◌};
-ghost use Rattle.usb_base.specs.Marks.{unmarked, marked, is_marked};
+ghost use Rattle.std.specs.Prelude.{◌≡◌, ◌<◌, ◌/◌, length, slice_index_or};
+ghost use Rattle.usb_base.specs.Marks.{IsNextAbsent, unmarked, marked, is_marked};
 
 use std::marker::Model;
 
@@ -13,19 +13,20 @@ use std::marker::Model;
 /// ```
 #[derive(Clone, Debug, Drop, PartialEq, Eq, Hash)]
 pub struct Marks {
-    seen: [bool; 256],
+    /// A bit for each byte, 64 of them in a word.
+    words: [u64; 4],
 }
 
 impl Model for Marks {
-    ghost use Rattle.std.specs.Prelude.{◌≡◌, List, Bool, length};
+    ghost use Rattle.std.specs.Prelude.{◌≡◌, List, ℕ, length};
 
-    ghost Value = { List Bool };
+    ghost Value = { List ℕ };
 
-    ghost view = { λ m. m.seen };
+    ghost view = { λ m. m.words };
 
-    ghost invariant = { λ m. length m.seen ≡ 256 };
+    ghost invariant = { λ m. length m.words ≡ 4 };
 
-    ghost inverse = { λ cells. record { seen = cells } };
+    ghost inverse = { λ words. record { words = words } };
 }
 
 impl Marks {
@@ -33,7 +34,7 @@ impl Marks {
     pub fn new() -> Marks
         ensures { is_marked result ≡ unmarked }
     {
-        Marks { seen: [false; 256] }
+        Marks { words: [0; 4] }
     }
 
     /// Whether the byte was added.
@@ -41,13 +42,36 @@ impl Marks {
     pub fn has(&self, n: u8) -> bool
         ensures { result ≡ is_marked self.now n }
     {
-        self.seen[usize::from(n)]
+        self.words[usize::from(n) / 64] >> (n % 64) & 1 == 1
     }
 
     /// Adds a byte.
     pub fn add(&mut self, n: u8)
         ensures { is_marked self.new ≡ marked (is_marked self.old) n }
     {
-        self.seen[usize::from(n)] = true;
+        self.words[usize::from(n) / 64] |= 1 << (n % 64);
+    }
+
+    /// The first byte from this one on that wasn't added, or 256.
+    pub fn next_absent(&self, from: u8) -> usize
+        ensures { IsNextAbsent (is_marked self.now) from result }
+    {
+        let mut next = usize::from(from);
+        'run: loop {
+            let ones = (self.word(next) >> (next % 64)).trailing_ones();
+            next += ones as usize;
+            if ones == 0 || next > 255 {
+                return next;
+            }
+        }
+    }
+
+    /// The word that has the bit of the number.
+    fn word(&self, n: usize) -> u64
+        requires { n < 256 }
+        ensures word { result ≡ slice_index_or self.now (n / 64) 0 }
+        ensures words { length self.now ≡ 4 }
+    {
+        self.words[n / 64]
     }
 }

@@ -95,7 +95,7 @@ impl<T> Sequence<T> {
         &self.items
     }
 
-    /// Adds an element at the end. Where a growth is refused the list stays, and the value comes back
+    /// Adds an element at the end. When out of memory the list stays, and the value comes back
     /// in the error.
     pub fn push(&mut self, value: T) -> Result<(), AllocFailed<T>>
         ensures ok { OnOk result (self.new ≡ self.old ++ value ∷ []) }

@@ -2,8 +2,6 @@
 use Rattle.std.specs.Prelude.{ℕ, ◌/◌, ◌%◌, ◌==◌, if◌then◌else◌, List, [], ◌∷◌, ◌++◌, slice_index}
 use Rattle.usb_base.specs.Bytes.{little_endian, little_endian_at}
 use Rattle.usb_fields.specs.declared.setup.Setup.{Setup}
-use Rattle.usb_fields.specs.declared.setup.Direction.{Direction}
-use Rattle.usb_fields.specs.declared.setup.Direction.TheVariants as directions
 use Rattle.usb_fields.specs.declared.setup.Class.{Class}
 use Rattle.usb_fields.specs.declared.setup.Class.TheVariants as classes
 use Rattle.usb_fields.specs.declared.setup.Recipient.{Recipient}
@@ -25,10 +23,6 @@ setup_of b =
       index = little_endian_at b 4;
       length = little_endian_at b 6;
     }
-
--- bit 7 of bmRequestType: 0 host to device, 1 device to host (table 9-2)
-abbrev pub direction_of : ℕ → Direction
-direction_of request_type = if request_type / 128 % 2 == 0 then directions.Out else directions.In
 
 -- bits 6..5 of bmRequestType: 0 standard, 1 class, 2 vendor, 3 reserved (table 9-2)
 abbrev pub class_of : ℕ → Class

@@ -17,12 +17,12 @@ unit_fault b =
     else if slice_index b 0 % 2 == 1 then Some units.Odd
     else None
 
--- reading these bytes may be refused by this fault: the first that holds, or want of memory where none does
+-- reading these bytes may be refused by this fault: the first that holds, or out of memory where none does
 abbrev pub ReadUnitsFails : List ℕ → UnitFault → Type 0
 ReadUnitsFails b units.Memory = unit_fault b ≡ None
 ReadUnitsFails b fault = unit_fault b ≡ Some fault
 
--- writing these units may be refused by this fault: they are too many, or want of memory where they are not
+-- writing these units may be refused by this fault: they are too many, or out of memory where they are not
 abbrev pub WriteUnitsFails : List ℕ → UnitFault → Type 0
 WriteUnitsFails u units.Length = ⊥
 WriteUnitsFails u units.Kind = ⊥

@@ -4,13 +4,10 @@ ghost use Rattle.std.specs.Prelude.{◌≡◌, Some, IfOk, IfErr};
 use crate::fault::FieldFault;
 use crate::field::fault_in;
 use usb_base::Width::{self, One, Two};
-use usb_base::{word_at, word_bytes};
+use usb_base::{descriptor_length, descriptor_type, word_at, word_bytes};
 
-/// bLength of a device descriptor, in bytes.
-const LENGTH: u8 = 18;
-
-/// bDescriptorType DEVICE.
-const KIND: u8 = 1;
+/// bcdUSB of release 2.0 of the standard, the first with a second speed (USB 2.0, 9.6.2).
+pub const USB_2_0: u16 = 0x0200;
 
 /// Names of the fields of a device descriptor (USB 2.0, table 9-8).
 pub const DEVICE_NAMES: [&str; 12] = [
@@ -79,7 +76,7 @@ impl DeviceDescriptor {
         ensures ok { IfOk result (λ d. b.now ≡ device_bytes d) }
         ensures err { IfErr result (λ fault. device_fault b.now ≡ Some fault) }
     {
-        if let Some(fault) = fault_in(b, LENGTH, KIND) {
+        if let Some(fault) = fault_in(b, descriptor_length::DEVICE, descriptor_type::DEVICE) {
             return Err(fault);
         }
         Ok(DeviceDescriptor {
@@ -107,8 +104,8 @@ impl DeviceDescriptor {
         let [product_low, product_high] = word_bytes(self.product);
         let [release_low, release_high] = word_bytes(self.release);
         [
-            LENGTH,
-            KIND,
+            descriptor_length::DEVICE,
+            descriptor_type::DEVICE,
             usb_low,
             usb_high,
             self.class,

@@ -63,7 +63,7 @@ pub enum UnitFault {
     Odd,
     /// More than 126 units, which no bLength can count. Only [`write_units`](crate::write_units) answers it.
     TooLong,
-    /// Memory was refused. None of the other faults holds.
+    /// Out of memory. None of the other faults holds.
     Memory,
 }
 

@@ -7,7 +7,8 @@
 //! * [`DeviceDescriptor`] (9.6.1) and [`Qualifier`] (9.6.2), the descriptors of fixed length.
 //! * [`read_units`] and [`write_units`] for string descriptors and language lists (9.6.7), and [`text_of`], the text of
 //!   a string's units.
-//! * [`request`], [`request_type`], [`feature`] and [`descriptor_type`], the numbers of tables 9-2 and 9-4 to 9-6.
+//! * [`request`], [`request_type`], [`feature`], [`descriptor_type`] and [`descriptor_length`], the numbers of tables
+//!   9-2, 9-4 to 9-6 and 9-8 to 9-13.
 //! * [`Transaction`], [`Stage`], [`Toggle`] and [`Answer`], what passes between a host and a device
 //!   (8.4 to 8.6), and [`Speed`].
 //!
@@ -30,12 +31,12 @@ mod speed;
 mod text;
 mod units;
 
-pub use device::{DEVICE_NAMES, DEVICE_WIDTHS, DeviceDescriptor};
+pub use device::{DEVICE_NAMES, DEVICE_WIDTHS, DeviceDescriptor, USB_2_0};
 pub use fault::{FieldFault, UnitFault};
 pub use packet::{Answer, Stage, Toggle, Transaction};
 pub use qualifier::{QUALIFIER_NAMES, QUALIFIER_WIDTHS, Qualifier};
-pub use setup::{Class, Direction, Recipient, Setup};
+pub use setup::{Class, Recipient, Setup};
 pub use speed::Speed;
 pub use text::text_of;
 pub use units::{MOST_UNITS, read_units, write_units, write_units_onto};
-pub use usb_base::{descriptor_type, feature, request, request_type};
+pub use usb_base::{Direction, descriptor_length, descriptor_type, feature, request, request_type};

@@ -4,13 +4,7 @@ ghost use Rattle.std.specs.Prelude.{◌≡◌, Some, IfOk, IfErr};
 use crate::fault::FieldFault;
 use crate::field::fault_in;
 use usb_base::Width::{self, One, Two};
-use usb_base::{word_at, word_bytes};
-
-/// bLength of a qualifier, in bytes.
-const LENGTH: u8 = 10;
-
-/// bDescriptorType DEVICE_QUALIFIER.
-const KIND: u8 = 6;
+use usb_base::{descriptor_length, descriptor_type, word_at, word_bytes};
 
 /// Names of the fields of a device qualifier (USB 2.0, table 9-9).
 pub const QUALIFIER_NAMES: [&str; 7] = [
@@ -63,7 +57,11 @@ impl Qualifier {
         ensures ok { IfOk result (λ q. b.now ≡ qualifier_bytes q) }
         ensures err { IfErr result (λ fault. qualifier_fault b.now ≡ Some fault) }
     {
-        if let Some(fault) = fault_in(b, LENGTH, KIND) {
+        if let Some(fault) = fault_in(
+            b,
+            descriptor_length::DEVICE_QUALIFIER,
+            descriptor_type::DEVICE_QUALIFIER,
+        ) {
             return Err(fault);
         }
         Ok(Qualifier {
@@ -83,8 +81,8 @@ impl Qualifier {
     {
         let [usb_low, usb_high] = word_bytes(self.usb);
         [
-            LENGTH,
-            KIND,
+            descriptor_length::DEVICE_QUALIFIER,
+            descriptor_type::DEVICE_QUALIFIER,
             usb_low,
             usb_high,
             self.class,

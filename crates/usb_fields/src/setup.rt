@@ -1,16 +1,7 @@
 //! The setup packet of a control transfer (USB 2.0, 9.3).
 ghost use Rattle.std.specs.Prelude.{◌≡◌};
 
-use usb_base::word_at;
-
-/// Which way the data stage goes (bit 7 of bmRequestType).
-#[derive(Clone, Copy, Debug, PartialEq, Eq, Hash)]
-pub enum Direction {
-    /// Host to device.
-    Out,
-    /// Device to host.
-    In,
-}
+use usb_base::{Direction, word_at};
 
 /// Who defines the request (bits 6..5 of bmRequestType).
 #[derive(Clone, Copy, Debug, PartialEq, Eq, Hash)]
@@ -62,7 +53,8 @@ pub struct Setup {
 }
 
 impl Setup {
-    ghost use Rattle.usb_fields.specs.Setup.{setup_bytes, setup_of, direction_of, class_of, recipient_of};
+    ghost use Rattle.usb_base.specs.Directions.{direction_of};
+    ghost use Rattle.usb_fields.specs.Setup.{setup_bytes, setup_of, class_of, recipient_of};
 
     /// The setup packet that these bytes are.
     pub fn from_bytes(b: &[u8; 8]) -> Setup
@@ -95,10 +87,7 @@ impl Setup {
     pub fn direction(&self) -> Direction
         ensures { result ≡ direction_of self.now.request_type }
     {
-        match self.request_type >> 7 {
-            0 => Direction::Out,
-            _ => Direction::In,
-        }
+        Direction::of(self.request_type)
     }
 
     /// Who defines the request.

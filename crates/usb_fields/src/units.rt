@@ -6,10 +6,7 @@ ghost use Rattle.usb_fields.specs.Units.{units_bytes, ReadUnitsFails, WriteUnits
 
 use crate::fault::UnitFault;
 use std::alloc::{AllocError, Global};
-use usb_base::word_bytes;
-
-/// bDescriptorType STRING.
-const KIND: u8 = 3;
+use usb_base::{descriptor_type, word_bytes};
 
 /// The most units that a string can have, and the most languages that a language list can: bLength counts no more (USB
 /// 2.0, 9.6.7).
@@ -35,7 +32,7 @@ pub fn read_units(alloc: Global, b: &[u8]) -> Result<Vec<u16>, UnitFault>
     if b.len() < 2 || usize::from(b[0]) != b.len() {
         return Err(UnitFault::Length);
     }
-    if b[1] != KIND {
+    if b[1] != descriptor_type::STRING {
         return Err(UnitFault::Kind);
     }
     if b[0] % 2 == 1 {
@@ -102,7 +99,7 @@ pub fn write_units_onto(u: &[u16], out: &mut Vec<u8>) -> Result<(), UnitFault>
     let size = 2 + 2 * u.len();
     out.reserve(size)?;
     out.push_reserved(size as u8);
-    out.push_reserved(KIND);
+    out.push_reserved(descriptor_type::STRING);
     for unit in u {
         let [low, high] = word_bytes(*unit);
         out.push_reserved(low);
