@@ -105,7 +105,7 @@ pub record File (f : DescriptorFile) (b : List ℕ) : Type 0 where
   pub layouts : has_wrong_layout f ≡ false
   pub texts : are_wrong_strings (length (named_indices f)) f.strings ≡ false
 
--- Want of memory is told of files against which no reason stands, and else the first reason.
+-- *Out of memory* is told of files against which no reason stands, and else the first reason.
 abbrev pub WriteRefused : DescriptorFile → WriteFault → Type 0
 WriteRefused f writes.Memory = write_refusal f ≡ None
 WriteRefused f fault = write_refusal f ≡ Some fault

@@ -19,7 +19,7 @@ pub enum WriteFault {
     /// An other-speed set among the sets of the device, or the other way round.
     #[error("a set of the other kind")]
     Kind,
-    /// A set has no bytes: `usb_set::refusal` tells why.
+    /// A set has no bytes: `usb_set_encoder::refusal` tells why.
     #[error("a set has no bytes")]
     Layout,
     /// The strings are not those that the file names: strings where no index is named, none where one
@@ -27,7 +27,7 @@ pub enum WriteFault {
     /// 126 units.
     #[error("the strings are not those that the file names")]
     Texts,
-    /// Out of memory: a growth was refused.
+    /// Out of memory.
     #[error("out of memory")]
     Memory,
 }

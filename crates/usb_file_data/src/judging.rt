@@ -8,9 +8,9 @@ ghost use Rattle.usb_file_data.specs.File.{has_no_layout, is_long_string, is_oth
 use crate::fault::WriteFault;
 use crate::file::{DescriptorFile, Other, Strings};
 use crate::naming::count_named;
-use usb_base::descriptor_type;
 use usb_fields::MOST_UNITS;
-use usb_set::{Configuration, Sequence, SetKind, refusal};
+use usb_set::{Configuration, Sequence, SetKind};
+use usb_set_encoder::refusal;
 
 /// Why the file has no bytes, for another cause than memory, if it has none.
 pub fn write_refusal(f: &DescriptorFile) -> Option<WriteFault>
@@ -91,17 +91,7 @@ fn any_other_kind(sets: &[Configuration], kind: SetKind) -> bool
 pub fn is_other_kind(c: &Configuration, kind: SetKind) -> bool
     ensures { result ≡ is_other_kind kind c.now }
 {
-    kind_number(c.kind) != kind_number(kind)
-}
-
-/// bDescriptorType of the first descriptor of a set of this kind (USB 2.0, table 9-5).
-fn kind_number(kind: SetKind) -> u8
-    ensures { result ≡ type_number kind }
-{
-    match kind {
-        SetKind::Configuration => descriptor_type::CONFIGURATION,
-        SetKind::OtherSpeed => descriptor_type::OTHER_SPEED_CONFIGURATION,
-    }
+    c.kind.descriptor_type() != kind.descriptor_type()
 }
 
 fn has_wrong_layout(f: &DescriptorFile) -> bool

@@ -1,10 +1,8 @@
-pub mod Tests
 pub mod Last
 pub mod ByteByByte
 pub mod Stands
 pub mod Growth
 pub mod Trees
-pub mod Measures
 pub mod Sound
 pub mod Complete
 pub mod Items

@@ -24,7 +24,7 @@ pub record WantsMemory (s piece : List ℕ) (fault : SetFault) : Type 0 where
   pub in_piece : length s < fault.at + length item
 
 -- The answer to a piece after these bytes: more where the join is open; done where a front of it is
--- a layout that ends in the piece; the fault that the join shows; or want of memory.
+-- a layout that ends in the piece; the fault that the join shows; or out of memory.
 abbrev pub Feeds : List ℕ → List ℕ → Result Progress SetFault → Decoding → Type 0
 Feeds s piece (Ok More) new = IsOpen (s ++ piece) × (new ≡ gathers (s ++ piece))
 Feeds s piece (Ok (Done used)) new =

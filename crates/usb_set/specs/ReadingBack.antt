@@ -7,7 +7,7 @@ use Rattle.usb_set.specs.declared.decoder.Progress.TheVariants.{Done}
 use Rattle.usb_set.specs.Decoding.{Decoding, has, refused}
 use Rattle.usb_set.specs.Feeding.{WantsMemory}
 
--- after these bytes the whole piece is taken and the decoder has the set, or a growth was refused
+-- after these bytes the whole piece is taken and the decoder has the set, or it is out of memory
 abbrev pub ReadsBack : Configuration → List ℕ → List ℕ → Result Progress SetFault → Decoding → Type 0
 ReadsBack c s piece result new =
     ((result ≡ Ok (Done (length piece))) × (new ≡ has c))

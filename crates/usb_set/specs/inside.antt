@@ -4,5 +4,3 @@ pub mod Stepping
 pub mod Holding
 pub mod Lengths
 pub mod Trees
-pub mod Measuring
-pub mod Writing

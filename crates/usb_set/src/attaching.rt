@@ -5,7 +5,7 @@ ghost use Rattle.usb_set.specs.inside.Reading.{attach, configuration_of, endpoin
 
 use crate::tree::{Association, Configuration, Endpoint, Extra, Raw, SetKind, Setting};
 use std::alloc::{AllocError, Global};
-use usb_base::{Sequence, word_at};
+use usb_base::{Sequence, descriptor_type, word_at};
 
 /// The bytes as a list.
 #[inline]
@@ -23,7 +23,7 @@ pub(crate) fn read_configuration(alloc: Global, bytes: &[u8]) -> Result<Configur
     requires { 9 ≤ length bytes.now }
     ensures { IfOk result (λ c. c ≡ configuration_of bytes.now) }
 {
-    let kind = if bytes[1] == 2 {
+    let kind = if bytes[1] == descriptor_type::CONFIGURATION {
         SetKind::Configuration
     } else {
         SetKind::OtherSpeed
@@ -177,13 +177,13 @@ pub(crate) fn attach(
     ensures { OnOk result (c.new ≡ attach c.old (record { kind = kind; body = body.now })) }
 {
     match kind {
-        4 => {
+        descriptor_type::INTERFACE => {
             add_setting(alloc, c, body)?;
         }
-        5 => {
+        descriptor_type::ENDPOINT => {
             add_endpoint(alloc, c, body)?;
         }
-        11 => {
+        descriptor_type::INTERFACE_ASSOCIATION => {
             let association = read_association(alloc, body)?;
             add_to_set(c, Extra::Association(association))?;
         }

@@ -14,9 +14,19 @@ use usb_base::known_bytes;
 
 /// The set that a first descriptor begins. Its wTotalLength is not looked at.
 ///
+/// ```rust
+/// let set = begin_set(alloc, &[9, 2, 0, 0, 1, 1, 0, 0x80, 50])?;
+/// assert_eq!(rt; (set.value, set.power), (1, 50));
+/// ```
+///
+/// # Requires
+///
+/// The bytes are as many as their bLength says, at least 9, and their bDescriptorType is CONFIGURATION or
+/// OTHER_SPEED_CONFIGURATION.
+///
 /// # Errors
 ///
-/// A growth was refused.
+/// Out of memory.
 pub fn begin_set(alloc: Global, header: &[u8]) -> Result<Configuration, AllocError>
     requires long { 9 ≤ length header.now }
     requires whole { is_whole header.now ≡ true }
@@ -29,18 +39,32 @@ pub fn begin_set(alloc: Global, header: &[u8]) -> Result<Configuration, AllocErr
 }
 
 /// What is wrong with a whole descriptor as the set's next one, where it has room for so many bytes more.
+///
+/// ```rust
+/// // An endpoint before any interface.
+/// assert_eq!(rt; next_fault(&set, 100, &[7, 5, 0x81, 3, 8, 0, 10]), Some(SetWhy::Stray));
+/// ```
 pub fn next_fault(set: &Configuration, room: usize, descriptor: &[u8]) -> Option<SetWhy>
     ensures { result ≡ item_fault room (has_setting set.now) descriptor.now }
 {
     fault_in_item(room, is_in_setting(set), descriptor)
 }
 
-/// Adds a descriptor, which belongs to the nearest one before it that can own it. Where a growth is refused, the set
-/// may have it in part.
+/// Adds a descriptor, which belongs to the nearest one before it that can own it. When out of memory, the set may have it
+/// in part.
+///
+/// ```rust
+/// add_descriptor(alloc, &mut set, &[9, 4, 0, 0, 1, 3, 0, 0, 0])?;
+/// assert_eq!(rt; set.settings.len(), 1);
+/// ```
+///
+/// # Requires
+///
+/// The bytes are as many as their bLength says, and [`next_fault`] finds nothing wrong with them where there is room.
 ///
 /// # Errors
 ///
-/// A growth was refused.
+/// Out of memory.
 pub fn add_descriptor(
     alloc: Global,
     set: &mut Configuration,

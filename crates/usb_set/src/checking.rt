@@ -1,20 +1,42 @@
 //! What the bytes of one descriptor show.
 ghost use Rattle.std.specs.Prelude.{◌≡◌, ◌≤◌, ◌<◌, length, IfSome, IfNone};
-ghost use Rattle.usb_set.specs.Faults.{header_fault, item_fault, total_of};
+ghost use Rattle.usb_set.specs.Faults.{header_fault, is_set_type, item_fault, least_length, total_of};
 ghost use Rattle.usb_set.specs.Building.{has_setting};
 ghost use Rattle.usb_set.specs.inside.Reading.{SplitsDescriptor, first_byte};
 
 use crate::fault::SetWhy;
 use crate::tree::Configuration;
-use usb_base::word_at;
+use usb_base::{descriptor_length, descriptor_type, word_at};
+
+/// Whether it is the type of a set's first descriptor.
+fn is_set_type(kind: u8) -> bool
+    ensures { result ≡ is_set_type kind }
+{
+    matches!(
+        kind,
+        descriptor_type::CONFIGURATION | descriptor_type::OTHER_SPEED_CONFIGURATION
+    )
+}
+
+/// The least bLength of a descriptor of this type.
+fn least_length(kind: u8) -> u8
+    ensures { result ≡ least_length kind }
+{
+    match kind {
+        descriptor_type::INTERFACE => descriptor_length::INTERFACE,
+        descriptor_type::ENDPOINT => descriptor_length::ENDPOINT,
+        descriptor_type::INTERFACE_ASSOCIATION => descriptor_length::INTERFACE_ASSOCIATION,
+        _ => descriptor_length::HEAD,
+    }
+}
 
 /// The first fault that the first descriptor's bytes show, and its place.
 pub(crate) fn fault_in_header(bytes: &[u8]) -> Option<(usize, SetWhy)>
     ensures { result ≡ header_fault bytes.now }
 {
     match bytes {
-        [len, ..] if *len < 9 => Some((0, SetWhy::HeaderLength)),
-        [_, kind, ..] if !matches!(*kind, 2 | 7) => Some((1, SetWhy::HeaderKind)),
+        [len, ..] if *len < descriptor_length::CONFIGURATION => Some((0, SetWhy::HeaderLength)),
+        [_, kind, ..] if !is_set_type(*kind) => Some((1, SetWhy::HeaderKind)),
         [len, _, _, _, ..] if usize::from(word_at(bytes, 2)) < usize::from(*len) => {
             Some((2, SetWhy::Total))
         }
@@ -29,22 +51,19 @@ pub(crate) fn fault_in_item(room: usize, in_setting: bool, bytes: &[u8]) -> Opti
     let [first, more @ ..] = bytes else {
         return None;
     };
-    let len = usize::from(*first);
-    if len < 2 {
+    if *first < descriptor_length::HEAD {
         return Some(SetWhy::ItemLength);
     }
-    if room < len {
+    if room < usize::from(*first) {
         return Some(SetWhy::Over);
     }
     let [kind, ..] = more else {
         return None;
     };
     match *kind {
-        2 | 7 => Some(SetWhy::Nested),
-        4 if len < 9 => Some(SetWhy::ItemShort),
-        5 if len < 7 => Some(SetWhy::ItemShort),
-        11 if len < 8 => Some(SetWhy::ItemShort),
-        5 if !in_setting => Some(SetWhy::Stray),
+        kind if is_set_type(kind) => Some(SetWhy::Nested),
+        kind if *first < least_length(kind) => Some(SetWhy::ItemShort),
+        descriptor_type::ENDPOINT if !in_setting => Some(SetWhy::Stray),
         _ => None,
     }
 }

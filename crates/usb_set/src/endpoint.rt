@@ -1,17 +1,10 @@
 //! What an endpoint descriptor says of its endpoint.
 ghost use Rattle.std.specs.Prelude.{◌≡◌};
-ghost use Rattle.usb_set.specs.Endpoints.{direction_of, number_of, packet_size_of, transactions_of, transfer_type_of};
+ghost use Rattle.usb_base.specs.Directions.{direction_of};
+ghost use Rattle.usb_set.specs.Endpoints.{number_of, packet_size_of, transactions_of, transfer_type_of};
 
 use crate::tree::Endpoint;
-
-/// Which way an endpoint's data goes, as the host sees it (USB 2.0, 9.6.6).
-#[derive(Clone, Copy, Debug, PartialEq, Eq, Hash)]
-pub enum EndpointDirection {
-    /// From the host to the device.
-    Out,
-    /// From the device to the host.
-    In,
-}
+use usb_base::Direction;
 
 /// How an endpoint's data is transferred (USB 2.0, 9.6.6 and 4.7).
 #[derive(Clone, Copy, Debug, PartialEq, Eq, Hash)]
@@ -28,13 +21,10 @@ pub enum TransferType {
 
 impl Endpoint {
     /// Bit 7 of bEndpointAddress. A control endpoint goes both ways, whatever this bit is.
-    pub fn direction(&self) -> EndpointDirection
+    pub fn direction(&self) -> Direction
         ensures { result ≡ direction_of self.now.address }
     {
-        match self.address / 128 {
-            0 => EndpointDirection::Out,
-            _ => EndpointDirection::In,
-        }
+        Direction::of(self.address)
     }
 
     /// Bits 3..0 of bEndpointAddress.
@@ -55,6 +45,7 @@ impl Endpoint {
             _ => TransferType::Interrupt,
         }
     }
+
     /// Bits 10..0 of wMaxPacketSize: the most bytes of data that a packet of the endpoint has.
     ///
     /// ```rust

@@ -37,7 +37,7 @@ pub enum SetWhy {
     Stray,
     /// The bytes ended before the set was whole.
     Truncated,
-    /// Out of memory: a growth was refused.
+    /// Out of memory.
     Memory,
 }
 
@@ -140,7 +140,7 @@ pub enum EncodeFault {
     RawKind,
     /// The set would be over 65,535 bytes.
     TooLong,
-    /// Out of memory: a growth was refused.
+    /// Out of memory.
     Memory,
 }
 

@@ -3,7 +3,7 @@
 //! A device hands out each of its configurations as one run of bytes, the configuration descriptor
 //! first, then interface, endpoint, class and vendor descriptors (USB 2.0, 9.4.3 and 9.6.3 to 9.6.6).
 //! This crate reads such a set in pieces of any length ([`Decoder`]) or from one slice ([`read_set`]),
-//! keeps each of its bytes in plain data ([`Configuration`]), and writes it again ([`encode`]).
+//! and keeps each of its bytes in plain data ([`Configuration`]). usb_set_encoder writes it again.
 //!
 //! - What the bytes of a set are is `specs/Layout.antt`; what is wrong with bytes, and where, is
 //!   `specs/Faults.antt`. The decoder's answers are those of these two, whatever the pieces.
@@ -16,27 +16,23 @@ mod attaching;
 mod building;
 mod checking;
 mod decoder;
-mod encoding;
 mod endpoint;
 mod endpoints;
 mod extras;
 mod fault;
 mod fields;
 pub mod laws;
-mod lengths;
-mod limits;
 mod longest;
 mod owner;
 mod partial;
 mod reader;
+mod set_kind;
 mod tree;
 mod whole_set;
-mod writing;
 
 pub use building::{add_descriptor, begin_set, next_fault};
 pub use decoder::{Decoder, Progress};
-pub use encoding::{encode, encode_onto, refusal};
-pub use endpoint::{EndpointDirection, TransferType};
+pub use endpoint::TransferType;
 pub use endpoints::Endpoints;
 pub use extras::{Associations, Extras};
 pub use fault::{EncodeFault, SetFault, SetWhy};
@@ -46,5 +42,5 @@ pub use fields::{
 };
 pub use owner::Owner;
 pub use tree::{Association, Configuration, Endpoint, Extra, Raw, SetKind, Setting};
-pub use usb_base::Sequence;
+pub use usb_base::{Direction, Sequence};
 pub use whole_set::read_set;

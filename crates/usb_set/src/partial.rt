@@ -109,7 +109,7 @@ impl Partial {
         self.fault_in(bytes)
     }
 
-    /// Adds a whole descriptor. Where a growth is refused it may be added in part.
+    /// Adds a whole descriptor. When out of memory it may be added in part.
     #[inline(always)]
     pub(crate) fn grow(&mut self, alloc: Global, item: &[u8]) -> Result<(), AllocError>
         requires work { InWork self.old }

@@ -53,7 +53,7 @@ pub enum Extra {
 ///
 /// ```rust
 /// // bEndpointAddress 81, bmAttributes 03: interrupt IN endpoint 1.
-/// assert_eq!(rt; (endpoint.direction(), endpoint.number()), (EndpointDirection::In, 1));
+/// assert_eq!(rt; (endpoint.direction(), endpoint.number()), (Direction::In, 1));
 /// assert_eq!(rt; endpoint.transfer_type(), TransferType::Interrupt);
 /// ```
 #[derive(Clone, Debug, Drop, PartialEq, Eq, Hash)]

@@ -1,0 +1,60 @@
+//! Numbers in words.
+ghost use Rattle.std.specs.Prelude.{◌≡◌, ◌++◌, OnOk};
+ghost use Rattle.usb_words.specs.Numbers.{byte_code, count, release, short_byte, word_code};
+
+use crate::text::Text;
+use std::alloc::AllocError;
+
+/// Puts a number and what it counts: `1 byte`, `2 bytes`.
+#[tactic(auto, unfolding(crate::specs::Numbers::count))]
+pub fn put_count(text: &mut Text, number: u64, noun: &str) -> Result<(), AllocError>
+    ensures { OnOk result (text.new ≡ text.old ++ count number noun.now) }
+{
+    text.put_decimal(number)?;
+    text.put(" ")?;
+    text.put(noun)?;
+    text.put(if number == 1 { "" } else { "s" })
+}
+
+/// Puts a code of one byte: `0x81`.
+#[tactic(auto, unfolding(crate::specs::Numbers::byte_code))]
+pub fn put_byte_code(text: &mut Text, code: u8) -> Result<(), AllocError>
+    ensures { OnOk result (text.new ≡ text.old ++ byte_code code) }
+{
+    text.put("0x")?;
+    text.put_digits(&[code])
+}
+
+/// Puts a code of two bytes: `0x0409`.
+#[tactic(auto, unfolding(crate::specs::Numbers::word_code))]
+pub fn put_word_code(text: &mut Text, code: u16) -> Result<(), AllocError>
+    ensures { OnOk result (text.new ≡ text.old ++ word_code code) }
+{
+    text.put("0x")?;
+    text.put_digits(&code.to_be_bytes())
+}
+
+/// Puts a release in binary coded decimal: `2.00` of 0200.
+#[tactic(auto, unfolding(crate::specs::Numbers::release))]
+pub fn put_release(text: &mut Text, number: u16) -> Result<(), AllocError>
+    ensures { OnOk result (text.new ≡ text.old ++ release number) }
+{
+    let [high, low] = number.to_be_bytes();
+    put_short_byte(text, high)?;
+    text.put(".")?;
+    text.put_digits(&[low])
+}
+
+/// Puts a byte in hexadecimal digits, without a leading zero.
+fn put_short_byte(text: &mut Text, byte: u8) -> Result<(), AllocError>
+    ensures { OnOk result (text.new ≡ text.old ++ short_byte byte) }
+{
+    let mut digits = [0; 2];
+    // Two digits are room for one byte.
+    let _ = hex::encode_to_slice([byte], &mut digits);
+    if byte < 16 {
+        text.put_bytes(&digits[1..])
+    } else {
+        text.put_bytes(&digits)
+    }
+}

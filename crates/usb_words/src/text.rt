@@ -1,0 +1,93 @@
+//! A text that grows at its end.
+ghost use Rattle.std.specs.Prelude.{◌≡◌, ◌+◌, ◌*◌, [], ◌++◌, IfSome, OnOk};
+ghost use Rattle.std.specs.Fmt.{decimal};
+ghost use Rattle.hex.specs.Hex.{encode_lower};
+
+use itoa::Buffer;
+use std::alloc::{AllocError, Global};
+use std::marker::Model;
+
+/// A text of printable ASCII that grows at its end. In a contract it is its bytes.
+///
+/// ```rust
+/// let mut text = Text::new(alloc);
+/// text.put("endpoint ")?;
+/// text.put_decimal(2)?;
+/// assert_eq!(rt; text.as_bytes(), b"endpoint 2");
+/// ```
+#[derive(Debug, Drop)]
+pub struct Text {
+    bytes: Vec<u8>,
+}
+
+impl Model for Text {
+    ghost use Rattle.std.specs.Prelude.{ℕ, List};
+
+    ghost Value = { List ℕ };
+
+    ghost view = { λ t. t.bytes.items };
+}
+
+impl Text {
+    /// An empty text.
+    pub fn new(alloc: Global) -> Text
+        ensures { result ≡ [] }
+    {
+        Text {
+            bytes: Vec::new(alloc),
+        }
+    }
+
+    /// Its bytes.
+    pub fn as_bytes(&self) -> &[u8]
+        ensures { result.now ≡ self.now }
+    {
+        &self.bytes
+    }
+
+    /// Puts words as they stand.
+    ///
+    /// # Errors
+    ///
+    /// A growth was refused, here as in all that puts something.
+    pub fn put(&mut self, words: &str) -> Result<(), AllocError>
+        ensures { OnOk result (self.new ≡ self.old ++ words.now) }
+    {
+        self.put_bytes(words.as_bytes())
+    }
+
+    /// Puts characters as they stand.
+    pub(crate) fn put_bytes(&mut self, characters: &[u8]) -> Result<(), AllocError>
+        ensures { OnOk result (self.new ≡ self.old ++ characters.now) }
+    {
+        self.bytes.extend_from_slice(characters)
+    }
+
+    /// Puts a number in decimal digits.
+    pub fn put_decimal(&mut self, number: u64) -> Result<(), AllocError>
+        ensures { OnOk result (self.new ≡ self.old ++ decimal number) }
+    {
+        self.put(Buffer::new().format(number))
+    }
+
+    /// Puts two lower-case hexadecimal digits for each byte.
+    pub fn put_digits(&mut self, bytes: &[u8]) -> Result<(), AllocError>
+        ensures { OnOk result (self.new ≡ self.old ++ encode_lower bytes.now) }
+    {
+        let start = self.bytes.len();
+        let Some(end) = with_digits(start, bytes.len()) else {
+            return Err(AllocError);
+        };
+        self.bytes.resize(end, 0)?;
+        let _ = hex::encode_to_slice(bytes, &mut self.bytes.as_mut_slice()[start..]);
+        Ok(())
+    }
+}
+
+/// A length and two digits more for each of so many bytes, if there is such a length. There is for all
+/// bytes that a memory can hold.
+fn with_digits(len: usize, bytes: usize) -> Option<usize>
+    ensures { IfSome result (λ end. end ≡ len + 2 * bytes) }
+{
+    bytes.checked_mul(2)?.checked_add(len)
+}
