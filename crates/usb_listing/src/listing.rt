@@ -28,7 +28,7 @@ use usb_file_data::{DescriptorFile, Other};
 ///
 /// # Errors
 ///
-/// `Write` where the writer failed, `Memory` where a growth was refused. A front of the listing is
+/// `Write` where the writer failed, `Memory` when out of memory. A front of the listing is
 /// written then, and not all of it.
 pub fn list<W: Write>(alloc: Global, f: &DescriptorFile, w: &mut W) -> Result<(), OutFault>
     ensures ok { OnOk result (Appends (W.contents w.old) (W.contents w.new) (file_lines f.now)) }

@@ -20,7 +20,7 @@ pub enum OutFault {
     /// The writer answered an error, or took none of some bytes.
     #[error("the writer failed")]
     Write,
-    /// A growth was refused.
+    /// Out of memory.
     #[error("out of memory")]
     Memory,
 }

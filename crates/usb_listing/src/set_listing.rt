@@ -29,7 +29,7 @@ const RAW_WIDTHS: [Width; 1] = [Width::One];
 ///
 /// # Errors
 ///
-/// `Write` where the writer failed, `Memory` where a growth was refused. A front of the listing is
+/// `Write` where the writer failed, `Memory` when out of memory. A front of the listing is
 /// written then, and not all of it.
 pub fn list_set<W: Write>(alloc: Global, c: &Configuration, w: &mut W) -> Result<(), OutFault>
     ensures ok { OnOk result (Appends (W.contents w.old) (W.contents w.new) (set_lines c.now)) }

@@ -1,26 +1,28 @@
 -- A listing, walked, is its file, and a text with a fault that fault.
-use Rattle.std.proofs.Common.{◌≡◌, ◌≢◌, ℕ, zero, suc, ◌+◌, ◌≤◌, ◌<◌, ◌==◌, Bool, true, false, cond, List, [], ◌∷◌, ◌++◌, Option, Some, None, Result, Ok, Err, length, refl, ap, sym, ◌∙◌, length-append, arith}
-use Rattle.std.proofs.lemmas.Bool.{lt-ltb, ne_eqb}
+use Rattle.std.proofs.Common.{◌≡◌, ◌≢◌, ℕ, zero, suc, ◌+◌, ◌≤◌, ◌==◌, Bool, true, false, cond, List, [], ◌∷◌, ◌++◌, Option, Some, None, Result, Ok, Err, length, refl, ap, sym, ◌∙◌, length-append, arith}
+use Rattle.std.proofs.lemmas.Bool.{ne_eqb}
 use Rattle.usb_file_data.specs.declared.file.DescriptorFile.{DescriptorFile}
-use Rattle.usb_listing_lines.specs.declared.item.Item.{Item}
-use Rattle.usb_listing_lines.specs.declared.word.Word.{Word}
-use Rattle.usb_listing_lines.specs.Words.{first_word, is_printable, word_in, word_text}
-use Rattle.usb_listing_lines.specs.Item.{Says, item_word}
-use Rattle.usb_listing_lines.specs.inside.Items.{item_of_line}
-use Rattle.usb_listing_lines.proofs.PrintableLemmas.{line_of, line_of-printable, line_of-says}
-use Rattle.usb_listing_lines.proofs.SaysLemmas.{read_is_said, said_is_read, said_word, word_again, word_read}
 use Rattle.usb_listing_reader.specs.declared.fault.ListWhy.{ListWhy}
 use Rattle.usb_listing_reader.specs.declared.fault.ListWhy.TheVariants as whys
-use Rattle.usb_listing_reader.specs.Order.{file_items, length_with, may_stand, set_in_work}
-use Rattle.usb_listing_reader.specs.inside.Growing.{file_and, work_length}
-use Rattle.usb_listing_reader.specs.Listings.{Begins, FirstLine, IsBegun, ListFaulty, Lists, NoLineGoesOn, RestFaulty, is_whole, items_of, lines_of}
-use Rattle.usb_listing_reader.specs.inside.Walking.{Walk, add, add_line, after_line, answer_of, fault_behind, file_end, going, stopped, walk, walk_byte, walk_end}
-use Rattle.usb_listing_reader.proofs.FileLemmas.{file_front, file_whole}
-use Rattle.usb_listing_reader.proofs.LengthLemmas.{with_over, work_is}
-use Rattle.usb_listing_reader.proofs.LessLemmas.{LastLine, front_less}
+use Rattle.usb_listing_reader.specs.declared.word.Word.{Word}
+use Rattle.usb_listing_reader.specs.Words.{first_word, is_printable, word_text}
+use Rattle.usb_listing_reader.specs.Says.{Item, Says, item_word}
+use Rattle.usb_listing_reader.specs.Order.{MayStand, file_items, has_over, items_of}
+use Rattle.usb_listing_reader.specs.Listings.{Begins, FirstLine, IsBegun, ListFaulty, Lists, NoLineGoesOn, RestFaulty, is_whole, lines_of}
+use Rattle.usb_listing_reader.specs.inside.Finding.{word_in}
+use Rattle.usb_listing_reader.specs.inside.Growing.{may_stand}
+use Rattle.usb_listing_reader.specs.inside.Rows.{item_of_line}
+use Rattle.usb_listing_reader.specs.inside.Walking.{Walk, add, add_line, after_line, answer_of, fault_behind, file_end, going, grown, stopped, walk, walk_byte, walk_end}
+use Rattle.usb_listing_reader.proofs.LessLemmas.{Less, less, less_items, may_is, next, over_of}
+use Rattle.usb_listing_reader.proofs.MoreLemmas.{AreOrdered}
+use Rattle.usb_listing_reader.proofs.PrintableLemmas.{line_of-printable}
 use Rattle.usb_listing_reader.proofs.ReadingLemmas.{lines_more}
+use Rattle.usb_listing_reader.proofs.SaysLemmas.{line_of, line_of-says, read_is_said, said_is_read, said_word}
+use Rattle.usb_listing_reader.proofs.StandLemmas.{may_then}
 use Rattle.usb_listing_reader.proofs.StepLemmas.{no_place, no_word, placed}
-use Rattle.usb_listing_reader.proofs.WalkLemmas.{Printable, walk-append, walk_line, walk_stopped, walk_whole}
+use Rattle.usb_listing_reader.proofs.WalkLemmas.{Printable, ordered_of, walk-append, walk_line, walk_stopped, walk_whole}
+use Rattle.usb_listing_reader.proofs.WholeLemmas.{file_begun, file_whole}
+use Rattle.usb_listing_reader.proofs.WordLemmas.{word_again, word_read}
 
 -- ---- the lines of a file so far
 
@@ -30,27 +32,35 @@ said_made s line item says may =
     placed s line (item_word item) (Some item) (ap word_in (said_word line item says) ∙ word_again (item_word item)) may (said_is_read line item says)
 
 -- one line more
-walk_last : (f : DescriptorFile) (l : LastLine f) → walk (going None 0 []) (lines_of l.before) ≡ going l.before (length (items_of l.before)) []
+walk_last : (f : DescriptorFile) → IsBegun (Some f) → (l : Less f) → walk (going None 0 []) (lines_of l.before) ≡ going l.before (length (items_of l.before)) []
     → walk (going None 0 []) (lines_of (Some f)) ≡ going (Some f) (length (file_items f)) []
-walk_last f l before =
+walk_last f begun l before =
     let n = length (items_of l.before) in
     let line = line_of l.item in
     let says = line_of-says l.item l.is_item in
-    let count : n + 1 ≡ length (file_items f) = sym (ap length l.lines ∙ length-append (items_of l.before) (l.item ∷ [])) in
-    ap (walk (going None 0 [])) (lines_more l.before f l.item line l.lines says)
+    let made : add l.before l.item ≡ Ok f = ap (λ (g : DescriptorFile). cond (has_over g) (Err whys.TooLong) (Ok g)) l.grown_is ∙ ap (λ (b : Bool). cond b (Err whys.TooLong) (Ok f)) begun.1 in
+    let count : n + 1 ≡ length (file_items f) = sym (ap length (less_items f l) ∙ length-append (items_of l.before) (l.item ∷ [])) in
+    ap (walk (going None 0 [])) (lines_more l.before f l.item line l.ordered begun.0 (less_items f l) says)
     ∙ walk-append (going None 0 []) (lines_of l.before) (line ++ 10 ∷ [])
     ∙ ap (λ (w : Walk). walk w (line ++ 10 ∷ [])) before
     ∙ walk_whole l.before n line [] (line_of-printable l.item l.is_item)
-    ∙ ap (after_line n) (said_made l.before line l.item says l.may ∙ l.makes)
+    ∙ ap (after_line n) (said_made l.before line l.item says l.may ∙ made)
     ∙ ap (λ (k : ℕ). going (Some f) k []) count
+
+begun_less : (f : DescriptorFile) → IsBegun (Some f) → (l : Less f) → IsBegun l.before
+begun_less f begun l = both l.before l.ordered (l.over begun.1)
+  where
+    both : (s : Option DescriptorFile) → AreOrdered s → over_of s ≡ false → IsBegun s
+    both None h e = tt
+    both (Some g) h e = (h, e)
 
 walk_within : (n : ℕ) (s : Option DescriptorFile) → IsBegun s → length (items_of s) ≤ n → walk (going None 0 []) (lines_of s) ≡ going s (length (items_of s)) []
 walk_within n None begun few = refl
 walk_within zero (Some f) begun few = absurd (omega (arith, few))
 walk_within (suc n) (Some f) begun few =
-    let l = front_less f begun in
-    let count : length (file_items f) ≡ length (items_of l.before) + 1 = ap length l.lines ∙ length-append (items_of l.before) (l.item ∷ []) in
-    walk_last f l (walk_within n l.before l.begun (omega (arith, count, few)))
+    let l = less f begun.0 in
+    let count : length (file_items f) ≡ length (items_of l.before) + 1 = ap length (less_items f l) ∙ length-append (items_of l.before) (l.item ∷ []) in
+    walk_last f begun l (walk_within n l.before (begun_less f begun l) (omega (arith, count, few)))
 
 -- the lines of a file so far, walked, are that file
 pub walk_begun : (s : Option DescriptorFile) → IsBegun s → walk (going None 0 []) (lines_of s) ≡ going s (length (items_of s)) []
@@ -70,7 +80,7 @@ end_whole f n e = ap (λ (b : Bool). cond b (Ok f) (Err (fault_behind n whys.Mis
 pub answer_listing : (text : List ℕ) (f : DescriptorFile) → Lists text f → answer_of text ≡ Ok f
 unfolding answer_of
 answer_listing text f l =
-    ap walk_end (ap (walk (going None 0 [])) l.lines ∙ walk_begun (Some f) (file_front f l.bytes l.file))
+    ap walk_end (ap (walk (going None 0 [])) l.lines ∙ walk_begun (Some f) (file_begun f l.bytes l.file))
     ∙ end_whole f (length (file_items f)) (file_whole f l.bytes l.file)
 
 -- ---- a fault
@@ -109,36 +119,41 @@ no_item_in : (line : List ℕ) → ((item : Item) → Says line item → ⊥) �
 no_item_in line none None e = refl
 no_item_in line none (Some item) e = absurd (none item (read_is_said line item e))
 
-too_long : (f : DescriptorFile) (line : List ℕ) (item : Item) → Says line item → may_stand (Some f) (item_word item) ≡ true → 65535 < length_with item (set_in_work f.sets f.other f.strings)
-    → add (Some f) item ≡ Err whys.TooLong
-too_long f line item says may over =
-    let same = work_is f item says.is_item.alone may in
-    let more = with_over item (set_in_work f.sets f.other f.strings) over in
-    ap (λ (b : Bool). cond b (Err whys.TooLong) (Ok (file_and item f))) (lt-ltb 65535 (work_length (file_and item f)) (omega (arith, same, more)))
+no_stand : (s : Option DescriptorFile) (w : Word) → IsBegun s → (MayStand s w → ⊥) → may_stand s w ≡ false
+no_stand s w begun none = cases (may_stand s w) refl
+  where
+    cases : (b : Bool) → may_stand s w ≡ b → b ≡ false
+    cases true e = absurd (none (may_then s w (ordered_of s begun) e))
+    cases false e = refl
 
 end_missing : (s : Option DescriptorFile) (n : ℕ) → is_whole s ≡ false → file_end s n ≡ Err (fault_behind n whys.Missing)
 end_missing None n e = refl
 end_missing (Some f) n e = ap (λ (b : Bool). cond b (Ok f) (Err (fault_behind n whys.Missing))) e
 
-fault_told : (s : Option DescriptorFile) (n : ℕ) (rest : List ℕ) (why : ListWhy) → RestFaulty s rest why → walk_end (walk (going s n []) rest) ≡ Err (fault_behind n why)
-fault_told s n rest whys.Line (line, more, some, parts, print, end) =
+fault_told : (s : Option DescriptorFile) (n : ℕ) (rest : List ℕ) (why : ListWhy) → IsBegun s → RestFaulty s rest why → walk_end (walk (going s n []) rest) ≡ Err (fault_behind n why)
+fault_told s n rest whys.Line begun (line, more, some, parts, print, end) =
     ap (λ (xs : List ℕ). walk_end (walk (going s n []) xs)) parts ∙ line_stops s n line more (λ e. some (parts ∙ e)) print end
-fault_told s n rest whys.Word (line, more, first, none) =
-    stops s n rest line more whys.Word first (no_word s line (no_word_in line none (word_in (first_word line)) refl))
-fault_told s n rest whys.Place (line, more, w, first, word, may) =
-    stops s n rest line more whys.Place first (no_place s line w (ap word_in word ∙ word_again w) may)
-fault_told s n rest whys.Field (line, more, w, first, word, may, none) =
-    stops s n rest line more whys.Field first (placed s line w None (ap word_in word ∙ word_again w) may (no_item_in line none (item_of_line line) refl))
-fault_told s n rest whys.TooLong (line, more, item, f, first, is, says, may, over) =
-    stops s n rest line more whys.TooLong first (said_made s line item says may ∙ ap (λ (z : Option DescriptorFile). add z item) is
-    ∙ too_long f line item says (ap (λ (z : Option DescriptorFile). may_stand z (item_word item)) (sym is) ∙ may) over)
-fault_told s n rest whys.Missing (none, due) = ap (λ (xs : List ℕ). walk_end (walk (going s n []) xs)) none ∙ end_missing s n due
-fault_told s n rest whys.Memory h = absurd h
+fault_told s n rest whys.Word begun h =
+    stops s n rest h.line h.more whys.Word h.first (no_word s h.line (no_word_in h.line h.fault (word_in (first_word h.line)) refl))
+fault_told s n rest whys.Place begun h =
+    let w = h.fault.0 in
+    stops s n rest h.line h.more whys.Place h.first (no_place s h.line w (ap word_in h.fault.1 ∙ word_again w) (no_stand s w begun h.fault.2))
+fault_told s n rest whys.Field begun h =
+    let w = h.fault.0 in
+    stops s n rest h.line h.more whys.Field h.first
+    (placed s h.line w None (ap word_in h.fault.1 ∙ word_again w) (may_is s w (ordered_of s begun) h.fault.2) (no_item_in h.line h.fault.3 (item_of_line h.line) refl))
+fault_told s n rest whys.TooLong begun h =
+    let item = h.fault.0 in
+    let is = next s item h.fault.1 (ordered_of s begun) h.fault.3 in
+    stops s n rest h.line h.more whys.TooLong h.first
+    (said_made s h.line item h.fault.2 is.may ∙ ap (λ (b : Bool). cond b (Err whys.TooLong) (Ok (grown s item))) (ap has_over is.is ∙ h.fault.4))
+fault_told s n rest whys.Missing begun (none, due) = ap (λ (xs : List ℕ). walk_end (walk (going s n []) xs)) none ∙ end_missing s n due
+fault_told s n rest whys.Memory begun h = absurd h.fault
 
 pub answer_faulty : (text : List ℕ) (line : ℕ) (why : ListWhy) → ListFaulty text line why → answer_of text ≡ Err (record { line = line; why = why })
 unfolding answer_of
 answer_faulty text line why l =
     let b = l.begins in
     ap walk_end (walk_front text l.so_far l.rest line b)
-    ∙ fault_told l.so_far (length (items_of l.so_far)) l.rest why l.fault
+    ∙ fault_told l.so_far (length (items_of l.so_far)) l.rest why b.begun l.fault
     ∙ ap (λ (k : ℕ). Err (record { line = k; why = why })) (sym b.line_is)

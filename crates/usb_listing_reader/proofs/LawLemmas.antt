@@ -7,16 +7,17 @@ use Rattle.std.proofs.lemmas.List.Folds.{list_all-append}
 use Rattle.usb_file_data.specs.declared.file.DescriptorFile.{DescriptorFile}
 use Rattle.usb_file_data.specs.File.{file_bytes}
 use Rattle.usb_listing.specs.Listing.{file_lines}
-use Rattle.usb_listing_lines.specs.Words.{is_printable}
+use Rattle.usb_listing_reader.specs.Words.{is_printable}
 use Rattle.usb_listing_reader.specs.declared.fault.ListFault.{ListFault}
 use Rattle.usb_listing_reader.specs.declared.fault.ListWhy.{ListWhy}
 use Rattle.usb_listing_reader.specs.declared.fault.ListWhy.TheVariants as whys
 use Rattle.usb_listing_reader.specs.ListingOrFault.{ListingOrFault, is_faulty, is_listing}
-use Rattle.usb_listing_reader.specs.Listings.{IsBegun, ListFaulty, ListRefused, Lists, RestFaulty, is_whole, items_of, lines_of, IsLineStart}
+use Rattle.usb_listing_reader.specs.Listings.{IsBegun, IsLineStart, ListFaulty, ListRefused, Lists, RestFaulty, is_whole, lines_of}
+use Rattle.usb_listing_reader.specs.Order.{items_of}
 use Rattle.usb_listing_reader.specs.inside.Walking.{Walk, add_line, after_line, answer_of, going, stopped, walk, walk_byte, fault_behind, walk_end}
 use Rattle.usb_listing_reader.proofs.AnswerLemmas.{answer_faulty, answer_listing, walk_front}
 use Rattle.usb_listing_reader.proofs.ReadingLemmas.{lasting, lines_more}
-use Rattle.usb_listing_reader.proofs.WalkLemmas.{Lasts, Makes, Printable, makes}
+use Rattle.usb_listing_reader.proofs.WalkLemmas.{Lasts, Makes, Printable, makes, ordered_of}
 use Rattle.usb_listing_reader.proofs.WholeLemmas.{whole_file}
 
 -- ---- at most one
@@ -55,7 +56,7 @@ fault_behind_lines text s n rest why begun parts count fault = record {
   fault = fault;
 }
 
--- a fault that lasts is no want of memory
+-- a fault that lasts is not out of memory
 lasts_on : (s : Option DescriptorFile) (rest t : List ℕ) (why : ListWhy) → Lasts s rest why → RestFaulty s (rest ++ t) why
 lasts_on s rest t whys.Line h = lasting s rest t whys.Line h
 lasts_on s rest t whys.Word h = lasting s rest t whys.Word h
@@ -63,7 +64,7 @@ lasts_on s rest t whys.Place h = lasting s rest t whys.Place h
 lasts_on s rest t whys.Field h = lasting s rest t whys.Field h
 lasts_on s rest t whys.TooLong h = lasting s rest t whys.TooLong h
 lasts_on s rest t whys.Missing h = absurd h
-lasts_on s rest t whys.Memory h = absurd h
+lasts_on s rest t whys.Memory h = absurd h.fault
 
 longer : (text front line more : List ℕ) → text ≡ front ++ line → text ++ more ≡ front ++ (line ++ more)
 longer text front line more e = ap (λ (ys : List ℕ). ys ++ more) e ∙ append_assoc front line more
@@ -73,7 +74,7 @@ walked_line : (text : List ℕ) (s : Option DescriptorFile) (n : ℕ) (line : Li
     → (r : Result DescriptorFile ListWhy) → Makes s line r → Walked (text ++ 10 ∷ []) (after_line n r)
 walked_line text s n line parts begun count (Ok f) (front, item, items, says) =
     let more : text ++ 10 ∷ [] ≡ file_lines f ++ [] =
-    longer text (lines_of s) line (10 ∷ []) parts ∙ sym (lines_more s f item line items says) ∙ sym (append-nil (file_lines f)) in
+    longer text (lines_of s) line (10 ∷ []) parts ∙ sym (lines_more s f item line (ordered_of s begun) front.0 items says) ∙ sym (append-nil (file_lines f)) in
     let one : length (items_of (Some f)) ≡ length (items_of s) + 1 = ap length items ∙ length-append (items_of s) (item ∷ []) in
     (front, more, refl, ap (λ (k : ℕ). k + 1) count ∙ sym one)
 walked_line text s n line parts begun count (Err why) h = λ t.
@@ -128,7 +129,7 @@ walked_end text (going (Some f) n []) (begun, parts, print, count) = cases (is_w
 pub listing_or_fault : (text : List ℕ) → ListingOrFault text
 listing_or_fault text = walked_end text (walk (going None 0 []) text) (walked_all [] text (going None 0 []) (tt, refl, refl, refl))
 
--- ---- a listing is refused for want of memory alone
+-- ---- a listing is refused out of memory alone
 
 want_of_memory : (text : List ℕ) (f : DescriptorFile) (line : ℕ) (why : ListWhy) → Lists text f → ListRefused text line why → why ≡ whys.Memory
 want_of_memory text f line whys.Line l h = absurd (not_both text f line whys.Line l h)

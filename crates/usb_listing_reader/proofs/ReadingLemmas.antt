@@ -1,51 +1,54 @@
 -- A listing read line by line.
 use Rattle.std.proofs.Common.{◌≡◌, ◌≢◌, inl, inr, ℕ, ◌+◌, ◌<◌, true, false, List, [], ◌∷◌, ◌++◌, Option, Some, None, Result, Ok, Err, length, refl, ap, sym, subst, ◌∙◌, append_assoc, append-nil, length-append, arith, codes}
 use Rattle.std.specs.List.{flat_map}
-use Rattle.usb_file_data.specs.declared.file.DescriptorFile.{DescriptorFile}
-use Rattle.usb_file_data.specs.File.{file_bytes}
-use Rattle.usb_listing_lines.specs.declared.item.Item.{Item}
-use Rattle.usb_listing_lines.specs.Item.{Says, item_line}
-use Rattle.usb_listing.specs.Listing.{file_lines}
-use Rattle.usb_listing_reader.specs.declared.draft.Draft.{Draft}
 use Rattle.std.specs.Prelude.{IfErr, IfOk}
 use Rattle.std.specs.Result.{IsErrAnd}
+use Rattle.usb_file_data.specs.declared.file.DescriptorFile.{DescriptorFile}
+use Rattle.usb_file_data.specs.File.{file_bytes}
+use Rattle.usb_set.proofs.Growth.{flat_map-snoc}
+use Rattle.usb_listing.specs.Listing.{file_lines}
+use Rattle.usb_listing_reader.specs.declared.draft.Draft.{Draft}
 use Rattle.usb_listing_reader.specs.declared.fault.ListFault.{ListFault}
 use Rattle.usb_listing_reader.specs.declared.fault.ListWhy.{ListWhy}
 use Rattle.usb_listing_reader.specs.declared.fault.ListWhy.TheVariants as whys
-use Rattle.usb_listing_reader.specs.Order.{file_items}
-use Rattle.usb_listing_reader.specs.Listings.{Begins, FirstLine, IsBegun, ListRefused, Lists, is_whole, items_of, lines_of}
-use Rattle.usb_listing_reader.specs.inside.Drafts.{Reading, Refuses, TakesLine, Told, so_far}
+use Rattle.usb_listing_reader.specs.Says.{Item, Says, item_line}
+use Rattle.usb_listing_reader.specs.Order.{IsOrdered, file_items, items_of}
+use Rattle.usb_listing_reader.specs.Listings.{Begins, FirstFaulty, FirstLine, IsBegun, ListRefused, Lists, is_whole, lines_of}
+use Rattle.usb_listing_reader.specs.inside.Drafts.{AreHeld, Reading, Stops, TakesLine, Told, so_far}
 use Rattle.usb_listing_reader.specs.inside.Walking.{add_line}
-use Rattle.usb_listing_reader.proofs.OrderLemmas.{flat_map-push}
 use Rattle.usb_listing_reader.proofs.LineLemmas.{lines_are}
-use Rattle.usb_listing_reader.proofs.WalkLemmas.{Lasts, Makes, makes}
+use Rattle.usb_listing_reader.proofs.MoreLemmas.{AreOrdered}
+use Rattle.usb_listing_reader.proofs.WalkLemmas.{Lasts, Makes, makes, ordered_of}
 use Rattle.usb_listing_reader.proofs.WholeLemmas.{whole_file}
 
-lines_of-are : (s : Option DescriptorFile) → lines_of s ≡ flat_map item_line (items_of s)
-lines_of-are None = refl
-lines_of-are (Some f) = lines_are f
+lines_of-are : (s : Option DescriptorFile) → AreOrdered s → lines_of s ≡ flat_map item_line (items_of s)
+lines_of-are None h = refl
+lines_of-are (Some f) h = lines_are f h
+
+pub begun_of : (d : Option Draft) → AreHeld d → IsBegun (so_far d)
+begun_of None h = tt
+begun_of (Some d) h = h.begun
 
 pub reading_none : (text : List ℕ) (d : Option Draft) → d ≡ None → Reading text d text 1
 reading_none text d e = subst (λ (x : Option Draft). Reading text x text 1) (sym e) (record {
   begins = record { begun = tt; parts = refl; line_is = refl };
-  counted = tt;
-  work = tt;
+  holds = tt;
   few = omega arith;
 })
 
 -- the line fits behind those before it
-pub lines_more : (s : Option DescriptorFile) (f : DescriptorFile) (item : Item) (line : List ℕ) → file_items f ≡ items_of s ++ item ∷ [] → Says line item
+pub lines_more : (s : Option DescriptorFile) (f : DescriptorFile) (item : Item) (line : List ℕ) → AreOrdered s → IsOrdered f → file_items f ≡ items_of s ++ item ∷ [] → Says line item
     → file_lines f ≡ lines_of s ++ (line ++ codes "\n")
-lines_more s f item line e says =
-    lines_are f ∙ ap (flat_map item_line) e ∙ flat_map-push item_line (items_of s) item
-    ∙ ap (λ (xs : List ℕ). xs ++ item_line item) (sym (lines_of-are s)) ∙ ap (λ (xs : List ℕ). lines_of s ++ xs) (sym says.text)
+lines_more s f item line hs hf e says =
+    lines_are f hf ∙ ap (flat_map item_line) e ∙ flat_map-snoc item_line (items_of s) item
+    ∙ ap (λ (xs : List ℕ). xs ++ item_line item) (sym (lines_of-are s hs)) ∙ ap (λ (xs : List ℕ). lines_of s ++ xs) (sym says.text)
 
 begins_more : (text rest line more : List ℕ) (s : Option DescriptorFile) (f : DescriptorFile) (n : ℕ) → Begins text s rest n → FirstLine rest line more
     → Makes s line (Ok f) → Begins text (Some f) more (n + 1)
 begins_more text rest line more s f n b first (front, item, items, says) =
     let p : text ≡ file_lines f ++ more =
     b.parts ∙ ap (λ (xs : List ℕ). lines_of s ++ xs) (first.parts ∙ sym (append_assoc line (codes "\n") more))
-    ∙ sym (append_assoc (lines_of s) (line ++ codes "\n") more) ∙ ap (λ (xs : List ℕ). xs ++ more) (sym (lines_more s f item line items says)) in
+    ∙ sym (append_assoc (lines_of s) (line ++ codes "\n") more) ∙ ap (λ (xs : List ℕ). xs ++ more) (sym (lines_more s f item line (ordered_of s b.begun) front.0 items says)) in
     let count : length (file_items f) ≡ length (items_of s) + 1 = ap length items ∙ length-append (items_of s) (item ∷ []) in
     let before = b.line_is in
     record { begun = front; parts = p; line_is = omega (arith, count, before) }
@@ -55,14 +58,13 @@ pub reading_next : (text rest more : List ℕ) (old new : Option Draft) (n : ℕ
 reading_next text rest more old new n r t shorter =
     let s = so_far old in
     let made = makes s t.line r.begins.begun t.first.printable in
-    let f = t.stepped.file in
-    let made_f : Makes s t.line (Ok f) = subst (Makes s t.line) t.stepped.made made in
+    let f = t.drafted.file in
+    let made_f : Makes s t.line (Ok f) = subst (Makes s t.line) t.drafted.made made in
     let b = begins_more text rest t.line more s f n r.begins t.first made_f in
     let few = r.few in
     record {
-      begins = subst (λ x. Begins text x more (n + 1)) (sym t.stepped.is) b;
-      counted = t.stepped.counted;
-      work = t.work;
+      begins = subst (λ x. Begins text x more (n + 1)) (sym t.drafted.is) b;
+      holds = t.drafted.holds;
       few = omega (arith, few, shorter);
     }
 
@@ -70,6 +72,9 @@ reading_next text rest more old new n r t shorter =
 
 first_longer : (rest line more t : List ℕ) → FirstLine rest line more → FirstLine (rest ++ t) line (more ++ t)
 first_longer rest line more t f = record { parts = ap (λ (xs : List ℕ). xs ++ t) f.parts ∙ append_assoc line (10 ∷ more) t; printable = f.printable }
+
+first_lasts : (s : Option DescriptorFile) (rest t : List ℕ) (why : ListWhy) → FirstFaulty s rest why → FirstFaulty s (rest ++ t) why
+first_lasts s rest t why h = record { line = h.line; more = h.more ++ t; first = first_longer rest h.line h.more t h.first; fault = h.fault }
 
 pub lasting : (s : Option DescriptorFile) (rest t : List ℕ) (why : ListWhy) → Lasts s rest why → Told s (rest ++ t) why
 lasting s rest t whys.Line (line, more, x, parts, print, bad, other) =
@@ -80,14 +85,14 @@ lasting s rest t whys.Line (line, more, x, parts, print, bad, other) =
     some_behind : (line : List ℕ) (x : ℕ) (more : List ℕ) → line ++ x ∷ more ≡ [] → ⊥
     some_behind [] x more e = cc
     some_behind (y ∷ line) x more e = cc
-lasting s rest t whys.Word (line, more, first, none) = (line, more ++ t, first_longer rest line more t first, none)
-lasting s rest t whys.Place (line, more, w, first, word, may) = (line, more ++ t, w, first_longer rest line more t first, word, may)
-lasting s rest t whys.Field (line, more, w, first, word, may, none) = (line, more ++ t, w, first_longer rest line more t first, word, may, none)
-lasting s rest t whys.TooLong (line, more, item, f, first, is, says, may, over) = (line, more ++ t, item, f, first_longer rest line more t first, is, says, may, over)
+lasting s rest t whys.Word h = first_lasts s rest t whys.Word h
+lasting s rest t whys.Place h = first_lasts s rest t whys.Place h
+lasting s rest t whys.Field h = first_lasts s rest t whys.Field h
+lasting s rest t whys.TooLong h = first_lasts s rest t whys.TooLong h
 lasting s rest t whys.Missing h = absurd h
 lasting s rest t whys.Memory h = tt
 
-pub told_line : (s : Option DescriptorFile) (rest line more : List ℕ) (why : ListWhy) → IsBegun s → FirstLine rest line more → Refuses (add_line s line) why → Told s rest why
+pub told_line : (s : Option DescriptorFile) (rest line more : List ℕ) (why : ListWhy) → IsBegun s → FirstLine rest line more → Stops (add_line s line) why → Told s rest why
 told_line s rest line more why begun first (inl memory) = subst (Told s rest) (sym memory) tt
 told_line s rest line more why begun first (inr refused) =
     let made : Lasts s (line ++ 10 ∷ []) why = subst (Makes s line) refused (makes s line begun first.printable) in

@@ -1,27 +1,23 @@
 -- A listing read byte by byte: what is so of the bytes so far.
-use Rattle.std.proofs.Common.{◌≡◌, ◌≢◌, ℕ, ◌&&◌, ltb, Bool, true, false, cond, List, [], ◌∷◌, ◌++◌, Option, Some, None, unwrap_or, Result, Ok, Err, refl, ap, sym, ◌∙◌, append_assoc, append-nil, arith}
+use Rattle.std.proofs.Common.{◌≡◌, ◌≢◌, ℕ, ◌&&◌, Bool, true, false, cond, List, [], ◌∷◌, ◌++◌, Option, Some, None, unwrap_or, Result, Ok, Err, refl, ap, sym, ◌∙◌, append_assoc, append-nil}
 use Rattle.std.specs.List.{list_all}
-use Rattle.std.proofs.lemmas.Bool.{ltb-false, ltb-true}
-use Rattle.usb_set.specs.declared.tree.SetKind.{SetKind}
-use Rattle.usb_set.specs.declared.tree.SetKind.TheVariants as kinds
-use Rattle.usb_set.specs.declared.tree.Extra.TheVariants as extras
 use Rattle.usb_file_data.specs.declared.file.DescriptorFile.{DescriptorFile}
-use Rattle.usb_listing_lines.specs.declared.item.Item.{Item}
-use Rattle.usb_listing_lines.specs.declared.item.Item.TheVariants as items
-use Rattle.usb_listing_lines.specs.declared.word.Word.{Word}
-use Rattle.usb_listing_lines.specs.Words.{first_word, is_printable, word_in, word_text}
-use Rattle.usb_listing_lines.specs.Item.{Says, item_word, set_word}
-use Rattle.usb_listing_lines.specs.inside.Items.{item_of_line}
-use Rattle.usb_listing_lines.proofs.SaysLemmas.{read_is_said, said_is_read, said_word, word_again, word_read}
 use Rattle.usb_listing_reader.specs.declared.fault.ListWhy.{ListWhy}
 use Rattle.usb_listing_reader.specs.declared.fault.ListWhy.TheVariants as whys
-use Rattle.usb_listing_reader.specs.Order.{file_items, may_stand, set_in_work}
-use Rattle.usb_listing_reader.specs.inside.Growing.{file_and, work_length}
-use Rattle.usb_listing_reader.specs.Listings.{FirstLine, IsBegun, IsFront, RestFaulty, items_of}
-use Rattle.usb_listing_reader.specs.inside.Walking.{Walk, add, add_item, add_line, add_word, after_line, going, stopped, walk, walk_byte}
-use Rattle.usb_listing_reader.proofs.FrontLemmas.{front_first, front_more}
-use Rattle.usb_listing_reader.proofs.LengthLemmas.{over_with, work_is}
-use Rattle.usb_listing_reader.proofs.LessLemmas.{short_work}
+use Rattle.usb_listing_reader.specs.declared.word.Word.{Word}
+use Rattle.usb_listing_reader.specs.Words.{first_word, is_printable, word_text}
+use Rattle.usb_listing_reader.specs.Says.{Item, Says, item_word}
+use Rattle.usb_listing_reader.specs.Order.{file_items, has_over, items_of}
+use Rattle.usb_listing_reader.specs.Listings.{FirstLine, IsBegun, RestFaulty}
+use Rattle.usb_listing_reader.specs.inside.Finding.{word_in}
+use Rattle.usb_listing_reader.specs.inside.Growing.{may_stand}
+use Rattle.usb_listing_reader.specs.inside.Rows.{item_of_line}
+use Rattle.usb_listing_reader.specs.inside.Walking.{Walk, add, add_item, add_line, add_word, after_line, going, grown, stopped, walk, walk_byte}
+use Rattle.usb_listing_reader.proofs.LessLemmas.{may_is}
+use Rattle.usb_listing_reader.proofs.MoreLemmas.{AreOrdered, more}
+use Rattle.usb_listing_reader.proofs.SaysLemmas.{read_is_said, said_is_read, said_word}
+use Rattle.usb_listing_reader.proofs.StandLemmas.{may_then}
+use Rattle.usb_listing_reader.proofs.WordLemmas.{word_again, word_read}
 
 abbrev pub Printable : List ℕ → Type 0
 Printable line = list_all is_printable line ≡ true
@@ -78,7 +74,7 @@ Lasts s rest why = RestFaulty s rest why
 
 -- the line made this of it: a front with its descriptor, or a fault that lasts
 abbrev pub Makes : Option DescriptorFile → List ℕ → Result DescriptorFile ListWhy → Type 0
-Makes s line (Ok f) = IsFront f × (item : Item) × (file_items f ≡ items_of s ++ item ∷ []) × Says line item
+Makes s line (Ok f) = IsBegun (Some f) × (item : Item) × (file_items f ≡ items_of s ++ item ∷ []) × Says line item
 Makes s line (Err why) = Lasts s (line ++ 10 ∷ []) why
 
 whole : (line : List ℕ) → Printable line → FirstLine (line ++ 10 ∷ []) line []
@@ -90,53 +86,45 @@ same_word line item w says first =
     let is : Some (item_word item) ≡ Some w = sym (word_again (item_word item)) ∙ ap word_in (sym (said_word line item says) ∙ first) ∙ word_again w in
     ap (λ (o : Option Word). unwrap_or o w) is
 
-makes_first : (line : List ℕ) (item : Item) → Says line item → may_stand None (item_word item) ≡ true → Makes None line (add None item)
-makes_first line (items.Device d) says may = (front_first d says.is_item, items.Device d, refl, says)
-makes_first line (items.Set c) says may = absurd (by_kind c.kind may)
-  where
-    by_kind : (k : SetKind) → may_stand None (set_word k) ≡ true → ⊥
-    by_kind kinds.Configuration h = cc
-    by_kind kinds.OtherSpeed h = cc
-makes_first line (items.Interface s) says may = absurd (let h = may in cc)
-makes_first line (items.Endpoint e) says may = absurd (let h = may in cc)
-makes_first line (items.Extra (extras.Raw r)) says may = absurd (let h = may in cc)
-makes_first line (items.Extra (extras.Association a)) says may = absurd (let h = may in cc)
-makes_first line (items.Qualifier q) says may = absurd (let h = may in cc)
-makes_first line (items.Languages us) says may = absurd (let h = may in cc)
-makes_first line (items.String us) says may = absurd (let h = may in cc)
-
-makes_next : (f : DescriptorFile) (line : List ℕ) (item : Item) → IsFront f → Printable line → Says line item → may_stand (Some f) (item_word item) ≡ true
-    → Makes (Some f) line (add (Some f) item)
-makes_next f line item front print says may = cases (ltb 65535 (work_length (file_and item f))) refl
-  where
-    cases : (b : Bool) → ltb 65535 (work_length (file_and item f)) ≡ b → Makes (Some f) line (cond b (Err whys.TooLong) (Ok (file_and item f)))
-    cases true e =
-        let over = ltb-true 65535 (work_length (file_and item f)) e in
-        let same = work_is f item says.is_item.alone may in
-        (line, [], item, f, whole line print, refl, says, may, over_with item (set_in_work f.sets f.other f.strings) (short_work f front) (omega (arith, over, same)))
-    cases false e =
-        let m = front_more f item (record { front = front; is_item = says.is_item; may = may; few = ltb-false _ _ e }) in
-        (m.is_front, item, m.lines, says)
+pub ordered_of : (s : Option DescriptorFile) → IsBegun s → AreOrdered s
+ordered_of None h = tt
+ordered_of (Some f) h = h.0
 
 makes_said : (s : Option DescriptorFile) (line : List ℕ) (item : Item) → IsBegun s → Printable line → Says line item → may_stand s (item_word item) ≡ true → Makes s line (add s item)
-makes_said None line item begun print says may = makes_first line item says may
-makes_said (Some f) line item begun print says may = makes_next f line item begun print says may
+makes_said s line item begun print says may = cases (has_over (grown s item)) refl
+  where
+    cases : (b : Bool) → has_over (grown s item) ≡ b → Makes s line (cond b (Err whys.TooLong) (Ok (grown s item)))
+    cases true e = let m = more s item (ordered_of s begun) says.is_item may in record { line = line; more = []; first = whole line print; fault = (item, grown s item, says, m, e) }
+    cases false e = let m = more s item (ordered_of s begun) says.is_item may in ((m.ordered, e), item, m.items, says)
 
 makes_item : (s : Option DescriptorFile) (line : List ℕ) (w : Word) → IsBegun s → Printable line → first_word line ≡ word_text w → may_stand s w ≡ true
     → (found : Option Item) → item_of_line line ≡ found → Makes s line (add_item s found)
-makes_item s line w begun print first may None e =
-    (line, [], w, whole line print, first, may, λ item says. let read = sym e ∙ said_is_read line item says in cc)
+makes_item s line w begun print first may None e = record {
+  line = line;
+  more = [];
+  first = whole line print;
+  fault = (w, first, may_then s w (ordered_of s begun) may, λ item says. let read = sym e ∙ said_is_read line item says in cc);
+}
 makes_item s line w begun print first may (Some item) e =
     let says = read_is_said line item e in
     makes_said s line item begun print says (ap (may_stand s) (same_word line item w says first) ∙ may)
 
 makes_word : (s : Option DescriptorFile) (line : List ℕ) → IsBegun s → Printable line → (o : Option Word) → word_in (first_word line) ≡ o → Makes s line (add_word s o (item_of_line line))
-makes_word s line begun print None e =
-    (line, [], whole line print, λ word first. let found = sym e ∙ ap word_in first ∙ word_again word in cc)
+makes_word s line begun print None e = record {
+  line = line;
+  more = [];
+  first = whole line print;
+  fault = λ word first. let found = sym e ∙ ap word_in first ∙ word_again word in cc;
+}
 makes_word s line begun print (Some w) e = cases (may_stand s w) refl
   where
     cases : (b : Bool) → may_stand s w ≡ b → Makes s line (cond b (add_item s (item_of_line line)) (Err whys.Place))
-    cases false em = (line, [], w, whole line print, word_read (first_word line) w e, em)
+    cases false em = record {
+      line = line;
+      more = [];
+      first = whole line print;
+      fault = (w, word_read (first_word line) w e, λ m. let may = sym em ∙ may_is s w (ordered_of s begun) m in cc);
+    }
     cases true em = makes_item s line w begun print (word_read (first_word line) w e) em (item_of_line line) refl
 
 pub makes : (s : Option DescriptorFile) (line : List ℕ) → IsBegun s → Printable line → Makes s line (add_line s line)

@@ -1,4 +1,6 @@
 pub mod Numbers
+pub mod Words
+pub mod Says
 pub mod Order
 pub mod Listings
 pub mod ListingOrFault

@@ -1,4 +1,9 @@
 -- What no public contract cites.
+pub mod Finding
+pub mod Digits
+pub mod Fields
+pub mod Units
+pub mod Rows
 pub mod Growing
 pub mod Walking
 pub mod Drafts

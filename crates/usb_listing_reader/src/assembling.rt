@@ -1,12 +1,12 @@
 //! A listing, read line by line.
 ghost use Rattle.std.specs.Prelude.{◌≡◌, ◌≢◌, ◌<◌, [], if◌then◌else◌, not, IfErr, IfNone, IfOk, IfSome, Some, false, length, true};
 ghost use Rattle.std.specs.List.{list_all};
-ghost use Rattle.usb_listing_lines.specs.Words.{is_printable};
+ghost use Rattle.usb_listing_reader.specs.Words.{is_printable};
 ghost use Rattle.usb_file_data.specs.File.{has_wrong_count, is_other_miscounted};
-ghost use Rattle.usb_listing_reader.specs.Listings.{IsBegun, IsFront, ListRefused, Lists, is_whole};
-ghost use Rattle.usb_listing_reader.specs.inside.Drafts.{AreCounted, Counted, HasWork, Reading, TakesLine, Told, so_far};
+ghost use Rattle.usb_listing_reader.specs.Listings.{ListRefused, Lists, is_whole};
+ghost use Rattle.usb_listing_reader.specs.inside.Drafts.{AreHeld, Holds, Reading, TakesLine, Told, so_far};
 ghost use Rattle.usb_file_data.specs.declared.file.DescriptorFile.{DescriptorFile};
-ghost use Rattle.usb_listing_reader.specs.inside.Lines.{Cut, HasNoFeed, has_all_strings};
+ghost use Rattle.usb_listing_reader.specs.inside.Lines.{Cut, HasNo, has_all_strings};
 ghost use Rattle.usb_listing_reader.specs.declared.fault.ListWhy.TheVariants as whys;
 
 use crate::draft::Draft;
@@ -33,9 +33,9 @@ fn are_printable(line: &[u8]) -> bool
 /// What stands before the first line feed, and behind it.
 #[tactic(auto, using(crate::proofs::FeedLemmas::feed_found, crate::proofs::FeedLemmas::feed_nowhere))]
 fn cut_line(text: &[u8]) -> Option<(&[u8], &[u8])>
-    ensures some { IfSome result (λ p. Cut text.now p.0.now p.1.now) }
+    ensures some { IfSome result (λ p. Cut 10 text.now p.0.now p.1.now) }
     ensures shorter { IfSome result (λ p. length p.1.now < length text.now) }
-    ensures none { IfNone result (HasNoFeed text.now) }
+    ensures none { IfNone result (HasNo 10 text.now) }
 {
     match memchr(b'\n', text) {
         Some(end) => Some((&text[..end], &text[end + 1..])),
@@ -62,9 +62,7 @@ fn read_next<'a>(
     text: &'a [u8],
     line: usize,
 ) -> Result<&'a [u8], ListFault>
-    requires counted { AreCounted draft.old }
-    requires work { HasWork draft.old }
-    requires begun { IsBegun (so_far draft.old) }
+    requires holds { AreHeld draft.old }
     requires some { text.now ≢ [] }
     ensures ok { IfOk result (λ more. TakesLine draft.old text.now draft.new more.now) }
     ensures shorter { IfOk result (λ more. length more.now < length text.now) }
@@ -130,8 +128,7 @@ fn has_all_strings(f: &DescriptorFile, strings: &Option<Strings>, total: usize) 
 /// Whether nothing is due any more. What else could stand against the file was seen to line by line.
 #[tactic(auto, using(crate::proofs::WholeLemmas::whole_is))]
 fn is_whole(draft: &Draft) -> bool
-    requires counted { Counted draft.now }
-    requires front { IsFront draft.now.file }
+    requires { Holds draft.now }
     ensures { result ≡ is_whole (Some draft.now.file) }
 {
     has_all_sets(&draft.file) && has_all_strings(&draft.file, &draft.file.strings, draft.total)
@@ -139,8 +136,7 @@ fn is_whole(draft: &Draft) -> bool
 
 /// The file of a draft, where nothing is due any more.
 fn finish(draft: Option<Draft>, line: usize) -> Result<DescriptorFile, ListFault>
-    requires counted { AreCounted draft }
-    requires begun { IsBegun (so_far draft) }
+    requires { AreHeld draft }
     ensures ok { IfOk result (λ f. so_far draft ≡ Some f) }
     ensures whole { IfOk result (λ f. is_whole (Some f) ≡ true) }
     ensures err { IfErr result (λ fault. is_whole (so_far draft) ≡ false) }

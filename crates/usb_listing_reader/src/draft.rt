@@ -5,7 +5,7 @@ use usb_file_data::DescriptorFile;
 #[derive(Drop)]
 pub(crate) struct Draft {
     pub(crate) file: DescriptorFile,
-    /// How many bytes the set has that the last line belongs to, or 0.
+    /// How many bytes the last set has, or 0 where its part has none.
     pub(crate) work: usize,
     /// How many strings the file has in all, where its languages are there.
     pub(crate) total: usize,

@@ -1,16 +1,22 @@
 //! Listings read back: the descriptor file that a text lists, or the first line at fault.
 //!
 //! [`assemble`] reads a text; the module [`laws`] states what holds of texts, files and faults, whoever reads
-//! them.
+//! them. A line becomes the bytes of its descriptor, which usb_set and usb_fields read.
 #![tactic(auto)]
 
 mod assembling;
+mod digits;
 mod draft;
 mod fault;
+mod fields;
 mod growing;
 pub mod laws;
 mod order;
+mod row;
 mod step;
+mod strings;
+mod values;
+mod word;
 
 pub use assembling::assemble;
 pub use fault::{ListFault, ListWhy};

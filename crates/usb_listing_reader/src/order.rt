@@ -1,93 +1,71 @@
 //! Where a line may stand.
 ghost use Rattle.std.specs.Prelude.{◌≡◌, ◌==◌, None, Some, length, not};
 ghost use Rattle.usb_file_data.specs.Named.{named_indices};
-ghost use Rattle.usb_listing_reader.specs.Order.{has_interface, last_of, may_follow};
-ghost use Rattle.usb_listing_reader.specs.inside.Drafts.{is_string, strings_total};
+ghost use Rattle.usb_listing_reader.specs.inside.Growing.{declared, has_interface, is_string, last_of, may_follow, may_follow_sets, may_stand, open_sets};
+ghost use Rattle.usb_listing_reader.specs.inside.Drafts.{AreHeld, Holds, so_far};
 
-use usb_file_data::{DescriptorFile, Other, Strings, count_named};
-use usb_listing_lines::Word;
+use crate::draft::Draft;
+use crate::word::Word;
+use usb_file_data::{DescriptorFile, Other, count_named};
 use usb_set::Configuration;
 
-/// Whether a line with this word may follow the lines of the file so far, of whose strings there are so
-/// many in all.
-#[tactic(auto, using(crate::proofs::DraftLemmas::only_string))]
-pub(crate) fn may_follow(
-    f: &DescriptorFile,
-    other: &Option<Other>,
-    strings: &Option<Strings>,
-    total: usize,
-    word: Word,
-) -> bool
-    requires { total ≡ strings_total f.now strings.now }
-    ensures { result ≡ may_follow f.now other.now strings.now word }
+/// Whether a line with this word may stand next.
+pub(crate) fn may_stand(draft: &Option<Draft>, word: Word) -> bool
+    requires { AreHeld draft.now }
+    ensures { result ≡ may_stand (so_far draft.now) word }
 {
-    match strings {
-        Some(strings) => is_string(word) && strings.texts.len() < total,
-        None => match other {
-            None => may_follow_main(f, word),
-            Some(other) => may_follow_other(f, other, word),
-        },
+    match draft {
+        None => word == Word::Device,
+        Some(draft) => may_follow(draft, word),
     }
 }
 
-fn is_string(word: Word) -> bool
-    ensures { result ≡ is_string word }
+/// Whether a line with this word may follow.
+fn may_follow(draft: &Draft, word: Word) -> bool
+    requires { Holds draft.now }
+    ensures { result ≡ may_follow word draft.now.file draft.now.file.strings }
 {
+    match &draft.file.strings {
+        Some(strings) => word == Word::String && strings.texts.len() < draft.total,
+        None => may_follow_sets(&draft.file, &draft.file.other, word),
+    }
+}
+
+/// The sets of the speed that the last lines are of.
+fn open_sets<'f>(f: &'f DescriptorFile, other: &'f Option<Other>) -> &'f [Configuration]
+    ensures { result.now ≡ open_sets f.now other.now }
+{
+    match other {
+        None => &f.sets,
+        Some(other) => &other.sets,
+    }
+}
+
+/// How many sets are declared of that speed.
+fn declared(f: &DescriptorFile, other: &Option<Other>) -> usize
+    ensures { result ≡ declared f.now other.now }
+{
+    match other {
+        None => usize::from(f.device.configurations),
+        Some(other) => usize::from(other.qualifier.configurations),
+    }
+}
+
+/// Where no line of strings is there yet.
+fn may_follow_sets(f: &DescriptorFile, other: &Option<Other>, word: Word) -> bool
+    ensures { result ≡ may_follow_sets word f.now other.now }
+{
+    let sets = open_sets(f, other);
+    let declared = declared(f, other);
     match word {
-        Word::String => true,
-        Word::Device
-        | Word::Configuration
-        | Word::OtherSpeed
-        | Word::Interface
-        | Word::Endpoint
-        | Word::Raw
-        | Word::Association
-        | Word::Qualifier
-        | Word::Languages => false,
+        Word::Device | Word::String => false,
+        Word::Configuration => other.is_none() && sets.len() < declared,
+        Word::OtherSpeed => other.is_some() && sets.len() < declared,
+        Word::Interface | Word::Raw | Word::Association => !sets.is_empty(),
+        Word::Endpoint => has_interface(sets),
+        Word::Qualifier => other.is_none() && sets.len() == declared,
+        Word::Languages => sets.len() == declared && names_a_string(f),
     }
-}
-
-/// Where no line of the other speed and none of strings is there yet.
-#[tactic(auto, using(crate::proofs::DraftLemmas::last_some))]
-fn may_follow_main(f: &DescriptorFile, word: Word) -> bool
-    ensures { result ≡ may_follow f.now None None word }
-{
-    let declared = usize::from(f.device.configurations);
-    match word {
-        Word::Device | Word::OtherSpeed | Word::String => false,
-        Word::Configuration => f.sets.len() < declared,
-        Word::Interface | Word::Raw | Word::Association => !f.sets.is_empty(),
-        Word::Endpoint => has_interface(&f.sets),
-        Word::Qualifier => f.sets.len() == declared,
-        Word::Languages => f.sets.len() == declared && names_a_string(f),
-    }
-}
-
-/// Where the qualifier is there, and no line of strings.
-#[tactic(auto, using(crate::proofs::DraftLemmas::last_some))]
-fn may_follow_other(f: &DescriptorFile, other: &Other, word: Word) -> bool
-    ensures { result ≡ may_follow f.now (Some other.now) None word }
-{
-    let declared = usize::from(other.qualifier.configurations);
-    match word {
-        Word::Device | Word::Configuration | Word::Qualifier | Word::String => false,
-        Word::OtherSpeed => other.sets.len() < declared,
-        Word::Interface | Word::Raw | Word::Association => !other.sets.is_empty(),
-        Word::Endpoint => has_interface(&other.sets),
-        Word::Languages => other.sets.len() == declared && names_a_string(f),
-    }
-}
-
-/// Whether the file names a string. Most do so in the device descriptor, and then no set is looked at.
-#[tactic(auto, using(crate::proofs::NamedLemmas::product_named))]
-fn names_a_string(f: &DescriptorFile) -> bool
-    ensures { result ≡ not (length (named_indices f.now) == 0) }
-{
-    let product = f.device.product_text;
-    if product != 0 {
-        return true;
-    }
-    count_named(f) != 0
 }
 
 /// Whether the last of the sets has an interface.
@@ -100,4 +78,16 @@ fn has_interface(sets: &[Configuration]) -> bool
         return false;
     }
     !sets[count - 1].settings.is_empty()
+}
+
+/// Whether the file names a string. Most do so in the device descriptor, and then no set is looked at.
+#[tactic(auto, using(crate::proofs::NamedLemmas::product_named))]
+fn names_a_string(f: &DescriptorFile) -> bool
+    ensures { result ≡ not (length (named_indices f.now) == 0) }
+{
+    let product = f.device.product_text;
+    if product != 0 {
+        return true;
+    }
+    count_named(f) != 0
 }

@@ -1,53 +1,50 @@
 //! A file so far, and the next line.
-ghost use Rattle.std.specs.Prelude.{◌≡◌, ◌<◌, ◌^◌, ◌≤◌, IfErr, IfOk, None, Ok, OnOk, Some, true};
-ghost use Rattle.usb_file_data.specs.Named.{named_indices};
-ghost use Rattle.usb_listing_lines.specs.Words.{first_word, word_in};
-ghost use Rattle.usb_listing_lines.specs.Item.{IsItem, Says, item_word};
-ghost use Rattle.usb_listing_reader.specs.Order.{may_follow, may_stand};
-ghost use Rattle.usb_listing_reader.specs.inside.Growing.{file_and};
-ghost use Rattle.usb_listing_reader.specs.inside.Drafts.{Added, AreCounted, Counted, HasWork, Refuses, Stepped, extra_length, so_far, strings_total, total_with, work_with};
-ghost use Rattle.usb_listing_reader.specs.inside.Walking.{add, add_line, file_of};
+ghost use Rattle.std.specs.Prelude.{◌≡◌, IfErr, None, OnOk, Some, length, slice_index, true};
+ghost use Rattle.usb_set.specs.Layout.{is_typed};
+ghost use Rattle.usb_listing_reader.specs.Says.{IsItem, fields, is_typed_raw};
+ghost use Rattle.usb_listing_reader.specs.inside.Drafts.{AreHeld, Drafted, Stops, so_far};
+ghost use Rattle.usb_listing_reader.specs.inside.Growing.{may_stand};
+ghost use Rattle.usb_listing_reader.specs.inside.Rows.{item_in, says_fields};
+ghost use Rattle.usb_listing_reader.specs.inside.Walking.{add, add_item, add_line};
+ghost use Rattle.usb_listing_reader.specs.declared.word.Word.TheVariants as words;
 
 use crate::draft::Draft;
 use crate::fault::ListWhy;
-use crate::growing::add_item;
-use crate::order::may_follow;
+use crate::growing::{add_described, add_languages, add_string, begin};
+use crate::order::may_stand;
+use crate::row::read_fields;
+use crate::strings::{read_languages, read_string};
+use crate::word::{Word, split_word, word_of};
 use std::alloc::Global;
-use usb_fields::DeviceDescriptor;
-use usb_file_data::{DescriptorFile, count_named};
-use usb_listing_lines::{Item, Word, read_item, word_of};
-use usb_set::{Extra, Sequence};
+use usb_base::descriptor_type::{
+    CONFIGURATION, ENDPOINT, INTERFACE, INTERFACE_ASSOCIATION, OTHER_SPEED_CONFIGURATION,
+};
 
-/// The most bytes of a set (USB 2.0, 9.6.3).
-const LONGEST: usize = 65_535;
-
-/// Whether a line with this word may stand next.
-fn may_stand(draft: &Option<Draft>, word: Word) -> bool
-    requires { AreCounted draft.now }
-    ensures { result ≡ may_stand (so_far draft.now) word }
+/// Whether a set gives descriptors of this type a meaning.
+fn is_typed(kind: u8) -> bool
+    ensures { result ≡ is_typed kind }
 {
-    match draft {
-        None => is_device(word),
-        Some(draft) => may_follow(
-            &draft.file,
-            &draft.file.other,
-            &draft.file.strings,
-            draft.total,
-            word,
-        ),
-    }
+    kind == CONFIGURATION
+        || kind == INTERFACE
+        || kind == ENDPOINT
+        || kind == OTHER_SPEED_CONFIGURATION
+        || kind == INTERFACE_ASSOCIATION
 }
 
-fn is_device(word: Word) -> bool
-    ensures { result ≡ may_stand None word }
+/// Whether it is a raw descriptor of such a type.
+fn is_typed_raw(word: Word, bytes: &[u8]) -> bool
+    ensures { result ≡ is_typed_raw word bytes.now }
 {
     match word {
-        Word::Device => true,
-        Word::Configuration
+        Word::Raw => match bytes {
+            [_, kind, ..] => is_typed(*kind),
+            _ => false,
+        },
+        Word::Device
+        | Word::Configuration
         | Word::OtherSpeed
         | Word::Interface
         | Word::Endpoint
-        | Word::Raw
         | Word::Association
         | Word::Qualifier
         | Word::Languages
@@ -55,172 +52,120 @@ fn is_device(word: Word) -> bool
     }
 }
 
-fn extra_length(extra: &Extra) -> usize
-    requires { IsItem (Item.Extra extra.now) }
-    ensures is { result ≡ extra_length extra.now }
-    ensures few { result < 256 }
+/// Adds a descriptor that may stand next, whose line says its fields.
+fn add_next(
+    alloc: Global,
+    draft: &mut Option<Draft>,
+    word: Word,
+    bytes: &[u8],
+) -> Result<(), ListWhy>
+    requires holds { AreHeld draft.old }
+    requires item { IsItem (fields word bytes.now) }
+    requires may { may_stand (so_far draft.old) word ≡ true }
+    ensures ok { OnOk result (Drafted (add (so_far draft.old) (fields word bytes.now)) draft.new) }
+    ensures err { IfErr result (λ why. Stops (add (so_far draft.old) (fields word bytes.now)) why) }
 {
-    match extra {
-        Extra::Raw(raw) => 2 + raw.body.len(),
-        Extra::Association(association) => 8 + association.tail.len(),
-    }
-}
-
-/// How many bytes the set in work has with one more descriptor.
-#[tactic(auto, unfolding(crate::specs::inside::Drafts::work_with))]
-fn work_with(work: usize, item: &Item) -> usize
-    requires work { work < 2 ^ 32 }
-    requires item { IsItem item.now }
-    ensures { result ≡ work_with work item.now }
-{
-    match item {
-        Item::Device(_) | Item::String(_) => work,
-        Item::Set(c) => 9 + c.tail.len(),
-        Item::Interface(setting) => work + 9 + setting.tail.len(),
-        Item::Endpoint(endpoint) => work + 7 + endpoint.tail.len(),
-        Item::Extra(extra) => work + extra_length(extra),
-        Item::Qualifier(_) | Item::Languages(_) => 0,
-    }
-}
-
-/// How many strings the file has in all with one more descriptor.
-#[tactic(auto, unfolding(crate::specs::inside::Drafts::total_with))]
-fn total_with(f: &DescriptorFile, total: usize, item: &Item) -> usize
-    requires { IsItem item.now }
-    ensures { result ≡ total_with f.now total item.now }
-{
-    match item {
-        Item::Languages(languages) => languages.len() * count_named(f),
-        Item::Device(_)
-        | Item::Set(_)
-        | Item::Interface(_)
-        | Item::Endpoint(_)
-        | Item::Extra(_)
-        | Item::Qualifier(_)
-        | Item::String(_) => total,
-    }
-}
-
-/// Adds a descriptor that may follow.
-#[tactic(auto, using(crate::proofs::CountLemmas::counted_more, crate::proofs::CountLemmas::add_short, crate::proofs::CountLemmas::add_long))]
-fn grow(alloc: Global, draft: &mut Draft, item: Item) -> Result<(), ListWhy>
-    requires counted { Counted draft.old }
-    requires work { draft.old.work ≤ 65535 }
-    requires item { IsItem item }
-    requires may { may_follow draft.old.file draft.old.file.other draft.old.file.strings (item_word item) ≡ true }
-    ensures counted { OnOk result (Counted draft.new) }
-    ensures work { OnOk result (draft.new.work ≤ 65535) }
-    ensures ok { OnOk result (add (Some draft.old.file) item ≡ Ok draft.new.file) }
-    ensures err { IfErr result (λ why. Refuses (add (Some draft.old.file) item) why) }
-{
-    let work = work_with(draft.work, &item);
-    if work > LONGEST {
-        return Err(ListWhy::TooLong);
-    }
-    let total = total_with(&draft.file, draft.total, &item);
-    match add_item(alloc, &mut draft.file, item) {
-        Ok(()) => {
-            draft.work = work;
-            draft.total = total;
+    match draft {
+        Some(draft) => add_described(alloc, draft, word, bytes),
+        None => {
+            *draft = Some(begin(alloc, bytes));
             Ok(())
         }
+    }
+}
+
+/// Reads a line whose word may stand next, and says fields.
+#[inline(always)]
+fn read_described(
+    alloc: Global,
+    draft: &mut Option<Draft>,
+    word: Word,
+    text: &[u8],
+) -> Result<(), ListWhy>
+    requires holds { AreHeld draft.old }
+    requires may { may_stand (so_far draft.old) word ≡ true }
+    requires word { says_fields word ≡ true }
+    ensures ok { OnOk result (Drafted (add_item (so_far draft.old) (item_in word text.now)) draft.new) }
+    ensures err { IfErr result (λ why. Stops (add_item (so_far draft.old) (item_in word text.now)) why) }
+{
+    let mut buffer = [0; 255];
+    let Some(end) = read_fields(word, text, &mut buffer) else {
+        return Err(ListWhy::Field);
+    };
+    let bytes = &buffer[..end];
+    if is_typed_raw(word, bytes) {
+        return Err(ListWhy::Field);
+    }
+    add_next(alloc, draft, word, bytes)
+}
+
+/// Reads a language list that may stand next.
+fn read_languages_into(alloc: Global, draft: &mut Option<Draft>, text: &[u8]) -> Result<(), ListWhy>
+    requires holds { AreHeld draft.old }
+    requires may { may_stand (so_far draft.old) words.Languages ≡ true }
+    ensures ok { OnOk result (Drafted (add_item (so_far draft.old) (item_in words.Languages text.now)) draft.new) }
+    ensures err { IfErr result (λ why. Stops (add_item (so_far draft.old) (item_in words.Languages text.now)) why) }
+{
+    let Some(draft) = draft else { unreachable!() };
+    match read_languages(alloc, text) {
+        Ok(Some(languages)) => {
+            add_languages(alloc, draft, languages);
+            Ok(())
+        }
+        Ok(None) => Err(ListWhy::Field),
         Err(_) => Err(ListWhy::Memory),
     }
 }
 
-/// The draft of a file of its device descriptor alone.
-fn begin(alloc: Global, device: DeviceDescriptor) -> Draft
-    ensures file { result.file ≡ file_of device }
-    ensures counted { Counted result }
-    ensures work { result.work ≤ 65535 }
+/// Reads a string that may stand next.
+fn read_string_into(alloc: Global, draft: &mut Option<Draft>, text: &[u8]) -> Result<(), ListWhy>
+    requires holds { AreHeld draft.old }
+    requires may { may_stand (so_far draft.old) words.String ≡ true }
+    ensures ok { OnOk result (Drafted (add_item (so_far draft.old) (item_in words.String text.now)) draft.new) }
+    ensures err { IfErr result (λ why. Stops (add_item (so_far draft.old) (item_in words.String text.now)) why) }
 {
-    Draft {
-        file: DescriptorFile {
-            device,
-            sets: Sequence::new(alloc),
-            other: None,
-            strings: None,
+    let Some(draft) = draft else { unreachable!() };
+    match read_string(alloc, text) {
+        Ok(Some(units)) => match add_string(draft, units) {
+            Ok(()) => Ok(()),
+            Err(_) => Err(ListWhy::Memory),
         },
-        work: 0,
-        total: 0,
+        Ok(None) => Err(ListWhy::Field),
+        Err(_) => Err(ListWhy::Memory),
     }
 }
 
-/// The draft that the first line begins.
-fn begin_with(alloc: Global, item: Item) -> Draft
-    requires { may_stand None (item_word item) ≡ true }
-    ensures is { add None item ≡ Ok result.file }
-    ensures counted { Counted result }
-    ensures work { result.work ≤ 65535 }
-{
-    match item {
-        Item::Device(device) => begin(alloc, device),
-        Item::Set(_)
-        | Item::Interface(_)
-        | Item::Endpoint(_)
-        | Item::Extra(_)
-        | Item::Qualifier(_)
-        | Item::Languages(_)
-        | Item::String(_) => unreachable!(),
-    }
-}
-
-/// Adds a descriptor that may stand next.
-#[tactic(auto, using(crate::proofs::StepLemmas::began))]
-fn add(alloc: Global, draft: &mut Option<Draft>, item: Item) -> Result<(), ListWhy>
-    requires counted { AreCounted draft.old }
-    requires work { HasWork draft.old }
-    requires item { IsItem item }
-    requires may { may_stand (so_far draft.old) (item_word item) ≡ true }
-    ensures ok { OnOk result (Added draft.old item draft.new) }
-    ensures work { OnOk result (HasWork draft.new) }
-    ensures err { IfErr result (λ why. Refuses (add (so_far draft.old) item) why) }
-{
-    match draft {
-        Some(draft) => grow(alloc, draft, item),
-        None => {
-            *draft = Some(begin_with(alloc, item));
-            Ok(())
-        }
-    }
-}
-
-/// Reads a line that begins with this word into the draft.
-fn read_into(
+/// Reads the text behind a word that may stand next.
+fn read_behind(
     alloc: Global,
     draft: &mut Option<Draft>,
     word: Word,
-    line: &[u8],
+    text: &[u8],
 ) -> Result<(), ListWhy>
-    requires counted { AreCounted draft.old }
-    requires work { HasWork draft.old }
-    requires word { word_in (first_word line.now) ≡ Some word }
-    ensures ok { OnOk result (Stepped draft.old line.now draft.new) }
-    ensures work { OnOk result (HasWork draft.new) }
-    ensures err { IfErr result (λ why. Refuses (add_line (so_far draft.old) line.now) why) }
+    requires holds { AreHeld draft.old }
+    requires may { may_stand (so_far draft.old) word ≡ true }
+    ensures ok { OnOk result (Drafted (add_item (so_far draft.old) (item_in word text.now)) draft.new) }
+    ensures err { IfErr result (λ why. Stops (add_item (so_far draft.old) (item_in word text.now)) why) }
 {
-    if !may_stand(draft, word) {
-        return Err(ListWhy::Place);
-    }
-    let Ok(found) = read_item(alloc, word, line) else {
-        return Err(ListWhy::Memory);
-    };
-    match found {
-        Some(item) => add(alloc, draft, item),
-        None => Err(ListWhy::Field),
+    match word {
+        Word::Languages => read_languages_into(alloc, draft, text),
+        Word::String => read_string_into(alloc, draft, text),
+        _ => read_described(alloc, draft, word, text),
     }
 }
 
 /// Reads the next line into the draft.
 pub(crate) fn step(alloc: Global, draft: &mut Option<Draft>, line: &[u8]) -> Result<(), ListWhy>
-    requires counted { AreCounted draft.old }
-    requires work { HasWork draft.old }
-    ensures ok { OnOk result (Stepped draft.old line.now draft.new) }
-    ensures work { OnOk result (HasWork draft.new) }
-    ensures err { IfErr result (λ why. Refuses (add_line (so_far draft.old) line.now) why) }
+    requires { AreHeld draft.old }
+    ensures ok { OnOk result (Drafted (add_line (so_far draft.old) line.now) draft.new) }
+    ensures err { IfErr result (λ why. Stops (add_line (so_far draft.old) line.now) why) }
 {
-    match word_of(line) {
-        Some(word) => read_into(alloc, draft, word, line),
-        None => Err(ListWhy::Word),
+    let (first, text) = split_word(line);
+    let Some(word) = word_of(first) else {
+        return Err(ListWhy::Word);
+    };
+    if !may_stand(draft, word) {
+        return Err(ListWhy::Place);
     }
+    read_behind(alloc, draft, word, text)
 }

@@ -1,114 +1,116 @@
 -- What is kept beside the file so far.
-use Rattle.std.specs.Prelude.{◌≡◌, ℕ, ◌+◌, ◌*◌, ◌≤◌, ◌⊎◌, Result, Ok, Err, length, Bool, true, false, Option, Some, None, is_some, List}
-use Rattle.usb_set.specs.declared.tree.Extra.{Extra}
-use Rattle.usb_set.specs.declared.tree.Extra.TheVariants as extras
+use Rattle.std.specs.Prelude.{◌≡◌, ℕ, ◌+◌, ◌*◌, ◌≤◌, ◌⊎◌, Result, Ok, Err, length, slice_index, true, false, Option, Some, None, List}
+use Rattle.usb_set.specs.declared.tree.Configuration.{Configuration}
+use Rattle.usb_set.specs.Building.{has_setting}
+use Rattle.usb_set.specs.Faults.{is_set_type, is_whole, item_fault}
+use Rattle.usb_set.specs.Layout.{has_typed_raw}
 use Rattle.usb_file_data.specs.declared.file.DescriptorFile.{DescriptorFile}
 use Rattle.usb_file_data.specs.declared.file.Strings.{Strings}
 use Rattle.usb_file_data.specs.Named.{named_indices}
-use Rattle.usb_set.specs.declared.tree.Configuration.{Configuration}
-use Rattle.usb_listing_lines.specs.declared.item.Item.{Item}
-use Rattle.usb_listing_lines.specs.declared.item.Item.TheVariants as items
-use Rattle.usb_listing_lines.specs.declared.word.Word.{Word}
-use Rattle.usb_listing_lines.specs.declared.word.Word.TheVariants as words
 use Rattle.usb_listing_reader.specs.declared.draft.Draft.{Draft}
+use Rattle.usb_listing_reader.specs.declared.word.Word.{Word}
+use Rattle.usb_listing_reader.specs.declared.word.Word.TheVariants as words
+use Rattle.usb_listing_reader.specs.Says.{IsItem, fields}
 use Rattle.usb_listing_reader.specs.declared.fault.ListWhy.{ListWhy}
 use Rattle.usb_listing_reader.specs.declared.fault.ListWhy.TheVariants as whys
-use Rattle.usb_listing_reader.specs.Order.{has_interface}
-use Rattle.usb_listing_reader.specs.inside.Growing.{work_length}
-use Rattle.usb_listing_reader.specs.Listings.{Begins, FirstLine, RestFaulty}
-use Rattle.usb_listing_reader.specs.inside.Walking.{add, add_line}
+use Rattle.usb_listing_reader.specs.Order.{has_over}
+use Rattle.usb_listing_reader.specs.Listings.{Begins, FirstLine, IsBegun, RestFaulty}
+use Rattle.usb_listing_reader.specs.inside.Growing.{last_of, length_of, open_sets}
+use Rattle.usb_listing_reader.specs.inside.Walking.{add_line}
 
 -- how many strings the file has once it is whole
 abbrev pub strings_total : DescriptorFile → Option Strings → ℕ
 strings_total f None = 0
 strings_total f (Some s) = length s.languages * length (named_indices f)
 
--- the counts are those of the file
-pub record Counted (d : Draft) : Type 0 where
-  pub work : d.work ≡ work_length d.file
+-- a file so far, and counts that are its own
+pub record Holds (d : Draft) : Type 0 where
+  pub begun : IsBegun (Some d.file)
+  pub work : d.work ≡ length_of (last_of (open_sets d.file d.file.other))
   pub total : d.total ≡ strings_total d.file d.file.strings
+
+-- the same where a line was read
+abbrev pub AreHeld : Option Draft → Type 0
+AreHeld None = Unit {0}
+AreHeld (Some d) = Holds d
 
 -- the file so far
 abbrev pub so_far : Option Draft → Option DescriptorFile
 so_far None = None
 so_far (Some d) = Some d.file
 
--- the counts of a draft, where there is one, are those of its file
-abbrev pub AreCounted : Option Draft → Type 0
-AreCounted None = Unit {0}
-AreCounted (Some d) = Counted d
+-- bytes of the first descriptor of a set
+pub record IsFirst (b : List ℕ) : Type 0 where
+  pub long : 9 ≤ length b
+  pub whole : is_whole b ≡ true
+  pub kind : is_set_type (slice_index b 1) ≡ true
 
--- the set in work is no longer than a set can be
-abbrev pub HasWork : Option Draft → Type 0
-HasWork None = Unit {0}
-HasWork (Some d) = d.work ≤ 65535
+-- bytes of a descriptor that may come next in the set
+pub record Joins (b : List ℕ) (c : Configuration) : Type 0 where
+  pub whole : is_whole b ≡ true
+  pub fine : item_fault (length b) (has_setting c) b ≡ None
+  pub raws : has_typed_raw c ≡ false
 
--- whether it is the word of a string
-abbrev pub is_string : Word → Bool
-is_string words.String = true
-is_string word = false
+-- the same in the last of the sets
+pub record JoinsLast (b : List ℕ) (sets : List Configuration) : Type 0 where
+  pub set : Configuration
+  pub last : last_of sets ≡ Some set
+  pub joins : Joins b set
 
--- how many bytes an extra has
-abbrev pub extra_length : Extra → ℕ
-extra_length (extras.Raw r) = 2 + length r.body
-extra_length (extras.Association a) = 8 + length a.tail
+-- a draft of this file
+pub record IsDraft (f : DescriptorFile) (d : Draft) : Type 0 where
+  pub file : d.file ≡ f
+  pub holds : Holds d
 
--- how many bytes the set in work has with one more descriptor
-unfoldable pub work_with : ℕ → Item → ℕ
-work_with work (items.Device d) = work
-work_with work (items.Set c) = 9 + length c.tail
-work_with work (items.Interface s) = work + (9 + length s.tail)
-work_with work (items.Endpoint e) = work + (7 + length e.tail)
-work_with work (items.Extra x) = work + extra_length x
-work_with work (items.Qualifier q) = 0
-work_with work (items.Languages us) = 0
-work_with work (items.String us) = work
+-- out of memory, or that a set of this file is too long
+abbrev pub Refuses : DescriptorFile → ListWhy → Type 0
+Refuses f why = (why ≡ whys.Memory) ⊎ ((why ≡ whys.TooLong) × (has_over f ≡ true))
 
--- whether a descriptor that stands in a set may stand in this one
-abbrev pub has_room : Item → Option Configuration → Bool
-has_room (items.Interface s) work = is_some work
-has_room (items.Endpoint e) work = has_interface work
-has_room (items.Extra x) work = is_some work
-has_room item work = false
+-- what a descriptor of this word has to be, that is added to the file
+abbrev pub Fits : Word → List ℕ → DescriptorFile → Type 0
+Fits words.Configuration b f = IsFirst b
+Fits words.OtherSpeed b f = IsFirst b
+Fits words.Qualifier b f = IsItem (fields words.Qualifier b)
+Fits words.Interface b f = JoinsLast b (open_sets f f.other)
+Fits words.Endpoint b f = JoinsLast b (open_sets f f.other)
+Fits words.Raw b f = JoinsLast b (open_sets f f.other)
+Fits words.Association b f = JoinsLast b (open_sets f f.other)
+Fits word b f = ⊥
 
--- how many strings there are in all with one more descriptor
-unfoldable pub total_with : DescriptorFile → ℕ → Item → ℕ
-total_with f total (items.Languages us) = length us * length (named_indices f)
-total_with f total item = total
+-- how many bytes the last set has with a descriptor of this word, of so many bytes
+abbrev pub work_with : ℕ → Word → ℕ → ℕ
+work_with work words.Configuration n = n
+work_with work words.OtherSpeed n = n
+work_with work words.Interface n = work + n
+work_with work words.Endpoint n = work + n
+work_with work words.Raw n = work + n
+work_with work words.Association n = work + n
+work_with work word n = 0
 
--- the draft with one more line
-pub record Stepped (old : Option Draft) (line : List ℕ) (new : Option Draft) : Type 0 where
+-- the draft of the file that was answered
+pub record Drafted (answer : Result DescriptorFile ListWhy) (new : Option Draft) : Type 0 where
   pub file : DescriptorFile
   pub is : so_far new ≡ Some file
-  pub made : add_line (so_far old) line ≡ Ok file
-  pub counted : AreCounted new
+  pub made : answer ≡ Ok file
+  pub holds : AreHeld new
 
--- the draft with one more descriptor
-pub record Added (old : Option Draft) (item : Item) (new : Option Draft) : Type 0 where
-  pub file : DescriptorFile
-  pub is : so_far new ≡ Some file
-  pub made : add (so_far old) item ≡ Ok file
-  pub counted : AreCounted new
-
--- want of memory, or the fault that was answered
-abbrev pub Refuses : Result DescriptorFile ListWhy → ListWhy → Type 0
-Refuses answer why = (why ≡ whys.Memory) ⊎ (answer ≡ Err why)
+-- out of memory, or the fault of the line
+abbrev pub Stops : Result DescriptorFile ListWhy → ListWhy → Type 0
+Stops answer why = (why ≡ whys.Memory) ⊎ (answer ≡ Err why)
 
 -- a listing, read up to a line
 pub record Reading (text : List ℕ) (draft : Option Draft) (rest : List ℕ) (line : ℕ) : Type 0 where
   pub begins : Begins text (so_far draft) rest line
-  pub counted : AreCounted draft
-  pub work : HasWork draft
+  pub holds : AreHeld draft
   pub few : line + length rest ≤ length text + 1
 
 -- the first line was read into the draft, and this is left
 pub record TakesLine (old : Option Draft) (rest : List ℕ) (new : Option Draft) (more : List ℕ) : Type 0 where
   pub line : List ℕ
   pub first : FirstLine rest line more
-  pub stepped : Stepped old line new
-  pub work : HasWork new
+  pub drafted : Drafted (add_line (so_far old) line) new
 
--- want of memory, or the fault of the text behind the lines so far
+-- out of memory, or the fault of the text behind the lines so far
 abbrev pub Told : Option DescriptorFile → List ℕ → ListWhy → Type 0
 Told s rest whys.Memory = Unit {0}
 Told s rest why = RestFaulty s rest why

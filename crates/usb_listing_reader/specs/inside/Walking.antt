@@ -1,28 +1,35 @@
 -- A listing read byte by byte: the file so far, and the line in work.
-use Rattle.std.specs.Prelude.{ℕ, ◌+◌, List, [], ◌∷◌, ◌++◌, nat_lt, ◌==◌, Option, Some, None, Result, Ok, Err, if◌then◌else◌}
+use Rattle.std.specs.Prelude.{ℕ, ◌+◌, List, [], ◌∷◌, ◌++◌, ◌==◌, Option, Some, None, Result, Ok, Err, if◌then◌else◌}
 use Rattle.usb_file_data.specs.declared.file.DescriptorFile.{DescriptorFile}
-use Rattle.usb_fields.specs.declared.device.DeviceDescriptor.{DeviceDescriptor}
-use Rattle.usb_listing_lines.specs.declared.item.Item.{Item}
-use Rattle.usb_listing_lines.specs.declared.item.Item.TheVariants as items
-use Rattle.usb_listing_lines.specs.declared.word.Word.{Word}
-use Rattle.usb_listing_lines.specs.Words.{first_word, is_printable, word_in}
-use Rattle.usb_listing_lines.specs.inside.Items.{item_of_line}
+use Rattle.usb_listing_reader.specs.declared.word.Word.{Word}
+use Rattle.usb_listing_reader.specs.Words.{first_word, is_printable}
+use Rattle.usb_listing_reader.specs.Says.{Item, fields}
+use Rattle.usb_listing_reader.specs.Order.{has_over}
+use Rattle.usb_listing_reader.specs.Listings.{is_whole}
 use Rattle.usb_listing_reader.specs.declared.fault.ListFault.{ListFault}
 use Rattle.usb_listing_reader.specs.declared.fault.ListWhy.{ListWhy}
 use Rattle.usb_listing_reader.specs.declared.fault.ListWhy.TheVariants as whys
-use Rattle.usb_listing_reader.specs.Order.{may_stand}
-use Rattle.usb_listing_reader.specs.inside.Growing.{file_and, work_length}
-use Rattle.usb_listing_reader.specs.Listings.{is_whole}
+use Rattle.usb_listing_reader.specs.inside.Finding.{word_in}
+use Rattle.usb_listing_reader.specs.inside.Growing.{device_of, file_and, may_stand}
+use Rattle.usb_listing_reader.specs.inside.Rows.{item_of_line}
 
--- a file of its device descriptor alone
-abbrev pub file_of : DeviceDescriptor → DescriptorFile
-file_of d = record { device = d; sets = []; other = None; strings = None }
+-- a file of its first descriptor alone
+abbrev pub file_of : List ℕ → DescriptorFile
+file_of b = record { device = device_of b; sets = []; other = None; strings = None }
 
--- what a descriptor that may stand there makes of the file so far
+-- the bytes of a descriptor whose line says its fields
+abbrev pub fields_bytes : Item → List ℕ
+fields_bytes (fields word b) = b
+fields_bytes item = []
+
+-- the file with one more descriptor, which may stand there
+abbrev pub grown : Option DescriptorFile → Item → DescriptorFile
+grown None item = file_of (fields_bytes item)
+grown (Some f) item = file_and item f
+
+-- what such a descriptor makes of the file so far
 abbrev pub add : Option DescriptorFile → Item → Result DescriptorFile ListWhy
-add None (items.Device d) = Ok (file_of d)
-add None item = Err whys.Place
-add (Some f) item = if nat_lt 65535 (work_length (file_and item f)) then Err whys.TooLong else Ok (file_and item f)
+add so_far item = if has_over (grown so_far item) then Err whys.TooLong else Ok (grown so_far item)
 
 -- what a line makes of it, that says this or nothing
 abbrev pub add_item : Option DescriptorFile → Option Item → Result DescriptorFile ListWhy

@@ -1,6 +1,0 @@
--- What no public contract cites.
-pub mod Digits
-pub mod Fields
-pub mod Units
-pub mod Items
-pub mod Letters

@@ -1,0 +1,111 @@
+-- A line that says a descriptor has only bytes that a line may have.
+use Rattle.std.proofs.Common.{◌≡◌, ℕ, ◌/◌, ◌%◌, ◌<◌, ◌==◌, ◌&&◌, ◌||◌, not, Bool, true, false, cond, List, [], ◌∷◌, ◌++◌, Option, Some, None, length, drop, slice_index, refl, sym, subst, ◌∙◌, arith, codes}
+use Rattle.std.specs.List.{AllByRecursion, flat_map, list_all}
+use Rattle.std.proofs.lemmas.Bool.{and_parts}
+use Rattle.std.proofs.lemmas.List.Folds.{list_all-append}
+use Rattle.hex.specs.Hex.{encode_lower, encode_with, lower_digits}
+use Rattle.usb_base.specs.Bytes.{AreBytes}
+use Rattle.usb_base.specs.declared.width.Width.{Width}
+use Rattle.usb_base.specs.declared.width.Width.TheVariants.{One, Two}
+use Rattle.usb_listing.specs.Lines.{two_bytes, written_field}
+use Rattle.usb_listing.specs.StringListing.{is_plain, written_unit}
+use Rattle.usb_listing.specs.Table.{Row}
+use Rattle.usb_listing_reader.specs.declared.word.Word.{Word}
+use Rattle.usb_listing_reader.specs.declared.word.Word.TheVariants as words
+use Rattle.usb_listing_reader.specs.declared.values.Written.{Written}
+use Rattle.usb_listing_reader.specs.declared.values.Written.TheVariants as forms
+use Rattle.usb_listing_reader.specs.Words.{is_printable, word_text}
+use Rattle.usb_listing_reader.specs.Says.{IsItem, Item, Says, fields, item_word, languages, row_for, string}
+use Rattle.usb_listing_reader.proofs.DigitLemmas.{all_below, all_below-at}
+use Rattle.usb_listing_reader.proofs.FieldLemmas.{high_digit, low_digit}
+use Rattle.usb_listing_reader.proofs.RowLemmas.{body_text, bytes_back}
+use Rattle.usb_listing_reader.proofs.UnitLemmas.{IsUnit, written}
+use Rattle.usb_listing_reader.proofs.SaysLemmas.{fit_units, item_fields, line_of, row_text, said_is}
+
+abbrev pub Printable : List ℕ → Type 0
+Printable line = list_all is_printable line ≡ true
+
+both : (a b : Bool) → a ≡ true → b ≡ true → (a && b) ≡ true
+both a b ea eb = rw (ea, eb) refl
+
+joined : (xs ys : List ℕ) → Printable xs → Printable ys → Printable (xs ++ ys)
+joined xs ys hx hy = list_all-append is_printable xs ys ∙ both (list_all is_printable xs) (list_all is_printable ys) hx hy
+
+abbrev digit_prints : ℕ → Bool
+digit_prints d = is_printable (slice_index lower_digits d)
+
+all_print : all_below digit_prints 16 ≡ true
+all_print = refl
+
+digit_printable : (d : ℕ) → d < 16 → is_printable (slice_index lower_digits d) ≡ true
+digit_printable d lt = all_below-at digit_prints 16 d all_print lt
+
+digits_printable : (b : ℕ) (rest : List ℕ) → b < 256 → Printable rest → Printable (high_digit b ∷ low_digit b ∷ rest)
+digits_printable b rest lt h = both _ _ (digit_printable (b / 16) (omega arith)) (both _ _ (digit_printable (b % 16) (omega arith)) h)
+
+encoded_printable : (bytes : List ℕ) → AreBytes bytes → Printable (encode_lower bytes)
+unfolding encode_with
+encoded_printable [] h = refl
+encoded_printable (b ∷ bytes) h = digits_printable b (encode_lower bytes) h.0 (encoded_printable bytes h.1)
+
+field_printable : (bytes : List ℕ) → AreBytes bytes → Printable (written_field bytes)
+field_printable [] h = refl
+field_printable (b ∷ bytes) h = encoded_printable (b ∷ bytes) h
+
+two_fit : (u : ℕ) → u < 65536 → AreBytes (two_bytes u)
+two_fit u lt = (omega arith, (omega arith, tt))
+
+unit_printable : (u : ℕ) → u < 65536 → Printable (written_unit u)
+unfolding written_unit
+unit_printable u lt = cases (is_plain u) refl
+  where
+    cases : (p : Bool) → is_plain u ≡ p → Printable (cond p (u ∷ []) (92 ∷ encode_lower (two_bytes u)))
+    cases true ep = both _ _ (and_parts (is_printable u) (not ((u == 34) || (u == 92))) ep).0 refl
+    cases false ep = encoded_printable (two_bytes u) (two_fit u lt)
+
+value_printable : (form : Written) (u : ℕ) → u < 65536 → Printable (written form u)
+value_printable forms.Unit u lt = unit_printable u lt
+value_printable forms.Field u lt = field_printable (two_bytes u) (two_fit u lt)
+
+values_printable : (form : Written) (us : List ℕ) → AllByRecursion IsUnit us → Printable (flat_map (written form) us)
+values_printable form [] h = refl
+values_printable form (u ∷ us) h = joined (written form u) (flat_map (written form) us) (value_printable form u h.0) (values_printable form us h.1)
+
+word_printable : (w : Word) → Printable (word_text w)
+word_printable words.Device = refl
+word_printable words.Configuration = refl
+word_printable words.OtherSpeed = refl
+word_printable words.Interface = refl
+word_printable words.Endpoint = refl
+word_printable words.Raw = refl
+word_printable words.Association = refl
+word_printable words.Qualifier = refl
+word_printable words.Languages = refl
+word_printable words.String = refl
+
+body_printable : (widths : List Width) (tail : Bool) (body : List ℕ) → AreBytes body → Printable (body_text widths tail body)
+unfolding encode_with
+body_printable [] true body h = joined (written_field body) [] (field_printable body h) refl
+body_printable [] false body h = refl
+body_printable (One ∷ widths) tail [] h = refl
+body_printable (One ∷ widths) tail (x ∷ body) h = digits_printable x (body_text widths tail body) h.0 (body_printable widths tail body h.1)
+body_printable (Two ∷ widths) tail [] h = refl
+body_printable (Two ∷ widths) tail (x ∷ []) h = refl
+body_printable (Two ∷ widths) tail (low ∷ high ∷ body) h =
+    digits_printable high (high_digit low ∷ low_digit low ∷ body_text widths tail body) h.1.0 (digits_printable low (body_text widths tail body) h.0 (body_printable widths tail body h.1.1))
+
+row_printable : (o : Option Row) (b : List ℕ) → AreBytes b → Printable (row_text o b)
+row_printable None b h = refl
+row_printable (Some row) b h = body_printable row.widths row.tail (drop (length row.front) (drop 1 b)) (bytes_back (length row.front) (drop 1 b) (bytes_back 1 b h))
+
+fields_printable : (item : Item) → IsItem item → Printable (item_fields item)
+fields_printable (fields w b) is = row_printable (row_for w) b is.0
+fields_printable (languages us) is = values_printable forms.Field us (fit_units us is.0.1.1)
+fields_printable (string us) is =
+    joined (codes " \"" ++ flat_map (written forms.Unit) us) (codes "\"") (values_printable forms.Unit us (fit_units us is.1.1)) refl
+
+pub line_of-printable : (item : Item) → IsItem item → Printable (line_of item)
+line_of-printable item is = joined (word_text (item_word item)) (item_fields item) (word_printable (item_word item)) (fields_printable item is)
+
+pub said_printable : (line : List ℕ) (item : Item) → Says line item → Printable line
+said_printable line item says = subst Printable (sym (said_is line item says)) (line_of-printable item says.is_item)

@@ -1,0 +1,26 @@
+-- The words that the lines of a listing begin with.
+use Rattle.std.specs.Prelude.{ℕ, List, [], ◌∷◌, codes, Bool, nat_le, ◌&&◌, ◌==◌, if◌then◌else◌}
+use Rattle.usb_listing_reader.specs.declared.word.Word.{Word}
+use Rattle.usb_listing_reader.specs.declared.word.Word.TheVariants as words
+
+-- how a word is written
+abbrev pub word_text : Word → List ℕ
+word_text words.Device = codes "device"
+word_text words.Configuration = codes "configuration"
+word_text words.OtherSpeed = codes "other_speed"
+word_text words.Interface = codes "interface"
+word_text words.Endpoint = codes "endpoint"
+word_text words.Raw = codes "raw"
+word_text words.Association = codes "association"
+word_text words.Qualifier = codes "qualifier"
+word_text words.Languages = codes "languages"
+word_text words.String = codes "string"
+
+-- what stands in a line before its first space (20h), or all of it where it has none
+abbrev pub first_word : List ℕ → List ℕ
+first_word [] = []
+first_word (x ∷ line) = if x == 32 then [] else x ∷ first_word line
+
+-- whether a line may have the byte: 20 to 7e hexadecimal
+abbrev pub is_printable : ℕ → Bool
+is_printable x = nat_le 32 x && nat_le x 126

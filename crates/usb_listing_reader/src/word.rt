@@ -1,0 +1,98 @@
+//! The words that the lines of a listing begin with.
+ghost use Rattle.std.specs.Prelude.{◌≡◌, ◌++◌};
+ghost use Rattle.usb_listing_reader.specs.Words.{first_word, word_text};
+ghost use Rattle.usb_listing_reader.specs.inside.Finding.{word_among, word_in};
+
+use memchr::memchr;
+
+/// The first word of a line: which descriptor the line says.
+#[derive(Clone, Copy, Debug, PartialEq, Eq)]
+pub(crate) enum Word {
+    /// The device descriptor.
+    Device,
+    /// The first descriptor of a set of the speed that the device runs at.
+    Configuration,
+    /// The first descriptor of a set of the other speed.
+    OtherSpeed,
+    /// An interface descriptor.
+    Interface,
+    /// An endpoint descriptor.
+    Endpoint,
+    /// A descriptor that is kept as it stands.
+    Raw,
+    /// An interface association descriptor.
+    Association,
+    /// The device qualifier descriptor.
+    Qualifier,
+    /// The language list.
+    Languages,
+    /// A string descriptor.
+    String,
+}
+
+/// All words, those of most lines first.
+const WORDS: [Word; 10] = [
+    Word::Endpoint,
+    Word::Interface,
+    Word::Raw,
+    Word::Association,
+    Word::String,
+    Word::Configuration,
+    Word::OtherSpeed,
+    Word::Device,
+    Word::Qualifier,
+    Word::Languages,
+];
+
+impl Word {
+    /// How the word is written.
+    fn text(self) -> &'static str
+        ensures { result.now ≡ word_text self }
+    {
+        match self {
+            Word::Device => "device",
+            Word::Configuration => "configuration",
+            Word::OtherSpeed => "other_speed",
+            Word::Interface => "interface",
+            Word::Endpoint => "endpoint",
+            Word::Raw => "raw",
+            Word::Association => "association",
+            Word::Qualifier => "qualifier",
+            Word::Languages => "languages",
+            Word::String => "string",
+        }
+    }
+}
+
+/// The one of these words that is written so.
+#[inline(always)]
+fn find_word(words: &[Word], text: &[u8]) -> Option<Word>
+    ensures { result ≡ word_among words.now text.now }
+{
+    for word in words {
+        if text == word.text().as_bytes() {
+            return Some(*word);
+        }
+    }
+    None
+}
+
+/// The word that is written so.
+#[tactic(auto, unfolding(crate::specs::inside::Finding::word_in))]
+pub(crate) fn word_of(text: &[u8]) -> Option<Word>
+    ensures { result ≡ word_in text.now }
+{
+    find_word(&WORDS, text)
+}
+
+/// The line's first word, and what stands behind it.
+#[tactic(auto, using(crate::proofs::WordLemmas::space_found, crate::proofs::WordLemmas::space_nowhere))]
+pub(crate) fn split_word(line: &[u8]) -> (&[u8], &[u8])
+    ensures first { result.0.now ≡ first_word line.now }
+    ensures parts { line.now ≡ result.0.now ++ result.1.now }
+{
+    match memchr(b' ', line) {
+        Some(end) => (&line[..end], &line[end..]),
+        None => (line, &[]),
+    }
+}
