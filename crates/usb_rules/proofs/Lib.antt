@@ -1,8 +1,5 @@
-pub mod Joining
-pub mod Cells
-pub mod Running
+pub mod Entering
 pub mod Owning
-pub mod Pairing
-pub mod Surveying
-pub mod Telling
-pub mod Bare
+pub mod Walking
+pub mod Binding
+pub mod Sorting

@@ -23,7 +23,7 @@ of_settings rule breaks part i c = at_each (λ j s. when (breaks s) (finding rul
 
 -- a rule that each setting breaks by itself or with those before it
 abbrev pub of_settings_after : Rule → (List Setting → Setting → Bool) → Part → ℕ → Configuration → List Finding
-of_settings_after rule breaks part i c = at_each_after (λ before j s. when (breaks before s) (finding rule part i j 0)) [] 0 c.settings
+of_settings_after rule breaks part i c = at_each_after (λ before j s. when (breaks before s) (finding rule part i j 0)) c.settings
 
 -- V1 in one set
 abbrev pub interface_counts : Part → ℕ → Configuration → List Finding
@@ -55,7 +55,7 @@ addresses part i c = at_each (addresses_in part i) 0 c.settings
 
 -- V7 in one setting, at each endpoint whose address stood before
 abbrev pub repeated_in_setting : Part → ℕ → ℕ → Setting → List Finding
-repeated_in_setting part i j s = at_each_after (λ before k e. when (repeats_address before e) (finding rules.V7 part i j k)) [] 0 s.endpoints
+repeated_in_setting part i j s = at_each_after (λ before k e. when (repeats_address before e) (finding rules.V7 part i j k)) s.endpoints
 
 -- V7 in one set
 abbrev pub repeated_addresses : Part → ℕ → Configuration → List Finding
@@ -64,7 +64,7 @@ repeated_addresses part i c = at_each (repeated_in_setting part i) 0 c.settings
 -- V8 in one set, at each endpoint whose address an earlier setting of another interface has
 abbrev pub shared_addresses : Part → ℕ → Configuration → List Finding
 shared_addresses part i c =
-    at_each_after (λ before j s. at_each (λ k e. when (shares_address before s e) (finding rules.V8 part i j k)) 0 s.endpoints) [] 0 c.settings
+    at_each_after (λ before j s. at_each (λ k e. when (shares_address before s e) (finding rules.V8 part i j k)) 0 s.endpoints) c.settings
 
 -- V9 in one set
 abbrev pub attributes : Part → ℕ → Configuration → List Finding
@@ -86,7 +86,7 @@ associations part i c = at_each (λ k a. when (binds_missing_interface c.setting
 abbrev pub values : Part → List Configuration → List Finding
 values part sets =
     when (length sets == 0) (finding rules.V10 part 0 0 0)
-    ++ at_each_after (λ before i c. when (wrong_value before c) (finding rules.V10 part i 0 0)) [] 0 sets
+    ++ at_each_after (λ before i c. when (wrong_value before c) (finding rules.V10 part i 0 0)) sets
 
 -- V11 in the qualifier, where there is one
 abbrev pub of_qualifier : Option Other → List Finding

@@ -1,5 +1,5 @@
 -- Going over a file, and telling what is found where.
-use Rattle.std.specs.Prelude.{ℕ, ◌+◌, List, [], ◌∷◌, ◌++◌, Bool, ◌==◌, Option, Some, None, if◌then◌else◌}
+use Rattle.std.specs.Prelude.{ℕ, ◌+◌, List, [], ◌∷◌, ◌++◌, take, Bool, ◌==◌, Option, Some, None, if◌then◌else◌}
 use Rattle.std.specs.List.{list_any}
 use Rattle.usb_set.specs.declared.tree.Configuration.{Configuration}
 use Rattle.usb_file_data.specs.declared.file.DescriptorFile.{DescriptorFile}
@@ -26,10 +26,9 @@ abbrev pub at_each : {A B : Type 0} → (ℕ → A → List B) → ℕ → List 
 at_each f place [] = []
 at_each f place (x ∷ xs) = f place x ++ at_each f (place + 1) xs
 
--- as at_each, where f is also given the elements before, the nearest first
-abbrev pub at_each_after : {A B : Type 0} → (List A → ℕ → A → List B) → List A → ℕ → List A → List B
-at_each_after f before place [] = []
-at_each_after f before place (x ∷ xs) = f before place x ++ at_each_after f (x ∷ before) (place + 1) xs
+-- as at_each, where f is also given the elements before
+abbrev pub at_each_after : {A B : Type 0} → (List A → ℕ → A → List B) → List A → List B
+at_each_after f xs = at_each (λ i x. f (take i xs) i x) 0 xs
 
 -- what is found in each set of a part
 abbrev pub in_sets : (Part → ℕ → Configuration → List Finding) → Part → List Configuration → List Finding

@@ -27,7 +27,7 @@ is_first before s = not (stands_in (map number_of before) s.number)
 
 -- the interface numbers of the settings, each once, in the order in which they first stand
 abbrev pub interface_numbers : List Setting → List ℕ
-interface_numbers settings = at_each_after (λ before j s. when (is_first before s) s.number) [] 0 settings
+interface_numbers settings = at_each_after (λ before j s. when (is_first before s) s.number) settings
 
 -- V1. The set announces more or fewer interfaces than it has: bNumInterfaces isn't the count of distinct
 -- interface numbers, however many alternate settings each of them has (USB 2.0, 9.6.3).

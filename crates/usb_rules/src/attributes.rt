@@ -1,9 +1,12 @@
 //! V9: the bits of a configuration's bmAttributes.
 ghost use Rattle.std.specs.Prelude.{◌≡◌, ◌++◌, OnOk};
-ghost use Rattle.usb_rules.specs.Findings.{attributes};
+ghost use Rattle.usb_rules.specs.declared.rule.Rule.TheVariants as rules;
+ghost use Rattle.usb_rules.specs.Places.{when};
+ghost use Rattle.usb_rules.specs.inside.Walk.{broken};
+ghost use Rattle.usb_rules.specs.Rules.{wrong_attributes};
 
-use crate::finding::{Finding, Part};
-use crate::push::push_when;
+use crate::found::Found;
+use crate::place::Place;
 use crate::rule::Rule;
 use std::alloc::AllocError;
 use usb_set::Configuration;
@@ -15,13 +18,12 @@ const ALWAYS_ONE: u8 = 0x80;
 const ALWAYS_ZERO: u8 = 0x1f;
 
 pub(crate) fn check_attributes(
-    out: &mut Vec<Finding>,
-    part: Part,
-    set: usize,
+    found: &mut Found,
+    place: Place,
     c: &Configuration,
 ) -> Result<(), AllocError>
-    ensures { OnOk result (out.new.items ≡ out.old.items ++ attributes part set c.now) }
+    ensures { OnOk result (found.new ≡ found.old ++ when (wrong_attributes c.now) (broken rules.V9 place)) }
 {
     let wrong = c.attributes & ALWAYS_ONE == 0 || c.attributes & ALWAYS_ZERO != 0;
-    push_when(out, wrong, Finding::at(Rule::V9, part, set, 0, 0))
+    found.tell(Rule::V9, wrong, place)
 }

@@ -1,15 +1,18 @@
 //! All findings of a file.
-ghost use Rattle.std.specs.Prelude.{◌≡◌, IfOk};
+ghost use Rattle.std.specs.Prelude.{◌≡◌, ◌++◌, IfOk, OnOk};
 ghost use Rattle.usb_rules.specs.Findings.{findings};
+ghost use Rattle.usb_rules.specs.inside.Walk.{in_file, in_part};
 
-use crate::device::check_descriptors;
-use crate::finding::Finding;
-use crate::lists::SetFindings;
-use crate::push::put_after;
-use crate::set::check_all_sets;
-use crate::value::check_values;
-use std::alloc::Global;
+use crate::device::{check_device, check_qualifier};
+use crate::finding::{Finding, Part};
+use crate::found::Found;
+use crate::place::Place;
+use crate::set::{Passed, check_set};
+use crate::value::{check_any_set, check_value};
+use std::alloc::{AllocError, Global};
+use usb_base::Marks;
 use usb_file_data::DescriptorFile;
+use usb_set::Configuration;
 
 /// Want of memory, as std tells it.
 pub use std::alloc::AllocError as NoMemory;
@@ -29,21 +32,40 @@ pub use std::alloc::AllocError as NoMemory;
 pub fn check(alloc: Global, f: &DescriptorFile) -> Result<Vec<Finding>, NoMemory>
     ensures { IfOk result (λ v. v.items ≡ findings f.now) }
 {
-    let mut found = SetFindings::new(alloc);
-    check_all_sets(&mut found, f)?;
-    let mut out = Vec::new(alloc);
-    put_after(&mut out, &mut found.interface_counts)?;
-    put_after(&mut out, &mut found.number_gaps)?;
-    put_after(&mut out, &mut found.repeated_settings)?;
-    put_after(&mut out, &mut found.missing_default_settings)?;
-    put_after(&mut out, &mut found.endpoint_counts)?;
-    put_after(&mut out, &mut found.addresses)?;
-    put_after(&mut out, &mut found.repeated_addresses)?;
-    put_after(&mut out, &mut found.shared_addresses)?;
-    put_after(&mut out, &mut found.attributes)?;
-    check_values(&mut out, f)?;
-    check_descriptors(&mut out, f)?;
-    put_after(&mut out, &mut found.packet_sizes)?;
-    put_after(&mut out, &mut found.associations)?;
-    Ok(out)
+    let mut found = Found::new(alloc);
+    let mut passed = Passed::new(alloc);
+    check_parts(&mut found, &mut passed, f)?;
+    found.by_rule(alloc)
+}
+
+/// The device descriptor, the main part and the other part.
+#[tactic(auto, using(crate::proofs::Walking::append_again))]
+fn check_parts(found: &mut Found, passed: &mut Passed, f: &DescriptorFile) -> Result<(), AllocError>
+    ensures { OnOk result (found.new ≡ found.old ++ in_file f.now) }
+{
+    check_device(found, &f.device)?;
+    check_part(found, passed, Part::Main, &f.sets)?;
+    if let Some(other) = &f.other {
+        check_qualifier(found, &other.qualifier)?;
+        check_part(found, passed, Part::Other, &other.sets)?;
+    }
+    Ok(())
+}
+
+fn check_part(
+    found: &mut Found,
+    passed: &mut Passed,
+    part: Part,
+    sets: &[Configuration],
+) -> Result<(), AllocError>
+    ensures { OnOk result (found.new ≡ found.old ++ in_part part sets.now) }
+{
+    check_any_set(found, Place::of(part, 0), sets)?;
+    let mut values = Marks::new();
+    for (set, c) in sets.iter().enumerate() {
+        let place = Place::of(part, set);
+        check_value(found, &mut values, place, c)?;
+        check_set(found, passed, place, c)?;
+    }
+    Ok(())
 }

@@ -1,48 +1,126 @@
-//! V1 and V2: how many interface numbers a set has, and which.
-ghost use Rattle.std.specs.Prelude.{◌≡◌, ◌++◌, OnOk};
-ghost use Rattle.usb_rules.specs.Findings.{interface_counts, number_gaps};
-ghost use Rattle.usb_rules.specs.inside.Alternates.{IsEntered, IsSurvey, reads};
+//! The interfaces of a set.
+ghost use Rattle.std.specs.Prelude.{◌≡◌, true, false, map, IfOk, OnOk};
+ghost use Rattle.usb_base.specs.Marks.{IsNextAbsent};
+ghost use Rattle.usb_rules.specs.inside.Interfaces.{begun, entered, first_of, kept, none_entered, paired};
 
-use crate::alternates::Alternates;
-use crate::finding::{Finding, Part};
-use crate::push::push_when;
-use crate::rule::Rule;
-use crate::survey::Survey;
-use std::alloc::AllocError;
-use usb_set::Configuration;
+use std::alloc::{AllocError, Global};
+use std::marker::Model;
+use usb_base::Marks;
+use usb_set::Setting;
 
-pub(crate) fn check_interface_count(
-    out: &mut Vec<Finding>,
-    survey: Survey,
-    part: Part,
-    set: usize,
-    c: &Configuration,
-) -> Result<(), AllocError>
-    requires { IsSurvey survey c.now.settings }
-    ensures { OnOk result (out.new.items ≡ out.old.items ++ interface_counts part set c.now) }
-{
-    push_when(
-        out,
-        usize::from(c.declared_interfaces) != survey.count,
-        Finding::at(Rule::V1, part, set, 0, 0),
-    )
+/// An interface, by the settings of its number.
+#[derive(Drop)]
+pub(crate) struct Interface {
+    pub(crate) number: u8,
+    /// The place of its first setting in the set.
+    pub(crate) first: usize,
+    alternates: Marks,
 }
 
-pub(crate) fn check_number_gap(
-    out: &mut Vec<Finding>,
-    next: &Alternates,
-    survey: Survey,
-    part: Part,
-    set: usize,
-    c: &Configuration,
-) -> Result<(), AllocError>
-    requires entered { IsEntered (reads next.now) c.now.settings }
-    requires survey { IsSurvey survey c.now.settings }
-    ensures { OnOk result (out.new.items ≡ out.old.items ++ number_gaps part set c.now) }
-{
-    push_when(
-        out,
-        next.misses(0, survey.count),
-        Finding::at(Rule::V2, part, set, 0, 0),
-    )
+/// The interfaces of the settings that were entered. One value serves all sets of a file: to begin
+/// anew takes as little for a large set as for a small one.
+#[derive(Drop)]
+pub(crate) struct Interfaces {
+    /// In the order of their first settings.
+    list: Vec<Interface>,
+    /// Where the interface of a number stands in the list, if it has one, and else anything.
+    places: [u8; 256],
+    numbers: Marks,
+}
+
+impl Model for Interfaces {
+    ghost use Rattle.usb_rules.specs.inside.Interfaces.{AreFound, Table};
+
+    ghost Value = { Table };
+
+    ghost view = { λ t. record { list = t.list.items; places = t.places; marks = t.numbers } };
+
+    ghost invariant = { λ t. AreFound (record { list = t.list.items; places = t.places; marks = t.numbers }) };
+}
+
+impl Interfaces {
+    /// With a place for the interface of each number.
+    pub(crate) fn new(alloc: Global) -> Interfaces {
+        Interfaces {
+            list: Vec::new(alloc),
+            places: [0; 256],
+            numbers: Marks::new(),
+        }
+    }
+
+    /// Forgets all settings.
+    pub(crate) fn clear(&mut self)
+        ensures { kept self.new ≡ none_entered }
+    {
+        self.list.clear();
+        self.numbers = Marks::new();
+    }
+
+    /// The interfaces in the order of their first settings.
+    pub(crate) fn list(&self) -> &[Interface]
+        ensures { map first_of result.now ≡ (kept self.now).firsts }
+    {
+        &self.list
+    }
+
+    /// The first number from this one on that is no interface number.
+    pub(crate) fn next_absent(&self, number: u8) -> usize
+        ensures { IsNextAbsent (kept self.now).numbers number result }
+    {
+        self.numbers.next_absent(number)
+    }
+
+    /// Whether a setting of this number and alternate was entered.
+    pub(crate) fn has(&self, number: u8, alternate: u8) -> bool
+        ensures { result ≡ (kept self.now).alternates number alternate }
+    {
+        if !self.numbers.has(number) {
+            return false;
+        }
+        let place = usize::from(self.places[usize::from(number)]);
+        self.list[place].alternates.has(alternate)
+    }
+
+    /// Enters the setting, and tells whether one of its number and alternate was entered before.
+    pub(crate) fn add(&mut self, setting: usize, s: &Setting) -> Result<bool, AllocError>
+        ensures again { IfOk result (λ again. again ≡ (kept self.old).alternates s.now.number s.now.alternate) }
+        ensures entered { OnOk result (kept self.new ≡ entered setting s.now (kept self.old)) }
+    {
+        if !self.numbers.has(s.number) {
+            self.begin(s.number, setting)?;
+        }
+        Ok(self.mark(s.number, s.alternate))
+    }
+
+    /// Begins the interface of a number at the setting of this place.
+    fn begin(&mut self, number: u8, setting: usize) -> Result<(), AllocError>
+        requires { (kept self.old).numbers number ≡ false }
+        ensures { OnOk result (kept self.new ≡ begun number setting (kept self.old)) }
+    {
+        // Interfaces have different numbers, so a byte counts those before, and this is never refused.
+        let Ok(place) = u8::try_from(self.list.len()) else {
+            return Err(AllocError);
+        };
+        self.list.push(Interface {
+            number,
+            first: setting,
+            alternates: Marks::new(),
+        })?;
+        self.places[usize::from(number)] = place;
+        self.numbers.add(number);
+        Ok(())
+    }
+
+    /// The alternate stands too. Tells whether it stood before.
+    fn mark(&mut self, number: u8, alternate: u8) -> bool
+        requires { (kept self.old).numbers number ≡ true }
+        ensures again { result ≡ (kept self.old).alternates number alternate }
+        ensures marked { kept self.new ≡ paired number alternate (kept self.old) }
+    {
+        let place = usize::from(self.places[usize::from(number)]);
+        let alternates = &mut self.list[place].alternates;
+        let again = alternates.has(alternate);
+        alternates.add(alternate);
+        again
+    }
 }

@@ -6,26 +6,24 @@
 //! - What breaks each rule is `specs/Rules.antt`; in which order findings come is `specs/Findings.antt`.
 #![tactic(auto)]
 
-mod alternates;
+mod addresses;
 mod association;
 mod attributes;
 mod checking;
-mod counts;
 mod default_setting;
 mod device;
 mod endpoint;
+mod endpoint_count;
 mod finding;
+mod found;
+mod interface_number;
 mod interfaces;
-mod lists;
-mod owners;
-mod pairs;
-mod push;
+mod place;
 mod repeated_address;
 mod repeated_setting;
 mod rule;
 mod set;
 mod shared_address;
-mod survey;
 mod value;
 
 pub use checking::{NoMemory, check};

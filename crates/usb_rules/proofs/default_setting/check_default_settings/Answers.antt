@@ -1,8 +1,11 @@
-use Rattle.std.proofs.Common.{◌++◌, ◌∙◌, ap, sym}
-use Rattle.std.proofs.lemmas.List.{append-nil}
+use Rattle.std.proofs.Common.{◌++◌, ◌∙◌, ap, arith}
+use Rattle.usb_rules.specs.inside.Interfaces.{kept}
+use Rattle.usb_rules.proofs.Walking.{at_each_end, lacking, lacking_are}
 use Rattle.usb_rules.proofs.default_setting.check_default_settings.Goals as goal
 
-pub returns-then-survey : goal.returns-then-survey
-returns-then-survey c =
-    let none = (c.requires.order c.if-survey.true).lacks_none c.args.part c.args.set in
-    sym (ap (λ found. c.args.out.now.items ++ found) none ∙ append-nil c.args.out.now.items)
+pub returns : goal.returns
+returns c =
+    let e = kept c.args.interfaces.now in
+    let list = c.list-interface-items.result.now in
+    at_each_end (lacking c.args.place.part c.args.place.set e.alternates) list c.loop-interface.interface-index _ _ c.loop-interface-test.false c.loop-interface.invariant
+    ∙ ap (λ xs. c.args.found.now ++ xs) (lacking_are c.args.place.part c.args.place.set c.args.c.now e list c.requires c.list-interface-items.ensures)

@@ -1,0 +1,13 @@
+use Rattle.std.proofs.Common.{◌≡◌, ◌++◌, ◌==◌, ◌∙◌, not, length, ap, subst, OnOk}
+use Rattle.usb_rules.specs.declared.rule.Rule.TheVariants as rules
+use Rattle.usb_rules.specs.Places.{when}
+use Rattle.usb_rules.specs.inside.Interfaces.{kept}
+use Rattle.usb_rules.specs.inside.Walk.{broken}
+use Rattle.usb_rules.proofs.Walking.{count_is}
+use Rattle.usb_rules.proofs.interface_number.check_interface_count.Goals as goal
+
+pub returns : goal.returns
+returns c =
+    let is = count_is c.args.c.now.settings (kept c.args.interfaces.now) c.list.result.now c.requires c.list.ensures in
+    let wrong = ap (λ n. not (n == length c.list.result.now)) c.from-declared.ensures ∙ ap (λ n. not (c.args.c.now.declared_interfaces == n)) is in
+    subst (λ b. OnOk c.tell.result (c.tell.new.self ≡ c.args.found.now ++ when b (broken rules.V1 c.args.place))) wrong c.tell.ensures

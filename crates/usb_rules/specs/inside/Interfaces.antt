@@ -1,0 +1,93 @@
+-- What is kept of the settings of a set that were entered.
+use Rattle.std.specs.Prelude.{◌≡◌, ℕ, ◌+◌, ◌==◌, ◌&&◌, ◌||◌, not, Bool, true, false, List, [], ◌∷◌, ◌++◌, length, map, slice_index_or, take}
+use Rattle.std.specs.List.{list_any, range_with_len}
+use Rattle.usb_base.specs.Marks.{marked, is_marked}
+use Rattle.usb_set.specs.declared.tree.Association.{Association}
+use Rattle.usb_set.specs.declared.tree.Setting.{Setting}
+use Rattle.usb_rules.specs.declared.interfaces.Interface.{Interface}
+use Rattle.usb_rules.specs.Places.{at_each, stands_in, when}
+use Rattle.usb_rules.specs.Rules.{is_first, number_of}
+use Rattle.usb_rules.specs.inside.Walk.{stood}
+
+-- which interface numbers stood, with which alternates, and where each first stood
+pub record Entered : Type 0 where
+  pub numbers : ℕ → Bool
+  pub alternates : ℕ → ℕ → Bool
+  pub firsts : List (ℕ × ℕ)
+
+-- no setting stood
+abbrev pub none_entered : Entered
+none_entered = record { numbers = λ n. false; alternates = λ n a. false; firsts = [] }
+
+-- an interface of this number begins at the setting of this place
+abbrev pub begun : ℕ → ℕ → Entered → Entered
+begun number setting e = record { numbers = marked e.numbers number; alternates = e.alternates; firsts = e.firsts ++ (number, setting) ∷ [] }
+
+-- this pair stands too
+unfoldable pub pair_too : ℕ → ℕ → (ℕ → ℕ → Bool) → ℕ → ℕ → Bool
+pair_too n a pairs m b = ((n == m) && (a == b)) || pairs m b
+
+-- a setting of an interface that began stands too
+abbrev pub paired : ℕ → ℕ → Entered → Entered
+paired n a e = record { numbers = e.numbers; alternates = pair_too n a e.alternates; firsts = e.firsts }
+
+-- the interface of this number stands, and began at the setting of this place if it did not stand before
+abbrev pub settled : ℕ → ℕ → Entered → Entered
+settled n setting e = record { numbers = marked e.numbers n; alternates = e.alternates; firsts = e.firsts ++ when (not (e.numbers n)) (n, setting) }
+
+-- the setting of this place stands too
+abbrev pub entered : ℕ → Setting → Entered → Entered
+entered setting s e = paired s.number s.alternate (settled s.number setting e)
+
+-- the interface that begins at a setting, by its place
+abbrev pub first_at : List Setting → ℕ → Setting → List (ℕ × ℕ)
+first_at settings j s = when (is_first (take j settings) s) (s.number, j)
+
+-- each interface number with the place of its first setting, in the order of these
+abbrev pub firsts_of : List Setting → List (ℕ × ℕ)
+firsts_of settings = at_each (first_at settings) 0 settings
+
+-- just these settings were entered
+pub record AreEntered (settings : List Setting) (e : Entered) : Type 0 where
+  pub numbers : e.numbers ≡ stands_in (map number_of settings)
+  pub alternates : e.alternates ≡ stood settings
+  pub firsts : e.firsts ≡ firsts_of settings
+
+-- an interface by its number and the place of its first setting
+abbrev pub first_of : Interface → ℕ × ℕ
+first_of i = (i.number, i.first)
+
+-- the number of the interface at a place, and else another than this
+abbrev pub number_at : List Interface → ℕ → ℕ → ℕ
+number_at list place n = slice_index_or (map (λ i. i.number) list) place (n + 1)
+
+-- where the interface of a number stands, if it has one
+abbrev pub place_of : List ℕ → ℕ → ℕ
+place_of places n = slice_index_or places n 0
+
+-- the fields of a value that keeps this
+pub record Table : Type 0 where
+  pub list : List Interface
+  pub places : List ℕ
+  pub marks : List ℕ
+
+-- of each number with a mark an interface stands at its place
+pub record AreFound (t : Table) : Type 0 where
+  pub room : length t.places ≡ 256
+  pub found : (n : ℕ) → is_marked t.marks n ≡ true → number_at t.list (place_of t.places n) n ≡ n
+
+-- what these say
+abbrev pub entries : (ℕ → Bool) → List (List ℕ) → List ℕ → List (ℕ × ℕ) → Entered
+entries stands rows places firsts = record {
+  numbers = stands;
+  alternates = λ n a. stands n && is_marked (slice_index_or rows (place_of places n) []) a;
+  firsts = firsts;
+}
+
+-- what the fields say
+unfoldable pub kept : Table → Entered
+kept t = entries (is_marked t.marks) (map (λ i. i.alternates) t.list) t.places (map first_of t.list)
+
+-- the association has no interface, or one of its numbers isn't among these
+abbrev pub misses_some : (ℕ → Bool) → Association → Bool
+misses_some stands a = (a.count == 0) || list_any (λ n. not (stands n)) (range_with_len a.first a.count)

@@ -1,0 +1,112 @@
+//! The endpoint addresses of a set.
+ghost use Rattle.std.specs.Prelude.{◌≡◌};
+ghost use Rattle.usb_rules.specs.inside.Addresses.{claimed, cleared, is_other, joined, kept, turned};
+
+use std::marker::Model;
+use usb_base::Marks;
+
+/// The interface numbers under which an address stands.
+#[derive(Clone, Copy)]
+pub(crate) enum Owner {
+    One(u8),
+    Several,
+}
+
+impl Owner {
+    fn join(self, number: u8) -> Owner
+        ensures { result ≡ joined self number }
+    {
+        match self {
+            Owner::One(first) if first == number => self,
+            _ => Owner::Several,
+        }
+    }
+
+    fn is_other(self, number: u8) -> bool
+        ensures { result ≡ is_other self number }
+    {
+        match self {
+            Owner::One(first) => first != number,
+            Owner::Several => true,
+        }
+    }
+}
+
+/// Which addresses stood in a set and in its setting in work, and under which interface numbers. One
+/// value serves all sets of a file: to begin anew takes as little for a large set as for a small one.
+#[derive(Drop)]
+pub(crate) struct Addresses {
+    /// The interface number of the setting in work.
+    number: u8,
+    in_setting: Marks,
+    in_set: Marks,
+    /// The owner of each address that stood in the set, and of others anything.
+    owners: [Owner; 256],
+}
+
+impl Model for Addresses {
+    ghost use Rattle.std.specs.Prelude.{◌≡◌, length};
+    ghost use Rattle.usb_rules.specs.inside.Addresses.{Table};
+
+    ghost Value = { Table };
+
+    ghost view = { λ t. record { number = t.number; in_setting = t.in_setting; in_set = t.in_set; owners = t.owners } };
+
+    ghost invariant = { λ t. length t.owners ≡ 256 };
+}
+
+impl Addresses {
+    /// With a place for the owner of each address.
+    pub(crate) fn new() -> Addresses {
+        Addresses {
+            number: 0,
+            in_setting: Marks::new(),
+            in_set: Marks::new(),
+            owners: [Owner::Several; 256],
+        }
+    }
+
+    /// Begins a set.
+    pub(crate) fn clear(&mut self)
+        ensures { kept self.new ≡ cleared (kept self.old) }
+    {
+        self.in_set = Marks::new();
+    }
+
+    /// Begins a setting of this interface number.
+    pub(crate) fn begin(&mut self, number: u8)
+        ensures { kept self.new ≡ turned number (kept self.old) }
+    {
+        self.number = number;
+        self.in_setting = Marks::new();
+    }
+
+    /// Whether the address stood in the setting in work.
+    pub(crate) fn is_repeated(&self, address: u8) -> bool
+        ensures { result ≡ (kept self.now).here address }
+    {
+        self.in_setting.has(address)
+    }
+
+    /// Whether the address stood under another interface number than that of the setting in work.
+    #[tactic(auto, unfolding(crate::specs::inside::Addresses::kept))]
+    pub(crate) fn is_shared(&self, address: u8) -> bool
+        ensures { result ≡ (kept self.now).elsewhere address (kept self.now).number }
+    {
+        self.in_set.has(address) && self.owners[usize::from(address)].is_other(self.number)
+    }
+
+    /// The address stands in the setting in work.
+    pub(crate) fn add(&mut self, address: u8)
+        ensures { kept self.new ≡ claimed address (kept self.old) }
+    {
+        let owner = if self.in_set.has(address) {
+            self.owners[usize::from(address)].join(self.number)
+        } else {
+            Owner::One(self.number)
+        };
+        self.owners[usize::from(address)] = owner;
+        self.in_set.add(address);
+        self.in_setting.add(address);
+    }
+}
