@@ -1,12 +1,12 @@
 -- A file put together from the parts that were read.
-use Rattle.std.proofs.Common.{◌≡◌, ◌≢◌, ℕ, cond, ltb, take, ◌+◌, ◌*◌, ◌<◌, ◌≤◌, inr, Bool, true, false, ◌||◌, List, [], ◌++◌, length, drop, Option, Some, None, refl, ap, sym, subst, ◌∙◌, arith, append_assoc, length-append}
+use Rattle.std.proofs.Common.{◌≡◌, ◌≢◌, ℕ, cond, ltb, take, ◌+◌, ◌*◌, ◌<◌, ◌≤◌, inl, inr, Bool, true, false, ◌||◌, List, [], ◌∷◌, ◌++◌, length, drop, Option, Some, None, refl, ap, sym, subst, ◌∙◌, arith, append_assoc, length-append}
 use Rattle.std.specs.Prelude.{is_some, slice_index}
 use Rattle.std.specs.List.{list_any}
 use Rattle.std.proofs.lemmas.List.{append-nil, take-append-drop}
-use Rattle.std.proofs.lemmas.Bool.{or_from, or_parts}
+use Rattle.std.proofs.lemmas.Bool.{ltb-false, ltb-true, or_from, or_parts}
 use Rattle.usb_fields.specs.declared.device.DeviceDescriptor.{DeviceDescriptor}
 use Rattle.usb_fields.specs.declared.qualifier.Qualifier.{Qualifier}
-use Rattle.usb_fields.specs.Device.{device_bytes}
+use Rattle.usb_fields.specs.Device.{device_bytes, device_fault}
 use Rattle.usb_fields.specs.Qualifier.{qualifier_bytes, qualifier_fault}
 use Rattle.usb_fields.specs.Units.{units_bytes}
 use Rattle.usb_set.specs.declared.tree.SetKind.{SetKind}
@@ -19,9 +19,12 @@ use Rattle.usb_file_data.specs.Named.{named_indices}
 use Rattle.usb_file_data.specs.File.{File, file_bytes, sets_bytes, other_bytes, each_string_bytes, is_other_kind, has_no_layout, are_wrong_strings}
 use Rattle.usb_file.specs.declared.fault.FileWhy.{FileWhy}
 use Rattle.usb_file.specs.declared.fault.FileWhy.TheVariants as files
-use Rattle.usb_file_data.specs.Front.{AllSets, IsPartStart}
-use Rattle.usb_file.specs.FileFaults.{NextPart, a_set, a_qualifier, the_languages, a_string, the_end, begins_qualifier, IsNext, NoQualifierIsNext, EndIsNext, is_no_string, string_fault, fixed_fault, PartFaulty, FaultyPart, ReadRefused}
-use Rattle.usb_file.specs.inside.Reading.{ReadSoFar, Behind, SetRefused, ReadsSets, SetsRefused, ReadsQualifier, ReadsOther, OtherRefused, no_qualifier, no_set, ReadsString, StringRefused, ReadsDueStrings, ReadsStrings, StringsRefused, no_languages, no_string}
+use Rattle.usb_file_data.specs.Front.{AllSets, IsPartStart, Splits}
+use Rattle.usb_file.specs.FileFaults.{NextPart, a_set, a_qualifier, the_languages, a_string, the_end, begins_qualifier, IsNext, NoQualifierIsNext, EndIsNext, is_no_string, string_fault, fixed_fault, PartFaulty, FaultyPart}
+use Rattle.usb_file.specs.Dumps.{Dump}
+use Rattle.usb_file.specs.Inputs.{DeviceRefused}
+use Rattle.usb_file.specs.inside.PartLaws.{PartLaws}
+use Rattle.usb_file.specs.inside.Reading.{ReadSoFar, SetsRead, Behind, SetRefused, ReadsSets, SetsRefused, ReadsQualifier, ReadsOther, OtherRefused, no_qualifier, no_set, ReadsString, StringRefused, ReadsDueStrings, ReadsStrings, StringsRefused, ends_as_dump, no_languages, no_string}
 use Rattle.usb_base.specs.Bytes.{AreBytes}
 use Rattle.usb_file_data.proofs.Lists.{behind_main, behind_other, drop_more}
 use Rattle.usb_file.proofs.Units.{length-units_bytes}
@@ -29,6 +32,8 @@ use Rattle.usb_file_data.proofs.Fronts.{Grown, grow_qualifier, grow_languages, g
 use Rattle.usb_file_data.specs.Front.{with_strings}
 use Rattle.usb_file.proofs.Next.{right_count, right_none, right_strings, not_none}
 use Rattle.usb_file.proofs.Ends.{is_file, bytes_left, drop_all}
+use Rattle.usb_file.proofs.Complete.{no_device_fault}
+use Rattle.usb_file.proofs.Dumps.{dump_splits, end_apart, is_dump, no_dump, qualifier_apart, set_apart, string_apart}
 
 -- a file by its parts
 abbrev made : DeviceDescriptor → List Configuration → Option Other → Option Strings → DescriptorFile
@@ -64,9 +69,11 @@ faulty_part b f place at d why so_far next h = record {
   at_is = h.at_is ∙ ap (λ n. n + h.count) so_far.ends;
 }
 
-not_memory : (b : List ℕ) (at : ℕ) (why : FileWhy) → why ≢ files.Memory → FaultyPart b at why → ReadRefused b at why
-not_memory b at files.Memory not h = absurd (not refl)
-not_memory b at why not h = inr h
+-- the part that comes next is at fault, and the bytes are no dump
+refused : (laws : PartLaws) (b : List ℕ) (at : ℕ) (why : FileWhy) → why ≢ files.Memory → (y : FaultyPart b at why)
+    → (y.part ≡ the_languages → y.rest ≡ [] → y.front.other ≡ None → ⊥) → DeviceRefused b at why
+refused laws b at files.Memory not y elsewhere = absurd (not refl)
+refused laws b at why not y elsewhere = (inr y, no_dump laws b at _ y elsewhere)
 
 told_why : (n at : ℕ) (w why : FileWhy) (o : Option (ℕ × FileWhy)) → o ≡ Some (n, w) → o ≡ Some (at, why) → w ≡ why
 told_why n at w why o h k =
@@ -75,7 +82,7 @@ told_why n at w why o h k =
     let pairs : found ≡ told = cc in
     ap (λ (p : ℕ × FileWhy). p.1) pairs
 
--- a descriptor of known length tells of no want of memory
+-- a descriptor of known length never tells *out of memory*
 fixed_memory : (long : ℕ) (wrong : Bool) (tells : FileWhy) (rest : List ℕ) (at : ℕ) (why : FileWhy) → fixed_fault long wrong tells rest ≡ Some (at, why)
     → tells ≢ files.Memory → why ≢ files.Memory
 fixed_memory long wrong tells rest at why h not = cases (ltb (length rest) long) wrong h
@@ -94,19 +101,24 @@ string_memory least rest at why h = cases (is_no_string least rest) (ltb (length
     cases false false h e = cc
 
 -- a set is refused
-set_refused : (kind : SetKind) (b : List ℕ) (f : DescriptorFile) (place at : ℕ) (why : FileWhy) → ReadSoFar b f place → IsNext (a_set kind) f (drop place b)
-    → Behind place (λ n. SetRefused kind (drop place b) n why) at → ReadRefused b at why
-set_refused kind b f place at files.Memory so_far next h = subst (IsPartStart b) (omega (arith, h.at_is, h.holds)) (starts b f place so_far)
-set_refused kind b f place at why so_far next h = inr (faulty_part b f place at (a_set kind) _ so_far next h)
+set_refused : (laws : PartLaws) (kind : SetKind) (b : List ℕ) (f : DescriptorFile) (place at : ℕ) (why : FileWhy) → ReadSoFar b f place → IsNext (a_set kind) f (drop place b)
+    → Behind place (λ n. SetRefused kind (drop place b) n why) at → DeviceRefused b at why
+unfolding faulty_part
+set_refused laws kind b f place at files.Memory so_far next h = subst (IsPartStart b) (omega (arith, h.at_is, h.holds)) (starts b f place so_far)
+set_refused laws kind b f place at why so_far next h =
+    let part = faulty_part b f place at (a_set kind) _ so_far next h in
+    (inr part, no_dump laws b at _ part (λ e _ _. set_apart kind e))
 
 -- a string descriptor is refused
-string_refused : (b : List ℕ) (f : DescriptorFile) (place at : ℕ) (why : FileWhy) (least : ℕ) (d : NextPart) → ReadSoFar b f place → IsNext d f (drop place b)
+string_refused : (laws : PartLaws) (b : List ℕ) (f : DescriptorFile) (place at : ℕ) (why : FileWhy) (least : ℕ) (d : NextPart) → ReadSoFar b f place → IsNext d f (drop place b)
     → ((n : ℕ) (why : FileWhy) → string_fault least (drop place b) ≡ Some (n, why) → PartFaulty d (drop place b) n why)
-    → Behind place (λ n. StringRefused least (drop place b) n why) at → ReadRefused b at why
-string_refused b f place at files.Memory least d so_far next part h = subst (IsPartStart b) (omega (arith, h.at_is, h.holds)) (starts b f place so_far)
-string_refused b f place at why least d so_far next part h =
-    not_memory b at _ (string_memory least (drop place b) h.count _ h.holds)
-    (faulty_part b f place at d _ so_far next (record { count = h.count; holds = part h.count _ h.holds; at_is = h.at_is }))
+    → (d ≡ the_languages → drop place b ≡ [] → f.other ≡ None → ⊥)
+    → Behind place (λ n. StringRefused least (drop place b) n why) at → DeviceRefused b at why
+unfolding faulty_part
+string_refused laws b f place at files.Memory least d so_far next part elsewhere h = subst (IsPartStart b) (omega (arith, h.at_is, h.holds)) (starts b f place so_far)
+string_refused laws b f place at why least d so_far next part elsewhere h =
+    refused laws b at _ (string_memory least (drop place b) h.count _ h.holds)
+    (faulty_part b f place at d _ so_far next (record { count = h.count; holds = part h.count _ h.holds; at_is = h.at_is })) elsewhere
 
 -- ---- the device and its sets
 
@@ -130,11 +142,15 @@ main_read b d ss end fits long h reads few =
       bytes = behind_main (device_bytes d) [] (sets_bytes ss) [] [] (sets_bytes ss) refl refl refl;
     }) reads.all.parts reads.all.ends
 
-pub main_refused : (b : List ℕ) (d : DeviceDescriptor) (ss : List Configuration) (at : ℕ) (why : FileWhy) → AreBytes b → 18 ≤ length b → take 18 b ≡ device_bytes d
-    → SetsRefused kinds.Configuration d.configurations b 18 ss at why → ReadRefused b at why
-main_refused b d ss at why fits long h refused =
+pub device_refused : (b : List ℕ) (at : ℕ) (why : FileWhy) → fixed_fault 18 (is_some (device_fault (take 18 b))) files.Device b ≡ Some (at, why) → DeviceRefused b at why
+device_refused b at files.Memory h = absurd (fixed_memory 18 (is_some (device_fault (take 18 b))) files.Device b at files.Memory h (λ e. cc) refl)
+device_refused b at why h = (inl h, λ f dump. no_device_fault b f [] at _ (dump_splits f b dump) h)
+
+pub main_refused : (laws : PartLaws) (b : List ℕ) (d : DeviceDescriptor) (ss : List Configuration) (at : ℕ) (why : FileWhy) → AreBytes b → 18 ≤ length b → take 18 b ≡ device_bytes d
+    → SetsRefused kinds.Configuration d.configurations b 18 ss at why → DeviceRefused b at why
+main_refused laws b d ss at why fits long h refused =
     let few = refused.few in
-    set_refused kinds.Configuration b (made d ss None None) refused.end at why (main_read b d ss refused.end fits long h refused.reads (omega arith)) refused.few refused.refused
+    set_refused laws kinds.Configuration b (made d ss None None) refused.end at why (main_read b d ss refused.end fits long h refused.reads (omega arith)) refused.few refused.refused
 
 -- ---- the other speed
 
@@ -161,23 +177,18 @@ speed_read b d ss place q os end so_far full reads sets few =
           (sym (ap (λ x. x ++ sets_bytes os) (append-nil (qualifier_bytes q)))) refl;
     }) sets.all.parts sets.all.ends
 
-pub other_refused : (b : List ℕ) (d : DeviceDescriptor) (ss : List Configuration) (place at : ℕ) (why : FileWhy) → ReadSoFar b (made d ss None None) place → length ss ≡ d.configurations
-    → OtherRefused b place at why → ReadRefused b at why
-other_refused b d ss place at why so_far full (no_qualifier begins h) =
-    not_memory b at why (fixed_memory 10 (is_some (qualifier_fault (take 10 (drop place b)))) files.Qualifier (drop place b) h.count why h.holds (λ e. cc))
-    (faulty_part b (made d ss None None) place at a_qualifier why so_far (record { all = full; no_other = refl; no_strings = refl; begins = begins }) h)
-other_refused b d ss place at why so_far full (no_set q os begins reads h) =
+pub other_refused : (laws : PartLaws) (b : List ℕ) (d : DeviceDescriptor) (ss : List Configuration) (place at : ℕ) (why : FileWhy) → ReadSoFar b (made d ss None None) place → length ss ≡ d.configurations
+    → OtherRefused b place at why → DeviceRefused b at why
+unfolding faulty_part
+other_refused laws b d ss place at why so_far full (no_qualifier begins h) =
+    refused laws b at why (fixed_memory 10 (is_some (qualifier_fault (take 10 (drop place b)))) files.Qualifier (drop place b) h.count why h.holds (λ e. cc))
+    (faulty_part b (made d ss None None) place at a_qualifier why so_far (record { all = full; no_other = refl; no_strings = refl; begins = begins }) h) (λ e _ _. qualifier_apart e)
+other_refused laws b d ss place at why so_far full (no_set q os begins reads h) =
     let few = h.few in
-    set_refused kinds.OtherSpeed b (made d ss (Some (record { qualifier = q; sets = os })) None) h.end at why
+    set_refused laws kinds.OtherSpeed b (made d ss (Some (record { qualifier = q; sets = os })) None) h.end at why
     (speed_read b d ss place q os h.end so_far full reads h.reads (omega arith)) h.few h.refused
 
 -- ---- all sets were read
-
-pub record SetsRead (b : List ℕ) (f : DescriptorFile) (place : ℕ) : Type 0 where
-  pub so_far : ReadSoFar b f place
-  pub all : AllSets f f.other
-  pub no_strings : f.strings ≡ None
-  pub no_qualifier : NoQualifierIsNext f (drop place b)
 
 pub sets_read : (b : List ℕ) (d : DeviceDescriptor) (ss : List Configuration) (place : ℕ) (o : Option Other) (end : ℕ) → ReadSoFar b (made d ss None None) place → length ss ≡ d.configurations
     → ReadsOther b place o end → SetsRead b (made d ss o None) end
@@ -224,13 +235,15 @@ due_strings_read b f place u start texts end sets named h reads few =
     (record { named = named; spoken = omega arith; few = few; short = or_from _ _ h.holds.short reads.short })
     (sym (ap (λ x. x ++ each_string_bytes texts) (append-nil (units_bytes u))))) reads.all.parts reads.all.ends
 
-pub strings_refused : (b : List ℕ) (f : DescriptorFile) (place at : ℕ) (why : FileWhy) → SetsRead b f place → StringsRefused (length (named_indices f)) b place at why → ReadRefused b at why
-strings_refused b f place at why sets (no_languages named h) =
-    string_refused b f place at why 4 the_languages sets.so_far (record { all = sets.all; no_strings = sets.no_strings; no_qualifier = sets.no_qualifier; named = named }) (λ n why x. x) h
-strings_refused b f place at why sets (no_string u start texts named languages h) =
+pub strings_refused : (laws : PartLaws) (b : List ℕ) (f : DescriptorFile) (place at : ℕ) (why : FileWhy) → SetsRead b f place
+    → (0 < length (named_indices f) → drop place b ≡ [] → f.other ≡ None → ⊥) → StringsRefused (length (named_indices f)) b place at why → DeviceRefused b at why
+strings_refused laws b f place at why sets elsewhere (no_languages named h) =
+    string_refused laws b f place at why 4 the_languages sets.so_far (record { all = sets.all; no_strings = sets.no_strings; no_qualifier = sets.no_qualifier; named = named }) (λ n why x. x)
+    (λ _. elsewhere named) h
+strings_refused laws b f place at why sets elsewhere (no_string u start texts named languages h) =
     let few = h.few in
-    string_refused b (with_strings (record { languages = u; texts = texts }) f) h.end at why 2 a_string
-    (due_strings_read b f place u start texts h.end sets named languages h.reads (omega arith)) h.few (λ n why x. x) h.refused
+    string_refused laws b (with_strings (record { languages = u; texts = texts }) f) h.end at why 2 a_string
+    (due_strings_read b f place u start texts h.end sets named languages h.reads (omega arith)) h.few (λ n why x. x) (λ e _ _. string_apart e) h.refused
 
 -- ---- the end
 
@@ -273,6 +286,29 @@ whole_file b f place read long =
     let none = drop_all place b long in
     is_file f b (subst (EndIsNext f) none read.next) read.so_far.splits.is_front (subst (λ r. b ≡ file_bytes f ++ r) none read.so_far.splits.parts) read.so_far.fits
 
-pub trailing : (b : List ℕ) (f : DescriptorFile) (place : ℕ) → AllRead b f place → place < length b → ReadRefused b place files.Trailing
-trailing b f place read long =
-    inr (faulty_part b f place place the_end files.Trailing read.so_far read.next (record { count = 0; holds = bytes_left place b long; at_is = omega arith }))
+pub trailing : (laws : PartLaws) (b : List ℕ) (f : DescriptorFile) (place : ℕ) → AllRead b f place → place < length b → DeviceRefused b place files.Trailing
+unfolding faulty_part
+trailing laws b f place read long =
+    let part = faulty_part b f place place the_end files.Trailing read.so_far read.next (record { count = 0; holds = bytes_left place b long; at_is = omega arith }) in
+    (inr part, no_dump laws b place files.Trailing part (λ e _ _. end_apart e))
+
+-- ---- a dump
+
+-- where no byte is left behind the sets of a device that names an index
+pub whole_dump : (b : List ℕ) (f : DescriptorFile) (place : ℕ) → SetsRead b f place → ends_as_dump (length (named_indices f)) f.other (drop place b) ≡ true → Dump f b
+whole_dump b f place sets ends =
+    let is = as_dump (length (named_indices f)) f.other (drop place b) ends in
+    is_dump f b sets.so_far.fits (subst (Splits b f) is.1 sets.so_far.splits)
+    (record { all = sets.all; no_strings = sets.no_strings; no_qualifier = λ _ _. refl; named = is.2 }) is.0
+  where
+    as_dump : (count : ℕ) (other : Option Other) (rest : List ℕ) → ends_as_dump count other rest ≡ true → (other ≡ None) × (rest ≡ []) × (0 < count)
+    as_dump count None [] h = (refl, refl, ltb-true 0 count h)
+    as_dump count None (x ∷ rest) h = cc
+    as_dump count (Some o) [] h = cc
+    as_dump count (Some o) (x ∷ rest) h = cc
+
+-- and where one is
+pub is_elsewhere : (count : ℕ) (other : Option Other) (rest : List ℕ) → ends_as_dump count other rest ≡ false → 0 < count → rest ≡ [] → other ≡ None → ⊥
+is_elsewhere count None [] h named none no_other = absurd (omega (arith, named, ltb-false 0 count h))
+is_elsewhere count None (x ∷ rest) h named none no_other = cc
+is_elsewhere count (Some o) rest h named none no_other = cc

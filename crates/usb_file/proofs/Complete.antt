@@ -282,7 +282,7 @@ device_fine : (d : DeviceDescriptor) (r : List ℕ) → fixed_fault 18 (is_some 
 device_fine d r = cond-false (ltb (length (device_bytes d ++ r)) 18) _ _ (le-ltb _ 18 (omega arith))
 
 -- the device descriptor of a front is one
-no_device_fault : (b : List ℕ) (f : DescriptorFile) (r : List ℕ) (at : ℕ) (why : FileWhy) → Splits b f r → fixed_fault 18 (is_some (device_fault (take 18 b))) files.Device b ≡ Some (at, why) → ⊥
+pub no_device_fault : (b : List ℕ) (f : DescriptorFile) (r : List ℕ) (at : ℕ) (why : FileWhy) → Splits b f r → fixed_fault 18 (is_some (device_fault (take 18 b))) files.Device b ≡ Some (at, why) → ⊥
 no_device_fault b f r at why splits h =
     let is : b ≡ device_bytes f.device ++ behind f r = splits.parts ∙ device_first f r in
     let none : Option (ℕ × FileWhy) = None in
@@ -292,7 +292,7 @@ no_device_fault b f r at why splits h =
     cc
 
 -- the part that is at fault is the one that comes next
-fault_of : (b : List ℕ) (at : ℕ) (why : FileWhy) (y : FaultyPart b at why) → PartFaulty (next_part y.front y.rest) y.rest y.place why
+pub fault_of : (b : List ℕ) (at : ℕ) (why : FileWhy) (y : FaultyPart b at why) → PartFaulty (next_part y.front y.rest) y.rest y.place why
 fault_of b at why y = subst (λ d. PartFaulty d y.rest y.place why) (sym (next_is y.part y.front y.rest y.splits.is_front y.next)) y.fault
 
 pub not_both : (laws : PartLaws) (b : List ℕ) (f : DescriptorFile) (at : ℕ) (why : FileWhy) → File f b → FileFaulty b at why → ⊥

@@ -33,7 +33,7 @@ bytes_left zero (x ∷ b) h = (refl, refl)
 bytes_left (suc n) [] h = absurd (omega arith)
 bytes_left (suc n) (x ∷ b) h = bytes_left n b (omega arith)
 
--- the bytes of a file are refused for want of memory alone
+-- the bytes of a file are refused out of memory alone
 pub only_memory : (b : List ℕ) → ((b : List ℕ) (f : DescriptorFile) (p : ℕ) (w : FileWhy) → File f b → FileFaulty b p w → ⊥)
     → (f : DescriptorFile) (at : ℕ) (why : FileWhy) → ReadRefused b at why → File f b → why ≡ files.Memory
 only_memory b not_both f at files.Memory h file = refl

@@ -12,3 +12,5 @@ pub mod Assembly
 pub mod Unique
 pub mod Paths
 pub mod Complete
+pub mod Dumps
+pub mod Inputs

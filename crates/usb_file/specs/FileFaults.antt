@@ -128,7 +128,7 @@ abbrev pub FileFaulty : List ℕ → ℕ → FileWhy → Type 0
 FileFaulty b at why =
     (fixed_fault 18 (is_some (device_fault (take 18 b))) files.Device b ≡ Some (at, why)) ⊎ FaultyPart b at why
 
--- Want of memory is told where a part starts, and else the fault that the bytes show.
+-- *Out of memory* is told where a part starts, and else the fault that the bytes show.
 abbrev pub ReadRefused : List ℕ → ℕ → FileWhy → Type 0
 ReadRefused b at files.Memory = IsPartStart b at
 ReadRefused b at why = FileFaulty b at why

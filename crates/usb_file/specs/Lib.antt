@@ -1,4 +1,7 @@
 pub mod FileFaults
 pub mod FileOrFault
+pub mod Dumps
+pub mod Inputs
+pub mod InputOrFault
 pub mod Numbers
 pub mod inside

@@ -5,10 +5,10 @@ ghost use Rattle.usb_file.specs.FileFaults.{fixed_fault};
 ghost use Rattle.usb_file.specs.declared.fault.FileWhy.TheVariants as files;
 
 use crate::fault::{FileFault, FileWhy};
-use usb_fields::DeviceDescriptor;
+use usb_fields::{DeviceDescriptor, descriptor_length};
 
 /// bLength of a device descriptor, in bytes (USB 2.0, 9.6.1).
-pub(crate) const DEVICE_LENGTH: usize = 18;
+pub(crate) const DEVICE_LENGTH: usize = descriptor_length::DEVICE as usize;
 
 /// The device descriptor that the file begins with.
 pub(crate) fn read_device(b: &[u8]) -> Result<DeviceDescriptor, FileFault>

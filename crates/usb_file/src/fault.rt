@@ -30,7 +30,7 @@ pub enum FileWhy {
     /// The bytes go on after the end of the file.
     #[error("bytes after the end of the file")]
     Trailing,
-    /// A growth was refused.
+    /// Out of memory.
     #[error("out of memory")]
     Memory,
 }

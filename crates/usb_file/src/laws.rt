@@ -6,6 +6,12 @@ ghost use Rattle.usb_file_data.specs.File.{File};
 ghost use Rattle.usb_file.specs.FileFaults.{FileFaulty};
 ghost use Rattle.usb_file.specs.inside.PartLaws.{PartLaws};
 ghost use Rattle.usb_file.specs.FileOrFault.{FileOrFault};
+ghost use Rattle.usb_file.specs.Dumps.{Dump};
+ghost use Rattle.usb_file.specs.Inputs.{InputFaulty, IsInput};
+ghost use Rattle.usb_file.specs.InputOrFault.{InputOrFault};
+ghost use Rattle.usb_file.specs.declared.input.Input.{Input};
+ghost use Rattle.usb_file.specs.declared.input_fault.InputFault.{InputFault};
+ghost use Rattle.usb_file.specs.declared.fault.FileWhy.TheVariants as files;
 ghost use Rattle.usb_file_data.specs.declared.file.DescriptorFile.{DescriptorFile};
 ghost use Rattle.usb_file.specs.declared.fault.FileWhy.{FileWhy};
 ghost use Rattle.usb_listing.specs.Listing.{file_lines};
@@ -56,8 +62,26 @@ pub fn one_answer()
     part_laws();
 }
 
+/// Of all bytes exactly one holds: they are one set, one file or one dump, or they show one fault.
+pub fn one_input()
+    ensures some { (b : List ℕ) → AreBytes b → InputOrFault b }
+    ensures one { (b : List ℕ) (v w : Input) → IsInput v b → IsInput w b → v ≡ w }
+    ensures one_fault { (b : List ℕ) (v w : InputFault) → AreBytes b → InputFaulty b v → InputFaulty b w → v ≡ w }
+    ensures not_both { (b : List ℕ) (v : Input) (w : InputFault) → IsInput v b → InputFaulty b w → ⊥ }
+{
+    part_laws();
+}
+
+/// No dump is a file: it ends right after the sets of the device, where the language list is due.
+pub fn no_dump_is_a_file()
+    ensures file { (b : List ℕ) (f g : DescriptorFile) → Dump f b → File g b → ⊥ }
+    ensures fault { (b : List ℕ) (f : DescriptorFile) → Dump f b → FileFaulty b (length b) files.Truncated }
+{
+    part_laws();
+}
+
 /// The laws of the parts of a file, from the crates that read and write these.
-fn part_laws()
+pub(crate) fn part_laws()
     ensures { PartLaws }
 {
     device_descriptor_round_trip();

@@ -18,6 +18,8 @@
 
 mod device;
 mod fault;
+mod input;
+mod input_fault;
 pub mod laws;
 mod other;
 mod reading;
@@ -26,6 +28,8 @@ mod strings;
 mod writing;
 
 pub use fault::{FileFault, FileWhy};
+pub use input::{Input, read_input};
+pub use input_fault::InputFault;
 pub use laws::{FILE_LIMIT, LISTING_LIMIT};
 pub use reading::read_file;
 pub use usb_file_data::{

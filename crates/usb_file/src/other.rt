@@ -7,12 +7,12 @@ use crate::fault::{FileFault, FileWhy};
 use crate::reading::rest;
 use crate::sets::read_sets;
 use std::alloc::Global;
-use usb_fields::Qualifier;
+use usb_fields::{Qualifier, descriptor_length, descriptor_type};
 use usb_file_data::Other;
 use usb_set::{Sequence, SetKind};
 
 /// bLength of a qualifier, in bytes (USB 2.0, 9.6.2).
-const QUALIFIER_LENGTH: usize = 10;
+const QUALIFIER_LENGTH: usize = descriptor_length::DEVICE_QUALIFIER as usize;
 
 /// The other speed, if a qualifier begins at this place, and where it ends.
 pub(crate) fn read_other(
@@ -42,7 +42,7 @@ fn begins_qualifier(rest: &[u8]) -> bool
     match rest {
         [] => false,
         [_] => true,
-        [_, kind, ..] => *kind == 6,
+        [_, kind, ..] => *kind == descriptor_type::DEVICE_QUALIFIER,
     }
 }
 

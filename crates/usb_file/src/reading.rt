@@ -2,18 +2,20 @@
 ghost use Rattle.std.specs.Prelude.{◌≡◌, ◌≤◌, IfErr, IfOk, drop, length};
 ghost use Rattle.usb_file_data.specs.File.{File};
 ghost use Rattle.usb_file.specs.FileFaults.{ReadRefused};
+ghost use Rattle.usb_file.specs.Inputs.{DeviceRefused};
+ghost use Rattle.usb_file.specs.inside.Reading.{IsOfForm, SetsRead, ends_as_dump};
 ghost use Rattle.usb_file.specs.declared.fault.FileWhy.TheVariants as files;
 ghost use Rattle.usb_file_data.specs.declared.file.DescriptorFile.{DescriptorFile};
 
 use crate::device::{DEVICE_LENGTH, read_device};
 use crate::fault::{FileFault, FileWhy};
-use crate::laws::one_answer;
+use crate::laws::{one_answer, part_laws};
 use crate::other::read_other;
 use crate::sets::read_sets;
 use crate::strings::read_strings;
 use std::alloc::Global;
 use usb_base::known_bytes;
-use usb_file_data::{DescriptorFile, count_named};
+use usb_file_data::{DescriptorFile, Other, count_named};
 use usb_set::{Sequence, SetKind};
 
 /// The file that the bytes are (USB 2.0, 9.4.3 and 9.6). Each set is read where it stands: the decoder is
@@ -32,37 +34,79 @@ use usb_set::{Sequence, SetKind};
 pub fn read_file(alloc: Global, b: &[u8]) -> Result<DescriptorFile, FileFault>
     ensures ok { IfOk result (λ f. File f b.now) }
     ensures err { IfErr result (λ fault. ReadRefused b.now fault.at fault.why) }
-    // The bytes of a file are refused for want of memory alone.
+    // The bytes of a file are refused out of memory alone.
     ensures only { IfErr result (λ fault. (f : DescriptorFile) → File f b.now → fault.why ≡ files.Memory) }
 {
     one_answer();
-    read_parts(alloc, b)
+    let (file, form) = read_file_or_dump(alloc, b)?;
+    match form {
+        Form::File => Ok(file),
+        Form::Dump => Err(FileFault::new(b.len(), FileWhy::Truncated)),
+    }
 }
 
-/// The file, read part by part.
-fn read_parts(alloc: Global, b: &[u8]) -> Result<DescriptorFile, FileFault>
-    ensures ok { IfOk result (λ f. File f b.now) }
-    ensures err { IfErr result (λ fault. ReadRefused b.now fault.at fault.why) }
+/// Whether what was read has the strings that it names.
+#[derive(Clone, Copy)]
+pub(crate) enum Form {
+    /// It is a file.
+    File,
+    /// It ends where the strings are due, right after the sets of the device.
+    Dump,
+}
+
+/// The file or the dump, read part by part.
+pub(crate) fn read_file_or_dump(
+    alloc: Global,
+    b: &[u8],
+) -> Result<(DescriptorFile, Form), FileFault>
+    ensures ok { IfOk result (λ p. IsOfForm p.1 p.0 b.now) }
+    ensures err { IfErr result (λ fault. DeviceRefused b.now fault.at fault.why) }
 {
+    part_laws();
+    let (mut file, place) = read_all_sets(alloc, b)?;
+    let count = count_named(&file);
+    if ends_as_dump(count, &file.other, rest(b, place)) {
+        return Ok((file, Form::Dump));
+    }
+    let (strings, end) = read_strings(alloc, b, place, count)?;
+    file.strings = strings;
+    if end < b.len() {
+        return Err(FileFault::new(end, FileWhy::Trailing));
+    }
+    Ok((file, Form::File))
+}
+
+/// Whether nothing follows the sets of a device of one speed, which names so many indices: then the bytes are a
+/// dump, if it names one.
+fn ends_as_dump(count: usize, other: &Option<Other>, rest: &[u8]) -> bool
+    ensures { result ≡ ends_as_dump count other.now rest.now }
+{
+    match (other, rest) {
+        (None, []) => count > 0,
+        _ => false,
+    }
+}
+
+/// The device descriptor and the sets of either speed, and where they end.
+fn read_all_sets(alloc: Global, b: &[u8]) -> Result<(DescriptorFile, usize), FileFault>
+    ensures ok { IfOk result (λ p. SetsRead b.now p.0 p.1) }
+    ensures err { IfErr result (λ fault. DeviceRefused b.now fault.at fault.why) }
+{
+    part_laws();
     known_bytes(b);
     let device = read_device(b)?;
     let mut sets = Sequence::new(alloc);
     let declared = device.configurations;
     let kind = SetKind::Configuration;
     let main_end = read_sets(alloc, b, DEVICE_LENGTH, kind, declared, &mut sets)?;
-    let (other, other_end) = read_other(alloc, b, main_end)?;
-    let mut f = DescriptorFile {
+    let (other, end) = read_other(alloc, b, main_end)?;
+    let file = DescriptorFile {
         device,
         sets,
         other,
         strings: None,
     };
-    let (strings, end) = read_strings(alloc, b, other_end, count_named(&f))?;
-    f.strings = strings;
-    if end < b.len() {
-        return Err(FileFault::new(end, FileWhy::Trailing));
-    }
-    Ok(f)
+    Ok((file, end))
 }
 
 /// The bytes from a place on.

@@ -74,7 +74,7 @@ fn read_one_set(
     }
 }
 
-/// The fault of a set as one of the file, its place counted from the set's start: want of memory is told
+/// The fault of a set as one of the file, its place counted from the set's start: *out of memory* is told
 /// there.
 fn set_refusal(why: SetWhy, at: u32) -> FileFault
     ensures is { result ≡ set_refusal why at }

@@ -6,15 +6,15 @@ ghost use Rattle.usb_file.specs.inside.Reading.{Behind, ReadsNextString, ReadsSt
 use crate::fault::{FileFault, FileWhy};
 use crate::reading::rest;
 use std::alloc::Global;
-use usb_fields::{UnitFault, read_units};
+use usb_fields::{UnitFault, descriptor_length, descriptor_type, read_units};
 use usb_file_data::Strings;
 use usb_set::Sequence;
 
 /// The least bLength of a string descriptor, in bytes: that of one with no unit (USB 2.0, 9.6.7).
-const LEAST_STRING: u8 = 2;
+const LEAST_STRING: u8 = descriptor_length::HEAD;
 
 /// The least bLength of a language list, in bytes: that of one language.
-const LEAST_LANGUAGES: u8 = 4;
+const LEAST_LANGUAGES: u8 = descriptor_length::HEAD + 2;
 
 /// The language list and the strings, if any of so many indices is named, and where they end.
 pub(crate) fn read_strings(
@@ -125,6 +125,6 @@ fn is_no_string(least: u8, rest: &[u8]) -> bool
 {
     match rest {
         [] | [_] => false,
-        [len, kind, ..] => *len < least || *len % 2 == 1 || *kind != 3,
+        [len, kind, ..] => *len < least || *len % 2 == 1 || *kind != descriptor_type::STRING,
     }
 }

@@ -12,7 +12,8 @@ use usb_file_data::{
     DescriptorFile, Other, Strings, WriteFault, are_wrong_strings, count_named,
     has_undeclared_sets, write_refusal,
 };
-use usb_set::{Configuration, EncodeFault, Sequence, encode_onto};
+use usb_set::{Configuration, EncodeFault, Sequence};
+use usb_set_encoder::encode_onto;
 
 /// The bytes of a file: its parts one after another, each judged and written once (USB 2.0, 9.4.3 and 9.6).
 ///
@@ -24,7 +25,7 @@ use usb_set::{Configuration, EncodeFault, Sequence, encode_onto};
 /// # Errors
 ///
 /// `Count`, `Kind`, `Layout` or `Texts`, the first that holds, exactly where the file has no bytes;
-/// `Memory` where it has bytes and a growth was refused.
+/// `Memory` where it has bytes, when out of memory.
 pub fn write_file(alloc: Global, f: &DescriptorFile) -> Result<Vec<u8>, WriteFault>
     ensures ok { IfOk result (λ b. File f.now b.items) }
     ensures err { IfErr result (λ fault. WriteRefused f.now fault) }
@@ -51,7 +52,7 @@ fn first_reason(f: &DescriptorFile) -> WriteFault
     }
 }
 
-/// The bytes of a file, or `None` where something stands against it or a growth was refused.
+/// The bytes of a file, or `None` where something stands against it or out of memory.
 fn file_of(alloc: Global, f: &DescriptorFile) -> Option<Vec<u8>>
     ensures bytes { IfSome result (λ b. b.items ≡ file_bytes f.now) }
     ensures allowed { OnSome result (write_refusal f.now ≡ None) }

@@ -1,5 +1,5 @@
 -- The parts of a file, read one after another.
-use Rattle.std.specs.Prelude.{◌≡◌, ℕ, ◌+◌, ◌*◌, ◌<◌, ◌≤◌, List, [], ◌∷◌, ◌++◌, length, drop, take, true, false, Option, Some, None, is_some}
+use Rattle.std.specs.Prelude.{◌≡◌, ℕ, ◌+◌, ◌*◌, ◌<◌, ◌≤◌, List, [], ◌∷◌, ◌++◌, length, drop, take, Bool, true, false, nat_lt, Option, Some, None, is_some}
 use Rattle.std.specs.List.{flat_map, list_any}
 use Rattle.usb_fields.specs.declared.qualifier.Qualifier.{Qualifier}
 use Rattle.usb_fields.specs.Qualifier.{qualifier_bytes, qualifier_fault}
@@ -18,8 +18,12 @@ use Rattle.usb_file.specs.declared.fault.FileWhy.{FileWhy}
 use Rattle.usb_file.specs.declared.fault.FileWhy.TheVariants as files
 use Rattle.usb_file.specs.declared.fault.FileFault.{FileFault}
 use Rattle.usb_file_data.specs.File.{file_bytes, whole_set, has_no_layout, is_other_kind, is_long_string}
-use Rattle.usb_file_data.specs.Front.{Splits}
-use Rattle.usb_file.specs.FileFaults.{SetFaulty, begins_qualifier, fixed_fault, string_fault}
+use Rattle.usb_file_data.specs.Front.{AllSets, Splits}
+use Rattle.usb_file_data.specs.File.{File}
+use Rattle.usb_file.specs.declared.reading.Form.{Form}
+use Rattle.usb_file.specs.declared.reading.Form.TheVariants as forms
+use Rattle.usb_file.specs.Dumps.{Dump}
+use Rattle.usb_file.specs.FileFaults.{NoQualifierIsNext, SetFaulty, begins_qualifier, fixed_fault, string_fault}
 
 -- the bytes up to this place are those of the file so far
 pub record ReadSoFar (b : List ℕ) (f : DescriptorFile) (place : ℕ) : Type 0 where
@@ -47,14 +51,14 @@ pub record ReadsSet (kind : SetKind) (rest : List ℕ) (c : Configuration) (used
   pub begins : Begins rest c used
   pub kind_is : is_other_kind kind c ≡ false
 
--- The fault of a set as one of the file, from the set's start: want of memory is told there, and bytes that
+-- The fault of a set as one of the file, from the set's start: *out of memory* is told there, and bytes that
 -- end too early end the file.
 abbrev pub set_refusal : SetWhy → ℕ → FileFault
 set_refusal sets.Memory at = record { at = 0; why = files.Memory }
 set_refusal sets.Truncated at = record { at = at; why = files.Truncated }
 set_refusal why at = record { at = at; why = files.Set why }
 
--- want of memory at the start, or the fault of a set of this kind
+-- out of memory at the start, or the fault of a set of this kind
 abbrev pub SetRefused : SetKind → List ℕ → ℕ → FileWhy → Type 0
 SetRefused kind rest at files.Memory = at ≡ 0
 SetRefused kind rest at why = SetFaulty kind rest at why
@@ -71,7 +75,7 @@ pub record ReadsSets (kind : SetKind) (b : List ℕ) (start : ℕ) (sets : List 
   pub kinds : list_any (is_other_kind kind) sets ≡ false
   pub layouts : list_any has_no_layout sets ≡ false
 
--- Of so many sets that are declared the next one after these was refused: want of memory is told where it
+-- Of so many sets that are declared the next one after these was refused: *out of memory* is told where it
 -- starts.
 pub record SetsRefused (kind : SetKind) (declared : ℕ) (b : List ℕ) (start : ℕ) (sets : List Configuration) (at : ℕ) (why : FileWhy) : Type 0 where
   pub end : ℕ
@@ -109,6 +113,13 @@ pub data OtherRefused (b : List ℕ) (place at : ℕ) (why : FileWhy) : Type 0 w
   no_set : (q : Qualifier) (ss : List Configuration) → begins_qualifier (drop place b) ≡ true → ReadsQualifier b place q
       → SetsRefused kinds.OtherSpeed q.configurations b (place + 10) ss at why → OtherRefused b place at why
 
+-- all sets of either speed were read, and what is left begins no further one
+pub record SetsRead (b : List ℕ) (f : DescriptorFile) (place : ℕ) : Type 0 where
+  pub so_far : ReadSoFar b f place
+  pub all : AllSets f f.other
+  pub no_strings : f.strings ≡ None
+  pub no_qualifier : NoQualifierIsNext f (drop place b)
+
 -- ---- strings
 
 -- the bytes begin with a string descriptor of at least so many bytes, which has these units
@@ -119,7 +130,7 @@ pub record ReadsString (least : ℕ) (rest : List ℕ) (units : List ℕ) (used 
   pub enough : least ≤ used
   pub short : is_long_string units ≡ false
 
--- want of memory at the start, or the fault of a string descriptor of at least so many bytes
+-- out of memory at the start, or the fault of a string descriptor of at least so many bytes
 abbrev pub StringRefused : ℕ → List ℕ → ℕ → FileWhy → Type 0
 StringRefused least rest at files.Memory = at ≡ 0
 StringRefused least rest at why = string_fault least rest ≡ Some (at, why)
@@ -135,7 +146,7 @@ pub record ReadsDueStrings (b : List ℕ) (start : ℕ) (strings : List (List �
   pub all : ReadsAll units_bytes b start strings end
   pub short : list_any is_long_string strings ≡ false
 
--- Of so many strings that are due the next one after these was refused: want of memory is told where it
+-- Of so many strings that are due the next one after these was refused: *out of memory* is told where it
 -- starts.
 pub record DueStringsRefused (due : ℕ) (b : List ℕ) (start : ℕ) (strings : List (List ℕ)) (at : ℕ) (why : FileWhy) : Type 0 where
   pub end : ℕ
@@ -161,3 +172,15 @@ pub data StringsRefused (count : ℕ) (b : List ℕ) (place at : ℕ) (why : Fil
   no_languages : 0 < count → Behind place (λ n. StringRefused 4 (drop place b) n why) at → StringsRefused count b place at why
   no_string : (languages : List ℕ) (start : ℕ) (texts : List (List ℕ)) → 0 < count → Behind place (ReadsString 4 (drop place b) languages) start
       → DueStringsRefused (length languages * count) b start texts at why → StringsRefused count b place at why
+
+-- ---- all of it
+
+-- whether a device that names so many indices and has this other speed is a dump, where these bytes are left
+abbrev pub ends_as_dump : ℕ → Option Other → List ℕ → Bool
+ends_as_dump count None [] = nat_lt 0 count
+ends_as_dump count other rest = false
+
+-- the bytes are what was read, in this form
+abbrev pub IsOfForm : Form → DescriptorFile → List ℕ → Type 0
+IsOfForm forms.File f b = File f b
+IsOfForm forms.Dump f b = Dump f b
