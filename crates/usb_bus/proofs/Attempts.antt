@@ -1,5 +1,5 @@
 -- An attempt: each transaction keeps an attempt sound.
-use Rattle.std.proofs.Common.{◌≡◌, ◌≢◌, ℕ, ◌+◌, ◌<◌, Bool, true, ◌⊎◌, List, [], ◌∷◌, ◌++◌, refl, ap, sym, ◌∙◌, arith, inl, inr, subst, length, take, zero-add, add-zero, add_assoc, append_assoc}
+use Rattle.std.proofs.Common.{◌≡◌, ◌≢◌, ℕ, suc, ◌+◌, ◌<◌, Bool, true, ◌⊎◌, List, [], ◌∷◌, ◌++◌, refl, ap, sym, ◌∙◌, arith, inl, inr, subst, length, take, zero-add, add-zero, add_assoc, append_assoc}
 use Rattle.std.proofs.lemmas.Bool.Decides.{nat_tests, eqb_tells}
 use Rattle.std.proofs.lemmas.List.{append-nil, take_at}
 use Rattle.usb_fields.specs.declared.packet.Toggle.{Toggle}
@@ -9,15 +9,15 @@ use Rattle.usb_transfer.specs.declared.stage.TransferStage.{TransferStage}
 use Rattle.usb_transfer.specs.declared.stage.TransferStage.TheVariants.{Setup, Completed, Failed}
 use Rattle.usb_device.specs.declared.state.State.{State}
 use Rattle.usb_device.specs.Requests.{Outcome}
-use Rattle.usb_device.specs.Step.{DeviceView, carried_out}
+use Rattle.usb_device.specs.Step.{DeviceView, carried_out, is_set_address}
 use Rattle.usb_transfer.specs.declared.reply.Reply.{Reply}
 use Rattle.usb_transfer.specs.declared.reply.Reply.TheVariants as replied
 use Rattle.usb_bus.specs.declared.fate.Fate.{Fate}
 use Rattle.usb_bus.specs.Fates.{lost, busy, ack_lost, losses, busies, acks_lost}
 use Rattle.usb_bus.specs.Bus.{HostEnd, step}
 use Rattle.usb_bus.specs.inside.Coupled.{Stages}
-use Rattle.usb_transfer.specs.Plan.{Plan}
-use Rattle.usb_bus.specs.Attempt.{Answers, Phase, Running, Succeeded, Broken, Attempt, reply_from, proceed, advance, attempt_step, attempt_run}
+use Rattle.usb_transfer.specs.Plan.{Plan, Begin}
+use Rattle.usb_bus.specs.Attempt.{Answers, Phase, Running, Succeeded, Broken, Attempt, reply_from, proceed, advance, attempt_step, attempt_run, is_moved_last, is_moving}
 use Rattle.usb_bus.specs.Ending.{AttemptEnds}
 use Rattle.usb_bus.specs.inside.Sound.{AttemptsAreSound, Follows, IsTogether, Sound}
 use Rattle.usb_bus.proofs.Cutting.{alike_cut}
@@ -217,21 +217,34 @@ attempts_sound plan naks answer cut loose all last d fates f =
     (next_begins plan naks answer cut loose all last 0 0 0 d.state [] all d refl f))
 
 -- a plan that a device answers is followed
-pub answers_follow : (plan : List Reply → Plan) (naks : ℕ) (answer : State → SetupPacket → Outcome) (cut : ℕ) (all : List Reply) (last s : State) (replies todo : List Reply) →
-    Answers plan naks answer cut last replies s todo → replies ++ todo ≡ all → Follows plan naks answer cut true all last s replies todo
-answers_follow plan naks answer cut all last s replies [] (success, end) whole = (success, end, sym (append-nil replies) ∙ whole)
-answers_follow plan naks answer cut all last s replies (r ∷ todo) (packet, q, planned, more) whole = (
-  packet,
-  (
-    q,
+module _ (plan : List Reply → Plan) (naks : ℕ) (answer : State → SetupPacket → Outcome) (cut : ℕ) (loose : Bool) (all : List Reply) (last : State) where
+  -- a SET_ADDRESS that comes last is told
+  moves_last : (replies todo : List Reply) (r : Reply) (address packet : ℕ) (q : SetupPacket) → plan replies ≡ Begin address packet q →
+      (is_moved_last plan replies (r ∷ todo) ≡ true → loose ≡ true) → is_set_address q ≡ true → todo ≡ [] → loose ≡ true
+  moves_last replies [] r address packet q begins told is none = told (ap is_moving begins ∙ is)
+  moves_last replies (x ∷ todo) r address packet q begins told is none =
+      absurd (let longer : suc (length todo) ≡ 0 = ap length none in omega arith)
+
+  tells_on : (replies todo : List Reply) (r : Reply) → (is_moved_last plan replies (r ∷ todo) ≡ true → loose ≡ true) →
+      is_moved_last plan (replies ++ r ∷ []) todo ≡ true → loose ≡ true
+  tells_on replies [] r told is = absurd (grind arith)
+  tells_on replies (x ∷ todo) r told is = told is
+
+  pub answers_follow : (s : State) (replies todo : List Reply) → Answers plan naks answer cut last replies s todo → replies ++ todo ≡ all →
+      (is_moved_last plan replies todo ≡ true → loose ≡ true) → Follows plan naks answer cut loose all last s replies todo
+  answers_follow s replies [] (success, end) whole told = (success, end, sym (append-nil replies) ∙ whole)
+  answers_follow s replies (r ∷ todo) (packet, q, planned, more) whole told = (
+    packet,
     (
-      planned,
-      whole,
-      (λ i e. refl),
-      answers_follow plan naks answer cut all last (carried_out s (answer s q)) (replies ++ r ∷ []) todo more (rw append_assoc whole),
+      q,
+      (
+        planned,
+        whole,
+        moves_last replies todo r s.address packet q planned.begins told,
+        answers_follow (carried_out s (answer s q)) (replies ++ r ∷ []) todo more (rw append_assoc whole) (tells_on replies todo r told),
+      ),
     ),
-  ),
-)
+  )
 
 -- what a sound attempt says where it has ended
 module _ (plan : List Reply → Plan) (naks : ℕ) (answer : State → SetupPacket → Outcome) (cut : ℕ) (loose : Bool) (all : List Reply) (last : State) (used : List Fate) where
@@ -240,9 +253,9 @@ module _ (plan : List Reply → Plan) (naks : ℕ) (answer : State → SetupPack
 
   pub sound_ends : (replies : List Reply) (phase : Phase) (d : DeviceView) →
       Sound plan naks answer cut loose all last (losses used) (busies used) (acks_lost used) replies phase d →
-      AttemptEnds naks used all last replies phase d.state
+      AttemptEnds naks used loose all last replies phase d.state
   sound_ends replies (Running h) d s = tt
-  sound_ends replies Succeeded d s = (s.0, elim s.1 [ inl e ↦ inl e | inr (z, ok, e) ↦ inr (z, e) ])
+  sound_ends replies Succeeded d s = (s.0, elim s.1 [ inl e ↦ inl e | inr (z, ok, e) ↦ inr (ok, z, e) ])
   sound_ends replies (Broken NoAnswer) d s = (first_by replies s.1.0 s.1.1, s.0)
   sound_ends replies (Broken Busy) d s = (first_by replies s.1.0 s.1.1, s.0)
   sound_ends replies (Broken Stalled) d s = absurd s

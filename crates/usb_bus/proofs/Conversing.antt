@@ -19,7 +19,7 @@ use Rattle.usb_bus.specs.Fates.{losses, busies, acks_lost}
 use Rattle.usb_bus.specs.Bus.{HostEnd}
 use Rattle.usb_transfer.specs.Plan.{Plan}
 use Rattle.usb_bus.specs.Attempt.{Phase, Attempt, Running, Succeeded, Broken, proceed, advance, begins}
-use Rattle.usb_bus.specs.Talk.{Place, talk_plan, reached, onward, followed, asked_at, replies_to, state_after}
+use Rattle.usb_bus.specs.Talk.{Place, ends_with_address, talk_plan, reached, onward, followed, asked_at, replies_to, state_after}
 use Rattle.usb_bus.specs.Run.{fates_used, due_in, Steps}
 use Rattle.usb_bus.specs.Converse.{first_place, talk_start, end_of, IsTalkRun, HasFirstReplies, HasLastState}
 use Rattle.usb_bus.specs.inside.Running.{failure_of, point, AreDue, Leads, settled}
@@ -161,7 +161,7 @@ module _ (f : DescriptorFile) (naks : ℕ) (qs : List SetupPacket) (fates : List
     used = fates_used fates talk.transactions
 
     abbrev HasEnded : Attempt → Type 0
-    HasEnded x = AttemptEnds naks used (replies_to (answer f) zero_state qs) (state_after (answer f) zero_state qs) x.replies x.phase x.device.state
+    HasEnded x = AttemptEnds naks used (ends_with_address qs) (replies_to (answer f) zero_state qs) (state_after (answer f) zero_state qs) x.replies x.phase x.device.state
 
     has_ended : HasEnded last
     has_ended =
@@ -187,7 +187,7 @@ module _ (f : DescriptorFile) (naks : ℕ) (qs : List SetupPacket) (fates : List
         by (Some why) h = h.1
 
     pub has_last_state : talk.stopped ≡ None → HasLastState f qs fates talk
-    has_last_state e = subst (λ s. IsLast used (state_after (answer f) zero_state qs) s) state (ended_at None e).1
+    has_last_state e = subst (λ s. IsLast used (ends_with_address qs) (state_after (answer f) zero_state qs) s) state (ended_at None e).1
 
     goes_on_by : (stopped : Option Why) → IfSome stopped (IsCause naks used) → losses used < 3 → acks_lost used ≡ 0 → busies used ≤ naks → stopped ≡ None
     goes_on_by None h few none patient = refl

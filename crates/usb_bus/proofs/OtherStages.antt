@@ -4,10 +4,11 @@ use Rattle.std.proofs.lemmas.Bool.Decides.{nat_tests}
 use Rattle.usb_fields.specs.declared.packet.Toggle.{Toggle}
 use Rattle.usb_fields.specs.declared.packet.Toggle.TheVariants.{Data1}
 use Rattle.usb_fields.specs.declared.setup.Setup.{Setup as SetupPacket}
-use Rattle.usb_fields.specs.declared.setup.Direction.TheVariants as directions
+use Rattle.usb_base.specs.declared.direction.Direction.TheVariants as directions
 use Rattle.usb_fields.specs.Packet.{AckReply, NoReply}
 use Rattle.usb_fields.specs.Packets.{packets}
-use Rattle.usb_fields.specs.Setup.{setup_of, setup_bytes, direction_of}
+use Rattle.usb_base.specs.Directions.{direction_of}
+use Rattle.usb_fields.specs.Setup.{setup_of, setup_bytes}
 use Rattle.usb_transfer.specs.declared.stage.TransferStage.{TransferStage}
 use Rattle.usb_transfer.specs.declared.stage.TransferStage.TheVariants.{Setup, DataIn, DataOut, StatusOut, StatusIn}
 use Rattle.usb_transfer.specs.Transfer.{stage_after_setup}

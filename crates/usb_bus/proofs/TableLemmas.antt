@@ -5,11 +5,12 @@ use Rattle.std.proofs.lemmas.Bool.Decides.{nat_tests}
 use Rattle.usb_fields.specs.declared.setup.Setup.{Setup}
 use Rattle.usb_fields.specs.declared.setup.Class.{Class}
 use Rattle.usb_fields.specs.declared.setup.Class.TheVariants as classes
-use Rattle.usb_fields.specs.declared.setup.Direction.{Direction}
-use Rattle.usb_fields.specs.declared.setup.Direction.TheVariants as directions
+use Rattle.usb_base.specs.declared.direction.Direction.{Direction}
+use Rattle.usb_base.specs.declared.direction.Direction.TheVariants as directions
 use Rattle.usb_fields.specs.declared.setup.Recipient.{Recipient}
 use Rattle.usb_fields.specs.declared.setup.Recipient.TheVariants.{Device, Interface, Endpoint, Other, Reserved}
-use Rattle.usb_fields.specs.Setup.{class_of, direction_of, recipient_of}
+use Rattle.usb_base.specs.Directions.{direction_of}
+use Rattle.usb_fields.specs.Setup.{class_of, recipient_of}
 use Rattle.usb_file_data.specs.declared.file.DescriptorFile.{DescriptorFile}
 use Rattle.usb_description.specs.Descriptors.{descriptor}
 use Rattle.usb_device.specs.declared.state.State.{State}

@@ -1,5 +1,5 @@
 -- A talk's plan is answered by the device.
-use Rattle.std.proofs.Common.{◌≡◌, ℕ, ◌%◌, ◌<◌, Bool, true, false, List, [], ◌∷◌, ◌++◌, refl, ap, sym, ◌∙◌, arith, append_assoc, if◌then◌else◌}
+use Rattle.std.proofs.Common.{◌≡◌, ℕ, suc, length, ◌%◌, ◌<◌, Bool, true, false, List, [], ◌∷◌, ◌++◌, refl, ap, sym, ◌∙◌, arith, append_assoc, if◌then◌else◌}
 use Rattle.std.proofs.lemmas.List.{append-nil}
 use Rattle.usb_fields.specs.declared.setup.Setup.{Setup as SetupPacket}
 use Rattle.usb_device.specs.declared.state.State.{State}
@@ -12,14 +12,14 @@ use Rattle.usb_bus.specs.Attempt.{attempt_run, reply_to}
 use Rattle.usb_bus.specs.Converse.{first_place, talk_start}
 use Rattle.usb_bus.specs.Laws.{TalksHaveCauses}
 use Rattle.usb_bus.proofs.Attempts.{attempts_sound, sound_ends}
-use Rattle.usb_bus.specs.Talk.{Place, followed, onward, reached, asked_at, talk_plan, replies_to, state_after}
+use Rattle.usb_bus.specs.Talk.{Place, ends_with_address, followed, onward, reached, asked_at, talk_plan, replies_to, state_after}
 use Rattle.usb_bus.specs.Answering.{IsTable}
 
 pub reached_append : (p : Place) (rs : List Reply) (r : Reply) → reached p (rs ++ r ∷ []) ≡ onward (reached p rs).left (reached p rs).address r
 reached_append p [] r = refl
 reached_append p (x ∷ rs) r = reached_append (onward p.left p.address x) rs r
 
-module _ (answer : State → SetupPacket → Outcome) (table : IsTable answer) (n naks : ℕ) (pos : 0 < n) (start : Place) (all : List Reply) (last : State) where
+module _ (answer : State → SetupPacket → Outcome) (table : IsTable answer) (n naks : ℕ) (pos : 0 < n) (start : Place) (loose : Bool) (all : List Reply) (last : State) where
   -- the host goes where the device went
   goes_along : (s : State) (q : SetupPacket) (a : Outcome) → answer s q ≡ a → followed q (reply_to a) s.address ≡ (carried_out s a).address
   goes_along s q (Bytes b) e = refl
@@ -33,12 +33,23 @@ module _ (answer : State → SetupPacket → Outcome) (table : IsTable answer) (
           low ∙ ap (λ x. x.address) (sym goes.1)
       by_kind false i = sym ((table.answering s q).stays t e i)
 
+  -- a SET_ADDRESS that comes last is told
+  moves_last : (q : SetupPacket) (qs : List SetupPacket) (s : State) → (ends_with_address (q ∷ qs) ≡ true → loose ≡ true) →
+      is_set_address q ≡ true → replies_to answer s qs ≡ [] → loose ≡ true
+  moves_last q [] s told is none = told is
+  moves_last q (x ∷ qs) s told is none =
+      absurd (let longer : suc (length (replies_to answer (carried_out s (answer s x)) qs)) ≡ 0 = ap length none in omega arith)
+
+  tells_on : (q : SetupPacket) (qs : List SetupPacket) → (ends_with_address (q ∷ qs) ≡ true → loose ≡ true) → ends_with_address qs ≡ true → loose ≡ true
+  tells_on q [] told is = absurd (grind arith)
+  tells_on q (x ∷ qs) told is = told is
+
   pub talk_follows : (qs : List SetupPacket) (s : State) (replies : List Reply) →
       reached start replies ≡ record { left = qs; address = s.address } → replies ++ replies_to answer s qs ≡ all → state_after answer s qs ≡ last →
-      Follows (talk_plan n start) naks answer n true all last s replies (replies_to answer s qs)
-  talk_follows [] s replies at whole end =
+      (ends_with_address qs ≡ true → loose ≡ true) → Follows (talk_plan n start) naks answer n loose all last s replies (replies_to answer s qs)
+  talk_follows [] s replies at whole end told =
       (ap (λ p. asked_at n p.address p.left) at, end, sym (append-nil replies) ∙ whole)
-  talk_follows (q ∷ qs) s replies at whole end =
+  talk_follows (q ∷ qs) s replies at whole end told =
       let r = reply_to (answer s q) in
       let on : reached start (replies ++ r ∷ []) ≡ record { left = qs; address = (carried_out s (answer s q)).address } =
       reached_append start replies r ∙ ap (λ p. onward p.left p.address r) at
@@ -55,8 +66,8 @@ module _ (answer : State → SetupPacket → Outcome) (table : IsTable answer) (
               address = λ t e i. (let g = (table.goes s q t e i).1 in rw g refl);
             },
             whole,
-            (λ i e. refl),
-            talk_follows qs (carried_out s (answer s q)) (replies ++ r ∷ []) on (rw append_assoc whole) end,
+            moves_last q qs (carried_out s (answer s q)) told,
+            talk_follows qs (carried_out s (answer s q)) (replies ++ r ∷ []) on (rw append_assoc whole) end (tells_on q qs told),
           ),
         ),
       )
@@ -69,6 +80,7 @@ talk_ends answer packet naks qs fates pos table =
     let last = state_after answer s qs in
     let plan : List Reply → Plan = talk_plan packet (first_place qs) in
     let x = attempt_run plan naks answer packet fates (talk_start packet naks qs) in
-    sound_ends plan naks answer packet true all last fates x.replies x.phase x.device
-    (attempts_sound plan naks answer packet true all last new_device fates
-    (talk_follows answer table packet naks pos (first_place qs) all last qs s [] refl refl refl))
+    let moved : Bool = ends_with_address qs in
+    sound_ends plan naks answer packet moved all last fates x.replies x.phase x.device
+    (attempts_sound plan naks answer packet moved all last new_device fates
+    (talk_follows answer table packet naks pos (first_place qs) moved all last qs s [] refl refl refl (λ is. is)))

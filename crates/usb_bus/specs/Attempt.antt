@@ -1,5 +1,5 @@
 -- Transfers one after another, each by a plan of what the replies before it ask for, with no bus reset between them.
-use Rattle.std.specs.Prelude.{◌≡◌, ℕ, true, if◌then◌else◌, ◌==◌, List, [], ◌∷◌, ◌++◌}
+use Rattle.std.specs.Prelude.{◌≡◌, ℕ, Bool, true, false, if◌then◌else◌, ◌==◌, List, [], ◌∷◌, ◌++◌}
 use Rattle.usb_fields.specs.declared.setup.Setup.{Setup as SetupPacket}
 use Rattle.usb_transfer.specs.declared.why.Why.{Why}
 use Rattle.usb_transfer.specs.declared.why.Why.TheVariants.{Stalled}
@@ -47,6 +47,17 @@ abbrev pub phase_of : ℕ → Plan → Phase
 phase_of naks (Begin address packet q) = Running (begins address packet naks q)
 phase_of naks Success = Succeeded
 phase_of naks (Trouble why) = Broken why
+
+-- whether a SET_ADDRESS is what a plan puts in work
+abbrev pub is_moving : Plan → Bool
+is_moving (Begin address packet q) = is_set_address q
+is_moving plan = false
+
+-- whether the last of a plan's transfers is a SET_ADDRESS: some replies came, and these are those to come
+abbrev pub is_moved_last : (List Reply → Plan) → List Reply → List Reply → Bool
+is_moved_last plan replies [] = false
+is_moved_last plan replies (r ∷ []) = is_moving (plan replies)
+is_moved_last plan replies (r ∷ next ∷ todo) = is_moved_last plan (replies ++ r ∷ []) (next ∷ todo)
 
 -- For any plan, which says what comes next of the replies so far, and any limit of NAKs.
 module _ (plan : List Reply → Plan) (naks : ℕ) where

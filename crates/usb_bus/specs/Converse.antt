@@ -10,7 +10,7 @@ use Rattle.usb_bus.specs.declared.fate.Fate.{Fate}
 use Rattle.usb_bus.specs.declared.talk.Talk.{Talk}
 use Rattle.usb_bus.specs.Attempt.{Phase, Succeeded, Broken, Attempt, proceed}
 use Rattle.usb_bus.specs.Ending.{IsLast}
-use Rattle.usb_bus.specs.Talk.{Place, talk_plan, replies_to, state_after}
+use Rattle.usb_bus.specs.Talk.{Place, ends_with_address, talk_plan, replies_to, state_after}
 use Rattle.usb_bus.specs.Run.{Steps, fates_used}
 
 -- the requests, the first of which goes to address 0
@@ -40,6 +40,7 @@ IsTalkRun f naks requests fates talk =
 abbrev pub HasFirstReplies : DescriptorFile → List SetupPacket → Talk → Type 0
 HasFirstReplies f requests talk = talk.replies ≡ take (length talk.replies) (replies_to (answer f) zero requests)
 
--- the state is the last one that the table gives; its address alone may differ, where an ACK was lost
+-- The state is the last one that the table gives. Its address alone may differ, and only where the last request was a
+-- SET_ADDRESS and an ACK was lost.
 abbrev pub HasLastState : DescriptorFile → List SetupPacket → List Fate → Talk → Type 0
-HasLastState f requests fates talk = IsLast (fates_used fates talk.transactions) (state_after (answer f) zero requests) talk.state
+HasLastState f requests fates talk = IsLast (fates_used fates talk.transactions) (ends_with_address requests) (state_after (answer f) zero requests) talk.state

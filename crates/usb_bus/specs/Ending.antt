@@ -1,5 +1,5 @@
 -- What comes of transfers that have ended.
-use Rattle.std.specs.Prelude.{◌≡◌, ℕ, ◌<◌, ◌≤◌, true, ◌⊎◌, List, length, take}
+use Rattle.std.specs.Prelude.{◌≡◌, ℕ, ◌<◌, ◌≤◌, Bool, true, ◌⊎◌, List, length, take}
 use Rattle.usb_fields.specs.declared.setup.Setup.{Setup as SetupPacket}
 use Rattle.usb_transfer.specs.declared.why.Why.{Why}
 use Rattle.usb_transfer.specs.declared.why.Why.TheVariants.{NoAnswer, Busy, Stalled}
@@ -32,13 +32,15 @@ IsCause naks used NoAnswer = (3 ≤ losses used) ⊎ (0 < acks_lost used)
 IsCause naks used Busy = naks < busies used
 IsCause naks used why = ⊥
 
--- the state is the last one; its address alone may differ, where an ACK was lost
-abbrev pub IsLast : List Fate → State → State → Type 0
-IsLast used last s = (s ≡ last) ⊎ ((0 < acks_lost used) × (last ≡ record s { address = last.address }))
+-- The state is the last one. Its address alone may differ, and only where the last transfer was a SET_ADDRESS and an ACK
+-- was lost.
+abbrev pub IsLast : List Fate → Bool → State → State → Type 0
+IsLast used is_moved last s = (s ≡ last) ⊎ ((is_moved ≡ true) × (0 < acks_lost used) × (last ≡ record s { address = last.address }))
 
--- Transfers one after another, by what they came to under these fates. A success has all replies and left the device in
--- the last state; one that broke off has the first replies, and a cause. While they go on there is nothing to say.
-abbrev pub AttemptEnds : ℕ → List Fate → List Reply → State → List Reply → Phase → State → Type 0
-AttemptEnds naks used all last replies (Running host) s = Unit {0}
-AttemptEnds naks used all last replies Succeeded s = (replies ≡ all) × IsLast used last s
-AttemptEnds naks used all last replies (Broken why) s = (replies ≡ take (length replies) all) × IsCause naks used why
+-- Transfers one after another, by what they came to under these fates, where the last of all is a SET_ADDRESS or not. A
+-- success has all replies and left the device in the last state; one that broke off has the first replies, and a cause.
+-- While they go on there is nothing to say.
+abbrev pub AttemptEnds : ℕ → List Fate → Bool → List Reply → State → List Reply → Phase → State → Type 0
+AttemptEnds naks used is_moved all last replies (Running host) s = Unit {0}
+AttemptEnds naks used is_moved all last replies Succeeded s = (replies ≡ all) × IsLast used is_moved last s
+AttemptEnds naks used is_moved all last replies (Broken why) s = (replies ≡ take (length replies) all) × IsCause naks used why

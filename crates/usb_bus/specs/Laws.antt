@@ -12,9 +12,9 @@ use Rattle.usb_bus.specs.declared.talk.Talk.{Talk}
 use Rattle.usb_bus.specs.Fates.{losses, busies, acks_lost}
 use Rattle.usb_bus.specs.Bus.{run}
 use Rattle.usb_bus.specs.Answering.{IsAnswering, IsTable, CutsAlike}
-use Rattle.usb_bus.specs.Attempt.{Answers, begins, attempt_run, proceed}
+use Rattle.usb_bus.specs.Attempt.{Answers, begins, attempt_run, is_moved_last, proceed}
 use Rattle.usb_bus.specs.Ending.{TransferEnds, AttemptEnds}
-use Rattle.usb_bus.specs.Talk.{talk_plan, replies_to, state_after}
+use Rattle.usb_bus.specs.Talk.{ends_with_address, talk_plan, replies_to, state_after}
 use Rattle.usb_bus.specs.Converse.{IsTalkRun, first_place, talk_start}
 
 -- One transfer, begun at the device's address, of a device that cuts the packets that the host expects.
@@ -31,7 +31,7 @@ abbrev pub AttemptsHaveCauses : Type 0
 AttemptsHaveCauses =
     (plan : List Reply → Plan) (naks : ℕ) (answer : State → SetupPacket → Outcome) (cut : ℕ) (all : List Reply) (last : State)
     (d : DeviceView) (fates : List Fate) → Answers plan naks answer cut last [] d.state all →
-    (let x = attempt_run plan naks answer cut fates (proceed plan naks [] d) in AttemptEnds naks fates all last x.replies x.phase x.device.state)
+    (let x = attempt_run plan naks answer cut fates (proceed plan naks [] d) in AttemptEnds naks fates (is_moved_last plan [] all) all last x.replies x.phase x.device.state)
 
 -- A talk with any device that keeps its table, with packets of any size above 0. Its replies and its last state are those
 -- that the table gives to the requests in turn.
@@ -40,7 +40,7 @@ TalksHaveCauses =
     (answer : State → SetupPacket → Outcome) (packet naks : ℕ) (qs : List SetupPacket) (fates : List Fate) → 0 < packet → IsTable answer →
     (let s = new_device.state in
     let x = attempt_run (talk_plan packet (first_place qs)) naks answer packet fates (talk_start packet naks qs) in
-    AttemptEnds naks fates (replies_to answer s qs) (state_after answer s qs) x.replies x.phase x.device.state)
+    AttemptEnds naks fates (ends_with_address qs) (replies_to answer s qs) (state_after answer s qs) x.replies x.phase x.device.state)
 
 -- The same requests under the same fates have one talk: its replies, its end, its state, and how many transactions
 -- there were.

@@ -1,5 +1,5 @@
 -- A talk: requests one after another, each sent to where the replies before it put the device.
-use Rattle.std.specs.Prelude.{ℕ, ◌%◌, if◌then◌else◌, List, [], ◌∷◌}
+use Rattle.std.specs.Prelude.{ℕ, ◌%◌, Bool, false, if◌then◌else◌, List, [], ◌∷◌}
 use Rattle.usb_fields.specs.declared.setup.Setup.{Setup as SetupPacket}
 use Rattle.usb_device.specs.declared.state.State.{State}
 use Rattle.usb_device.specs.Requests.{Outcome}
@@ -13,6 +13,12 @@ use Rattle.usb_bus.specs.Attempt.{reply_to}
 pub record Place : Type 0 where
   pub left : List SetupPacket
   pub address : ℕ
+
+-- whether the last request is a SET_ADDRESS
+abbrev pub ends_with_address : List SetupPacket → Bool
+ends_with_address [] = false
+ends_with_address (q ∷ []) = is_set_address q
+ends_with_address (q ∷ r ∷ qs) = ends_with_address (r ∷ qs)
 
 -- a SET_ADDRESS that was done is followed to the low 7 bits of its wValue
 abbrev pub followed : SetupPacket → Reply → ℕ → ℕ

@@ -66,7 +66,7 @@ fn follow(request: Setup, reply: &Reply, address: u8) -> u8
 ///
 /// # Errors
 ///
-/// Only where memory was refused.
+/// Only when out of memory.
 pub fn converse(
     alloc: Global,
     d: &Description,

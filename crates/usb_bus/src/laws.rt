@@ -13,7 +13,8 @@ pub fn a_transfer_has_causes()
     ensures { TransfersHaveCauses }
 {}
 
-/// Transfers by a plan, with no bus reset between them: a success has all replies, and a failed attempt has a cause.
+/// Transfers by a plan, with no bus reset between them: a success has all replies, and a failed attempt has a cause. Where
+/// the last transfer is no SET_ADDRESS, a success leaves the device in the state that its answers give.
 pub fn an_attempt_has_causes()
     ensures { AttemptsHaveCauses }
 {}

@@ -69,7 +69,7 @@ later_refusal [] f s =
 abbrev pub refusal_of : DescriptorFile → Speed → Option DescriptionFault
 refusal_of f s = if has_wrong_sets f then Some faults.Unwritable else later_refusal (findings f) f s
 
--- Want of memory is told only of descriptors whose sets have bytes, since the rules are looked through after that, and
+-- *Out of memory* is told only of descriptors whose sets have bytes, since the rules are looked through after that, and
 -- else the first reason.
 abbrev pub Refuses : DescriptorFile → Speed → DescriptionFault → Type 0
 Refuses f s faults.Memory = has_wrong_sets f ≡ false

@@ -6,7 +6,7 @@ ghost use Rattle.usb_description.specs.Accepted.{has_early_second_speed, has_oth
 
 use crate::fault::DescriptionFault;
 use std::alloc::Global;
-use usb_fields::Speed;
+use usb_fields::{Speed, USB_2_0};
 use usb_file_data::{DescriptorFile, Strings, WriteFault, are_wrong_strings, write_refusal};
 use usb_rules::check;
 
@@ -103,5 +103,5 @@ fn has_other_packets(f: &DescriptorFile, speed: Speed) -> bool
 fn has_early_second_speed(f: &DescriptorFile) -> bool
     ensures { result ≡ has_early_second_speed f.now }
 {
-    f.other.is_some() && f.device.usb < 0x0200
+    f.other.is_some() && f.device.usb < USB_2_0
 }

@@ -6,7 +6,7 @@ use thiserror::Error;
 use usb_rules::Finding;
 
 /// Why a descriptor file is no description of a device. They are tested in the order `Unwritable`,
-/// `Finding`, `Texts`, `Speed`, and the first that holds is told; `Memory` only where a growth was refused.
+/// `Finding`, `Texts`, `Speed`, and the first that holds is told; `Memory` only when out of memory.
 ///
 /// ```rust
 /// // At high speed endpoint zero has packets of 64 bytes.
@@ -28,7 +28,7 @@ pub enum DescriptionFault {
     /// hexadecimal.
     #[error("no device of this speed has such descriptors")]
     Speed,
-    /// Out of memory: a growth was refused.
+    /// Out of memory.
     #[error("out of memory")]
     Memory,
     /// The sets are not as many as declared or of another kind, or one of them has no bytes.

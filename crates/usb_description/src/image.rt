@@ -9,7 +9,8 @@ use std::alloc::{AllocError, Global};
 use std::marker::Model;
 use usb_base::known_bytes;
 use usb_fields::{UnitFault, write_units_onto};
-use usb_set::{Configuration, EncodeFault, encode_onto};
+use usb_set::{Configuration, EncodeFault};
+use usb_set_encoder::encode_onto;
 
 /// Where a byte string stands.
 #[derive(Clone, Copy, Debug)]

@@ -42,7 +42,7 @@ fn first_reason(f: &DescriptorFile) -> DescriptionFault
     }
 }
 
-/// The same, or `None` where something stands against the sets or a growth was refused.
+/// The same, or `None` where something stands against the sets or out of memory.
 #[tactic(auto, unfolding(crate::specs::Accepted::has_wrong_sets))]
 fn add_declared(image: &mut Image, f: &DescriptorFile) -> Option<usize>
     ensures descriptors { OnSome result (image.new ≡ image.old ++ main_descriptors f.now ++ other_descriptors f.now.other) }
@@ -113,7 +113,7 @@ pub(crate) fn add_strings(image: &mut Image, strings: &Option<Strings>) -> Resul
     }
 }
 
-#[tactic(auto, using(usb_set::proofs::Tests::none_at))]
+#[tactic(auto, using(usb_set_encoder::proofs::Tests::none_at))]
 fn add_each_string(image: &mut Image, strings: &[Sequence<u16>]) -> Result<(), AllocError>
     requires { list_any is_long_string strings.now ≡ false }
     ensures { OnOk result (image.new ≡ image.old ++ map units_bytes strings.now) }

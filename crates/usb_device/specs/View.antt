@@ -1,10 +1,10 @@
 -- What callers see of a device.
-use Rattle.std.specs.Prelude.{Bool}
+use Rattle.std.specs.Prelude.{ℕ, ◌*◌, Bool}
 use Rattle.usb_fields.specs.Packet.{Sent}
 use Rattle.usb_file_data.specs.declared.file.DescriptorFile.{DescriptorFile}
 use Rattle.usb_description.specs.Described.{Described}
 use Rattle.usb_device.specs.Requests.{answer}
-use Rattle.usb_device.specs.Step.{DeviceView, Served, served, acked}
+use Rattle.usb_device.specs.Step.{DeviceStage, Idle, Halted, Sending, StatusOut, Over, StatusIn, DeviceView, Served, served, acked}
 
 -- a device: its description, which stays, and what changes
 pub record View : Type 0 where
@@ -19,3 +19,12 @@ served_by f d sent ready = served (answer f) f.device.packet d sent ready
 -- the host's ACK of its data packet
 abbrev pub acked_by : DescriptorFile → DeviceView → DeviceView
 acked_by f d = acked (answer f) f.device.packet d
+
+-- the bytes of a data stage that were acknowledged, in packets of this size
+abbrev pub acknowledged : ℕ → DeviceStage → ℕ
+acknowledged packet Idle = 0
+acknowledged packet Halted = 0
+acknowledged packet (Sending bytes limit acked) = acked * packet
+acknowledged packet StatusOut = 0
+acknowledged packet Over = 0
+acknowledged packet (StatusIn request carried_out) = 0

@@ -48,7 +48,7 @@ impl<'d> Device<'d> {
     ghost use Rattle.usb_fields.specs.Packet.{reply_of, sent_of};
     ghost use Rattle.usb_device.specs.Step.{new_device};
     ghost use Rattle.usb_device.specs.Stages.{stage_kind};
-    ghost use Rattle.usb_device.specs.View.{acked_by, served_by};
+    ghost use Rattle.usb_device.specs.View.{acked_by, acknowledged, served_by};
     ghost use Rattle.usb_device.specs.Lending.{EndsAs};
     ghost use Rattle.usb_device.specs.inside.Reactions.{packet_due, reply_with};
 
@@ -121,5 +121,27 @@ impl<'d> Device<'d> {
         ensures { result ≡ stage_kind self.now.device.stage }
     {
         self.endpoint_zero.stage()
+    }
+
+    /// How many bytes of its data stage were sent and acknowledged: 0 in any other stage.
+    pub fn acknowledged(&self) -> usize
+        ensures { result ≡ acknowledged self.now.description.file.device.packet self.now.device.stage }
+    {
+        self.endpoint_zero.acknowledged()
+    }
+
+    /// Another device of the same description, which is where this one is.
+    ///
+    /// ```rust
+    /// let mut twin = device.twin();
+    /// let answer = twin.serve(&transaction, true);
+    /// ```
+    pub fn twin(&self) -> Device<'d>
+        ensures { result ≡ self.now }
+    {
+        Device {
+            description: self.description,
+            endpoint_zero: self.endpoint_zero,
+        }
     }
 }

@@ -58,7 +58,7 @@ pub struct EndpointZero {
 
 impl EndpointZero {
     ghost use Rattle.usb_device.specs.Step.{new_device};
-    ghost use Rattle.usb_device.specs.View.{acked_by, served_by};
+    ghost use Rattle.usb_device.specs.View.{acked_by, acknowledged, served_by};
     ghost use Rattle.usb_file_data.specs.declared.file.DescriptorFile.{DescriptorFile};
     ghost use Rattle.usb_device.specs.EndpointZero.{device_of, IsOf};
     ghost use Rattle.usb_device.specs.inside.Devices.{received_by, replied, sent_by};
@@ -99,6 +99,16 @@ impl EndpointZero {
             Stage::StatusOut => Stage::StatusOut,
             Stage::Over => Stage::Over,
             Stage::StatusIn => Stage::StatusIn,
+        }
+    }
+
+    /// How many bytes of its data stage were sent and acknowledged: 0 in any other stage.
+    pub fn acknowledged(&self) -> usize
+        ensures { (f : DescriptorFile) → IsOf f self.now → result ≡ acknowledged f.device.packet (device_of f self.now).stage }
+    {
+        match self.stage {
+            Stage::Sending => self.data_stage.offset,
+            Stage::Idle | Stage::Halted | Stage::StatusOut | Stage::Over | Stage::StatusIn => 0,
         }
     }
 

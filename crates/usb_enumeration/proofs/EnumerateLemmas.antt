@@ -21,7 +21,7 @@ use Rattle.usb_host.specs.Steps.{HostPhase, ResetDue, Reading, Ended, HostView, 
 use Rattle.usb_enumeration.specs.Enumerate.{HasReadAll, HasCause}
 use Rattle.usb_enumeration.specs.Run.{Pair, new_pair, Runs}
 use Rattle.usb_enumeration.specs.inside.Ends.{EndsWell, GoesWell}
-use Rattle.usb_enumeration.specs.inside.Stepping.{Moves, LeadsTo, measure}
+use Rattle.usb_enumeration.specs.Stepping.{Moves, LeadsTo, measure}
 use Rattle.usb_host.proofs.AskingLemmas.{wants_reset, reset_is}
 
 -- one step more
@@ -83,14 +83,14 @@ says f limits used attempts s ResetDue o good e = absurd (cc)
 says f limits used attempts s (Reading place t k) o good e = absurd (cc)
 says f limits used attempts s (Ended place) o good e = says_at f limits used attempts s place o good e
 
--- want of memory does not blame the bus
+-- *out of memory* does not blame the bus
 pub all_used : (limits : LimitView) (used : List Fate) (attempts : ℕ) (o : Result DescriptorFile Trouble) →
     IfErr o (λ trouble. HasCause limits used attempts trouble.why) → IfErr o (λ trouble. blames_bus trouble.why ≡ true → attempts ≡ limits.attempts)
 all_used limits used attempts (Ok g) h = tt
 all_used limits used attempts (Err trouble) (inl e) = λ blamed. absurd (let wrong = sym (ap blames_bus e) ∙ blamed in cc)
 all_used limits used attempts (Err trouble) (inr (blamed, all, bad)) = λ again. all
 
--- with few losses and few Busy in the list, only want of memory is left
+-- with few losses and few Busy in the list, only *out of memory* is left
 only_memory : (limits : LimitView) (fates : List Fate) (n attempts : ℕ) (why : Why) → HasCause limits (fates_used fates n) attempts why →
     losses fates < limits.attempts → busies fates ≤ limits.naks → why ≡ Memory
 only_memory limits fates n attempts why (inl e) few small = e

@@ -31,7 +31,7 @@ configured_state address f = record { address = address; selected = first_value 
 abbrev pub HasReadAll : DescriptorFile → ℕ → State → DescriptorFile → Type 0
 HasReadAll f address s g = (g ≡ f) × (s ≡ configured_state address f)
 
--- Why an enumeration of a device that keeps to the standard ends without success, after these fates: for want of memory;
+-- Why an enumeration of a device that keeps to the standard ends without success, after these fates: out of memory;
 -- or it used all attempts, and there was a loss for each, or more Busy than NAKs are borne.
 abbrev pub HasCause : LimitView → List Fate → ℕ → Why → Type 0
 HasCause limits used attempts why =

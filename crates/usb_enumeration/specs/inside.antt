@@ -6,5 +6,4 @@ pub mod Image
 pub mod Ends
 pub mod Following
 pub mod Described
-pub mod Stepping
 pub mod Laws

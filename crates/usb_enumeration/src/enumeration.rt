@@ -6,7 +6,7 @@ ghost use Rattle.usb_bus.specs.Run.{fates_used};
 ghost use Rattle.usb_host.specs.Cost.{left_to_ask, most};
 ghost use Rattle.usb_host.specs.Steps.{blames_bus, outcome_of};
 ghost use Rattle.usb_enumeration.specs.Enumerate.{HasReadAll, IsEnumeration, HasCause};
-ghost use Rattle.usb_enumeration.specs.inside.Stepping.{Moves, both, measure};
+ghost use Rattle.usb_enumeration.specs.Stepping.{Moves, both, measure};
 
 use crate::exchange::exchange;
 use crate::laws::an_enumeration_ends_well;
@@ -17,10 +17,31 @@ use usb_device::{Description, Device};
 use usb_host::{Action, Host};
 use usb_transfer::Limits;
 
-/// What the host wants next, done at both ends: a bus reset, which has no fate, or a transaction. Answers how many
-/// transactions there were then, or `None` where the host wants nothing more.
+/// One step of an enumeration: what the host wants next, done at both ends. That is a bus reset, which has no fate, or
+/// the transaction after so many, under its fate. Answers how many transactions there were then, or `None` where the
+/// host wants nothing more.
+///
+/// [`enumerate`] goes on by this from a new host and a new device to the end. A caller that does the same walks that
+/// run, and sees both ends before and after each step.
+///
+/// ```rust
+/// let (mut host, mut device) = (Host::new(alloc, limits, description.speed()), Device::new(&description));
+/// assert_eq!(rt; step(&mut host, &mut device, &[Fate::LostDown], 0), Some(0));
+/// assert_eq!(rt; host.attempts(), 1);
+/// assert_eq!(rt; step(&mut host, &mut device, &[Fate::LostDown], 0), Some(1));
+/// ```
+///
+/// # Requires
+///
+/// The transactions so far and those that the host may still ask for are fewer than 2^64. For a new host, with none so
+/// far, they are.
 #[tactic(auto, using(crate::proofs::EnumerateLemmas::take_falls, crate::proofs::EnumerateLemmas::reset_falls))]
-fn step(host: &mut Host, device: &mut Device<'_>, fates: &[Fate], transactions: u64) -> Option<u64>
+pub fn step(
+    host: &mut Host,
+    device: &mut Device<'_>,
+    fates: &[Fate],
+    transactions: u64,
+) -> Option<u64>
     requires few { transactions + left_to_ask host.old < 2 ^ 64 }
     ensures moves { IfSome result (λ now. Moves device.old.description.file fates.now (both host.old device.old.device) transactions (both host.new device.new.device) now) }
     ensures fewer { IfSome result (λ now. now + left_to_ask host.new ≤ transactions + left_to_ask host.old) }
@@ -50,8 +71,8 @@ fn step(host: &mut Host, device: &mut Device<'_>, fates: &[Fate], transactions: 
 /// begins again with a reset, as often as the limits allow. There are at most attempts * (NAKs + 3) * 5,273,453
 /// transactions.
 ///
-/// What was read, or why there is none, is the [`Run`]'s outcome. So is want of memory, which ends an enumeration where
-/// a growth was refused.
+/// What was read, or why there is none, is the [`Run`]'s outcome. So is *out of memory*, which ends an
+/// enumeration at once.
 ///
 /// ```rust
 /// // The ACK of the address's status stage is lost: the host asks at address 1, where no device is yet.

@@ -8,7 +8,10 @@
 //!   memory.
 //! - There are at most as many attempts and transactions as the limits allow.
 //!
-//! What a run of both ends is stands in `specs/Run.antt`, and [`laws`] says what holds of every such run.
+//! [`step`] is one step of it, for a caller that looks at both ends on the way.
+//!
+//! What a run of both ends is stands in `specs/Run.antt`, what a step is in `specs/Stepping.antt`, and [`laws`] says what
+//! holds of every such run.
 #![tactic(auto)]
 
 mod enumeration;
@@ -17,5 +20,5 @@ pub mod laws;
 mod lemmas;
 mod run;
 
-pub use enumeration::enumerate;
+pub use enumeration::{enumerate, step};
 pub use run::Run;

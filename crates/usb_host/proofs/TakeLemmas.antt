@@ -3,10 +3,10 @@ use Rattle.std.proofs.Common.{◌≡◌, ℕ, ◌+◌, ◌≤◌, ◌==◌, ◌|
 use Rattle.std.specs.Prelude.{Option, Some, None, Result, Ok}
 use Rattle.std.proofs.lemmas.Bool.Decides.{nat_tests}
 use Rattle.usb_fields.specs.declared.speed.Speed.{Speed}
-use Rattle.usb_fields.specs.declared.setup.Direction.{Direction}
-use Rattle.usb_fields.specs.declared.setup.Direction.TheVariants as directions
+use Rattle.usb_base.specs.declared.direction.Direction.{Direction}
+use Rattle.usb_base.specs.declared.direction.Direction.TheVariants as directions
 use Rattle.usb_fields.specs.declared.packet.Toggle.TheVariants.{Data0, Data1}
-use Rattle.usb_fields.specs.Setup.{direction_of}
+use Rattle.usb_base.specs.Directions.{direction_of}
 use Rattle.usb_fields.specs.Packets.{is_same_toggle}
 use Rattle.usb_fields.specs.Packet.{Reply as Answer, AckReply, NakReply, StallReply, DataReply, NoReply}
 use Rattle.usb_set.specs.declared.fault.SetFault.{SetFault}

@@ -15,12 +15,13 @@ use Rattle.usb_transfer.specs.Plan.{Plan, Begin, Success, Trouble as GivesUp}
 use Rattle.usb_transfer.specs.Transfer.{TransferView, Hearing, Goes, Brings, Completes, Fails, Taken, taken, begun, due}
 use Rattle.usb_host.specs.declared.action.Action.{Action}
 use Rattle.usb_host.specs.declared.action.Action.TheVariants as actions
+use Rattle.usb_host.specs.declared.step.Step.{Step}
 use Rattle.usb_host.specs.declared.step.Trouble.{Trouble}
 use Rattle.usb_host.specs.declared.place.Place.{Place}
 use Rattle.usb_host.specs.declared.place.Place.TheVariants.{First, Set, Reported, Stopped}
 use Rattle.usb_host.specs.declared.kept.Kept.{Kept}
 use Rattle.usb_host.specs.declared.kept.Kept.TheVariants as kept
-use Rattle.usb_host.specs.Order.{asks, stopped, bytes_lead, set_leads, done_leads, refused_leads}
+use Rattle.usb_host.specs.Order.{asks, step_of, stopped, bytes_lead, set_leads, done_leads, refused_leads}
 use Rattle.usb_host.specs.Keeping.{nothing_kept, WantsMemory, Keeps, set_kept}
 
 -- a bus reset is due; or a read is in work, with its transfer and what is kept of its bytes; or there is an outcome
@@ -63,6 +64,18 @@ abbrev pub wanted : HostPhase → Wanted
 wanted ResetDue = WantsReset
 wanted (Reading place transfer kept) = sends (due transfer)
 wanted (Ended place) = WantsNothing
+
+-- the step that is in work, if one is
+abbrev pub step_in : HostPhase → Option Step
+step_in ResetDue = None
+step_in (Reading place transfer kept) = Some (step_of place)
+step_in (Ended place) = None
+
+-- the transfer that is in work, if one is
+abbrev pub transfer_in : HostPhase → Option TransferView
+transfer_in ResetDue = None
+transfer_in (Reading place transfer kept) = Some transfer
+transfer_in (Ended place) = None
 
 -- the outcome at an end
 abbrev pub outcome_at : Place → Option (Result DescriptorFile Trouble)

@@ -7,13 +7,13 @@ ghost use Rattle.usb_host.specs.inside.Leading.{is_bus_trouble};
 use crate::action::Action;
 use crate::place::Place;
 use crate::reading::{Reading, begin};
-use crate::step::Trouble;
+use crate::step::{Step, Trouble};
 use std::alloc::Global;
 use std::marker::Model;
 use usb_base::known_bytes;
 use usb_fields::{Answer, Speed};
 use usb_file_data::DescriptorFile;
-use usb_transfer::Limits;
+use usb_transfer::{Limits, Transfer};
 
 /// A host that reads all descriptors of one device, and configures it (USB 2.0, 9.1.2 and 9.4).
 ///
@@ -56,7 +56,7 @@ impl Model for Host {
 }
 
 impl Host {
-    ghost use Rattle.usb_host.specs.Steps.{Takes, WantsNothing, WantsReset, WantsSent, lent_outcome, new_host, outcome_of, reset, wanted, wanted_by};
+    ghost use Rattle.usb_host.specs.Steps.{Takes, WantsNothing, WantsReset, WantsSent, lent_outcome, new_host, outcome_of, reset, step_in, transfer_in, wanted, wanted_by};
     ghost use Rattle.usb_file_data.specs.File.{File};
     ghost use Rattle.usb_file_data.specs.declared.file.DescriptorFile.{DescriptorFile};
     ghost use Rattle.usb_host.specs.Gathered.{gathered};
@@ -146,6 +146,36 @@ impl Host {
         ensures { result ≡ self.now.resets }
     {
         self.resets
+    }
+
+    /// The step that is in work, if one is.
+    ///
+    /// ```rust
+    /// assert_eq!(rt; host.step(), Some(Step::First));
+    /// ```
+    pub fn step(&self) -> Option<Step>
+        ensures { result ≡ step_in self.now.phase }
+    {
+        if self.reading.place.is_end() || self.reset_due {
+            return None;
+        }
+        Some(self.reading.place.step())
+    }
+
+    /// The transfer that is in work, if one is: a copy, which is told of no further answer.
+    ///
+    /// ```rust
+    /// if let Some(transfer) = host.transfer() {
+    ///     println!(rt; "{} of {} bytes", transfer.kept(), transfer.request().length)?;
+    /// }
+    /// ```
+    pub fn transfer(&self) -> Option<Transfer>
+        ensures { result ≡ transfer_in self.now.phase }
+    {
+        if self.reading.place.is_end() || self.reset_due {
+            return None;
+        }
+        Some(self.reading.transfer)
     }
 
     /// The outcome, once there is one: the file that was read, or the trouble with its step and its reason. Then nothing

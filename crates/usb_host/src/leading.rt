@@ -14,7 +14,7 @@ use crate::place::Place;
 use crate::read::{
     begins_with, device_in, first_in, may_have_second, qualifier_in, total_in, units_in,
 };
-use crate::sets::{add_set, count_declared, count_sets, is_first_zero, type_of};
+use crate::sets::{add_set, count_declared, count_sets, is_first_zero};
 use crate::step::{Step, Trouble};
 use std::alloc::Global;
 use std::mem;
@@ -174,7 +174,10 @@ fn read_set(
     let Some(set) = set else {
         return Err(Why::Malformed);
     };
-    if count != total || type_of(set.kind) != type_of(kind) || is_first_zero(kind, &file, &set) {
+    if count != total
+        || set.kind.descriptor_type() != kind.descriptor_type()
+        || is_first_zero(kind, &file, &set)
+    {
         return Err(Why::Malformed);
     }
     match add_set(file, kind, set) {

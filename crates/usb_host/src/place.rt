@@ -5,28 +5,28 @@ ghost use Rattle.usb_host.specs.Requests.{get_descriptor};
 ghost use Rattle.usb_host.specs.Order.{declared_sets, header_step as step_of_header, index_due as index_after, language_due as language_after, set_step as step_of_set, sets_of};
 
 use crate::request::{Request, addressing, configuring, getting};
-use crate::sets::{count_declared, count_sets, type_of, value_of_first};
+use crate::sets::{count_declared, count_sets, value_of_first};
 use crate::step::{Step, Trouble};
 use usb_base::Sequence;
-use usb_fields::Setup;
+use usb_fields::{Setup, descriptor_length, descriptor_type};
 use usb_file_data::{DescriptorFile, Strings};
 use usb_set::SetKind;
 use usb_transfer::Why;
 
-/// bDescriptorType of a device (table 9-5).
-const DEVICE: u8 = 1;
-
-/// bDescriptorType of a string (table 9-5).
-const STRING: u8 = 3;
-
-/// bDescriptorType of a device qualifier (table 9-5).
-const QUALIFIER: u8 = 6;
-
 /// The packet size of endpoint zero while it is not known: every device can take packets of 8 bytes (5.5.3).
 const LEAST_PACKET: u8 = 8;
 
+/// How much of a set is read first: its first descriptor, without a tail.
+const HEADER: u16 = descriptor_length::CONFIGURATION as u16;
+
+/// The length of a device descriptor.
+const DEVICE: u16 = descriptor_length::DEVICE as u16;
+
+/// The length of a device qualifier.
+const QUALIFIER: u16 = descriptor_length::DEVICE_QUALIFIER as u16;
+
 /// The most bytes that a string descriptor can have.
-const LONGEST_STRING: u16 = 255;
+const LONGEST_STRING: u16 = descriptor_length::LONGEST as u16;
 
 /// What is read next, with the file as far as it is read, or the end.
 #[derive(Debug, Drop)]
@@ -173,7 +173,7 @@ impl Place {
             Place::First => Request {
                 address: 0,
                 packet: LEAST_PACKET,
-                setup: getting(DEVICE, 0, 0, 8),
+                setup: getting(descriptor_type::DEVICE, 0, 0, u16::from(LEAST_PACKET)),
             },
             Place::Address { first } => Request {
                 address: 0,
@@ -183,15 +183,27 @@ impl Place {
             Place::Device { first } => Request {
                 address,
                 packet: first[7],
-                setup: getting(DEVICE, 0, 0, 18),
+                setup: getting(descriptor_type::DEVICE, 0, 0, DEVICE),
             },
-            Place::Header { kind, file } => request_to(file, address, getting_set(*kind, file, 9)),
+            Place::Header { kind, file } => request_to(
+                file,
+                address,
+                getting_set(*kind, file, HEADER),
+            ),
             Place::Set { kind, file, total } => {
                 request_to(file, address, getting_set(*kind, file, *total))
             }
-            Place::Qualifier { file } => request_to(file, address, getting(QUALIFIER, 0, 0, 10)),
+            Place::Qualifier { file } => request_to(
+                file,
+                address,
+                getting(descriptor_type::DEVICE_QUALIFIER, 0, 0, QUALIFIER),
+            ),
             Place::Languages { file, .. } => {
-                request_to(file, address, getting(STRING, 0, 0, LONGEST_STRING))
+                request_to(
+                    file,
+                    address,
+                    getting(descriptor_type::STRING, 0, 0, LONGEST_STRING),
+                )
             }
             Place::Text {
                 file,
@@ -223,7 +235,7 @@ fn getting_set(kind: SetKind, file: &DescriptorFile, length: u16) -> Setup
     requires { list_length (sets_of kind file.now) < declared_sets kind file.now }
     ensures { result ≡ get_descriptor (type_number kind) (list_length (sets_of kind file.now)) 0 length }
 {
-    getting(type_of(kind), index_of(kind, file), 0, length)
+    getting(kind.descriptor_type(), index_of(kind, file), 0, length)
 }
 
 /// GET_DESCRIPTOR of the next string, of those that are due.
@@ -233,7 +245,7 @@ fn getting_text(strings: &Strings, named: &[u8]) -> Setup
 {
     let index = index_due(strings, named);
     let language = language_due(strings, named);
-    getting(STRING, index, language, LONGEST_STRING)
+    getting(descriptor_type::STRING, index, language, LONGEST_STRING)
 }
 
 /// The index of the next set of this kind, of those that the device declares.

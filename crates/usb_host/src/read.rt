@@ -3,15 +3,14 @@ ghost use Rattle.std.specs.Prelude.{◌≡◌, ◌≤◌, length, take, Some, No
 ghost use Rattle.usb_set.specs.Descriptors.{type_number};
 ghost use Rattle.usb_host.specs.Read.{device_of, is_first, may_have_second as may_have_second_speed, packet_fits as fits_speed, qualifier_of, same_bytes, total_in as total_of, units_of};
 
-use crate::sets::type_of;
 use std::alloc::Global;
 use usb_base::{Sequence, word_at};
-use usb_fields::{DeviceDescriptor, Qualifier, Speed, UnitFault, read_units};
+use usb_fields::{
+    DeviceDescriptor, Qualifier, Speed, USB_2_0, UnitFault, descriptor_length, descriptor_type,
+    read_units,
+};
 use usb_file_data::NoMemory;
 use usb_set::SetKind;
-
-/// The first bcdUSB with a second speed (9.6.2).
-const USB_2: u16 = 0x0200;
 
 /// The first bytes of a device descriptor.
 pub fn first_in(speed: Speed, bytes: &[u8]) -> Option<[u8; 8]>
@@ -20,7 +19,10 @@ pub fn first_in(speed: Speed, bytes: &[u8]) -> Option<[u8; 8]>
     let Ok(first) = <&[u8; 8]>::try_from(bytes) else {
         return None;
     };
-    if first[0] == 18 && first[1] == 1 && packet_fits(speed, first[7]) {
+    if first[0] == descriptor_length::DEVICE
+        && first[1] == descriptor_type::DEVICE
+        && packet_fits(speed, first[7])
+    {
         Some(*first)
     } else {
         None
@@ -65,7 +67,7 @@ pub fn may_have_second(speed: Speed, device: &DeviceDescriptor) -> bool
 {
     match speed {
         Speed::Low => false,
-        Speed::Full | Speed::High => device.usb >= USB_2,
+        Speed::Full | Speed::High => device.usb >= USB_2_0,
     }
 }
 
@@ -73,11 +75,14 @@ pub fn may_have_second(speed: Speed, device: &DeviceDescriptor) -> bool
 pub fn total_in(kind: SetKind, bytes: &[u8]) -> Option<u16>
     ensures { result ≡ total_of (type_number kind) bytes.now }
 {
-    if bytes.len() != 9 {
+    if bytes.len() != usize::from(descriptor_length::CONFIGURATION) {
         return None;
     }
     let total = word_at(bytes, 2);
-    if bytes[0] > 8 && bytes[1] == type_of(kind) && total >= u16::from(bytes[0]) {
+    if bytes[0] >= descriptor_length::CONFIGURATION
+        && bytes[1] == kind.descriptor_type()
+        && total >= u16::from(bytes[0])
+    {
         Some(total)
     } else {
         None

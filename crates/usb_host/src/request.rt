@@ -2,7 +2,7 @@
 ghost use Rattle.std.specs.Prelude.{◌≡◌};
 ghost use Rattle.usb_host.specs.Requests.{get_descriptor, set_address, set_configuration};
 
-use usb_fields::Setup;
+use usb_fields::{Setup, request, request_type};
 
 /// A control transfer that is due: the address that it goes to, the packet size there, and its setup packet.
 #[derive(Clone, Copy, Debug)]
@@ -18,8 +18,8 @@ pub fn getting(kind: u8, index: u8, language: u16, length: u16) -> Setup
     ensures { result ≡ get_descriptor kind index language length }
 {
     Setup {
-        request_type: 0x80,
-        request: 6,
+        request_type: request_type::IN,
+        request: request::GET_DESCRIPTOR,
         value: u16::from(kind) * 256 + u16::from(index),
         index: language,
         length,
@@ -31,8 +31,8 @@ pub fn addressing(address: u8) -> Setup
     ensures { result ≡ set_address address }
 {
     Setup {
-        request_type: 0,
-        request: 5,
+        request_type: request_type::OUT,
+        request: request::SET_ADDRESS,
         value: u16::from(address),
         index: 0,
         length: 0,
@@ -44,8 +44,8 @@ pub fn configuring(value: u8) -> Setup
     ensures { result ≡ set_configuration value }
 {
     Setup {
-        request_type: 0,
-        request: 9,
+        request_type: request_type::OUT,
+        request: request::SET_CONFIGURATION,
         value: u16::from(value),
         index: 0,
         length: 0,

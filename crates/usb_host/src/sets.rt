@@ -1,21 +1,10 @@
 //! The sets of a file in the making.
 ghost use Rattle.std.specs.Prelude.{◌≡◌, ◌<◌, IfOk, length};
-ghost use Rattle.usb_set.specs.Descriptors.{type_number};
 ghost use Rattle.usb_file_data.specs.Front.{with_set};
 ghost use Rattle.usb_host.specs.Order.{declared_sets, first_value, sets_of, is_first_zero as cannot_be_selected};
 
 use usb_file_data::{DescriptorFile, NoMemory};
 use usb_set::{Configuration, SetKind};
-
-/// The descriptor type of a set of this kind (table 9-5).
-pub fn type_of(kind: SetKind) -> u8
-    ensures { result ≡ type_number kind }
-{
-    match kind {
-        SetKind::Configuration => 2,
-        SetKind::OtherSpeed => 7,
-    }
-}
 
 /// How many sets of this kind are there so far.
 pub fn count_sets(kind: SetKind, file: &DescriptorFile) -> usize

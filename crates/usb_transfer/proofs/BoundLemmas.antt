@@ -4,12 +4,12 @@ use Rattle.std.proofs.lemmas.Bool.Decides.{nat_tests, leb_tells, eqb_tells}
 use Rattle.std.proofs.Math.Nat.{mul-le-mul_right, add-div_right, div-le_self}
 use Rattle.usb_fields.specs.Packet.{Reply, AckReply, NakReply, StallReply, DataReply, NoReply}
 use Rattle.usb_fields.specs.Packets.{is_same_toggle}
-use Rattle.usb_fields.specs.Setup.{direction_of}
+use Rattle.usb_base.specs.Directions.{direction_of}
 use Rattle.usb_fields.specs.declared.packet.Toggle.{Toggle}
 use Rattle.usb_fields.specs.declared.packet.Toggle.TheVariants.{Data0, Data1}
 use Rattle.usb_fields.specs.declared.setup.Setup.{Setup as SetupPacket}
-use Rattle.usb_fields.specs.declared.setup.Direction.{Direction}
-use Rattle.usb_fields.specs.declared.setup.Direction.TheVariants as directions
+use Rattle.usb_base.specs.declared.direction.Direction.{Direction}
+use Rattle.usb_base.specs.declared.direction.Direction.TheVariants as directions
 use Rattle.usb_transfer.specs.declared.why.Why.{Why}
 use Rattle.usb_transfer.specs.declared.why.Why.TheVariants.{NoAnswer, Busy, Stalled, TooLong, Unexpected}
 use Rattle.usb_transfer.specs.declared.stage.TransferStage.{TransferStage}

@@ -1,14 +1,15 @@
 -- The host's end of one control transfer (USB 2.0, 8.5.3 and 8.6).
-use Rattle.std.specs.Prelude.{ℕ, suc, ◌+◌, ◌==◌, ◌||◌, nat_lt, if◌then◌else◌, List, [], ◌∷◌, length, Option, Some, None}
+use Rattle.std.specs.Prelude.{ℕ, suc, ◌+◌, ◌==◌, ◌||◌, nat_lt, Bool, false, if◌then◌else◌, List, [], ◌∷◌, length, Option, Some, None}
 use Rattle.usb_fields.specs.Packet.{flipped, Token, SetupToken, InToken, OutToken, Sent, sent_of, Reply, AckReply, NakReply, StallReply, DataReply, NoReply}
 use Rattle.usb_fields.specs.Packets.{is_same_toggle}
-use Rattle.usb_fields.specs.Setup.{setup_bytes, direction_of}
+use Rattle.usb_base.specs.Directions.{direction_of}
+use Rattle.usb_fields.specs.Setup.{setup_bytes}
 use Rattle.usb_fields.specs.declared.packet.Toggle.{Toggle}
 use Rattle.usb_fields.specs.declared.packet.Toggle.TheVariants.{Data0, Data1}
 use Rattle.usb_fields.specs.declared.packet.Transaction.{Transaction}
 use Rattle.usb_fields.specs.declared.setup.Setup.{Setup as SetupPacket}
-use Rattle.usb_fields.specs.declared.setup.Direction.{Direction}
-use Rattle.usb_fields.specs.declared.setup.Direction.TheVariants as directions
+use Rattle.usb_base.specs.declared.direction.Direction.{Direction}
+use Rattle.usb_base.specs.declared.direction.Direction.TheVariants as directions
 use Rattle.usb_transfer.specs.declared.why.Why.{Why}
 use Rattle.usb_transfer.specs.declared.why.Why.TheVariants.{NoAnswer, Busy, Stalled, TooLong, Unexpected}
 use Rattle.usb_transfer.specs.declared.stage.TransferStage.{TransferStage}
@@ -43,6 +44,11 @@ begun address packet naks request =
       strikes = 0;
       nak_count = 0;
     }
+
+-- whether there was no transaction yet: a SETUP that brought nothing is a strike
+abbrev pub is_untried : TransferStage → ℕ → Bool
+is_untried Setup strikes = strikes == 0
+is_untried stage strikes = false
 
 -- what is due at a stage: data out and a status out are empty DATA1 packets
 abbrev pub token_due : SetupPacket → TransferStage → Option Token

@@ -26,7 +26,7 @@ const STRIKES: u8 = 2;
 /// assert_eq!(rt; transfer.take(Answer::Ack), Heard::Complete);
 /// assert_eq!(rt; transfer.next(), None);
 /// ```
-#[derive(Debug, Drop)]
+#[derive(Clone, Copy, Debug)]
 pub struct Transfer {
     address: u8,
     packet: u8,
@@ -44,16 +44,18 @@ impl Model for Transfer {
 
     ghost Value = { TransferView };
 
-    ghost use Rattle.usb_transfer.specs.inside.Transfers.{view_of, IsTransfer};
+    ghost use Rattle.usb_transfer.specs.inside.Transfers.{view_of, fields_of, IsTransfer};
 
     ghost view = { view_of };
 
     ghost invariant = { λ t. IsTransfer (view_of t) };
+
+    ghost inverse = { fields_of };
 }
 
 impl Transfer {
     ghost use Rattle.usb_transfer.specs.Heard.{heard_of};
-    ghost use Rattle.usb_transfer.specs.Transfer.{begun, due, sent_by, taken, taken_data, taken_status, moved, completed, failed, struck, delayed, with_packet};
+    ghost use Rattle.usb_transfer.specs.Transfer.{begun, due, sent_by, taken, taken_data, taken_status, moved, completed, failed, struck, delayed, with_packet, is_untried};
     ghost use Rattle.usb_transfer.specs.Bound.{left, most_transactions};
 
     /// A transfer that begins with this setup packet.
@@ -133,6 +135,42 @@ impl Transfer {
         ensures most { result ≤ self.now.request.length }
     {
         self.kept
+    }
+
+    /// The strikes since the last progress, at most 2: transactions that brought nothing, or a packet that came before.
+    ///
+    /// ```rust
+    /// assert_eq!(rt; transfer.strikes(), 0);
+    /// ```
+    pub fn strikes(&self) -> u8
+        ensures { result ≡ self.now.strikes }
+    {
+        self.strikes
+    }
+
+    /// The NAKs since the last progress, at most as many as are borne.
+    ///
+    /// ```rust
+    /// assert_eq!(rt; transfer.nak_count(), 0);
+    /// ```
+    pub fn nak_count(&self) -> u16
+        ensures { result ≡ self.now.nak_count }
+    {
+        self.nak_count
+    }
+
+    /// Whether there was no transaction yet.
+    ///
+    /// ```rust
+    /// let mut transfer = Transfer::new(0, 64, 16, setup);
+    /// assert!(rt; transfer.is_untried());
+    /// transfer.take(Answer::Silence);
+    /// assert!(rt; !transfer.is_untried());
+    /// ```
+    pub fn is_untried(&self) -> bool
+        ensures { result ≡ is_untried self.now.stage self.now.strikes }
+    {
+        self.stage == TransferStage::Setup && self.strikes == 0
     }
 
     /// Takes what the transaction that was due brought. A transfer that has ended answers the same `Complete` or

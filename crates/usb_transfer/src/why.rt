@@ -20,7 +20,7 @@ pub enum Why {
     Unexpected,
     /// What was read is not what was asked for.
     Malformed,
-    /// Memory was refused.
+    /// Out of memory.
     Memory,
 }
 

@@ -17,6 +17,21 @@ view_of t =
       nak_count = t.nak_count;
     }
 
+-- no field is left out
+abbrev pub fields_of : TransferView → Inside
+fields_of t =
+    record {
+      address = t.address;
+      packet = t.packet;
+      naks = t.naks;
+      request = t.request;
+      stage = t.stage;
+      awaited = t.awaited;
+      kept = t.kept;
+      strikes = t.strikes;
+      nak_count = t.nak_count;
+    }
+
 -- the counts stay within their limits
 pub record IsTransfer (t : TransferView) : Type 0 where
   pub packet : 0 < t.packet

@@ -1,10 +1,11 @@
-use Rattle.std.proofs.Common.{true, [], refl}
-use Rattle.usb_bus.specs.Attempt.{Attempt, attempt_run, proceed}
+use Rattle.std.proofs.Common.{Bool, [], refl}
+use Rattle.usb_bus.specs.Attempt.{Attempt, attempt_run, is_moved_last, proceed}
 use Rattle.usb_bus.proofs.Attempts.{answers_follow, attempts_sound, sound_ends}
 use Rattle.usb_bus.proofs.laws.an_attempt_has_causes.Goals as goal
 
 pub returns : goal.returns
 returns c = λ plan naks answer cut all last d fates answers.
     let x : Attempt = attempt_run plan naks answer cut fates (proceed plan naks [] d) in
-    sound_ends plan naks answer cut true all last fates x.replies x.phase x.device
-    (attempts_sound plan naks answer cut true all last d fates (answers_follow plan naks answer cut all last d.state [] all answers refl))
+    let moved : Bool = is_moved_last plan [] all in
+    sound_ends plan naks answer cut moved all last fates x.replies x.phase x.device
+    (attempts_sound plan naks answer cut moved all last d fates (answers_follow plan naks answer cut moved all last d.state [] all answers refl (λ is. is)))

@@ -6,7 +6,7 @@ use Rattle.usb_host.proofs.LowerLemmas.{asks_less}
 use Rattle.usb_enumeration.specs.declared.run.Run.{Run}
 use Rattle.usb_enumeration.specs.Enumerate.{HasReadAll, HasCause, IsEnumeration}
 use Rattle.usb_enumeration.specs.Run.{Pair}
-use Rattle.usb_enumeration.specs.inside.Stepping.{both, Moves, LeadsTo}
+use Rattle.usb_enumeration.specs.Stepping.{both, Moves, LeadsTo}
 use Rattle.usb_enumeration.proofs.EnumerateLemmas.{leads_on, most_few, all_used, memory_alone}
 use Rattle.usb_enumeration.proofs.enumeration.enumerate.Goals as goal
 

@@ -1,6 +1,6 @@
 use Rattle.std.proofs.Common.{◌≡◌, ◌≤◌, ◌+◌}
 use Rattle.usb_host.specs.Cost.{left_to_ask, most}
-use Rattle.usb_enumeration.specs.inside.Stepping.{both, LeadsTo, measure}
+use Rattle.usb_enumeration.specs.Stepping.{both, LeadsTo, measure}
 use Rattle.usb_enumeration.proofs.enumeration.enumerate.Given as goal
 
 abbrev pub invariant-loop-now : goal.invariant-loop-now
