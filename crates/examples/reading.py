@@ -6,6 +6,7 @@ association descriptors, in another language and by no function of this reposito
 
     reading.py set FILE..      writes FILE's listing to the file of that name that ends in .txt
     reading.py file FILE..     the same of a descriptor file
+    reading.py dump FILE..     the same of the device descriptor and its sets alone, as Linux gives them
     reading.py --raw ..        keeps interface associations as raw descriptors
 """
 
@@ -107,6 +108,10 @@ class Reader:
         if self.named:
             self.strings()
 
+    def dump(self):
+        for _ in range(self.device()):
+            self.set(CONFIGURATION)
+
     def finish(self):
         assert self.at == len(self.data), f"bytes after {self.at}"
         return "".join(line + "\n" for line in self.lines)
@@ -132,17 +137,14 @@ def character(unit):
 
 def listing(kind, data, typed_associations=True):
     reader = Reader(data, typed_associations)
-    if kind == "set":
-        reader.set()
-    else:
-        reader.file()
+    {"set": reader.set, "file": reader.file, "dump": reader.dump}[kind]()
     return reader.finish()
 
 
 def main(words):
     typed_associations = "--raw" not in words
     words = [word for word in words if word != "--raw"]
-    if len(words) < 2 or words[0] not in ("set", "file"):
+    if len(words) < 2 or words[0] not in ("set", "file", "dump"):
         sys.exit(__doc__)
     for path in words[1:]:
         with open(path, "rb") as source:

@@ -4,7 +4,7 @@ use anyhow::{Result, ensure};
 use std::alloc::Global;
 use usb_bus::converse;
 use usb_device::Description;
-use usb_fields::{Answer, Setup, Speed, Stage, Toggle};
+use usb_fields::{Answer, Setup, Speed, Stage, Toggle, request, request_type};
 use usb_transfer::{Heard, Transfer};
 
 /// The size of a packet, in bytes.
@@ -21,8 +21,8 @@ pub(crate) enum Until {
 /// GET_DESCRIPTOR of the first configuration set, of as many bytes as can be asked for.
 fn get_set(set: &[u8]) -> Setup {
     Setup {
-        request_type: 0x80,
-        request: 6,
+        request_type: request_type::IN,
+        request: request::GET_DESCRIPTOR,
         value: 0x0200,
         // What the device sends doesn't hang on it. The compiler can't know it.
         index: (set.len() % 0x1_0000) as u16,

@@ -10,7 +10,8 @@ use anyhow::Result;
 use std::alloc::Global;
 use std::{fmt, result};
 use usb_file::{list_set, read_file, write_file};
-use usb_set::{Configuration, Decoder, SetFault, encode};
+use usb_set::{Configuration, Decoder, SetFault};
+use usb_set_encoder::encode;
 
 /// One kind of work. Making and freeing of what it makes are part of it.
 #[derive(Clone, Copy, PartialEq, Eq)]

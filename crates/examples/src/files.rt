@@ -3,9 +3,11 @@ use crate::fields::fault;
 use crate::program::fault_of;
 use crate::tree::file_of;
 use crate::words::bytes_of;
-use anyhow::{Result, ensure};
+use anyhow::{Result, bail, ensure};
 use std::alloc::Global;
-use usb_file::{DescriptorFile, FileFault, FileWhy, check, named, read_file, write_file};
+use usb_file::{
+    DescriptorFile, FileFault, FileWhy, Input, check, named, read_file, read_input, write_file,
+};
 
 /// The named indices of the file that the bytes are, or their fault. A file gives its bytes again.
 pub(crate) fn file(alloc: Global, words: &[String]) -> Result<String> {
@@ -65,25 +67,61 @@ pub(crate) fn findings(alloc: Global, words: &[String]) -> Result<String> {
     Ok(text)
 }
 
-/// Cuts the file at each length below its own: each front is told to be truncated at its end, by the program too.
+/// Cuts the file at each length below its own, and says how many bytes it has, and how many a front that is an input
+/// itself.
 pub(crate) fn fronts(alloc: Global, words: &[String]) -> Result<String> {
     let bytes = bytes_of(alloc, words)?;
+    cut(alloc, &bytes)
+}
+
+/// The same of bytes. Each front is truncated at its end, but for one at most: that right after the sets of the device.
+pub(crate) fn cut(alloc: Global, bytes: &[u8]) -> Result<String> {
+    let mut told = format!(in alloc; "{} truncated", bytes.len())?;
+    let mut is_whole = false;
     for length in 0..bytes.len() {
         let front = bytes.get(..length).unwrap_or(&[]);
-        let truncated = FileFault {
-            at: length,
-            why: FileWhy::Truncated,
-        };
-        let fault = read_file(alloc, front).err();
-        ensure!(
-            fault == Some(truncated),
-            "the front of {length} bytes is answered so: {fault:?}"
-        );
-        let told = fault_of(alloc, "show", front)?;
-        let wanted = format!(in alloc; "usbdesc: file fault 6 at {length}")?;
-        ensure!(told == wanted, "the front of {length} bytes: {told}");
+        if let Some(form) = form_of(alloc, front)? {
+            ensure!(!is_whole, "a second front is {form}, of {length} bytes");
+            is_whole = true;
+            told = format!(in alloc; "{told}, {form} of {length}")?;
+        }
     }
-    Ok(format!(in alloc; "{} truncated", bytes.len())?)
+    Ok(told)
+}
+
+/// What the front of a file is, if it is something. Else it is told to be truncated at its end, by the program too.
+fn form_of(alloc: Global, front: &[u8]) -> Result<Option<&'static str>> {
+    match read_input(alloc, front) {
+        Ok(Input::Dump(_)) => {
+            truncated(alloc, front)?;
+            Ok(Some("a dump"))
+        }
+        Ok(Input::File(_)) => Ok(Some("a file")),
+        Ok(Input::Set(_)) => bail!("a front is a set"),
+        Err(_) => {
+            truncated(alloc, front)?;
+            let length = front.len();
+            let told = fault_of(alloc, "show", front)?;
+            let wanted = format!(in alloc; "usbdesc: file fault 6 at {length}")?;
+            ensure!(told == wanted, "the front of {length} bytes: {told}");
+            Ok(None)
+        }
+    }
+}
+
+/// Looks whether bytes are no file for being truncated at their end.
+fn truncated(alloc: Global, front: &[u8]) -> Result<()> {
+    let fault = read_file(alloc, front).err();
+    let truncated = FileFault {
+        at: front.len(),
+        why: FileWhy::Truncated,
+    };
+    ensure!(
+        fault == Some(truncated),
+        "the front of {} bytes is answered so: {fault:?}",
+        front.len()
+    );
+    Ok(())
 }
 
 /// The bytes of the file that the lines say, or why it has none. It is read back.

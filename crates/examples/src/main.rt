@@ -43,6 +43,8 @@ fn go_through<R: Files + AllocGlobal>(rt: &R, line: &str) -> Result<String> {
         real::set(rt, name)
     } else if kind == "file" {
         real::file(rt, name)
+    } else if kind == "dump" {
+        real::dump(rt, name)
     } else if kind == "listing" {
         real::build(rt, name)
     } else if kind == "broken" {

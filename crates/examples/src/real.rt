@@ -1,14 +1,14 @@
 //! The examples: each is listed as the text beside it says, and written again to the same bytes. Of a file what
 //! breaks the rules is told as a second text says, its listing is read back to its bytes, and its device is enumerated
-//! at each speed as a third text says. Listings by hand are read back to the bytes beside them, and broken ones have
-//! their fault told.
+//! at each speed as a third text says. A dump is listed as the text beside it says. Listings by hand are read back to
+//! the bytes beside them, and broken ones have their fault told.
 use crate::program::{fault_of, told};
 use crate::{files, sets};
-use anyhow::{Context, Result, ensure};
+use anyhow::{Context, Result, bail, ensure};
 use std::alloc::Global;
 use std::fs;
 use std::rt::Files;
-use usb_file::{assemble, read_file};
+use usb_file::{Input, assemble, read_file, read_input};
 
 /// Goes through a set, and says how many bytes it has and how many descriptors.
 pub(crate) fn set<R: Files + AllocGlobal>(rt: &R, name: &str) -> Result<String> {
@@ -39,7 +39,34 @@ pub(crate) fn file<R: Files + AllocGlobal>(rt: &R, name: &str) -> Result<String>
     for line in results.as_str().lines() {
         enumerate(alloc, &bytes, line, &text).context(format_args!("{line}"))?;
     }
-    counts(alloc, &bytes, &text)
+    let cuts = files::cut(alloc, &bytes)?;
+    Ok(format!(in alloc; "{}, {cuts}", counts(alloc, &bytes, &text)?)?)
+}
+
+/// Goes through a dump, and says the same and how many bytes each front lacks. Where it names an index its listing is no
+/// listing of a file, since the languages are due behind its last line; else the dump is a file.
+pub(crate) fn dump<R: Files + AllocGlobal>(rt: &R, name: &str) -> Result<String> {
+    let alloc = rt.alloc();
+    let bytes = read(rt, name, "descriptors")?;
+    let text = read(rt, name, "txt")?;
+    compare(alloc, "show", &bytes, &text, "0")?;
+    let counts = counts(alloc, &bytes, &text)?;
+    let cuts = files::cut(alloc, &bytes)?;
+    let form = match read_input(alloc, &bytes)? {
+        Input::Dump(_) => {
+            let told = fault_of(alloc, "build", &text)?;
+            let due = count_lines(&text).saturating_add(1);
+            let wanted = format!(in alloc; "usbdesc: listing fault 6 line {due}")?;
+            ensure!(told == wanted, "{told}");
+            "a dump"
+        }
+        Input::File(_) => {
+            build_again(alloc, &text, &bytes)?;
+            "a file"
+        }
+        Input::Set(_) => bail!("a set"),
+    };
+    Ok(format!(in alloc; "{form}, {counts}, {cuts}")?)
 }
 
 /// The bytes that lie there under this name and ending.

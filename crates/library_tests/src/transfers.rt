@@ -1,12 +1,12 @@
 //! The limits of an enumeration, and one control transfer, answer by answer.
-use usb_fields::{Answer, Setup, Stage, Toggle, Transaction};
+use usb_fields::{Answer, Setup, Stage, Toggle, Transaction, request, request_type};
 use usb_transfer::{Heard, LimitFault, Limits, Transfer, Why};
 
 /// GET_DESCRIPTOR of the device descriptor, with this wLength.
 fn device_request(length: u16) -> Setup {
     Setup {
-        request_type: 0x80,
-        request: 6,
+        request_type: request_type::IN,
+        request: request::GET_DESCRIPTOR,
         value: 0x0100,
         index: 0,
         length,

@@ -255,7 +255,7 @@ STEPS = "first|address|device|header 0|set 0|qualifier|other_header 0|other_set 
 
 
 def reasons():
-    s = Script("Each reason at each step where it can come. Want of memory has no answer that brings it.")
+    s = Script("Each reason at each step where it can come. No answer brings *out of memory*.")
     for step in STEPS:
         data = "status_in" if step in ("address", "configure") else "data"
         s.play(f"{step}: no answer.", EVERYTHING, at(step, "setup", "silence"), attempts=1)

@@ -16,7 +16,7 @@ pub(crate) fn right(holds: bool) -> Answer {
     if holds { Answer::Right } else { Answer::Wrong }
 }
 
-/// The answer of a call that refused for want of memory.
+/// The answer of a call that refused, out of memory.
 pub(crate) fn refused(holds: bool) -> Answer {
     if holds { Answer::Memory } else { Answer::Wrong }
 }

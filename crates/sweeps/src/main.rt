@@ -2,7 +2,7 @@
 //! request for memory refused in turn, and counts those of each call.
 //!
 //! The input is the name of a group of calls and the place of the refused request, as `sets 0012`. The program then
-//! prints the name of the call that answers want of memory, and of each whose answer is wrong; where none met the
+//! prints the name of the call that answers *out of memory*, and of each whose answer is wrong; where none met the
 //! refusal, it is `end`, a request of the program's own. Without input nothing is refused, and what is printed is what
 //! came of each call; those on inputs past every round number are then made too.
 #![tactic(auto)]

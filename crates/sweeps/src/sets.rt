@@ -4,7 +4,8 @@ use crate::samples::{SET_LENGTH, SET_TEXT_LENGTH, set_byte, set_text_byte};
 use std::alloc::Global;
 use std::io::Cursor;
 use usb_file::{OutFault, list_set};
-use usb_set::{Configuration, Decoder, EncodeFault, SetFault, SetWhy, encode, read_set, refusal};
+use usb_set::{Configuration, Decoder, EncodeFault, SetFault, SetWhy, read_set};
+use usb_set_encoder::{encode, refusal};
 
 /// The calls on the longest set.
 pub(crate) fn calls(alloc: Global) -> [Call; 4] {

@@ -29,7 +29,7 @@ settings_line faults.Speed = codes "usbdesc: bad speed"
 settings_line faults.Fates = codes "usbdesc: bad fates"
 settings_line faults.Memory = codes "usbdesc: out of memory"
 
--- the exit status: 2 as for a line that is no command, and 3 for want of memory
+-- the exit status: 2 as for a line that is no command, and 3 where it is out of memory
 abbrev pub settings_status : SettingsFault → ℕ
 settings_status faults.Memory = 3
 settings_status _ = 2

@@ -69,7 +69,7 @@ pub record IsSettled (o : Options) (s : Settings) : Type 0 where
   pub speed : speed_said o ≡ Some s.speed
   pub fates : fates_said o ≡ Some s.fates.items
 
--- why options are refused: the first of numbers, speed and fates that is at fault, or want of memory as fates are read
+-- why options are refused: the first of numbers, speed and fates that is at fault, or out of memory as fates are read
 abbrev pub RefusesOptions : Options → SettingsFault → Type 0
 RefusesOptions o faults.Number = limits_said o ≡ None
 RefusesOptions o faults.Speed = IsSome (limits_said o) × (speed_said o ≡ None)

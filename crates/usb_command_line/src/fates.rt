@@ -52,7 +52,7 @@ fn fate_of(letter: u8) -> Option<Fate>
 pub enum FatesFault {
     /// A character names no fate.
     Letter,
-    /// Memory was refused.
+    /// Out of memory.
     Memory,
 }
 

@@ -5,15 +5,22 @@ pub(crate) const ABOUT: &str = "Lists, checks, builds and enumerates USB 2.0 des
 
 /// What `show` does.
 pub(crate) const SHOW_ABOUT: &str =
-    "Lists the configuration set or descriptor file on standard input, a line for each descriptor";
+    "Lists the configuration set, descriptor file or dump on standard input, a line for each descriptor";
 
 /// What stands below the help of `show`.
 pub(crate) const SHOW_HELP: &str = "\
 Input:
   One configuration set where the second byte is 2 or 7: what a device answers when it is
-  asked for a configuration. Any other input is a descriptor file: the device descriptor,
-  its configuration sets, a qualifier and its other-speed sets where there is another speed,
-  and where a string is named the languages and the strings.
+  asked for a configuration. Else a descriptor file: the device descriptor, its configuration
+  sets, a qualifier and its other-speed sets where there is another speed, and where a string
+  is named the languages and the strings. Or a dump: the device descriptor and its
+  configuration sets alone, as Linux gives them in /sys/bus/usb/devices/*/descriptors.
+
+Dumps:
+  Linux lowers bNumConfigurations where it could not read a set, and gives only the front of
+  a set that it could walk, while the set keeps its own wTotalLength. So the dump of a broken
+  device ends early (file fault 6 at its end), or runs into the next set (file fault 2).
+  'build' takes the listing of a dump once its languages and strings are added.
 
 Exit status:
   0  the listing is written

@@ -33,7 +33,7 @@ pub enum Line<'a> {
 /// # Errors
 ///
 /// That of `clap`, whose text and kind it carries: a request for help, words that are no command, a number out
-/// of its range, or want of memory.
+/// of its range, or out of memory.
 pub fn read_line<'a>(alloc: Global, words: &'a [String]) -> Result<Line<'a>, Error>
     ensures line { IfOk result (λ line. Asks line (subcommand_of usbdesc_app (word_texts words.entry.now))) }
     ensures err { FailsBy (fault_of usbdesc_app (word_texts words.entry.now)) result }

@@ -36,8 +36,8 @@ pub struct Settings {
 /// # Errors
 ///
 /// The first of these that holds: [`SettingsFault::Number`] where one of the numbers is none that `parse` reads or
-/// is out of its range, [`SettingsFault::Speed`], and [`SettingsFault::Fates`]. [`SettingsFault::Memory`] where a
-/// growth was refused; then neither of the first two holds.
+/// is out of its range, [`SettingsFault::Speed`], and [`SettingsFault::Fates`]. [`SettingsFault::Memory`] when out of
+/// memory; then neither of the first two holds.
 pub fn settings_of(alloc: Global, options: &Options<'_>) -> Result<Settings, SettingsFault>
     ensures ok { IfOk result (IsSettled options.now) }
     ensures err { IfErr result (RefusesOptions options.now) }
@@ -116,7 +116,7 @@ pub enum SettingsFault {
     Speed,
     /// A letter names no fate.
     Fates,
-    /// Memory was refused.
+    /// Out of memory.
     Memory,
 }
 
@@ -137,7 +137,7 @@ impl SettingsFault {
         }
     }
 
-    /// The exit status of the program: 2 as for a line that is no command, and 3 for want of memory.
+    /// The exit status of the program: 2 as for a line that is no command, and 3 out of memory.
     ///
     /// ```rust
     /// assert_eq!(rt; SettingsFault::Speed.status(), 2);

@@ -6,7 +6,7 @@ ghost use Rattle.usb_command_line.specs.Words.{words_line, words_status};
 use std::io;
 
 /// The line that goes to standard error where the words of the command line could not be taken, and the exit
-/// status: 2 where a word is no text (`InvalidData`), and else 3 for want of memory.
+/// status: 2 where a word is no text (`InvalidData`), and else 3, out of memory.
 ///
 /// ```rust
 /// if let Err(error) = env::args(&rt) {

@@ -1,8 +1,7 @@
 -- On what is kept of an input while it is read.
-use Rattle.std.proofs.Common.{◌≡◌, ◌≢◌, ℕ, ◌+◌, ◌<◌, ◌≤◌, ◌⊎◌, List, ◌++◌, length, take, Option, Some, None, Result, Ok, Err, sym, ap, ap₂, ◌∙◌, subst, inl, inr, arith, length-append}
+use Rattle.std.proofs.Common.{◌≡◌, ◌≢◌, ℕ, ◌+◌, ◌<◌, ◌≤◌, ◌⊎◌, List, ◌++◌, length, take, Option, Some, None, Result, Ok, Err, sym, ap, ◌∙◌, subst, inl, inr, arith, length-append}
 use Rattle.std.proofs.KnownBytes.{Consumes-trans}
 use Rattle.std.proofs.lemmas.List.{length-take-le}
-use Rattle.std.proofs.Math.Seq.{take-append_seam}
 use Rattle.std.specs.Prelude.{IfErr, IsErrAnd, unwrap_or}
 use Rattle.std.specs.Io.KnownBytes.{Consumes}
 use Rattle.usb_set.specs.declared.fault.SetFault.{SetFault}
@@ -15,23 +14,20 @@ use Rattle.usb_set.specs.Layout.{Layout}
 use Rattle.usb_set.specs.Feeding.{Answers, Finishes, WantsMemory}
 use Rattle.usb_set.proofs.Sound.{Faulty-more}
 use Rattle.usb_tool.specs.Input.{Left, ReadsSome}
-use Rattle.usb_tool.proofs.Showing.{begins_whole}
+use Rattle.usb_file.proofs.Inputs.{begins_whole, front_of}
 use Rattle.usb_tool.specs.Faults.{fault_by_why, fault_of_set}
-use Rattle.usb_tool.specs.Sets.{GoesOn, HasFault}
+use Rattle.usb_file.specs.Inputs.{GoesOn, HasFault}
 use Rattle.usb_tool.specs.inside.Intake.{Fed, IsIntake, IsNoSet, ReadFails, ReadsSoFar, StopsEarly}
 use Rattle.usb_tool.specs.declared.intake.Intake.{Intake}
 use Rattle.usb_tool.specs.declared.fault.ToolFault.{ToolFault}
 use Rattle.usb_tool.specs.declared.fault.ToolFault.TheVariants as faults
-
-front_of : {b : List ℕ} {c : Configuration} {place : ℕ} (begins : Begins b c place) → begins.front ≡ take place b
-front_of begins = sym (ap₂ take (sym begins.ends) begins.parts ∙ take-append_seam begins.front begins.rest)
 
 not_for_memory : (s piece : List ℕ) (fault : SetFault) → WantsMemory s piece fault ⊎ Faulty (s ++ piece) fault.at fault.why
     → fault.why ≢ whys.Memory → Faulty (s ++ piece) fault.at fault.why
 not_for_memory s piece fault (inl wants) known = absurd (known wants.why)
 not_for_memory s piece fault (inr shown) known = shown
 
--- a decoder that refuses the next piece, not for want of memory
+-- a decoder that refuses the next piece, and is not out of memory
 pub fed_fault : (old new : Decoding) (piece : List ℕ) (fault : SetFault) (end : Option ℕ) (b : List ℕ)
     → Answers old piece (Err fault) new → fault.why ≢ whys.Memory → Fed old end b → Fed new end (b ++ piece)
 fed_fault (gathers s) new piece fault None b answer known fed =
@@ -100,7 +96,7 @@ is_whole_set (has c) (Some end) n set b h fed is all =
 is_whole_set (refused first) None n set b h fed is all = cc
 is_whole_set (refused first) (Some end) n set b h fed is all = elim fed [ ]
 
--- reading that a failed read, or want of memory, cuts short
+-- reading that is cut short by a failed read, or out of memory
 pub stops_early : {T : Type 0} (r : Result T ToolFault) (e : ToolFault) (limit : ℕ) (from to : Left)
     → IsErrAnd r (λ fault. fault ≡ e) → (e ≡ faults.Read) ⊎ (e ≡ faults.Memory) → ReadsSome limit from to → IfErr r (StopsEarly limit from to)
 stops_early (Ok v) e limit from to h why some = tt
@@ -122,7 +118,7 @@ reads_on a b c old new count read buf so_far taken le kept = record {
   kept = kept;
 }
 
--- want of memory cuts reading short
+-- reading that is cut short out of memory
 pub stops_reading : {T : Type 0} (r : Result T ToolFault) (e : ToolFault) (limit : ℕ) (from to : Left)
     → IsErrAnd r (λ fault. fault ≡ e) → e ≡ faults.Memory → ReadsSome limit from to → IfErr r (ReadFails limit from to)
 stops_reading (Ok v) e limit from to h memory some = tt

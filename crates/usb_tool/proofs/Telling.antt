@@ -29,7 +29,7 @@ eight_joined a b c d e f g h =
     ∙ append_assoc (a ++ b ++ c ++ d) e (f ++ (g ++ h)) ∙ append_assoc (a ++ b ++ c) d (e ++ (f ++ (g ++ h)))
     ∙ append_assoc (a ++ b) c (d ++ (e ++ (f ++ (g ++ h)))) ∙ append_assoc a b (c ++ (d ++ (e ++ (f ++ (g ++ h)))))
 
--- a refusal that is not for want of memory is for the first reason
+-- a refusal that is not *out of memory* is for the first reason
 pub first_reason : (f : DescriptorFile) (s : Speed) (fault : DescriptionFault) → Refuses f s fault → fault ≢ refusals.Memory
     → refusal_of f s ≡ Some fault
 first_reason f s (refusals.Finding finding) why known = why

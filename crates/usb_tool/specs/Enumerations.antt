@@ -84,7 +84,7 @@ pub record WritesResultLess (c : Conditions) (b : List ℕ) (held holds : Held) 
   pub written : AppendsLess held holds text
 
 -- How bytes are not enumerated: nothing was written where they are no file, and else a front of what comes of them,
--- which want of memory leaves unfinished.
+-- which is left unfinished out of memory.
 abbrev pub RefusesToEnumerate : Conditions → List ℕ → Held → Held → ToolFault → Type 0
 RefusesToEnumerate c b held holds (faults.File fault) = FileFaulty b fault.at fault.why × Keeps held holds
 RefusesToEnumerate c b held holds faults.Write = WritesResultFront c b held holds

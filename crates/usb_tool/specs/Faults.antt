@@ -11,6 +11,8 @@ use Rattle.usb_file.specs.Numbers.{why_number}
 use Rattle.usb_file.specs.declared.fault.FileFault.{FileFault}
 use Rattle.usb_file.specs.declared.fault.FileWhy.{FileWhy}
 use Rattle.usb_file.specs.declared.fault.FileWhy.TheVariants as files
+use Rattle.usb_file.specs.declared.input_fault.InputFault.{InputFault}
+use Rattle.usb_file.specs.declared.input_fault.InputFault.TheVariants as inputs
 use Rattle.usb_listing_reader.specs.Numbers.{why_number as list_why_number}
 use Rattle.usb_listing_reader.specs.declared.fault.ListFault.{ListFault}
 use Rattle.usb_listing_reader.specs.declared.fault.ListWhy.{ListWhy}
@@ -43,7 +45,7 @@ fault_line (faults.Set fault) =
 fault_line (faults.Trailing at) = codes "usbdesc: trailing bytes at " ++ decimal at
 fault_line faults.Memory = codes "usbdesc: out of memory"
 
--- a decoder's want of memory is the program's own, and any other fault is one of the set
+-- *out of memory* of a decoder is the program's own, and any other fault is one of the set
 abbrev pub fault_by_why : SetWhy → SetFault → ToolFault
 fault_by_why whys.Memory fault = faults.Memory
 fault_by_why _ fault = faults.Set fault
@@ -52,7 +54,7 @@ fault_by_why _ fault = faults.Set fault
 abbrev pub fault_of_set : SetFault → ToolFault
 fault_of_set fault = fault_by_why fault.why fault
 
--- want of memory as a file is read is the program's own too, and any other fault is one of the file
+-- *out of memory* as a file is read is the program's own too, and any other fault is one of the file
 abbrev pub file_fault_by_why : FileWhy → FileFault → ToolFault
 file_fault_by_why files.Memory fault = faults.Memory
 file_fault_by_why _ fault = faults.File fault
@@ -61,7 +63,13 @@ file_fault_by_why _ fault = faults.File fault
 abbrev pub fault_of_file : FileFault → ToolFault
 fault_of_file fault = file_fault_by_why fault.why fault
 
--- and as a listing is read, and any other fault is one of the listing
+-- the program's fault for one of an input
+abbrev pub fault_of_input : InputFault → ToolFault
+fault_of_input (inputs.Set fault) = fault_of_set fault
+fault_of_input (inputs.Trailing at) = faults.Trailing at
+fault_of_input (inputs.File fault) = fault_of_file fault
+
+-- out of memory as a listing is read is the program's own too, and any other fault is one of the listing
 abbrev pub list_fault_by_why : ListWhy → ListFault → ToolFault
 list_fault_by_why lists.Memory fault = faults.Memory
 list_fault_by_why _ fault = faults.List fault

@@ -1,5 +1,4 @@
 pub mod Input
-pub mod Sets
 pub mod Faults
 pub mod Failing
 pub mod Shows

@@ -22,7 +22,7 @@ use usb_file::{FILE_LIMIT, Finding, check, read_file};
 /// # Errors
 ///
 /// `Read` where the reader failed, `TooLarge` at the first byte over [`FILE_LIMIT`], and `File` with the fault of
-/// the whole input, and `Memory` where a growth was refused. Nothing is written then. `Write` where the writer or
+/// the whole input, and `Memory` when out of memory. Nothing is written then. `Write` where the writer or
 /// its flush failed; a front of the text is written then.
 pub fn run_check<R: Read, W: Write>(alloc: Global, r: &mut R, w: &mut W) -> Result<u8, ToolFault>
     ensures checked { IfOk result (Checked (R.remaining r.old) (R.remaining r.new) (W.contents w.old) (W.contents w.new)) }

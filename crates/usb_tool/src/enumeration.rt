@@ -38,7 +38,7 @@ use usb_transfer::Limits;
 ///
 /// `Read` where the reader failed, `TooLarge` at the first byte over [`FILE_LIMIT`], and `File` with the fault of
 /// the whole input. Nothing is written then. `Write` where the writer or its flush failed; a front of the text is
-/// written then, and may be all of it. `Memory` where a growth was refused, but for one of the host, which is a trouble
+/// written then, and may be all of it. `Memory` when out of memory, but for one of the host, which is a trouble
 /// of the enumeration; at least the last byte of the text is not written then.
 pub fn run_enumerate<R: Read, W: Write>(
     alloc: Global,

@@ -1,12 +1,12 @@
 //! Why a command of the program failed, and what it says of that.
 ghost use Rattle.std.specs.Prelude.{◌≡◌, Some};
-ghost use Rattle.usb_tool.specs.Faults.{fault_line, fault_number, fault_of_file, fault_of_list, fault_of_output, fault_of_set, status_of};
+ghost use Rattle.usb_tool.specs.Faults.{fault_line, fault_number, fault_of_file, fault_of_input, fault_of_list, fault_of_output, fault_of_set, status_of};
 ghost use Rattle.usb_tool.specs.declared.fault.ToolFault.TheVariants.{Memory};
 
 use std::alloc::AllocError;
 use std::error::Error;
 use std::fmt;
-use usb_file::{FileFault, FileWhy, ListFault, ListWhy, OutFault};
+use usb_file::{FileFault, FileWhy, InputFault, ListFault, ListWhy, OutFault};
 use usb_set::{SetFault, SetWhy};
 
 /// Why a command did not do its work.
@@ -23,7 +23,7 @@ pub enum ToolFault {
     Write,
     /// The input is longer than the command reads.
     TooLarge,
-    /// The input is no descriptor file.
+    /// The input is no descriptor file, and no dump where the command takes one.
     File(FileFault),
     /// The input is no listing of a descriptor file.
     List(ListFault),
@@ -31,7 +31,7 @@ pub enum ToolFault {
     Set(SetFault),
     /// The input goes on after its set: the place of the first byte after it.
     Trailing(usize),
-    /// A growth was refused.
+    /// Out of memory.
     Memory,
 }
 
@@ -97,7 +97,7 @@ impl From<AllocError> for ToolFault {
     }
 }
 
-/// Want of memory is the program's own fault, wherever it came.
+/// *Out of memory* is the program's own fault, wherever it came.
 impl From<SetFault> for ToolFault {
     ghost from_gives = { λ e fault. fault ≡ fault_of_set e };
 
@@ -109,7 +109,7 @@ impl From<SetFault> for ToolFault {
     }
 }
 
-/// Want of memory is the program's own fault here too.
+/// *Out of memory* is the program's own fault here too.
 impl From<FileFault> for ToolFault {
     ghost from_gives = { λ e fault. fault ≡ fault_of_file e };
 
@@ -117,6 +117,19 @@ impl From<FileFault> for ToolFault {
         match e.why {
             FileWhy::Memory => ToolFault::Memory,
             _ => ToolFault::File(e),
+        }
+    }
+}
+
+/// And of an input in any of its forms.
+impl From<InputFault> for ToolFault {
+    ghost from_gives = { λ e fault. fault ≡ fault_of_input e };
+
+    fn from(e: InputFault) -> ToolFault {
+        match e {
+            InputFault::Set(fault) => ToolFault::from(fault),
+            InputFault::Trailing(at) => ToolFault::Trailing(at),
+            InputFault::File(fault) => ToolFault::from(fault),
         }
     }
 }

@@ -19,7 +19,7 @@ const CHUNK: usize = 4096;
 ///
 /// `TooLarge` at the first byte over the limit, `Read` where the reader failed, `Memory` where a growth was
 /// refused.
-pub(crate) fn read_input<R: io::Read>(
+pub(crate) fn read_intake<R: io::Read>(
     alloc: Global,
     r: &mut R,
     limit: usize,

@@ -32,7 +32,7 @@ impl SetIntake {
     ///
     /// # Errors
     ///
-    /// `Memory` where a growth was refused.
+    /// `Memory` when out of memory.
     pub(crate) fn take(&mut self, before: usize, piece: &[u8]) -> Result<(), ToolFault>
         requires { before + length piece.now < 2 ^ 64 }
         ensures ok { OnOk result ((b : List ℕ) → before ≡ length b → IsFed self.old b → IsFed self.new (b ++ piece.now)) }

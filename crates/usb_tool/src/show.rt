@@ -1,20 +1,23 @@
 //! The command `show`.
-ghost use Rattle.std.specs.Prelude.{◌≡◌, ℕ, List, length, true, false, IfErr, IfOk, OnOk};
+ghost use Rattle.std.specs.Prelude.{◌≡◌, ℕ, List, length, true, IfErr, IfOk, OnErr, OnOk};
 ghost use Rattle.usb_tool.specs.inside.Intake.{IsFed, IsIntake};
-ghost use Rattle.usb_tool.specs.Shows.{RefusesToShow, ShowFails, Shown, WritesListing, is_one_set};
+ghost use Rattle.usb_tool.specs.Shows.{RefusesToShow, ShowFails, Shown, WritesListing, input_lines};
+ghost use Rattle.usb_file.specs.Inputs.{is_one_set};
+ghost use Rattle.usb_listing.specs.Output.{AppendsLess};
+ghost use Rattle.std.specs.Io.KnownBytes.{Appends};
 
 use crate::fault::ToolFault;
-use crate::input::read_input;
+use crate::input::read_intake;
 use crate::intake::Intake;
 use crate::set_intake::SetIntake;
 use std::alloc::Global;
 use std::io::{Read, Write};
-use usb_file::{FILE_LIMIT, list, list_set, read_file};
+use usb_file::{FILE_LIMIT, Input, OutFault, list, list_set, read_input};
 
 /// Reads the input to its end, and writes its listing: a line for each descriptor, in the order of the
 /// input. The input is one configuration set where its second byte is 2 or 7, the type of a
-/// configuration descriptor or an other-speed one (USB 2.0, table 9-5), and else a descriptor file. The
-/// number in `Ok` is 0.
+/// configuration descriptor or an other-speed one (USB 2.0, table 9-5), and else a descriptor file or a dump,
+/// which is the device descriptor and its configuration sets alone. The number in `Ok` is 0.
 ///
 /// ```rust
 /// let mut input: &[u8] = &[9, 2, 9, 0, 0, 1, 0, 0x80, 0x32];
@@ -26,16 +29,16 @@ use usb_file::{FILE_LIMIT, list, list_set, read_file};
 /// # Errors
 ///
 /// `Read` where the reader failed and `TooLarge` at the first byte over [`FILE_LIMIT`]. Of a set `Set` with
-/// the fault of the whole input, and `Trailing` where it goes on after the set; of a file `File` with the
-/// fault of the whole input. Nothing is written then. `Write` where the writer or its flush failed; a front
-/// of the listing is written then, and may be all of it. `Memory` where a growth was refused; at least the
+/// the fault of the whole input, and `Trailing` where it goes on after the set; else `File` with the
+/// fault of a file. Nothing is written then. `Write` where the writer or its flush failed; a front
+/// of the listing is written then, and may be all of it. `Memory` when out of memory; at least the
 /// last byte of the listing is not written then.
 pub fn run_show<R: Read, W: Write>(alloc: Global, r: &mut R, w: &mut W) -> Result<u8, ToolFault>
     ensures number { IfOk result (λ number. number ≡ 0) }
     ensures shown { OnOk result (Shown (R.remaining r.old) (R.remaining r.new) (W.contents w.old) (W.contents w.new)) }
     ensures err { IfErr result (ShowFails (R.remaining r.old) (R.remaining r.new) (W.contents w.old) (W.contents w.new)) }
 {
-    let (intake, count) = read_input(alloc, r, FILE_LIMIT)?;
+    let (intake, count) = read_intake(alloc, r, FILE_LIMIT)?;
     show_input(alloc, intake, count, w)?;
     Ok(0)
 }
@@ -68,7 +71,7 @@ fn list_input<W: Write>(
 {
     match intake {
         Intake::Set(set) => list_as_set(alloc, set, count, w),
-        Intake::File(bytes) => list_as_file(alloc, &bytes, w),
+        Intake::Device(bytes) => list_bytes(alloc, &bytes, w),
     }
 }
 
@@ -86,11 +89,22 @@ fn list_as_set<W: Write>(
     Ok(())
 }
 
-fn list_as_file<W: Write>(alloc: Global, bytes: &[u8], w: &mut W) -> Result<(), ToolFault>
-    ensures shown { OnOk result (is_one_set bytes.now ≡ false → WritesListing bytes.now (W.contents w.old) (W.contents w.new)) }
-    ensures err { IfErr result (λ fault. is_one_set bytes.now ≡ false → RefusesToShow bytes.now (W.contents w.old) (W.contents w.new) fault) }
+fn list_bytes<W: Write>(alloc: Global, bytes: &[u8], w: &mut W) -> Result<(), ToolFault>
+    ensures shown { OnOk result (WritesListing bytes.now (W.contents w.old) (W.contents w.new)) }
+    ensures err { IfErr result (RefusesToShow bytes.now (W.contents w.old) (W.contents w.new)) }
 {
-    let file = read_file(alloc, bytes)?;
-    list(alloc, &file, w)?;
+    let input = read_input(alloc, bytes)?;
+    put_lines(alloc, &input, w)?;
     Ok(())
+}
+
+/// Writes the lines of an input.
+fn put_lines<W: Write>(alloc: Global, input: &Input, w: &mut W) -> Result<(), OutFault>
+    ensures ok { OnOk result (Appends (W.contents w.old) (W.contents w.new) (input_lines input.now)) }
+    ensures err { OnErr result (AppendsLess (W.contents w.old) (W.contents w.new) (input_lines input.now)) }
+{
+    match input {
+        Input::Set(set) => list_set(alloc, set, w),
+        Input::File(file) | Input::Dump(file) => list(alloc, file, w),
+    }
 }

@@ -4,8 +4,7 @@ use Rattle.std.specs.Io.KnownBytes.{Consumes, IsAtEnd}
 use Rattle.usb_set.specs.Decoding.{Decoding, gathers, has, refused}
 use Rattle.usb_set.specs.Faults.{Begins, Faulty, IsOpen}
 use Rattle.usb_tool.specs.Input.{Left, ReadsAll, ReadsMore, ReadsSome}
-use Rattle.usb_tool.specs.Sets.{GoesOn, HasFault}
-use Rattle.usb_tool.specs.Shows.{is_one_set}
+use Rattle.usb_file.specs.Inputs.{GoesOn, HasFault, is_one_set}
 use Rattle.usb_tool.specs.declared.fault.ToolFault.{ToolFault}
 use Rattle.usb_tool.specs.declared.fault.ToolFault.TheVariants as faults
 use Rattle.usb_tool.specs.declared.intake.Intake.{Intake}
@@ -26,7 +25,7 @@ IsFed set b = Fed set.decoder set.end b
 -- the input so far is these bytes
 abbrev pub IsIntake : Intake → List ℕ → Type 0
 IsIntake (intakes.Set set) b = IsFed set b × (is_one_set b ≡ true)
-IsIntake (intakes.File bytes) b = (bytes.items ≡ b) × (is_one_set b ≡ false)
+IsIntake (intakes.Device bytes) b = (bytes.items ≡ b) × (is_one_set b ≡ false)
 
 -- how bytes are no set
 abbrev pub IsNoSet : List ℕ → ToolFault → Type 0
@@ -51,7 +50,7 @@ pub record ReadsInput (limit : ℕ) (old new : Left) (intake : Intake) (count : 
   pub counted : count ≡ length bytes
   pub kept : IsIntake intake bytes
 
--- Reading is cut short by a failed read, or by want of memory, after so many bytes at most.
+-- Reading is cut short by a failed read, or out of memory, after so many bytes at most.
 abbrev pub StopsEarly : ℕ → Left → Left → ToolFault → Type 0
 StopsEarly limit old new faults.Read = ReadsSome limit old new
 StopsEarly limit old new faults.Memory = ReadsSome limit old new

@@ -1,6 +1,6 @@
 use Rattle.std.proofs.Common.{◌-◌, ◌+◌, ◌≤◌}
 use Rattle.usb_tool.specs.inside.Intake.{ReadsSoFar}
-use Rattle.usb_tool.proofs.input.read_input.Given as goal
+use Rattle.usb_tool.proofs.input.read_intake.Given as goal
 
 abbrev pub invariant-loop-intake : goal.invariant-loop-intake
 invariant-loop-intake g l = record {

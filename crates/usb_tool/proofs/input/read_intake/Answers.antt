@@ -1,7 +1,7 @@
 use Rattle.std.proofs.Common.{rules, ◌++◌, ◌≤◌, take, length, arith, sym, ◌∙◌}
 use Rattle.std.proofs.KnownBytes.{Consumes-trans}
 use Rattle.usb_tool.proofs.Intakes.{counted_more, reads_on, stops_reading}
-use Rattle.usb_tool.proofs.input.read_input.Goals as goal
+use Rattle.usb_tool.proofs.input.read_intake.Goals as goal
 
 pub returns-then-read-limit-clause-err : goal.returns-then-read-limit-clause-err
 returns-then-read-limit-clause-err g c =
