@@ -10,7 +10,7 @@ use Rattle.usb_set.specs.declared.tree.Extra.{Extra}
 use Rattle.usb_set.specs.declared.tree.Extra.TheVariants as extras
 use Rattle.usb_set.specs.declared.tree.Setting.{Setting}
 use Rattle.usb_set.specs.Owners.{Holder, OfConfiguration, OfEndpoint, OfSetting, associations_among, held, held_associations, held_by, holders_in}
-use Rattle.usb_set.specs.Parts.{association_in, associations_of, extras_of, setting_extras}
+use Rattle.usb_set.specs.Parts.{association_in, associations_of, setting_extras}
 use Rattle.usb_rules.specs.declared.finding.Part.{Part}
 use Rattle.usb_rules.specs.declared.finding.Finding.{Finding}
 use Rattle.usb_rules.specs.declared.rule.Rule.TheVariants as rules

@@ -4,8 +4,6 @@ use Rattle.std.specs.Prelude.{Option, Some, None, fold, if◌then◌else◌}
 use Rattle.std.proofs.lemmas.List.{append-nil}
 use Rattle.std.proofs.lemmas.List.Elements.{filter-append}
 use Rattle.std.proofs.lemmas.Grind.{common_steps}
-use Rattle.usb_fields.specs.declared.device.DeviceDescriptor.{DeviceDescriptor}
-use Rattle.usb_set.specs.declared.tree.Association.{Association}
 use Rattle.usb_set.specs.declared.tree.Configuration.{Configuration}
 use Rattle.usb_set.specs.declared.tree.Endpoint.{Endpoint}
 use Rattle.usb_set.specs.declared.tree.Setting.{Setting}
@@ -20,8 +18,8 @@ use Rattle.usb_rules.specs.declared.rule.Rule.{Rule}
 use Rattle.usb_rules.specs.declared.rule.Rule.TheVariants as rules
 use Rattle.usb_rules.specs.FindingLine.{rule_number}
 use Rattle.usb_rules.specs.Places.{at_each, finding, in_other, in_parts, in_sets, stands_in, when}
-use Rattle.usb_rules.specs.Findings.{addresses, associations, attributes, descriptors, endpoint_counts, findings, interface_counts, missing_default_settings, number_gaps, of_qualifier, packet_sizes, repeated_addresses, repeated_settings, shared_addresses, values}
-use Rattle.usb_rules.specs.Rules.{address_of, binds_missing_interface, has_number_gap, lacks_default_setting, wrong_address, wrong_attributes, wrong_device, wrong_endpoint_count, wrong_interface_count, wrong_packet_size, wrong_qualifier, wrong_value}
+use Rattle.usb_rules.specs.Findings.{addresses, associations, attributes, descriptors, endpoint_counts, findings_where, part_findings, interface_counts, missing_default_settings, number_gaps, of_qualifier, packet_sizes, repeated_addresses, repeated_settings, shared_addresses, values}
+use Rattle.usb_rules.specs.Rules.{address_of, binds_missing_interface, has_number_gap, lacks_default_setting, wrong_address, wrong_attributes, wrong_endpoint_count, wrong_interface_count, wrong_packet_size, wrong_qualifier, wrong_value}
 use Rattle.usb_rules.specs.inside.Walk.{by_rule, broken, endpoint_at, in_endpoint, in_file, in_other_part, in_part, in_set, in_setting, of_rule, place, set_at, setting_at, shared_with, stood}
 
 -- a loop's next place
@@ -142,13 +140,13 @@ of_other r None = refl
 of_other r (Some other) =
     of_both r _ _ _ _ (of_when r (wrong_qualifier other.qualifier) (finding rules.V11 parts.Other 0 0 0)) (of_part r parts.Other other.sets)
 
-pub file_of : Rule → DescriptorFile → List Finding
-file_of r f = pick r rules.V11 (when (wrong_device f.device) (finding rules.V11 parts.Device 0 0 0)) ++ part_of r parts.Main f.sets ++ other_of r f.other
+pub file_of : Rule → Bool → DescriptorFile → List Finding
+file_of r wrong f = pick r rules.V11 (when wrong (finding rules.V11 parts.Device 0 0 0)) ++ part_of r parts.Main f.sets ++ other_of r f.other
 
-pub of_file : (r : Rule) (f : DescriptorFile) → of_rule r (in_file f) ≡ file_of r f
+pub of_file : (r : Rule) (wrong : Bool) (f : DescriptorFile) → of_rule r (in_file wrong f) ≡ file_of r wrong f
 unfolding file_of
-of_file r f =
-    of_both r _ _ _ _ (of_both r _ _ _ _ (of_when r (wrong_device f.device) (finding rules.V11 parts.Device 0 0 0)) (of_part r parts.Main f.sets)) (of_other r f.other)
+of_file r wrong f =
+    of_both r _ _ _ _ (of_both r _ _ _ _ (of_when r wrong (finding rules.V11 parts.Device 0 0 0)) (of_part r parts.Main f.sets)) (of_other r f.other)
 
 -- ---- rule by rule
 
@@ -302,9 +300,9 @@ other_is r found none quiet is (Some other) =
 
 in_file_is : (r : Rule) (found : Part → ℕ → Configuration → List Finding) → ((xs : List Finding) → pick r rules.V10 xs ≡ []) → ((xs : List Finding) → pick r rules.V11 xs ≡ [])
     → ((part : Part) (i : ℕ) (c : Configuration) → set_of r (place part i 0 0) c ≡ found part i c)
-    → (f : DescriptorFile) → file_of r f ≡ in_parts (in_sets found) f
+    → (wrong : Bool) (f : DescriptorFile) → file_of r wrong f ≡ in_parts (in_sets found) f
 unfolding file_of
-in_file_is r found none quiet is f =
+in_file_is r found none quiet is wrong f =
     ap (λ xs. xs ++ part_of r parts.Main f.sets ++ other_of r f.other) (quiet _)
     ∙ ap (λ xs. xs ++ other_of r f.other) (in_part_is r found none is parts.Main f.sets)
     ∙ ap (λ xs. in_sets found parts.Main f.sets ++ xs) (other_is r found none quiet is f.other)
@@ -318,9 +316,9 @@ other_values : (other : Option Other) → other_of rules.V10 other ≡ in_other 
 other_values None = refl
 other_values (Some other) = values_are parts.Other other.sets
 
-file_values : (f : DescriptorFile) → file_of rules.V10 f ≡ in_parts values f
+file_values : (wrong : Bool) (f : DescriptorFile) → file_of rules.V10 wrong f ≡ in_parts values f
 unfolding file_of
-file_values f =
+file_values wrong f =
     ap (λ xs. xs ++ other_of rules.V10 f.other) (values_are parts.Main f.sets) ∙ ap (λ xs. values parts.Main f.sets ++ xs) (other_values f.other)
 
 no_part : (part : Part) (sets : List Configuration) → part_of rules.V11 part sets ≡ []
@@ -331,27 +329,57 @@ other_descriptors None = refl
 other_descriptors (Some other) =
     ap (λ xs. when (wrong_qualifier other.qualifier) (finding rules.V11 parts.Other 0 0 0) ++ xs) (no_part parts.Other other.sets) ∙ append-nil _
 
-file_descriptors : (f : DescriptorFile) → file_of rules.V11 f ≡ descriptors f
+file_descriptors : (wrong : Bool) (f : DescriptorFile) → file_of rules.V11 wrong f ≡ descriptors wrong f
 unfolding file_of
-file_descriptors f =
-    let d = when (wrong_device f.device) (finding rules.V11 parts.Device 0 0 0) in
+file_descriptors wrong f =
+    let d = when wrong (finding rules.V11 parts.Device 0 0 0) in
     ap (λ xs. d ++ xs ++ other_of rules.V11 f.other) (no_part parts.Main f.sets) ∙ ap (λ xs. xs ++ other_of rules.V11 f.other) (append-nil d)
     ∙ ap (λ xs. d ++ xs) (other_descriptors f.other)
 
 -- the findings of the walk, rule by rule, are the findings of the file
-pub sorted : (f : DescriptorFile) → by_rule (in_file f) ≡ findings f
-sorted f =
-    let r1 = of_file rules.V1 f ∙ in_file_is rules.V1 interface_counts (λ xs. refl) (λ xs. refl) (λ part i c. set_1 (place part i 0 0) c) f in
-    let r2 = of_file rules.V2 f ∙ in_file_is rules.V2 number_gaps (λ xs. refl) (λ xs. refl) (λ part i c. set_2 (place part i 0 0) c) f in
-    let r3 = of_file rules.V3 f ∙ in_file_is rules.V3 repeated_settings (λ xs. refl) (λ xs. refl) (λ part i c. set_3 (place part i 0 0) c) f in
-    let r4 = of_file rules.V4 f ∙ in_file_is rules.V4 missing_default_settings (λ xs. refl) (λ xs. refl) (λ part i c. set_4 (place part i 0 0) c) f in
-    let r5 = of_file rules.V5 f ∙ in_file_is rules.V5 endpoint_counts (λ xs. refl) (λ xs. refl) (λ part i c. set_5 (place part i 0 0) c) f in
-    let r6 = of_file rules.V6 f ∙ in_file_is rules.V6 addresses (λ xs. refl) (λ xs. refl) (λ part i c. set_6 (place part i 0 0) c) f in
-    let r7 = of_file rules.V7 f ∙ in_file_is rules.V7 repeated_addresses (λ xs. refl) (λ xs. refl) (λ part i c. set_7 (place part i 0 0) c) f in
-    let r8 = of_file rules.V8 f ∙ in_file_is rules.V8 shared_addresses (λ xs. refl) (λ xs. refl) (λ part i c. set_8 (place part i 0 0) c) f in
-    let r9 = of_file rules.V9 f ∙ in_file_is rules.V9 attributes (λ xs. refl) (λ xs. refl) (λ part i c. set_9 (place part i 0 0) c) f in
-    let r10 = of_file rules.V10 f ∙ file_values f in
-    let r11 = of_file rules.V11 f ∙ file_descriptors f in
-    let r12 = of_file rules.V12 f ∙ in_file_is rules.V12 packet_sizes (λ xs. refl) (λ xs. refl) (λ part i c. set_12 (place part i 0 0) c) f in
-    let r13 = of_file rules.V13 f ∙ in_file_is rules.V13 associations (λ xs. refl) (λ xs. refl) (λ part i c. set_13 (place part i 0 0) c) f in
+pub sorted : (wrong : Bool) (f : DescriptorFile) → by_rule (in_file wrong f) ≡ findings_where wrong f
+sorted wrong f =
+    let r1 = of_file rules.V1 wrong f ∙ in_file_is rules.V1 interface_counts (λ xs. refl) (λ xs. refl) (λ part i c. set_1 (place part i 0 0) c) wrong f in
+    let r2 = of_file rules.V2 wrong f ∙ in_file_is rules.V2 number_gaps (λ xs. refl) (λ xs. refl) (λ part i c. set_2 (place part i 0 0) c) wrong f in
+    let r3 = of_file rules.V3 wrong f ∙ in_file_is rules.V3 repeated_settings (λ xs. refl) (λ xs. refl) (λ part i c. set_3 (place part i 0 0) c) wrong f in
+    let r4 = of_file rules.V4 wrong f ∙ in_file_is rules.V4 missing_default_settings (λ xs. refl) (λ xs. refl) (λ part i c. set_4 (place part i 0 0) c) wrong f in
+    let r5 = of_file rules.V5 wrong f ∙ in_file_is rules.V5 endpoint_counts (λ xs. refl) (λ xs. refl) (λ part i c. set_5 (place part i 0 0) c) wrong f in
+    let r6 = of_file rules.V6 wrong f ∙ in_file_is rules.V6 addresses (λ xs. refl) (λ xs. refl) (λ part i c. set_6 (place part i 0 0) c) wrong f in
+    let r7 = of_file rules.V7 wrong f ∙ in_file_is rules.V7 repeated_addresses (λ xs. refl) (λ xs. refl) (λ part i c. set_7 (place part i 0 0) c) wrong f in
+    let r8 = of_file rules.V8 wrong f ∙ in_file_is rules.V8 shared_addresses (λ xs. refl) (λ xs. refl) (λ part i c. set_8 (place part i 0 0) c) wrong f in
+    let r9 = of_file rules.V9 wrong f ∙ in_file_is rules.V9 attributes (λ xs. refl) (λ xs. refl) (λ part i c. set_9 (place part i 0 0) c) wrong f in
+    let r10 = of_file rules.V10 wrong f ∙ file_values wrong f in
+    let r11 = of_file rules.V11 wrong f ∙ file_descriptors wrong f in
+    let r12 = of_file rules.V12 wrong f ∙ in_file_is rules.V12 packet_sizes (λ xs. refl) (λ xs. refl) (λ part i c. set_12 (place part i 0 0) c) wrong f in
+    let r13 = of_file rules.V13 wrong f ∙ in_file_is rules.V13 associations (λ xs. refl) (λ xs. refl) (λ part i c. set_13 (place part i 0 0) c) wrong f in
+    cc
+
+-- those of a part, rule by rule, are the findings of the part
+pub sorted_part : (part : Part) (sets : List Configuration) → by_rule (in_part part sets) ≡ part_findings part sets
+sorted_part part sets =
+    let r1 = of_part rules.V1 part sets ∙ in_part_is rules.V1 interface_counts (λ xs. refl) (λ part i c. set_1 (place part i 0 0) c) part sets in
+    let r2 = of_part rules.V2 part sets ∙ in_part_is rules.V2 number_gaps (λ xs. refl) (λ part i c. set_2 (place part i 0 0) c) part sets in
+    let r3 = of_part rules.V3 part sets ∙ in_part_is rules.V3 repeated_settings (λ xs. refl) (λ part i c. set_3 (place part i 0 0) c) part sets in
+    let r4 = of_part rules.V4 part sets ∙ in_part_is rules.V4 missing_default_settings (λ xs. refl) (λ part i c. set_4 (place part i 0 0) c) part sets in
+    let r5 = of_part rules.V5 part sets ∙ in_part_is rules.V5 endpoint_counts (λ xs. refl) (λ part i c. set_5 (place part i 0 0) c) part sets in
+    let r6 = of_part rules.V6 part sets ∙ in_part_is rules.V6 addresses (λ xs. refl) (λ part i c. set_6 (place part i 0 0) c) part sets in
+    let r7 = of_part rules.V7 part sets ∙ in_part_is rules.V7 repeated_addresses (λ xs. refl) (λ part i c. set_7 (place part i 0 0) c) part sets in
+    let r8 = of_part rules.V8 part sets ∙ in_part_is rules.V8 shared_addresses (λ xs. refl) (λ part i c. set_8 (place part i 0 0) c) part sets in
+    let r9 = of_part rules.V9 part sets ∙ in_part_is rules.V9 attributes (λ xs. refl) (λ part i c. set_9 (place part i 0 0) c) part sets in
+    let r10 = of_part rules.V10 part sets ∙ values_are part sets in
+    let r11 = of_part rules.V11 part sets ∙ no_part part sets in
+    let r12 = of_part rules.V12 part sets ∙ in_part_is rules.V12 packet_sizes (λ xs. refl) (λ part i c. set_12 (place part i 0 0) c) part sets in
+    let r13 = of_part rules.V13 part sets ∙ in_part_is rules.V13 associations (λ xs. refl) (λ part i c. set_13 (place part i 0 0) c) part sets in
+    let before =
+    in_sets interface_counts part sets
+    ++ in_sets number_gaps part sets
+    ++ in_sets repeated_settings part sets
+    ++ in_sets missing_default_settings part sets
+    ++ in_sets endpoint_counts part sets
+    ++ in_sets addresses part sets
+    ++ in_sets repeated_addresses part sets
+    ++ in_sets shared_addresses part sets
+    ++ in_sets attributes part sets
+    ++ values part sets in
+    let none = append-nil before in
     cc

@@ -1,6 +1,8 @@
 -- All that breaks a rule in a file: rule by rule, and in each rule by part, set, setting and endpoint.
-use Rattle.std.specs.Prelude.{ℕ, List, [], ◌++◌, length, ◌==◌, Bool, Option, Some, None}
+use Rattle.std.specs.Prelude.{ℕ, List, [], ◌∷◌, ◌++◌, length, ◌==◌, Bool, Option, Some, None}
 use Rattle.usb_set.specs.declared.tree.Setting.{Setting}
+use Rattle.usb_set.specs.declared.tree.SetKind.{SetKind}
+use Rattle.usb_set.specs.declared.tree.SetKind.TheVariants as kinds
 use Rattle.usb_set.specs.declared.tree.Configuration.{Configuration}
 use Rattle.usb_set.specs.Parts.{associations_of}
 use Rattle.usb_file_data.specs.declared.file.DescriptorFile.{DescriptorFile}
@@ -11,7 +13,7 @@ use Rattle.usb_rules.specs.declared.finding.Finding.{Finding}
 use Rattle.usb_rules.specs.declared.rule.Rule.{Rule}
 use Rattle.usb_rules.specs.declared.rule.Rule.TheVariants as rules
 use Rattle.usb_rules.specs.Places.{when, finding, at_each, at_each_after, in_sets, in_parts}
-use Rattle.usb_rules.specs.Rules.{wrong_interface_count, has_number_gap, repeats_setting, lacks_default_setting, wrong_endpoint_count, wrong_address, repeats_address, shares_address, wrong_attributes, wrong_value, wrong_device, wrong_qualifier, wrong_packet_size, binds_missing_interface}
+use Rattle.usb_rules.specs.Rules.{wrong_interface_count, has_number_gap, repeats_setting, lacks_default_setting, wrong_endpoint_count, wrong_address, repeats_address, shares_address, wrong_attributes, wrong_value, wrong_device, wrong_dumped_device, wrong_qualifier, wrong_packet_size, binds_missing_interface}
 
 -- a rule that a set breaks as a whole
 abbrev pub of_set : Rule → (Configuration → Bool) → Part → ℕ → Configuration → List Finding
@@ -93,13 +95,13 @@ abbrev pub of_qualifier : Option Other → List Finding
 of_qualifier None = []
 of_qualifier (Some other) = when (wrong_qualifier other.qualifier) (finding rules.V11 parts.Other 0 0 0)
 
--- V11 in a file
-abbrev pub descriptors : DescriptorFile → List Finding
-descriptors f = when (wrong_device f.device) (finding rules.V11 parts.Device 0 0 0) ++ of_qualifier f.other
+-- V11 in a file: it is said whether the device descriptor breaks it
+abbrev pub descriptors : Bool → DescriptorFile → List Finding
+descriptors wrong f = when wrong (finding rules.V11 parts.Device 0 0 0) ++ of_qualifier f.other
 
--- what `check` tells of a file
-abbrev pub findings : DescriptorFile → List Finding
-findings f =
+-- all that is found in a file: first it is said whether the device descriptor breaks V11
+abbrev pub findings_where : Bool → DescriptorFile → List Finding
+findings_where wrong f =
     in_parts (in_sets interface_counts) f
     ++ in_parts (in_sets number_gaps) f
     ++ in_parts (in_sets repeated_settings) f
@@ -110,6 +112,39 @@ findings f =
     ++ in_parts (in_sets shared_addresses) f
     ++ in_parts (in_sets attributes) f
     ++ in_parts values f
-    ++ descriptors f
+    ++ descriptors wrong f
     ++ in_parts (in_sets packet_sizes) f
     ++ in_parts (in_sets associations) f
+
+-- what `check` tells of a file
+abbrev pub findings : DescriptorFile → List Finding
+findings f = findings_where (wrong_device f.device) f
+
+-- what it tells of a dump, whose device may be one of SuperSpeed
+abbrev pub dump_findings : DescriptorFile → List Finding
+dump_findings f = findings_where (wrong_dumped_device f.device) f
+
+-- the part that a set alone is of: `main` for a configuration, `other` for an other-speed configuration
+abbrev pub part_of_kind : SetKind → Part
+part_of_kind kinds.Configuration = parts.Main
+part_of_kind kinds.OtherSpeed = parts.Other
+
+-- what is found in the sets of a part
+abbrev pub part_findings : Part → List Configuration → List Finding
+part_findings part sets =
+    in_sets interface_counts part sets
+    ++ in_sets number_gaps part sets
+    ++ in_sets repeated_settings part sets
+    ++ in_sets missing_default_settings part sets
+    ++ in_sets endpoint_counts part sets
+    ++ in_sets addresses part sets
+    ++ in_sets repeated_addresses part sets
+    ++ in_sets shared_addresses part sets
+    ++ in_sets attributes part sets
+    ++ values part sets
+    ++ in_sets packet_sizes part sets
+    ++ in_sets associations part sets
+
+-- what `check` tells of a set alone: it is the only set of its part
+abbrev pub set_findings : Configuration → List Finding
+set_findings c = part_findings (part_of_kind c.kind) (c ∷ [])

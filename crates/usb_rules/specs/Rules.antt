@@ -1,5 +1,5 @@
 -- What breaks each rule: a test of what is there, which sees as much of its set as it needs.
-use Rattle.std.specs.Prelude.{ℕ, List, [], map, length, Bool, not, ◌==◌, ◌&&◌, ◌||◌, bit_and}
+use Rattle.std.specs.Prelude.{ℕ, List, map, length, Bool, not, nat_le, ◌==◌, ◌&&◌, ◌||◌, bit_and, if◌then◌else◌}
 use Rattle.std.specs.List.{list_any, range_with_len}
 use Rattle.usb_fields.specs.declared.device.DeviceDescriptor.{DeviceDescriptor}
 use Rattle.usb_fields.specs.declared.qualifier.Qualifier.{Qualifier}
@@ -93,10 +93,19 @@ wrong_value before c = (c.value == 0) || stands_in (map value_of before) c.value
 abbrev pub wrong_packet : ℕ → Bool
 wrong_packet packet = not ((packet == 8) || (packet == 16) || (packet == 32) || (packet == 64))
 
--- V11, for the device descriptor: bMaxPacketSize0 isn't 8, 16, 32 or 64, or bDeviceClass is 0 and bDeviceSubClass
--- isn't (9.6.1).
+-- bDeviceClass is 0 and bDeviceSubClass isn't
+abbrev pub has_lone_subclass : DeviceDescriptor → Bool
+has_lone_subclass d = (d.class == 0) && not (d.subclass == 0)
+
+-- V11, for the device descriptor: bMaxPacketSize0 isn't 8, 16, 32 or 64, or there is a subclass without a class
+-- (9.6.1).
 abbrev pub wrong_device : DeviceDescriptor → Bool
-wrong_device d = wrong_packet d.packet || ((d.class == 0) && not (d.subclass == 0))
+wrong_device d = wrong_packet d.packet || has_lone_subclass d
+
+-- V11, for the device descriptor of a dump: from bcdUSB 0300 on, which is SuperSpeed, bMaxPacketSize0 is the exponent
+-- of 512 bytes, which is 9 (USB 3.2, 9.6.1).
+abbrev pub wrong_dumped_device : DeviceDescriptor → Bool
+wrong_dumped_device d = (if nat_le 0x0300 d.usb then not (d.packet == 9) else wrong_packet d.packet) || has_lone_subclass d
 
 -- V11, for the device qualifier: the same, or bReserved isn't 0 (9.6.2).
 abbrev pub wrong_qualifier : Qualifier → Bool

@@ -1,7 +1,8 @@
 //! The rules of chapter 9 of USB 2.0 that the descriptors of a device keep among themselves.
 //!
 //! A file can be read and yet be wrong: counts that do not count, settings that stand twice, addresses
-//! that two interfaces claim. [`check`] tells all of that at once, each [`Finding`] at its place.
+//! that two interfaces claim. [`check`] tells all of that at once, each [`Finding`] at its place. [`check_dump`] and
+//! [`check_set`] do so of what is less than a file.
 //!
 //! - What breaks each rule is `specs/Rules.antt`; in which order findings come is `specs/Findings.antt`.
 #![tactic(auto)]
@@ -26,6 +27,6 @@ mod set;
 mod shared_address;
 mod value;
 
-pub use checking::{NoMemory, check};
+pub use checking::{NoMemory, check, check_dump, check_set};
 pub use finding::{Finding, Part};
 pub use rule::Rule;

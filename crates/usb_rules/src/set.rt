@@ -36,7 +36,8 @@ impl Passed {
     }
 }
 
-pub(crate) fn check_set(
+/// Of a set at its place.
+pub(crate) fn check_set_at(
     found: &mut Found,
     passed: &mut Passed,
     place: Place,

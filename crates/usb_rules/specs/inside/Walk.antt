@@ -14,7 +14,7 @@ use Rattle.usb_rules.specs.declared.rule.Rule.{Rule}
 use Rattle.usb_rules.specs.declared.rule.Rule.TheVariants as rules
 use Rattle.usb_rules.specs.FindingLine.{rule_number}
 use Rattle.usb_rules.specs.Places.{when, finding, at_each, stands_in}
-use Rattle.usb_rules.specs.Rules.{address_of, has_elsewhere, has_number_gap, wrong_interface_count, wrong_endpoint_count, wrong_address, wrong_attributes, wrong_packet_size, wrong_value, wrong_device}
+use Rattle.usb_rules.specs.Rules.{address_of, has_elsewhere, has_number_gap, wrong_interface_count, wrong_endpoint_count, wrong_address, wrong_attributes, wrong_packet_size, wrong_value}
 use Rattle.usb_rules.specs.Findings.{missing_default_settings, associations, of_qualifier}
 
 -- a place at the numbers of a set, a setting and an endpoint
@@ -80,9 +80,9 @@ abbrev pub in_other_part : Option Other → List Finding
 in_other_part None = []
 in_other_part (Some other) = of_qualifier (Some other) ++ in_part parts.Other other.sets
 
--- in a file
-abbrev pub in_file : DescriptorFile → List Finding
-in_file f = when (wrong_device f.device) (finding rules.V11 parts.Device 0 0 0) ++ in_part parts.Main f.sets ++ in_other_part f.other
+-- in a file, where it is said whether the device descriptor breaks V11
+abbrev pub in_file : Bool → DescriptorFile → List Finding
+in_file wrong f = when wrong (finding rules.V11 parts.Device 0 0 0) ++ in_part parts.Main f.sets ++ in_other_part f.other
 
 -- the findings of a rule
 abbrev pub of_rule : Rule → List Finding → List Finding

@@ -1,4 +1,4 @@
-use Rattle.std.proofs.Common.{◌++◌, ◌∙◌, ap, arith}
+use Rattle.std.proofs.Common.{◌++◌, ◌∙◌, ap}
 use Rattle.usb_rules.specs.inside.Interfaces.{kept}
 use Rattle.usb_rules.proofs.Walking.{at_each_end, lacking, lacking_are}
 use Rattle.usb_rules.proofs.default_setting.check_default_settings.Goals as goal

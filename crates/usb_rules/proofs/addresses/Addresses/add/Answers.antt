@@ -1,4 +1,4 @@
-use Rattle.std.proofs.Common.{◌≡◌, ◌<◌, ◌==◌, ◌&&◌, ◌||◌, ◌∙◌, ℕ, not, Bool, true, length, ap, sym, arith}
+use Rattle.std.proofs.Common.{◌≡◌, ◌==◌, ◌&&◌, ◌||◌, ◌∙◌, ℕ, not, Bool, ap, sym, arith}
 use Rattle.std.specs.Prelude.{slice_index_or, slice_set}
 use Rattle.usb_base.specs.Marks.{is_marked, marked}
 use Rattle.usb_rules.specs.inside.Addresses.{Claims, claimed, is_other, joined, kept}

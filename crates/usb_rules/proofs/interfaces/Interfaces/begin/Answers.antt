@@ -1,4 +1,4 @@
-use Rattle.std.proofs.Common.{◌≡◌, ◌++◌, ◌∙◌, [], ◌∷◌, refl, ap, subst, sym, length, false, arith}
+use Rattle.std.proofs.Common.{◌≡◌, ◌∙◌, refl, ap, subst, sym, false, arith}
 use Rattle.std.specs.Prelude.{slice_set}
 use Rattle.usb_base.specs.Marks.{is_marked}
 use Rattle.usb_rules.specs.declared.interfaces.Interface.{Interface}

@@ -1,5 +1,5 @@
 use Rattle.std.proofs.Common.{◌∙◌, ap, map}
-use Rattle.usb_base.specs.Marks.{is_marked, unmarked}
+use Rattle.usb_base.specs.Marks.{unmarked}
 use Rattle.usb_rules.specs.inside.Interfaces.{entries, first_of, kept}
 use Rattle.usb_rules.proofs.interfaces.Interfaces.clear.Goals as goal
 

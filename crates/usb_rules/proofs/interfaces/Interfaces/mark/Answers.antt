@@ -1,4 +1,4 @@
-use Rattle.std.proofs.Common.{◌≡◌, ◌<◌, ◌&&◌, ◌∙◌, [], refl, ap, sym, map, true, length, arith}
+use Rattle.std.proofs.Common.{◌≡◌, ◌&&◌, ◌∙◌, [], refl, ap, sym, map, true, arith}
 use Rattle.std.specs.Prelude.{slice_index_or}
 use Rattle.usb_base.specs.Marks.{is_marked}
 use Rattle.usb_rules.specs.inside.Interfaces.{kept, paired, place_of}

@@ -4,7 +4,7 @@ use Rattle.usb_rules.specs.Rules.{number_of}
 use Rattle.usb_rules.specs.inside.Addresses.{kept as claims}
 use Rattle.usb_rules.specs.inside.Interfaces.{first_at, firsts_of, kept as entries}
 use Rattle.usb_rules.specs.inside.Walk.{setting_at, shared_with, stood}
-use Rattle.usb_rules.proofs.set.check_set.Given as goal
+use Rattle.usb_rules.proofs.set.check_set_at.Given as goal
 
 abbrev pub invariant-loop-setting : goal.invariant-loop-setting
 invariant-loop-setting l = record {

@@ -1,12 +1,12 @@
-use Rattle.std.proofs.Common.{◌≡◌, ◌<◌, ◌++◌, ◌∙◌, not, length, map, get_or, take, ap, sym, arith}
+use Rattle.std.proofs.Common.{◌≡◌, ◌<◌, ◌++◌, ◌∙◌, not, length, get_or, take, ap, sym, arith}
 use Rattle.usb_base.specs.Marks.{marked}
-use Rattle.usb_rules.specs.Places.{stands_in, when}
+use Rattle.usb_rules.specs.Places.{when}
 use Rattle.usb_rules.specs.Rules.{number_of}
 use Rattle.usb_rules.specs.inside.Addresses.{owned, kept as claims}
 use Rattle.usb_rules.specs.inside.Interfaces.{entered, first_at, pair_too, kept as entries}
 use Rattle.usb_rules.specs.inside.Walk.{in_setting, place, setting_at, stood}
 use Rattle.usb_rules.proofs.Walking.{at_each_next, shared_more, stands_more, stood_more}
-use Rattle.usb_rules.proofs.set.check_set.Goals as goal
+use Rattle.usb_rules.proofs.set.check_set_at.Goals as goal
 
 pub loop-setting-preserved : goal.loop-setting-preserved
 loop-setting-preserved c =
