@@ -5,7 +5,9 @@ It was written from the rules in words, in another language and by no function o
 question of the whole set anew, without tables. It stands on reading.py's listing. The gate compares what it writes
 (.ci/readings).
 
-    checking.py FILE..     writes what is wrong with FILE to the file of that name that ends in .check
+    checking.py file FILE..    writes what is wrong with the descriptor file to the file of that name that ends in .check
+    checking.py set FILE..     the same of a configuration set alone
+    checking.py dump FILE..    the same of a dump of Linux
 """
 
 import os
@@ -33,9 +35,10 @@ class Set:
         return [(i, j, a, size) for i, s in enumerate(self.settings) for j, (a, size) in enumerate(s.endpoints)]
 
 
-class File:
-    def __init__(self, text):
-        self.device, self.qualifier, self.parts = None, None, {"main": []}
+class Input:
+    def __init__(self, kind, text):
+        self.device, self.qualifier, self.is_dump = None, None, kind == "dump"
+        self.parts = {} if kind == "set" else {"main": []}
         for line in text.splitlines():
             word, *fields = line.split(" ")
             if word in ("raw", "languages", "string"):
@@ -50,7 +53,7 @@ class File:
             self.qualifier = v
             self.parts["other"] = []
         elif word in ("configuration", "other_speed"):
-            self.part = self.parts["main" if word == "configuration" else "other"]
+            self.part = self.parts.setdefault("main" if word == "configuration" else "other", [])
             self.part.append(Set(v[0], v[1], v[3]))
         elif word == "interface":
             self.part[-1].settings.append(Setting(v[0], v[1], v[2]))
@@ -60,8 +63,11 @@ class File:
             self.part[-1].associations.append((v[0], v[1]))
 
 
-def wrong_packet_or_class(packet, class_, subclass):
-    return packet not in (8, 16, 32, 64) or (class_ == 0 and subclass != 0)
+def wrong_packet_or_class(sizes, packet, class_, subclass):
+    return packet not in sizes or (class_ == 0 and subclass != 0)
+
+
+SIZES = (8, 16, 32, 64)
 
 
 def of_set(rule, c):
@@ -103,12 +109,13 @@ def of_set(rule, c):
 
 
 def of_rule(rule, f):
-    """The places (part, set, setting, endpoint) of the file's findings of this rule."""
+    """The places (part, set, setting, endpoint) of the input's findings of this rule."""
     if rule == 11:
-        if wrong_packet_or_class(f.device[4], f.device[1], f.device[2]):
+        d, q = f.device, f.qualifier
+        sizes = (9,) if f.is_dump and d[0] >= 0x0300 else SIZES
+        if d and wrong_packet_or_class(sizes, d[4], d[1], d[2]):
             yield "device", 0, 0, 0
-        q = f.qualifier
-        if q and (wrong_packet_or_class(q[4], q[1], q[2]) or q[6] != 0):
+        if q and (wrong_packet_or_class(SIZES, q[4], q[1], q[2]) or q[6] != 0):
             yield "other", 0, 0, 0
         return
     for part, sets in f.parts.items():
@@ -125,20 +132,27 @@ def of_rule(rule, f):
                     yield (part, i) + place
 
 
-def findings(data):
-    f = File(reading.listing("file", data))
+def read(kind, data):
+    """The input that the bytes are. A dump that names no string is a file."""
+    reader = reading.Reader(data, True)
+    {"set": reader.set, "file": reader.file, "dump": reader.dump}[kind]()
+    return Input("file" if kind == "dump" and not reader.named else kind, reader.finish())
+
+
+def findings(kind, data):
+    f = read(kind, data)
     lines = [
         " ".join([f"V{rule}"] + [str(word) for word in place]) for rule in range(1, 14) for place in of_rule(rule, f)
     ]
     return "".join(line + "\n" for line in lines or ["no findings"])
 
 
-def main(paths):
-    if not paths:
+def main(words):
+    if len(words) < 2 or words[0] not in ("set", "file", "dump"):
         sys.exit(__doc__)
-    for path in paths:
+    for path in words[1:]:
         with open(path, "rb") as source:
-            text = findings(source.read())
+            text = findings(words[0], source.read())
         with open(os.path.splitext(path)[0] + ".check", "w", encoding="ascii") as target:
             target.write(text)
 

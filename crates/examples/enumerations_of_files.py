@@ -19,7 +19,7 @@ from enumerating import Device, File, Host, enumerate_device, units, word  # noq
 
 def refused(data, speed):
     """Why no device of this speed is made of a file, or None."""
-    findings = checking.findings(data).splitlines()
+    findings = checking.findings("file", data).splitlines()
     if findings != ["no findings"]:
         return f"refused 1 {findings[0]}"
     file = File(data)

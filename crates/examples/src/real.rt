@@ -1,6 +1,6 @@
-//! The examples: each is listed as the text beside it says, and written again to the same bytes. Of a file what
-//! breaks the rules is told as a second text says, its listing is read back to its bytes, and its device is enumerated
-//! at each speed as a third text says. A dump is listed as the text beside it says. Listings by hand are read back to
+//! The examples: each is listed as the text beside it says, and what breaks the rules is told as a second text says. A set
+//! and a file are written again to the same bytes. A file's listing is read back to its bytes, and its device is
+//! enumerated at each speed as a third text says. Listings by hand are read back to
 //! the bytes beside them, and broken ones have their fault told.
 use crate::program::{fault_of, told};
 use crate::{files, sets};
@@ -16,24 +16,19 @@ pub(crate) fn set<R: Files + AllocGlobal>(rt: &R, name: &str) -> Result<String> 
     let bytes = read(rt, name, "bin")?;
     let text = read(rt, name, "txt")?;
     compare(alloc, "show", &bytes, &text, "0")?;
+    check(rt, name, &bytes)?;
     sets::write_again(alloc, Some(&bytes), &sets::decoded(alloc, &bytes)?)?;
     counts(alloc, &bytes, &text)
 }
 
-/// Goes through a file, and says the same. It keeps the rules only where the findings beside it say so.
+/// Goes through a file, and says the same.
 pub(crate) fn file<R: Files + AllocGlobal>(rt: &R, name: &str) -> Result<String> {
     let alloc = rt.alloc();
     let bytes = read(rt, name, "file")?;
     let text = read(rt, name, "txt")?;
     compare(alloc, "show", &bytes, &text, "0")?;
     files::write_again(alloc, &bytes, &read_file(alloc, &bytes)?)?;
-    let findings = read(rt, name, "check")?;
-    let status = if findings.as_slice() == b"no findings\n".as_slice() {
-        "0"
-    } else {
-        "1"
-    };
-    compare(alloc, "check", &bytes, &findings, status)?;
+    check(rt, name, &bytes)?;
     build_again(alloc, &text, &bytes)?;
     let results = String::from_utf8(read(rt, name, "enumerate")?)?;
     for line in results.as_str().lines() {
@@ -50,6 +45,7 @@ pub(crate) fn dump<R: Files + AllocGlobal>(rt: &R, name: &str) -> Result<String>
     let bytes = read(rt, name, "descriptors")?;
     let text = read(rt, name, "txt")?;
     compare(alloc, "show", &bytes, &text, "0")?;
+    check(rt, name, &bytes)?;
     let counts = counts(alloc, &bytes, &text)?;
     let cuts = files::cut(alloc, &bytes)?;
     let form = match read_input(alloc, &bytes)? {
@@ -67,6 +63,17 @@ pub(crate) fn dump<R: Files + AllocGlobal>(rt: &R, name: &str) -> Result<String>
         Input::Set(_) => bail!("a set"),
     };
     Ok(format!(in alloc; "{form}, {counts}, {cuts}")?)
+}
+
+/// Checks an input, which keeps the rules only where the findings beside it say so.
+fn check<R: Files + AllocGlobal>(rt: &R, name: &str, bytes: &[u8]) -> Result<()> {
+    let findings = read(rt, name, "check")?;
+    let status = if findings.as_slice() == b"no findings\n".as_slice() {
+        "0"
+    } else {
+        "1"
+    };
+    compare(rt.alloc(), "check", bytes, &findings, status)
 }
 
 /// The bytes that lie there under this name and ending.

@@ -29,14 +29,14 @@ Exit status:
 
 /// What `check` does.
 pub(crate) const CHECK_ABOUT: &str =
-    "Checks the descriptor file on standard input by the rules of chapter 9, a line for each finding";
+    "Checks the set, descriptor file or dump on standard input by the rules of chapter 9, a line for each finding";
 
 /// What stands below the help of `check`.
 pub(crate) const CHECK_HELP: &str = "\
 Input:
-  A descriptor file: the device descriptor, its configuration sets, a qualifier and its
-  other-speed sets where there is another speed, and where a string is named the languages
-  and the strings.
+  A configuration set, a descriptor file or a dump, as of 'show'. A set alone is the main
+  part, or the other part where it is an other-speed configuration; V11 does not ask it.
+  In a dump with bcdUSB 0300 or above V11 asks for a bMaxPacketSize0 of 9.
 
 Rules:
   V1   bNumInterfaces is not the count of distinct interface numbers

@@ -25,16 +25,16 @@ not_when true x none = cc
 not_when false x none = refl
 
 -- where the rules on the device descriptor are not broken, packets have at least one byte
-packet_of : (f : DescriptorFile) → descriptors f ≡ [] → 0 < f.device.packet
+packet_of : (f : DescriptorFile) → descriptors (wrong_device f.device) f ≡ [] → 0 < f.device.packet
 packet_of f none =
     let device : wrong_device f.device ≡ false = not_when (wrong_device f.device) _ (no_left _ _ none) in
     grind (arith, nat_tests)
 
 -- those rules are among others
-packet_among : (before after more : List Finding) (f : DescriptorFile) → before ++ descriptors f ++ after ++ more ≡ [] → 0 < f.device.packet
+packet_among : (before after more : List Finding) (f : DescriptorFile) → before ++ descriptors (wrong_device f.device) f ++ after ++ more ≡ [] → 0 < f.device.packet
 packet_among before after more f none =
-    let here = no_left (before ++ descriptors f) after (no_left (before ++ descriptors f ++ after) more none) in
-    packet_of f (no_right before (descriptors f) here)
+    let here = no_left (before ++ descriptors (wrong_device f.device) f) after (no_left (before ++ descriptors (wrong_device f.device) f ++ after) more none) in
+    packet_of f (no_right before (descriptors (wrong_device f.device) f) here)
 
 -- where no rule is broken, packets of endpoint zero have at least one byte
 pub packet_some : (f : DescriptorFile) → findings f ≡ [] → 0 < f.device.packet

@@ -82,7 +82,7 @@ other_sets_sound f right =
     (or_right (list_any has_no_layout f.sets) _ (or_right (has_wrong_count f || has_wrong_kind f) (has_wrong_layout f) right))
 
 -- the rules that an enumeration rests on: the packet size, and the first set's value
-device_fits : (f : DescriptorFile) → descriptors f ≡ [] → wrong_device f.device ≡ false
+device_fits : (f : DescriptorFile) → descriptors (wrong_device f.device) f ≡ [] → wrong_device f.device ≡ false
 device_fits f none = not_when (wrong_device f.device) _ (no_left _ _ none)
 
 first_some : (cs : List Configuration) → values parts.Main cs ≡ [] → (first_value cs == 0) ≡ false
@@ -95,10 +95,10 @@ in_middle before here after none = no_right before here (no_left (before ++ here
 
 pub value_some : (f : DescriptorFile) → findings f ≡ [] → (first_value f.sets == 0) ≡ false
 value_some f none =
-    first_some f.sets (no_left _ _ (no_right _ (in_parts values f) (no_left _ (descriptors f) (no_left _ _ (no_left _ _ none)))))
+    first_some f.sets (no_left _ _ (no_right _ (in_parts values f) (no_left _ (descriptors (wrong_device f.device) f) (no_left _ _ (no_left _ _ none)))))
 
 pub device_right : (f : DescriptorFile) → findings f ≡ [] → wrong_device f.device ≡ false
-device_right f none = device_fits f (no_right _ (descriptors f) (no_left _ _ (no_left _ _ none)))
+device_right f none = device_fits f (no_right _ (descriptors (wrong_device f.device) f) (no_left _ _ (no_left _ _ none)))
 
 pub packet_right : (f : DescriptorFile) (speed : Speed) → Accepted f speed → packet_fits speed f.device.packet ≡ true
 packet_right f Low a = grind (arith, nat_tests, a.speed)

@@ -4,7 +4,8 @@
 //! come, where the device has a second speed, its qualifier with the sets of that speed, and where a string is
 //! named, the language list and the strings (USB 2.0, 9.4.3 and 9.6). [`read_file`] reads it into plain data,
 //! [`DescriptorFile`], and [`write_file`] writes it again, each byte as it was. [`named`] tells which
-//! strings a file names, [`check`] which rules of chapter 9 it breaks. [`list`] writes a file as text, a line
+//! strings a file names, [`check`] which rules of chapter 9 it breaks; [`check_dump`] and [`check_set`] tell that of what
+//! is less than a file. [`list`] writes a file as text, a line
 //! for each descriptor, and [`list_set`] one set alone. [`assemble`] reads the text of a file back.
 //!
 //! - The data, what its bytes are and which strings it names stand in the crate usb_file_data, the rules in
@@ -37,5 +38,5 @@ pub use usb_file_data::{
 };
 pub use usb_listing::{OutFault, list, list_set};
 pub use usb_listing_reader::{ListFault, ListWhy, assemble};
-pub use usb_rules::{Finding, Part, Rule, check};
+pub use usb_rules::{Finding, Part, Rule, check, check_dump, check_set};
 pub use writing::write_file;

@@ -2,13 +2,14 @@
 use Rattle.std.specs.Prelude.{◌≡◌, ℕ, List, [], ◌∷◌, ◌++◌, codes}
 use Rattle.std.specs.List.{flat_map}
 use Rattle.std.specs.Io.KnownBytes.{Appends, Keeps}
-use Rattle.usb_file_data.specs.declared.file.DescriptorFile.{DescriptorFile}
-use Rattle.usb_file_data.specs.File.{File}
-use Rattle.usb_file.specs.FileFaults.{FileFaulty}
+use Rattle.usb_file.specs.Inputs.{InputFaulty, IsInput}
+use Rattle.usb_file.specs.declared.input.Input.{Input}
+use Rattle.usb_file.specs.declared.input.Input.TheVariants as inputs
+use Rattle.usb_file.specs.declared.input_fault.InputFault.TheVariants as input_faults
 use Rattle.usb_file.specs.declared.laws.TheConstants.{FILE_LIMIT}
 use Rattle.usb_listing.specs.Output.{AppendsFront, Held}
 use Rattle.usb_rules.specs.FindingLine.{finding_line}
-use Rattle.usb_rules.specs.Findings.{findings}
+use Rattle.usb_rules.specs.Findings.{dump_findings, findings, set_findings}
 use Rattle.usb_rules.specs.declared.finding.Finding.{Finding}
 use Rattle.usb_tool.specs.Failing.{Fails, Succeeds}
 use Rattle.usb_tool.specs.Input.{Left}
@@ -33,11 +34,17 @@ abbrev pub check_status : List Finding → ℕ
 check_status [] = 0
 check_status (f ∷ found) = 1
 
--- what is found in the file that has these bytes
+-- what is found in an input: in a set alone, in a file, or in a dump, whose device may be one of SuperSpeed
+abbrev pub input_findings : Input → List Finding
+input_findings (inputs.Set set) = set_findings set
+input_findings (inputs.File file) = findings file
+input_findings (inputs.Dump file) = dump_findings file
+
+-- what is found in the set, the file or the dump that has these bytes
 pub record AreFindings (b : List ℕ) (found : List Finding) : Type 0 where
-  pub file : DescriptorFile
-  pub layout : File file b
-  pub all : found ≡ findings file
+  pub input : Input
+  pub is : IsInput input b
+  pub all : found ≡ input_findings input
 
 -- what is found in the bytes was written, and the status says whether that is something
 pub record WritesChecked (b : List ℕ) (held holds : Held) (status : ℕ) : Type 0 where
@@ -58,7 +65,9 @@ Checked from to held holds status = Succeeds FILE_LIMIT (λ b held holds. Writes
 
 -- How bytes are not checked: a front of what is found was written where a write failed, and else nothing.
 abbrev pub RefusesToCheck : List ℕ → Held → Held → ToolFault → Type 0
-RefusesToCheck b held holds (faults.File fault) = FileFaulty b fault.at fault.why × Keeps held holds
+RefusesToCheck b held holds (faults.File fault) = InputFaulty b (input_faults.File fault) × Keeps held holds
+RefusesToCheck b held holds (faults.Set fault) = InputFaulty b (input_faults.Set fault) × Keeps held holds
+RefusesToCheck b held holds (faults.Trailing at) = InputFaulty b (input_faults.Trailing at) × Keeps held holds
 RefusesToCheck b held holds faults.Write = WritesFront b held holds
 RefusesToCheck b held holds faults.Memory = Keeps held holds
 RefusesToCheck b held holds fault = ⊥

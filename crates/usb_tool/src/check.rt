@@ -1,16 +1,17 @@
 //! The command `check`.
 ghost use Rattle.std.specs.Prelude.{◌≡◌, ◌++◌, IfErr, IfOk, OnOk};
-ghost use Rattle.usb_tool.specs.Checks.{CheckFails, Checked, RefusesToCheck, WritesChecked, check_status, check_text, finding_line_end, finding_lines};
+ghost use Rattle.usb_tool.specs.Checks.{CheckFails, Checked, RefusesToCheck, WritesChecked, check_status, check_text, finding_line_end, finding_lines, input_findings};
 
 use crate::fault::ToolFault;
 use crate::output::write_flushed;
 use crate::whole::read_all;
 use std::alloc::{AllocError, Global};
 use std::io::{Read, Write};
-use usb_file::{FILE_LIMIT, Finding, check, read_file};
+use usb_file::{FILE_LIMIT, Finding, Input, check, check_dump, check_set, read_input};
 
-/// Reads a descriptor file to its end, and writes a line for each thing in it that breaks a rule of chapter
-/// 9, or `no findings`. The number in `Ok` is 1 where there is a finding, and else 0.
+/// Reads the input to its end, and writes a line for each thing in it that breaks a rule of chapter 9, or `no findings`.
+/// The input is one configuration set, a descriptor file or a dump, as that of [`run_show`](crate::run_show) is. The number
+/// in `Ok` is 1 where there is a finding, and else 0.
 ///
 /// ```rust
 /// let mut input: &[u8] = &[18, 1, 0, 2, 0, 0, 0, 64, 0x34, 0x12, 0x78, 0x56, 0, 1, 0, 0, 0, 0];
@@ -21,9 +22,10 @@ use usb_file::{FILE_LIMIT, Finding, check, read_file};
 ///
 /// # Errors
 ///
-/// `Read` where the reader failed, `TooLarge` at the first byte over [`FILE_LIMIT`], and `File` with the fault of
-/// the whole input, and `Memory` when out of memory. Nothing is written then. `Write` where the writer or
-/// its flush failed; a front of the text is written then.
+/// `Read` where the reader failed, and `TooLarge` at the first byte over [`FILE_LIMIT`]. Of a set `Set` with the fault of
+/// the whole input, and `Trailing` where it goes on after the set; else `File` with the fault of a file. `Memory` when
+/// out of memory. Nothing is written then. `Write` where the writer or its flush failed; a front of the text is
+/// written then.
 pub fn run_check<R: Read, W: Write>(alloc: Global, r: &mut R, w: &mut W) -> Result<u8, ToolFault>
     ensures checked { IfOk result (Checked (R.remaining r.old) (R.remaining r.new) (W.contents w.old) (W.contents w.new)) }
     ensures err { IfErr result (CheckFails (R.remaining r.old) (R.remaining r.new) (W.contents w.old) (W.contents w.new)) }
@@ -32,17 +34,28 @@ pub fn run_check<R: Read, W: Write>(alloc: Global, r: &mut R, w: &mut W) -> Resu
     check_bytes(alloc, &bytes, w)
 }
 
-/// Writes what is found in the file that the bytes are, and flushes the writer.
+/// Writes what is found in the input that the bytes are, and flushes the writer.
 fn check_bytes<W: Write>(alloc: Global, bytes: &[u8], w: &mut W) -> Result<u8, ToolFault>
     ensures ok { IfOk result (WritesChecked bytes.now (W.contents w.old) (W.contents w.new)) }
     ensures err { IfErr result (RefusesToCheck bytes.now (W.contents w.old) (W.contents w.new)) }
 {
-    let file = read_file(alloc, bytes)?;
-    let found = check(alloc, &file)?;
+    let input = read_input(alloc, bytes)?;
+    let found = findings_of(alloc, &input)?;
     let text = text_of(alloc, &found)?;
     match write_flushed(w, &text) {
         Ok(()) => Ok(check_status(&found)),
         Err(_) => Err(ToolFault::Write),
+    }
+}
+
+/// Everything in the input that breaks a rule.
+fn findings_of(alloc: Global, input: &Input) -> Result<Vec<Finding>, AllocError>
+    ensures { IfOk result (λ v. v.items ≡ input_findings input.now) }
+{
+    match input {
+        Input::Set(set) => check_set(alloc, set),
+        Input::File(file) => check(alloc, file),
+        Input::Dump(file) => check_dump(alloc, file),
     }
 }
 
