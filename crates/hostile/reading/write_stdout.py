@@ -11,6 +11,7 @@ import os
 import sys
 from collections import Counter
 
+import asking
 import changing
 import failing
 import refusing
@@ -33,12 +34,14 @@ def files(pattern, beside=None):
 # Which commands read an example of a kind, over readers and writers that fail.
 COMMANDS = {"set": ["show"], "dump": ["show"], "file": ["show", "check", "enumerate"], "listing": ["build"]}
 # The mouse, its set, the real mouse and the file with everything, and inputs at fault: a set whose last descriptor goes
-# over its end, a set with bytes behind it, a file that is cut and one with bytes behind it.
+# over its end, a set with bytes behind it, and a file that is cut.
 STREAMED = ["mouse", "over", "goes-on", "cut-short", "sets/hid-one-endpoint", "files/with-everything", "files/qemu-usb-mouse", "files/every-rule-broken"]
 
 
 def ways(kind, name):
     """What is done to an example."""
+    if kind == "device":
+        return ["hosts"]
     found = [] if name in AT_FAULT else ["changed"]
     if kind == "file" and name in ("mouse", "files/qemu-usb-mouse", "files/with-everything"):
         found.append("set")
@@ -68,11 +71,16 @@ def examples():
             yield "listing", name, b
     for name, (kind, b) in AT_FAULT.items():
         yield kind, name, b
+    yield "device", "board", asking.DEVICE
 
 
 def cases(way, kind, b, number):
     """For each case a line that says what it is, or none, and the answers of commands."""
     command, _, streams = way.partition("-")
+    if way == "hosts":
+        for lines, state in asking.hosts(changing.Numbers(number)):
+            yield "".join(line + "\n" for line in lines) + state, [("device", line) for line in lines]
+        return
     if streams:
         for title, *answer in {"readers": failing.readers, "writers": failing.writers}[streams](command, b):
             yield title, [(command, *answer)]
@@ -96,13 +104,17 @@ def answers(b):
         yield command, status, output, errors
 
 
-def text(command, status, output, errors):
+def text(command, status, output=b"", errors=""):
+    if command == "device":
+        return b""
     return f"{command} {status}\n{errors.strip()}\n".encode() + output
 
 
-def kind_of(command, status, output, errors):
+def kind_of(command, status, output=b"", errors=""):
     """What an answer is counted as: the command and its status. Then the line of its fault up to the place, or of
-    status 1 the first word that is written."""
+    status 1 the first word that is written. Of a device's answer it is the first word."""
+    if command == "device":
+        return f"device, {status.split(' ')[0]}"
     if status == 0:
         return f"{command}, status 0"
     if status == 1:
@@ -116,16 +128,17 @@ def line(title, cases, kinds):
     for what, answers in cases:
         count += 1
         digest.update(what.encode())
-        for command, status, output, errors in answers:
-            digest.update(text(command, status, output, errors))
-            kinds[kind_of(command, status, output, errors)] += 1
+        for answer in answers:
+            digest.update(text(*answer))
+            kinds[kind_of(*answer)] += 1
     return f"{title}: {count} cases, {digest.hexdigest()}"
 
 
 def write():
     with open("../data/examples", "w", encoding="ascii") as target:
         for kind, name, b in examples():
-            print(kind, name, ",".join(ways(kind, name)), b.hex(), file=target)
+            more = [asking.PACKETS.hex()] if kind == "device" else []
+            print(kind, name, ",".join(ways(kind, name)), b.hex(), *more, file=target)
     kinds = Counter()
     with open("../stdout", "w", encoding="ascii") as target:
         for title, cases in blocks():

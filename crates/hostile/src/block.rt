@@ -10,7 +10,8 @@ use usb_transfer::Limits;
 /// The answers in some cases.
 #[derive(Drop)]
 pub(crate) struct Block {
-    alloc: Global,
+    /// Where its text is made.
+    pub alloc: Global,
     limits: Limits,
     cases: u64,
     /// All answers, one after another.
@@ -57,6 +58,19 @@ impl Block {
         self.cases = self.cases.saturating_add(1);
         self.text.extend_from_slice(line.as_bytes())?;
         Ok(())
+    }
+
+    /// Adds the line of a device's answer.
+    pub(crate) fn tell(&mut self, word: &str) -> Result<()> {
+        self.tell_packet(word, &[])
+    }
+
+    /// Adds the line of a device's answer, with the bytes of a packet.
+    pub(crate) fn tell_packet(&mut self, word: &str, bytes: &[u8]) -> Result<()> {
+        let digits = hex::encode(self.alloc, bytes)?;
+        let line = format!(in self.alloc; "{word} {digits}\n")?;
+        self.text.extend_from_slice(line.as_bytes())?;
+        self.tally.count(format!(in self.alloc; "device, {word}")?)
     }
 
     /// Adds the answer of a command to the case.

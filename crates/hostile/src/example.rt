@@ -18,6 +18,8 @@ pub(crate) struct Example {
     pub form: Form,
     /// Its bytes.
     pub bytes: Vec<u8>,
+    /// What more a way needs, if it does.
+    pub more: Vec<u8>,
 }
 
 impl Example {
@@ -35,6 +37,7 @@ impl Example {
             ways: String::from_str(alloc, ways)?,
             form: Form::of(kind),
             bytes: hex::decode(alloc, digits)?,
+            more: hex::decode(alloc, words.next().unwrap_or(""))?,
         })
     }
 

@@ -1,6 +1,7 @@
 //! Gives the commands of `usbdesc` inputs that a fixed generator makes of examples: changed, cut, with descriptors or
 //! lines that stand twice, in another place or nowhere, and with each byte set to each of five values. And examples
-//! over readers and writers that fail at each of their calls in turn. For each example and way it prints how many cases
+//! over readers and writers that fail at each of their calls in turn, and a device that is asked by hosts that keep no
+//! rule. For each example and way it prints how many cases
 //! there were and the MD5 of all answers in them, and at the end how many answers there were of each kind.
 //!
 //! What must come is worked out by a second reading of the rules in Python, in `reading/`, which writes the file
@@ -13,6 +14,7 @@ mod command;
 mod example;
 mod failing;
 mod form;
+mod hosts;
 mod numbers;
 mod pieces;
 mod streams;
@@ -88,6 +90,7 @@ fn block_of(example: &Example, way: &str, tally: Tally) -> Result<Block> {
         "changed" => ways::changed(example, &mut block)?,
         "set" => ways::set(example, &mut block)?,
         "cut" => ways::cut(example, &mut block)?,
+        "hosts" => hosts::hosts(example, &mut block)?,
         _ => {
             let (word, streams) = way.split_once('-').context("no way")?;
             let command = Command::of(word, limits).context("no command")?;

@@ -145,23 +145,41 @@ fn add_lists(alloc: Global, packet: u8, naks: u16, attempts: u8, text: &mut Stri
 /// The lines of long lists, each of a device, how many NAKs are borne and how many attempts there are.
 fn add_long(alloc: Global, text: &mut String) -> Result<()> {
     for (packet, naks, attempts) in [(64, 2, 2), (8, 0, 8), (8, 2, 3)] {
-        let title = format!(in alloc; "packets of {packet}, naks {naks}, attempts {attempts}")?;
-        let limits = Limits::new(1, naks, attempts)?;
-        let line = long_line(alloc, &mouse(alloc, packet)?, limits, title.as_str());
-        add_line(line, text)?;
+        add_long_to_mouse(alloc, packet, naks, attempts, text)?;
     }
+    let everything = everything(alloc)?;
     let limits = Limits::new(1, 1, 3)?;
-    let line = long_line(alloc, &everything(alloc)?, limits, "a mouse with everything, naks 1, attempts 3");
-    add_line(line, text)?;
+    add_line(
+        format!(in alloc; "a mouse with everything, naks 1, attempts 3, "),
+        text,
+    )?;
+    add_line(long_line(alloc, &everything, limits), text)?;
     Ok(())
 }
 
-/// The line of long lists under these limits.
+/// The line of long lists to a mouse, under these limits.
+fn add_long_to_mouse(
+    alloc: Global,
+    packet: u8,
+    naks: u16,
+    attempts: u8,
+    text: &mut String,
+) -> Result<()> {
+    let description = mouse(alloc, packet)?;
+    let limits = Limits::new(1, naks, attempts)?;
+    add_line(
+        format!(in alloc; "packets of {packet}, naks {naks}, attempts {attempts}, "),
+        text,
+    )?;
+    add_line(long_line(alloc, &description, limits), text)?;
+    Ok(())
+}
+
+/// Long lists.
 fn long_line(
     alloc: Global,
     description: &Description,
     limits: Limits,
-    title: &str,
 ) -> Result<String, AllocError> {
     let mut sums = Sums::new();
     let mut numbers = Numbers::new(4);
@@ -169,8 +187,7 @@ fn long_line(
         let fates = long_list(alloc, &mut numbers)?;
         sums.add(description, &enumerate(alloc, description, limits, &fates));
     }
-    let title = format!(in alloc; "{title}, long lists")?;
-    sums.line(alloc, title.as_str())
+    sums.line(alloc, "long lists")
 }
 
 /// The lines of a real mouse.

@@ -7,12 +7,7 @@ use usb_bus::Fate;
 pub(crate) const LISTS: u32 = 5_000;
 
 /// What may happen to a transaction but that all arrives.
-const OTHERS: [Fate; 4] = [
-    Fate::Busy,
-    Fate::LostDown,
-    Fate::LostUp,
-    Fate::LostAck,
-];
+const OTHERS: [Fate; 4] = [Fate::Busy, Fate::LostDown, Fate::LostUp, Fate::LostAck];
 
 /// A list of 7 to 64 fates. In one list one in so many is no Pass, from each to one in 16.
 pub(crate) fn long_list(alloc: Global, numbers: &mut Numbers) -> Result<Vec<Fate>, AllocError> {
