@@ -500,7 +500,8 @@ def write_acks():
     script.write()
 
 
-write_requests()
-write_features()
-write_stages()
-write_acks()
+if __name__ == "__main__":
+    write_requests()
+    write_features()
+    write_stages()
+    write_acks()

@@ -1,6 +1,6 @@
 #!/usr/bin/env python3
 """Enumerations over a bus that loses packets: one or two losses at each of the first places, sixteen NAKs from each of
-them on, every list of five fates, and a real mouse under some fates.
+them on, every list of five fates, long lists, and a real mouse under some fates.
 
 Both ends and the bus are those of the second reading of an enumeration, ../../player/reading/enumerating.py.
 write_stdout.py beside it writes what must come by it.
@@ -8,8 +8,9 @@ write_stdout.py beside it writes what must come by it.
 
 from itertools import combinations, product
 
-from hosts import MOUSE, SMALL_PACKETS, Device, File, Host
+from hosts import EVERYTHING, MOUSE, SMALL_PACKETS, Device, File, Host, Numbers
 from enumerating import enumerate_device
+from long_lists import LISTS, long_list
 
 PLACES = 24
 LETTERS = [
@@ -80,6 +81,13 @@ def lists_line(packet, naks, attempts):
     return f"packets of {packet}, naks {naks}, attempts {attempts}, " + sums.line("all lists of five fates")
 
 
+def long_line(title, data, naks, attempts):
+    sums, numbers = Sums(data, naks=naks, attempts=attempts), Numbers(4)
+    for _ in range(LISTS):
+        sums.add(long_list(numbers))
+    return sums.line(f"{title}, naks {naks}, attempts {attempts}, long lists")
+
+
 def real_line(data, letters):
     device, host = run(File(data), letters)
     end = f"trouble {host.outcome} {host.step}" if host.outcome else "success"
@@ -93,6 +101,10 @@ def lines():
     yield busy_line()
     for naks_and_attempts in ((64, 0, 1), (64, 2, 2), (8, 0, 2), (8, 2, 1)):
         yield lists_line(*naks_and_attempts)
+    yield long_line("packets of 64", MOUSE, 2, 2)
+    yield long_line("packets of 8", SMALL_PACKETS, 0, 8)
+    yield long_line("packets of 8", SMALL_PACKETS, 2, 3)
+    yield long_line("a mouse with everything", EVERYTHING, 1, 3)
     with open("../data/qemu-usb-mouse.file", "rb") as source:
         data = source.read()
     for letters in LETTERS:

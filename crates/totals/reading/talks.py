@@ -1,11 +1,14 @@
 #!/usr/bin/env python3
-"""Three requests over a bus, for every list of six fates.
+"""Three requests over a bus, for every list of six fates and for long ones.
 
 A reading of the rules of USB 2.0, chapters 8 and 9, that shares no code with the crates: a device with a stage, a host
 with a stage, and a bus between them. The talk gives address 5 to a boot mouse with packets of 64 or of eight bytes,
 asks it for its device descriptor, and configures it. write_stdout.py beside it writes what must come by it.
 """
 from itertools import product
+
+from hosts import Numbers
+from long_lists import LISTS, long_list
 
 REQUESTS = ["0005050000000000", "8006000100001200", "0009010000000000"]
 
@@ -127,10 +130,15 @@ def talk(packet, requests, naks, fates):
     return "ended", transactions, results, device
 
 
-def totals_line(packet, naks):
+def long_lists():
+    numbers = Numbers(3)
+    return (long_list(numbers) for _ in range(LISTS))
+
+
+def totals_line(packet, naks, lists):
     ends = {"ended": 0, "no answer": 0, "busy": 0}
     transactions = replies = addressed = configured = 0
-    for fates in product(".ndua", repeat=6):
+    for fates in lists:
         end, used, results, at = talk(packet, REQUESTS, naks, fates)
         ends[end] += 1
         transactions += used
@@ -144,4 +152,5 @@ def totals_line(packet, naks):
 def lines():
     for packet in (64, 8):
         for naks in (0, 2):
-            yield totals_line(packet, naks)
+            yield totals_line(packet, naks, product(".ndua", repeat=6))
+            yield "long lists, " + totals_line(packet, naks, long_lists())

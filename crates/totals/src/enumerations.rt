@@ -1,6 +1,8 @@
 //! Enumerations over a bus that loses packets: one or two losses at each of the first places, sixteen NAKs from each
-//! of them on, every list of five fates, and a real mouse under some fates.
-use crate::devices::mouse;
+//! of them on, every list of five fates, long lists, and a real mouse under some fates.
+use crate::devices::{everything, mouse};
+use crate::long_lists::{self, long_list};
+use crate::numbers::Numbers;
 use crate::tally::count;
 use anyhow::{Context, Result};
 use std::alloc::{AllocError, Global};
@@ -114,6 +116,7 @@ pub(crate) fn totals_text(alloc: Global, bytes: &[u8]) -> Result<String> {
     for (packet, naks, attempts) in [(64, 0, 1), (64, 2, 2), (8, 0, 2), (8, 2, 1)] {
         add_lists(alloc, packet, naks, attempts, &mut text)?;
     }
+    add_long(alloc, &mut text)?;
     add_real(alloc, bytes, &mut text)?;
     Ok(text)
 }
@@ -137,6 +140,54 @@ fn add_lists(alloc: Global, packet: u8, naks: u16, attempts: u8, text: &mut Stri
     )?;
     add_line(lists_line(alloc, &description, limits), text)?;
     Ok(())
+}
+
+/// The lines of long lists, each of a device, how many NAKs are borne and how many attempts there are.
+fn add_long(alloc: Global, text: &mut String) -> Result<()> {
+    for (packet, naks, attempts) in [(64, 2, 2), (8, 0, 8), (8, 2, 3)] {
+        add_long_to_mouse(alloc, packet, naks, attempts, text)?;
+    }
+    let everything = everything(alloc)?;
+    let limits = Limits::new(1, 1, 3)?;
+    add_line(
+        format!(in alloc; "a mouse with everything, naks 1, attempts 3, "),
+        text,
+    )?;
+    add_line(long_line(alloc, &everything, limits), text)?;
+    Ok(())
+}
+
+/// The line of long lists to a mouse, under these limits.
+fn add_long_to_mouse(
+    alloc: Global,
+    packet: u8,
+    naks: u16,
+    attempts: u8,
+    text: &mut String,
+) -> Result<()> {
+    let description = mouse(alloc, packet)?;
+    let limits = Limits::new(1, naks, attempts)?;
+    add_line(
+        format!(in alloc; "packets of {packet}, naks {naks}, attempts {attempts}, "),
+        text,
+    )?;
+    add_line(long_line(alloc, &description, limits), text)?;
+    Ok(())
+}
+
+/// Long lists.
+fn long_line(
+    alloc: Global,
+    description: &Description,
+    limits: Limits,
+) -> Result<String, AllocError> {
+    let mut sums = Sums::new();
+    let mut numbers = Numbers::new(4);
+    for _ in 0..long_lists::LISTS {
+        let fates = long_list(alloc, &mut numbers)?;
+        sums.add(description, &enumerate(alloc, description, limits, &fates));
+    }
+    sums.line(alloc, "long lists")
 }
 
 /// The lines of a real mouse.

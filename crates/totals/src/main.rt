@@ -8,6 +8,7 @@ mod answers;
 mod devices;
 mod enumerations;
 mod hosts;
+mod long_lists;
 mod numbers;
 mod talks;
 mod tally;

@@ -1,5 +1,8 @@
-//! Three requests under every list of six fates, to a device with packets of 64 bytes and to one with packets of 8.
+//! Three requests under every list of six fates and under long ones, to a device with packets of 64 bytes and to one with
+//! packets of 8.
 use crate::devices::mouse;
+use crate::long_lists::{self, long_list};
+use crate::numbers::Numbers;
 use anyhow::Result;
 use std::alloc::{AllocError, Global};
 use usb_bus::{Fate, converse};
@@ -40,7 +43,21 @@ struct Totals {
     configured: u128,
 }
 
-/// The totals of all lists of six fates, a line for each packet size and each limit of NAKs.
+impl Totals {
+    fn new() -> Totals {
+        Totals {
+            ended: 0,
+            no_answer: 0,
+            busy: 0,
+            transactions: 0,
+            replies: 0,
+            addressed: 0,
+            configured: 0,
+        }
+    }
+}
+
+/// The totals of all lists of six fates, a line for each packet size and each limit of NAKs, and those of long lists.
 pub(crate) fn totals_text(alloc: Global) -> Result<String> {
     let mut text = String::new(alloc);
     for packet in [64, 8] {
@@ -54,6 +71,9 @@ fn add_lines(alloc: Global, packet: u8, text: &mut String) -> Result<()> {
     let description = mouse(alloc, packet)?;
     for naks in [0, 2] {
         let totals = totals_of(alloc, &description, naks)?;
+        text.push_str(line(alloc, packet, naks, totals)?.as_str())?;
+        let totals = totals_of_long(alloc, &description, naks)?;
+        text.push_str("long lists, ")?;
         text.push_str(line(alloc, packet, naks, totals)?.as_str())?;
     }
     Ok(())
@@ -70,27 +90,34 @@ fn line(alloc: Global, packet: u8, naks: u16, t: Totals) -> Result<String, Alloc
 }
 
 fn totals_of(alloc: Global, description: &Description, naks: u16) -> Result<Totals, AllocError> {
-    let mut totals = Totals {
-        ended: 0,
-        no_answer: 0,
-        busy: 0,
-        transactions: 0,
-        replies: 0,
-        addressed: 0,
-        configured: 0,
-    };
+    let mut totals = Totals::new();
     for number in 0..LISTS {
-        add_talk(alloc, description, naks, number, &mut totals)?;
+        add_talk(alloc, description, naks, &fates_of(number), &mut totals)?;
     }
     Ok(totals)
 }
 
-/// Makes the requests under the list of fates that has this number, and counts what came of them.
+/// The totals of long lists.
+fn totals_of_long(
+    alloc: Global,
+    description: &Description,
+    naks: u16,
+) -> Result<Totals, AllocError> {
+    let mut totals = Totals::new();
+    let mut numbers = Numbers::new(3);
+    for _ in 0..long_lists::LISTS {
+        let fates = long_list(alloc, &mut numbers)?;
+        add_talk(alloc, description, naks, &fates, &mut totals)?;
+    }
+    Ok(totals)
+}
+
+/// Makes the requests under these fates, and counts what came of them.
 fn add_talk(
     alloc: Global,
     description: &Description,
     naks: u16,
-    number: u32,
+    fates: &[Fate],
     totals: &mut Totals,
 ) -> Result<(), AllocError> {
     let requests = [
@@ -98,8 +125,7 @@ fn add_talk(
         Setup::from_bytes(&REQUESTS[1]),
         Setup::from_bytes(&REQUESTS[2]),
     ];
-    let fates = fates_of(number);
-    let talk = converse(alloc, description, naks, &requests, &fates)?;
+    let talk = converse(alloc, description, naks, &requests, fates)?;
     match talk.stopped {
         None => count(&mut totals.ended, 1),
         Some(why) if why.number() == BUSY => count(&mut totals.busy, 1),

@@ -1,0 +1,58 @@
+"""What the commands come to over readers and writers that fail once, and would go on.
+
+A read that fails ends a command at once: nothing is written, and the reader isn't asked again. A read that gives nothing
+is the end of the input. A write that fails or takes nothing ends it too, and a flush that fails comes after the whole
+output.
+"""
+
+import refusing
+
+STEPS = [1, 7, 4096]
+FAULTS = ["fails", "interrupted", "nothing"]
+READ_FAILED, WRITE_FAILED = "usbdesc: read failed", "usbdesc: write failed"
+
+
+def pieces(b, step):
+    return [b[place : place + step] for place in range(0, len(b), step)]
+
+
+def reads(command, b, step):
+    """What each call of a reader gives. `show` asks for the first two bytes one by one, since they tell what the input
+    is. The last call gives nothing."""
+    alone = 2 if command == "show" else 0
+    return pieces(b[:alone], 1) + pieces(b[alone:], step) + [b""]
+
+
+def writes(command, output, step):
+    """What each call of a writer takes. What comes of an enumeration that succeeded is a line and then a listing."""
+    first = output.find(b"\n") + 1 if command == "enumerate" else 0
+    return pieces(output[:first], step) + pieces(output[first:], step)
+
+
+def readers(command, b):
+    """For each reader what it is, and the answer of the command."""
+    for step in STEPS:
+        calls = reads(command, b, step)
+        for fault in FAULTS:
+            for count in range(len(calls) + 1):
+                given = b"".join(calls[:count])
+                if fault == "nothing" or count == len(calls):
+                    answer = refusing.answer(command, given)
+                else:
+                    answer = 3, b"", READ_FAILED
+                yield f"{step} a call, {fault} after {count}, {len(b) - len(given)} left, 0 calls behind\n", *answer
+
+
+def writers(command, b):
+    """For each writer what it is, and the answer of the command."""
+    status, output, errors = refusing.answer(command, b)
+    for step in STEPS:
+        calls = writes(command, output, step)
+        for fault in FAULTS:
+            for count in range(len(calls) + 1):
+                taken = b"".join(calls[:count])
+                failed = count < len(calls)
+                answer = (3, taken, WRITE_FAILED) if failed else (status, taken, errors)
+                yield f"{step} a call, {fault} after {count}, 0 calls behind\n", *answer
+        answer = (3, output, WRITE_FAILED) if status < 3 else (status, output, errors)
+        yield f"{step} a call, no flush after 0, 0 calls behind\n", *answer

@@ -1,0 +1,206 @@
+"""A separate reading of what the program answers to any bytes: the listing, the findings, the bytes of a listing and
+what comes of an enumeration, or the line of the fault.
+
+The faults and their places are those of the tables of docs/FORMATS.md, read here over whole bytes and by no function of
+this repository. What an input that has no fault comes to is told by the readings beside those of `examples`.
+"""
+
+import os
+import sys
+from functools import lru_cache
+
+sys.path.insert(0, os.path.join(os.path.dirname(os.path.abspath(__file__)), "../../examples"))
+import building  # noqa: E402
+import checking  # noqa: E402
+import enumerations_of_files  # noqa: E402
+import reading  # noqa: E402
+
+DEVICE, TEXT, TRUNCATED, TRAILING = 1, 5, 6, 7
+LEAST = {4: 9, 5: 7, 11: 8}
+# Where the fields of a descriptor of a set hold an index of a string.
+INDEX = {2: 6, 7: 6, 4: 8, 11: 7}
+
+
+class Fault(Exception):
+    """A number and a place."""
+
+
+class Truncated(Exception):
+    """The bytes end, and show no fault."""
+
+
+def item_fault(b, place, total, has_interface):
+    """The fault of the descriptor at this place behind the first one of a set."""
+    length = b[place]
+    if length < 2:
+        return 4
+    if place + length > total:
+        return 5
+    if place + 1 == len(b):
+        return None
+    kind = b[place + 1]
+    if kind in (2, 7):
+        return 6
+    if length < LEAST.get(kind, 2):
+        return 7
+    return 8 if kind == 5 and not has_interface else None
+
+
+def set_at(b):
+    """The length of the set that the bytes begin with, and the indices that it names."""
+    if b[0:1] and b[0] < 9:
+        raise Fault(1, 0)
+    if b[1:2] and b[1] not in (2, 7):
+        raise Fault(2, 1)
+    total = b[2] + 256 * b[3] if len(b) > 3 else 0
+    if len(b) > 3 and total < b[0]:
+        raise Fault(3, 2)
+    if len(b) < 4 or len(b) < b[0]:
+        raise Truncated
+    named, place, has_interface = {b[6]}, b[0], False
+    while place < total:
+        if place >= len(b):
+            raise Truncated
+        fault = item_fault(b, place, total, has_interface)
+        if fault:
+            raise Fault(fault, place)
+        if place + b[place] > len(b):
+            raise Truncated
+        kind = b[place + 1]
+        has_interface = has_interface or kind == 4
+        if kind in INDEX:
+            named.add(b[place + INDEX[kind]])
+        place += b[place]
+    return total, named
+
+
+class File:
+    """What bytes are as a file, part after part. `is_dump` is whether they are a dump: they end right behind the sets of
+    the device, and an index is named."""
+
+    def __init__(self, b):
+        self.b, self.at, self.is_dump = b, 0, False
+
+    def read(self):
+        if len(self.b) < 18:
+            raise Truncated
+        if self.b[:2] != b"\x12\x01":
+            raise Fault(DEVICE, 0)
+        self.at, self.named = 18, set(self.b[14:17])
+        self.sets(self.b[17], 2)
+        self.is_dump = self.at == len(self.b) and bool(self.named - {0})
+        if self.at + 1 == len(self.b):
+            raise Truncated
+        if self.b[self.at + 1 : self.at + 2] == b"\x06":
+            self.qualifier()
+        if self.named - {0}:
+            self.strings()
+        if self.at < len(self.b):
+            raise Fault(TRAILING, self.at)
+
+    def sets(self, count, kind):
+        for _ in range(count):
+            try:
+                length, named = set_at(self.b[self.at :])
+            except Fault as fault:
+                raise Fault(2, self.at + fault.args[1]) from None
+            if self.b[self.at + 1] != kind:
+                raise Fault(3, self.at + 1)
+            self.named |= named
+            self.at += length
+
+    def qualifier(self):
+        if self.at + 10 > len(self.b):
+            raise Truncated
+        if self.b[self.at] != 10:
+            raise Fault(4, self.at)
+        count = self.b[self.at + 8]
+        self.at += 10
+        self.sets(count, 7)
+
+    def units(self):
+        """How many units the string has that stands next."""
+        if self.at + 2 > len(self.b):
+            raise Truncated
+        length, kind = self.b[self.at], self.b[self.at + 1]
+        if length < 2 or length % 2 or kind != 3:
+            raise Fault(TEXT, self.at)
+        if self.at + length > len(self.b):
+            raise Truncated
+        self.at += length
+        return length // 2 - 1
+
+    def strings(self):
+        begin = self.at
+        languages = self.units()
+        if languages == 0:
+            raise Fault(TEXT, begin)
+        for _ in range(languages * len(self.named - {0})):
+            self.units()
+
+
+def file_fault(b):
+    """The line of the fault of bytes as a file, and whether they are a dump."""
+    file = File(b)
+    try:
+        file.read()
+        return None, False
+    except Fault as fault:
+        number, place = fault.args
+    except Truncated:
+        number, place = TRUNCATED, len(b)
+    return f"usbdesc: file fault {number} at {place}\n", file.is_dump
+
+
+def set_fault(b):
+    """The line of the fault of bytes as one set."""
+    try:
+        length, _ = set_at(b)
+    except Fault as fault:
+        return f"usbdesc: set fault {fault.args[0]} at {fault.args[1]}\n"
+    except Truncated:
+        return f"usbdesc: set fault 9 at {len(b)}\n"
+    return f"usbdesc: trailing bytes at {length}\n" if length < len(b) else None
+
+
+def show(b):
+    if len(b) > 1 and b[1] in (2, 7):
+        fault, kind = set_fault(b), "set"
+    else:
+        fault, dump = file_fault(b)
+        fault, kind = (None, "dump") if dump else (fault, "file")
+    return (3, b"", fault) if fault else (0, reading.listing(kind, b).encode(), "")
+
+
+def check(b):
+    fault, _ = file_fault(b)
+    if fault:
+        return 3, b"", fault
+    findings = checking.findings(b)
+    return int(findings != "no findings\n"), findings.encode(), ""
+
+
+def build(b):
+    built = building.build(b)
+    if isinstance(built, bytes):
+        return 0, built, ""
+    return 3, b"", f"usbdesc: listing fault {built[0]} line {built[1]}\n"
+
+
+def enumerate_(b):
+    fault, _ = file_fault(b)
+    if fault:
+        return 3, b"", fault
+    line = enumerations_of_files.result(b, "full") + "\n"
+    if line.startswith("refused"):
+        return 1, line.encode(), ""
+    return 0, line.encode() + reading.listing("file", b).encode(), ""
+
+
+COMMANDS = {"show": show, "check": check, "build": build, "enumerate": enumerate_}
+
+
+@lru_cache(maxsize=None)
+def answer(command, b):
+    """The exit status of the command with this input, what it writes to standard output, and to standard error."""
+    return COMMANDS[command](b)
