@@ -163,20 +163,24 @@ def set_fault(b):
     return f"usbdesc: trailing bytes at {length}\n" if length < len(b) else None
 
 
-def show(b):
+def form(b):
+    """The line of the fault of bytes as an input, and whether they are a set, a file or a dump."""
     if len(b) > 1 and b[1] in (2, 7):
-        fault, kind = set_fault(b), "set"
-    else:
-        fault, dump = file_fault(b)
-        fault, kind = (None, "dump") if dump else (fault, "file")
+        return set_fault(b), "set"
+    fault, dump = file_fault(b)
+    return (None, "dump") if dump else (fault, "file")
+
+
+def show(b):
+    fault, kind = form(b)
     return (3, b"", fault) if fault else (0, reading.listing(kind, b).encode(), "")
 
 
 def check(b):
-    fault, _ = file_fault(b)
+    fault, kind = form(b)
     if fault:
         return 3, b"", fault
-    findings = checking.findings(b)
+    findings = checking.findings(kind, b)
     return int(findings != "no findings\n"), findings.encode(), ""
 
 

@@ -32,7 +32,7 @@ def files(pattern, beside=None):
 
 
 # Which commands read an example of a kind, over readers and writers that fail.
-COMMANDS = {"set": ["show"], "dump": ["show"], "file": ["show", "check", "enumerate"], "listing": ["build"]}
+COMMANDS = {"set": ["show", "check"], "dump": ["show", "check"], "file": ["show", "check", "enumerate"], "listing": ["build"]}
 # The mouse, its set, the real mouse and the file with everything, and inputs at fault: a set whose last descriptor goes
 # over its end, a set with bytes behind it, and a file that is cut.
 STREAMED = ["mouse", "over", "goes-on", "cut-short", "sets/hid-one-endpoint", "files/with-everything", "files/qemu-usb-mouse", "files/every-rule-broken"]
