@@ -1,15 +1,14 @@
-//! Calls on a device that is asked request by request.
-use crate::answer::{Answer, Call, refused, right};
-use crate::samples::MOUSE;
+//! A description, and a device that is asked request by request.
+use growths::{Answer, EVERYTHING, refused, right};
 use std::alloc::Global;
 use usb_device::{Description, DescriptionFault, Device};
-use usb_fields::{Setup, Speed};
+use usb_fields::{Setup, Speed, descriptor_type};
 use usb_file::{FileWhy, read_file};
-use usb_transfer::{Heard, Transfer, Why};
+use usb_transfer::{Heard, Reply, Transfer, Why};
 
 /// The requests: SET_ADDRESS, SET_FEATURE of the wakeup, GET_STATUS, SET_FEATURE of a test mode, SET_CONFIGURATION,
 /// SET_FEATURE of a halt, GET_STATUS of the endpoint, SET_INTERFACE and GET_STATUS again (USB 2.0, 9.4).
-const REQUESTS: [[u8; 8]; 9] = [
+pub(crate) const REQUESTS: [[u8; 8]; 9] = [
     [0x00, 5, 5, 0, 0, 0, 0, 0],
     [0x00, 3, 1, 0, 0, 0, 0, 0],
     [0x80, 0, 0, 0, 0, 0, 2, 0],
@@ -23,13 +22,28 @@ const REQUESTS: [[u8; 8]; 9] = [
 
 /// What a request comes to.
 #[derive(Clone, Copy)]
-enum Wanted {
+pub(crate) enum Wanted {
+    /// It is carried out.
     Done,
+    /// It brings these bytes.
     Bytes([u8; 2]),
+    /// The device refuses it.
     Refused,
 }
 
-const WANTED: [Wanted; 9] = [
+impl Wanted {
+    /// Whether a reply is this one.
+    pub(crate) fn is(&self, reply: &Reply) -> bool {
+        match (self, reply) {
+            (Wanted::Done, Reply::Done) | (Wanted::Refused, Reply::Refused) => true,
+            (Wanted::Bytes(two), Reply::Bytes(bytes)) => bytes.as_slice() == two.as_slice(),
+            _ => false,
+        }
+    }
+}
+
+/// What these requests come to.
+pub(crate) const WANTED: [Wanted; 9] = [
     Wanted::Done,
     Wanted::Done,
     Wanted::Bytes([2, 0]),
@@ -42,49 +56,67 @@ const WANTED: [Wanted; 9] = [
 ];
 
 /// How many transactions these take.
-const TRANSACTIONS: u32 = 21;
+pub(crate) const TRANSACTIONS: u32 = 21;
 
 /// The address that the device is given.
-const ADDRESS: u8 = 5;
+pub(crate) const ADDRESS: u8 = 5;
 
 /// The packet size of the device.
 const PACKET: u8 = 64;
 
-/// The calls on a mouse that gets these requests.
-pub(crate) fn calls(alloc: Global) -> [Call; 2] {
-    let (described, description) = describe(alloc, &MOUSE, Speed::Full);
-    let driven = match &description {
-        Some(description) => right(drive(description)),
-        None => Answer::Wrong,
-    };
-    [
-        Call::new("read_file and Description::new", described),
-        Call::new("Device and Transfer", driven),
-    ]
-}
-
-/// A description of the file with these bytes; where memory is wanting, it is made once more.
-fn describe(alloc: Global, bytes: &[u8], speed: Speed) -> (Answer, Option<Description>) {
-    match make(alloc, bytes, speed) {
-        Ok(description) => (Answer::Right, Some(description)),
-        Err(answer) => (answer, make(alloc, bytes, speed).ok()),
-    }
-}
-
-/// A description of the file with these bytes, or how it is refused.
-fn make(alloc: Global, bytes: &[u8], speed: Speed) -> Result<Description, Answer> {
+/// What came of a file, and of a description of it; where memory is wanting, both are made once more.
+pub(crate) fn describe(
+    alloc: Global,
+    bytes: &[u8],
+    speed: Speed,
+) -> (Answer, Answer, Option<Description>) {
     let file = match read_file(alloc, bytes) {
         Ok(file) => file,
-        Err(fault) => return Err(refused(fault.why == FileWhy::Memory)),
+        Err(fault) => {
+            let again = make(alloc, bytes, speed);
+            let is_memory = fault.why == FileWhy::Memory;
+            return (refused(is_memory), right(again.is_some()), again);
+        }
     };
     match Description::new(alloc, file, speed) {
-        Ok(description) => Ok(description),
-        Err(fault) => Err(refused(fault == DescriptionFault::Memory)),
+        Ok(description) => (Answer::Right, Answer::Right, Some(description)),
+        Err(fault) => {
+            let again = make(alloc, bytes, speed);
+            let is_memory = fault == DescriptionFault::Memory;
+            (Answer::Right, refused(is_memory), again)
+        }
     }
 }
 
-/// Makes the requests of a device by hand, transaction by transaction. Whether they come to what they must.
-fn drive(description: &Description) -> bool {
+/// A description of the file with these bytes.
+fn make(alloc: Global, bytes: &[u8], speed: Speed) -> Option<Description> {
+    Description::new(alloc, read_file(alloc, bytes).ok()?, speed).ok()
+}
+
+/// Looks for each descriptor of the mouse with a second speed and a string.
+pub(crate) fn look_up(description: &Description) -> Answer {
+    let mut holds = true;
+    for (kind, index, language, from, to) in [
+        (descriptor_type::DEVICE, 0u8, 0u16, 0usize, 18usize),
+        (descriptor_type::CONFIGURATION, 0, 0, 18, 52),
+        (descriptor_type::DEVICE_QUALIFIER, 0, 0, 52, 62),
+        (descriptor_type::OTHER_SPEED_CONFIGURATION, 0, 0, 62, 96),
+        (descriptor_type::STRING, 0, 0, 96, 100),
+        (descriptor_type::STRING, 1, 0x0409, 100, 112),
+    ] {
+        let found = description.descriptor(kind, index, language);
+        holds = holds && found == EVERYTHING.get(from..to);
+    }
+    right(
+        holds
+            && description
+                .descriptor(descriptor_type::STRING, 2, 0x0409)
+                .is_none(),
+    )
+}
+
+/// Makes the requests of a device by hand, transaction by transaction. What they come to.
+pub(crate) fn drive(description: &Description) -> Answer {
     let mut device = Device::new(description);
     let mut transactions = 0u32;
     for (bytes, wanted) in REQUESTS.iter().zip(&WANTED) {
@@ -92,11 +124,11 @@ fn drive(description: &Description) -> bool {
         let request = Setup::from_bytes(bytes);
         let mut transfer = Transfer::new(address, PACKET, 16, request);
         let Some(count) = end(&mut device, &mut transfer, *wanted) else {
-            return false;
+            return Answer::Wrong;
         };
         transactions = transactions.saturating_add(count);
     }
-    transactions == TRANSACTIONS && device.state().address == ADDRESS
+    right(transactions == TRANSACTIONS && device.state().address == ADDRESS)
 }
 
 /// Drives a transfer to its end, which is as it must be. How many transactions that took.

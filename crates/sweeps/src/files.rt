@@ -1,18 +1,25 @@
 //! Calls on descriptor files.
-use crate::answer::{Answer, Call, refused, right};
-use crate::samples::{
-    EVERYTHING, EVERYTHING_PARTS, EVERYTHING_TEXT, MOUSE, MOUSE_PARTS, MOUSE_TEXT,
+use crate::sets::is_repeated;
+use growths::{
+    Answer, Call, EVERYTHING, EVERYTHING_PARTS, EVERYTHING_TEXT, MOUSE, MOUSE_PARTS, MOUSE_TEXT,
+    refused, right,
 };
 use std::alloc::Global;
 use std::io::Cursor;
-use usb_fields::{UnitFault, read_units, write_units};
+use usb_fields::{UnitFault, read_units, text_of, write_units, write_units_onto};
 use usb_file::{
-    DescriptorFile, FileWhy, ListWhy, OutFault, WriteFault, assemble, check, list, named,
-    read_file, write_file,
+    DescriptorFile, FileWhy, Input, InputFault, ListWhy, OutFault, WriteFault, assemble, check,
+    list, named, read_file, read_input, write_file,
 };
 
 /// More bytes than a listing of these has.
 const PAGE: usize = 512;
+
+/// How many bytes of the second sample a dump has: the device descriptor and its set.
+const DUMP_LENGTH: usize = 52;
+
+/// The string of the second sample: Mouse.
+const UNITS: [u16; 5] = [0x4d, 0x6f, 0x75, 0x73, 0x65];
 
 /// A file, and what its calls must come to.
 #[derive(Clone, Copy)]
@@ -22,20 +29,25 @@ struct Sample<'a> {
     parts: &'a [usize],
     text: &'a str,
     named: &'a [u8],
+    /// The string of index 1 in US English.
+    string: Option<&'a [u16]>,
 }
 
 /// The calls on a mouse, and on one that breaks two rules.
-pub(crate) fn mouse_calls(alloc: Global) -> [Call; 7] {
+pub(crate) fn mouse_calls(alloc: Global) -> [Call; 9] {
     let sample = Sample {
         bytes: &MOUSE,
         parts: &MOUSE_PARTS,
         text: MOUSE_TEXT,
         named: &[],
+        string: None,
     };
-    let [read, named, check, write, list, assemble] = answers(alloc, &sample);
+    let [read, taken, named, string, check, write, list, assemble] = answers(alloc, &sample);
     [
         Call::new("mouse read_file", read),
+        Call::new("mouse read_input", taken),
         Call::new("mouse named", named),
+        Call::new("mouse string", string),
         Call::new("mouse check", check),
         Call::new("mouse write_file", write),
         Call::new("mouse list", list),
@@ -44,34 +56,40 @@ pub(crate) fn mouse_calls(alloc: Global) -> [Call; 7] {
     ]
 }
 
-/// The calls on a mouse with a second speed and a string.
-pub(crate) fn everything_calls(alloc: Global) -> [Call; 6] {
+/// The calls on a mouse with a second speed and a string, and on the dump that is the front of its file.
+pub(crate) fn everything_calls(alloc: Global) -> [Call; 9] {
     let sample = Sample {
         bytes: &EVERYTHING,
         parts: &EVERYTHING_PARTS,
         text: EVERYTHING_TEXT,
         named: &[1],
+        string: Some(&UNITS),
     };
-    let [read, named, check, write, list, assemble] = answers(alloc, &sample);
+    let [read, taken, named, string, check, write, list, assemble] = answers(alloc, &sample);
     [
         Call::new("everything read_file", read),
+        Call::new("everything read_input", taken),
         Call::new("everything named", named),
+        Call::new("everything string", string),
         Call::new("everything check", check),
         Call::new("everything write_file", write),
         Call::new("everything list", list),
         Call::new("everything assemble", assemble),
+        Call::new("dump read_input", read_dump(alloc)),
     ]
 }
 
-/// What came of reading, of the named indices, of the rules, of writing, of listing and of reading the listing.
-fn answers(alloc: Global, sample: &Sample<'_>) -> [Answer; 6] {
+/// What came of reading in two ways, of the named indices, of a string, of the rules, of writing, of listing and of reading the listing.
+fn answers(alloc: Global, sample: &Sample<'_>) -> [Answer; 8] {
     let (read, file) = read_again(alloc, sample);
     let Some(file) = file else {
-        return [Answer::Wrong; 6];
+        return [Answer::Wrong; 8];
     };
     [
         read,
+        read_input_again(alloc, &file, sample),
         name(alloc, &file, sample),
+        right(file.string(1, 0x0409) == sample.string),
         check_again(alloc, &file, 0),
         write(alloc, &file, sample),
         list_again(alloc, &file, sample),
@@ -87,6 +105,31 @@ fn read_again(alloc: Global, sample: &Sample<'_>) -> (Answer, Option<DescriptorF
             let there = fault.why == FileWhy::Memory && sample.parts.contains(&fault.at);
             (refused(there), read_file(alloc, sample.bytes).ok())
         }
+    }
+}
+
+/// Reads the file as an input; where memory is wanting at a part, once more.
+fn read_input_again(alloc: Global, file: &DescriptorFile, sample: &Sample<'_>) -> Answer {
+    match read_input(alloc, sample.bytes) {
+        Ok(Input::File(read)) => right(read == *file),
+        Err(InputFault::File(fault)) => {
+            let there = fault.why == FileWhy::Memory && sample.parts.contains(&fault.at);
+            refused(there && read_input(alloc, sample.bytes).is_ok())
+        }
+        _ => Answer::Wrong,
+    }
+}
+
+/// Reads the dump that is the front of the second file; where memory is wanting at a part, once more.
+fn read_dump(alloc: Global) -> Answer {
+    let bytes = &EVERYTHING[..DUMP_LENGTH];
+    match read_input(alloc, bytes) {
+        Ok(Input::Dump(file)) => right(file.sets.len() == 1 && file.strings.is_none()),
+        Err(InputFault::File(fault)) => {
+            let there = fault.why == FileWhy::Memory && EVERYTHING_PARTS.contains(&fault.at);
+            refused(there && read_input(alloc, bytes).is_ok())
+        }
+        _ => Answer::Wrong,
     }
 }
 
@@ -144,7 +187,10 @@ fn list_again(alloc: Global, file: &DescriptorFile, sample: &Sample<'_>) -> Answ
     let text = &page[..written];
     match outcome {
         Ok(()) => right(text == sample.text.as_bytes()),
-        Err(OutFault::Memory) => refused(sample.text.as_bytes().starts_with(text)),
+        Err(OutFault::Memory) => {
+            let is_less = written < sample.text.len();
+            refused(is_less && sample.text.as_bytes().starts_with(text))
+        }
         Err(OutFault::Write) => Answer::Wrong,
     }
 }
@@ -167,7 +213,7 @@ fn assemble_again(alloc: Global, file: &DescriptorFile, sample: &Sample<'_>) -> 
 }
 
 /// The calls on a string of 126 units.
-pub(crate) fn unit_calls(alloc: Global) -> [Call; 2] {
+pub(crate) fn unit_calls(alloc: Global) -> [Call; 4] {
     let units = [0x20ac; 126];
     let mut bytes = [0xac; 254];
     for (place, byte) in bytes.iter_mut().enumerate() {
@@ -179,7 +225,12 @@ pub(crate) fn unit_calls(alloc: Global) -> [Call; 2] {
     bytes[1] = 3;
     [
         Call::new("units write_units", write_again(alloc, &units, &bytes)),
+        Call::new(
+            "units write_units_onto",
+            write_onto_again(alloc, &units, &bytes),
+        ),
         Call::new("units read_units", read_units_again(alloc, &units, &bytes)),
+        Call::new("units text_of", spell_again(alloc, &units)),
     ]
 }
 
@@ -205,4 +256,38 @@ fn read_units_again(alloc: Global, units: &[u16], bytes: &[u8]) -> Answer {
         }),
         Err(_) => Answer::Wrong,
     }
+}
+
+/// Adds the bytes of the units to a list, and then to those; where memory is wanting, the list is as it was, and they are
+/// added once more.
+fn write_onto_again(alloc: Global, units: &[u16], bytes: &[u8]) -> Answer {
+    let mut list = Vec::new(alloc);
+    let mut answer = Answer::Right;
+    for count in 0..2usize {
+        if let Err(fault) = write_units_onto(units, &mut list) {
+            let stands = fault == UnitFault::Memory && is_repeated(&list, bytes, count);
+            let again = write_units_onto(units, &mut list).is_ok();
+            answer = refused(stands && again);
+        }
+        if answer == Answer::Wrong || !is_repeated(&list, bytes, count.saturating_add(1)) {
+            return Answer::Wrong;
+        }
+    }
+    answer
+}
+
+/// The text of the units, each of which is the sign of the euro; where memory is wanting, once more.
+fn spell_again(alloc: Global, units: &[u16]) -> Answer {
+    match text_of(alloc, units) {
+        Ok(text) => right(is_euros(text.as_str(), units.len())),
+        Err(_) => refused(match text_of(alloc, units) {
+            Ok(text) => is_euros(text.as_str(), units.len()),
+            Err(_) => false,
+        }),
+    }
+}
+
+/// Whether a text is the sign of the euro, so many times.
+fn is_euros(text: &str, count: usize) -> bool {
+    text.chars().count() == count && text.chars().all(|letter| letter == '\u{20ac}')
 }

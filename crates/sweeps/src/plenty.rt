@@ -1,100 +1,54 @@
 //! Calls on inputs past every round number at which one might give up. Nothing is refused, and none may say that memory
 //! is wanting.
-use crate::answer::{Answer, Call, right};
-use crate::samples::MOUSE;
+use crate::talks;
+use growths::{
+    ASSOCIATIONS, Answer, CLASS_DESCRIPTORS, Call, ENDPOINTS, MOUSE, SETTINGS, Shape, push_set,
+    right,
+};
 use std::alloc::{AllocError, Global};
-use usb_device::Description;
-use usb_fields::{Speed, read_units, write_units};
-use usb_file::{DescriptorFile, assemble, check, list, read_file, write_file};
+use usb_fields::{read_units, text_of, write_units};
+use usb_file::{DescriptorFile, assemble, check, list, named, read_file, write_file};
 use usb_set::{Decoder, Progress, Sequence};
+use usb_words::Text;
 
-/// The most bytes of a set.
-const MOST: usize = 65_535;
-
-/// A set of as many equal descriptors as it has room for.
-#[derive(Clone, Copy)]
-struct Shape {
-    name: &'static str,
-    /// bNumInterfaces.
-    interfaces: u8,
-    /// The descriptors before them.
-    front: &'static [u8],
-    /// Each of them.
-    each: &'static [u8],
-    /// How many there are.
-    count: usize,
-    /// How many findings the file has.
-    findings: usize,
-}
-
-/// An interface with one setting and no endpoint that it declares.
-const INTERFACE: &[u8] = &[9, 4, 0, 0, 0, 3, 0, 0, 0];
-
-/// Of equal settings all but the first break V3; endpoints as many as are not declared break V5, and all but the first
-/// of an address V7. With no interface where one is declared V1 is broken.
-const SHAPES: [Shape; 4] = [
-    Shape {
-        name: "settings",
-        interfaces: 1,
-        front: &[],
-        each: INTERFACE,
-        count: 7280,
-        findings: 7279,
-    },
-    Shape {
-        name: "endpoints",
-        interfaces: 1,
-        front: INTERFACE,
-        each: &[7, 5, 0x81, 3, 8, 0, 10],
-        count: 9359,
-        findings: 9359,
-    },
-    Shape {
-        name: "associations",
-        interfaces: 1,
-        front: INTERFACE,
-        each: &[8, 11, 0, 1, 3, 0, 0, 0],
-        count: 8189,
-        findings: 0,
-    },
-    Shape {
-        name: "class descriptors",
-        interfaces: 1,
-        front: &[],
-        each: &[2, 0x21],
-        count: 32_763,
-        findings: 1,
-    },
-];
+/// How many bytes a file has before its sets.
+const DEVICE: usize = 18;
 
 /// The calls.
-pub(crate) fn calls(alloc: Global) -> [Call; 8] {
-    let [settings, endpoints, associations, raws] = SHAPES;
+pub(crate) fn calls(alloc: Global) -> [Call; 12] {
     [
-        call(alloc, settings),
-        call(alloc, endpoints),
-        call(alloc, associations),
-        call(alloc, raws),
-        Call::new("sets", right(many_sets(alloc).unwrap_or(false))),
+        shape(alloc, SETTINGS),
+        shape(alloc, ENDPOINTS),
+        shape(alloc, ASSOCIATIONS),
+        shape(alloc, CLASS_DESCRIPTORS),
+        Call::new("sets and strings", answer(talks::strings(alloc))),
+        Call::new("set of a device", answer(talks::long_set(alloc))),
+        Call::new("requests", answer(talks::requests(alloc))),
         Call::new("units", right(units(alloc))),
-        Call::new("piece", right(piece(alloc).unwrap_or(false))),
+        Call::new("a piece", answer(piece(alloc))),
+        Call::new("a file", answer(longer_file(alloc))),
         Call::new("elements", right(elements(alloc))),
+        Call::new("words", answer(words(alloc))),
     ]
 }
 
-/// The calls on a file with one set of this shape.
-fn call(alloc: Global, shape: Shape) -> Call {
-    let answer = match go_round(alloc, shape) {
+/// The answer of calls of which none may say that memory is wanting.
+fn answer(outcome: Result<bool, AllocError>) -> Answer {
+    match outcome {
         Ok(holds) => right(holds),
         Err(_) => Answer::Wrong,
-    };
-    Call::new(shape.name, answer)
+    }
+}
+
+/// The calls on a file with one set of this shape.
+fn shape(alloc: Global, shape: Shape) -> Call {
+    Call::new(shape.name, answer(go_round(alloc, shape)))
 }
 
 /// Reads the file, writes it, lists it, reads the listing, and looks what breaks a rule. Whether each comes to what it
 /// must.
 fn go_round(alloc: Global, shape: Shape) -> Result<bool, AllocError> {
-    let mut bytes = Vec::from_slice(alloc, &MOUSE[..18])?;
+    let mut bytes = Vec::from_slice(alloc, &MOUSE[..DEVICE])?;
     push_set(&mut bytes, shape)?;
     let Ok(file) = read_file(alloc, &bytes) else {
         return Ok(false);
@@ -106,24 +60,8 @@ fn go_round(alloc: Global, shape: Shape) -> Result<bool, AllocError> {
     Ok(found && is_written(alloc, &file, &bytes) && is_listed(alloc, &file, shape.count))
 }
 
-/// Puts a set behind the bytes.
-fn push_set(bytes: &mut Vec<u8>, shape: Shape) -> Result<(), AllocError> {
-    let each = shape.count.saturating_mul(shape.each.len());
-    let total = each
-        .saturating_add(shape.front.len())
-        .saturating_add(9)
-        .min(MOST) as u16;
-    let [low, high] = total.to_le_bytes();
-    bytes.extend_from_slice(&[9, 2, low, high, shape.interfaces, 1, 0, 0x80, 0x32])?;
-    bytes.extend_from_slice(shape.front)?;
-    for _ in 0..shape.count {
-        bytes.extend_from_slice(shape.each)?;
-    }
-    Ok(())
-}
-
 /// Whether the file is written to these bytes.
-fn is_written(alloc: Global, file: &DescriptorFile, bytes: &[u8]) -> bool {
+pub(crate) fn is_written(alloc: Global, file: &DescriptorFile, bytes: &[u8]) -> bool {
     match write_file(alloc, file) {
         Ok(written) => written.as_slice() == bytes,
         Err(_) => false,
@@ -131,49 +69,39 @@ fn is_written(alloc: Global, file: &DescriptorFile, bytes: &[u8]) -> bool {
 }
 
 /// Whether the file is listed in more lines than this, and the listing is read back.
-fn is_listed(alloc: Global, file: &DescriptorFile, count: usize) -> bool {
+pub(crate) fn is_listed(alloc: Global, file: &DescriptorFile, count: usize) -> bool {
     let mut text = Vec::new(alloc);
     if list(alloc, file, &mut text).is_err() {
         return false;
     }
-    let mut lines = 0usize;
-    for byte in text.as_slice() {
-        if *byte == b'\n' {
-            lines = lines.saturating_add(1);
-        }
-    }
+    let lines = text.iter().filter(|byte| **byte == b'\n').count();
     match assemble(alloc, &text) {
         Ok(assembled) => lines > count && assembled == *file,
         Err(_) => false,
     }
 }
 
-/// A file of 255 sets, which breaks no rule and is described.
-fn many_sets(alloc: Global) -> Result<bool, AllocError> {
-    let mut bytes = Vec::from_slice(alloc, &MOUSE[..17])?;
-    bytes.push(255)?;
-    for value in 1..=255u8 {
-        bytes.extend_from_slice(&[9, 2, 9, 0, 0, value, 0, 0x80, 0x32])?;
+/// Whether a file names so many strings.
+pub(crate) fn names_so_many(alloc: Global, file: &DescriptorFile, count: usize) -> bool {
+    match named(alloc, file) {
+        Ok(indices) => indices.len() == count,
+        Err(_) => false,
     }
-    let Ok(file) = read_file(alloc, &bytes) else {
-        return Ok(false);
-    };
-    let goes_round = is_written(alloc, &file, &bytes) && is_listed(alloc, &file, 255);
-    Ok(goes_round && Description::new(alloc, file, Speed::Full).is_ok())
 }
 
-/// Strings of 0 to 126 units, written and read back.
+/// Strings of 0 to 126 units, written, read back and spelt.
 fn units(alloc: Global) -> bool {
     let units = [0x20ac; 126];
     for count in 0..=units.len() {
         let Ok(bytes) = write_units(alloc, &units[..count]) else {
             return false;
         };
-        match read_units(alloc, &bytes) {
-            Ok(read) => if read.as_slice() != &units[..count] {
-                return false;
-            },
-            Err(_) => return false,
+        let is_read = match read_units(alloc, &bytes) {
+            Ok(read) => read.as_slice() == &units[..count],
+            Err(_) => false,
+        };
+        if !is_read || text_of(alloc, &units[..count]).is_err() {
+            return false;
         }
     }
     true
@@ -181,18 +109,33 @@ fn units(alloc: Global) -> bool {
 
 /// A set of 65,529 bytes and 4,471 bytes behind it, in one piece.
 fn piece(alloc: Global) -> Result<bool, AllocError> {
-    let [settings, _, _, _] = SHAPES;
     let mut bytes = Vec::new(alloc);
-    push_set(&mut bytes, settings)?;
+    push_set(&mut bytes, SETTINGS)?;
     for _ in bytes.len()..70_000 {
         bytes.push(0)?;
     }
     let mut decoder = Decoder::new(alloc);
     let is_done = decoder.feed(&bytes) == Ok(Progress::Done { used: 65_529 });
     match decoder.finish() {
-        Ok(set) => Ok(is_done && set.settings.len() == settings.count),
+        Ok(set) => Ok(is_done && set.settings.len() == SETTINGS.count),
         Err(_) => Ok(false),
     }
+}
+
+/// A file of two sets of about 65,535 bytes, with more findings than one set of them has.
+fn longer_file(alloc: Global) -> Result<bool, AllocError> {
+    let mut bytes = Vec::from_slice(alloc, &MOUSE[..17])?;
+    bytes.push(2)?;
+    push_set(&mut bytes, SETTINGS)?;
+    push_set(&mut bytes, ENDPOINTS)?;
+    let Ok(file) = read_file(alloc, &bytes) else {
+        return Ok(false);
+    };
+    let found = match check(alloc, &file) {
+        Ok(findings) => findings.len() > ENDPOINTS.findings,
+        Err(_) => false,
+    };
+    Ok(found && is_written(alloc, &file, &bytes))
 }
 
 /// A list of 70,000 elements.
@@ -204,4 +147,13 @@ fn elements(alloc: Global) -> bool {
         }
     }
     list.len() == 70_000
+}
+
+/// A text of 70,000 words.
+fn words(alloc: Global) -> Result<bool, AllocError> {
+    let mut text = Text::new(alloc);
+    for _ in 0..70_000 {
+        text.put("word ")?;
+    }
+    Ok(text.as_bytes().len() == 350_000)
 }

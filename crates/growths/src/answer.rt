@@ -1,8 +1,8 @@
 //! What came of a call.
 
 /// What a call answered.
-#[derive(Clone, Copy, PartialEq, Eq)]
-pub(crate) enum Answer {
+#[derive(Clone, Copy, Debug, PartialEq, Eq)]
+pub enum Answer {
     /// What it answers where memory is there.
     Right,
     /// That memory is wanting, as it must, and what must stand then stands.
@@ -12,24 +12,27 @@ pub(crate) enum Answer {
 }
 
 /// The answer of a call that didn't refuse.
-pub(crate) fn right(holds: bool) -> Answer {
+pub fn right(holds: bool) -> Answer {
     if holds { Answer::Right } else { Answer::Wrong }
 }
 
 /// The answer of a call that refused, out of memory.
-pub(crate) fn refused(holds: bool) -> Answer {
+pub fn refused(holds: bool) -> Answer {
     if holds { Answer::Memory } else { Answer::Wrong }
 }
 
 /// A call and its answer.
-#[derive(Clone, Copy)]
-pub(crate) struct Call {
+#[derive(Clone, Copy, Debug, PartialEq, Eq)]
+pub struct Call {
+    /// The call in words: its name, and what it is made on.
     pub name: &'static str,
+    /// What came of it.
     pub answer: Answer,
 }
 
 impl Call {
-    pub(crate) fn new(name: &'static str, answer: Answer) -> Call {
+    /// A call of this name that answered so.
+    pub fn new(name: &'static str, answer: Answer) -> Call {
         Call { name, answer }
     }
 }
