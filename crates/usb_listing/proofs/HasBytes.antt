@@ -4,10 +4,10 @@ use Rattle.usb_fields.specs.declared.device.DeviceDescriptor.{DeviceDescriptor}
 use Rattle.usb_fields.specs.declared.qualifier.Qualifier.{Qualifier}
 use Rattle.usb_set.specs.declared.tree.SetKind.{SetKind}
 use Rattle.usb_set.specs.declared.tree.SetKind.TheVariants as kinds
-use Rattle.usb_set.specs.declared.tree.Raw.{Raw}
-use Rattle.usb_set.specs.declared.tree.Association.{Association}
-use Rattle.usb_set.specs.declared.tree.Extra.{Extra}
-use Rattle.usb_set.specs.declared.tree.Extra.TheVariants as extras
+use Rattle.usb_set.specs.declared.extra.Raw.{Raw}
+use Rattle.usb_set.specs.declared.extra.Association.{Association}
+use Rattle.usb_set.specs.declared.extra.Extra.{Extra}
+use Rattle.usb_set.specs.declared.extra.Extra.TheVariants as extras
 use Rattle.usb_set.specs.declared.tree.Endpoint.{Endpoint}
 use Rattle.usb_set.specs.declared.tree.Setting.{Setting}
 use Rattle.usb_set.specs.declared.tree.Configuration.{Configuration}

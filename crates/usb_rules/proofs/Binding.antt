@@ -3,11 +3,11 @@ use Rattle.std.proofs.Common.{◌≡◌, ℕ, Bool, List, [], ◌∷◌, ◌++�
 use Rattle.std.specs.List.{flat_map}
 use Rattle.std.proofs.lemmas.List.{map-append}
 use Rattle.std.proofs.lemmas.Grind.{flat_map-append}
-use Rattle.usb_set.specs.declared.tree.Association.{Association}
+use Rattle.usb_set.specs.declared.extra.Association.{Association}
 use Rattle.usb_set.specs.declared.tree.Configuration.{Configuration}
 use Rattle.usb_set.specs.declared.tree.Endpoint.{Endpoint}
-use Rattle.usb_set.specs.declared.tree.Extra.{Extra}
-use Rattle.usb_set.specs.declared.tree.Extra.TheVariants as extras
+use Rattle.usb_set.specs.declared.extra.Extra.{Extra}
+use Rattle.usb_set.specs.declared.extra.Extra.TheVariants as extras
 use Rattle.usb_set.specs.declared.tree.Setting.{Setting}
 use Rattle.usb_set.specs.Owners.{Holder, OfConfiguration, OfEndpoint, OfSetting, associations_among, held, held_associations, held_by, holders_in}
 use Rattle.usb_set.specs.Parts.{association_in, associations_of, extras_of, setting_extras}
