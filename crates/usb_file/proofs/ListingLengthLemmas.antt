@@ -1,21 +1,22 @@
 -- How long the listing of a file can be.
-use Rattle.std.proofs.Common.{◌≡◌, ℕ, ◌+◌, ◌*◌, ◌≤◌, Bool, true, false, cond, List, [], ◌∷◌, ◌++◌, length, map, codes, Option, Some, None, refl, ap, arith, length-append}
+use Rattle.std.proofs.Common.{◌≡◌, ℕ, ◌+◌, ◌*◌, ◌≤◌, Bool, true, false, cond, List, [], ◌∷◌, ◌++◌, length, map, codes, drop, Option, Some, None, refl, ap, arith, length-append}
 use Rattle.std.specs.List.{flat_map, list_any}
 use Rattle.std.proofs.Math.Nat.{mul-le-mul_right}
 use Rattle.std.proofs.lemmas.Bool.{ltb-false, or_parts}
 use Rattle.std.proofs.lemmas.List.Folds.{flat_map-map}
 use Rattle.hex.specs.Hex.{encode_lower, encode_with, lower_digits}
 use Rattle.hex.proofs.HexLemmas.{length-encode_with}
+use Rattle.usb_base.specs.Widths.{size_of}
 use Rattle.usb_fields.specs.declared.device.DeviceDescriptor.{DeviceDescriptor}
 use Rattle.usb_fields.specs.declared.qualifier.Qualifier.{Qualifier}
 use Rattle.usb_set.specs.declared.tree.SetKind.{SetKind}
 use Rattle.usb_set.specs.declared.tree.SetKind.TheVariants as kinds
-use Rattle.usb_set.specs.declared.tree.Extra.{Extra}
-use Rattle.usb_set.specs.declared.tree.Extra.TheVariants as extras
+use Rattle.usb_set.specs.declared.extra.Extra.{Extra}
+use Rattle.usb_set.specs.declared.extra.Extra.TheVariants as extras
 use Rattle.usb_set.specs.declared.tree.Endpoint.{Endpoint}
 use Rattle.usb_set.specs.declared.tree.Setting.{Setting}
 use Rattle.usb_set.specs.declared.tree.Configuration.{Configuration}
-use Rattle.usb_set.specs.Descriptors.{descriptor_bytes, endpoint_descriptor, interface_descriptor, configuration_descriptor}
+use Rattle.usb_set.specs.Descriptors.{descriptor_bytes, endpoint_descriptor, extra_descriptor, interface_descriptor, configuration_descriptor}
 use Rattle.usb_set.specs.Encoding.{set_length}
 use Rattle.usb_set.specs.inside.Trees.{extra_bytes, endpoint_bytes, setting_bytes}
 use Rattle.usb_set.proofs.Trees.{set_bytes_is}
@@ -25,7 +26,7 @@ use Rattle.usb_file_data.specs.declared.file.Strings.{Strings}
 use Rattle.usb_file_data.specs.Named.{named_among, other_sets, string_indices}
 use Rattle.usb_file_data.specs.File.{File, whole_set, has_no_layout, is_long_string, are_wrong_strings}
 use Rattle.usb_listing.specs.Lines.{written_field, two_bytes}
-use Rattle.usb_listing.specs.SetListing.{raw_line, association_line, extra_line, endpoint_line, endpoint_lines, interface_line, setting_lines, configuration_line, set_lines}
+use Rattle.usb_listing.specs.SetListing.{extra_line, endpoint_line, endpoint_lines, interface_line, row_of_extra, setting_lines, configuration_line, set_lines}
 use Rattle.usb_listing.specs.StringListing.{is_plain, languages_line, written_unit, string_line, strings_lines}
 use Rattle.usb_listing.specs.Listing.{device_line, qualifier_line, other_lines, file_lines}
 use Rattle.usb_file_data.proofs.WholeSets.{whole_length}
@@ -56,9 +57,9 @@ end_length : (tail : List ℕ) → length ((written_field tail ++ []) ++ codes "
 end_length tail = omega (arith, field_length tail, length-append (written_field tail ++ []) (codes "\n"), length-append (written_field tail) [])
 
 extra_length : (x : Extra) → length (extra_line x) ≤ 5 * length (extra_bytes x)
-unfolding raw_line association_line encode_with
+unfolding extra_line encode_with
 extra_length (extras.Raw r) = omega (arith, end_length r.body)
-extra_length (extras.Association a) = omega (arith, end_length a.tail)
+extra_length x = omega (arith, end_length (drop (size_of (row_of_extra x).widths) (extra_descriptor x).body))
 
 endpoint_line_length : (e : Endpoint) → length (endpoint_line e) ≤ 5 * length (descriptor_bytes (endpoint_descriptor e))
 unfolding endpoint_line encode_with

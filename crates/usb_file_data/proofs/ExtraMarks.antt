@@ -2,9 +2,9 @@
 use Rattle.std.proofs.Common.{◌≡◌, ℕ, List, [], ◌∷◌, ◌++◌, Bool, map, refl, ap, ◌∙◌}
 use Rattle.std.specs.Prelude.{fold}
 use Rattle.std.specs.List.{flat_map}
+use Rattle.std.proofs.lemmas.List.{map-append}
 use Rattle.std.proofs.lemmas.List.Concat.{flat_map-append}
-use Rattle.usb_set.specs.declared.tree.Extra.{Extra}
-use Rattle.usb_set.specs.declared.tree.Extra.TheVariants as extras
+use Rattle.usb_set.specs.declared.extra.Extra.{Extra}
 use Rattle.usb_set.specs.declared.tree.Endpoint.{Endpoint}
 use Rattle.usb_set.specs.declared.tree.Setting.{Setting}
 use Rattle.usb_set.specs.declared.tree.Configuration.{Configuration}
@@ -16,8 +16,7 @@ use Rattle.usb_file_data.proofs.Folds.{fold_append}
 
 of_extras : (xs : List Extra) → map association_string_index (flat_map association_in xs) ≡ flat_map extra_indices xs
 of_extras [] = refl
-of_extras (extras.Raw r ∷ xs) = of_extras xs
-of_extras (extras.Association a ∷ xs) = ap (λ l. a.text ∷ l) (of_extras xs)
+of_extras (x ∷ xs) = map-append association_string_index (association_in x) (flat_map association_in xs) ∙ ap (λ l. extra_indices x ++ l) (of_extras xs)
 
 of_endpoints : (es : List Endpoint) → flat_map extra_indices (flat_map (λ e. e.extras) es) ≡ flat_map endpoint_extra_indices es
 of_endpoints [] = refl

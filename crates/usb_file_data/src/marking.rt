@@ -91,8 +91,7 @@ fn mark_extras(marks: &mut Marks, extras: &[Extra])
 fn mark_extra(marks: &mut Marks, extra: &Extra)
     ensures { is_marked marks.new ≡ fold marked (is_marked marks.old) (extra_indices extra.now) }
 {
-    match extra {
-        Extra::Raw(_) => {}
-        Extra::Association(association) => marks.add(association.text),
+    if let Extra::Association(association) = extra {
+        marks.add(association.text);
     }
 }

@@ -4,10 +4,8 @@ use Rattle.usb_fields.specs.declared.device.DeviceDescriptor.{DeviceDescriptor}
 use Rattle.usb_fields.specs.declared.qualifier.Qualifier.{Qualifier}
 use Rattle.usb_set.specs.declared.tree.SetKind.{SetKind}
 use Rattle.usb_set.specs.declared.tree.SetKind.TheVariants as kinds
-use Rattle.usb_set.specs.declared.tree.Raw.{Raw}
-use Rattle.usb_set.specs.declared.tree.Association.{Association}
-use Rattle.usb_set.specs.declared.tree.Extra.{Extra}
-use Rattle.usb_set.specs.declared.tree.Extra.TheVariants as extras
+use Rattle.usb_set.specs.declared.extra.Extra.{Extra}
+use Rattle.usb_set.specs.declared.extra.Extra.TheVariants as extras
 use Rattle.usb_set.specs.declared.tree.Endpoint.{Endpoint}
 use Rattle.usb_set.specs.declared.tree.Setting.{Setting}
 use Rattle.usb_set.specs.declared.tree.Configuration.{Configuration}
@@ -15,11 +13,11 @@ use Rattle.std.specs.List.{flat_map}
 use Rattle.usb_base.specs.Widths.{cells}
 use Rattle.usb_fields.specs.Device.{device_bytes}
 use Rattle.usb_fields.specs.Qualifier.{qualifier_bytes}
-use Rattle.usb_set.specs.Descriptors.{association_descriptor, configuration_descriptor, endpoint_descriptor, interface_descriptor, type_number}
+use Rattle.usb_set.specs.Descriptors.{configuration_descriptor, endpoint_descriptor, extra_descriptor, interface_descriptor, type_number}
 use Rattle.usb_listing.specs.Lines.{two_bytes, written_field, written_line}
-use Rattle.usb_listing.specs.Table.{Row, association_row, configuration_row, device_row, endpoint_row, interface_row, qualifier_row, raw_row, row_line}
+use Rattle.usb_listing.specs.Table.{Row, configuration_row, device_row, endpoint_row, interface_row, qualifier_row, raw_row, row_line}
 use Rattle.usb_listing.specs.Listing.{device_line, qualifier_line}
-use Rattle.usb_listing.specs.SetListing.{association_line, configuration_line, endpoint_line, extra_line, interface_line, raw_line, set_word}
+use Rattle.usb_listing.specs.SetListing.{configuration_line, endpoint_line, extra_line, interface_line, row_of_extra, set_word}
 use Rattle.usb_listing.specs.StringListing.{languages_line, string_line, written_unit}
 
 -- a text that begins with one that has a byte
@@ -58,17 +56,10 @@ pub endpoint_has : (e : Endpoint) → 0 < length (endpoint_line e)
 unfolding endpoint_line
 endpoint_has e = row_has endpoint_row (5 ∷ (endpoint_descriptor e).body) (lit< tt)
 
-raw_has : (r : Raw) → 0 < length (raw_line r)
-unfolding raw_line
-raw_has r = row_has raw_row (r.kind ∷ r.body) (lit< tt)
-
-association_has : (a : Association) → 0 < length (association_line a)
-unfolding association_line
-association_has a = row_has association_row (11 ∷ (association_descriptor a).body) (lit< tt)
-
 pub extra_has : (extra : Extra) → 0 < length (extra_line extra)
-extra_has (extras.Raw r) = raw_has r
-extra_has (extras.Association a) = association_has a
+unfolding extra_line
+extra_has (extras.Raw r) = row_has raw_row (r.kind ∷ r.body) (lit< tt)
+extra_has x = row_has (row_of_extra x) ((extra_descriptor x).kind ∷ (extra_descriptor x).body) (lit< tt)
 
 pub languages_has : (languages : List ℕ) → 0 < length (languages_line languages)
 unfolding languages_line

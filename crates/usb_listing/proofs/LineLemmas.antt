@@ -1,22 +1,21 @@
 -- The lines of a set are those of its descriptors.
-use Rattle.std.proofs.Common.{append-nil, ◌≡◌, ℕ, false, eqb, ◌||◌, List, [], ◌∷◌, ◌++◌, map, refl, sym, ap, ◌∙◌, append_assoc}
+use Rattle.std.proofs.Common.{append-nil, ◌≡◌, ℕ, false, List, [], ◌∷◌, ◌++◌, map, refl, sym, ap, ◌∙◌, append_assoc, arith}
 use Rattle.std.specs.List.{flat_map, list_any}
 use Rattle.std.proofs.lemmas.Bool.{or_parts}
+use Rattle.std.proofs.lemmas.Bool.Decides.{nat_tests}
 use Rattle.std.proofs.lemmas.List.Concat.{flat_map-append}
 use Rattle.std.proofs.lemmas.List.Folds.{list_any-append}
 use Rattle.usb_set.specs.declared.tree.SetKind.{SetKind}
 use Rattle.usb_set.specs.declared.tree.SetKind.TheVariants as kinds
-use Rattle.usb_set.specs.declared.tree.Raw.{Raw}
-use Rattle.usb_set.specs.declared.tree.Association.{Association}
-use Rattle.usb_set.specs.declared.tree.Extra.{Extra}
-use Rattle.usb_set.specs.declared.tree.Extra.TheVariants as extras
+use Rattle.usb_set.specs.declared.extra.Extra.{Extra}
+use Rattle.usb_set.specs.declared.extra.Extra.TheVariants as extras
 use Rattle.usb_set.specs.declared.tree.Endpoint.{Endpoint}
 use Rattle.usb_set.specs.declared.tree.Setting.{Setting}
 use Rattle.usb_set.specs.declared.tree.Configuration.{Configuration}
-use Rattle.usb_set.specs.Descriptors.{Descriptor, association_descriptor, configuration_descriptor, endpoint_descriptor, extra_descriptor, interface_descriptor, raw_descriptor}
+use Rattle.usb_set.specs.Descriptors.{Descriptor, configuration_descriptor, endpoint_descriptor, extra_descriptor, interface_descriptor}
 use Rattle.usb_set.specs.Parts.{setting_extras}
 use Rattle.usb_set.specs.Layout.{endpoint_descriptors, has_typed_raw, is_typed, is_typed_raw, later_descriptors, set_descriptors, setting_descriptors}
-use Rattle.usb_listing.specs.SetListing.{association_line, configuration_line, endpoint_line, endpoint_lines, extra_line, interface_line, raw_line, set_lines, setting_lines}
+use Rattle.usb_listing.specs.SetListing.{configuration_line, endpoint_line, endpoint_lines, extra_line, interface_line, set_lines, setting_lines}
 use Rattle.usb_listing.specs.Table.{descriptor_line, raw_row, row_of}
 
 pub configuration_is : (c : Configuration) (total : ℕ) → configuration_line c ≡ descriptor_line (configuration_descriptor c total)
@@ -35,26 +34,14 @@ endpoint_is : (e : Endpoint) → endpoint_line e ≡ descriptor_line (endpoint_d
 unfolding endpoint_line
 endpoint_is e = refl
 
-association_is : (a : Association) → association_line a ≡ descriptor_line (association_descriptor a)
-unfolding association_line
-association_is a = refl
-
--- the row of a type that a set gives no meaning
-untyped_row : (kind : ℕ) → is_typed kind ≡ false → row_of kind ≡ raw_row
-untyped_row kind e =
-    let d = or_parts ((eqb kind 2) || (eqb kind 4) || (eqb kind 5) || (eqb kind 7)) (eqb kind 11) e in
-    let c = or_parts ((eqb kind 2) || (eqb kind 4) || (eqb kind 5)) (eqb kind 7) d.0 in
-    let b = or_parts ((eqb kind 2) || (eqb kind 4)) (eqb kind 5) c.0 in
-    let a = or_parts (eqb kind 2) (eqb kind 4) b.0 in
-    rw (a.0, a.1, b.1, c.1, d.1) refl
-
-raw_is : (r : Raw) → is_typed r.kind ≡ false → raw_line r ≡ descriptor_line (raw_descriptor r)
-unfolding raw_line
-raw_is r e = rw (untyped_row r.kind e) refl
+-- a type whose lines are not `raw` is one that a set gives a meaning
+row_typed : (kind : ℕ) → is_typed kind ≡ false → row_of kind ≡ raw_row
+row_typed kind e = grind (arith, nat_tests)
 
 extra_is : (x : Extra) → is_typed_raw x ≡ false → extra_line x ≡ descriptor_line (extra_descriptor x)
-extra_is (extras.Raw r) e = raw_is r e
-extra_is (extras.Association a) e = association_is a
+unfolding extra_line
+extra_is (extras.Raw r) e = rw (row_typed r.kind e) refl
+extra_is x e = refl
 
 -- ---- and of lists of them
 

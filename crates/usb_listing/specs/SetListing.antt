@@ -3,28 +3,22 @@ use Rattle.std.specs.Prelude.{ℕ, List, ◌∷◌, ◌++◌, codes}
 use Rattle.std.specs.List.{flat_map}
 use Rattle.usb_set.specs.declared.tree.SetKind.{SetKind}
 use Rattle.usb_set.specs.declared.tree.SetKind.TheVariants as kinds
-use Rattle.usb_set.specs.declared.tree.Raw.{Raw}
-use Rattle.usb_set.specs.declared.tree.Association.{Association}
-use Rattle.usb_set.specs.declared.tree.Extra.{Extra}
-use Rattle.usb_set.specs.declared.tree.Extra.TheVariants as extras
+use Rattle.usb_set.specs.declared.extra.Extra.{Extra}
+use Rattle.usb_set.specs.declared.extra.Extra.TheVariants as extras
 use Rattle.usb_set.specs.declared.tree.Endpoint.{Endpoint}
 use Rattle.usb_set.specs.declared.tree.Setting.{Setting}
 use Rattle.usb_set.specs.declared.tree.Configuration.{Configuration}
-use Rattle.usb_set.specs.Descriptors.{association_descriptor, configuration_descriptor, endpoint_descriptor, interface_descriptor, type_number}
-use Rattle.usb_listing.specs.Table.{row_line, configuration_row, raw_row, descriptor_line}
+use Rattle.usb_set.specs.Descriptors.{configuration_descriptor, endpoint_descriptor, extra_descriptor, interface_descriptor, type_number}
+use Rattle.usb_listing.specs.Table.{Row, row_line, row_of, configuration_row, raw_row, descriptor_line}
 
--- `raw`: bDescriptorType, and the bytes after it
-unfoldable pub raw_line : Raw → List ℕ
-raw_line r = row_line raw_row (r.kind ∷ r.body)
-
--- `association`: the fields of an interface association descriptor, and the bytes after them (its ECN, 9.X.Y)
-unfoldable pub association_line : Association → List ℕ
-association_line a = descriptor_line (association_descriptor a)
+-- the row of an extra: one that is kept as it stands is a `raw` line whatever its type, any other is of its type
+abbrev pub row_of_extra : Extra → Row
+row_of_extra (extras.Raw r) = raw_row
+row_of_extra x = row_of (extra_descriptor x).kind
 
 -- the line of a descriptor that belongs to the typed one before it
-abbrev pub extra_line : Extra → List ℕ
-extra_line (extras.Raw r) = raw_line r
-extra_line (extras.Association a) = association_line a
+unfoldable pub extra_line : Extra → List ℕ
+extra_line x = row_line (row_of_extra x) ((extra_descriptor x).kind ∷ (extra_descriptor x).body)
 
 -- `endpoint`: the fields of an endpoint descriptor, and the bytes after them (USB 2.0, 9.6.6)
 unfoldable pub endpoint_line : Endpoint → List ℕ

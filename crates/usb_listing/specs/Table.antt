@@ -7,6 +7,8 @@ use Rattle.usb_base.specs.Widths.{cells}
 use Rattle.usb_fields.specs.Device.{device_fields}
 use Rattle.usb_fields.specs.Qualifier.{qualifier_fields}
 use Rattle.usb_set.specs.Descriptors.{Descriptor, association_fields, configuration_fields, endpoint_fields, interface_fields}
+use Rattle.usb_listing.specs.declared.extra_word.ExtraWord.{ExtraWord}
+use Rattle.usb_listing.specs.declared.extra_word.ExtraWord.TheVariants as words
 use Rattle.usb_listing.specs.Lines.{written_line}
 
 -- A row: the word of the line; the bytes behind bLength that the line leaves out, bDescriptorType, and wTotalLength as
@@ -46,6 +48,17 @@ association_row = record { word = codes "association"; front = 11 ∷ []; widths
 abbrev pub raw_row : Row
 raw_row = record { word = codes "raw"; front = []; widths = One ∷ []; tail = true }
 
+-- the word of the line of an extra, by its bDescriptorType, all of them, and their rows
+abbrev pub extra_word : ℕ → ExtraWord
+extra_word kind = if kind == 11 then words.Association else words.Raw
+
+abbrev pub extra_words : List ExtraWord
+extra_words = words.Raw ∷ words.Association ∷ []
+
+abbrev pub extra_row : ExtraWord → Row
+extra_row words.Raw = raw_row
+extra_row words.Association = association_row
+
 -- the row of a descriptor of a set, by its bDescriptorType (table 9-5)
 abbrev pub row_of : ℕ → Row
 row_of kind =
@@ -53,8 +66,7 @@ row_of kind =
     else if kind == 4 then interface_row
     else if kind == 5 then endpoint_row
     else if kind == 7 then configuration_row (codes "other_speed") 7
-    else if kind == 11 then association_row
-    else raw_row
+    else extra_row (extra_word kind)
 
 -- the line of a descriptor of a set
 abbrev pub descriptor_line : Descriptor → List ℕ

@@ -7,6 +7,7 @@
 //! in `specs/Table.antt`. The module [`laws`] says that a set's lines are those of its descriptors.
 #![tactic(auto)]
 
+mod extra_word;
 pub mod laws;
 mod listed;
 mod listing;
@@ -15,6 +16,7 @@ mod page;
 mod set_listing;
 mod string_listing;
 
+pub use extra_word::{EXTRA_WORDS, ExtraWord, RAW_WIDTHS};
 pub use listing::list;
 pub use output::{OutFault, write_all};
 pub use set_listing::list_set;

@@ -2,23 +2,20 @@
 ghost use Rattle.std.specs.Prelude.{◌≡◌, ◌++◌, OnErr, OnOk};
 ghost use Rattle.std.specs.List.{flat_map};
 ghost use Rattle.std.specs.Io.KnownBytes.{Appends};
-ghost use Rattle.usb_listing.specs.SetListing.{association_line, configuration_line, endpoint_line, endpoint_lines, extra_line, interface_line, raw_line, set_lines, setting_lines, set_word};
+ghost use Rattle.usb_listing.specs.SetListing.{configuration_line, endpoint_line, endpoint_lines, extra_line, interface_line, set_lines, setting_lines, set_word};
 ghost use Rattle.usb_listing.specs.Output.{AppendsLess};
 ghost use Rattle.usb_listing.specs.inside.Pages.{Puts};
 
+use crate::extra_word::put_extra;
 use crate::listed::{Listed, list_all};
 use crate::output::OutFault;
 use crate::page::Page;
 use std::alloc::{AllocError, Global};
 use std::io::Write;
-use usb_base::Width;
 use usb_set::{
-    ASSOCIATION_WIDTHS, Association, CONFIGURATION_WIDTHS, Configuration, ENDPOINT_WIDTHS,
-    Endpoint, Extra, INTERFACE_WIDTHS, Raw, SetKind, Setting,
+    CONFIGURATION_WIDTHS, Configuration, ENDPOINT_WIDTHS, Endpoint, Extra, INTERFACE_WIDTHS,
+    SetKind, Setting,
 };
-
-/// The widths of the fields that the line of a raw descriptor has before its body: bDescriptorType.
-const RAW_WIDTHS: [Width; 1] = [Width::One];
 
 /// Writes the listing of the set: a line for each descriptor, in the order of its bytes.
 ///
@@ -96,15 +93,6 @@ impl Listed for Extra {
     }
 }
 
-fn put_extra(page: &mut Page, extra: &Extra) -> Result<(), AllocError>
-    ensures { OnOk result (page.new ≡ page.old ++ extra_line extra.now) }
-{
-    match extra {
-        Extra::Raw(raw) => put_raw(page, raw),
-        Extra::Association(association) => put_association(page, association),
-    }
-}
-
 #[tactic(auto, unfolding(crate::specs::SetListing::configuration_line))]
 fn put_configuration(page: &mut Page, c: &Configuration) -> Result<(), AllocError>
     ensures { OnOk result (page.new ≡ page.old ++ configuration_line c.now) }
@@ -134,23 +122,4 @@ fn put_endpoint(page: &mut Page, e: &Endpoint) -> Result<(), AllocError>
     ensures { OnOk result (page.new ≡ page.old ++ endpoint_line e.now) }
 {
     page.put_line_with_tail("endpoint", &ENDPOINT_WIDTHS, &e.field_bytes(), &e.tail)
-}
-
-#[tactic(auto, unfolding(crate::specs::SetListing::raw_line))]
-fn put_raw(page: &mut Page, raw: &Raw) -> Result<(), AllocError>
-    ensures { OnOk result (page.new ≡ page.old ++ raw_line raw.now) }
-{
-    page.put_line_with_tail("raw", &RAW_WIDTHS, &[raw.kind], &raw.body)
-}
-
-#[tactic(auto, unfolding(crate::specs::SetListing::association_line))]
-fn put_association(page: &mut Page, a: &Association) -> Result<(), AllocError>
-    ensures { OnOk result (page.new ≡ page.old ++ association_line a.now) }
-{
-    page.put_line_with_tail(
-        "association",
-        &ASSOCIATION_WIDTHS,
-        &a.field_bytes(),
-        &a.tail,
-    )
 }

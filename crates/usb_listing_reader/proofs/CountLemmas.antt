@@ -123,8 +123,7 @@ sets_count d ss None words.OtherSpeed b h over is may = absurd (let no = may in 
 sets_count d ss (Some o) words.OtherSpeed b h over is may = let c = first_counts d ss (Some o) b over is in record { work = c.0; over = c.1; fits = c.2; total = refl }
 sets_count d ss o words.Interface b h over is may = let c = inner_counts d ss o words.Interface b h over is tt may in record { work = c.0; over = c.1; fits = c.2; total = keeps d ss o b }
 sets_count d ss o words.Endpoint b h over is may = let c = inner_counts d ss o words.Endpoint b h over is tt may in record { work = c.0; over = c.1; fits = c.2; total = keeps d ss o b }
-sets_count d ss o words.Raw b h over is may = let c = inner_counts d ss o words.Raw b h over is tt may in record { work = c.0; over = c.1; fits = c.2; total = keeps d ss o b }
-sets_count d ss o words.Association b h over is may = let c = inner_counts d ss o words.Association b h over is tt may in record { work = c.0; over = c.1; fits = c.2; total = keeps d ss o b }
+sets_count d ss o (words.Extra x) b h over is may = let c = inner_counts d ss o (words.Extra x) b h over is tt may in record { work = c.0; over = c.1; fits = c.2; total = keeps d ss o b }
 sets_count d ss None words.Qualifier b h over is may = record { work = refl; over = or_from _ _ (or_parts _ _ over).0 refl; fits = is; total = refl }
 sets_count d ss (Some o) words.Qualifier b h over is may = absurd (let no = may in cc)
 sets_count d ss o words.Languages b h over is may = absurd is.1

@@ -26,6 +26,7 @@ use Rattle.usb_file_data.specs.declared.file.Strings.{Strings}
 use Rattle.usb_file_data.specs.File.{is_long_string, is_other_kind}
 use Rattle.usb_file_data.proofs.Lists.{length-push, list_any-push}
 use Rattle.usb_listing_reader.specs.declared.word.Word.{Word}
+use Rattle.usb_listing.specs.Table.{extra_word}
 use Rattle.usb_listing_reader.specs.declared.word.Word.TheVariants as words
 use Rattle.usb_listing_reader.specs.Says.{IsItem, Item, fields, item_word, languages, string}
 use Rattle.usb_listing_reader.specs.Order.{IsOneMore, IsOrdered, MayStand, file_items, has_over, is_over, items_of, set_item, set_items, strings_items, type_word}
@@ -86,13 +87,12 @@ fine_last s (x ∷ ds) d h = subst (λ (b : Bool). Fine b d) (assoc s (is_interf
 inner_word : (kind : ℕ) → is_set_type kind ≡ false → IsInner (type_word kind)
 inner_word kind e =
     let p = or_parts (eqb kind 2) (eqb kind 7) e in
-    at (eqb kind 4) (eqb kind 5) (eqb kind 11) refl refl refl p.0 p.1
+    at (eqb kind 4) (eqb kind 5) refl refl p.0 p.1
   where
-    at : (b c f : Bool) → eqb kind 4 ≡ b → eqb kind 5 ≡ c → eqb kind 11 ≡ f → eqb kind 2 ≡ false → eqb kind 7 ≡ false → IsInner (type_word kind)
-    at true c f eb ec ef ea ed = rw (ea, eb) tt
-    at false true f eb ec ef ea ed = rw (ea, eb, ec) tt
-    at false false true eb ec ef ea ed = rw (ea, eb, ec, ed, ef) tt
-    at false false false eb ec ef ea ed = rw (ea, eb, ec, ed, ef) tt
+    at : (b c : Bool) → eqb kind 4 ≡ b → eqb kind 5 ≡ c → eqb kind 2 ≡ false → eqb kind 7 ≡ false → IsInner (type_word kind)
+    at true c eb ec ea ed = rw (ea, eb) tt
+    at false true eb ec ea ed = rw (ea, eb, ec) tt
+    at false false eb ec ea ed = rw (ea, eb, ec, ed) tt
 
 -- a set of more descriptors than the first is another one with one more
 record SetLess (c : Configuration) (d : Descriptor) : Type 0 where
@@ -194,16 +194,15 @@ lone_less d ss o front c h e none =
     begun_is d ss (Some o) front b = refl
 
 endpoint_kind : (kind : ℕ) → type_word kind ≡ words.Endpoint → kind ≡ 5
-endpoint_kind kind e = at (eqb kind 2) (eqb kind 4) (eqb kind 5) (eqb kind 7) (eqb kind 11) refl e
+endpoint_kind kind e = at (eqb kind 2) (eqb kind 4) (eqb kind 5) (eqb kind 7) refl e
   where
-    at : (a b c d f : Bool) → eqb kind 5 ≡ c
-        → cond a words.Configuration (cond b words.Interface (cond c words.Endpoint (cond d words.OtherSpeed (cond f words.Association words.Raw)))) ≡ words.Endpoint → kind ≡ 5
-    at a b true d f ec e = eqb-true kind 5 ec
-    at true b false d f ec e = cc
-    at false true false d f ec e = cc
-    at false false false true f ec e = cc
-    at false false false false true ec e = cc
-    at false false false false false ec e = cc
+    at : (a b c d : Bool) → eqb kind 5 ≡ c
+        → cond a words.Configuration (cond b words.Interface (cond c words.Endpoint (cond d words.OtherSpeed (words.Extra (extra_word kind))))) ≡ words.Endpoint → kind ≡ 5
+    at a b true d ec e = eqb-true kind 5 ec
+    at true b false d ec e = cc
+    at false true false d ec e = cc
+    at false false false true ec e = cc
+    at false false false false ec e = cc
 
 some_push : (front : List Configuration) (c : Configuration) → not (length (front ++ c ∷ []) == 0) ≡ true
 some_push [] c = refl
@@ -212,15 +211,9 @@ some_push (x ∷ front) c = ap not (eqb-suc-zero (length (front ++ c ∷ [])))
 may_in : (w : Word) (b : List ℕ) (l : Later w b) (f : DescriptorFile) (o : Option Other) → IsInner w → (front : List Configuration) (c : Configuration) → open_sets f o ≡ front ++ c ∷ []
     → (l.kind ≡ 5 → has_setting c ≡ true) → may_follow_sets w f o ≡ true
 may_in words.Interface b l f o inner front c e belongs = ap (λ (cs : List Configuration). not (length cs == 0)) e ∙ some_push front c
-may_in words.Raw b l f o inner front c e belongs = ap (λ (cs : List Configuration). not (length cs == 0)) e ∙ some_push front c
-may_in words.Association b l f o inner front c e belongs = ap (λ (cs : List Configuration). not (length cs == 0)) e ∙ some_push front c
+may_in (words.Extra x) b l f o inner front c e belongs = ap (λ (cs : List Configuration). not (length cs == 0)) e ∙ some_push front c
 may_in words.Endpoint b l f o inner front c e belongs = ap has_interface (ap last_of e ∙ last_push front c) ∙ belongs (endpoint_kind l.kind l.word_is)
-may_in words.Device b l f o inner front c e belongs = absurd inner
-may_in words.Configuration b l f o inner front c e belongs = absurd inner
-may_in words.OtherSpeed b l f o inner front c e belongs = absurd inner
-may_in words.Qualifier b l f o inner front c e belongs = absurd inner
-may_in words.Languages b l f o inner front c e belongs = absurd inner
-may_in words.String b l f o inner front c e belongs = absurd inner
+may_in w b l f o inner front c e belongs = absurd inner
 
 -- and one whose last descriptor is a later one
 inner_less : (d : DeviceDescriptor) (ss : List Configuration) (o : Option Other) (front : List Configuration) (c : Configuration) (ds : List Descriptor) (last : Descriptor)

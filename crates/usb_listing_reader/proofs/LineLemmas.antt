@@ -25,15 +25,14 @@ lines xs = flat_map item_line xs
 
 -- the row of a type is that of its word
 row_is : (kind : ℕ) → row_for (type_word kind) ≡ Some (row_of kind)
-row_is kind = cases (eqb kind 2) (eqb kind 4) (eqb kind 5) (eqb kind 7) (eqb kind 11) refl refl refl refl refl
+row_is kind = cases (eqb kind 2) (eqb kind 4) (eqb kind 5) (eqb kind 7) refl refl refl refl
   where
-    cases : (a b c d e : Bool) → eqb kind 2 ≡ a → eqb kind 4 ≡ b → eqb kind 5 ≡ c → eqb kind 7 ≡ d → eqb kind 11 ≡ e → row_for (type_word kind) ≡ Some (row_of kind)
-    cases true b c d e ea eb ec ed ee = rw ea refl
-    cases false true c d e ea eb ec ed ee = rw (ea, eb) refl
-    cases false false true d e ea eb ec ed ee = rw (ea, eb, ec) refl
-    cases false false false true e ea eb ec ed ee = rw (ea, eb, ec, ed) refl
-    cases false false false false true ea eb ec ed ee = rw (ea, eb, ec, ed, ee) refl
-    cases false false false false false ea eb ec ed ee = rw (ea, eb, ec, ed, ee) refl
+    cases : (a b c d : Bool) → eqb kind 2 ≡ a → eqb kind 4 ≡ b → eqb kind 5 ≡ c → eqb kind 7 ≡ d → row_for (type_word kind) ≡ Some (row_of kind)
+    cases true b c d ea eb ec ed = rw ea refl
+    cases false true c d ea eb ec ed = rw (ea, eb) refl
+    cases false false true d ea eb ec ed = rw (ea, eb, ec) refl
+    cases false false false true ea eb ec ed = rw (ea, eb, ec, ed) refl
+    cases false false false false ea eb ec ed = rw (ea, eb, ec, ed) refl
 
 descriptor_is : (d : Descriptor) → item_line (set_item d) ≡ descriptor_line d
 descriptor_is d = rw (row_is d.kind) refl

@@ -136,15 +136,9 @@ place_endpoint b l cs may = cases (ends cs)
 
 pub place : (w : Word) (b : List ℕ) (l : Later w b) (f : DescriptorFile) (o : Option Other) → IsInner w → may_follow_sets w f o ≡ true → Place w b l (open_sets f o)
 place words.Interface b l f o inner may = place_some words.Interface b l (open_sets f o) (λ h. let e = sym l.word_is ∙ ap type_word h in cc) may
-place words.Raw b l f o inner may = place_some words.Raw b l (open_sets f o) (λ h. let e = sym l.word_is ∙ ap type_word h in cc) may
-place words.Association b l f o inner may = place_some words.Association b l (open_sets f o) (λ h. let e = sym l.word_is ∙ ap type_word h in cc) may
+place (words.Extra x) b l f o inner may = place_some (words.Extra x) b l (open_sets f o) (λ h. let e = sym l.word_is ∙ ap type_word h in cc) may
 place words.Endpoint b l f o inner may = place_endpoint b l (open_sets f o) may
-place words.Device b l f o inner may = absurd inner
-place words.Configuration b l f o inner may = absurd inner
-place words.OtherSpeed b l f o inner may = absurd inner
-place words.Qualifier b l f o inner may = absurd inner
-place words.Languages b l f o inner may = absurd inner
-place words.String b l f o inner may = absurd inner
+place w b l f o inner may = absurd inner
 
 pub joins_last : (w : Word) (b : List ℕ) (l : Later w b) (cs : List Configuration) → Place w b l cs → list_any has_typed_raw cs ≡ false → JoinsLast b cs
 joins_last w b l cs p raws = subst (JoinsLast b) (sym p.is) (record {
@@ -163,14 +157,8 @@ pub joins_word : (w : Word) → IsInner w → (b : List ℕ) (f : DescriptorFile
 unfolding file_and
 joins_word words.Interface inner b f = refl
 joins_word words.Endpoint inner b f = refl
-joins_word words.Raw inner b f = refl
-joins_word words.Association inner b f = refl
-joins_word words.Device inner b f = absurd inner
-joins_word words.Configuration inner b f = absurd inner
-joins_word words.OtherSpeed inner b f = absurd inner
-joins_word words.Qualifier inner b f = absurd inner
-joins_word words.Languages inner b f = absurd inner
-joins_word words.String inner b f = absurd inner
+joins_word (words.Extra x) inner b f = refl
+joins_word w inner b f = absurd inner
 
 inner_more : (d : DeviceDescriptor) (ss : List Configuration) (o : Option Other) (w : Word) (b : List ℕ) → IsOrdered (made d ss o None) → IsItem (fields w b) → IsInner w
     → may_follow_sets w (made d ss o None) o ≡ true → OneMore (made d ss o None) (fields w b)
@@ -216,8 +204,7 @@ fields_more d ss (Some o) words.OtherSpeed b h is may =
     let p = opened d ss (Some o) h in part_more d ss (Some o) _ (fields words.OtherSpeed b) p.0 (more_first kinds.OtherSpeed o.qualifier.configurations o.sets b p.1 (ltb-true _ _ may) is)
 fields_more d ss o words.Interface b h is may = inner_more d ss o words.Interface b h is tt may
 fields_more d ss o words.Endpoint b h is may = inner_more d ss o words.Endpoint b h is tt may
-fields_more d ss o words.Raw b h is may = inner_more d ss o words.Raw b h is tt may
-fields_more d ss o words.Association b h is may = inner_more d ss o words.Association b h is tt may
+fields_more d ss o (words.Extra x) b h is may = inner_more d ss o (words.Extra x) b h is tt may
 fields_more d ss None words.Qualifier b h is may = qualifier_more d ss b h is (eqb-true _ _ may)
 fields_more d ss (Some o) words.Qualifier b h is may = absurd (let no = may in cc)
 fields_more d ss o words.Languages b h is may = absurd is.1
@@ -286,16 +273,8 @@ string_more d ss o s us h is may =
 
 -- no fields follow the languages
 pub no_string : (f : DescriptorFile) (s : Strings) (w : Word) (b : List ℕ) → IsItem (fields w b) → may_follow w f (Some s) ≡ true → ⊥
-no_string f s words.Device b is may = cc
-no_string f s words.Configuration b is may = cc
-no_string f s words.OtherSpeed b is may = cc
-no_string f s words.Interface b is may = cc
-no_string f s words.Endpoint b is may = cc
-no_string f s words.Raw b is may = cc
-no_string f s words.Association b is may = cc
-no_string f s words.Qualifier b is may = cc
-no_string f s words.Languages b is may = cc
 no_string f s words.String b is may = is.1
+no_string f s w b is may = cc
 
 file_more : (d : DeviceDescriptor) (ss : List Configuration) (o : Option Other) (s : Option Strings) (item : Item) → IsOrdered (made d ss o s) → IsItem item
     → may_follow (item_word item) (made d ss o s) s ≡ true → OneMore (made d ss o s) item
@@ -319,15 +298,7 @@ first_more words.Device b is may =
       ordered = record { said = (subst (λ (xs : List ℕ). IsItem (fields words.Device xs)) (sym whole) is, tt); raws = refl; kinds = refl; order = none };
       items = ap (λ (xs : List ℕ). fields words.Device xs ∷ []) whole;
     }
-first_more words.Configuration b is may = absurd (let no = may in cc)
-first_more words.OtherSpeed b is may = absurd (let no = may in cc)
-first_more words.Interface b is may = absurd (let no = may in cc)
-first_more words.Endpoint b is may = absurd (let no = may in cc)
-first_more words.Raw b is may = absurd (let no = may in cc)
-first_more words.Association b is may = absurd (let no = may in cc)
-first_more words.Qualifier b is may = absurd (let no = may in cc)
-first_more words.Languages b is may = absurd (let no = may in cc)
-first_more words.String b is may = absurd (let no = may in cc)
+first_more w b is may = absurd (let no = may in cc)
 
 -- a descriptor that may stand there makes a file in order
 pub more : (s : Option DescriptorFile) (item : Item) → AreOrdered s → IsItem item → may_stand s (item_word item) ≡ true → IsOneMore s item (grown s item)

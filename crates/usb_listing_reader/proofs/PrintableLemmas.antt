@@ -12,6 +12,7 @@ use Rattle.usb_listing.specs.StringListing.{is_plain, written_unit}
 use Rattle.usb_listing.specs.Table.{Row}
 use Rattle.usb_listing_reader.specs.declared.word.Word.{Word}
 use Rattle.usb_listing_reader.specs.declared.word.Word.TheVariants as words
+use Rattle.usb_listing.specs.declared.extra_word.ExtraWord.TheVariants as extra
 use Rattle.usb_listing_reader.specs.declared.values.Written.{Written}
 use Rattle.usb_listing_reader.specs.declared.values.Written.TheVariants as forms
 use Rattle.usb_listing_reader.specs.Words.{is_printable, word_text}
@@ -73,15 +74,8 @@ values_printable form (u ∷ us) h = joined (written form u) (flat_map (written 
 
 word_printable : (w : Word) → Printable (word_text w)
 word_printable words.Device = refl
-word_printable words.Configuration = refl
-word_printable words.OtherSpeed = refl
-word_printable words.Interface = refl
-word_printable words.Endpoint = refl
-word_printable words.Raw = refl
-word_printable words.Association = refl
-word_printable words.Qualifier = refl
-word_printable words.Languages = refl
-word_printable words.String = refl
+word_printable (words.Extra extra.Raw) = refl
+word_printable w = refl
 
 body_printable : (widths : List Width) (tail : Bool) (body : List ℕ) → AreBytes body → Printable (body_text widths tail body)
 unfolding encode_with

@@ -14,6 +14,7 @@ use Rattle.usb_listing.specs.StringListing.{languages_line, string_line}
 use Rattle.usb_listing.specs.Table.{Row}
 use Rattle.usb_listing_reader.specs.declared.word.Word.{Word}
 use Rattle.usb_listing_reader.specs.declared.word.Word.TheVariants as words
+use Rattle.usb_listing.specs.declared.extra_word.ExtraWord.TheVariants as extra
 use Rattle.usb_listing_reader.specs.declared.values.Written.TheVariants as forms
 use Rattle.usb_listing_reader.specs.Words.{first_word, word_text}
 use Rattle.usb_listing_reader.specs.Says.{HasRow, IsItem, IsOfRow, Item, Says, fields, is_typed_raw, item_line, item_word, languages, row_for, string}
@@ -41,16 +42,12 @@ record RowOf (w : Word) : Type 0 where
   pub named : row.word ≡ word_text w
 
 row_of_word : (w : Word) (row : Row) → row_for w ≡ Some row → RowOf w
-row_of_word words.Device row e = record { row = _; is = refl; small = record { bytes = (omega arith, tt); room = omega arith }; named = refl }
 row_of_word words.Configuration row e = record { row = _; is = refl; small = record { bytes = (omega arith, (omega arith, (omega arith, tt))); room = omega arith }; named = refl }
 row_of_word words.OtherSpeed row e = record { row = _; is = refl; small = record { bytes = (omega arith, (omega arith, (omega arith, tt))); room = omega arith }; named = refl }
-row_of_word words.Interface row e = record { row = _; is = refl; small = record { bytes = (omega arith, tt); room = omega arith }; named = refl }
-row_of_word words.Endpoint row e = record { row = _; is = refl; small = record { bytes = (omega arith, tt); room = omega arith }; named = refl }
-row_of_word words.Raw row e = record { row = _; is = refl; small = record { bytes = tt; room = omega arith }; named = refl }
-row_of_word words.Association row e = record { row = _; is = refl; small = record { bytes = (omega arith, tt); room = omega arith }; named = refl }
-row_of_word words.Qualifier row e = record { row = _; is = refl; small = record { bytes = (omega arith, tt); room = omega arith }; named = refl }
+row_of_word (words.Extra extra.Raw) row e = record { row = _; is = refl; small = record { bytes = tt; room = omega arith }; named = refl }
 row_of_word words.Languages row e = cc
 row_of_word words.String row e = cc
+row_of_word w row e = record { row = _; is = refl; small = record { bytes = (omega arith, tt); room = omega arith }; named = refl }
 
 row_here : (w : Word) (b : List ℕ) → IsOfRow (row_for w) b → RowOf w
 row_here w b h = cases (row_for w) refl h
@@ -61,16 +58,9 @@ row_here w b h = cases (row_for w) refl h
 
 pub described : (w : Word) (row : Row) (text : List ℕ) → row_for w ≡ Some row → item_in w text ≡ option_and_then (untyped w) (fields_in w text)
 unfolding item_in
-described words.Device row text e = refl
-described words.Configuration row text e = refl
-described words.OtherSpeed row text e = refl
-described words.Interface row text e = refl
-described words.Endpoint row text e = refl
-described words.Raw row text e = refl
-described words.Association row text e = refl
-described words.Qualifier row text e = refl
 described words.Languages row text e = cc
 described words.String row text e = cc
+described w row text e = refl
 
 -- ---- the text behind the word
 
@@ -271,16 +261,9 @@ string_read text item e = cases (quoted text) refl e
 
 pub item_read : (w : Word) (text : List ℕ) (item : Item) → item_in w text ≡ Some item → IsRead w text item
 unfolding item_in languages_in string_in
-item_read words.Device text item e = by_fields words.Device _ text item refl e
-item_read words.Configuration text item e = by_fields words.Configuration _ text item refl e
-item_read words.OtherSpeed text item e = by_fields words.OtherSpeed _ text item refl e
-item_read words.Interface text item e = by_fields words.Interface _ text item refl e
-item_read words.Endpoint text item e = by_fields words.Endpoint _ text item refl e
-item_read words.Raw text item e = by_fields words.Raw _ text item refl e
-item_read words.Association text item e = by_fields words.Association _ text item refl e
-item_read words.Qualifier text item e = by_fields words.Qualifier _ text item refl e
 item_read words.Languages text item e = languages_read text item e
 item_read words.String text item e = string_read text item e
+item_read w text item e = by_fields w _ text item refl e
 
 -- ---- a line without its line feed
 

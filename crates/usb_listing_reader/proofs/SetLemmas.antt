@@ -1,9 +1,11 @@
 -- A set that begins, and one with one more descriptor.
-use Rattle.std.proofs.Common.{◌≡◌, ℕ, ◌+◌, ◌≤◌, ◌||◌, eqb, Bool, true, false, List, [], ◌∷◌, ◌++◌, map, None, length, drop, slice_index, refl, ap, sym, subst, ◌∙◌, append-nil, length-append, arith}
+use Rattle.std.proofs.Common.{◌≡◌, ℕ, ◌+◌, ◌≤◌, eqb, Bool, true, false, List, [], ◌∷◌, ◌++◌, map, None, length, drop, slice_index, refl, ap, sym, subst, ◌∙◌, append-nil, length-append, arith}
 use Rattle.std.specs.List.{flat_map}
-use Rattle.std.proofs.lemmas.Bool.{eq-eqb, or_parts}
+use Rattle.std.proofs.lemmas.Bool.{eq-eqb, ne_eqb, or_from}
+use Rattle.std.proofs.lemmas.Bool.Decides.{nat_tests}
 use Rattle.std.proofs.lemmas.List.Concat.{flat_map-append}
 use Rattle.usb_base.specs.Bytes.{AreBytes}
+use Rattle.usb_set.specs.declared.extra.Extra.TheVariants as extras
 use Rattle.usb_set.specs.declared.tree.SetKind.{SetKind}
 use Rattle.usb_set.specs.declared.tree.SetKind.TheVariants as kinds
 use Rattle.usb_set.specs.declared.tree.Configuration.{Configuration}
@@ -13,10 +15,14 @@ use Rattle.usb_set.specs.Encoding.{set_length}
 use Rattle.usb_set.specs.Faults.{is_set_type, is_whole, item_fault, least_length}
 use Rattle.usb_set.specs.Layout.{has_typed_raw, is_typed, later_descriptors, set_descriptors}
 use Rattle.usb_set.specs.inside.Reading.{attach, configuration_of}
+use Rattle.usb_set.proofs.ExtraLemmas.{is_extra}
 use Rattle.usb_set.proofs.Growth.{attach-head, later_descriptors-attach, typed-attach}
 use Rattle.usb_set.proofs.Layouts.{fine_fault}
 use Rattle.usb_listing_reader.specs.declared.word.Word.{Word}
+use Rattle.usb_listing.specs.declared.extra_word.ExtraWord.{ExtraWord}
+use Rattle.usb_listing.specs.Table.{extra_row, extra_word}
 use Rattle.usb_listing_reader.specs.declared.word.Word.TheVariants as words
+use Rattle.usb_listing.specs.declared.extra_word.ExtraWord.TheVariants as extra
 use Rattle.usb_listing_reader.specs.Says.{IsItem, Item, fields}
 use Rattle.usb_listing_reader.specs.Order.{set_item, set_items, type_word}
 use Rattle.usb_listing_reader.specs.inside.Drafts.{IsFirst, Joins}
@@ -88,33 +94,35 @@ pub record Later (w : Word) (b : List ℕ) : Type 0 where
 abbrev pub IsInner : Word → Type 0
 IsInner words.Interface = Unit {0}
 IsInner words.Endpoint = Unit {0}
-IsInner words.Raw = Unit {0}
-IsInner words.Association = Unit {0}
+IsInner (words.Extra x) = Unit {0}
 IsInner w = ⊥
 
-pub raw_word : (kind : ℕ) → is_typed kind ≡ false → (type_word kind ≡ words.Raw) × (is_set_type kind ≡ false) × (least_length kind ≡ 2)
-raw_word kind e =
-    let d = or_parts ((eqb kind 2) || (eqb kind 4) || (eqb kind 5) || (eqb kind 7)) (eqb kind 11) e in
-    let c = or_parts ((eqb kind 2) || (eqb kind 4) || (eqb kind 5)) (eqb kind 7) d.0 in
-    let b = or_parts ((eqb kind 2) || (eqb kind 4)) (eqb kind 5) c.0 in
-    let a = or_parts (eqb kind 2) (eqb kind 4) b.0 in
-    (rw (a.0, a.1, b.1, c.1, d.1) refl, rw (a.0, c.1) refl, rw (a.1, b.1, d.1) refl)
+pub raw_word : (kind : ℕ) → is_typed kind ≡ false → type_word kind ≡ words.Extra extra.Raw
+raw_word kind e = grind (arith, nat_tests)
 
-later_raw : (b body : List ℕ) → b ≡ (1 + length body) ∷ body → 1 ≤ length body → AreBytes b → is_typed (slice_index b 1) ≡ false → Later words.Raw b
+-- a type that has a word of its own is the one that the line leaves out, and else a set gives it no meaning
+pub word_kind : (x : ExtraWord) (kind : ℕ) → extra_word kind ≡ x → (x ≡ extra.Raw → ⊥) → kind ≡ slice_index (extra_row x).front 0
+word_kind extra.Raw kind e other = absurd (other refl)
+word_kind x kind e other = grind (arith, nat_tests)
+
+pub no_word : (kind : ℕ) → extra_word kind ≡ extra.Raw → is_set_type kind ≡ false → eqb kind 4 ≡ false → eqb kind 5 ≡ false → is_typed kind ≡ false
+no_word kind e set four five = grind (arith, nat_tests)
+
+later_raw : (b body : List ℕ) → b ≡ (1 + length body) ∷ body → 1 ≤ length body → AreBytes b → is_typed (slice_index b 1) ≡ false → Later (words.Extra extra.Raw) b
 later_raw b [] whole some fits untyped = absurd (omega (arith, some))
 later_raw b (kind ∷ body) whole some fits untyped =
-    let k = raw_word kind (ap (λ (xs : List ℕ). is_typed (slice_index xs 1)) (sym whole) ∙ untyped) in
+    let unknown : is_typed kind ≡ false = ap (λ (xs : List ℕ). is_typed (slice_index xs 1)) (sym whole) ∙ untyped in
+    let is = is_extra (extras.Raw (record { kind = kind; body = body })) unknown in
     let bytes = subst AreBytes whole fits in
-    let least = k.2 in
     let count : 1 + length (kind ∷ body) ≡ 2 + length body = omega arith in
     record {
       kind = kind;
       body = body;
       is = whole ∙ ap (λ (n : ℕ). n ∷ kind ∷ body) count;
       fits = bytes.1.1;
-      word_is = k.0;
-      set_type = k.1;
-      long = omega (arith, least);
+      word_is = raw_word kind unknown;
+      set_type = or_from (eqb kind 2) (eqb kind 7) (ne_eqb kind 2 is.ownerless.two) (ne_eqb kind 7 is.ownerless.seven);
+      long = is.long;
     }
 
 pub later : (w : Word) (b : List ℕ) → IsItem (fields w b) → IsInner w → Later w b
@@ -122,15 +130,10 @@ later words.Interface b is inner =
     record { kind = 4; body = is.1.body; is = is.1.whole; fits = (subst AreBytes is.1.whole is.0).1.1; word_is = refl; set_type = refl; long = let n = is.1.fills in omega (arith, n) }
 later words.Endpoint b is inner =
     record { kind = 5; body = is.1.body; is = is.1.whole; fits = (subst AreBytes is.1.whole is.0).1.1; word_is = refl; set_type = refl; long = let n = is.1.fills in omega (arith, n) }
-later words.Association b is inner =
-    record { kind = 11; body = is.1.body; is = is.1.whole; fits = (subst AreBytes is.1.whole is.0).1.1; word_is = refl; set_type = refl; long = let n = is.1.fills in omega (arith, n) }
-later words.Raw b is inner = later_raw b is.1.body is.1.whole is.1.fills is.0 is.2
-later words.Device b is inner = absurd inner
-later words.Configuration b is inner = absurd inner
-later words.OtherSpeed b is inner = absurd inner
-later words.Qualifier b is inner = absurd inner
-later words.Languages b is inner = absurd inner
-later words.String b is inner = absurd inner
+later (words.Extra extra.Raw) b is inner = later_raw b is.1.body is.1.whole is.1.fills is.0 is.2
+later (words.Extra x) b is inner =
+    record { kind = slice_index (extra_row x).front 0; body = is.1.body; is = is.1.whole; fits = (subst AreBytes is.1.whole is.0).1.1; word_is = refl; set_type = refl; long = let n = is.1.fills in omega (arith, n) }
+later w b is inner = absurd inner
 
 -- the descriptor
 abbrev pub descriptor : {w : Word} {b : List ℕ} → Later w b → Descriptor

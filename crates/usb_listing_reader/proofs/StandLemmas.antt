@@ -1,12 +1,17 @@
 -- Where a word may stand, some descriptor of it may come next.
-use Rattle.std.proofs.Common.{◌≡◌, ℕ, ltb, true, Option, List, [], ◌∷◌, ◌++◌, refl, sym, subst, arith}
+use Rattle.std.proofs.Common.{◌≡◌, ℕ, ltb, true, Option, Some, None, ◌+◌, length, List, [], ◌∷◌, ◌++◌, refl, sym, subst, arith}
 use Rattle.std.specs.List.{list_all}
 use Rattle.std.proofs.lemmas.Bool.{and_parts, ltb-true}
 use Rattle.usb_base.specs.Bytes.{AreBytes}
+use Rattle.usb_base.specs.Widths.{size_of}
+use Rattle.usb_base.specs.declared.width.Width.{Width}
+use Rattle.usb_base.specs.declared.width.Width.TheVariants.{One, Two}
+use Rattle.usb_listing.specs.Table.{Row}
 use Rattle.usb_file_data.specs.declared.file.DescriptorFile.{DescriptorFile}
 use Rattle.usb_listing_reader.specs.declared.word.Word.{Word}
 use Rattle.usb_listing_reader.specs.declared.word.Word.TheVariants as words
-use Rattle.usb_listing_reader.specs.Says.{IsItem, Item, fields, item_word, languages, string}
+use Rattle.usb_listing.specs.declared.extra_word.ExtraWord.TheVariants as extra
+use Rattle.usb_listing_reader.specs.Says.{IsItem, Item, fields, item_word, languages, row_for, string}
 use Rattle.usb_listing_reader.specs.Order.{MayStand}
 use Rattle.usb_listing_reader.specs.inside.Growing.{may_stand}
 use Rattle.usb_listing_reader.specs.inside.Walking.{grown}
@@ -22,53 +27,33 @@ record Sample (w : Word) : Type 0 where
   pub word_is : item_word item ≡ w
   pub is_item : IsItem item
 
-zeros : List ℕ
-zeros = 0 ∷ 0 ∷ 0 ∷ 0 ∷ 0 ∷ []
+-- fields of these widths that are all 0, and a descriptor of such fields alone
+abbrev zeros : List Width → List ℕ
+zeros [] = []
+zeros (One ∷ widths) = 0 ∷ zeros widths
+zeros (Two ∷ widths) = 0 ∷ 0 ∷ zeros widths
+
+abbrev fields_of : Option Row → List ℕ
+fields_of None = []
+fields_of (Some row) = zeros row.widths
+
+abbrev plain : Option Row → List ℕ
+plain None = []
+plain (Some row) = (1 + length row.front + size_of row.widths) ∷ row.front ++ zeros row.widths
 
 sample : (w : Word) → Sample w
-unfolding zeros
-sample words.Device = record {
-  item = fields words.Device (18 ∷ 1 ∷ 0 ∷ zeros ++ zeros ++ zeros);
-  word_is = refl;
-  is_item = (small_bytes (18 ∷ 1 ∷ 0 ∷ zeros ++ zeros ++ zeros) refl, record { body = 0 ∷ zeros ++ zeros ++ zeros; whole = refl; fills = refl }, refl);
-}
-sample words.Configuration = record {
-  item = fields words.Configuration (9 ∷ 2 ∷ 0 ∷ 0 ∷ zeros);
-  word_is = refl;
-  is_item = (small_bytes (9 ∷ 2 ∷ 0 ∷ 0 ∷ zeros) refl, record { body = zeros; whole = refl; fills = omega arith }, refl);
-}
-sample words.OtherSpeed = record {
-  item = fields words.OtherSpeed (9 ∷ 7 ∷ 0 ∷ 0 ∷ zeros);
-  word_is = refl;
-  is_item = (small_bytes (9 ∷ 7 ∷ 0 ∷ 0 ∷ zeros) refl, record { body = zeros; whole = refl; fills = omega arith }, refl);
-}
-sample words.Interface = record {
-  item = fields words.Interface (9 ∷ 4 ∷ 0 ∷ 0 ∷ zeros);
-  word_is = refl;
-  is_item = (small_bytes (9 ∷ 4 ∷ 0 ∷ 0 ∷ zeros) refl, record { body = 0 ∷ 0 ∷ zeros; whole = refl; fills = omega arith }, refl);
-}
-sample words.Endpoint = record {
-  item = fields words.Endpoint (7 ∷ 5 ∷ zeros);
-  word_is = refl;
-  is_item = (small_bytes (7 ∷ 5 ∷ zeros) refl, record { body = zeros; whole = refl; fills = omega arith }, refl);
-}
-sample words.Raw = record {
-  item = fields words.Raw (2 ∷ 0 ∷ []);
+sample words.Languages = record { item = languages (0 ∷ []); word_is = refl; is_item = (small_bytes (4 ∷ 3 ∷ 0 ∷ 0 ∷ []) refl, λ e. cc) }
+sample words.String = record { item = string []; word_is = refl; is_item = small_bytes (2 ∷ 3 ∷ []) refl }
+sample (words.Extra extra.Raw) = record {
+  item = fields (words.Extra extra.Raw) (2 ∷ 0 ∷ []);
   word_is = refl;
   is_item = (small_bytes (2 ∷ 0 ∷ []) refl, record { body = 0 ∷ []; whole = refl; fills = omega arith }, refl);
 }
-sample words.Association = record {
-  item = fields words.Association (8 ∷ 11 ∷ 0 ∷ zeros);
+sample w = record {
+  item = fields w (plain (row_for w));
   word_is = refl;
-  is_item = (small_bytes (8 ∷ 11 ∷ 0 ∷ zeros) refl, record { body = 0 ∷ zeros; whole = refl; fills = omega arith }, refl);
+  is_item = (small_bytes (plain (row_for w)) refl, record { body = fields_of (row_for w); whole = refl; fills = omega arith }, refl);
 }
-sample words.Qualifier = record {
-  item = fields words.Qualifier (10 ∷ 6 ∷ 0 ∷ 0 ∷ 0 ∷ zeros);
-  word_is = refl;
-  is_item = (small_bytes (10 ∷ 6 ∷ 0 ∷ 0 ∷ 0 ∷ zeros) refl, record { body = 0 ∷ 0 ∷ 0 ∷ zeros; whole = refl; fills = refl }, refl);
-}
-sample words.Languages = record { item = languages (0 ∷ []); word_is = refl; is_item = (small_bytes (4 ∷ 3 ∷ 0 ∷ 0 ∷ []) refl, λ e. cc) }
-sample words.String = record { item = string []; word_is = refl; is_item = small_bytes (2 ∷ 3 ∷ []) refl }
 
 pub may_then : (s : Option DescriptorFile) (w : Word) → AreOrdered s → may_stand s w ≡ true → MayStand s w
 may_then s w h may =

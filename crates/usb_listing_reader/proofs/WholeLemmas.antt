@@ -27,6 +27,9 @@ use Rattle.usb_file_data.specs.Named.{named_indices, other_sets}
 use Rattle.usb_file_data.proofs.Lists.{bytes_before, bytes_behind}
 use Rattle.usb_file_data.proofs.WholeSets.{no_some}
 use Rattle.usb_listing_reader.specs.declared.word.Word.{Word}
+use Rattle.usb_listing.specs.declared.extra_word.ExtraWord.{ExtraWord}
+use Rattle.usb_listing.specs.declared.extra_word.ExtraWord.TheVariants as extra
+use Rattle.usb_listing.specs.Table.{extra_word}
 use Rattle.usb_listing_reader.specs.declared.word.Word.TheVariants as words
 use Rattle.usb_listing_reader.specs.Says.{IsItem, fields, string}
 use Rattle.usb_listing_reader.specs.Order.{is_over, other_items, set_item, set_items, strings_items}
@@ -35,7 +38,7 @@ use Rattle.usb_listing_reader.specs.inside.Drafts.{strings_total}
 use Rattle.usb_listing_reader.specs.inside.Lines.{has_all_strings}
 use Rattle.usb_listing_reader.proofs.PartLemmas.{All, all_append, all_split}
 use Rattle.usb_listing_reader.proofs.RowLemmas.{bytes_append}
-use Rattle.usb_listing_reader.proofs.SetLemmas.{raw_word}
+use Rattle.usb_listing_reader.proofs.SetLemmas.{no_word, raw_word, word_kind}
 
 -- ---- a set of which each descriptor is one that a line can say
 
@@ -172,12 +175,12 @@ said_raw : (d : Descriptor) → AreBytes (descriptor_bytes d) → is_typed d.kin
 said_raw d fits untyped =
     let count : 2 + length d.body ≡ 1 + length (d.kind ∷ d.body) = omega arith in
     let few : 1 ≤ length (d.kind ∷ d.body) = omega arith in
-    subst (λ (w : Word). IsItem (fields w (descriptor_bytes d))) (sym (raw_word d.kind untyped).0)
+    subst (λ (w : Word). IsItem (fields w (descriptor_bytes d))) (sym (raw_word d.kind untyped))
     (fits, record { body = d.kind ∷ d.body; whole = ap (λ (n : ℕ). n ∷ d.kind ∷ d.body) count; fills = few }, untyped)
 
 -- a descriptor behind the first that has no fault
 said_later : (s : Bool) (d : Descriptor) → AreBytes (descriptor_bytes d) → Fine s d → IsItem (set_item d)
-said_later s d fits fine = at d.kind (eqb d.kind 4) (eqb d.kind 5) (eqb d.kind 11) refl refl refl refl
+said_later s d fits fine = at (eqb d.kind 4) (eqb d.kind 5) refl refl
   where
     named : (kind : ℕ) → d.kind ≡ kind → IsItem (set_item (record d { kind = kind })) → IsItem (set_item d)
     named kind e h = subst (λ (n : ℕ). IsItem (set_item (record d { kind = n }))) (sym e) h
@@ -188,22 +191,23 @@ said_later s d fits fine = at d.kind (eqb d.kind 4) (eqb d.kind 5) (eqb d.kind 1
     long_of : (kind : ℕ) → d.kind ≡ kind → least_length kind ≤ 2 + length d.body
     long_of kind e = subst (λ (n : ℕ). least_length n ≤ 2 + length d.body) e fine.long
 
-    at : (kind : ℕ) (a b c : Bool) → d.kind ≡ kind → eqb d.kind 4 ≡ a → eqb d.kind 5 ≡ b → eqb d.kind 11 ≡ c → IsItem (set_item d)
-    at kind true b c ek ea eb ec =
+    by_word : (x : ExtraWord) → extra_word d.kind ≡ x → eqb d.kind 4 ≡ false → eqb d.kind 5 ≡ false → IsItem (set_item d)
+    by_word extra.Raw is ea eb = said_raw d fits (no_word d.kind is fine.type_fits ea eb)
+    by_word x is ea eb =
+        let e = word_kind x d.kind is (λ h. cc) in
+        let n = long_of _ e in
+        named _ e (bytes_of _ e, record { body = d.body; whole = refl; fills = omega (arith, n) }, refl)
+
+    at : (a b : Bool) → eqb d.kind 4 ≡ a → eqb d.kind 5 ≡ b → IsItem (set_item d)
+    at true b ea eb =
         let e = eqb-true d.kind 4 ea in
         let n = long_of 4 e in
         named 4 e (bytes_of 4 e, record { body = d.body; whole = refl; fills = omega (arith, n) }, refl)
-    at kind false true c ek ea eb ec =
+    at false true ea eb =
         let e = eqb-true d.kind 5 eb in
         let n = long_of 5 e in
         named 5 e (bytes_of 5 e, record { body = d.body; whole = refl; fills = omega (arith, n) }, refl)
-    at kind false false true ek ea eb ec =
-        let e = eqb-true d.kind 11 ec in
-        let n = long_of 11 e in
-        named 11 e (bytes_of 11 e, record { body = d.body; whole = refl; fills = omega (arith, n) }, refl)
-    at kind false false false ek ea eb ec =
-        let set = or_parts (eqb d.kind 2) (eqb d.kind 7) fine.type_fits in
-        said_raw d fits (or_from _ _ (or_from _ _ (or_from _ _ (or_from _ _ set.0 ea) eb) set.1) ec)
+    at false false ea eb = by_word (extra_word d.kind) refl ea eb
 
 said_all : (s : Bool) (ds : List Descriptor) → AreBytes (flat_map descriptor_bytes ds) → AllFine s ds → All (map set_item ds)
 said_all s [] fits fine = tt

@@ -6,8 +6,9 @@ use Rattle.std.proofs.lemmas.Slice.Eq.{bytes_eq-Decides}
 use Rattle.memchr.specs.Find.{IsFirstByte, is_byte}
 use Rattle.usb_listing_reader.specs.declared.word.Word.{Word}
 use Rattle.usb_listing_reader.specs.declared.word.Word.TheVariants as words
+use Rattle.usb_listing.specs.declared.extra_word.ExtraWord.TheVariants as extra
 use Rattle.usb_listing_reader.specs.Words.{first_word, word_text}
-use Rattle.usb_listing_reader.specs.inside.Finding.{all_words, word_among, word_in}
+use Rattle.usb_listing_reader.specs.inside.Finding.{all_extra_words, often_words, or_among, other_words, word_among, word_in}
 use Rattle.usb_listing_reader.specs.inside.Lines.{Cut, HasNo}
 
 -- ---- a word and its text
@@ -15,15 +16,8 @@ use Rattle.usb_listing_reader.specs.inside.Lines.{Cut, HasNo}
 pub word_again : (w : Word) → word_in (word_text w) ≡ Some w
 unfolding word_in
 word_again words.Device = refl
-word_again words.Configuration = refl
-word_again words.OtherSpeed = refl
-word_again words.Interface = refl
-word_again words.Endpoint = refl
-word_again words.Raw = refl
-word_again words.Association = refl
-word_again words.Qualifier = refl
-word_again words.Languages = refl
-word_again words.String = refl
+word_again (words.Extra extra.Raw) = refl
+word_again w = refl
 
 among : (ws : List Word) (text : List ℕ) (w : Word) → word_among ws text ≡ Some w → text ≡ word_text w
 among [] text w e = cc
@@ -35,9 +29,15 @@ among (v ∷ ws) text w e = cases (bytes_eq text (word_text v)) refl (λ e. amon
         let is : v ≡ w = ap (λ (o : Option Word). unwrap_or o w) e in
         (bytes_eq-Decides text (word_text v)).0 eb ∙ ap word_text is
 
+or_among-read : (o : Option Word) (ws : List Word) (text : List ℕ) (w : Word) → (o ≡ Some w → text ≡ word_text w) → or_among o ws text ≡ Some w → text ≡ word_text w
+or_among-read None ws text w before e = among ws text w e
+or_among-read (Some v) ws text w before e = before e
+
 pub word_read : (text : List ℕ) (w : Word) → word_in text ≡ Some w → text ≡ word_text w
 unfolding word_in
-word_read text w e = among all_words text w e
+word_read text w e =
+    or_among-read (or_among (word_among often_words text) all_extra_words text) other_words text w
+    (or_among-read (word_among often_words text) all_extra_words text w (among often_words text w)) e
 
 -- ---- the first of a byte
 
@@ -88,15 +88,8 @@ space_nowhere line r is e = sym (first_all line (byte_nowhere 32 line r is e))
 -- a word with such a text behind it is the first word
 pub first_behind : (w : Word) (text : List ℕ) → first_word text ≡ [] → first_word (word_text w ++ text) ≡ word_text w
 first_behind words.Device text h = rw h refl
-first_behind words.Configuration text h = rw h refl
-first_behind words.OtherSpeed text h = rw h refl
-first_behind words.Interface text h = rw h refl
-first_behind words.Endpoint text h = rw h refl
-first_behind words.Raw text h = rw h refl
-first_behind words.Association text h = rw h refl
-first_behind words.Qualifier text h = rw h refl
-first_behind words.Languages text h = rw h refl
-first_behind words.String text h = rw h refl
+first_behind (words.Extra extra.Raw) text h = rw h refl
+first_behind w text h = rw h refl
 
 -- a line begins with its first word
 pub word_first : (line : List ℕ) → line ≡ first_word line ++ drop (length (first_word line)) line

@@ -13,6 +13,7 @@ use Rattle.usb_file_data.specs.declared.file.Strings.{Strings}
 use Rattle.usb_file_data.specs.File.{has_wrong_kind}
 use Rattle.usb_file_data.specs.Front.{IsInOrder}
 use Rattle.usb_file_data.specs.Named.{other_sets}
+use Rattle.usb_listing.specs.Table.{extra_word}
 use Rattle.usb_listing_reader.specs.declared.word.Word.{Word}
 use Rattle.usb_listing_reader.specs.declared.word.Word.TheVariants as words
 use Rattle.usb_listing_reader.specs.Says.{Item, IsItem, fields, item_word, languages, string}
@@ -24,8 +25,7 @@ type_word kind =
     else if kind == 4 then words.Interface
     else if kind == 5 then words.Endpoint
     else if kind == 7 then words.OtherSpeed
-    else if kind == 11 then words.Association
-    else words.Raw
+    else words.Extra (extra_word kind)
 
 abbrev pub set_item : Descriptor → Item
 set_item d = fields (type_word d.kind) (descriptor_bytes d)

@@ -5,9 +5,10 @@ use Rattle.usb_base.specs.Widths.{Fills}
 use Rattle.usb_fields.specs.Units.{units_bytes}
 use Rattle.usb_set.specs.Layout.{is_typed}
 use Rattle.usb_listing.specs.StringListing.{languages_line, string_line}
-use Rattle.usb_listing.specs.Table.{Row, association_row, configuration_row, device_row, endpoint_row, interface_row, qualifier_row, raw_row, row_line}
+use Rattle.usb_listing.specs.Table.{Row, configuration_row, device_row, endpoint_row, extra_row, interface_row, qualifier_row, row_line}
 use Rattle.usb_listing_reader.specs.declared.word.Word.{Word}
 use Rattle.usb_listing_reader.specs.declared.word.Word.TheVariants as words
+use Rattle.usb_listing.specs.declared.extra_word.ExtraWord.TheVariants as extra
 
 -- A descriptor that has a line of its own.
 pub data Item : Type 0 where
@@ -30,8 +31,7 @@ row_for words.Configuration = Some (configuration_row (codes "configuration") 2)
 row_for words.OtherSpeed = Some (configuration_row (codes "other_speed") 7)
 row_for words.Interface = Some interface_row
 row_for words.Endpoint = Some endpoint_row
-row_for words.Raw = Some raw_row
-row_for words.Association = Some association_row
+row_for (words.Extra x) = Some (extra_row x)
 row_for words.Qualifier = Some qualifier_row
 row_for words.Languages = None
 row_for words.String = None
@@ -50,7 +50,7 @@ IsOfRow (Some row) b = HasRow row b
 
 -- whether it is a raw descriptor of a type that a set reads
 abbrev pub is_typed_raw : Word → List ℕ → Bool
-is_typed_raw words.Raw b = is_typed (slice_index b 1)
+is_typed_raw (words.Extra extra.Raw) b = is_typed (slice_index b 1)
 is_typed_raw word b = false
 
 -- A descriptor that a line can say. Each of its bytes is one, bLength among them, so that none is longer than a descriptor

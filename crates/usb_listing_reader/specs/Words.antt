@@ -1,5 +1,6 @@
 -- The words that the lines of a listing begin with.
 use Rattle.std.specs.Prelude.{ℕ, List, [], ◌∷◌, codes, Bool, nat_le, ◌&&◌, ◌==◌, if◌then◌else◌}
+use Rattle.usb_listing.specs.Table.{extra_row}
 use Rattle.usb_listing_reader.specs.declared.word.Word.{Word}
 use Rattle.usb_listing_reader.specs.declared.word.Word.TheVariants as words
 
@@ -10,8 +11,7 @@ word_text words.Configuration = codes "configuration"
 word_text words.OtherSpeed = codes "other_speed"
 word_text words.Interface = codes "interface"
 word_text words.Endpoint = codes "endpoint"
-word_text words.Raw = codes "raw"
-word_text words.Association = codes "association"
+word_text (words.Extra x) = (extra_row x).word
 word_text words.Qualifier = codes "qualifier"
 word_text words.Languages = codes "languages"
 word_text words.String = codes "string"

@@ -134,9 +134,7 @@ fn add_fields(
 {
     match word {
         Word::Configuration | Word::OtherSpeed => add_set(alloc, f, bytes),
-        Word::Interface | Word::Endpoint | Word::Raw | Word::Association => {
-            add_inner(alloc, f, bytes)
-        }
+        Word::Interface | Word::Endpoint | Word::Extra(_) => add_inner(alloc, f, bytes),
         Word::Qualifier => {
             add_qualifier(alloc, f, bytes);
             Ok(())
@@ -153,7 +151,7 @@ fn work_with(work: usize, word: Word, length: usize) -> usize
 {
     match word {
         Word::Configuration | Word::OtherSpeed => length,
-        Word::Interface | Word::Endpoint | Word::Raw | Word::Association => work + length,
+        Word::Interface | Word::Endpoint | Word::Extra(_) => work + length,
         Word::Device | Word::Qualifier | Word::Languages | Word::String => 0,
     }
 }

@@ -15,7 +15,7 @@ pub(crate) fn may_stand(draft: &Option<Draft>, word: Word) -> bool
     ensures { result ≡ may_stand (so_far draft.now) word }
 {
     match draft {
-        None => word == Word::Device,
+        None => matches!(word, Word::Device),
         Some(draft) => may_follow(draft, word),
     }
 }
@@ -26,7 +26,7 @@ fn may_follow(draft: &Draft, word: Word) -> bool
     ensures { result ≡ may_follow word draft.now.file draft.now.file.strings }
 {
     match &draft.file.strings {
-        Some(strings) => word == Word::String && strings.texts.len() < draft.total,
+        Some(strings) => matches!(word, Word::String) && strings.texts.len() < draft.total,
         None => may_follow_sets(&draft.file, &draft.file.other, word),
     }
 }
@@ -61,7 +61,7 @@ fn may_follow_sets(f: &DescriptorFile, other: &Option<Other>, word: Word) -> boo
         Word::Device | Word::String => false,
         Word::Configuration => other.is_none() && sets.len() < declared,
         Word::OtherSpeed => other.is_some() && sets.len() < declared,
-        Word::Interface | Word::Raw | Word::Association => !sets.is_empty(),
+        Word::Interface | Word::Extra(_) => !sets.is_empty(),
         Word::Endpoint => has_interface(sets),
         Word::Qualifier => other.is_none() && sets.len() == declared,
         Word::Languages => sets.len() == declared && names_a_string(f),

@@ -4,13 +4,12 @@ ghost use Rattle.usb_listing_reader.specs.inside.Rows.{fields_in};
 
 use crate::fields::read_descriptor;
 use crate::word::Word;
-use usb_base::Width::One;
 use usb_base::descriptor_type::{
-    CONFIGURATION, DEVICE, DEVICE_QUALIFIER, ENDPOINT, INTERFACE, INTERFACE_ASSOCIATION,
-    OTHER_SPEED_CONFIGURATION,
+    CONFIGURATION, DEVICE, DEVICE_QUALIFIER, ENDPOINT, INTERFACE, OTHER_SPEED_CONFIGURATION,
 };
 use usb_fields::{DEVICE_WIDTHS, QUALIFIER_WIDTHS};
-use usb_set::{ASSOCIATION_WIDTHS, CONFIGURATION_WIDTHS, ENDPOINT_WIDTHS, INTERFACE_WIDTHS};
+use usb_listing::with_extra_row;
+use usb_set::{CONFIGURATION_WIDTHS, ENDPOINT_WIDTHS, INTERFACE_WIDTHS};
 
 /// Reads the text behind a word as the bytes of its descriptor, which are put at the front of the buffer. The answer is how
 /// many they are. What a line leaves out is bDescriptorType, and for the first descriptor of a set wTotalLength, which is
@@ -42,16 +41,9 @@ pub(crate) fn read_fields(word: Word, text: &[u8], out: &mut [u8]) -> Option<usi
         ),
         Word::Interface => read_descriptor(&[0, INTERFACE], &INTERFACE_WIDTHS, true, text, out),
         Word::Endpoint => read_descriptor(&[0, ENDPOINT], &ENDPOINT_WIDTHS, true, text, out),
-        Word::Raw => read_descriptor(&[0], &[One], true, text, out),
-        Word::Association => {
-            read_descriptor(
-                &[0, INTERFACE_ASSOCIATION],
-                &ASSOCIATION_WIDTHS,
-                true,
-                text,
-                out,
-            )
-        }
+        Word::Extra(word) => with_extra_row!(word, left_out, widths => {
+            read_descriptor(&left_out, &widths, true, text, out)
+        }),
         Word::Qualifier => {
             read_descriptor(&[0, DEVICE_QUALIFIER], &QUALIFIER_WIDTHS, false, text, out)
         }

@@ -1,6 +1,5 @@
 //! A file so far, and the next line.
 ghost use Rattle.std.specs.Prelude.{◌≡◌, IfErr, None, OnOk, Some, length, slice_index, true};
-ghost use Rattle.usb_set.specs.Layout.{is_typed};
 ghost use Rattle.usb_listing_reader.specs.Says.{IsItem, fields, is_typed_raw};
 ghost use Rattle.usb_listing_reader.specs.inside.Drafts.{AreHeld, Drafted, Stops, so_far};
 ghost use Rattle.usb_listing_reader.specs.inside.Growing.{may_stand};
@@ -16,39 +15,19 @@ use crate::row::read_fields;
 use crate::strings::{read_languages, read_string};
 use crate::word::{Word, split_word, word_of};
 use std::alloc::Global;
-use usb_base::descriptor_type::{
-    CONFIGURATION, ENDPOINT, INTERFACE, INTERFACE_ASSOCIATION, OTHER_SPEED_CONFIGURATION,
-};
+use usb_listing::ExtraWord;
+use usb_set::is_typed;
 
-/// Whether a set gives descriptors of this type a meaning.
-fn is_typed(kind: u8) -> bool
-    ensures { result ≡ is_typed kind }
-{
-    kind == CONFIGURATION
-        || kind == INTERFACE
-        || kind == ENDPOINT
-        || kind == OTHER_SPEED_CONFIGURATION
-        || kind == INTERFACE_ASSOCIATION
-}
-
-/// Whether it is a raw descriptor of such a type.
+/// Whether it is a raw descriptor of a type that a set gives a meaning.
 fn is_typed_raw(word: Word, bytes: &[u8]) -> bool
     ensures { result ≡ is_typed_raw word bytes.now }
 {
     match word {
-        Word::Raw => match bytes {
+        Word::Extra(ExtraWord::Raw) => match bytes {
             [_, kind, ..] => is_typed(*kind),
             _ => false,
         },
-        Word::Device
-        | Word::Configuration
-        | Word::OtherSpeed
-        | Word::Interface
-        | Word::Endpoint
-        | Word::Association
-        | Word::Qualifier
-        | Word::Languages
-        | Word::String => false,
+        _ => false,
     }
 }
 

@@ -1,9 +1,11 @@
 //! The words that the lines of a listing begin with.
-ghost use Rattle.std.specs.Prelude.{◌≡◌, ◌++◌};
+ghost use Rattle.std.specs.Prelude.{◌≡◌, ◌++◌, map};
 ghost use Rattle.usb_listing_reader.specs.Words.{first_word, word_text};
+ghost use Rattle.usb_listing_reader.specs.declared.word.Word.TheVariants as of_line;
 ghost use Rattle.usb_listing_reader.specs.inside.Finding.{word_among, word_in};
 
 use memchr::memchr;
+use usb_listing::{EXTRA_WORDS, ExtraWord};
 
 /// The first word of a line: which descriptor the line says.
 #[derive(Clone, Copy, Debug, PartialEq, Eq)]
@@ -18,10 +20,8 @@ pub(crate) enum Word {
     Interface,
     /// An endpoint descriptor.
     Endpoint,
-    /// A descriptor that is kept as it stands.
-    Raw,
-    /// An interface association descriptor.
-    Association,
+    /// A descriptor that belongs to the one before it.
+    Extra(ExtraWord),
     /// The device qualifier descriptor.
     Qualifier,
     /// The language list.
@@ -30,12 +30,11 @@ pub(crate) enum Word {
     String,
 }
 
-/// All words, those of most lines first.
-const WORDS: [Word; 10] = [
-    Word::Endpoint,
-    Word::Interface,
-    Word::Raw,
-    Word::Association,
+/// The words of most lines.
+const OFTEN: [Word; 2] = [Word::Endpoint, Word::Interface];
+
+/// The words of the lines that are neither those nor of extras.
+const OTHERS: [Word; 6] = [
     Word::String,
     Word::Configuration,
     Word::OtherSpeed,
@@ -55,8 +54,7 @@ impl Word {
             Word::OtherSpeed => "other_speed",
             Word::Interface => "interface",
             Word::Endpoint => "endpoint",
-            Word::Raw => "raw",
-            Word::Association => "association",
+            Word::Extra(word) => word.text(),
             Word::Qualifier => "qualifier",
             Word::Languages => "languages",
             Word::String => "string",
@@ -77,12 +75,31 @@ fn find_word(words: &[Word], text: &[u8]) -> Option<Word>
     None
 }
 
+/// The one of these words of extras that is written so.
+#[inline(always)]
+fn find_extra_word(words: &[ExtraWord], text: &[u8]) -> Option<Word>
+    ensures { result ≡ word_among (map of_line.Extra words.now) text.now }
+{
+    for word in words {
+        if text == word.text().as_bytes() {
+            return Some(Word::Extra(*word));
+        }
+    }
+    None
+}
+
 /// The word that is written so.
 #[tactic(auto, unfolding(crate::specs::inside::Finding::word_in))]
 pub(crate) fn word_of(text: &[u8]) -> Option<Word>
     ensures { result ≡ word_in text.now }
 {
-    find_word(&WORDS, text)
+    if let Some(word) = find_word(&OFTEN, text) {
+        return Some(word);
+    }
+    if let Some(word) = find_extra_word(&EXTRA_WORDS, text) {
+        return Some(word);
+    }
+    find_word(&OTHERS, text)
 }
 
 /// The line's first word, and what stands behind it.

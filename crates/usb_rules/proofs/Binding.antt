@@ -3,11 +3,10 @@ use Rattle.std.proofs.Common.{◌≡◌, ℕ, Bool, List, [], ◌∷◌, ◌++�
 use Rattle.std.specs.List.{flat_map}
 use Rattle.std.proofs.lemmas.List.{map-append}
 use Rattle.std.proofs.lemmas.Grind.{flat_map-append}
-use Rattle.usb_set.specs.declared.tree.Association.{Association}
+use Rattle.usb_set.specs.declared.extra.Association.{Association}
 use Rattle.usb_set.specs.declared.tree.Configuration.{Configuration}
 use Rattle.usb_set.specs.declared.tree.Endpoint.{Endpoint}
-use Rattle.usb_set.specs.declared.tree.Extra.{Extra}
-use Rattle.usb_set.specs.declared.tree.Extra.TheVariants as extras
+use Rattle.usb_set.specs.declared.extra.Extra.{Extra}
 use Rattle.usb_set.specs.declared.tree.Setting.{Setting}
 use Rattle.usb_set.specs.Owners.{Holder, OfConfiguration, OfEndpoint, OfSetting, associations_among, held, held_associations, held_by, holders_in}
 use Rattle.usb_set.specs.Parts.{association_in, associations_of, setting_extras}
@@ -29,10 +28,16 @@ among-append : (xs ys : List (Holder × Extra)) → among (xs ++ ys) ≡ among x
 among-append xs ys =
     ap (map (λ x. x.1)) (flat_map-append _ xs ys) ∙ map-append (λ x. x.1) (associations_among xs) (associations_among ys)
 
+without_holder : (h : Holder) (xs : List Association) → map (λ x. x.1) (map (λ a. (h, a)) xs) ≡ xs
+without_holder h [] = refl
+without_holder h (a ∷ xs) = ap (λ ys. a ∷ ys) (without_holder h xs)
+
 among_held : (h : Holder) (xs : List Extra) → among (held h xs) ≡ flat_map association_in xs
 among_held h [] = refl
-among_held h (extras.Raw r ∷ xs) = among_held h xs
-among_held h (extras.Association a ∷ xs) = ap (λ ys. a ∷ ys) (among_held h xs)
+among_held h (x ∷ xs) =
+    map-append (λ x. x.1) (map (λ a. (h, a)) (association_in x)) (associations_among (held h xs))
+    ∙ ap (λ ys. ys ++ among (held h xs)) (without_holder h (association_in x))
+    ∙ ap (λ ys. association_in x ++ ys) (among_held h xs)
 
 among_endpoints : (s : Setting) (es : List Endpoint)
     → among (flat_map held_by (map (OfEndpoint s) es)) ≡ flat_map association_in (flat_map (λ e. e.extras) es)

@@ -1,24 +1,24 @@
 -- A set with one more descriptor has it behind its own.
-use Rattle.std.proofs.Common.{◌≡◌, ℕ, suc, ◌+◌, ◌*◌, ◌/◌, ◌%◌, ◌<◌, ◌≤◌, Bool, true, false, cond, ltb, eqb, ◌||◌, List, [], ◌∷◌, ◌++◌, length, map, None, refl, sym, ap, ◌∙◌, append_assoc, length-append, ◌⊎◌, arith, inl, inr}
+use Rattle.std.proofs.Common.{◌≡◌, ℕ, suc, ◌+◌, ◌*◌, ◌/◌, ◌%◌, ◌<◌, ◌≤◌, Bool, true, false, cond, ltb, eqb, ◌||◌, List, [], ◌∷◌, ◌++◌, length, map, Option, Some, None, refl, sym, ap, subst, ◌∙◌, append_assoc, length-append, ◌⊎◌, arith, inl, inr}
 use Rattle.std.specs.List.{flat_map, list_any}
-use Rattle.std.proofs.lemmas.Bool.{le-ltb, eqb-true, ne_eqb, eq-eqb, cond-true, cond-false, cases_Bool, cases_eq, or_parts, or_from, or_right}
-use Rattle.std.proofs.lemmas.Bool.Decides.{nat_tests}
+use Rattle.std.proofs.lemmas.Bool.{le-ltb, ltb-false, eqb-false, eqb-true, ne_eqb, eq-eqb, cond-true, cond-false, cases_Bool, cases_eq, or_parts, or_from, or_right}
 use Rattle.std.proofs.lemmas.List.{append-nil, map-append, nil_from_length}
 use Rattle.std.proofs.lemmas.List.Concat.{flat_map-append}
 use Rattle.std.proofs.lemmas.List.Folds.{list_any-append}
-use Rattle.usb_set.specs.declared.tree.Extra.{Extra}
-use Rattle.usb_set.specs.declared.tree.Extra.TheVariants as extras
+use Rattle.usb_set.specs.declared.extra.Extra.{Extra}
+use Rattle.usb_set.specs.declared.fault.SetWhy.{SetWhy}
+use Rattle.usb_set.specs.declared.fault.SetWhy.TheVariants.{ItemLength, Over, Nested, ItemShort, Stray}
 use Rattle.usb_set.specs.declared.tree.Endpoint.{Endpoint}
 use Rattle.usb_set.specs.declared.tree.Setting.{Setting}
 use Rattle.usb_set.specs.declared.tree.Configuration.{Configuration}
 use Rattle.usb_base.specs.Bytes.{AreBytes}
-use Rattle.usb_set.specs.Descriptors.{Descriptor, descriptor_bytes, extra_descriptor, endpoint_descriptor, interface_descriptor, configuration_descriptor}
+use Rattle.usb_set.specs.Descriptors.{Descriptor, descriptor_bytes, extra_descriptor, extra_of, endpoint_descriptor, interface_descriptor, configuration_descriptor}
 use Rattle.usb_set.specs.Parts.{setting_extras, extras_of}
 use Rattle.usb_set.specs.Layout.{endpoint_descriptors, setting_descriptors, later_descriptors, is_long, has_long_descriptor, is_typed_raw, has_typed_raw}
-use Rattle.usb_set.specs.WithoutAssociations.{association_of}
-use Rattle.usb_set.specs.Faults.{item_fault, is_interface}
+use Rattle.usb_set.specs.Faults.{item_fault, is_interface, is_set_type, least_length}
 use Rattle.usb_set.specs.Building.{has_setting}
-use Rattle.usb_set.specs.inside.Reading.{with_last, extra_of, setting_of, endpoint_of, endpoint_with_extra, setting_with_extra, setting_with_endpoint, set_with_extra, attach}
+use Rattle.usb_set.specs.inside.Reading.{with_last, setting_of, endpoint_of, endpoint_with_extra, setting_with_extra, setting_with_endpoint, set_with_extra, attach}
+use Rattle.usb_set.proofs.ExtraLemmas.{IsOwnerless, extra_again, not_typed}
 
 -- ---- lists
 
@@ -132,23 +132,31 @@ setting_extras-endpoint e s =
 
 -- ---- what a descriptor without fault has
 
-fault_two : (room : ℕ) (in_setting : Bool) (len kind : ℕ) (rest : List ℕ) → item_fault room in_setting (len ∷ kind ∷ rest) ≡ None → kind ≡ 2 → ⊥
-fault_two room in_setting len kind rest e h = grind (arith, nat_tests)
+-- the tests of its type, where none of those before shows a fault
+tests_passed : (no_length over nested short : Bool) (stray : Option SetWhy)
+    → cond no_length (Some ItemLength) (cond over (Some Over) (cond nested (Some Nested) (cond short (Some ItemShort) stray))) ≡ None
+    → (nested ≡ false) × ((short ≡ false) × (stray ≡ None))
+tests_passed false false false false stray e = (refl, (refl, e))
+tests_passed no_length over nested short stray e = cc
 
-fault_seven : (room : ℕ) (in_setting : Bool) (len kind : ℕ) (rest : List ℕ) → item_fault room in_setting (len ∷ kind ∷ rest) ≡ None → kind ≡ 7 → ⊥
-fault_seven room in_setting len kind rest e h = grind (arith, nat_tests)
+fault_passed : (room : ℕ) (in_setting : Bool) (item : Descriptor) → item_fault room in_setting (descriptor_bytes item) ≡ None
+    → (is_set_type item.kind ≡ false) × ((ltb (2 + length item.body) (least_length item.kind) ≡ false) × (cond (eqb item.kind 5) (cond in_setting None (Some Stray)) None ≡ None))
+fault_passed room in_setting item e = tests_passed (ltb (2 + length item.body) 2) (ltb room (2 + length item.body)) (is_set_type item.kind) (ltb (2 + length item.body) (least_length item.kind)) _ e
 
-fault_interface : (room : ℕ) (in_setting : Bool) (len kind : ℕ) (rest : List ℕ) → item_fault room in_setting (len ∷ kind ∷ rest) ≡ None → kind ≡ 4 → 9 ≤ len
-fault_interface room in_setting len kind rest e h = grind (arith, nat_tests)
+pub fault_long : (room : ℕ) (in_setting : Bool) (item : Descriptor) → item_fault room in_setting (descriptor_bytes item) ≡ None → least_length item.kind ≤ 2 + length item.body
+fault_long room in_setting item e = ltb-false (2 + length item.body) (least_length item.kind) (fault_passed room in_setting item e).1.0
 
-fault_endpoint : (room : ℕ) (in_setting : Bool) (len kind : ℕ) (rest : List ℕ) → item_fault room in_setting (len ∷ kind ∷ rest) ≡ None → kind ≡ 5 → 7 ≤ len
-fault_endpoint room in_setting len kind rest e h = grind (arith, nat_tests)
+fault_belongs : (room : ℕ) (in_setting : Bool) (item : Descriptor) → item_fault room in_setting (descriptor_bytes item) ≡ None → item.kind ≡ 5 → in_setting ≡ true
+fault_belongs room in_setting item e h = cases in_setting (sym (cond-true (eqb item.kind 5) _ _ (eq-eqb item.kind 5 h)) ∙ (fault_passed room in_setting item e).1.1)
+  where
+    cases : (b : Bool) → cond b None (Some Stray) ≡ None → b ≡ true
+    cases true e = refl
+    cases false e = cc
 
-fault_association : (room : ℕ) (in_setting : Bool) (len kind : ℕ) (rest : List ℕ) → item_fault room in_setting (len ∷ kind ∷ rest) ≡ None → kind ≡ 11 → 8 ≤ len
-fault_association room in_setting len kind rest e h = grind (arith, nat_tests)
-
-fault_belongs : (room : ℕ) (in_setting : Bool) (len kind : ℕ) (rest : List ℕ) → item_fault room in_setting (len ∷ kind ∷ rest) ≡ None → kind ≡ 5 → in_setting ≡ true
-fault_belongs room in_setting len kind rest e h = grind (arith, nat_tests)
+fault_ownerless : (room : ℕ) (in_setting : Bool) (item : Descriptor) → item_fault room in_setting (descriptor_bytes item) ≡ None → (item.kind ≡ 4 → ⊥) × (item.kind ≡ 5 → ⊥) → IsOwnerless item.kind
+fault_ownerless room in_setting item e neither =
+    let set = or_parts (eqb item.kind 2) (eqb item.kind 7) (fault_passed room in_setting item e).0 in
+    record { two = eqb-false item.kind 2 set.0; four = neither.0; five = neither.1; seven = eqb-false item.kind 7 set.1 }
 
 -- ---- descriptors with fields
 
@@ -175,24 +183,6 @@ endpoint_again (a ∷ b ∷ []) n fits = absurd (omega arith)
 endpoint_again (a ∷ b ∷ c ∷ []) n fits = absurd (omega arith)
 endpoint_again (a ∷ b ∷ c ∷ d ∷ []) n fits = absurd (omega arith)
 endpoint_again (a ∷ b ∷ low ∷ high ∷ i ∷ tail) n fits = rw (low_byte low high fits.1.1.0, high_byte low high fits.1.1.0) refl
-
-association_again : (body : List ℕ) → 6 ≤ length body → extra_descriptor (extras.Association (association_of body)) ≡ record { kind = 11; body = body }
-association_again [] n = absurd (omega arith)
-association_again (a ∷ []) n = absurd (omega arith)
-association_again (a ∷ b ∷ []) n = absurd (omega arith)
-association_again (a ∷ b ∷ c ∷ []) n = absurd (omega arith)
-association_again (a ∷ b ∷ c ∷ d ∷ []) n = absurd (omega arith)
-association_again (a ∷ b ∷ c ∷ d ∷ e ∷ []) n = absurd (omega arith)
-association_again (a ∷ b ∷ c ∷ d ∷ e ∷ f ∷ tail) n = refl
-
-pub extra_again : (item : Descriptor) → (item.kind ≡ 11 → 6 ≤ length item.body) → extra_descriptor (extra_of item) ≡ item
-extra_again item long =
-    elim (cases_Bool (eqb item.kind 11)) [
-      | inl y ↦
-          let is : item.kind ≡ 11 = eqb-true item.kind 11 y in
-          ap extra_descriptor (cond-true (eqb item.kind 11) _ _ y) ∙ association_again item.body (long is) ∙ ap (λ n. record { kind = n; body = item.body }) (sym is)
-      | inr n ↦ ap extra_descriptor (cond-false (eqb item.kind 11) _ _ n)
-    ]
 
 -- ---- one more descriptor
 
@@ -223,10 +213,10 @@ kind_cases kind = elim (cases_eq kind 4) [
 pub later_descriptors-attach : (c : Configuration) (room : ℕ) (item : Descriptor) → item_fault room (has_setting c) (descriptor_bytes item) ≡ None → AreBytes item.body
     → later_descriptors (attach c item) ≡ later_descriptors c ++ item ∷ []
 later_descriptors-attach c room item fine fits =
-    let shown : item_fault room (has_setting c) ((2 + length item.body) ∷ item.kind ∷ item.body) ≡ None = fine in
     elim (kind_cases item.kind) [
       | inl four ↦
-          let long : 7 ≤ length item.body = omega (arith, fault_interface room (has_setting c) (2 + length item.body) item.kind item.body shown four) in
+          let least : 9 ≤ 2 + length item.body = subst (λ n. least_length n ≤ 2 + length item.body) four (fault_long room (has_setting c) item fine) in
+          let long : 7 ≤ length item.body = omega arith in
           ap later_descriptors (attach-interface c item four)
           ∙ ap (λ (zs : List Descriptor). map extra_descriptor c.extras ++ zs) (flat_map-snoc setting_descriptors c.settings (setting_of item.body))
           ∙ sym (append_assoc (map extra_descriptor c.extras) (flat_map setting_descriptors c.settings) (setting_descriptors (setting_of item.body)))
@@ -234,8 +224,9 @@ later_descriptors-attach c room item fine fits =
           ∙ ap (λ n. later_descriptors c ++ record { kind = n; body = item.body } ∷ []) (sym four)
       | inr other ↦ elim other [
         | inl five ↦
-            let long : 5 ≤ length item.body = omega (arith, fault_endpoint room (has_setting c) (2 + length item.body) item.kind item.body shown five) in
-            let some : 0 < length c.settings = setting_some c (fault_belongs room (has_setting c) (2 + length item.body) item.kind item.body shown five) in
+            let least : 7 ≤ 2 + length item.body = subst (λ n. least_length n ≤ 2 + length item.body) five (fault_long room (has_setting c) item fine) in
+            let long : 5 ≤ length item.body = omega arith in
+            let some : 0 < length c.settings = setting_some c (fault_belongs room (has_setting c) item fine five) in
             ap later_descriptors (attach-endpoint c item five)
             ∙ ap (λ (zs : List Descriptor). map extra_descriptor c.extras ++ zs)
             (flat_map-with_last setting_descriptors (setting_with_endpoint (endpoint_of item.body)) (endpoint_descriptors (endpoint_of item.body)) (setting_descriptors-endpoint (endpoint_of item.body)) c.settings some)
@@ -243,9 +234,8 @@ later_descriptors-attach c room item fine fits =
             ∙ ap (λ (zs : List Descriptor). later_descriptors c ++ zs) (endpoint_again item.body long fits)
             ∙ ap (λ n. later_descriptors c ++ record { kind = n; body = item.body } ∷ []) (sym five)
         | inr neither ↦
-            let long : item.kind ≡ 11 → 6 ≤ length item.body = λ h. omega (arith, fault_association room (has_setting c) (2 + length item.body) item.kind item.body shown h) in
             ap later_descriptors (attach-extra c item neither.0 neither.1) ∙ later_descriptors-extra (extra_of item) c
-            ∙ ap (λ (d : Descriptor). later_descriptors c ++ d ∷ []) (extra_again item long)
+            ∙ ap (λ (d : Descriptor). later_descriptors c ++ d ∷ []) (extra_again item (fault_long room (has_setting c) item fine))
       ]
     ]
 
@@ -277,19 +267,8 @@ pub record IsLegal (c : Configuration) : Type 0 where
 pub not_long : (n m : ℕ) → n ≤ m → ltb m n ≡ false
 not_long n m le = le-ltb m n le
 
-not_typed : (item : Descriptor) → (item.kind ≡ 2 → ⊥) → (item.kind ≡ 4 → ⊥) → (item.kind ≡ 5 → ⊥) → (item.kind ≡ 7 → ⊥) → is_typed_raw (extra_of item) ≡ false
-not_typed item n2 n4 n5 n7 =
-    elim (cases_Bool (eqb item.kind 11)) [
-      | inl y ↦ ap is_typed_raw (cond-true (eqb item.kind 11) _ _ y)
-      | inr n ↦ ap is_typed_raw (cond-false (eqb item.kind 11) _ _ n)
-          ∙ or_from (eqb item.kind 2 || eqb item.kind 4 || eqb item.kind 5 || eqb item.kind 7) (eqb item.kind 11)
-          (or_from (eqb item.kind 2 || eqb item.kind 4 || eqb item.kind 5) (eqb item.kind 7)
-          (or_from (eqb item.kind 2 || eqb item.kind 4) (eqb item.kind 5) (or_from (eqb item.kind 2) (eqb item.kind 4) (ne_eqb item.kind 2 n2) (ne_eqb item.kind 4 n4)) (ne_eqb item.kind 5 n5)) (ne_eqb item.kind 7 n7)) n
-    ]
-
 pub typed-attach : (c : Configuration) (room : ℕ) (item : Descriptor) → has_typed_raw c ≡ false → item_fault room (has_setting c) (descriptor_bytes item) ≡ None → has_typed_raw (attach c item) ≡ false
 typed-attach c room item typed fine =
-    let shown : item_fault room (has_setting c) ((2 + length item.body) ∷ item.kind ∷ item.body) ≡ None = fine in
     elim (kind_cases item.kind) [
       | inl four ↦
           ap has_typed_raw (attach-interface c item four)
@@ -297,7 +276,7 @@ typed-attach c room item typed fine =
           ∙ typed
       | inr other ↦ elim other [
         | inl five ↦
-            let some : 0 < length c.settings = setting_some c (fault_belongs room (has_setting c) (2 + length item.body) item.kind item.body shown five) in
+            let some : 0 < length c.settings = setting_some c (fault_belongs room (has_setting c) item fine five) in
             ap has_typed_raw (attach-endpoint c item five)
             ∙ ap (λ (zs : List Extra). list_any is_typed_raw (c.extras ++ zs))
             (flat_map-with_last setting_extras (setting_with_endpoint (endpoint_of item.body)) [] (setting_extras-endpoint (endpoint_of item.body)) c.settings some ∙ append-nil (flat_map setting_extras c.settings))
@@ -306,7 +285,7 @@ typed-attach c room item typed fine =
             ap has_typed_raw (attach-extra c item neither.0 neither.1)
             ∙ ap (list_any is_typed_raw) (extras_of-extra (extra_of item) c)
             ∙ list_any-snoc is_typed_raw (extras_of c) (extra_of item) typed
-            (not_typed item (fault_two room (has_setting c) (2 + length item.body) item.kind item.body shown) neither.0 neither.1 (fault_seven room (has_setting c) (2 + length item.body) item.kind item.body shown))
+            (not_typed item (fault_ownerless room (has_setting c) item fine neither))
       ]
     ]
 

@@ -1,17 +1,17 @@
 -- The descriptors of a set after its first make the set again.
-use Rattle.std.proofs.Common.{◌≡◌, ℕ, ◌+◌, ◌*◌, ◌/◌, ◌%◌, false, eqb, ◌||◌, List, [], ◌∷◌, ◌++◌, length, map, refl, sym, ap, ◌∙◌, append_assoc, length-append, arith}
+use Rattle.std.proofs.Common.{◌≡◌, ℕ, ◌+◌, ◌*◌, ◌/◌, ◌%◌, false, eqb, List, [], ◌∷◌, ◌++◌, length, map, refl, sym, ap, ◌∙◌, append_assoc, length-append, arith}
 use Rattle.std.specs.List.{flat_map, list_any}
-use Rattle.std.proofs.lemmas.Bool.{eqb-false, ne_eqb, eq-eqb, cond-true, cond-false, or_parts}
+use Rattle.std.proofs.lemmas.Bool.{ne_eqb, eq-eqb, cond-true, cond-false, or_parts}
 use Rattle.std.proofs.lemmas.List.{append-nil}
-use Rattle.usb_set.specs.declared.tree.Extra.{Extra}
-use Rattle.usb_set.specs.declared.tree.Extra.TheVariants as extras
+use Rattle.usb_set.specs.declared.extra.Extra.{Extra}
 use Rattle.usb_set.specs.declared.tree.Endpoint.{Endpoint}
 use Rattle.usb_set.specs.declared.tree.Setting.{Setting}
 use Rattle.usb_set.specs.declared.tree.Configuration.{Configuration}
-use Rattle.usb_set.specs.Descriptors.{Descriptor, raw_descriptor, association_descriptor, extra_descriptor, endpoint_descriptor, interface_descriptor}
-use Rattle.usb_set.specs.Layout.{endpoint_descriptors, setting_descriptors, later_descriptors, is_typed, is_typed_raw, has_typed_raw}
+use Rattle.usb_set.specs.Descriptors.{Descriptor, extra_descriptor, endpoint_descriptor, interface_descriptor}
+use Rattle.usb_set.specs.Layout.{endpoint_descriptors, setting_descriptors, later_descriptors, is_typed_raw, has_typed_raw}
 use Rattle.usb_set.specs.inside.Reading.{with_last, endpoint_of, endpoint_with_extra, setting_with_extra, setting_with_endpoint, set_with_extra, attach}
 use Rattle.usb_set.specs.inside.Trees.{is_endpoint_typed, is_setting_typed}
+use Rattle.usb_set.proofs.ExtraLemmas.{is_extra}
 use Rattle.usb_set.proofs.Growth.{attach-interface, attach-endpoint, attach-extra}
 use Rattle.usb_set.proofs.Trees.{typed_parts, setting_typed_parts}
 use Rattle.usb_set.proofs.Complete.{attached}
@@ -28,28 +28,10 @@ with_last-snoc f (y ∷ z ∷ xs) x = ap (λ (zs : List _). y ∷ zs) (with_last
 snoc_some : {A : Type 0} (xs : List A) (x : A) → eqb (length (xs ++ x ∷ [])) 0 ≡ false
 snoc_some xs x = ne_eqb (length (xs ++ x ∷ [])) 0 (λ e. omega (arith, length-append xs (x ∷ [])))
 
--- not one of the types that a set reads
-pub record IsUntyped (kind : ℕ) : Type 0 where
-  pub two : kind ≡ 2 → ⊥
-  pub four : kind ≡ 4 → ⊥
-  pub five : kind ≡ 5 → ⊥
-  pub seven : kind ≡ 7 → ⊥
-  pub eleven : kind ≡ 11 → ⊥
-
-pub untyped : (kind : ℕ) → is_typed kind ≡ false → IsUntyped kind
-untyped kind e =
-    let all = or_parts (eqb kind 2 || eqb kind 4 || eqb kind 5 || eqb kind 7) (eqb kind 11) e in
-    let a = or_parts (eqb kind 2 || eqb kind 4 || eqb kind 5) (eqb kind 7) all.0 in
-    let b = or_parts (eqb kind 2 || eqb kind 4) (eqb kind 5) a.0 in
-    let d = or_parts (eqb kind 2) (eqb kind 4) b.0 in
-    record { two = eqb-false kind 2 d.0; four = eqb-false kind 4 d.1; five = eqb-false kind 5 b.1; seven = eqb-false kind 7 a.1; eleven = eqb-false kind 11 all.1 }
-
 -- the descriptor of an extra makes it again
 attach-again : (c : Configuration) (x : Extra) → is_typed_raw x ≡ false → attach c (extra_descriptor x) ≡ set_with_extra x c
-attach-again c (extras.Raw r) e =
-    let is = untyped r.kind e in
-    attach-extra c (raw_descriptor r) is.four is.five ∙ ap (λ (y : Extra). set_with_extra y c) (cond-false (eqb r.kind 11) _ _ (ne_eqb r.kind 11 is.eleven))
-attach-again c (extras.Association a) e = attach-extra c (association_descriptor a) (λ h. omega arith) (λ h. omega arith)
+attach-again c x e =
+    let is = is_extra x e in attach-extra c (extra_descriptor x) is.ownerless.four is.ownerless.five ∙ ap (λ (y : Extra). set_with_extra y c) is.again
 
 -- a setting at the end of a set
 abbrev at_last : Configuration → List Setting → Setting → Configuration

@@ -1,11 +1,10 @@
 -- A layout is read as its set.
-use Rattle.std.proofs.Common.{◌≡◌, ℕ, suc, ◌+◌, ◌-◌, ◌*◌, ◌/◌, ◌%◌, ◌≤◌, Bool, true, false, cond, ltb, eqb, ◌||◌, List, [], ◌∷◌, ◌++◌, length, map, Some, None, refl, sym, ap, subst, ◌∙◌, length-append, arith, inl, inr}
+use Rattle.std.proofs.Common.{◌≡◌, ℕ, suc, ◌+◌, ◌-◌, ◌*◌, ◌/◌, ◌%◌, ◌≤◌, Bool, true, false, cond, ltb, eqb, ◌||◌, List, [], ◌∷◌, ◌++◌, length, map, Some, None, refl, sym, ap, ◌∙◌, length-append, arith, inl, inr}
 use Rattle.std.specs.List.{flat_map, list_any}
 use Rattle.std.proofs.lemmas.Bool.{le-ltb, eqb-true, ne_eqb, eq-eqb, cond-true, cond-false, cases_Bool, or_parts, or_from}
 use Rattle.usb_set.specs.declared.tree.SetKind.{SetKind}
 use Rattle.usb_set.specs.declared.tree.SetKind.TheVariants as kinds
-use Rattle.usb_set.specs.declared.tree.Extra.{Extra}
-use Rattle.usb_set.specs.declared.tree.Extra.TheVariants as extras
+use Rattle.usb_set.specs.declared.extra.Extra.{Extra}
 use Rattle.usb_set.specs.declared.tree.Endpoint.{Endpoint}
 use Rattle.usb_set.specs.declared.tree.Setting.{Setting}
 use Rattle.usb_set.specs.declared.tree.Configuration.{Configuration}
@@ -18,7 +17,8 @@ use Rattle.usb_set.specs.inside.Reading.{Reading, later, whole, reads, reading_o
 use Rattle.usb_set.proofs.ByteByByte.{reads-whole}
 use Rattle.usb_set.proofs.Complete.{attached, reaches_there}
 use Rattle.usb_set.proofs.Trees.{setting_typed_parts, typed_parts}
-use Rattle.usb_set.proofs.Items.{untyped, bare, items_again, two_bytes}
+use Rattle.usb_set.proofs.ExtraLemmas.{is_extra}
+use Rattle.usb_set.proofs.Items.{bare, items_again, two_bytes}
 
 -- a descriptor that has no fault where it has room
 pub record Fine (in_setting : Bool) (item : Descriptor) : Type 0 where
@@ -60,14 +60,10 @@ fine_append s [] ys hx hy = hy s (λ e. e)
 fine_append s (x ∷ xs) ys hx hy = (hx.0, fine_append (s || is_interface x) xs ys hx.1 (λ t f. hy t (λ e. f (stays_true s (is_interface x) e))))
 
 fine_extra : (s : Bool) (x : Extra) → is_typed_raw x ≡ false → Fine s (extra_descriptor x)
-fine_extra s (extras.Raw r) e =
-    let is = untyped r.kind e in
-    record {
-      type_fits = or_from (eqb r.kind 2) (eqb r.kind 7) (ne_eqb r.kind 2 is.two) (ne_eqb r.kind 7 is.seven);
-      long = subst (λ (n : ℕ). n ≤ 2 + length r.body) (sym (cond-false (eqb r.kind 4) _ _ (ne_eqb r.kind 4 is.four) ∙ cond-false (eqb r.kind 5) _ _ (ne_eqb r.kind 5 is.five) ∙ cond-false (eqb r.kind 11) _ _ (ne_eqb r.kind 11 is.eleven))) (omega arith);
-      belongs = λ h. absurd (is.five h);
-    }
-fine_extra s (extras.Association a) e = record { type_fits = refl; long = omega arith; belongs = λ h. absurd (omega arith) }
+fine_extra s x e =
+    let is = is_extra x e in
+    let kind = (extra_descriptor x).kind in
+    record { type_fits = or_from (eqb kind 2) (eqb kind 7) (ne_eqb kind 2 is.ownerless.two) (ne_eqb kind 7 is.ownerless.seven); long = is.long; belongs = λ h. absurd (is.ownerless.five h) }
 
 fine_extras : (s : Bool) (xs : List Extra) → list_any is_typed_raw xs ≡ false → AllFine s (map extra_descriptor xs)
 fine_extras s [] e = tt

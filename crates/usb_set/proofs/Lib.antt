@@ -1,6 +1,7 @@
 pub mod Last
 pub mod ByteByByte
 pub mod Stands
+pub mod ExtraLemmas
 pub mod Growth
 pub mod Trees
 pub mod Sound

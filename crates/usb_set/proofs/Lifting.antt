@@ -1,61 +1,59 @@
--- A set whose raw descriptors of type 11 become associations keeps its bytes.
-use Rattle.std.proofs.Common.{◌≡◌, ℕ, ◌≤◌, Bool, false, eqb, List, [], ◌∷◌, ◌++◌, length, map, refl, sym, ap, ◌∙◌, arith, inl, inr}
+-- A set whose raw descriptors become what their types say keeps its bytes.
+use Rattle.std.proofs.Common.{◌≡◌, ℕ, ◌+◌, Bool, false, eqb, ◌||◌, List, [], ◌∷◌, ◌++◌, length, map, refl, sym, ap, ◌∙◌}
 use Rattle.std.specs.List.{flat_map, list_any}
-use Rattle.std.proofs.lemmas.Bool.{cond-true, cond-false, cases_Bool, or_parts, or_from}
+use Rattle.std.proofs.lemmas.Bool.{eqb-false, ltb-false, or_parts, or_from}
 use Rattle.std.proofs.lemmas.List.{map-append}
 use Rattle.std.proofs.lemmas.List.Folds.{list_any-append}
-use Rattle.usb_set.specs.declared.tree.Extra.{Extra}
-use Rattle.usb_set.specs.declared.tree.Extra.TheVariants as extras
+use Rattle.usb_set.specs.declared.extra.Extra.{Extra}
+use Rattle.usb_set.specs.declared.extra.Extra.TheVariants as extras
 use Rattle.usb_set.specs.declared.tree.Endpoint.{Endpoint}
 use Rattle.usb_set.specs.declared.tree.Setting.{Setting}
 use Rattle.usb_set.specs.declared.tree.Configuration.{Configuration}
 use Rattle.usb_set.specs.Descriptors.{Descriptor, descriptor_bytes, raw_descriptor, extra_descriptor, endpoint_descriptor, interface_descriptor, configuration_descriptor}
 use Rattle.usb_set.specs.Parts.{setting_extras, extras_of}
 use Rattle.usb_set.specs.Layout.{endpoint_descriptors, setting_descriptors, later_descriptors, is_long, is_typed_raw, Layout}
-use Rattle.usb_set.specs.WithoutAssociations.{is_read_raw, RawLayout, lift_extra, lift_endpoint, lift_setting, lift, is_cut_association}
-use Rattle.usb_set.proofs.Growth.{extra_again}
+use Rattle.usb_set.specs.RawSets.{is_read_raw, RawLayout, lift_extra, lift_endpoint, lift_setting, lift, is_cut}
+use Rattle.usb_set.specs.Faults.{least_length}
+use Rattle.usb_set.proofs.ExtraLemmas.{extra_again, not_typed}
 
 any_parts : {A : Type 0} (p : A → Bool) (xs ys : List A) → list_any p (xs ++ ys) ≡ false → (list_any p xs ≡ false) × (list_any p ys ≡ false)
 any_parts p xs ys h = or_parts (list_any p xs) (list_any p ys) (sym (list_any-append p xs ys) ∙ h)
 
 -- ---- the descriptors stay
 
-long_enough : (n : ℕ) (body : List ℕ) → is_cut_association (extras.Raw (record { kind = n; body = body })) ≡ false → n ≡ 11 → 6 ≤ length body
-long_enough n body h e = grind arith
+same_extra : (x : Extra) → is_cut x ≡ false → extra_descriptor (lift_extra x) ≡ extra_descriptor x
+same_extra (extras.Raw r) h = extra_again (raw_descriptor r) (ltb-false (2 + length r.body) (least_length r.kind) h)
+same_extra x h = refl
 
-same_extra : (x : Extra) → is_cut_association x ≡ false → extra_descriptor (lift_extra x) ≡ extra_descriptor x
-same_extra (extras.Raw r) h = extra_again (raw_descriptor r) (long_enough r.kind r.body h)
-same_extra (extras.Association a) h = refl
-
-same_extras : (xs : List Extra) → list_any is_cut_association xs ≡ false → map extra_descriptor (map lift_extra xs) ≡ map extra_descriptor xs
+same_extras : (xs : List Extra) → list_any is_cut xs ≡ false → map extra_descriptor (map lift_extra xs) ≡ map extra_descriptor xs
 same_extras [] h = refl
 same_extras (x ∷ xs) h =
-    let parts = or_parts (is_cut_association x) (list_any is_cut_association xs) h in
+    let parts = or_parts (is_cut x) (list_any is_cut xs) h in
     ap (λ (d : Descriptor). d ∷ map extra_descriptor (map lift_extra xs)) (same_extra x parts.0) ∙ ap (λ (ds : List Descriptor). extra_descriptor x ∷ ds) (same_extras xs parts.1)
 
-same_endpoints : (es : List Endpoint) → list_any is_cut_association (flat_map (λ (e : Endpoint). e.extras) es) ≡ false → flat_map endpoint_descriptors (map lift_endpoint es) ≡ flat_map endpoint_descriptors es
+same_endpoints : (es : List Endpoint) → list_any is_cut (flat_map (λ (e : Endpoint). e.extras) es) ≡ false → flat_map endpoint_descriptors (map lift_endpoint es) ≡ flat_map endpoint_descriptors es
 same_endpoints [] h = refl
 same_endpoints (e ∷ es) h =
-    let parts = any_parts is_cut_association e.extras (flat_map (λ (x : Endpoint). x.extras) es) h in
+    let parts = any_parts is_cut e.extras (flat_map (λ (x : Endpoint). x.extras) es) h in
     ap (λ (ds : List Descriptor). (endpoint_descriptor e ∷ ds) ++ flat_map endpoint_descriptors (map lift_endpoint es)) (same_extras e.extras parts.0)
     ∙ ap (λ (ds : List Descriptor). endpoint_descriptors e ++ ds) (same_endpoints es parts.1)
 
-same_setting : (s : Setting) → list_any is_cut_association (setting_extras s) ≡ false → setting_descriptors (lift_setting s) ≡ setting_descriptors s
+same_setting : (s : Setting) → list_any is_cut (setting_extras s) ≡ false → setting_descriptors (lift_setting s) ≡ setting_descriptors s
 same_setting s h =
-    let parts = any_parts is_cut_association s.extras (flat_map (λ (e : Endpoint). e.extras) s.endpoints) h in
+    let parts = any_parts is_cut s.extras (flat_map (λ (e : Endpoint). e.extras) s.endpoints) h in
     ap (λ (ds : List Descriptor). (interface_descriptor s ∷ ds) ++ flat_map endpoint_descriptors (map lift_endpoint s.endpoints)) (same_extras s.extras parts.0)
     ∙ ap (λ (ds : List Descriptor). (interface_descriptor s ∷ map extra_descriptor s.extras) ++ ds) (same_endpoints s.endpoints parts.1)
 
-same_settings : (ss : List Setting) → list_any is_cut_association (flat_map setting_extras ss) ≡ false → flat_map setting_descriptors (map lift_setting ss) ≡ flat_map setting_descriptors ss
+same_settings : (ss : List Setting) → list_any is_cut (flat_map setting_extras ss) ≡ false → flat_map setting_descriptors (map lift_setting ss) ≡ flat_map setting_descriptors ss
 same_settings [] h = refl
 same_settings (s ∷ ss) h =
-    let parts = any_parts is_cut_association (setting_extras s) (flat_map setting_extras ss) h in
+    let parts = any_parts is_cut (setting_extras s) (flat_map setting_extras ss) h in
     ap (λ (ds : List Descriptor). ds ++ flat_map setting_descriptors (map lift_setting ss)) (same_setting s parts.0)
     ∙ ap (λ (ds : List Descriptor). setting_descriptors s ++ ds) (same_settings ss parts.1)
 
-same_later : (c : Configuration) → list_any is_cut_association (extras_of c) ≡ false → later_descriptors (lift c) ≡ later_descriptors c
+same_later : (c : Configuration) → list_any is_cut (extras_of c) ≡ false → later_descriptors (lift c) ≡ later_descriptors c
 same_later c h =
-    let parts = any_parts is_cut_association c.extras (flat_map setting_extras c.settings) h in
+    let parts = any_parts is_cut c.extras (flat_map setting_extras c.settings) h in
     ap (λ (ds : List Descriptor). ds ++ flat_map setting_descriptors (map lift_setting c.settings)) (same_extras c.extras parts.0)
     ∙ ap (λ (ds : List Descriptor). map extra_descriptor c.extras ++ ds) (same_settings c.settings parts.1)
 
@@ -83,11 +81,12 @@ lifted_extras c =
 
 untyped_extra : (x : Extra) → is_read_raw x ≡ false → is_typed_raw (lift_extra x) ≡ false
 untyped_extra (extras.Raw r) h =
-    elim (cases_Bool (eqb r.kind 11)) [
-      | inl y ↦ ap is_typed_raw (cond-true (eqb r.kind 11) _ _ y)
-      | inr n ↦ ap is_typed_raw (cond-false (eqb r.kind 11) _ _ n) ∙ or_from (is_read_raw (extras.Raw r)) (eqb r.kind 11) h n
-    ]
-untyped_extra (extras.Association a) h = refl
+    let k = r.kind in
+    let c = or_parts (eqb k 2 || eqb k 4 || eqb k 5) (eqb k 7) h in
+    let b = or_parts (eqb k 2 || eqb k 4) (eqb k 5) c.0 in
+    let a = or_parts (eqb k 2) (eqb k 4) b.0 in
+    not_typed (raw_descriptor r) (record { two = eqb-false k 2 a.0; four = eqb-false k 4 a.1; five = eqb-false k 5 b.1; seven = eqb-false k 7 c.1 })
+untyped_extra x h = refl
 
 untyped_extras : (xs : List Extra) → list_any is_read_raw xs ≡ false → list_any is_typed_raw (map lift_extra xs) ≡ false
 untyped_extras [] h = refl
@@ -97,7 +96,7 @@ untyped_extras (x ∷ xs) h =
 
 -- ---- the layout
 
-pub keeps_bytes : (c : Configuration) (b : List ℕ) → RawLayout c b → list_any is_cut_association (extras_of c) ≡ false → Layout (lift c) b
+pub keeps_bytes : (c : Configuration) (b : List ℕ) → RawLayout c b → list_any is_cut (extras_of c) ≡ false → Layout (lift c) b
 keeps_bytes c b h whole =
     let later : later_descriptors (lift c) ≡ later_descriptors c = same_later c whole in
     record {

@@ -1,14 +1,14 @@
 -- The descriptors of a configuration set, one by one (USB 2.0, 9.5 and 9.6.3 to 9.6.6, and its ECN on
 -- interface associations, 9.X.Y).
-use Rattle.std.specs.Prelude.{ℕ, ◌+◌, List, [], ◌∷◌, ◌++◌, codes, length}
+use Rattle.std.specs.Prelude.{ℕ, ◌+◌, ◌==◌, List, [], ◌∷◌, ◌++◌, codes, length, slice_index, drop, Option, Some, None, if◌then◌else◌}
 use Rattle.usb_base.specs.Bytes.{little_endian}
 use Rattle.usb_base.specs.Fields.{Field, byte, word, fields_bytes}
 use Rattle.usb_set.specs.declared.tree.SetKind.{SetKind}
 use Rattle.usb_set.specs.declared.tree.SetKind.TheVariants as kinds
-use Rattle.usb_set.specs.declared.tree.Raw.{Raw}
-use Rattle.usb_set.specs.declared.tree.Association.{Association}
-use Rattle.usb_set.specs.declared.tree.Extra.{Extra}
-use Rattle.usb_set.specs.declared.tree.Extra.TheVariants as extras
+use Rattle.usb_set.specs.declared.extra.Raw.{Raw}
+use Rattle.usb_set.specs.declared.extra.Association.{Association}
+use Rattle.usb_set.specs.declared.extra.Extra.{Extra}
+use Rattle.usb_set.specs.declared.extra.Extra.TheVariants as extras
 use Rattle.usb_set.specs.declared.tree.Endpoint.{Endpoint}
 use Rattle.usb_set.specs.declared.tree.Setting.{Setting}
 use Rattle.usb_set.specs.declared.tree.Configuration.{Configuration}
@@ -44,6 +44,34 @@ association_descriptor a = record { kind = 11; body = fields_bytes association_f
 abbrev pub extra_descriptor : Extra → Descriptor
 extra_descriptor (extras.Raw r) = raw_descriptor r
 extra_descriptor (extras.Association a) = association_descriptor a
+
+-- the association of the bytes after bLength and bDescriptorType
+abbrev pub association_of : List ℕ → Association
+association_of body = record {
+  first = slice_index body 0;
+  count = slice_index body 1;
+  class = slice_index body 2;
+  subclass = slice_index body 3;
+  protocol = slice_index body 4;
+  text = slice_index body 5;
+  tail = drop 6 body;
+}
+
+-- the extra of a descriptor: of a type that is none of theirs it is kept as it stands
+abbrev pub extra_of : Descriptor → Extra
+extra_of item =
+    if item.kind == 11 then extras.Association (association_of item.body)
+    else extras.Raw (record { kind = item.kind; body = item.body })
+
+-- the least bLength of a descriptor of this type, if a set gives the type a meaning (table 9-5, and the ECN)
+abbrev pub typed_length : ℕ → Option ℕ
+typed_length kind =
+    if kind == 2 then Some 9
+    else if kind == 4 then Some 9
+    else if kind == 5 then Some 7
+    else if kind == 7 then Some 9
+    else if kind == 11 then Some 8
+    else None
 
 -- the fields of an endpoint descriptor, in the order of its bytes (9.6.6)
 abbrev pub endpoint_fields : List (Field Endpoint)

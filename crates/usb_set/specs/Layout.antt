@@ -1,11 +1,11 @@
 -- The bytes of a configuration set (USB 2.0, 9.4.3 and 9.5).
-use Rattle.std.specs.Prelude.{◌≡◌, ℕ, ◌≤◌, List, ◌∷◌, ◌++◌, length, map, Bool, false, nat_lt, ◌==◌, ◌||◌}
+use Rattle.std.specs.Prelude.{◌≡◌, ℕ, ◌≤◌, List, ◌∷◌, ◌++◌, length, map, Bool, false, nat_lt, is_some}
 use Rattle.std.specs.List.{flat_map, list_any}
 use Rattle.usb_base.specs.Bytes.{AreBytes}
-use Rattle.usb_set.specs.Descriptors.{Descriptor, descriptor_bytes, extra_descriptor, endpoint_descriptor, interface_descriptor, configuration_descriptor}
+use Rattle.usb_set.specs.Descriptors.{Descriptor, descriptor_bytes, extra_descriptor, endpoint_descriptor, interface_descriptor, configuration_descriptor, typed_length}
 use Rattle.usb_set.specs.Parts.{extras_of}
-use Rattle.usb_set.specs.declared.tree.Extra.{Extra}
-use Rattle.usb_set.specs.declared.tree.Extra.TheVariants as extras
+use Rattle.usb_set.specs.declared.extra.Extra.{Extra}
+use Rattle.usb_set.specs.declared.extra.Extra.TheVariants as extras
 use Rattle.usb_set.specs.declared.tree.Endpoint.{Endpoint}
 use Rattle.usb_set.specs.declared.tree.Setting.{Setting}
 use Rattle.usb_set.specs.declared.tree.Configuration.{Configuration}
@@ -40,12 +40,12 @@ has_long_descriptor c = list_any is_long (set_descriptors c 0)
 
 -- whether it is the type of a descriptor that a set gives a meaning (table 9-5, and the ECN)
 abbrev pub is_typed : ℕ → Bool
-is_typed kind = (kind == 2) || (kind == 4) || (kind == 5) || (kind == 7) || (kind == 11)
+is_typed kind = is_some (typed_length kind)
 
 -- whether the extra is raw and has such a type
 abbrev pub is_typed_raw : Extra → Bool
 is_typed_raw (extras.Raw r) = is_typed r.kind
-is_typed_raw (extras.Association a) = false
+is_typed_raw x = false
 
 -- whether any extra of the set is
 abbrev pub has_typed_raw : Configuration → Bool

@@ -3,7 +3,7 @@ pub mod Parts
 pub mod Owners
 pub mod Left
 pub mod Layout
-pub mod WithoutAssociations
+pub mod RawSets
 pub mod Endpoints
 pub mod Encoding
 pub mod Faults

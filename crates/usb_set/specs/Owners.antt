@@ -1,12 +1,12 @@
 -- The endpoints, extras and associations of a set with what they belong to, in the order of its bytes.
-use Rattle.std.specs.Prelude.{List, [], ◌∷◌, map}
+use Rattle.std.specs.Prelude.{List, ◌∷◌, map}
 use Rattle.std.specs.List.{flat_map}
-use Rattle.usb_set.specs.declared.tree.Association.{Association}
-use Rattle.usb_set.specs.declared.tree.Extra.{Extra}
-use Rattle.usb_set.specs.declared.tree.Extra.TheVariants as extras
+use Rattle.usb_set.specs.declared.extra.Association.{Association}
+use Rattle.usb_set.specs.declared.extra.Extra.{Extra}
 use Rattle.usb_set.specs.declared.tree.Endpoint.{Endpoint}
 use Rattle.usb_set.specs.declared.tree.Setting.{Setting}
 use Rattle.usb_set.specs.declared.tree.Configuration.{Configuration}
+use Rattle.usb_set.specs.Parts.{association_in}
 
 -- what an extra can belong to: a configuration, a setting, or an endpoint of a setting
 pub data Holder : Type 0 where
@@ -42,8 +42,7 @@ held_extras c = flat_map held_by (holders_of c)
 
 -- the association that the extra is, with what it belongs to, if it is one
 abbrev pub held_association : Holder → Extra → List (Holder × Association)
-held_association h (extras.Raw r) = []
-held_association h (extras.Association a) = (h, a) ∷ []
+held_association h x = map (λ a. (h, a)) (association_in x)
 
 -- the associations among them
 abbrev pub associations_among : List (Holder × Extra) → List (Holder × Association)

@@ -1,9 +1,9 @@
 -- The parts of a whole set as lists, in the order of its bytes.
 use Rattle.std.specs.Prelude.{List, [], ◌∷◌, ◌++◌}
 use Rattle.std.specs.List.{flat_map}
-use Rattle.usb_set.specs.declared.tree.Association.{Association}
-use Rattle.usb_set.specs.declared.tree.Extra.{Extra}
-use Rattle.usb_set.specs.declared.tree.Extra.TheVariants as extras
+use Rattle.usb_set.specs.declared.extra.Association.{Association}
+use Rattle.usb_set.specs.declared.extra.Extra.{Extra}
+use Rattle.usb_set.specs.declared.extra.Extra.TheVariants as extras
 use Rattle.usb_set.specs.declared.tree.Setting.{Setting}
 use Rattle.usb_set.specs.declared.tree.Configuration.{Configuration}
 
@@ -17,8 +17,8 @@ extras_of c = c.extras ++ flat_map setting_extras c.settings
 
 -- the association that the extra is, if it is one
 abbrev pub association_in : Extra → List Association
-association_in (extras.Raw r) = []
 association_in (extras.Association a) = a ∷ []
+association_in x = []
 
 -- the associations of a set
 abbrev pub associations_of : Configuration → List Association

@@ -1,15 +1,16 @@
 //! The tree with one more descriptor.
-ghost use Rattle.std.specs.Prelude.{◌≡◌, ◌≤◌, ◌<◌, [], ◌∷◌, ◌++◌, length, OnOk, IfOk};
-ghost use Rattle.usb_set.specs.WithoutAssociations.{association_of};
+ghost use Rattle.std.specs.Prelude.{◌≡◌, ◌≤◌, ◌<◌, ◌+◌, [], ◌∷◌, ◌++◌, length, OnOk, IfOk};
+ghost use Rattle.usb_set.specs.Faults.{least_length};
 ghost use Rattle.usb_set.specs.inside.Reading.{attach, configuration_of, endpoint_of, endpoint_with_extra, set_with_endpoint, set_with_extra, set_with_setting, setting_of, setting_with_endpoint, setting_with_extra, with_last};
 
-use crate::tree::{Association, Configuration, Endpoint, Extra, Raw, SetKind, Setting};
+use crate::extra::Extra;
+use crate::tree::{Configuration, Endpoint, SetKind, Setting};
 use std::alloc::{AllocError, Global};
 use usb_base::{Sequence, descriptor_type, word_at};
 
 /// The bytes as a list.
 #[inline]
-fn read_bytes(alloc: Global, bytes: &[u8]) -> Result<Sequence<u8>, AllocError>
+pub(crate) fn read_bytes(alloc: Global, bytes: &[u8]) -> Result<Sequence<u8>, AllocError>
     ensures { IfOk result (λ s. s ≡ bytes.now) }
 {
     if bytes.is_empty() {
@@ -75,22 +76,6 @@ fn read_endpoint(alloc: Global, body: &[u8]) -> Result<Endpoint, AllocError>
         interval: body[4],
         tail: read_bytes(alloc, &body[5..])?,
         extras: Sequence::new(alloc),
-    })
-}
-
-/// The association of an interface association descriptor's body.
-fn read_association(alloc: Global, body: &[u8]) -> Result<Association, AllocError>
-    requires { 6 ≤ length body.now }
-    ensures { IfOk result (λ a. a ≡ association_of body.now) }
-{
-    Ok(Association {
-        first: body[0],
-        count: body[1],
-        class: body[2],
-        subclass: body[3],
-        protocol: body[4],
-        text: body[5],
-        tail: read_bytes(alloc, &body[6..])?,
     })
 }
 
@@ -170,9 +155,7 @@ pub(crate) fn attach(
     kind: u8,
     body: &[u8],
 ) -> Result<(), AllocError>
-    requires interface { kind ≡ 4 → 7 ≤ length body.now }
-    requires endpoint { kind ≡ 5 → 5 ≤ length body.now }
-    requires association { kind ≡ 11 → 6 ≤ length body.now }
+    requires long { least_length kind ≤ 2 + length body.now }
     requires belongs { kind ≡ 5 → 0 < length c.old.settings }
     ensures { OnOk result (c.new ≡ attach c.old (record { kind = kind; body = body.now })) }
 {
@@ -183,13 +166,9 @@ pub(crate) fn attach(
         descriptor_type::ENDPOINT => {
             add_endpoint(alloc, c, body)?;
         }
-        descriptor_type::INTERFACE_ASSOCIATION => {
-            let association = read_association(alloc, body)?;
-            add_to_set(c, Extra::Association(association))?;
-        }
         _ => {
-            let body = read_bytes(alloc, body)?;
-            add_to_set(c, Extra::Raw(Raw { kind, body }))?;
+            let extra = Extra::read(alloc, kind, body)?;
+            add_to_set(c, extra)?;
         }
     }
     Ok(())

@@ -4,6 +4,7 @@ ghost use Rattle.usb_set.specs.Faults.{header_fault, is_set_type, item_fault, le
 ghost use Rattle.usb_set.specs.Building.{has_setting};
 ghost use Rattle.usb_set.specs.inside.Reading.{SplitsDescriptor, first_byte};
 
+use crate::extra::typed_length;
 use crate::fault::SetWhy;
 use crate::tree::Configuration;
 use usb_base::{descriptor_length, descriptor_type, word_at};
@@ -22,12 +23,7 @@ fn is_set_type(kind: u8) -> bool
 fn least_length(kind: u8) -> u8
     ensures { result ≡ least_length kind }
 {
-    match kind {
-        descriptor_type::INTERFACE => descriptor_length::INTERFACE,
-        descriptor_type::ENDPOINT => descriptor_length::ENDPOINT,
-        descriptor_type::INTERFACE_ASSOCIATION => descriptor_length::INTERFACE_ASSOCIATION,
-        _ => descriptor_length::HEAD,
-    }
+    typed_length(kind).unwrap_or(descriptor_length::HEAD)
 }
 
 /// The first fault that the first descriptor's bytes show, and its place.

@@ -2,8 +2,9 @@
 ghost use Rattle.std.specs.Prelude.{◌≡◌};
 ghost use Rattle.std.specs.Iterator.{YieldsFirstBy, item_count};
 
+use crate::extra::{Association, Extra};
 use crate::owner::{Owner, Owners};
-use crate::tree::{Association, Configuration, Extra};
+use crate::tree::Configuration;
 
 /// The extras of a set in the order of its bytes, each with what it belongs to: what [`Configuration::all_extras`] goes
 /// over.

@@ -3,7 +3,7 @@
 ghost use Rattle.std.specs.Prelude.{◌≡◌};
 ghost use Rattle.usb_base.specs.Fields.{fields_bytes};
 
-use crate::tree::{Association, Configuration, Endpoint, Setting};
+use crate::tree::{Configuration, Endpoint, Setting};
 use usb_base::Width::{self, One, Two};
 use usb_base::word_bytes;
 
@@ -43,19 +43,6 @@ pub const ENDPOINT_NAMES: [&str; 4] = [
 
 /// Their widths.
 pub const ENDPOINT_WIDTHS: [Width; 4] = [One, One, Two, One];
-
-/// Names of the fields of an interface association descriptor (its ECN, 9.X.Y).
-pub const ASSOCIATION_NAMES: [&str; 6] = [
-    "bFirstInterface",
-    "bInterfaceCount",
-    "bFunctionClass",
-    "bFunctionSubClass",
-    "bFunctionProtocol",
-    "iFunction",
-];
-
-/// Their widths.
-pub const ASSOCIATION_WIDTHS: [Width; 6] = [One; 6];
 
 impl Configuration {
     ghost use Rattle.usb_set.specs.Descriptors.{configuration_fields};
@@ -110,25 +97,6 @@ impl Endpoint {
             packet_low,
             packet_high,
             self.interval,
-        ]
-    }
-}
-
-impl Association {
-    ghost use Rattle.usb_set.specs.Descriptors.{association_fields};
-
-    /// The bytes of the association descriptor's fields (its ECN, 9.X.Y).
-    #[inline]
-    pub fn field_bytes(&self) -> [u8; 6]
-        ensures { result ≡ fields_bytes association_fields self.now }
-    {
-        [
-            self.first,
-            self.count,
-            self.class,
-            self.subclass,
-            self.protocol,
-            self.text,
         ]
     }
 }

@@ -18,6 +18,7 @@ mod checking;
 mod decoder;
 mod endpoint;
 mod endpoints;
+mod extra;
 mod extras;
 mod fault;
 mod fields;
@@ -34,13 +35,14 @@ pub use building::{add_descriptor, begin_set, next_fault};
 pub use decoder::{Decoder, Progress};
 pub use endpoint::TransferType;
 pub use endpoints::Endpoints;
+pub use extra::{ASSOCIATION_NAMES, ASSOCIATION_WIDTHS, Association, Extra, Raw, is_typed};
 pub use extras::{Associations, Extras};
 pub use fault::{EncodeFault, SetFault, SetWhy};
 pub use fields::{
-    ASSOCIATION_NAMES, ASSOCIATION_WIDTHS, CONFIGURATION_NAMES, CONFIGURATION_WIDTHS,
-    ENDPOINT_NAMES, ENDPOINT_WIDTHS, INTERFACE_NAMES, INTERFACE_WIDTHS,
+    CONFIGURATION_NAMES, CONFIGURATION_WIDTHS, ENDPOINT_NAMES, ENDPOINT_WIDTHS, INTERFACE_NAMES,
+    INTERFACE_WIDTHS,
 };
 pub use owner::Owner;
-pub use tree::{Association, Configuration, Endpoint, Extra, Raw, SetKind, Setting};
+pub use tree::{Configuration, Endpoint, SetKind, Setting};
 pub use usb_base::{Direction, Sequence};
 pub use whole_set::read_set;

@@ -1,16 +1,6 @@
 //! The most bytes that the descriptors of a set can have beyond their fields: bLength counts no more than 255, with
 //! itself (USB 2.0, 9.5).
-use crate::tree::{Association, Configuration, Endpoint, Raw, Setting};
-
-impl Raw {
-    /// The most bytes of a body.
-    pub const MOST_BODY: usize = 253;
-}
-
-impl Association {
-    /// The most bytes of a tail.
-    pub const MOST_TAIL: usize = 247;
-}
+use crate::tree::{Configuration, Endpoint, Setting};
 
 impl Endpoint {
     /// The most bytes of a tail.

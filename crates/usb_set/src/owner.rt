@@ -2,7 +2,8 @@
 ghost use Rattle.std.specs.Prelude.{◌≡◌};
 ghost use Rattle.std.specs.Iterator.{YieldsFirstBy, item_count};
 
-use crate::tree::{Configuration, Endpoint, Extra, Setting};
+use crate::extra::Extra;
+use crate::tree::{Configuration, Endpoint, Setting};
 
 /// What an extra of a set belongs to: the typed descriptor before it.
 #[derive(Clone, Copy, Debug)]

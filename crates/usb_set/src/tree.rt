@@ -1,4 +1,5 @@
 //! What a configuration set says, as a tree of plain data.
+use crate::extra::Extra;
 use usb_base::Sequence;
 
 /// Which descriptor a set begins with.
@@ -8,45 +9,6 @@ pub enum SetKind {
     Configuration,
     /// An other-speed configuration descriptor, type 7 (USB 2.0, 9.6.4).
     OtherSpeed,
-}
-
-/// A descriptor that is kept as it stands: a class or vendor descriptor, or one of a type that this
-/// crate gives no meaning. In a set its type is none of 2, 4, 5, 7 and 11.
-#[derive(Clone, Debug, Drop, PartialEq, Eq, Hash)]
-pub struct Raw {
-    /// bDescriptorType.
-    pub kind: u8,
-    /// The bytes after bLength and bDescriptorType, at most 253.
-    pub body: Sequence<u8>,
-}
-
-/// An interface association descriptor: interfaces with consecutive numbers that make one function
-/// (Interface Association Descriptor ECN to USB 2.0, 9.X.Y).
-#[derive(Clone, Debug, Drop, PartialEq, Eq, Hash)]
-pub struct Association {
-    /// bFirstInterface, the number of the function's first interface.
-    pub first: u8,
-    /// bInterfaceCount, of the function's interfaces.
-    pub count: u8,
-    /// bFunctionClass.
-    pub class: u8,
-    /// bFunctionSubClass.
-    pub subclass: u8,
-    /// bFunctionProtocol.
-    pub protocol: u8,
-    /// iFunction, the index of a string descriptor, or 0.
-    pub text: u8,
-    /// The bytes after the eight that the standard defines, at most 247.
-    pub tail: Sequence<u8>,
-}
-
-/// A descriptor that belongs to the configuration, the setting or the endpoint before it.
-#[derive(Clone, Debug, Drop, PartialEq, Eq, Hash)]
-pub enum Extra {
-    /// One that is kept as it stands.
-    Raw(Raw),
-    /// An interface association descriptor, type 11. It owns nothing.
-    Association(Association),
 }
 
 /// An endpoint descriptor, and the extras that follow it (USB 2.0, 9.6.6).

@@ -5,9 +5,8 @@ ghost use Rattle.usb_set.specs.Layout.{has_long_descriptor, has_typed_raw, is_ty
 ghost use Rattle.usb_set_encoder.specs.inside.Measuring.{measured};
 ghost use Rattle.usb_set.specs.inside.Trees.{endpoint_bytes, extra_bytes, is_endpoint_long, is_endpoint_typed, is_extra_long, is_setting_long, is_setting_typed, is_tree_long, is_tree_typed, setting_bytes, tree_bytes};
 
-use crate::limits::is_typed;
 use usb_base::descriptor_length;
-use usb_set::{Configuration, Endpoint, Extra, Setting};
+use usb_set::{Configuration, Endpoint, Extra, Setting, with_extra};
 
 /// One more than wTotalLength can say: what a set comes to that has no bytes.
 pub(crate) const TOO_LONG: usize = Configuration::MOST_BYTES + 1;
@@ -68,22 +67,13 @@ impl Measured for Extra {
 
     #[inline(always)]
     fn len_after(&self, start: usize) -> usize {
-        match self {
-            Extra::Raw(raw) => {
-                if is_typed(raw.kind) {
-                    TOO_LONG
-                } else {
-                    descriptor_len(start, descriptor_length::HEAD, raw.body.len())
-                }
-            }
-            Extra::Association(association) => {
-                descriptor_len(
-                    start,
-                    descriptor_length::INTERFACE_ASSOCIATION,
-                    association.tail.len(),
-                )
-            }
+        if self.is_typed_raw() {
+            return TOO_LONG;
         }
+        with_extra!(self, item => {
+            let fixed = descriptor_length::HEAD + item.field_bytes().len() as u8;
+            descriptor_len(start, fixed, item.tail().len())
+        })
     }
 }
 

@@ -1,19 +1,15 @@
 //! Whether the descriptors of a set fit their bLength, and keep their bDescriptorType.
 ghost use Rattle.std.specs.Prelude.{◌≡◌};
 ghost use Rattle.std.specs.List.{list_any};
-ghost use Rattle.usb_set.specs.Layout.{has_long_descriptor, has_typed_raw, is_typed, is_typed_raw};
+ghost use Rattle.usb_set.specs.Layout.{has_long_descriptor, has_typed_raw, is_typed_raw};
 ghost use Rattle.usb_set.specs.inside.Trees.{is_endpoint_long, is_endpoint_typed, is_extra_long, is_setting_long, is_setting_typed};
 
-use usb_base::descriptor_type;
-use usb_set::{Association, Configuration, Endpoint, Extra, Raw, Setting};
+use usb_set::{Configuration, Endpoint, Extra, Raw, Setting, with_extra};
 
 fn is_extra_long(extra: &Extra) -> bool
     ensures { result ≡ is_extra_long extra.now }
 {
-    match extra {
-        Extra::Raw(raw) => raw.body.len() > Raw::MOST_BODY,
-        Extra::Association(association) => association.tail.len() > Association::MOST_TAIL,
-    }
+    with_extra!(extra, item => item.tail().len() > Raw::MOST_BODY - item.field_bytes().len())
 }
 
 fn any_extra_long(extras: &[Extra]) -> bool
@@ -57,33 +53,10 @@ pub(crate) fn has_long_descriptor(c: &Configuration) -> bool
         || any_setting_long(&c.settings)
 }
 
-/// Whether a set gives the type a meaning.
-pub(crate) fn is_typed(kind: u8) -> bool
-    ensures { result ≡ is_typed kind }
-{
-    matches!(
-        kind,
-        descriptor_type::CONFIGURATION
-            | descriptor_type::INTERFACE
-            | descriptor_type::ENDPOINT
-            | descriptor_type::OTHER_SPEED_CONFIGURATION
-            | descriptor_type::INTERFACE_ASSOCIATION
-    )
-}
-
-fn is_typed_raw(extra: &Extra) -> bool
-    ensures { result ≡ is_typed_raw extra.now }
-{
-    match extra {
-        Extra::Raw(raw) => is_typed(raw.kind),
-        Extra::Association(_) => false,
-    }
-}
-
 fn any_typed_raw(extras: &[Extra]) -> bool
     ensures { result ≡ list_any is_typed_raw extras.now }
 {
-    extras.iter().any(|extra| is_typed_raw(extra))
+    extras.iter().any(|extra| extra.is_typed_raw())
 }
 
 fn any_endpoint_typed(endpoints: &[Endpoint]) -> bool

@@ -7,7 +7,7 @@ ghost use Rattle.usb_set.specs.inside.Trees.{endpoint_bytes, extra_bytes, is_end
 ghost use Rattle.usb_set_encoder.specs.inside.Writing.{HasRoom, Puts};
 
 use usb_base::{descriptor_length, descriptor_type};
-use usb_set::{Configuration, Endpoint, Extra, Setting};
+use usb_set::{Configuration, Endpoint, Extra, Setting, with_extra};
 
 /// A part of a set that is written as bytes of its own. All parts are inlined, since one loop nest is the quicker.
 trait Written {
@@ -71,13 +71,9 @@ impl Written for Extra {
 
     #[inline(always)]
     fn put(&self, out: &mut [u8], at: usize) -> usize {
-        match self {
-            Extra::Raw(raw) => put_descriptor(out, at, raw.kind, &[], &raw.body),
-            Extra::Association(a) => {
-                let kind = descriptor_type::INTERFACE_ASSOCIATION;
-                put_descriptor(out, at, kind, &a.field_bytes(), &a.tail)
-            }
-        }
+        with_extra!(self, item => {
+            put_descriptor(out, at, item.descriptor_type(), &item.field_bytes(), item.tail())
+        })
     }
 }
 

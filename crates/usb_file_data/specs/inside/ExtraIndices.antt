@@ -1,15 +1,15 @@
 -- The indices of strings that the extras of a set name, owner by owner.
-use Rattle.std.specs.Prelude.{ℕ, List, [], ◌∷◌, ◌++◌}
+use Rattle.std.specs.Prelude.{ℕ, List, ◌++◌, map}
 use Rattle.std.specs.List.{flat_map}
-use Rattle.usb_set.specs.declared.tree.Extra.{Extra}
-use Rattle.usb_set.specs.declared.tree.Extra.TheVariants as extras
+use Rattle.usb_set.specs.declared.extra.Extra.{Extra}
 use Rattle.usb_set.specs.declared.tree.Endpoint.{Endpoint}
 use Rattle.usb_set.specs.declared.tree.Setting.{Setting}
+use Rattle.usb_set.specs.Parts.{association_in}
+use Rattle.usb_file_data.specs.Named.{association_string_index}
 
 -- of an extra
 abbrev pub extra_indices : Extra → List ℕ
-extra_indices (extras.Raw r) = []
-extra_indices (extras.Association a) = a.text ∷ []
+extra_indices x = map association_string_index (association_in x)
 
 -- of the extras of an endpoint
 abbrev pub endpoint_extra_indices : Endpoint → List ℕ

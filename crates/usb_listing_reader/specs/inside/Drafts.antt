@@ -73,8 +73,7 @@ Fits words.OtherSpeed b f = IsFirst b
 Fits words.Qualifier b f = IsItem (fields words.Qualifier b)
 Fits words.Interface b f = JoinsLast b (open_sets f f.other)
 Fits words.Endpoint b f = JoinsLast b (open_sets f f.other)
-Fits words.Raw b f = JoinsLast b (open_sets f f.other)
-Fits words.Association b f = JoinsLast b (open_sets f f.other)
+Fits (words.Extra x) b f = JoinsLast b (open_sets f f.other)
 Fits word b f = ⊥
 
 -- how many bytes the last set has with a descriptor of this word, of so many bytes
@@ -83,8 +82,7 @@ work_with work words.Configuration n = n
 work_with work words.OtherSpeed n = n
 work_with work words.Interface n = work + n
 work_with work words.Endpoint n = work + n
-work_with work words.Raw n = work + n
-work_with work words.Association n = work + n
+work_with work (words.Extra x) n = work + n
 work_with work word n = 0
 
 -- the draft of the file that was answered

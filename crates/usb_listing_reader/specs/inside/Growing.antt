@@ -92,8 +92,7 @@ may_follow_sets words.Configuration f o = is_none o && nat_lt (length (open_sets
 may_follow_sets words.OtherSpeed f o = is_some o && nat_lt (length (open_sets f o)) (declared f o)
 may_follow_sets words.Endpoint f o = has_interface (last_of (open_sets f o))
 may_follow_sets words.Interface f o = not (length (open_sets f o) == 0)
-may_follow_sets words.Raw f o = not (length (open_sets f o) == 0)
-may_follow_sets words.Association f o = not (length (open_sets f o) == 0)
+may_follow_sets (words.Extra x) f o = not (length (open_sets f o) == 0)
 may_follow_sets words.Qualifier f o = is_none o && (length (open_sets f o) == declared f o)
 may_follow_sets words.Languages f o = (length (open_sets f o) == declared f o) && not (length (named_indices f) == 0)
 may_follow_sets words.Device f o = false

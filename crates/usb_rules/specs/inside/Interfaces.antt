@@ -2,7 +2,7 @@
 use Rattle.std.specs.Prelude.{◌≡◌, ℕ, ◌+◌, ◌==◌, ◌&&◌, ◌||◌, not, Bool, true, false, List, [], ◌∷◌, ◌++◌, length, map, slice_index_or, take}
 use Rattle.std.specs.List.{list_any, range_with_len}
 use Rattle.usb_base.specs.Marks.{marked, is_marked}
-use Rattle.usb_set.specs.declared.tree.Association.{Association}
+use Rattle.usb_set.specs.declared.extra.Association.{Association}
 use Rattle.usb_set.specs.declared.tree.Setting.{Setting}
 use Rattle.usb_rules.specs.declared.interfaces.Interface.{Interface}
 use Rattle.usb_rules.specs.Places.{at_each, stands_in, when}

@@ -1,7 +1,7 @@
 -- The bytes and the tests of each part of a set's tree.
 use Rattle.std.specs.Prelude.{ℕ, List, ◌++◌, Bool, ◌||◌}
 use Rattle.std.specs.List.{flat_map, list_any}
-use Rattle.usb_set.specs.declared.tree.Extra.{Extra}
+use Rattle.usb_set.specs.declared.extra.Extra.{Extra}
 use Rattle.usb_set.specs.declared.tree.Endpoint.{Endpoint}
 use Rattle.usb_set.specs.declared.tree.Setting.{Setting}
 use Rattle.usb_set.specs.declared.tree.Configuration.{Configuration}

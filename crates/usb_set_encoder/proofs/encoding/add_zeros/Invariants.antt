@@ -1,4 +1,4 @@
-use Rattle.std.proofs.Common.{◌≡◌, ◌+◌, ◌-◌, ◌≤◌, length, take, vec_len, vec_capacity}
+use Rattle.std.proofs.Common.{◌≡◌, ◌-◌, ◌≤◌, length, take, vec_len, vec_capacity}
 use Rattle.usb_set_encoder.proofs.encoding.add_zeros.Given as goal
 
 abbrev pub invariant-loop-out : goal.invariant-loop-out
