@@ -28,14 +28,14 @@ among-append : (xs ys : List (Holder × Extra)) → among (xs ++ ys) ≡ among x
 among-append xs ys =
     ap (map (λ x. x.1)) (flat_map-append _ xs ys) ∙ map-append (λ x. x.1) (associations_among xs) (associations_among ys)
 
-without_holder : (h : Holder) (xs : List Association) → map (λ x. x.1) (map (λ a. (h, a)) xs) ≡ xs
+without_holder : (h : Holder) (xs : List Association) → map (λ (x : Holder × Association). x.1) (map (λ (a : Association). (h, a)) xs) ≡ xs
 without_holder h [] = refl
 without_holder h (a ∷ xs) = ap (λ ys. a ∷ ys) (without_holder h xs)
 
 among_held : (h : Holder) (xs : List Extra) → among (held h xs) ≡ flat_map association_in xs
 among_held h [] = refl
 among_held h (x ∷ xs) =
-    map-append (λ x. x.1) (map (λ a. (h, a)) (association_in x)) (associations_among (held h xs))
+    map-append (λ x. x.1) (map (λ (a : Association). (h, a)) (association_in x)) (associations_among (held h xs))
     ∙ ap (λ ys. ys ++ among (held h xs)) (without_holder h (association_in x))
     ∙ ap (λ ys. association_in x ++ ys) (among_held h xs)
 
