@@ -1,8 +1,9 @@
-//! A descriptor file of many sets.
+//! Descriptor files: one of many sets, and what is done with one that is given.
 use anyhow::Result;
 use std::alloc::Global;
-use usb_fields::{DeviceDescriptor, Qualifier};
-use usb_file::{DescriptorFile, Other};
+use usb_device::Description;
+use usb_fields::{DeviceDescriptor, Qualifier, Speed, descriptor_type};
+use usb_file::{DescriptorFile, Other, list, named, read_file, write_file};
 use usb_set::{Sequence, SetKind, read_set};
 
 /// The most configurations that a device has at one speed.
@@ -69,4 +70,69 @@ fn copies_of(
         sets.push(set)?;
     }
     Ok(sets)
+}
+
+/// Writes the file that the bytes are so many times over, or none where they are a set.
+pub(crate) fn write_given(alloc: Global, bytes: &[u8], rounds: u32) -> Result<usize> {
+    let Ok(file) = read_file(alloc, bytes) else {
+        return Ok(0);
+    };
+    for _ in 0..rounds {
+        write_file(alloc, &file)?;
+    }
+    Ok(bytes.len())
+}
+
+/// Lists the file that the bytes are so many times over, or none where they are a set.
+pub(crate) fn list_given(alloc: Global, bytes: &[u8], rounds: u32) -> Result<usize> {
+    let Ok(file) = read_file(alloc, bytes) else {
+        return Ok(0);
+    };
+    let mut count = 0;
+    for _ in 0..rounds {
+        let mut text = Vec::new(alloc);
+        list(alloc, &file, &mut text)?;
+        count = text.len();
+    }
+    Ok(count)
+}
+
+/// Reads the bytes as a file and makes a description of it so many times over, of none where they are a set.
+pub(crate) fn describe_again(alloc: Global, bytes: &[u8], rounds: u32) -> Result<usize> {
+    for _ in 0..rounds {
+        let Ok(file) = read_file(alloc, bytes) else {
+            return Ok(0);
+        };
+        Description::new(alloc, file, Speed::Full)?;
+    }
+    Ok(bytes.len())
+}
+
+/// Looks so many times for the last string of the file that the bytes are, and answers how many bytes it has.
+pub(crate) fn find_last(alloc: Global, bytes: &[u8], rounds: u32) -> Result<usize> {
+    let Ok(file) = read_file(alloc, bytes) else {
+        return Ok(0);
+    };
+    let (Some(index), Some(language)) = (last_index(alloc, &file)?, last_language(&file)) else {
+        return Ok(0);
+    };
+    let description = Description::new(alloc, file, Speed::Full)?;
+    let mut count = 0;
+    for _ in 0..rounds {
+        if let Some(place) = description.find(descriptor_type::STRING, index, language) {
+            count = description.bytes(place).len();
+        }
+    }
+    Ok(count)
+}
+
+fn last_index(alloc: Global, file: &DescriptorFile) -> Result<Option<u8>> {
+    Ok(named(alloc, file)?.last().copied())
+}
+
+fn last_language(file: &DescriptorFile) -> Option<u16> {
+    match &file.strings {
+        None => None,
+        Some(strings) => strings.languages.last().copied(),
+    }
 }

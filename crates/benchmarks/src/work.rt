@@ -1,7 +1,7 @@
 //! What is measured.
 use crate::enumerating::{Counted, count_naks, count_transactions};
 use crate::enumerations::enumerate_again;
-use crate::files::file_of;
+use crate::files::{describe_again, file_of, find_last, list_given, write_given};
 use crate::host::{Until, drive_again, take_naks, take_packets, talk_again};
 use crate::listings::assemble_again;
 use crate::rules::{check_file, check_sets};
@@ -23,6 +23,10 @@ pub(crate) enum Work {
     List,
     ReadFile,
     WriteFile,
+    WriteGiven,
+    ListGiven,
+    Describe,
+    FindLast,
     HostSetup,
     HostData,
     HostStatus,
@@ -45,7 +49,7 @@ pub(crate) enum Work {
 }
 
 impl Work {
-    pub(crate) const ALL: [Work; 26] = [
+    pub(crate) const ALL: [Work; 30] = [
         Work::DecodeWhole,
         Work::DecodePieces,
         Work::DecodeBytes,
@@ -53,6 +57,10 @@ impl Work {
         Work::List,
         Work::ReadFile,
         Work::WriteFile,
+        Work::WriteGiven,
+        Work::ListGiven,
+        Work::Describe,
+        Work::FindLast,
         Work::HostSetup,
         Work::HostData,
         Work::HostStatus,
@@ -84,6 +92,10 @@ impl Work {
             Work::List => "list",
             Work::ReadFile => "read-file",
             Work::WriteFile => "write-file",
+            Work::WriteGiven => "write-given",
+            Work::ListGiven => "list-given",
+            Work::Describe => "describe",
+            Work::FindLast => "find-last",
             Work::HostSetup => "host-setup",
             Work::HostData => "host-data",
             Work::HostStatus => "host-status",
@@ -117,6 +129,10 @@ impl Work {
             Work::List => list(alloc, set, rounds),
             Work::ReadFile => read_again(alloc, set, copies, rounds),
             Work::WriteFile => write_again(alloc, set, copies, rounds),
+            Work::WriteGiven => write_given(alloc, set, rounds),
+            Work::ListGiven => list_given(alloc, set, rounds),
+            Work::Describe => describe_again(alloc, set, rounds),
+            Work::FindLast => find_last(alloc, set, rounds),
             Work::HostSetup => drive_again(set, Until::Setup, rounds),
             Work::HostData => drive_again(set, Until::Data, rounds),
             Work::HostStatus => drive_again(set, Until::Status, rounds),
