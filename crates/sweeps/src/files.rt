@@ -9,7 +9,7 @@ use std::io::Cursor;
 use usb_fields::{UnitFault, read_units, text_of, write_units, write_units_onto};
 use usb_file::{
     DescriptorFile, FileWhy, Input, InputFault, ListWhy, OutFault, WriteFault, assemble, check,
-    list, named, read_file, read_input, write_file,
+    check_dump, list, named, read_file, read_input, write_file,
 };
 
 /// More bytes than a listing of these has.
@@ -57,7 +57,7 @@ pub(crate) fn mouse_calls(alloc: Global) -> [Call; 9] {
 }
 
 /// The calls on a mouse with a second speed and a string, and on the dump that is the front of its file.
-pub(crate) fn everything_calls(alloc: Global) -> [Call; 9] {
+pub(crate) fn everything_calls(alloc: Global) -> [Call; 10] {
     let sample = Sample {
         bytes: &EVERYTHING,
         parts: &EVERYTHING_PARTS,
@@ -66,6 +66,7 @@ pub(crate) fn everything_calls(alloc: Global) -> [Call; 9] {
         string: Some(&UNITS),
     };
     let [read, taken, named, string, check, write, list, assemble] = answers(alloc, &sample);
+    let (read_dump, check_dump) = dump_answers(alloc);
     [
         Call::new("everything read_file", read),
         Call::new("everything read_input", taken),
@@ -75,7 +76,8 @@ pub(crate) fn everything_calls(alloc: Global) -> [Call; 9] {
         Call::new("everything write_file", write),
         Call::new("everything list", list),
         Call::new("everything assemble", assemble),
-        Call::new("dump read_input", read_dump(alloc)),
+        Call::new("dump read_input", read_dump),
+        Call::new("dump check_dump", check_dump),
     ]
 }
 
@@ -120,16 +122,33 @@ fn read_input_again(alloc: Global, file: &DescriptorFile, sample: &Sample<'_>) -
     }
 }
 
-/// Reads the dump that is the front of the second file; where memory is wanting at a part, once more.
-fn read_dump(alloc: Global) -> Answer {
+/// Reads the dump that is the front of the second file, and checks it; where memory is wanting, once more each.
+fn dump_answers(alloc: Global) -> (Answer, Answer) {
     let bytes = &EVERYTHING[..DUMP_LENGTH];
     match read_input(alloc, bytes) {
-        Ok(Input::Dump(file)) => right(file.sets.len() == 1 && file.strings.is_none()),
+        Ok(Input::Dump(dump)) => {
+            let is_whole = dump.sets.len() == 1 && dump.strings.is_none();
+            (right(is_whole), check_dump_again(alloc, &dump))
+        }
         Err(InputFault::File(fault)) => {
             let there = fault.why == FileWhy::Memory && EVERYTHING_PARTS.contains(&fault.at);
-            refused(there && read_input(alloc, bytes).is_ok())
+            match read_input(alloc, bytes) {
+                Ok(Input::Dump(dump)) => (refused(there), check_dump_again(alloc, &dump)),
+                _ => (Answer::Wrong, Answer::Wrong),
+            }
         }
-        _ => Answer::Wrong,
+        _ => (Answer::Wrong, Answer::Wrong),
+    }
+}
+
+/// The findings on a dump, of which there is none; where memory is wanting, once more.
+fn check_dump_again(alloc: Global, dump: &DescriptorFile) -> Answer {
+    match check_dump(alloc, dump) {
+        Ok(findings) => right(findings.is_empty()),
+        Err(_) => refused(match check_dump(alloc, dump) {
+            Ok(findings) => findings.is_empty(),
+            Err(_) => false,
+        }),
     }
 }
 

@@ -5,11 +5,11 @@ ghost use Rattle.usb_set.specs.Faults.{is_whole};
 use crate::sets::{encode_again, encode_onto_again};
 use growths::{Answer, Call, MIXED, MIXED_PARTS, refused, right};
 use std::alloc::{AllocError, Global};
-use usb_file::{Input, InputFault, read_input};
+use usb_file::{Input, InputFault, check_set, read_input};
 use usb_set::{Configuration, SetWhy, add_descriptor, begin_set, next_fault, read_set};
 
 /// The calls on the set.
-pub(crate) fn calls(alloc: Global) -> [Call; 5] {
+pub(crate) fn calls(alloc: Global) -> [Call; 6] {
     let (read, set) = read_again(alloc);
     let answers = match &set {
         Some(set) => [
@@ -17,16 +17,18 @@ pub(crate) fn calls(alloc: Global) -> [Call; 5] {
             read_input_again(alloc, set),
             encode_again(alloc, set, &MIXED),
             encode_onto_again(alloc, set, &MIXED),
+            check_again(alloc, set),
         ],
-        None => [Answer::Wrong; 4],
+        None => [Answer::Wrong; 5],
     };
-    let [built, taken, encoded, added] = answers;
+    let [built, taken, encoded, added, checked] = answers;
     [
         Call::new("read_set", read),
         Call::new("begin_set and add_descriptor", built),
         Call::new("read_input", taken),
         Call::new("encode", encoded),
         Call::new("encode_onto", added),
+        Call::new("check_set", checked),
     ]
 }
 
@@ -51,6 +53,17 @@ fn read_input_again(alloc: Global, wanted: &Configuration) -> Answer {
             refused(there && read_input(alloc, &MIXED).is_ok())
         }
         _ => Answer::Wrong,
+    }
+}
+
+/// The findings, of which there is none; where memory is wanting, once more.
+fn check_again(alloc: Global, set: &Configuration) -> Answer {
+    match check_set(alloc, set) {
+        Ok(findings) => right(findings.is_empty()),
+        Err(_) => refused(match check_set(alloc, set) {
+            Ok(findings) => findings.is_empty(),
+            Err(_) => false,
+        }),
     }
 }
 

@@ -63,13 +63,13 @@ const ONCE: &str = "success attempts 1 transactions 31 address 1 value 1\n";
 const TWICE: &str = "success attempts 2 transactions 24 address 1 value 1\n";
 
 /// The runs of commands.
-pub(crate) fn commands() -> [Sample; 11] {
+pub(crate) fn commands() -> [Sample; 13] {
     let [set, file, dump] = shows();
-    let [keeps, breaks] = checks();
+    let [keeps, breaks, lone, dumped] = checks();
     let [small, large] = builds();
     let [once, twice, troubled, barred] = enumerations();
     [
-        set, file, dump, keeps, breaks, small, large, once, twice, troubled, barred,
+        set, file, dump, keeps, breaks, lone, dumped, small, large, once, twice, troubled, barred,
     ]
 }
 
@@ -98,8 +98,8 @@ fn shows() -> [Sample; 3] {
     [set, file, dump]
 }
 
-/// What breaks a rule, in a file that keeps all and in one that doesn't.
-fn checks() -> [Sample; 2] {
+/// What breaks a rule, in a file that keeps all and in one that doesn't, in a set alone and in a dump.
+fn checks() -> [Sample; 4] {
     let keeps = Sample {
         name: "run_check",
         command: Command::Check,
@@ -115,7 +115,17 @@ fn checks() -> [Sample; 2] {
         status: 1,
         ..keeps
     };
-    [keeps, breaks]
+    let lone = Sample {
+        name: "run_check of a set",
+        input: &MIXED,
+        ..keeps
+    };
+    let dumped = Sample {
+        name: "run_check of a dump",
+        input: &DUMP,
+        ..keeps
+    };
+    [keeps, breaks, lone, dumped]
 }
 
 /// Files of two listings.
