@@ -17,7 +17,7 @@ pub(crate) struct Answer {
 
 impl Answer {
     /// The answer of this command to the input.
-    pub(crate) fn of(alloc: Global, command: Command, mut input: &[u8]) -> Result<Answer> {
+    pub(crate) fn of(alloc: Global, command: &Command, mut input: &[u8]) -> Result<Answer> {
         let mut output = Vec::new(alloc);
         let outcome = command.run(alloc, &mut input, &mut output);
         Answer::new(alloc, outcome, output)
@@ -26,7 +26,7 @@ impl Answer {
     /// The answer of a command that ended so and wrote this.
     pub(crate) fn new(
         alloc: Global,
-        outcome: core::result::Result<u8, ToolFault>,
+        outcome: std::result::Result<u8, ToolFault>,
         output: Vec<u8>,
     ) -> Result<Answer> {
         let status = verdict(&outcome);

@@ -35,19 +35,19 @@ impl Block {
     /// Takes the answers of the commands to an input, which are a case. What `show` lists is built again.
     pub(crate) fn take(&mut self, input: &[u8]) -> Result<()> {
         self.begin("")?;
-        let shown = self.answer(Command::Show, input)?;
-        self.answer(Command::Check, input)?;
+        let shown = self.answer(&Command::Show, input)?;
+        self.answer(&Command::Check, input)?;
         if shown.is_empty() {
-            self.answer(Command::Build, input)?;
+            self.answer(&Command::Build, input)?;
         } else {
-            self.answer(Command::Build, &shown)?;
+            self.answer(&Command::Build, &shown)?;
         }
-        self.answer(Command::Enumerate(self.limits), input)?;
+        self.answer(&Command::Enumerate(self.limits), input)?;
         Ok(())
     }
 
     /// Adds the answer of a command, and gives what it writes.
-    fn answer(&mut self, command: Command, input: &[u8]) -> Result<Vec<u8>> {
+    fn answer(&mut self, command: &Command, input: &[u8]) -> Result<Vec<u8>> {
         let answer = Answer::of(self.alloc, command, input)?;
         self.add(command, &answer)?;
         Ok(answer.output)
@@ -74,7 +74,7 @@ impl Block {
     }
 
     /// Adds the answer of a command to the case.
-    pub(crate) fn add(&mut self, command: Command, answer: &Answer) -> Result<()> {
+    pub(crate) fn add(&mut self, command: &Command, answer: &Answer) -> Result<()> {
         let (word, status) = (command.word(), answer.status);
         let lines = format!(in self.alloc; "{word} {status}\n{}\n", answer.fault)?;
         self.text.extend_from_slice(lines.as_bytes())?;

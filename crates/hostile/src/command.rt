@@ -6,7 +6,7 @@ use usb_tool::{ToolFault, run_build, run_check, run_enumerate, run_show};
 use usb_transfer::Limits;
 
 /// A command.
-#[derive(Clone, Copy, PartialEq, Eq)]
+#[derive(Clone, Copy)]
 pub(crate) enum Command {
     Show,
     Check,
@@ -28,7 +28,7 @@ impl Command {
     }
 
     /// Its word on a command line.
-    pub(crate) fn word(self) -> &'static str {
+    pub(crate) fn word(&self) -> &'static str {
         match self {
             Command::Show => "show",
             Command::Check => "check",
@@ -39,7 +39,7 @@ impl Command {
 
     /// Carries it out.
     pub(crate) fn run<R: Read, W: Write>(
-        self,
+        &self,
         alloc: Global,
         r: &mut R,
         w: &mut W,
@@ -48,7 +48,7 @@ impl Command {
             Command::Show => run_show(alloc, r, w),
             Command::Check => run_check(alloc, r, w),
             Command::Build => run_build(alloc, r, w),
-            Command::Enumerate(limits) => run_enumerate(alloc, r, w, limits, Speed::Full, &[]),
+            Command::Enumerate(limits) => run_enumerate(alloc, r, w, *limits, Speed::Full, &[]),
         }
     }
 }

@@ -12,7 +12,7 @@ const STEPS: [usize; 3] = [1, 7, 4096];
 const FAULTS: [Fault; 3] = [Fault::Fails, Fault::IsInterrupted, Fault::Nothing];
 
 /// The command over readers that fail at each of their calls in turn.
-pub(crate) fn readers(example: &Example, command: Command, block: &mut Block) -> Result<()> {
+pub(crate) fn readers(example: &Example, command: &Command, block: &mut Block) -> Result<()> {
     for step in STEPS {
         for fault in FAULTS {
             failing_reader(example, command, block, step, fault)?;
@@ -24,7 +24,7 @@ pub(crate) fn readers(example: &Example, command: Command, block: &mut Block) ->
 /// The command over readers of this kind, of which the last one has no fault.
 fn failing_reader(
     example: &Example,
-    command: Command,
+    command: &Command,
     block: &mut Block,
     step: usize,
     fault: Fault,
@@ -38,7 +38,7 @@ fn failing_reader(
 }
 
 /// One reader, and whether its fault came. What it holds then and how often it was called behind the fault is told.
-fn read(example: &Example, command: Command, block: &mut Block, plan: Plan) -> Result<bool> {
+fn read(example: &Example, command: &Command, block: &mut Block, plan: Plan) -> Result<bool> {
     let alloc = example.alloc;
     let mut reader = Reader::new(&example.bytes, plan);
     let mut output = Vec::new(alloc);
@@ -50,7 +50,7 @@ fn read(example: &Example, command: Command, block: &mut Block, plan: Plan) -> R
 }
 
 /// The command over writers that fail at each of their calls in turn, and at their flush.
-pub(crate) fn writers(example: &Example, command: Command, block: &mut Block) -> Result<()> {
+pub(crate) fn writers(example: &Example, command: &Command, block: &mut Block) -> Result<()> {
     for step in STEPS {
         for fault in FAULTS {
             failing_writer(example, command, block, step, fault)?;
@@ -68,7 +68,7 @@ pub(crate) fn writers(example: &Example, command: Command, block: &mut Block) ->
 /// The command over writers of this kind, of which the last one has no fault.
 fn failing_writer(
     example: &Example,
-    command: Command,
+    command: &Command,
     block: &mut Block,
     step: usize,
     fault: Fault,
@@ -82,7 +82,7 @@ fn failing_writer(
 }
 
 /// One writer, and whether its fault came. What it holds then and how often it was called behind the fault is told.
-fn write(example: &Example, command: Command, block: &mut Block, plan: Plan) -> Result<bool> {
+fn write(example: &Example, command: &Command, block: &mut Block, plan: Plan) -> Result<bool> {
     let alloc = example.alloc;
     let mut writer = Writer::new(alloc, plan);
     let outcome = command.run(alloc, &mut example.bytes.as_slice(), &mut writer);

@@ -95,8 +95,8 @@ fn block_of(example: &Example, way: &str, tally: Tally) -> Result<Block> {
             let (word, streams) = way.split_once('-').context("no way")?;
             let command = Command::of(word, limits).context("no command")?;
             match streams {
-                "readers" => failing::readers(example, command, &mut block)?,
-                "writers" => failing::writers(example, command, &mut block)?,
+                "readers" => failing::readers(example, &command, &mut block)?,
+                "writers" => failing::writers(example, &command, &mut block)?,
                 _ => bail!("{way} is no way"),
             }
         }

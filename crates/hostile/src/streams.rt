@@ -1,4 +1,6 @@
 //! Readers and writers that fail.
+ghost use Rattle.std.specs.Prelude.{◌≡◌, IfOk};
+
 use std::alloc::Global;
 use std::fmt;
 use std::io::{Error, ErrorKind, Read, Result, Write};
@@ -26,7 +28,9 @@ impl Fault {
         }
     }
 
-    fn result(self) -> Result<usize> {
+    fn result(self) -> Result<usize>
+        ensures { IfOk result (λ count. count ≡ 0) }
+    {
         match self {
             Fault::Fails => Err(Error::from(ErrorKind::Other)),
             Fault::IsInterrupted => Err(Error::from(ErrorKind::Interrupted)),
