@@ -23,13 +23,14 @@ const FATES: [Fate; 5] = [
 
 /// The calls.
 pub(crate) fn calls(alloc: Global) -> [Call; 4] {
+    let named = fates(alloc);
     let (made, words) = make_words(alloc);
     let read = match &words {
         Some(words) => read_again(alloc, words),
         None => Answer::Wrong,
     };
     [
-        Call::new("read_fates", fates(alloc)),
+        Call::new("read_fates", named),
         Call::new("words", made),
         Call::new("read_line", read),
         Call::new("settings_of", settle(alloc)),
