@@ -1,6 +1,7 @@
 -- What proofs know of extras: each statement has a case for each type, and all other proofs go by these.
 use Rattle.std.proofs.Common.{◌≡◌, ℕ, ◌+◌, ◌≤◌, true, false, eqb, List, [], ◌∷◌, length, Option, Some, None, is_some, unwrap_or, refl, sym, ap, subst, ◌∙◌, arith, inl, inr}
 use Rattle.std.proofs.lemmas.Bool.{eqb-true, ne_eqb, cond-true, cond-false, cases_Bool}
+use Rattle.usb_base.specs.Bytes.{AreBytes}
 use Rattle.usb_set.specs.declared.extra.Extra.{Extra}
 use Rattle.usb_set.specs.declared.extra.Extra.TheVariants as extras
 use Rattle.usb_set.specs.Descriptors.{Descriptor, association_of, extra_descriptor, extra_of, typed_length}
@@ -37,8 +38,8 @@ association_again (a ∷ b ∷ c ∷ d ∷ []) n = absurd (omega arith)
 association_again (a ∷ b ∷ c ∷ d ∷ e ∷ []) n = absurd (omega arith)
 association_again (a ∷ b ∷ c ∷ d ∷ e ∷ f ∷ tail) n = refl
 
-pub extra_again : (item : Descriptor) → least_length item.kind ≤ 2 + length item.body → extra_descriptor (extra_of item) ≡ item
-extra_again item long =
+pub extra_again : (item : Descriptor) → least_length item.kind ≤ 2 + length item.body → AreBytes item.body → extra_descriptor (extra_of item) ≡ item
+extra_again item long fits =
     elim (cases_Bool (eqb item.kind 11)) [
       | inl y ↦
           let is : item.kind ≡ 11 = eqb-true item.kind 11 y in

@@ -235,7 +235,7 @@ later_descriptors-attach c room item fine fits =
             ∙ ap (λ n. later_descriptors c ++ record { kind = n; body = item.body } ∷ []) (sym five)
         | inr neither ↦
             ap later_descriptors (attach-extra c item neither.0 neither.1) ∙ later_descriptors-extra (extra_of item) c
-            ∙ ap (λ (d : Descriptor). later_descriptors c ++ d ∷ []) (extra_again item (fault_long room (has_setting c) item fine))
+            ∙ ap (λ (d : Descriptor). later_descriptors c ++ d ∷ []) (extra_again item (fault_long room (has_setting c) item fine) fits)
       ]
     ]
 
