@@ -185,7 +185,7 @@ fn enumerations() -> [Sample; 4] {
 /// The runs of the whole program.
 pub(crate) fn lines() -> [Sample; 3] {
     let [_, file, _] = shows();
-    let [_, breaks] = checks();
+    let [_, breaks, _, _] = checks();
     let [_, twice, _, _] = enumerations();
     [
         Sample {
