@@ -1,7 +1,7 @@
 //! What comes of each call that a row can name.
-use crate::row::{Answer, Row};
 use crate::{command_line, failing, fields, files, messages, program, sets};
 use anyhow::{Result, bail};
+use rows::{Answer, Row};
 use std::alloc::Global;
 
 /// What the row's call answers.

@@ -1,8 +1,7 @@
 //! Rows on readers and writers that fail, with each of the program's commands.
 use crate::program::{changed_text, told};
-use crate::row::Row;
-use crate::streams::{End, Endless, Pieces, Sheet};
 use anyhow::{Context, Result, bail, ensure};
+use rows::{End, Endless, Pieces, Row, Sheet};
 use std::alloc::Global;
 
 /// A run of the program over an input: its word, what it writes, and how it ends.

@@ -1,6 +1,6 @@
 //! Rows on single descriptors and setup packets.
-use crate::words::{bytes_of, units_of};
 use anyhow::{Result, bail, ensure};
+use rows::{bytes_of, units_of};
 use std::alloc::Global;
 use usb_fields::{DeviceDescriptor, Qualifier, Setup, read_units, write_units};
 use usb_set::{Endpoint, Sequence};

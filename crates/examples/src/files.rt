@@ -1,9 +1,8 @@
 //! Rows on descriptor files.
 use crate::fields::fault;
 use crate::program::fault_of;
-use crate::tree::file_of;
-use crate::words::bytes_of;
 use anyhow::{Result, bail, ensure};
+use rows::{bytes_of, file_of};
 use std::alloc::Global;
 use usb_file::{
     DescriptorFile, FileFault, FileWhy, Input, check, named, read_file, read_input, write_file,

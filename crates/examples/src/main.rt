@@ -11,14 +11,10 @@ mod files;
 mod messages;
 mod program;
 mod real;
-mod row;
 mod sets;
-mod streams;
-mod tree;
-mod words;
 
 use anyhow::{Context, Result, bail, ensure};
-use row::rows_of;
+use rows::rows_of;
 use std::fs;
 use std::rt::Files;
 

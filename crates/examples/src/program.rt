@@ -1,8 +1,7 @@
 //! Rows on the program: what it does with words and an input.
 use crate::real::count_lines;
-use crate::row::Answer;
-use crate::words::{bytes_of, change};
 use anyhow::{Context, Result, ensure};
+use rows::{Answer, bytes_of, change};
 use std::alloc::Global;
 use std::io::{Read, Write};
 use usb_tool::run;

@@ -1,9 +1,7 @@
 //! Rows on configuration sets.
 use crate::fields::fault;
-use crate::row::Answer;
-use crate::tree::set_of;
-use crate::words::bytes_of;
 use anyhow::{Context, Result, ensure};
+use rows::{Answer, bytes_of, set_of};
 use std::alloc::Global;
 use usb_set::{Configuration, Decoder, EncodeFault, Progress, SetFault, read_set};
 use usb_set_encoder::{encode, refusal};

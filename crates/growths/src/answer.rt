@@ -1,4 +1,6 @@
 //! What came of a call.
+ghost use Rattle.std.specs.Prelude.{◌≡◌, if◌then◌else◌};
+ghost use Rattle.growths.specs.declared.answer.Answer.TheVariants.{Right, Memory, Wrong};
 
 /// What a call answered.
 #[derive(Clone, Copy, Debug, PartialEq, Eq)]
@@ -12,12 +14,16 @@ pub enum Answer {
 }
 
 /// The answer of a call that didn't refuse.
-pub fn right(holds: bool) -> Answer {
+pub fn right(holds: bool) -> Answer
+    ensures { result ≡ (if holds then Right else Wrong) }
+{
     if holds { Answer::Right } else { Answer::Wrong }
 }
 
 /// The answer of a call that refused, out of memory.
-pub fn refused(holds: bool) -> Answer {
+pub fn refused(holds: bool) -> Answer
+    ensures { result ≡ (if holds then Memory else Wrong) }
+{
     if holds { Answer::Memory } else { Answer::Wrong }
 }
 
@@ -31,8 +37,13 @@ pub struct Call {
 }
 
 impl Call {
+    ghost use Rattle.std.specs.Prelude.{◌≡◌};
+
     /// A call of this name that answered so.
-    pub fn new(name: &'static str, answer: Answer) -> Call {
+    pub fn new(name: &'static str, answer: Answer) -> Call
+        ensures name { result.name ≡ name.entry }
+        ensures answer { result.answer ≡ answer }
+    {
         Call { name, answer }
     }
 }

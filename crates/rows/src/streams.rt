@@ -6,7 +6,7 @@ use std::io::{Error, ErrorKind, Read, Result, Write};
 
 /// A reader that gives at most `step` bytes a call, and fails once, at the call after so many.
 #[derive(Drop)]
-pub(crate) struct Pieces<'a> {
+pub struct Pieces<'a> {
     rest: &'a [u8],
     step: usize,
     calls: usize,
@@ -18,7 +18,7 @@ pub(crate) struct Pieces<'a> {
 
 impl<'a> Pieces<'a> {
     /// A reader of these bytes, which was not called yet.
-    pub(crate) fn new(rest: &'a [u8], step: usize, calls: usize) -> Pieces<'a>
+    pub fn new(rest: &'a [u8], step: usize, calls: usize) -> Pieces<'a>
         ensures failed { result.failed ≡ 0 }
         ensures after { result.after ≡ 0 }
     {
@@ -58,7 +58,7 @@ fn put_front(bytes: &[u8], buf: &mut [u8]) {
 
 /// A reader that gives some bytes, and then zeros without end.
 #[derive(Drop)]
-pub(crate) struct Endless<'a> {
+pub struct Endless<'a> {
     front: &'a [u8],
     /// How many bytes it gave.
     pub given: usize,
@@ -66,7 +66,7 @@ pub(crate) struct Endless<'a> {
 
 impl<'a> Endless<'a> {
     /// A reader that begins with these bytes, and gave none yet.
-    pub(crate) fn new(front: &'a [u8]) -> Endless<'a>
+    pub fn new(front: &'a [u8]) -> Endless<'a>
         ensures { result.given ≡ 0 }
     {
         Endless { front, given: 0 }
@@ -86,7 +86,7 @@ impl Read for Endless<'_> {
 
 /// What a writer does once its calls are used up.
 #[derive(Clone, Copy, PartialEq, Eq)]
-pub(crate) enum End {
+pub enum End {
     /// Each further call fails.
     Fails,
     /// Each further call takes no byte.
@@ -95,7 +95,7 @@ pub(crate) enum End {
 
 /// A writer that takes at most `step` bytes a call.
 #[derive(Drop)]
-pub(crate) struct Sheet {
+pub struct Sheet {
     /// What it was given.
     pub text: Vec<u8>,
     step: usize,
@@ -109,7 +109,7 @@ pub(crate) struct Sheet {
 
 impl Sheet {
     /// An empty sheet for so many calls, whose flush succeeds.
-    pub(crate) fn new(alloc: Global, step: usize, calls: usize, end: End) -> Sheet
+    pub fn new(alloc: Global, step: usize, calls: usize, end: End) -> Sheet
         ensures text { result.text.items ≡ [] }
         ensures ended { result.ended ≡ false }
         ensures flushes { result.flushes ≡ true }

@@ -246,11 +246,19 @@ fn made_of(alloc: Global, lines: &str) -> Result<Builder> {
 }
 
 /// The file of the lines.
-pub(crate) fn file_of(alloc: Global, lines: &str) -> Result<DescriptorFile> {
+///
+/// # Errors
+///
+/// A line that says no descriptor, or out of memory.
+pub fn file_of(alloc: Global, lines: &str) -> Result<DescriptorFile> {
     made_of(alloc, lines)?.finish()
 }
 
-/// The one set of the lines.
-pub(crate) fn set_of(alloc: Global, lines: &str) -> Result<Configuration> {
+/// The last set of the lines.
+///
+/// # Errors
+///
+/// A line that says no descriptor, no set, or out of memory.
+pub fn set_of(alloc: Global, lines: &str) -> Result<Configuration> {
     made_of(alloc, lines)?.sets.pop().context("no set")
 }

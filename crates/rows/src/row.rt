@@ -8,7 +8,7 @@ use std::alloc::Global;
 
 /// One row of a file.
 #[derive(Drop)]
-pub(crate) struct Row {
+pub struct Row {
     /// The number of its line in the file, from 1.
     pub line: usize,
     /// What is asked for.
@@ -23,7 +23,7 @@ pub(crate) struct Row {
 
 /// What comes of a row.
 #[derive(Drop, PartialEq, Eq)]
-pub(crate) struct Answer {
+pub struct Answer {
     /// The words behind the arrow.
     pub words: String,
     /// What is written to standard output, or would be: the lines behind `>`.
@@ -34,7 +34,7 @@ pub(crate) struct Answer {
 
 impl Answer {
     /// An answer of words alone.
-    pub(crate) fn of(words: String, alloc: Global) -> Answer
+    pub fn of(words: String, alloc: Global) -> Answer
         ensures words { result.words ≡ words }
         ensures output { string_bytes result.output ≡ [] }
         ensures errors { string_bytes result.errors ≡ [] }
@@ -47,8 +47,12 @@ impl Answer {
     }
 }
 
-/// All rows of a text. An error names the line at which it failed.
-pub(crate) fn rows_of(alloc: Global, text: &str) -> Result<Vec<Row>> {
+/// All rows of a text.
+///
+/// # Errors
+///
+/// A line that is no row, with its number, or out of memory.
+pub fn rows_of(alloc: Global, text: &str) -> Result<Vec<Row>> {
     let mut names = Names::new(alloc);
     let mut rows = Vec::new(alloc);
     for (before, line) in text.lines().enumerate() {

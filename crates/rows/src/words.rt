@@ -75,14 +75,22 @@ fn counted(part: &str) -> (usize, &str) {
 
 /// The bytes that the words say, one after another: digits put more bytes behind, `2=21` puts others from
 /// place 2 on, `..20` leaves the first 20, and `-` says nothing.
-pub(crate) fn bytes_of(alloc: Global, words: &[String]) -> Result<Vec<u8>> {
+///
+/// # Errors
+///
+/// A word that says nothing of these, or out of memory.
+pub fn bytes_of(alloc: Global, words: &[String]) -> Result<Vec<u8>> {
     let mut bytes = Vec::new(alloc);
     change(alloc, &mut bytes, words)?;
     Ok(bytes)
 }
 
-/// Does with the bytes what the words say, one after another.
-pub(crate) fn change(alloc: Global, bytes: &mut Vec<u8>, words: &[String]) -> Result<()> {
+/// Does with the bytes what the words say, one after another, as [`bytes_of`] reads them.
+///
+/// # Errors
+///
+/// A word that says nothing, or out of memory.
+pub fn change(alloc: Global, bytes: &mut Vec<u8>, words: &[String]) -> Result<()> {
     for word in words {
         put(bytes, alloc, word.as_str()).context(format_args!("in {word}"))?;
     }
@@ -115,8 +123,12 @@ fn overwrite(bytes: &mut Vec<u8>, place: usize, others: Vec<u8>) -> Result<()> {
     Ok(())
 }
 
-/// The units of four digits each, the high byte first.
-pub(crate) fn units_of(alloc: Global, bytes: &[u8]) -> Result<Vec<u16>> {
+/// The units of two bytes each, the high byte first.
+///
+/// # Errors
+///
+/// Half a unit, or out of memory.
+pub fn units_of(alloc: Global, bytes: &[u8]) -> Result<Vec<u16>> {
     let mut units = Vec::new(alloc);
     for pair in bytes.chunks(2) {
         match pair {
