@@ -1,5 +1,5 @@
 //! Goes through what the file `list` of `data/` names: files of rows, each of which says what is asked for
-//! and what must come, and examples, beside each of which lies its listing. It stops at the first that
+//! and what must come, examples, beside each of which lies its listing, and runs of the program with options. It stops at the first that
 //! differs. `data/README.md` says how rows are written.
 #![tactic(auto)]
 
@@ -9,6 +9,7 @@ mod failing;
 mod fields;
 mod files;
 mod messages;
+mod output;
 mod program;
 mod real;
 mod sets;
@@ -45,6 +46,8 @@ fn go_through<R: Files + AllocGlobal>(rt: &R, line: &str) -> Result<String> {
         real::build(rt, name)
     } else if kind == "broken" {
         real::refuse(rt, name)
+    } else if kind == "output" {
+        output::output(rt, name)
     } else {
         bail!("neither rows nor an example")
     }

@@ -1,6 +1,6 @@
-//! The examples: each is listed as the text beside it says, and what breaks the rules is told as a second text says. A set
-//! and a file are written again to the same bytes. A file's listing is read back to its bytes, and its device is
-//! enumerated at each speed as a third text says. Listings by hand are read back to
+//! The examples: each is listed as the text beside it says, what breaks the rules is told as a second text says, and what
+//! each descriptor says is explained as a third one does. A set and a file are written again to the same bytes. A file's
+//! listing is read back to its bytes, and its device is enumerated at each speed as a fourth text says. Listings by hand are read back to
 //! the bytes beside them, and broken ones have their fault told.
 use crate::program::{fault_of, told};
 use crate::{files, sets};
@@ -17,6 +17,7 @@ pub(crate) fn set<R: Files + AllocGlobal>(rt: &R, name: &str) -> Result<String> 
     let text = read(rt, name, "txt")?;
     compare(alloc, "show", &bytes, &text, "0")?;
     check(rt, name, &bytes)?;
+    explain(rt, name, &bytes)?;
     sets::write_again(alloc, Some(&bytes), &sets::decoded(alloc, &bytes)?)?;
     counts(alloc, &bytes, &text)
 }
@@ -29,6 +30,7 @@ pub(crate) fn file<R: Files + AllocGlobal>(rt: &R, name: &str) -> Result<String>
     compare(alloc, "show", &bytes, &text, "0")?;
     files::write_again(alloc, &bytes, &read_file(alloc, &bytes)?)?;
     check(rt, name, &bytes)?;
+    explain(rt, name, &bytes)?;
     build_again(alloc, &text, &bytes)?;
     let results = String::from_utf8(read(rt, name, "enumerate")?)?;
     for line in results.as_str().lines() {
@@ -46,6 +48,7 @@ pub(crate) fn dump<R: Files + AllocGlobal>(rt: &R, name: &str) -> Result<String>
     let text = read(rt, name, "txt")?;
     compare(alloc, "show", &bytes, &text, "0")?;
     check(rt, name, &bytes)?;
+    explain(rt, name, &bytes)?;
     let counts = counts(alloc, &bytes, &text)?;
     let cuts = files::cut(alloc, &bytes)?;
     let form = match read_input(alloc, &bytes)? {
@@ -74,6 +77,12 @@ fn check<R: Files + AllocGlobal>(rt: &R, name: &str, bytes: &[u8]) -> Result<()>
         "1"
     };
     compare(rt.alloc(), "check", bytes, &findings, status)
+}
+
+/// Explains an input as the text beside it says.
+fn explain<R: Files + AllocGlobal>(rt: &R, name: &str, bytes: &[u8]) -> Result<()> {
+    let text = read(rt, name, "explain")?;
+    compare(rt.alloc(), "explain", bytes, &text, "0")
 }
 
 /// The bytes that lie there under this name and ending.

@@ -1,9 +1,12 @@
 -- What the words of a command line ask for.
-use Rattle.std.specs.Prelude.{◌≡◌, ℕ, List, Option, Some, IfSome, codes, map, option_map, pos, true, String, string_bytes}
+use Rattle.std.specs.Prelude.{◌≡◌, ℕ, List, Bool, true, false, Option, Some, None, IfSome, codes, map, option_map, pos, String, string_bytes}
+use Rattle.std.specs.Str.{bytes_eq}
 use Rattle.std.specs.Borrow.{Bor}
 use Rattle.std.specs.Global.{Global}
 use Rattle.clap.specs.Words.{App, Row, Rule, Text, first_of, new_app, new_rule, with_rule, with_subcommand}
+use Rattle.clap.specs.declared.builder.action.ArgAction.TheVariants as actions
 use Rattle.clap.specs.declared.builder.value_parser.ValueParser.TheVariants as parsers
+use Rattle.usb_command_line.specs.declared.explaining.Explaining.{Explaining}
 use Rattle.usb_command_line.specs.declared.line.Line.{Line}
 use Rattle.usb_command_line.specs.declared.line.Line.TheVariants as lines
 use Rattle.usb_command_line.specs.declared.options.Options.{Options}
@@ -15,6 +18,16 @@ valued_rule name = record (new_rule name) { long = Some name }
 -- an option whose value is a number from `least` to `most`
 abbrev pub number_rule : Text → ℕ → ℕ → Rule
 number_rule name least most = record (valued_rule name) { parser = Some (parsers.Signed (pos least) (pos most)) }
+
+-- an option of this name without a value
+abbrev pub flag_rule : Text → Rule
+flag_rule name = record (new_rule name) { long = Some name; action = Some actions.SetTrue }
+
+abbrev pub brief_rule : Rule
+brief_rule = flag_rule (codes "brief")
+
+abbrev pub no_places_rule : Rule
+no_places_rule = flag_rule (codes "no-places")
 
 abbrev pub speed_rule : Rule
 speed_rule = valued_rule (codes "speed")
@@ -37,6 +50,10 @@ enumerate_app =
     with_rule (with_rule (with_rule (with_rule (with_rule (new_app (codes "enumerate")) speed_rule) address_rule)
     naks_rule) attempts_rule) fates_rule
 
+-- the command `explain` with its options
+abbrev pub explain_app : App
+explain_app = with_rule (with_rule (with_rule (new_app (codes "explain")) brief_rule) no_places_rule) speed_rule
+
 -- a command that is called by the name of one of its subcommands
 abbrev pub requiring : App → App
 requiring a = record a { top = record a.top { subcommand_required = true } }
@@ -44,8 +61,8 @@ requiring a = record a { top = record a.top { subcommand_required = true } }
 -- the command `usbdesc` with its subcommands
 abbrev pub usbdesc_app : App
 usbdesc_app =
-    with_subcommand (with_subcommand (with_subcommand (with_subcommand (requiring (new_app (codes "usbdesc")))
-    (new_app (codes "show")).top) (new_app (codes "check")).top) (new_app (codes "build")).top) enumerate_app.top
+    with_subcommand (with_subcommand (with_subcommand (with_subcommand (with_subcommand (requiring (new_app (codes "usbdesc")))
+    (new_app (codes "show")).top) (new_app (codes "check")).top) (new_app (codes "build")).top) explain_app.top) enumerate_app.top
 
 -- a subcommand of this name was found
 abbrev pub IsNamed : Text → Option (Text × List Row) → Type 0
@@ -54,6 +71,17 @@ IsNamed name found = option_map (λ p. p.0) found ≡ Some name
 -- the text behind a reference, where there is one
 abbrev pub text_of : Option (Bor Text) → Option Text
 text_of = option_map (λ s. s.now)
+
+-- whether a flag was given: `clap` has the text `true` for it then
+abbrev pub is_given : Option Text → Bool
+is_given None = false
+is_given (Some text) = bytes_eq text (codes "true")
+
+-- the flags are those that were found, and so is the text of the speed
+pub record HasFlags (o : Explaining) (rows : List Row) : Type 0 where
+  pub brief : o.brief ≡ is_given (first_of (codes "brief") rows)
+  pub no_places : o.no_places ≡ is_given (first_of (codes "no-places") rows)
+  pub speed : text_of o.speed ≡ first_of (codes "speed") rows
 
 -- the text of each option is the one that was found for it
 pub record HasTexts (o : Options) (rows : List Row) : Type 0 where
@@ -68,6 +96,7 @@ abbrev pub Asks : Line → Option (Text × List Row) → Type 0
 Asks lines.Show found = IsNamed (codes "show") found
 Asks lines.Check found = IsNamed (codes "check") found
 Asks lines.Build found = IsNamed (codes "build") found
+Asks (lines.Explain o) found = IsNamed (codes "explain") found × IfSome found (λ p. HasFlags o p.1)
 Asks (lines.Enumerate o) found = IsNamed (codes "enumerate") found × IfSome found (λ p. HasTexts o p.1)
 
 -- the words as clap sees them

@@ -1,7 +1,7 @@
 //! What help says of the commands and of their options.
 
 /// What the program does.
-pub(crate) const ABOUT: &str = "Lists, checks, builds and enumerates USB 2.0 descriptors";
+pub(crate) const ABOUT: &str = "Lists, checks, builds, explains and enumerates USB 2.0 descriptors";
 
 /// What `show` does.
 pub(crate) const SHOW_ABOUT: &str =
@@ -74,6 +74,37 @@ Exit status:
   2  the command line is no command
   3  reading, the listing or writing is at fault; standard error says how, and of a listing
      the number of the fault and the first line at fault";
+
+/// What `explain` does.
+pub(crate) const EXPLAIN_ABOUT: &str =
+    "Explains the set, descriptor file or dump on standard input in words, a heading for each descriptor";
+
+/// What stands below the help of `explain`.
+pub(crate) const EXPLAIN_HELP: &str = "\
+Input:
+  A configuration set, a descriptor file or a dump, as of 'show'. One that is broken is
+  explained up to its fault.
+
+Text:
+  Each descriptor has a heading, with the place of its first byte and its length. Below it
+  stand what breaks a rule of chapter 9 there, behind a '!', and its fields. Units of
+  intervals and of bMaxPower hang on the speed, which stands in the heading of each set:
+  that of '--speed', or what the descriptors say of it.
+
+Exit status:
+  0  the text is written, with findings too
+  2  the command line is no command, or '--speed' names no speed
+  3  reading, the input or writing is at fault; standard error says how";
+
+/// What `--brief` says.
+pub(crate) const BRIEF_HELP: &str = "Leaves the fields out";
+
+/// What `--no-places` says.
+pub(crate) const NO_PLACES_HELP: &str = "Leaves the places out";
+
+/// What `--speed` of `explain` says.
+pub(crate) const RAN_AT_HELP: &str =
+    "Speed at which the device ran: low, full, high or super [default: what the descriptors say]";
 
 /// What `enumerate` does.
 pub(crate) const ENUMERATE_ABOUT: &str =

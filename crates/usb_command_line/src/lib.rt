@@ -1,7 +1,7 @@
 //! The command line of `usbdesc`: what its words say.
 //!
 //! [`read_line`] asks `clap` what the words ask for. Its [`Line`] is a command, and of `enumerate` it has the
-//! [`Options`], which are the texts that stand behind them. Its contract is exact both ways: the line is that of
+//! [`Options`], which are the texts that stand behind them, and of `explain` [`Explaining`]. Its contract is exact both ways: the line is that of
 //! `clap`'s function of the words, and each fault is `clap`'s own (`specs/Lines.antt`).
 //!
 //! [`settings_of`] makes the [`Settings`] of an enumeration of these texts, with what holds where an option is
@@ -14,6 +14,7 @@
 #![tactic(auto)]
 
 mod command;
+mod explaining;
 mod fates;
 mod help;
 mod line;
@@ -22,6 +23,7 @@ mod settings;
 mod speed;
 mod words;
 
+pub use explaining::Explaining;
 pub use fates::{FatesFault, read_fates};
 pub use line::{Line, read_line};
 pub use options::Options;

@@ -2,10 +2,11 @@
 ghost use Rattle.std.specs.Prelude.{◌≡◌, IfOk};
 ghost use Rattle.clap.specs.Words.{fault_of, found_of, rows_of, subcommand_of, subcommand_rows_of};
 ghost use Rattle.clap.specs.Kinds.{FailsBy};
-ghost use Rattle.usb_command_line.specs.Lines.{Asks, HasTexts, usbdesc_app, word_texts};
+ghost use Rattle.usb_command_line.specs.Lines.{Asks, HasFlags, HasTexts, is_given, text_of, usbdesc_app, word_texts};
 ghost use Rattle.usb_command_line.specs.inside.Choosing.{NamesCommand};
 
 use crate::command::usbdesc;
+use crate::explaining::Explaining;
 use crate::options::Options;
 use clap::{ArgMatches, Error};
 use std::alloc::Global;
@@ -19,6 +20,8 @@ pub enum Line<'a> {
     Check,
     /// The bytes of the file whose listing is the input.
     Build,
+    /// What the descriptors of the input mean, in words.
+    Explain(Explaining<'a>),
     /// What a host reads of a device that has the descriptors of the file that is the input.
     Enumerate(Options<'a>),
 }
@@ -60,9 +63,27 @@ fn line_of<'a>(matches: &ArgMatches<'a>) -> Line<'a>
         Some((name, _)) if name == "show" => Line::Show,
         Some((name, _)) if name == "check" => Line::Check,
         Some((name, _)) if name == "build" => Line::Build,
+        Some((name, options)) if name == "explain" => Line::Explain(explaining_of(options)),
         Some((name, options)) if name == "enumerate" => Line::Enumerate(options_of(options)),
         _ => unreachable!(),
     }
+}
+
+fn explaining_of<'a>(matches: &ArgMatches<'a>) -> Explaining<'a>
+    ensures { HasFlags result (rows_of (found_of matches.now)) }
+{
+    Explaining {
+        brief: is_given(matches.get_str("brief")),
+        no_places: is_given(matches.get_str("no-places")),
+        speed: matches.get_str("speed"),
+    }
+}
+
+/// Whether a flag was given, whose text this is.
+fn is_given(text: Option<&str>) -> bool
+    ensures { result ≡ is_given (text_of text.entry) }
+{
+    text == Some("true")
 }
 
 fn options_of<'a>(matches: &ArgMatches<'a>) -> Options<'a>

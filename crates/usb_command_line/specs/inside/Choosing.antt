@@ -11,7 +11,7 @@ use Rattle.usb_command_line.specs.declared.options.Options.{Options}
 abbrev pub NamesCommand : Option (Text × List Row) → Type 0
 NamesCommand found =
     IsNamed (codes "show") found ⊎ (IsNamed (codes "check") found
-    ⊎ (IsNamed (codes "build") found ⊎ IsNamed (codes "enumerate") found))
+    ⊎ (IsNamed (codes "build") found ⊎ (IsNamed (codes "explain") found ⊎ IsNamed (codes "enumerate") found)))
 
 -- the fates that options name are refused
 abbrev pub RefusesFatesSaid : Options → FatesFault → Type 0

@@ -1,0 +1,495 @@
+#!/usr/bin/env python3
+"""A separate reading of what `usbdesc explain` prints, from which the explanations beside the examples come.
+
+It was written from the tables in words (docs/EXPLAIN.md), in another language and by no function of this repository.
+Names of class codes and of descriptors of classes are those of data/explain/classes.txt and descriptors.txt. The gate
+compares what it writes (.ci/readings).
+
+    explaining.py set FILE..     writes the explanation of the configuration set to the file of that name that ends in
+                                 .explain
+    explaining.py file FILE..    the same of a descriptor file
+    explaining.py dump FILE..    the same of a dump of Linux
+"""
+
+import os
+import sys
+
+import checking
+
+HERE = os.path.dirname(os.path.abspath(__file__))
+LOW_OR_FULL, HIGH, FULL_OR_HIGH, SUPER = "low or full speed", "high speed", "full or high speed", "SuperSpeed"
+TRANSFERS = ("control", "isochronous", "bulk", "interrupt")
+
+
+def read_classes():
+    names = {}
+    with open(os.path.join(HERE, "data/explain/classes.txt"), encoding="ascii") as table:
+        for line in table:
+            codes, words = [], line.split()
+            while len(words[0]) == 2 and all(c in "0123456789abcdef" for c in words[0]):
+                codes.append(int(words.pop(0), 16))
+            names[tuple(codes)] = " ".join(words)
+    return names
+
+
+def read_rows():
+    rows = []
+    with open(os.path.join(HERE, "data/explain/descriptors.txt"), encoding="ascii") as table:
+        for line in table:
+            head, fields, group = line.rstrip("\n").split("|")
+            words = head.split()
+            codes = [None if word == "--" else int(word, 16) for word in words[:5]]
+            rows.append((codes, " ".join(words[5:]), fields.split(), group.split()))
+    return rows
+
+
+CLASSES, ROWS = read_classes(), read_rows()
+
+
+def count(n, noun):
+    return f"{n} {noun}" if n == 1 else f"{n} {noun}s"
+
+
+def byte(n):
+    return f"0x{n:02x}"
+
+
+def word(n):
+    return f"0x{n:04x}"
+
+
+def little(b):
+    return int.from_bytes(b, "little")
+
+
+def bcd(n):
+    return f"{n >> 8:x}.{n & 255:02x}"
+
+
+def with_meaning(number, meaning):
+    return f"{number} ({meaning})" if meaning else number
+
+
+def class_words(codes):
+    codes = tuple(codes)
+    names = [CLASSES.get(codes[:1], f"class {byte(codes[0])}"), CLASSES.get(codes[:2]), CLASSES.get(codes)]
+    return " / ".join(name for name in names if name)
+
+
+def class_fields(stem, codes):
+    for i, name in enumerate(("Class", "SubClass", "Protocol")):
+        yield f"{stem}{name}", with_meaning(byte(codes[i]), CLASSES.get(tuple(codes[: i + 1])))
+
+
+def quoted(units):
+    plain = (chr(u) if 0x20 <= u <= 0x7E and chr(u) not in '"\\' else f"\\{u:04x}" for u in units)
+    return '"' + "".join(plain) + '"'
+
+
+def end(address, attributes):
+    way = "" if attributes % 4 == 0 else " IN" if address >= 128 else " OUT"
+    return f"EP {address % 16}{way}"
+
+
+def attribute_words(a):
+    if a % 4 != 1:
+        return TRANSFERS[a % 4]
+    synchronization = ("no synchronization", "asynchronous", "adaptive", "synchronous")[a >> 2 & 3]
+    usage = ("data", "feedback", "implicit feedback data", "reserved usage")[a >> 4 & 3]
+    return f"isochronous, {synchronization}, {usage}"
+
+
+def size_words(attributes, size):
+    words, more = count(size % 2048, "byte"), size >> 11 & 3
+    if attributes % 2 == 0 or more == 0:
+        return words
+    return f"{words}, reserved multiple" if more == 3 else f"{more + 1} x {words} a microframe"
+
+
+def power_of_two(n, unit):
+    if not 1 <= n <= 16:
+        return "out of range"
+    us = 2 ** (n - 1) * unit
+    return f"{us} us" if us < 1000 else f"{us // 1000} ms"
+
+
+def interval_words(attributes, n, speed):
+    """The interval of a periodic endpoint; of others there is none."""
+    if attributes % 2 == 0:
+        return None
+    if attributes % 4 == 1:
+        slow = power_of_two(n, 1000)
+    else:
+        slow = f"{n} ms" if n else "out of range"
+    fast = power_of_two(n, 125)
+    return {LOW_OR_FULL: slow, FULL_OR_HIGH: f"{slow}; at high speed {fast}"}.get(speed, fast)
+
+
+def voices(d):
+    """Whether an endpoint speaks of high speed, and whether of low or full speed."""
+    attributes, size, interval = d[3], little(d[4:6]), d[6]
+    kind, packet = attributes % 4, size % 2048
+    high = (kind == 2 and packet == 512) or (kind == 3 and packet > 64) or (kind == 1 and packet > 1023)
+    high = high or (kind % 2 == 1 and size >> 11 & 3 != 0)
+    return high, (kind == 2 and packet <= 64) or (kind == 3 and interval > 16)
+
+
+def row_of(d, codes):
+    """The first row that holds of a raw descriptor behind an interface of these codes."""
+    for (class_, subclass, protocol, kind, first), name, fields, group in ROWS:
+        wanted = (class_, subclass, protocol)
+        mine = codes or (None, None, None)
+        if kind == d[1] and all(w is None or w == m for w, m in zip(wanted, mine)):
+            if first is None or (len(d) > 2 and d[2] == first):
+                return name, fields, group
+    return None
+
+
+def field_words(form, b):
+    if form.startswith("hex"):
+        return f"0x{little(b):0{2 * len(b)}x}"
+    if form.startswith("dec"):
+        return str(little(b))
+    if form == "bcd":
+        return f"{word(little(b))} ({bcd(little(b))})"
+    return with_meaning(byte(b[0]), {0x22: "report", 0x23: "physical"}.get(b[0]))
+
+
+def raw_fields(d, row):
+    yield "bDescriptorType", byte(d[1])
+    _, fields, group = row or (None, [], [])
+    rest = d[2:]
+    for field in fields:
+        name, form = field.split(":")
+        size = 2 if form == "bcd" else int(form[-1])
+        if size > len(rest):
+            break
+        yield name, field_words(form, rest[:size])
+        rest = rest[size:]
+    else:
+        sizes = [2 if field.endswith("bcd") else int(field[-1]) for field in group]
+        while group and sum(sizes) <= len(rest):
+            for field, size in zip(group, sizes):
+                name, form = field.split(":")
+                yield name, field_words(form, rest[:size])
+                rest = rest[size:]
+    if rest:
+        yield "bytes", rest.hex()
+
+
+class Explanation:
+    def __init__(self, kind, data, speed=None, fault=None, brief=False, places=True):
+        self.kind, self.data, self.asked, self.brief, self.places = kind, data, speed, brief, places
+        self.fault, self.lines = fault, []
+        self.found = []
+        self.names, self.string_places = {}, None
+        if not fault:
+            lines = checking.findings(kind, data).splitlines()
+            self.found = [line.split() for line in lines if line != "no findings"]
+            if kind == "file":
+                self.find_names()
+        self.device, self.qualifier, self.languages = None, None, None
+        self.sets = {"main": 0, "other": 0}
+        self.strings = 0
+
+    # Names of strings
+
+    def find_names(self):
+        """The strings of the first language, and the index and the language of each string of the file."""
+        reader = checking.reading.Reader(self.data, True)
+        reader.file()
+        named = sorted(reader.named)
+        if not named:
+            return
+        at = self.end_of_sets()
+        languages = [little(self.data[i : i + 2]) for i in range(at + 2, at + self.data[at], 2)]
+        at += self.data[at]
+        self.string_places = [(index, language) for language in languages for index in named]
+        for index in named:
+            d = self.data[at : at + self.data[at]]
+            self.names[index] = [little(d[i : i + 2]) for i in range(2, len(d), 2)]
+            at += len(d)
+
+    def end_of_sets(self):
+        at = 18
+        for _ in range(self.data[17]):
+            at += little(self.data[at + 2 : at + 4])
+        if self.data[at + 1] == 6:
+            other, at = self.data[at + 8], at + 10
+            for _ in range(other):
+                at += little(self.data[at + 2 : at + 4])
+        return at
+
+    def index(self, n):
+        if n == 0:
+            return "0 (none)"
+        if self.fault:
+            return f"{n} (not read)"
+        return f"{n} {quoted(self.names[n])}" if n in self.names else f"{n} (not in the input)"
+
+    # Lines
+
+    def heading(self, depth, text, at, length):
+        place = f" @{at}+{length}" if self.places else ""
+        self.lines.append(" " * (2 * depth) + text + place)
+
+    def finding(self, depth, rule, text):
+        self.lines.append(" " * (2 * depth + 2) + f"! V{rule} {text}")
+
+    def fields(self, depth, fields):
+        if not self.brief:
+            for name, value in fields:
+                self.lines.append(" " * (2 * depth + 4) + f"{name:<22} {value}")
+
+    def breaks(self, rule, part, set_=0, setting=0, endpoint=0):
+        return [f"V{rule}", part, str(set_), str(setting), str(endpoint)] in self.found
+
+    def findings(self, depth, texts, part, set_=0, setting=0, endpoint=0):
+        for rule, text in texts:
+            if self.breaks(rule, part, set_, setting, endpoint):
+                self.finding(depth, rule, text)
+
+    # Descriptors
+
+    def is_super(self):
+        return self.asked == "super" or (self.asked is None and little(self.device[2:4]) >= 0x0300)
+
+    def device_packet(self, n):
+        if not self.is_super():
+            return str(n)
+        return f"{n} ({count(2 ** n, 'byte')})" if n <= 15 else f"{n} (out of range)"
+
+    def of_device(self, d, at):
+        self.device = d
+        usb, codes = little(d[2:4]), d[4:7]
+        text = f"device {little(d[8:10]):04x}:{little(d[10:12]):04x}, USB {bcd(usb)}, {class_words(codes)}"
+        self.heading(0, text, at, len(d))
+        if d[17] == 0:
+            self.findings(0, [(10, "there is no configuration")], "main")
+        sizes = "9" if self.kind == "dump" and usb >= 0x0300 else "8, 16, 32 or 64"
+        wrong = f"bMaxPacketSize0 isn't {sizes}, or there is a subclass without a class"
+        self.findings(0, [(11, wrong)], "device")
+        fields = [("bcdUSB", f"{word(usb)} ({bcd(usb)})"), *class_fields("bDevice", codes)]
+        fields.append(("bMaxPacketSize0", self.device_packet(d[7])))
+        fields += [("idVendor", word(little(d[8:10]))), ("idProduct", word(little(d[10:12])))]
+        fields.append(("bcdDevice", f"{word(little(d[12:14]))} ({bcd(little(d[12:14]))})"))
+        fields += [(name, self.index(d[i])) for name, i in (("iManufacturer", 14), ("iProduct", 15), ("iSerialNumber", 16))]
+        self.fields(0, [*fields, ("bNumConfigurations", d[17])])
+
+    def of_qualifier(self, d, at):
+        self.qualifier = d
+        usb, codes = little(d[2:4]), d[4:7]
+        self.heading(0, f"qualifier of the other speed, USB {bcd(usb)}, {class_words(codes)}", at, len(d))
+        if d[8] == 0:
+            self.findings(0, [(10, "there is no configuration")], "other")
+        wrong = "bMaxPacketSize0 isn't 8, 16, 32 or 64, or there is a subclass without a class, or bReserved isn't 0"
+        self.findings(0, [(11, wrong)], "other")
+        fields = [("bcdUSB", f"{word(usb)} ({bcd(usb)})"), *class_fields("bDevice", codes)]
+        self.fields(0, [*fields, ("bMaxPacketSize0", d[7]), ("bNumConfigurations", d[8]), ("bReserved", byte(d[9]))])
+
+    def speed_of(self, part, descriptors):
+        if self.kind == "set":
+            given = {"low": LOW_OR_FULL, "full": LOW_OR_FULL, "high": HIGH, "super": SUPER}.get(self.asked)
+            packet = None
+        elif part == "main":
+            given = {"low": LOW_OR_FULL, "full": LOW_OR_FULL, "high": HIGH, "super": SUPER}.get(self.asked)
+            usb, packet = little(self.device[2:4]), self.device[7]
+            if not given:
+                given = SUPER if usb >= 0x0300 else LOW_OR_FULL if usb < 0x0200 else None
+        else:
+            given = {"full": HIGH, "high": LOW_OR_FULL}.get(self.asked)
+            packet = self.qualifier[7]
+        if given:
+            return given
+        if packet not in (None, 64):
+            return LOW_OR_FULL
+        said = [voices(d) for _, d in descriptors if d[1] == 5 and len(d) >= 7]
+        high, low = any(v[0] for v in said), any(v[1] for v in said)
+        return HIGH if high and not low else LOW_OR_FULL if low and not high else FULL_OR_HIGH
+
+    def of_set(self, at, limit):
+        """The set at this place, as far as it goes; answers where what is left of the input begins."""
+        header = self.data[at : at + self.data[at]]
+        end_of_set = at + little(header[2:4])
+        descriptors = list(cut(self.data, at, min(end_of_set, limit)))
+        main = header[1] == 2
+        part = "main" if main else "other"
+        place = (part, self.sets[part])
+        self.sets[part] += 1
+        speed = self.speed_of(part, descriptors)
+        associations = [d for _, d in descriptors[1:] if d[1] == 11]
+        numbers = {d[2] for _, d in descriptors[1:] if d[1] == 4}
+        self.of_configuration(header, at, main, place, speed, len(numbers))
+        codes, owner, setting, endpoint, association = None, 1, -1, 0, 0
+        for i, (p, d) in enumerate(descriptors[1:], 1):
+            if d[1] == 4:
+                owner, setting, endpoint, codes = 2, setting + 1, 0, tuple(d[5:8])
+                behind = [x[1] for _, x in descriptors[i + 1 :]]
+                has = behind[: behind.index(4)].count(5) if 4 in behind else behind.count(5)
+                self.of_interface(d, p, place + (setting,), associations, has)
+            elif d[1] == 5:
+                owner = 3
+                self.of_endpoint(d, p, place + (setting, endpoint), speed, codes)
+                endpoint += 1
+            elif d[1] == 11:
+                self.of_association(d, p, place + (association,), owner + 1)
+                association += 1
+            else:
+                self.of_raw(d, p, owner + 1, codes)
+        return descriptors[-1][0] + len(descriptors[-1][1])
+
+    def of_configuration(self, d, at, main, place, speed, interfaces):
+        power = "self-powered" if d[7] & 0x40 else "bus-powered"
+        current = f"{d[8] * (8 if speed == SUPER else 2)} mA"
+        kind = "configuration" if main else "other-speed configuration"
+        self.heading(1, f"{kind} {d[5]}, {speed}, {count(d[4], 'interface')}, {power}, {current}", at, len(d))
+        texts = [
+            (1, f"bNumInterfaces is {d[4]}, and the set has {count(interfaces, 'interface')}"),
+            (2, "the interfaces aren't numbered from 0 without a gap"),
+            (9, "bit 7 of bmAttributes isn't one, or bits 4 to 0 aren't zero"),
+            (10, "bConfigurationValue is 0, or an earlier set has it"),
+        ]
+        self.findings(1, texts, *place)
+        wakeup = ", remote wakeup" if d[7] & 0x20 else ""
+        fields = [
+            ("wTotalLength", little(d[2:4])),
+            ("bNumInterfaces", d[4]),
+            ("bConfigurationValue", d[5]),
+            ("iConfiguration", self.index(d[6])),
+            ("bmAttributes", f"{byte(d[7])} ({power}{wakeup})"),
+            ("bMaxPower", f"{d[8]} ({current})"),
+        ]
+        self.fields(1, fields + tail(d[9:]))
+
+    def of_association(self, d, at, place, depth):
+        first, n = d[2], d[3]
+        bound = "no interface" if n == 0 else f"interface {first}" if n == 1 else f"interfaces {first} to {first + n - 1}"
+        self.heading(depth, f"association {place[2]} of {bound}, {class_words(d[4:7])}", at, len(d))
+        self.findings(depth, [(13, "it binds no interface, or one that the set hasn't")], *place)
+        fields = [("bFirstInterface", first), ("bInterfaceCount", n), *class_fields("bFunction", d[4:7])]
+        self.fields(depth, [*fields, ("iFunction", self.index(d[7])), *tail(d[8:])])
+
+    def of_interface(self, d, at, place, associations, endpoints):
+        bound = [k for k, a in enumerate(associations) if a[2] <= d[2] < a[2] + a[3]]
+        of = f" of association {bound[0]}" if bound else ""
+        text = f"interface {d[2]} alternate {d[3]}{of}, {class_words(d[5:8])}, {count(d[4], 'endpoint')}"
+        self.heading(2, text, at, len(d))
+        texts = [
+            (3, "this interface has this alternate setting already"),
+            (4, "this interface has no alternate setting 0"),
+            (5, f"bNumEndpoints is {d[4]}, and the setting has {count(endpoints, 'endpoint')}"),
+        ]
+        self.findings(2, texts, *place)
+        fields = [("bInterfaceNumber", d[2]), ("bAlternateSetting", d[3]), ("bNumEndpoints", d[4])]
+        self.fields(2, [*fields, *class_fields("bInterface", d[5:8]), ("iInterface", self.index(d[8])), *tail(d[9:])])
+
+    def of_endpoint(self, d, at, place, speed, codes):
+        size, interval = size_words(d[3], little(d[4:6])), interval_words(d[3], d[6], speed)
+        text = f"endpoint {byte(d[2])} ({end(d[2], d[3])}), {attribute_words(d[3])}, {size}"
+        self.heading(3, text + (f", {interval}" if interval else ""), at, len(d))
+        texts = [
+            (6, "the address names endpoint 0, or bits 6 to 4 of it aren't zero"),
+            (7, "this setting has this address already"),
+            (8, "another interface of the set has this address"),
+            (12, "bits 15 to 13 of wMaxPacketSize aren't zero"),
+        ]
+        self.findings(3, texts, *place)
+        fields = [
+            ("bEndpointAddress", f"{byte(d[2])} ({end(d[2], d[3])})"),
+            ("bmAttributes", f"{byte(d[3])} ({attribute_words(d[3])})"),
+            ("wMaxPacketSize", f"{word(little(d[4:6]))} ({size})"),
+            ("bInterval", with_meaning(d[6], interval)),
+        ]
+        if len(d) == 9 and codes and codes[0] == 1:
+            fields += [("bRefresh", d[7]), ("bSynchAddress", byte(d[8]))]
+        else:
+            fields += tail(d[7:])
+        self.fields(3, fields)
+
+    def of_raw(self, d, at, depth, codes):
+        row = row_of(d, codes)
+        self.heading(depth, row[0] if row else f"descriptor of type {byte(d[1])}", at, len(d))
+        self.fields(depth, raw_fields(d, row))
+
+    def of_string(self, d, at):
+        units = [little(d[i : i + 2]) for i in range(2, len(d), 2)]
+        if self.languages is None:
+            self.languages = units
+            self.heading(0, " ".join(["languages", *map(word, units)]), at, len(d))
+            return
+        place = ""
+        if self.string_places:
+            index, language = self.string_places[self.strings]
+            place = f" {index} in {word(language)}:"
+        self.strings += 1
+        self.heading(0, f"string{place} {quoted(units)}", at, len(d))
+
+    # The whole
+
+    def stands(self, d, at):
+        """Whether a descriptor outside of a set is one that can stand there."""
+        return (
+            (d[1] == 1 and len(d) == 18 and at == 0)
+            or (d[1] == 6 and len(d) == 10 and self.device is not None)
+            or (d[1] in (2, 7) and len(d) >= 9)
+            or (d[1] == 3 and len(d) % 2 == 0 and (len(d) >= 4 or self.languages is not None))
+        )
+
+    def text(self):
+        names = {"set": "set", "file": "file", "dump": "device and its sets without strings"}
+        if self.fault:
+            is_set = self.data[1:2] in (b"\x02", b"\x07")
+            names = {self.kind: "broken set" if is_set else "broken file"}
+        self.lines.append(f"{names[self.kind]}, {count(len(self.data), 'byte')}")
+        limit = self.fault[0] if self.fault else len(self.data)
+        at = 0
+        while True:
+            d = next((d for _, d in cut(self.data, at, limit)), None)
+            if d is None or not self.stands(d, at):
+                break
+            if d[1] in (2, 7):
+                at = self.of_set(at, limit)
+                continue
+            {1: self.of_device, 6: self.of_qualifier, 3: self.of_string}[d[1]](d, at)
+            at += len(d)
+        if self.fault:
+            self.lines.append(f"  ! {self.fault[1]}")
+        rest = self.data[at:]
+        if rest:
+            self.heading(0, "the rest", at, len(rest))
+            more = f" and {len(rest) - 32} more" if len(rest) > 32 else ""
+            self.fields(0, [("bytes", rest[:32].hex() + more)])
+        if not self.fault:
+            self.lines.append(count(len(self.found), "finding") if self.found else "no findings")
+        return "".join(line + "\n" for line in self.lines)
+
+
+def tail(b):
+    return [("tail", b.hex())] if b else []
+
+
+def cut(data, at, limit):
+    """The descriptors from here on that end at or before the limit."""
+    while at < limit and 2 <= data[at] <= limit - at:
+        yield at, data[at : at + data[at]]
+        at += data[at]
+
+
+def main(words):
+    if len(words) < 2 or words[0] not in ("set", "file", "dump"):
+        sys.exit(__doc__)
+    for path in words[1:]:
+        with open(path, "rb") as source:
+            data = source.read()
+        # A dump that names no string is a file.
+        kind = words[0]
+        if kind == "dump":
+            reader = checking.reading.Reader(data, True)
+            reader.dump()
+            kind = "dump" if reader.named else "file"
+        with open(os.path.splitext(path)[0] + ".explain", "w", encoding="ascii") as target:
+            target.write(Explanation(kind, data).text())
+
+
+if __name__ == "__main__":
+    main(sys.argv[1:])

@@ -1,0 +1,12 @@
+//! The options of `explain`, as they are written.
+
+/// Which of the flags of `explain` are given, and the text of its speed.
+#[derive(Clone, Copy, Debug, PartialEq, Eq, Hash)]
+pub struct Explaining<'a> {
+    /// Whether the fields are left out.
+    pub brief: bool,
+    /// Whether the places are left out.
+    pub no_places: bool,
+    /// The name of a speed, or `None` where the words lack it.
+    pub speed: Option<&'a str>,
+}
