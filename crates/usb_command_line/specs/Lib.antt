@@ -1,4 +1,5 @@
 pub mod Lines
+pub mod Manners
 pub mod Values
 pub mod Settings
 pub mod Numbers

@@ -8,6 +8,8 @@
 //! absent (`specs/Settings.antt`). It reads the numbers, and [`read_speed`] and [`read_fates`] the other two
 //! (`specs/Values.antt`).
 //!
+//! [`manner_of`] says what the options of `explain` come to (`specs/Manners.antt`).
+//!
 //! [`refuse_words`] says what is told where the words could not be taken from the system.
 //!
 //! Nothing here reads an input or writes an output: the commands stand in the crate `usb_tool`.
@@ -18,6 +20,7 @@ mod explaining;
 mod fates;
 mod help;
 mod line;
+mod manner;
 mod options;
 mod settings;
 mod speed;
@@ -26,6 +29,7 @@ mod words;
 pub use explaining::Explaining;
 pub use fates::{FatesFault, read_fates};
 pub use line::{Line, read_line};
+pub use manner::{manner_of, read_running_speed};
 pub use options::Options;
 pub use settings::{Settings, SettingsFault, settings_of};
 pub use speed::read_speed;

@@ -6,5 +6,6 @@ pub mod Checks
 pub mod Builds
 pub mod ResultLines
 pub mod Enumerations
+pub mod Explains
 pub mod Runs
 pub mod inside

@@ -10,17 +10,22 @@ use Rattle.usb_listing.specs.Output.{Held}
 use Rattle.usb_tool.specs.Builds.{BuildFails, Built}
 use Rattle.usb_tool.specs.Checks.{CheckFails, Checked}
 use Rattle.usb_tool.specs.Enumerations.{Conditions, EnumerateFails, Enumerated, under}
+use Rattle.usb_tool.specs.Explains.{ExplainFails, Explained}
 use Rattle.usb_tool.specs.Input.{Left}
 use Rattle.usb_command_line.specs.Lines.{Asks, usbdesc_app, word_texts}
 use Rattle.usb_tool.specs.Shows.{Shown, ShowFails}
 use Rattle.usb_tool.specs.declared.fault.ToolFault.{ToolFault}
+use Rattle.usb_explain.specs.declared.manner.Manner.{Manner}
+use Rattle.usb_command_line.specs.Manners.{HasBadSpeed, IsManner}
 use Rattle.usb_command_line.specs.Numbers.{settings_status}
 use Rattle.usb_command_line.specs.Settings.{IsSettled, RefusesOptions}
+use Rattle.usb_command_line.specs.declared.explaining.Explaining.{Explaining}
 use Rattle.usb_command_line.specs.declared.line.Line.{Line}
 use Rattle.usb_command_line.specs.declared.line.Line.TheVariants as lines
 use Rattle.usb_command_line.specs.declared.options.Options.{Options}
 use Rattle.usb_command_line.specs.declared.settings.Settings.{Settings}
 use Rattle.usb_command_line.specs.declared.settings.SettingsFault.{SettingsFault}
+use Rattle.usb_command_line.specs.declared.settings.SettingsFault.TheVariants.{Speed}
 
 -- the exit status of a line that is no command: 0 where it asks for help, else 2
 abbrev pub line_status : ErrorKind → ℕ
@@ -110,11 +115,47 @@ pub record Enumerates (words : List (String Global)) (from to : Left) (held hold
   pub asked : Asks (lines.Enumerate options) (subcommand_of usbdesc_app (word_texts words))
   pub ended : EndsEnumeration options from to held holds status
 
+-- the options were taken, and the input was explained
+pub record ExplanationIsDone (o : Explaining) (from to : Left) (held holds : Held) (status : ℕ) : Type 0 where
+  pub manner : Manner
+  pub settled : IsManner o manner
+  pub done : Explained manner from to held holds
+  pub ended : status ≡ 0
+
+-- the options were taken, and the command failed
+pub record ExplanationFails (o : Explaining) (from to : Left) (held holds : Held) (status : ℕ) : Type 0 where
+  pub manner : Manner
+  pub fault : ToolFault
+  pub settled : IsManner o manner
+  pub failed : ExplainFails manner from to held holds fault
+  pub ended : status ≡ 3
+
+-- no speed has the name; nothing is read, and nothing is written to standard output
+pub record SpeedIsRefused (o : Explaining) (from to : Left) (held holds : Held) (status : ℕ) : Type 0 where
+  pub refused : HasBadSpeed o
+  pub input : Keeps from to
+  pub output : Keeps held holds
+  pub ended : status ≡ settings_status Speed
+
+-- how `explain` ends with these options
+abbrev pub EndsExplanation : Explaining → Left → Left → Held → Held → ℕ → Type 0
+EndsExplanation o from to held holds status =
+    ExplanationIsDone o from to held holds status
+    ⊎ (ExplanationFails o from to held holds status
+    ⊎ SpeedIsRefused o from to held holds status)
+
+-- the words ask for an explanation, and it ended
+pub record ExplainsInWords (words : List (String Global)) (from to : Left) (held holds : Held) (status : ℕ) : Type 0 where
+  pub options : Explaining
+  pub asked : Asks (lines.Explain options) (subcommand_of usbdesc_app (word_texts words))
+  pub ended : EndsExplanation options from to held holds status
+
 -- what a run has done, and its exit status
 abbrev pub Runs : List (String Global) → Left → Left → Held → Held → ℕ → Type 0
 Runs words from to held holds status =
     Ends lines.Show (WithStatusZero Shown) ShowFails words from to held holds status
     ⊎ (Ends lines.Check Checked CheckFails words from to held holds status
     ⊎ (Ends lines.Build (WithStatusZero Built) BuildFails words from to held holds status
+    ⊎ (ExplainsInWords words from to held holds status
     ⊎ (Enumerates words from to held holds status
-    ⊎ LineIsRefused words from to held holds status)))
+    ⊎ LineIsRefused words from to held holds status))))

@@ -5,7 +5,8 @@
 //! those that the writer gains, where the two tell them: `specs/Shows.antt` says what it does, fault by
 //! fault. What each line says stands in the crate `usb_listing`. [`run_check`] writes what breaks a rule of
 //! chapter 9 in a file (`specs/Checks.antt`), and [`run_build`] reads a listing and writes the bytes of its file
-//! (`specs/Builds.antt`). [`run_enumerate`] enumerates a device that has the descriptors of a file, over a bus that loses
+//! (`specs/Builds.antt`). [`run_explain`] writes what the descriptors of an input mean, in words (`specs/Explains.antt`).
+//! [`run_enumerate`] enumerates a device that has the descriptors of a file, over a bus that loses
 //! packets and handshakes, and writes what came of that (`specs/Enumerations.antt`).
 //!
 //! [`run`] is the whole program over any standard streams: [`read_line`] reads its command line,
@@ -22,6 +23,7 @@
 mod build;
 mod check;
 mod enumeration;
+mod explanation;
 mod fault;
 mod input;
 mod intake;
@@ -35,14 +37,16 @@ mod whole;
 pub use build::run_build;
 pub use check::run_check;
 pub use enumeration::run_enumerate;
+pub use explanation::run_explain;
 pub use fault::{ToolFault, verdict};
 pub use program::run;
 pub use show::run_show;
 pub use usb_bus::{Fate, Reply, Talk, converse, laws};
 pub use usb_command_line::{
-    FatesFault, Line, Options, Settings, SettingsFault, read_fates, read_line, read_speed,
-    refuse_words, settings_of,
+    Explaining, FatesFault, Line, Options, Settings, SettingsFault, manner_of, read_fates,
+    read_line, read_running_speed, read_speed, refuse_words, settings_of,
 };
 pub use usb_enumeration;
 pub use usb_enumeration::{Run, enumerate};
+pub use usb_explain::{Look, Manner, RunningSpeed};
 pub use usb_file::LISTING_LIMIT;

@@ -2,18 +2,21 @@
 ghost use Rattle.std.specs.Prelude.{◌≡◌};
 ghost use Rattle.clap.specs.Values.{kind_of};
 ghost use Rattle.usb_tool.specs.Faults.{status_of};
-ghost use Rattle.usb_tool.specs.Runs.{EndsEnumeration, KeepsUnlessHelp, Runs, line_status};
+ghost use Rattle.usb_tool.specs.Runs.{EndsEnumeration, EndsExplanation, KeepsUnlessHelp, Runs, line_status};
 ghost use Rattle.usb_command_line.specs.Numbers.{settings_status};
 
 use crate::build::run_build;
 use crate::check::run_check;
 use crate::enumeration::run_enumerate;
+use crate::explanation::run_explain;
 use crate::fault::{ToolFault, verdict};
 use crate::show::run_show;
 use clap::Error;
 use std::alloc::Global;
 use std::io::{Read, Write};
-use usb_command_line::{Line, Options, Settings, SettingsFault, read_line, settings_of};
+use usb_command_line::{
+    Explaining, Line, Options, Settings, SettingsFault, manner_of, read_line, settings_of,
+};
 
 /// The exit status of a command line that asks for nothing that the program does.
 const USAGE: u8 = 2;
@@ -43,8 +46,25 @@ pub fn run<R: Read, W: Write, E: Write>(
         Ok(Line::Show) => finish(&run_show(alloc, r, w), e),
         Ok(Line::Check) => finish(&run_check(alloc, r, w), e),
         Ok(Line::Build) => finish(&run_build(alloc, r, w), e),
+        Ok(Line::Explain(options)) => explain_with(alloc, &options, r, w, e),
         Ok(Line::Enumerate(options)) => enumerate_with(alloc, &options, r, w, e),
-        Err(error) => explain(&error, w, e),
+        Err(error) => tell_refusal(&error, w, e),
+    }
+}
+
+/// Explains as the options say. A speed that is none is told before anything is read.
+fn explain_with<R: Read, W: Write, E: Write>(
+    alloc: Global,
+    options: &Explaining<'_>,
+    r: &mut R,
+    w: &mut W,
+    e: &mut E,
+) -> u8
+    ensures { EndsExplanation options.now (R.remaining r.old) (R.remaining r.new) (W.contents w.old) (W.contents w.new) result }
+{
+    match manner_of(options) {
+        Ok(manner) => finish(&run_explain(alloc, r, w, manner), e),
+        Err(fault) => refuse(fault, e),
     }
 }
 
@@ -90,7 +110,7 @@ fn finish<E: Write>(outcome: &Result<u8, ToolFault>, e: &mut E) -> u8
 }
 
 /// The exit status of a line that names no command, after what `clap` says of it.
-fn explain<W: Write, E: Write>(error: &Error, w: &mut W, e: &mut E) -> u8
+fn tell_refusal<W: Write, E: Write>(error: &Error, w: &mut W, e: &mut E) -> u8
     ensures status { result ≡ line_status (kind_of error.now) }
     ensures output { KeepsUnlessHelp (kind_of error.now) (W.contents w.old) (W.contents w.new) }
 {

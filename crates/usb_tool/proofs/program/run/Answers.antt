@@ -20,7 +20,12 @@ returns-in-Ok-Build g c =
     let asked = subst (λ (line : Line). Asks line (subcommand_of usbdesc_app (word_texts c.args.words.now))) c.in-Ok-Build.field-0-is c.in-Ok-Build.ensures.line in
     inr (inr (inl (runs_with_status_zero _ _ _ _ _ _ _ _ _ _ asked c.run_build.ensures.number c.run_build.ensures.built c.run_build.ensures.err c.finish-in-Ok-Build.ensures)))
 
+pub returns-in-Ok-Explain : goal.returns-in-Ok-Explain
+returns-in-Ok-Explain g c =
+    let asked = subst (λ (line : Line). Asks line (subcommand_of usbdesc_app (word_texts c.args.words.now))) c.in-Ok-Explain.field-0-is c.in-Ok-Explain.ensures.line in
+    inr (inr (inr (inl (record { options = _; asked = asked; ended = c.explain_with.ensures }))))
+
 pub returns-in-Ok-Enumerate : goal.returns-in-Ok-Enumerate
 returns-in-Ok-Enumerate g c =
     let asked = subst (λ (line : Line). Asks line (subcommand_of usbdesc_app (word_texts c.args.words.now))) c.in-Ok-Enumerate.field-0-is c.in-Ok-Enumerate.ensures.line in
-    inr (inr (inr (inl (record { options = _; asked = asked; ended = c.enumerate_with.ensures }))))
+    inr (inr (inr (inr (inl (record { options = _; asked = asked; ended = c.enumerate_with.ensures })))))
