@@ -1,0 +1,4 @@
+pub mod Requests
+pub mod Exchanges
+pub mod Lines
+pub mod Log

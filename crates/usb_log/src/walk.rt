@@ -1,0 +1,1 @@
+//! An enumeration that is logged.
