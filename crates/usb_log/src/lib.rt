@@ -13,3 +13,5 @@ mod request;
 mod step_lines;
 mod turn;
 mod walk;
+
+pub use walk::enumerate_logged;
