@@ -1,8 +1,10 @@
 -- What the words of a command line ask for.
-use Rattle.std.specs.Prelude.{◌≡◌, ℕ, List, Option, Some, IfSome, codes, map, option_map, pos, true, String, string_bytes}
+use Rattle.std.specs.Prelude.{◌≡◌, ℕ, Bool, false, List, Option, Some, None, IfSome, codes, map, option_map, pos, true, String, string_bytes}
 use Rattle.std.specs.Borrow.{Bor}
 use Rattle.std.specs.Global.{Global}
 use Rattle.clap.specs.Words.{App, Row, Rule, Text, first_of, new_app, new_rule, with_rule, with_subcommand}
+use Rattle.std.specs.Str.{bytes_eq}
+use Rattle.clap.specs.declared.builder.action.ArgAction.TheVariants.{SetTrue}
 use Rattle.clap.specs.declared.builder.value_parser.ValueParser.TheVariants as parsers
 use Rattle.usb_command_line.specs.declared.line.Line.{Line}
 use Rattle.usb_command_line.specs.declared.line.Line.TheVariants as lines
@@ -31,11 +33,15 @@ attempts_rule = number_rule (codes "attempts") 1 8
 abbrev pub fates_rule : Rule
 fates_rule = valued_rule (codes "fates")
 
+-- a flag, which has no value of its own
+abbrev pub log_rule : Rule
+log_rule = record (valued_rule (codes "log")) { action = Some SetTrue }
+
 -- the command `enumerate` with its options
 abbrev pub enumerate_app : App
 enumerate_app =
-    with_rule (with_rule (with_rule (with_rule (with_rule (new_app (codes "enumerate")) speed_rule) address_rule)
-    naks_rule) attempts_rule) fates_rule
+    with_rule (with_rule (with_rule (with_rule (with_rule (with_rule (new_app (codes "enumerate")) speed_rule) address_rule)
+    naks_rule) attempts_rule) fates_rule) log_rule
 
 -- a command that is called by the name of one of its subcommands
 abbrev pub requiring : App → App
@@ -55,13 +61,19 @@ IsNamed name found = option_map (λ p. p.0) found ≡ Some name
 abbrev pub text_of : Option (Bor Text) → Option Text
 text_of = option_map (λ s. s.now)
 
--- the text of each option is the one that was found for it
+-- whether a flag was written, by the value that clap finds for it
+abbrev pub is_set : Option Text → Bool
+is_set None = false
+is_set (Some value) = bytes_eq value (codes "true")
+
+-- the text of each option is the one that was found for it, and so is the flag
 pub record HasTexts (o : Options) (rows : List Row) : Type 0 where
   pub speed : text_of o.speed ≡ first_of (codes "speed") rows
   pub address : text_of o.address ≡ first_of (codes "address") rows
   pub naks : text_of o.naks ≡ first_of (codes "naks") rows
   pub attempts : text_of o.attempts ≡ first_of (codes "attempts") rows
   pub fates : text_of o.fates ≡ first_of (codes "fates") rows
+  pub log : o.log ≡ is_set (first_of (codes "log") rows)
 
 -- the line is what the subcommand that was found asks for
 abbrev pub Asks : Line → Option (Text × List Row) → Type 0

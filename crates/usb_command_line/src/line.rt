@@ -2,7 +2,7 @@
 ghost use Rattle.std.specs.Prelude.{◌≡◌, IfOk};
 ghost use Rattle.clap.specs.Words.{fault_of, found_of, rows_of, subcommand_of, subcommand_rows_of};
 ghost use Rattle.clap.specs.Kinds.{FailsBy};
-ghost use Rattle.usb_command_line.specs.Lines.{Asks, HasTexts, usbdesc_app, word_texts};
+ghost use Rattle.usb_command_line.specs.Lines.{Asks, HasTexts, is_set, text_of, usbdesc_app, word_texts};
 ghost use Rattle.usb_command_line.specs.inside.Choosing.{NamesCommand};
 
 use crate::command::usbdesc;
@@ -74,5 +74,16 @@ fn options_of<'a>(matches: &ArgMatches<'a>) -> Options<'a>
         naks: matches.get_str("naks"),
         attempts: matches.get_str("attempts"),
         fates: matches.get_str("fates"),
+        log: is_set(matches.get_str("log")),
+    }
+}
+
+/// Whether the value of a flag, as `clap` gives it, says that it was written.
+fn is_set(value: Option<&str>) -> bool
+    ensures { result ≡ is_set (text_of value.entry) }
+{
+    match value {
+        Some(text) => text == "true",
+        None => false,
     }
 }
