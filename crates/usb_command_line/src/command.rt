@@ -2,12 +2,12 @@
 ghost use Rattle.std.specs.Prelude.{◌≡◌, IfOk, false};
 ghost use Rattle.clap.specs.Words.{app_of, new_app, rule_of, with_rule, with_subcommand};
 ghost use Rattle.clap.specs.declared.builder.Command.TheViews.{out-Command};
-ghost use Rattle.usb_command_line.specs.Lines.{address_rule, attempts_rule, enumerate_app, explain_app, fates_rule, flag_rule, naks_rule, speed_rule, usbdesc_app, valued_rule};
+ghost use Rattle.usb_command_line.specs.Lines.{address_rule, attempts_rule, enumerate_app, explain_app, fates_rule, flag_rule, log_rule, naks_rule, speed_rule, usbdesc_app, valued_rule};
 
 use crate::help::{
     ABOUT, ADDRESS_HELP, ATTEMPTS_HELP, BRIEF_HELP, BUILD_ABOUT, BUILD_HELP, CHECK_ABOUT,
     CHECK_HELP, ENUMERATE_ABOUT, ENUMERATE_HELP, EXPLAIN_ABOUT, EXPLAIN_HELP, FATES_HELP,
-    NAKS_HELP, NO_PLACES_HELP, RAN_AT_HELP, SHOW_ABOUT, SHOW_HELP, SPEED_HELP,
+    LOG_HELP, NAKS_HELP, NO_PLACES_HELP, RAN_AT_HELP, SHOW_ABOUT, SHOW_HELP, SPEED_HELP,
 };
 use clap::{Arg, ArgAction, Command, value_parser};
 use std::alloc::{AllocError, Global};
@@ -76,7 +76,8 @@ fn enumerate<'a>(alloc: Global) -> Result<Command<'a>, AllocError>
     let enumerate = add_option(enumerate, address(alloc))?;
     let enumerate = add_option(enumerate, naks(alloc))?;
     let enumerate = add_option(enumerate, attempts(alloc))?;
-    add_option(enumerate, fates(alloc))
+    let enumerate = add_option(enumerate, fates(alloc))?;
+    add_option(enumerate, log(alloc))
 }
 
 /// The command with one more option, which its subcommands do not take.
@@ -149,4 +150,12 @@ fn fates<'a>(alloc: Global) -> Arg<'a>
     ensures local { result.global ≡ false }
 {
     valued(alloc, "fates", FATES_HELP)
+}
+
+/// Whether a log is written.
+fn log<'a>(alloc: Global) -> Arg<'a>
+    ensures rule { rule_of result ≡ log_rule }
+    ensures local { result.global ≡ false }
+{
+    flag(alloc, "log", LOG_HELP)
 }

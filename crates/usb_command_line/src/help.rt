@@ -117,6 +117,11 @@ Input:
   other-speed sets where there is another speed, and where a string is named the languages
   and the strings.
 
+Log:
+  With --log a line for each transaction goes before the result: its number, its fate, what
+  the host sends, what the device answers, the host's ACK, what the host and what the device
+  have then, and the data. A line begins each bus reset and each transfer.
+
 Fates:
   A letter for each transaction of the bus, in order. After the last one all arrives.
   .  all packets arrive
@@ -147,3 +152,6 @@ pub(crate) const ATTEMPTS_HELP: &str =
 
 /// What `--fates` says.
 pub(crate) const FATES_HELP: &str = "What the bus does to each transaction [default: none]";
+
+/// What `--log` says.
+pub(crate) const LOG_HELP: &str = "Writes a line for each transaction before the result";

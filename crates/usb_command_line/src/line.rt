@@ -95,5 +95,6 @@ fn options_of<'a>(matches: &ArgMatches<'a>) -> Options<'a>
         naks: matches.get_str("naks"),
         attempts: matches.get_str("attempts"),
         fates: matches.get_str("fates"),
+        log: is_given(matches.get_str("log")),
     }
 }

@@ -1,6 +1,6 @@
 //! The options of `enumerate`, as they are written.
 
-/// The texts of the options of `enumerate`. One that the words lack is `None`.
+/// The options of `enumerate`: the text of each one that has a value, or `None` where the words lack it, and the flag.
 #[derive(Clone, Copy, Debug, PartialEq, Eq, Hash)]
 pub struct Options<'a> {
     /// The name of a speed.
@@ -13,4 +13,6 @@ pub struct Options<'a> {
     pub attempts: Option<&'a str>,
     /// A letter for the fate of each transaction.
     pub fates: Option<&'a str>,
+    /// Whether a log of the transactions is asked for.
+    pub log: bool,
 }

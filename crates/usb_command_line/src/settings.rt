@@ -22,12 +22,14 @@ pub struct Settings {
     pub speed: Speed,
     /// What the bus does to each transaction; after the last one all arrives.
     pub fates: Vec<Fate>,
+    /// Whether a log of the transactions is asked for.
+    pub log: bool,
 }
 
 /// What the options come to. An absent one is address 1, 16 NAKs, 3 attempts, full speed, or no fates.
 ///
 /// ```rust
-/// let options = Options { speed: Some("high"), address: None, naks: Some("2"), attempts: None, fates: None };
+/// let options = Options { speed: Some("high"), address: None, naks: Some("2"), attempts: None, fates: None, log: false };
 /// let settings = settings_of(alloc, &options)?;
 /// assert_eq!(rt; settings.speed, Speed::High);
 /// assert_eq!(rt; settings.limits, Limits::new(1, 2, 3)?);
@@ -53,6 +55,7 @@ pub fn settings_of(alloc: Global, options: &Options<'_>) -> Result<Settings, Set
         limits,
         speed,
         fates,
+        log: options.log,
     })
 }
 

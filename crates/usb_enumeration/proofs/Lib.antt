@@ -12,4 +12,4 @@ mod ReaderLemmas
 mod SeriesLemmas
 mod ImageLemmas
 mod RunLemmas
-mod EnumerateLemmas
+pub mod EnumerateLemmas

@@ -2,3 +2,4 @@ pub mod Numbers
 pub mod Names
 pub mod Endpoints
 pub mod Speeds
+pub mod Columns

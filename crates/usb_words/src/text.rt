@@ -1,6 +1,7 @@
 //! A text that grows at its end.
-ghost use Rattle.std.specs.Prelude.{◌≡◌, ◌+◌, ◌*◌, [], ◌++◌, IfSome, OnOk};
+ghost use Rattle.std.specs.Prelude.{◌≡◌, ◌+◌, ◌-◌, ◌*◌, [], ◌++◌, length, replicate, ◌==◌, IfSome, OnOk};
 ghost use Rattle.std.specs.Fmt.{decimal};
+ghost use Rattle.usb_words.specs.Columns.{column, filling};
 ghost use Rattle.hex.specs.Hex.{encode_lower};
 
 use itoa::Buffer;
@@ -45,6 +46,27 @@ impl Text {
         &self.bytes
     }
 
+    /// Its length in bytes.
+    pub fn len(&self) -> usize
+        ensures { result ≡ length self.now }
+    {
+        self.bytes.len()
+    }
+
+    /// Whether it has no bytes.
+    pub fn is_empty(&self) -> bool
+        ensures { result ≡ (length self.now == 0) }
+    {
+        self.bytes.is_empty()
+    }
+
+    /// Takes all away. The memory is kept for what is put next.
+    pub fn clear(&mut self)
+        ensures { self.new ≡ [] }
+    {
+        self.bytes.clear();
+    }
+
     /// Puts words as they stand.
     ///
     /// # Errors
@@ -81,6 +103,37 @@ impl Text {
         self.bytes.resize(end, 0)?;
         let _ = hex::encode_to_slice(bytes, &mut self.bytes.as_mut_slice()[start..]);
         Ok(())
+    }
+
+    /// Puts words in a column of this width.
+    ///
+    /// ```rust
+    /// text.put_column("> IN", 7)?;
+    /// assert_eq!(rt; text.as_bytes(), b"> IN   ");
+    /// ```
+    pub fn put_column(&mut self, words: &str, width: usize) -> Result<(), AllocError>
+        ensures { OnOk result (self.new ≡ self.old ++ column width words.now) }
+    {
+        self.put(words)?;
+        self.put_spaces(width.saturating_sub(words.len()).max(1))
+    }
+
+    /// Fills the column of this width that begins at `start`: with spaces to the width, and with at least one.
+    pub fn fill(&mut self, start: usize, width: usize) -> Result<(), AllocError>
+        ensures { OnOk result (self.new ≡ self.old ++ filling width (length self.old - start)) }
+    {
+        let used = self.bytes.len().saturating_sub(start);
+        self.put_spaces(width.saturating_sub(used).max(1))
+    }
+
+    /// Puts so many spaces.
+    fn put_spaces(&mut self, count: usize) -> Result<(), AllocError>
+        ensures { OnOk result (self.new ≡ self.old ++ replicate count 32) }
+    {
+        let Some(end) = self.bytes.len().checked_add(count) else {
+            return Err(AllocError);
+        };
+        self.bytes.resize(end, b' ')
     }
 }
 

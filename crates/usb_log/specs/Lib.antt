@@ -1,0 +1,5 @@
+pub mod Requests
+pub mod Exchanges
+pub mod Lines
+pub mod Log
+pub mod inside

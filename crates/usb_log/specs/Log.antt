@@ -1,0 +1,95 @@
+-- The log of a run: the lines of its steps, and of no others.
+use Rattle.std.specs.Prelude.{◌≡◌, ℕ, ◌-◌, List, [], ◌∷◌, ◌++◌, Option, Some, codes, if◌then◌else◌}
+use Rattle.std.specs.Io.KnownBytes.{Appends}
+use Rattle.usb_fields.specs.declared.speed.Speed.{Speed}
+use Rattle.usb_file_data.specs.declared.file.DescriptorFile.{DescriptorFile}
+use Rattle.usb_listing.specs.Output.{AppendsLess, Held}
+use Rattle.usb_words.specs.Columns.{column}
+use Rattle.usb_fields.specs.Packet.{Reply}
+use Rattle.usb_transfer.specs.declared.why.Why.{Why}
+use Rattle.usb_transfer.specs.Limits.{LimitView}
+use Rattle.usb_transfer.specs.Transfer.{TransferView, due, is_untried, taken}
+use Rattle.usb_device.specs.Step.{DeviceView}
+use Rattle.usb_bus.specs.declared.fate.Fate.{Fate}
+use Rattle.usb_bus.specs.Run.{fate_at}
+use Rattle.usb_host.specs.declared.step.Step.{Step}
+use Rattle.usb_host.specs.Steps.{Wanted, WantsNothing, WantsReset, WantsSent, outcome_of, step_in, transfer_in, wanted}
+use Rattle.usb_enumeration.specs.declared.run.Run.{Run}
+use Rattle.usb_enumeration.specs.Run.{Pair, Runs, new_pair}
+use Rattle.usb_log.specs.Exchanges.{answered, brought, trouble_why}
+use Rattle.usb_log.specs.Lines.{device_part, device_words, host_words, packets_part, reset_line, transfer_line}
+
+-- the line of a transfer, before its first transaction
+abbrev pub transfer_part : Step → TransferView → List ℕ
+transfer_part step t = if is_untried t.stage t.strikes then transfer_line step t else []
+
+-- What the host has after a transaction, where this was its transfer, this came of what the device answered, and the host
+-- has ended for this reason, if it has.
+abbrev pub host_part : TransferView → Reply → Option Why → List ℕ
+host_part t reply why = column 23 (host_words (taken t reply).transfer reply (taken t reply).heard why)
+
+-- The line of a transaction: its packets, what the host has then, and what the device has. This was the host's transfer
+-- before it, this the device's answer, and so both ends are after it; the device's packets have this size.
+unfoldable pub exchange_line : ℕ → ℕ → Fate → TransferView → Reply → Pair → List ℕ
+exchange_line packet number fate t answer after =
+    packets_part number fate (due t) answer
+    ++ host_part t (brought fate answer) (trouble_why (outcome_of after.host.phase))
+    ++ device_part (device_words packet after.device) answer ++ codes "\n"
+
+-- the same, of a device with these descriptors that was so before the transaction
+abbrev pub transaction_line : DescriptorFile → ℕ → Fate → TransferView → DeviceView → Pair → List ℕ
+transaction_line f number fate t d after =
+    exchange_line f.device.packet number fate t (answered f d (due t) fate) after
+
+-- The lines of a step: a transaction where a transfer is in work, and else a bus reset.
+abbrev pub lines_of : DescriptorFile → ℕ → Fate → Option Step → Option TransferView → DeviceView → Pair → List ℕ
+lines_of f number fate (Some step) (Some t) d after = transfer_part step t ++ transaction_line f number fate t d after
+lines_of f number fate step transfer d after = reset_line after.host.resets
+
+-- the same of a step from one pair to the next, after which there were so many transactions
+abbrev pub step_lines : DescriptorFile → List Fate → ℕ → Pair → Pair → List ℕ
+step_lines f fates n before after =
+    lines_of f n (fate_at fates (n - 1)) (step_in before.host.phase) (transfer_in before.host.phase) before.device after
+
+-- how many transactions there were before a step that the host wanted, where there are n after it
+abbrev pub count_before : Wanted → ℕ → ℕ
+count_before WantsReset n = n
+count_before (WantsSent sent) n = n - 1
+count_before WantsNothing n = n
+
+-- The log of a run of n transactions over these pairs, the newest first, up to the last one: a line for each reset and each
+-- transaction, in their order, and before the first transaction of a transfer a line of that.
+unfoldable pub log_text : DescriptorFile → List Fate → List Pair → ℕ → Pair → List ℕ
+log_text f fates [] n last = []
+log_text f fates (x ∷ earlier) n last =
+    log_text f fates earlier (count_before (wanted x.host.phase) n) x ++ step_lines f fates n x last
+
+-- this run has ended, with what `run` says, and this is its log
+pub record IsLogOf (f : DescriptorFile) (speed : Speed) (limits : LimitView) (fates : List Fate) (run : Run) (log : List ℕ) : Type 0 where
+  pub earlier : List Pair
+  pub last : Pair
+  pub runs : Runs f fates (new_pair limits speed) earlier run.transactions last
+  pub attempts : last.host.resets ≡ run.attempts
+  pub outcome : outcome_of last.host.phase ≡ Some run.outcome
+  pub state : last.device.state ≡ run.state
+  pub text : log ≡ log_text f fates earlier run.transactions last
+
+-- this is the log of a run that may go on
+pub record IsLogSoFar (f : DescriptorFile) (speed : Speed) (limits : LimitView) (fates : List Fate) (log : List ℕ) : Type 0 where
+  pub transactions : ℕ
+  pub earlier : List Pair
+  pub last : Pair
+  pub runs : Runs f fates (new_pair limits speed) earlier transactions last
+  pub text : log ≡ log_text f fates earlier transactions last
+
+-- the log of that run was written
+pub record WritesLog (f : DescriptorFile) (speed : Speed) (limits : LimitView) (fates : List Fate) (held holds : Held) (run : Run) : Type 0 where
+  pub log : List ℕ
+  pub of_run : IsLogOf f speed limits fates run log
+  pub written : Appends held holds log
+
+-- of the log of a run a front was written, and not all of it
+pub record WritesLogLess (f : DescriptorFile) (speed : Speed) (limits : LimitView) (fates : List Fate) (held holds : Held) : Type 0 where
+  pub log : List ℕ
+  pub so_far : IsLogSoFar f speed limits fates log
+  pub written : AppendsLess held holds log
