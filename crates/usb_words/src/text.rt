@@ -1,5 +1,5 @@
 //! A text that grows at its end.
-ghost use Rattle.std.specs.Prelude.{◌≡◌, ◌+◌, ◌*◌, [], ◌++◌, IfSome, OnOk};
+ghost use Rattle.std.specs.Prelude.{◌≡◌, ◌+◌, ◌*◌, [], ◌++◌, replicate, IfSome, OnOk};
 ghost use Rattle.std.specs.Fmt.{decimal};
 ghost use Rattle.hex.specs.Hex.{encode_lower};
 
@@ -56,11 +56,21 @@ impl Text {
         self.put_bytes(words.as_bytes())
     }
 
-    /// Puts characters as they stand.
-    pub(crate) fn put_bytes(&mut self, characters: &[u8]) -> Result<(), AllocError>
+    /// Puts characters as they stand, each of which is one byte.
+    pub fn put_bytes(&mut self, characters: &[u8]) -> Result<(), AllocError>
         ensures { OnOk result (self.new ≡ self.old ++ characters.now) }
     {
         self.bytes.extend_from_slice(characters)
+    }
+
+    /// Puts so many spaces.
+    pub fn put_spaces(&mut self, count: usize) -> Result<(), AllocError>
+        ensures { OnOk result (self.new ≡ self.old ++ replicate count 32) }
+    {
+        let Some(end) = self.bytes.len().checked_add(count) else {
+            return Err(AllocError);
+        };
+        self.bytes.resize(end, b' ')
     }
 
     /// Puts a number in decimal digits.
