@@ -78,11 +78,21 @@ impl Text {
         self.put_bytes(words.as_bytes())
     }
 
-    /// Puts characters as they stand.
-    pub(crate) fn put_bytes(&mut self, characters: &[u8]) -> Result<(), AllocError>
+    /// Puts characters as they stand, each of which is one byte.
+    pub fn put_bytes(&mut self, characters: &[u8]) -> Result<(), AllocError>
         ensures { OnOk result (self.new ≡ self.old ++ characters.now) }
     {
         self.bytes.extend_from_slice(characters)
+    }
+
+    /// Puts so many spaces.
+    pub fn put_spaces(&mut self, count: usize) -> Result<(), AllocError>
+        ensures { OnOk result (self.new ≡ self.old ++ replicate count 32) }
+    {
+        let Some(end) = self.bytes.len().checked_add(count) else {
+            return Err(AllocError);
+        };
+        self.bytes.resize(end, b' ')
     }
 
     /// Puts a number in decimal digits.
@@ -124,16 +134,6 @@ impl Text {
     {
         let used = self.bytes.len().saturating_sub(start);
         self.put_spaces(width.saturating_sub(used).max(1))
-    }
-
-    /// Puts so many spaces.
-    fn put_spaces(&mut self, count: usize) -> Result<(), AllocError>
-        ensures { OnOk result (self.new ≡ self.old ++ replicate count 32) }
-    {
-        let Some(end) = self.bytes.len().checked_add(count) else {
-            return Err(AllocError);
-        };
-        self.bytes.resize(end, b' ')
     }
 }
 

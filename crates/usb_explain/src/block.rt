@@ -1,0 +1,26 @@
+//! The lines of one descriptor.
+use crate::role::Role;
+use crate::standing::Standing;
+use crate::subject::Subject;
+use std::alloc::AllocError;
+use usb_explained_lines::{put_fields, put_heading};
+use usb_words::Text;
+
+impl Standing {
+    /// Puts the lines of a descriptor of this role: its heading, its findings and its fields.
+    pub(crate) fn put_block(
+        &self,
+        text: &mut Text,
+        subject: &Subject,
+        role: Role,
+        d: &[u8],
+        behind: &[u8],
+    ) -> Result<(), AllocError> {
+        let kind = self.kind(subject, role, d);
+        let depth = self.depth(role);
+        let look = subject.manner().look;
+        put_heading(text, look, depth, kind, d, self.at)?;
+        self.put_findings(text, subject, role, d, behind)?;
+        put_fields(text, look, depth, subject.names(), kind, d)
+    }
+}

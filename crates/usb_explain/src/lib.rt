@@ -1,0 +1,26 @@
+//! The explanation of an input: a text that tells what each of its descriptors says, in the order of the bytes.
+//!
+//! [`explain`] writes that of a set, a file or a dump, and [`explain_broken`] that of bytes which are none of them, as far
+//! as they go. Both go over the bytes descriptor by descriptor, each as long as its first byte says.
+#![tactic(auto)]
+
+mod block;
+mod ending;
+mod explaining;
+mod fault_line;
+mod found;
+mod kind;
+mod manner;
+mod opening;
+mod passing;
+mod places;
+mod role;
+mod standing;
+mod subject;
+mod told;
+mod walk;
+
+pub use explaining::{explain, explain_broken};
+pub use manner::Manner;
+pub use usb_explained_lines::Look;
+pub use usb_survey::RunningSpeed;

@@ -1,0 +1,12 @@
+//! How an input is explained.
+use usb_explained_lines::Look;
+use usb_survey::RunningSpeed;
+
+/// How an input is explained.
+#[derive(Clone, Copy, Debug, PartialEq, Eq, Hash)]
+pub struct Manner {
+    /// How its lines are written.
+    pub look: Look,
+    /// The speed at which the device ran, where it is known.
+    pub speed: Option<RunningSpeed>,
+}

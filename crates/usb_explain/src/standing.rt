@@ -1,0 +1,98 @@
+//! Where a descriptor stands in the input.
+use usb_names::ClassCodes;
+use usb_rules::Part;
+use usb_survey::Bindings;
+use usb_words::Speed;
+
+/// What of a device descriptor the rest of the input depends on.
+#[derive(Clone, Copy)]
+pub(crate) struct DeviceFacts {
+    /// bcdUSB.
+    pub(crate) usb: u16,
+    /// bMaxPacketSize0.
+    pub(crate) packet: u8,
+}
+
+/// What came before a descriptor, as far as its explanation depends on it.
+#[derive(Drop)]
+pub(crate) struct Standing {
+    /// Its place in the input.
+    pub(crate) at: usize,
+    /// The device.
+    pub(crate) device: Option<DeviceFacts>,
+    /// bMaxPacketSize0 of the qualifier.
+    pub(crate) other_packet: Option<u8>,
+    /// Whether the language list came.
+    pub(crate) has_languages: bool,
+    /// How many strings came.
+    pub(crate) strings: usize,
+    /// How many sets of the main part came.
+    pub(crate) main_sets: usize,
+    /// How many sets of the other part came.
+    pub(crate) other_sets: usize,
+    /// How many bytes of the set are left from here on; none outside of sets.
+    pub(crate) left: usize,
+    /// The set in which it stands, or the last one before it.
+    pub(crate) set: SetStanding,
+}
+
+/// What came of a set before a descriptor in it.
+#[derive(Drop)]
+pub(crate) struct SetStanding {
+    /// The part that has the set.
+    pub(crate) part: Part,
+    /// The number of the set in its part.
+    pub(crate) number: usize,
+    /// Its speed.
+    pub(crate) speed: Speed,
+    /// How many distinct interface numbers the whole set has.
+    pub(crate) interfaces: u64,
+    /// Which association of the whole set binds each interface.
+    pub(crate) bindings: Bindings,
+    /// How many associations came.
+    pub(crate) associations: usize,
+    /// How many settings came.
+    pub(crate) settings: usize,
+    /// The last one of them.
+    pub(crate) setting: Option<SettingStanding>,
+    /// The depth of the configuration, the interface or the endpoint that came last.
+    pub(crate) owner: u8,
+}
+
+/// The setting behind whose interface descriptor a descriptor stands.
+#[derive(Clone, Copy)]
+pub(crate) struct SettingStanding {
+    /// The number of the setting in its set.
+    pub(crate) number: usize,
+    /// How many endpoints came.
+    pub(crate) endpoints: usize,
+    /// What its interface is.
+    pub(crate) codes: ClassCodes,
+}
+
+impl Standing {
+    /// At the first byte of an input.
+    pub(crate) fn start() -> Standing {
+        Standing {
+            at: 0,
+            device: None,
+            other_packet: None,
+            has_languages: false,
+            strings: 0,
+            main_sets: 0,
+            other_sets: 0,
+            left: 0,
+            set: SetStanding {
+                part: Part::Main,
+                number: 0,
+                speed: Speed::FullOrHigh,
+                interfaces: 0,
+                bindings: Bindings::new(),
+                associations: 0,
+                settings: 0,
+                setting: None,
+                owner: 1,
+            },
+        }
+    }
+}

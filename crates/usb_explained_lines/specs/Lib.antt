@@ -1,0 +1,10 @@
+pub mod Lines
+pub mod Names
+pub mod Device
+pub mod Sets
+pub mod Endpoints
+pub mod Raws
+pub mod Strings
+pub mod Rest
+pub mod Kinds
+pub mod Findings

@@ -1,0 +1,30 @@
+-- The language list and the strings, by their bytes (USB 2.0, 9.6.7).
+use Rattle.std.specs.Prelude.{ℕ, ◌+◌, ◌*◌, List, [], ◌∷◌, ◌++◌, drop, codes, Option, Some, None}
+use Rattle.std.specs.Fmt.{decimal}
+use Rattle.std.specs.List.{flat_map}
+use Rattle.usb_listing.specs.StringListing.{written_unit}
+use Rattle.usb_words.specs.Numbers.{word_code}
+use Rattle.usb_explained_lines.specs.declared.kind.StringPlace.{StringPlace}
+
+-- the units of bytes, each the low byte first
+abbrev pub units_in : List ℕ → List ℕ
+units_in (low ∷ high ∷ rest) = (low + 256 * high) ∷ units_in rest
+units_in rest = []
+
+-- a language behind those before it
+abbrev pub language_words : ℕ → List ℕ
+language_words language = codes " " ++ word_code language
+
+-- the languages
+unfoldable pub languages_words : List ℕ → List ℕ
+languages_words b = codes "languages" ++ flat_map language_words (units_in (drop 2 b))
+
+-- the index and the language of a string, where they are known
+abbrev pub string_place_words : Option StringPlace → List ℕ
+string_place_words None = []
+string_place_words (Some place) = codes " " ++ decimal place.index ++ codes " in " ++ word_code place.language ++ codes ":"
+
+-- a string
+unfoldable pub string_words : Option StringPlace → List ℕ → List ℕ
+string_words place b =
+    codes "string" ++ string_place_words place ++ codes " \"" ++ flat_map written_unit (units_in (drop 2 b)) ++ codes "\""

@@ -1,0 +1,114 @@
+//! The device descriptor and the device qualifier.
+ghost use Rattle.std.specs.Prelude.{◌≡◌, ◌++◌, codes, OnOk};
+ghost use Rattle.usb_explained_lines.specs.Device.{device_lines, device_words, packet_value, power_of_two_words, qualifier_lines, qualifier_words};
+ghost use Rattle.usb_explained_lines.specs.Lines.{field_line};
+
+use crate::bytes::{byte_at, word_at};
+use crate::index::put_index;
+use crate::line::{begin_field, end_line};
+use crate::names::Names;
+use crate::value::{
+    put_byte, put_class_field, put_decimal, put_protocol_field, put_release_field,
+    put_subclass_field, put_word,
+};
+use std::alloc::AllocError;
+use usb_words::{Text, put_class_words, put_count, put_release};
+
+/// Puts the words of a device descriptor's heading (USB 2.0, 9.6.1).
+#[tactic(auto, unfolding(crate::specs::Device::device_words))]
+pub(crate) fn put_device_words(text: &mut Text, b: &[u8]) -> Result<(), AllocError>
+    ensures { OnOk result (text.new ≡ text.old ++ device_words b.now) }
+{
+    text.put("device ")?;
+    text.put_digits(&word_at(b, 8).to_be_bytes())?;
+    text.put(":")?;
+    text.put_digits(&word_at(b, 10).to_be_bytes())?;
+    text.put(", USB ")?;
+    put_release(text, word_at(b, 2))?;
+    text.put(", ")?;
+    put_class_words(text, byte_at(b, 4), byte_at(b, 5), byte_at(b, 6))
+}
+
+/// Puts the words of a device qualifier's heading (9.6.2).
+#[tactic(auto, unfolding(crate::specs::Device::qualifier_words))]
+pub(crate) fn put_qualifier_words(text: &mut Text, b: &[u8]) -> Result<(), AllocError>
+    ensures { OnOk result (text.new ≡ text.old ++ qualifier_words b.now) }
+{
+    text.put("qualifier of the other speed, USB ")?;
+    put_release(text, word_at(b, 2))?;
+    text.put(", ")?;
+    put_class_words(text, byte_at(b, 4), byte_at(b, 5), byte_at(b, 6))
+}
+
+/// Puts the fields of a device descriptor.
+#[tactic(auto, unfolding(crate::specs::Device::device_lines))]
+pub(crate) fn put_device_fields(
+    text: &mut Text,
+    depth: u8,
+    exponent: bool,
+    names: &Names,
+    b: &[u8],
+) -> Result<(), AllocError>
+    ensures { OnOk result (text.new ≡ text.old ++ device_lines depth exponent names.now b.now) }
+{
+    let (class, subclass, protocol) = (byte_at(b, 4), byte_at(b, 5), byte_at(b, 6));
+    put_release_field(text, depth, "bcdUSB", word_at(b, 2))?;
+    put_class_field(text, depth, "bDeviceClass", class)?;
+    put_subclass_field(text, depth, "bDeviceSubClass", class, subclass)?;
+    put_protocol_field(text, depth, "bDeviceProtocol", class, subclass, protocol)?;
+    put_packet_size(text, depth, exponent, byte_at(b, 7))?;
+    put_word(text, depth, "idVendor", word_at(b, 8))?;
+    put_word(text, depth, "idProduct", word_at(b, 10))?;
+    put_release_field(text, depth, "bcdDevice", word_at(b, 12))?;
+    put_index(text, depth, "iManufacturer", names, byte_at(b, 14))?;
+    put_index(text, depth, "iProduct", names, byte_at(b, 15))?;
+    put_index(text, depth, "iSerialNumber", names, byte_at(b, 16))?;
+    put_decimal(text, depth, "bNumConfigurations", u64::from(byte_at(b, 17)))
+}
+
+#[tactic(auto, unfolding(crate::specs::Lines::field_line))]
+fn put_packet_size(text: &mut Text, depth: u8, exponent: bool, size: u8) -> Result<(), AllocError>
+    ensures { OnOk result (text.new ≡ text.old ++ field_line depth (codes "bMaxPacketSize0") (packet_value exponent size)) }
+{
+    begin_field(text, depth, "bMaxPacketSize0")?;
+    put_packet_value(text, exponent, size)?;
+    end_line(text)
+}
+
+fn put_packet_value(text: &mut Text, exponent: bool, size: u8) -> Result<(), AllocError>
+    ensures { OnOk result (text.new ≡ text.old ++ packet_value exponent size) }
+{
+    text.put_decimal(u64::from(size))?;
+    if exponent {
+        text.put(" (")?;
+        put_power_of_two(text, size)?;
+        text.put(")")
+    } else {
+        Ok(())
+    }
+}
+
+fn put_power_of_two(text: &mut Text, exponent: u8) -> Result<(), AllocError>
+    ensures { OnOk result (text.new ≡ text.old ++ power_of_two_words exponent) }
+{
+    if exponent <= 15 {
+        put_count(text, 1 << exponent, "byte")
+    } else {
+        text.put("out of range")
+    }
+}
+
+/// Puts the fields of a device qualifier.
+#[tactic(auto, unfolding(crate::specs::Device::qualifier_lines))]
+pub(crate) fn put_qualifier_fields(text: &mut Text, depth: u8, b: &[u8]) -> Result<(), AllocError>
+    ensures { OnOk result (text.new ≡ text.old ++ qualifier_lines depth b.now) }
+{
+    let (class, subclass, protocol) = (byte_at(b, 4), byte_at(b, 5), byte_at(b, 6));
+    put_release_field(text, depth, "bcdUSB", word_at(b, 2))?;
+    put_class_field(text, depth, "bDeviceClass", class)?;
+    put_subclass_field(text, depth, "bDeviceSubClass", class, subclass)?;
+    put_protocol_field(text, depth, "bDeviceProtocol", class, subclass, protocol)?;
+    put_decimal(text, depth, "bMaxPacketSize0", u64::from(byte_at(b, 7)))?;
+    put_decimal(text, depth, "bNumConfigurations", u64::from(byte_at(b, 8)))?;
+    put_byte(text, depth, "bReserved", byte_at(b, 9))
+}

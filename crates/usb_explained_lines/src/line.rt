@@ -1,0 +1,155 @@
+//! Headings, and the lines of fields.
+ghost use Rattle.std.specs.Prelude.{◌≡◌, ◌++◌, codes, length, OnOk};
+ghost use Rattle.usb_explained_lines.specs.Kinds.{fields, heading, kind_lines, kind_words};
+ghost use Rattle.usb_explained_lines.specs.Lines.{field_start, heading_line, place_words};
+
+use crate::device::{
+    put_device_fields, put_device_words, put_qualifier_fields, put_qualifier_words,
+};
+use crate::endpoint::{put_endpoint_fields, put_endpoint_words};
+use crate::kind::Kind;
+use crate::look::Look;
+use crate::names::Names;
+use crate::raw::{put_raw_fields, put_raw_words};
+use crate::rest::put_rest_fields;
+use crate::set::{
+    put_association_fields, put_association_words, put_configuration_fields,
+    put_configuration_words, put_interface_fields, put_interface_words,
+};
+use crate::string::{put_languages_words, put_string_words};
+use std::alloc::AllocError;
+use usb_words::Text;
+
+/// Puts the heading of a descriptor of these bytes, which starts at this place of the input.
+///
+/// ```rust
+/// let look = Look { brief: false, places: true };
+/// put_heading(&mut text, look, 2, Kind::Interface { association: None }, &interface, 27)?;
+/// assert_eq!(rt; text.as_bytes(), b"    interface 0 alternate 0, HID / boot interface / keyboard, 1 endpoint @27+9\n");
+/// ```
+///
+/// # Errors
+///
+/// Out of memory.
+#[tactic(auto, unfolding(crate::specs::Kinds::heading, crate::specs::Lines::heading_line))]
+pub fn put_heading(
+    text: &mut Text,
+    look: Look,
+    depth: u8,
+    kind: Kind,
+    bytes: &[u8],
+    at: usize,
+) -> Result<(), AllocError>
+    ensures { OnOk result (text.new ≡ text.old ++ heading look depth kind bytes.now at) }
+{
+    text.put_spaces(2 * usize::from(depth))?;
+    put_words(text, kind, bytes)?;
+    put_place(text, look, at, bytes.len())?;
+    end_line(text)
+}
+
+fn put_place(text: &mut Text, look: Look, at: usize, count: usize) -> Result<(), AllocError>
+    ensures { OnOk result (text.new ≡ text.old ++ place_words look at count) }
+{
+    if look.places {
+        text.put(" @")?;
+        text.put_decimal(at as u64)?;
+        text.put("+")?;
+        text.put_decimal(count as u64)
+    } else {
+        Ok(())
+    }
+}
+
+#[tactic(auto, unfolding(crate::specs::Kinds::kind_words))]
+fn put_words(text: &mut Text, kind: Kind, bytes: &[u8]) -> Result<(), AllocError>
+    ensures { OnOk result (text.new ≡ text.old ++ kind_words kind bytes.now) }
+{
+    match kind {
+        Kind::Device { .. } => put_device_words(text, bytes),
+        Kind::Qualifier => put_qualifier_words(text, bytes),
+        Kind::Configuration { speed } => put_configuration_words(text, speed, bytes),
+        Kind::Association { number } => put_association_words(text, number, bytes),
+        Kind::Interface { association } => put_interface_words(text, association, bytes),
+        Kind::Endpoint { speed, .. } => put_endpoint_words(text, speed, bytes),
+        Kind::Raw { interface } => put_raw_words(text, interface, bytes),
+        Kind::Languages => put_languages_words(text, bytes),
+        Kind::Text { place } => put_string_words(text, place, bytes),
+        Kind::Rest => text.put("the rest"),
+    }
+}
+
+/// Puts the lines of the fields of a descriptor of these bytes, whose heading has this depth. A brief explanation has
+/// none.
+///
+/// ```rust
+/// let look = Look { brief: false, places: true };
+/// let names = Names::none(alloc, Missing::NotInInput);
+/// put_fields(&mut text, look, 3, &names, Kind::Raw { interface: None }, &[3, 0x77, 0xab])?;
+/// assert_eq!(rt; text.as_bytes(), b"          bDescriptorType        0x77\n          bytes                  ab\n");
+/// ```
+///
+/// # Errors
+///
+/// Out of memory.
+#[tactic(auto, unfolding(crate::specs::Kinds::fields))]
+pub fn put_fields(
+    text: &mut Text,
+    look: Look,
+    depth: u8,
+    names: &Names,
+    kind: Kind,
+    bytes: &[u8],
+) -> Result<(), AllocError>
+    ensures { OnOk result (text.new ≡ text.old ++ fields look depth names.now kind bytes.now) }
+{
+    if look.brief {
+        Ok(())
+    } else {
+        put_lines(text, depth, names, kind, bytes)
+    }
+}
+
+#[tactic(auto, unfolding(crate::specs::Kinds::kind_lines))]
+fn put_lines(
+    text: &mut Text,
+    depth: u8,
+    names: &Names,
+    kind: Kind,
+    bytes: &[u8],
+) -> Result<(), AllocError>
+    ensures { OnOk result (text.new ≡ text.old ++ kind_lines depth names.now kind bytes.now) }
+{
+    match kind {
+        Kind::Device { exponent } => put_device_fields(text, depth, exponent, names, bytes),
+        Kind::Qualifier => put_qualifier_fields(text, depth, bytes),
+        Kind::Configuration { speed } => {
+            put_configuration_fields(text, depth, speed, names, bytes)
+        }
+        Kind::Association { .. } => put_association_fields(text, depth, names, bytes),
+        Kind::Interface { .. } => put_interface_fields(text, depth, names, bytes),
+        Kind::Endpoint { speed, audio } => put_endpoint_fields(text, depth, speed, audio, bytes),
+        Kind::Raw { interface } => put_raw_fields(text, depth, interface, bytes),
+        Kind::Languages => Ok(()),
+        Kind::Text { .. } => Ok(()),
+        Kind::Rest => put_rest_fields(text, depth, bytes),
+    }
+}
+
+/// Begins the line of a field: its name, which takes 22 characters at least.
+#[tactic(auto, unfolding(crate::specs::Lines::field_start))]
+pub(crate) fn begin_field(text: &mut Text, depth: u8, name: &str) -> Result<(), AllocError>
+    ensures { OnOk result (text.new ≡ text.old ++ field_start depth name.now) }
+{
+    text.put_spaces(2 * usize::from(depth) + 4)?;
+    text.put(name)?;
+    text.put_spaces(22_usize.saturating_sub(name.len()))?;
+    text.put(" ")
+}
+
+/// Ends a line.
+pub(crate) fn end_line(text: &mut Text) -> Result<(), AllocError>
+    ensures { OnOk result (text.new ≡ text.old ++ codes "\n") }
+{
+    text.put("\n")
+}

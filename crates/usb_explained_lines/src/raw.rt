@@ -1,0 +1,256 @@
+//! Descriptors of classes.
+ghost use Rattle.std.specs.Prelude.{◌≡◌, ◌++◌, drop, take, option_map, OnOk};
+ghost use Rattle.std.specs.Option.{option_copied};
+ghost use Rattle.hex.specs.Hex.{encode_lower};
+ghost use Rattle.usb_names.specs.Shown.{field_of, row_of};
+ghost use Rattle.std.specs.Prelude.{map};
+ghost use Rattle.usb_explained_lines.specs.Raws.{body_lines, class_field_line, decimal_words, form_words, group_count, group_lines, groups_lines, hexadecimal_words, raw_lines, raw_words, release_words, report_type_words, report_words, row_lines, row_of_bytes, row_words, width_of};
+
+use crate::bytes::{behind, byte_at};
+use crate::line::{begin_field, end_line};
+use crate::value::{put_byte, put_digits, put_release_value};
+use std::alloc::AllocError;
+use usb_names::{ClassCodes, ClassDescriptor, ClassField, Form, class_descriptor};
+use usb_words::{Text, put_byte_code, put_word_code};
+
+/// Puts the name of a descriptor behind an interface of these codes, or its type where it has no name.
+#[tactic(auto, unfolding(crate::specs::Raws::raw_words))]
+pub(crate) fn put_raw_words(
+    text: &mut Text,
+    interface: Option<ClassCodes>,
+    b: &[u8],
+) -> Result<(), AllocError>
+    ensures { OnOk result (text.new ≡ text.old ++ raw_words interface b.now) }
+{
+    put_row_words(text, byte_at(b, 1), row_of_bytes(interface, b))
+}
+
+/// The row of the table that the descriptor has.
+fn row_of_bytes(interface: Option<ClassCodes>, b: &[u8]) -> Option<&'static ClassDescriptor>
+    ensures { option_map row_of (option_copied result) ≡ row_of_bytes interface b.now }
+{
+    class_descriptor(interface, byte_at(b, 1), b.get(2).copied())
+}
+
+fn put_row_words(
+    text: &mut Text,
+    descriptor_type: u8,
+    row: Option<&'static ClassDescriptor>,
+) -> Result<(), AllocError>
+    ensures { OnOk result (text.new ≡ text.old ++ row_words descriptor_type (option_map row_of (option_copied row.entry))) }
+{
+    match row {
+        None => {
+            text.put("descriptor of type ")?;
+            put_byte_code(text, descriptor_type)
+        }
+        Some(row) => text.put(row.name),
+    }
+}
+
+/// Puts the fields of a descriptor behind an interface of these codes.
+#[tactic(auto, unfolding(crate::specs::Raws::raw_lines))]
+pub(crate) fn put_raw_fields(
+    text: &mut Text,
+    depth: u8,
+    interface: Option<ClassCodes>,
+    b: &[u8],
+) -> Result<(), AllocError>
+    ensures { OnOk result (text.new ≡ text.old ++ raw_lines depth interface b.now) }
+{
+    put_byte(text, depth, "bDescriptorType", byte_at(b, 1))?;
+    put_row(text, depth, row_of_bytes(interface, b), behind(b, 2))
+}
+
+fn put_row(
+    text: &mut Text,
+    depth: u8,
+    row: Option<&'static ClassDescriptor>,
+    body: &[u8],
+) -> Result<(), AllocError>
+    ensures { OnOk result (text.new ≡ text.old ++ row_lines depth (option_map row_of (option_copied row.entry)) body.now) }
+{
+    match row {
+        None => put_digits(text, depth, "bytes", body),
+        Some(row) => put_body(text, depth, row.fields, row.group, body),
+    }
+}
+
+/// Puts the fields while all bytes of the next one are there, then the groups.
+#[tactic(auto, unfolding(crate::specs::Raws::body_lines))]
+fn put_body(
+    text: &mut Text,
+    depth: u8,
+    fields: &[ClassField],
+    group: &[ClassField],
+    body: &[u8],
+) -> Result<(), AllocError>
+    ensures { OnOk result (text.new ≡ text.old ++ body_lines depth (map field_of fields.now) (map field_of group.now) body.now) }
+{
+    match fields {
+        [] => put_groups(
+            text,
+            depth,
+            group,
+            group_count(width_of(group), body.len()),
+            body,
+        ),
+        [field, more @ ..] => {
+            let width = usize::from(field.width);
+            if body.len() < width {
+                return put_digits(text, depth, "bytes", body);
+            }
+            put_field(text, depth, field, &body[..width])?;
+            put_body(text, depth, more, group, &body[width..])
+        }
+    }
+}
+
+/// How many bytes the fields of a group have.
+fn width_of(fields: &[ClassField]) -> usize
+    ensures { result ≡ width_of (map field_of fields.now) }
+{
+    let mut width = 0;
+    for field in fields {
+        width += usize::from(field.width);
+    }
+    width
+}
+
+/// How many groups of so many bytes are there.
+fn group_count(width: usize, count: usize) -> usize
+    ensures { result ≡ group_count width count }
+{
+    match width {
+        0 => 0,
+        _ => count / width,
+    }
+}
+
+/// Puts so many groups, and what is left behind them.
+#[tactic(auto, unfolding(crate::specs::Raws::groups_lines))]
+fn put_groups(
+    text: &mut Text,
+    depth: u8,
+    group: &[ClassField],
+    count: usize,
+    body: &[u8],
+) -> Result<(), AllocError>
+    ensures { OnOk result (text.new ≡ text.old ++ groups_lines depth (map field_of group.now) count body.now) }
+{
+    if count == 0 {
+        return put_digits(text, depth, "bytes", body);
+    }
+    put_group(text, depth, group, body)?;
+    put_groups(text, depth, group, count - 1, from(body, width_of(group)))
+}
+
+/// Puts the fields of a group.
+#[tactic(auto, unfolding(crate::specs::Raws::group_lines))]
+fn put_group(
+    text: &mut Text,
+    depth: u8,
+    fields: &[ClassField],
+    body: &[u8],
+) -> Result<(), AllocError>
+    ensures { OnOk result (text.new ≡ text.old ++ group_lines depth (map field_of fields.now) body.now) }
+{
+    match fields {
+        [] => Ok(()),
+        [field, more @ ..] => {
+            let width = usize::from(field.width);
+            put_field(text, depth, field, up_to(body, width))?;
+            put_group(text, depth, more, from(body, width))
+        }
+    }
+}
+
+/// The first of the bytes, so many or all.
+fn up_to(b: &[u8], count: usize) -> &[u8]
+    ensures { result.now ≡ take count b.now }
+{
+    if count < b.len() { &b[..count] } else { b }
+}
+
+/// The bytes from this place on.
+fn from(b: &[u8], place: usize) -> &[u8]
+    ensures { result.now ≡ drop place b.now }
+{
+    if place < b.len() { &b[place..] } else { &[] }
+}
+
+fn put_field(text: &mut Text, depth: u8, field: &ClassField, value: &[u8]) -> Result<(), AllocError>
+    ensures { OnOk result (text.new ≡ text.old ++ class_field_line depth (field_of field.now) value.now) }
+{
+    begin_field(text, depth, field.name)?;
+    put_form(text, field.form, value)?;
+    end_line(text)
+}
+
+#[tactic(auto, unfolding(crate::specs::Raws::form_words))]
+fn put_form(text: &mut Text, form: Form, value: &[u8]) -> Result<(), AllocError>
+    ensures { OnOk result (text.new ≡ text.old ++ form_words form value.now) }
+{
+    match form {
+        Form::Decimal => put_decimal_words(text, value),
+        Form::Hexadecimal => put_hexadecimal_words(text, value),
+        Form::Release => put_release_words(text, value),
+        Form::ReportType => put_report_type_words(text, value),
+    }
+}
+
+fn put_decimal_words(text: &mut Text, value: &[u8]) -> Result<(), AllocError>
+    ensures { OnOk result (text.new ≡ text.old ++ decimal_words value.now) }
+{
+    match value {
+        [a] => text.put_decimal(u64::from(*a)),
+        [a, b] => text.put_decimal(u64::from(*a) + 256 * u64::from(*b)),
+        [a, b, c, d] => text.put_decimal(
+            u64::from(*a) + 256 * (u64::from(*b) + 256 * (u64::from(*c) + 256 * u64::from(*d))),
+        ),
+        _ => text.put_digits(value),
+    }
+}
+
+fn put_hexadecimal_words(text: &mut Text, value: &[u8]) -> Result<(), AllocError>
+    ensures { OnOk result (text.new ≡ text.old ++ hexadecimal_words value.now) }
+{
+    match value {
+        [a] => put_byte_code(text, *a),
+        [a, b] => put_word_code(text, u16::from_le_bytes([*a, *b])),
+        [a, b, c, d] => {
+            text.put("0x")?;
+            text.put_digits(&[*d, *c, *b, *a])
+        }
+        _ => text.put_digits(value),
+    }
+}
+
+fn put_release_words(text: &mut Text, value: &[u8]) -> Result<(), AllocError>
+    ensures { OnOk result (text.new ≡ text.old ++ release_words value.now) }
+{
+    match value {
+        [low, high] => put_release_value(text, u16::from_le_bytes([*low, *high])),
+        _ => text.put_digits(value),
+    }
+}
+
+fn put_report_type_words(text: &mut Text, value: &[u8]) -> Result<(), AllocError>
+    ensures { OnOk result (text.new ≡ text.old ++ report_type_words value.now) }
+{
+    match value {
+        [descriptor_type] => put_report_words(text, *descriptor_type),
+        _ => text.put_digits(value),
+    }
+}
+
+fn put_report_words(text: &mut Text, descriptor_type: u8) -> Result<(), AllocError>
+    ensures { OnOk result (text.new ≡ text.old ++ report_words descriptor_type) }
+{
+    put_byte_code(text, descriptor_type)?;
+    match descriptor_type {
+        0x22 => text.put(" (report)"),
+        0x23 => text.put(" (physical)"),
+        _ => Ok(()),
+    }
+}

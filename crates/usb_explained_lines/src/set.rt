@@ -1,0 +1,217 @@
+//! The configuration, interface association and interface descriptors.
+ghost use Rattle.std.specs.Prelude.{◌≡◌, ◌++◌, codes, OnOk};
+ghost use Rattle.usb_explained_lines.specs.Lines.{field_line};
+ghost use Rattle.usb_explained_lines.specs.Sets.{association_lines, association_words, binding_words, bound_words, configuration_lines, configuration_words, interface_lines, interface_words, power_value, set_attributes, set_words, source_words, wakeup_words};
+
+use crate::bytes::{behind, byte_at, word_at};
+use crate::index::put_index;
+use crate::line::{begin_field, end_line};
+use crate::names::Names;
+use crate::value::{
+    put_class_field, put_decimal, put_digits, put_protocol_field, put_subclass_field,
+};
+use std::alloc::AllocError;
+use usb_words::{Speed, Text, put_byte_code, put_class_words, put_count, put_power, put_speed};
+
+/// Puts the words of the heading of a set's first descriptor (USB 2.0, 9.6.3 and 9.6.4).
+#[tactic(auto, unfolding(crate::specs::Sets::configuration_words))]
+pub(crate) fn put_configuration_words(
+    text: &mut Text,
+    speed: Speed,
+    b: &[u8],
+) -> Result<(), AllocError>
+    ensures { OnOk result (text.new ≡ text.old ++ configuration_words speed b.now) }
+{
+    text.put(set_words(byte_at(b, 1)))?;
+    text.put_decimal(u64::from(byte_at(b, 5)))?;
+    text.put(", ")?;
+    put_speed(text, speed)?;
+    text.put(", ")?;
+    put_count(text, u64::from(byte_at(b, 4)), "interface")?;
+    text.put(", ")?;
+    text.put(source_words(byte_at(b, 7)))?;
+    text.put(", ")?;
+    put_power(text, speed, byte_at(b, 8))
+}
+
+fn set_words(descriptor_type: u8) -> &'static str
+    ensures { result.now ≡ set_words descriptor_type }
+{
+    if descriptor_type == 7 {
+        "other-speed configuration "
+    } else {
+        "configuration "
+    }
+}
+
+fn source_words(attributes: u8) -> &'static str
+    ensures { result.now ≡ source_words attributes }
+{
+    if attributes / 64 % 2 == 1 {
+        "self-powered"
+    } else {
+        "bus-powered"
+    }
+}
+
+fn wakeup_words(attributes: u8) -> &'static str
+    ensures { result.now ≡ wakeup_words attributes }
+{
+    if attributes / 32 % 2 == 1 {
+        ", remote wakeup"
+    } else {
+        ""
+    }
+}
+
+/// Puts the fields of a set's first descriptor.
+#[tactic(auto, unfolding(crate::specs::Sets::configuration_lines))]
+pub(crate) fn put_configuration_fields(
+    text: &mut Text,
+    depth: u8,
+    speed: Speed,
+    names: &Names,
+    b: &[u8],
+) -> Result<(), AllocError>
+    ensures { OnOk result (text.new ≡ text.old ++ configuration_lines depth speed names.now b.now) }
+{
+    put_decimal(text, depth, "wTotalLength", u64::from(word_at(b, 2)))?;
+    put_decimal(text, depth, "bNumInterfaces", u64::from(byte_at(b, 4)))?;
+    put_decimal(text, depth, "bConfigurationValue", u64::from(byte_at(b, 5)))?;
+    put_index(text, depth, "iConfiguration", names, byte_at(b, 6))?;
+    put_attributes(text, depth, byte_at(b, 7))?;
+    put_max_power(text, depth, speed, byte_at(b, 8))?;
+    put_digits(text, depth, "tail", behind(b, 9))
+}
+
+#[tactic(auto, unfolding(crate::specs::Lines::field_line))]
+fn put_attributes(text: &mut Text, depth: u8, attributes: u8) -> Result<(), AllocError>
+    ensures { OnOk result (text.new ≡ text.old ++ field_line depth (codes "bmAttributes") (set_attributes attributes)) }
+{
+    begin_field(text, depth, "bmAttributes")?;
+    put_byte_code(text, attributes)?;
+    text.put(" (")?;
+    text.put(source_words(attributes))?;
+    text.put(wakeup_words(attributes))?;
+    text.put(")")?;
+    end_line(text)
+}
+
+#[tactic(auto, unfolding(crate::specs::Lines::field_line))]
+fn put_max_power(text: &mut Text, depth: u8, speed: Speed, power: u8) -> Result<(), AllocError>
+    ensures { OnOk result (text.new ≡ text.old ++ field_line depth (codes "bMaxPower") (power_value speed power)) }
+{
+    begin_field(text, depth, "bMaxPower")?;
+    text.put_decimal(u64::from(power))?;
+    text.put(" (")?;
+    put_power(text, speed, power)?;
+    text.put(")")?;
+    end_line(text)
+}
+
+/// Puts the words of an interface association's heading (its ECN, 9.X.Y).
+#[tactic(auto, unfolding(crate::specs::Sets::association_words))]
+pub(crate) fn put_association_words(
+    text: &mut Text,
+    number: u64,
+    b: &[u8],
+) -> Result<(), AllocError>
+    ensures { OnOk result (text.new ≡ text.old ++ association_words number b.now) }
+{
+    text.put("association ")?;
+    text.put_decimal(number)?;
+    text.put(" of ")?;
+    put_bound(text, byte_at(b, 2), byte_at(b, 3))?;
+    text.put(", ")?;
+    put_class_words(text, byte_at(b, 4), byte_at(b, 5), byte_at(b, 6))
+}
+
+/// Puts which interfaces it binds. Their numbers don't wrap: the last may be one that no interface can have.
+fn put_bound(text: &mut Text, first: u8, count: u8) -> Result<(), AllocError>
+    ensures { OnOk result (text.new ≡ text.old ++ bound_words first count) }
+{
+    if count == 0 {
+        text.put("no interface")
+    } else if count == 1 {
+        text.put("interface ")?;
+        text.put_decimal(u64::from(first))
+    } else {
+        text.put("interfaces ")?;
+        text.put_decimal(u64::from(first))?;
+        text.put(" to ")?;
+        text.put_decimal(u64::from(first) + u64::from(count) - 1)
+    }
+}
+
+/// Puts the fields of an interface association.
+#[tactic(auto, unfolding(crate::specs::Sets::association_lines))]
+pub(crate) fn put_association_fields(
+    text: &mut Text,
+    depth: u8,
+    names: &Names,
+    b: &[u8],
+) -> Result<(), AllocError>
+    ensures { OnOk result (text.new ≡ text.old ++ association_lines depth names.now b.now) }
+{
+    let (class, subclass, protocol) = (byte_at(b, 4), byte_at(b, 5), byte_at(b, 6));
+    put_decimal(text, depth, "bFirstInterface", u64::from(byte_at(b, 2)))?;
+    put_decimal(text, depth, "bInterfaceCount", u64::from(byte_at(b, 3)))?;
+    put_class_field(text, depth, "bFunctionClass", class)?;
+    put_subclass_field(text, depth, "bFunctionSubClass", class, subclass)?;
+    put_protocol_field(text, depth, "bFunctionProtocol", class, subclass, protocol)?;
+    put_index(text, depth, "iFunction", names, byte_at(b, 7))?;
+    put_digits(text, depth, "tail", behind(b, 8))
+}
+
+/// Puts the words of an interface descriptor's heading (9.6.5).
+#[tactic(auto, unfolding(crate::specs::Sets::interface_words))]
+pub(crate) fn put_interface_words(
+    text: &mut Text,
+    association: Option<u64>,
+    b: &[u8],
+) -> Result<(), AllocError>
+    ensures { OnOk result (text.new ≡ text.old ++ interface_words association b.now) }
+{
+    text.put("interface ")?;
+    text.put_decimal(u64::from(byte_at(b, 2)))?;
+    text.put(" alternate ")?;
+    text.put_decimal(u64::from(byte_at(b, 3)))?;
+    put_binding(text, association)?;
+    text.put(", ")?;
+    put_class_words(text, byte_at(b, 5), byte_at(b, 6), byte_at(b, 7))?;
+    text.put(", ")?;
+    put_count(text, u64::from(byte_at(b, 4)), "endpoint")
+}
+
+fn put_binding(text: &mut Text, association: Option<u64>) -> Result<(), AllocError>
+    ensures { OnOk result (text.new ≡ text.old ++ binding_words association) }
+{
+    match association {
+        None => Ok(()),
+        Some(number) => {
+            text.put(" of association ")?;
+            text.put_decimal(number)
+        }
+    }
+}
+
+/// Puts the fields of an interface descriptor.
+#[tactic(auto, unfolding(crate::specs::Sets::interface_lines))]
+pub(crate) fn put_interface_fields(
+    text: &mut Text,
+    depth: u8,
+    names: &Names,
+    b: &[u8],
+) -> Result<(), AllocError>
+    ensures { OnOk result (text.new ≡ text.old ++ interface_lines depth names.now b.now) }
+{
+    let (class, subclass, protocol) = (byte_at(b, 5), byte_at(b, 6), byte_at(b, 7));
+    put_decimal(text, depth, "bInterfaceNumber", u64::from(byte_at(b, 2)))?;
+    put_decimal(text, depth, "bAlternateSetting", u64::from(byte_at(b, 3)))?;
+    put_decimal(text, depth, "bNumEndpoints", u64::from(byte_at(b, 4)))?;
+    put_class_field(text, depth, "bInterfaceClass", class)?;
+    put_subclass_field(text, depth, "bInterfaceSubClass", class, subclass)?;
+    put_protocol_field(text, depth, "bInterfaceProtocol", class, subclass, protocol)?;
+    put_index(text, depth, "iInterface", names, byte_at(b, 8))?;
+    put_digits(text, depth, "tail", behind(b, 9))
+}
