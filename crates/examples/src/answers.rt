@@ -33,8 +33,10 @@ pub(crate) fn answer(alloc: Global, row: &Row) -> Result<Answer> {
         "endless" => failing::endless(alloc, row)?,
         "line" => command_line::line(alloc, words)?,
         "speed" => command_line::speed(alloc, words)?,
+        "running_speed" => command_line::running_speed(alloc, words)?,
         "fates" => command_line::fates(alloc, words)?,
         "settings" => command_line::settings(alloc, words)?,
+        "manner" => command_line::manner(alloc, words)?,
         "message" => messages::message(alloc, words)?,
         call => bail!("no call is named {call}"),
     };

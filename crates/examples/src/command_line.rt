@@ -2,7 +2,10 @@
 use crate::fields::fault;
 use anyhow::{Result, bail};
 use std::alloc::Global;
-use usb_tool::{Fate, Line, Options, Settings, read_fates, read_line, read_speed, settings_of};
+use usb_tool::{
+    Explaining, Fate, Line, Options, Settings, manner_of, read_fates, read_line,
+    read_running_speed, read_speed, settings_of,
+};
 
 /// The words of the program, its name first.
 pub(crate) fn line_of(alloc: Global, words: &[String]) -> Result<Vec<String>> {
@@ -32,9 +35,25 @@ fn told(alloc: Global, line: &Line<'_>) -> Result<String> {
             Line::Show => "show",
             Line::Check => "check",
             Line::Build => "build",
+            Line::Explain(options) => return with_flags(alloc, options),
             Line::Enumerate(options) => return with_options(alloc, options),
         },
     )?)
+}
+
+/// `explain` with the options that are given.
+fn with_flags(alloc: Global, options: &Explaining<'_>) -> Result<String> {
+    let mut told = String::from_str(alloc, "explain")?;
+    if options.brief {
+        told.push_str(" brief")?;
+    }
+    if options.no_places {
+        told.push_str(" no-places")?;
+    }
+    if let Some(speed) = options.speed {
+        told.push_str(format!(in alloc; " speed {speed}")?.as_str())?;
+    }
+    Ok(told)
 }
 
 /// `enumerate` with the options that are given.
@@ -51,6 +70,9 @@ fn with_options(alloc: Global, options: &Options<'_>) -> Result<String> {
             told.push_str(format!(in alloc; " {name} {text}")?.as_str())?;
         }
     }
+    if options.log {
+        told.push_str(" log")?;
+    }
     Ok(told)
 }
 
@@ -62,6 +84,34 @@ pub(crate) fn speed(alloc: Global, words: &[String]) -> Result<String> {
     match read_speed(name.as_str()) {
         Some(speed) => Ok(format!(in alloc; "{speed:?}")?),
         None => Ok(String::from_str(alloc, "none")?),
+    }
+}
+
+/// The speed of a name at which a device can have run, or `none`.
+pub(crate) fn running_speed(alloc: Global, words: &[String]) -> Result<String> {
+    let [name] = words else {
+        bail!("not one word");
+    };
+    match read_running_speed(name.as_str()) {
+        Some(speed) => Ok(format!(in alloc; "{speed:?}")?),
+        None => Ok(String::from_str(alloc, "none")?),
+    }
+}
+
+/// What the options of `explain` come to, or the exit status and the line of the fault.
+pub(crate) fn manner(alloc: Global, words: &[String]) -> Result<String> {
+    let words = line_of(alloc, words)?;
+    let Ok(Line::Explain(options)) = read_line(alloc, &words) else {
+        bail!("no explanation");
+    };
+    match manner_of(&options) {
+        Ok(manner) => Ok(format!(in alloc;
+            "brief {} places {} {:?}",
+            manner.look.brief,
+            manner.look.places,
+            manner.speed
+        )?),
+        Err(fault) => Ok(format!(in alloc; "{} {fault}", fault.status())?),
     }
 }
 

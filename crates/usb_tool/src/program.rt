@@ -84,6 +84,7 @@ fn enumerate_with<R: Read, W: Write, E: Write>(
                 limits,
                 speed,
                 fates,
+                ..
             } = settings;
             finish(&run_enumerate(alloc, r, w, limits, speed, &fates), e)
         }
