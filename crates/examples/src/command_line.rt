@@ -51,6 +51,9 @@ fn with_options(alloc: Global, options: &Options<'_>) -> Result<String> {
             told.push_str(format!(in alloc; " {name} {text}")?.as_str())?;
         }
     }
+    if options.log {
+        told.push_str(" log")?;
+    }
     Ok(told)
 }
 
@@ -100,7 +103,7 @@ pub(crate) fn settings(alloc: Global, words: &[String]) -> Result<String> {
     }
 }
 
-/// The limits, the speed, and the fates.
+/// The limits, the speed, the fates, and whether a log is asked for.
 fn settled(alloc: Global, settings: &Settings) -> Result<String> {
     let limits = settings.limits;
     let speed = settings.speed;
@@ -111,5 +114,9 @@ fn settled(alloc: Global, settings: &Settings) -> Result<String> {
         limits.naks(),
         limits.attempts()
     )?;
-    Ok(String::from_str(alloc, told.as_str().trim_end())?)
+    let mut told = String::from_str(alloc, told.as_str().trim_end())?;
+    if settings.log {
+        told.push_str(" log")?;
+    }
+    Ok(told)
 }
