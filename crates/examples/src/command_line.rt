@@ -150,7 +150,7 @@ pub(crate) fn settings(alloc: Global, words: &[String]) -> Result<String> {
     }
 }
 
-/// The limits, the speed, and the fates.
+/// The limits, the speed, the fates, and whether a log is asked for.
 fn settled(alloc: Global, settings: &Settings) -> Result<String> {
     let limits = settings.limits;
     let speed = settings.speed;
@@ -161,5 +161,9 @@ fn settled(alloc: Global, settings: &Settings) -> Result<String> {
         limits.naks(),
         limits.attempts()
     )?;
-    Ok(String::from_str(alloc, told.as_str().trim_end())?)
+    let mut told = String::from_str(alloc, told.as_str().trim_end())?;
+    if settings.log {
+        told.push_str(" log")?;
+    }
+    Ok(told)
 }

@@ -83,6 +83,7 @@ fn asks(line: &Line<'_>) -> bool {
             naks: Some("2"),
             attempts: None,
             fates: Some(".nnn"),
+            log: false,
         })
 }
 
@@ -94,6 +95,7 @@ fn settle(alloc: Global) -> Answer {
         naks: Some("2"),
         attempts: None,
         fates: Some(".ndua"),
+        log: false,
     };
     match settings_of(alloc, &options) {
         Ok(settings) => right(are_settled(&settings)),

@@ -1,5 +1,5 @@
 -- On telling what came of an enumeration.
-use Rattle.std.proofs.Common.{◌≡◌, ◌≢◌, ℕ, List, ◌∷◌, ◌++◌, Some, Result, Ok, Err, refl, sym, ap, ◌∙◌, inl, inr, subst, append_assoc}
+use Rattle.std.proofs.Common.{◌≡◌, ◌≢◌, ℕ, List, ◌∷◌, ◌++◌, ◌<◌, length, length-append, codes, arith, true, Some, Result, Ok, Err, refl, sym, ap, ◌∙◌, inl, inr, subst, append_assoc, append-nil, []}
 use Rattle.std.specs.Prelude.{IfErr, IfOk}
 use Rattle.std.specs.Io.KnownBytes.{Appends}
 use Rattle.usb_fields.specs.declared.speed.Speed.{Speed}
@@ -8,15 +8,17 @@ use Rattle.usb_file_data.specs.File.{File}
 use Rattle.usb_listing.specs.declared.output.OutFault.{OutFault}
 use Rattle.usb_listing.specs.declared.output.OutFault.TheVariants as outs
 use Rattle.usb_listing.specs.Output.{AppendsLess, Held}
-use Rattle.usb_listing.proofs.Pages.{appends_more, less_is_front}
+use Rattle.usb_listing.specs.Listing.{file_lines}
+use Rattle.usb_listing.specs.Output.{AppendsFront}
+use Rattle.usb_listing.proofs.Pages.{appends_kept, appends_more, less_is_front, stopped}
 use Rattle.usb_description.specs.Accepted.{Accepted, Refuses, refusal_of}
 use Rattle.usb_description.specs.declared.fault.DescriptionFault.{DescriptionFault}
 use Rattle.usb_description.specs.declared.fault.DescriptionFault.TheVariants as refusals
-use Rattle.usb_enumeration.specs.Enumerate.{IsEnumeration}
 use Rattle.usb_enumeration.specs.declared.run.Run.{Run}
-use Rattle.usb_tool.specs.Enumerations.{Conditions, RefusesToEnumerate, Tells, WritesResult, run_status, run_text}
+use Rattle.usb_host.specs.declared.step.Trouble.{Trouble}
+use Rattle.usb_tool.specs.Enumerations.{Conditions, IsRun, RefusesToEnumerate, Tells, WritesResult, run_status, run_text}
 use Rattle.usb_tool.specs.Faults.{fault_of_output}
-use Rattle.usb_tool.specs.ResultLines.{refused_line}
+use Rattle.usb_tool.specs.ResultLines.{refused_line, success_line, trouble_line}
 use Rattle.usb_tool.specs.inside.Telling.{EndsWith, IsCutShort}
 use Rattle.usb_tool.specs.declared.fault.ToolFault.{ToolFault}
 use Rattle.usb_tool.specs.declared.fault.ToolFault.TheVariants as faults
@@ -45,12 +47,12 @@ refusal_told c f b fault layout why =
     record { file = f; layout = layout; told = inl (record { fault = fault; why = why; told = refl; ended = refl }) }
 
 -- what is told of a run
-pub run_told : (c : Conditions) (f : DescriptorFile) (b : List ℕ) (run : Run) → File f b → Accepted f c.speed
-    → IsEnumeration f c.speed c.limits c.fates run → Tells c b (run_text run.outcome run) (run_status run.outcome)
-run_told c f b run layout accepted enumerated = record {
+pub run_told : (c : Conditions) (f : DescriptorFile) (b : List ℕ) (run : Run) (log : List ℕ) → File f b → Accepted f c.speed
+    → IsRun c.logs c f run log → Tells c b (log ++ run_text run.outcome run) (run_status run.outcome)
+run_told c f b run log layout accepted enumerated = record {
   file = f;
   layout = layout;
-  told = inr (record { run = run; accepted = accepted; enumerated = enumerated; told = refl; ended = refl });
+  told = inr (record { run = run; log = log; accepted = accepted; enumerated = enumerated; told = refl; ended = refl });
 }
 
 -- a text that was not written to its end
@@ -71,10 +73,10 @@ less_after a b c s t whole less = record {
 cut_is_refused : (c : Conditions) (b text : List ℕ) (status : ℕ) (held holds : Held) (e : ToolFault) → Tells c b text status
     → IsCutShort text held holds e → RefusesToEnumerate c b held holds e
 cut_is_refused c b text status held holds faults.Write tells front =
-    record { text = text; status = status; tells = tells; written = front }
+    inl (record { text = text; status = status; tells = tells; written = front })
 cut_is_refused c b text status held holds faults.Memory tells (inl nothing) = inl nothing
 cut_is_refused c b text status held holds faults.Memory tells (inr less) =
-    inr (record { text = text; status = status; tells = tells; written = less })
+    inr (inl (record { text = text; status = status; tells = tells; written = less }))
 cut_is_refused c b text status held holds faults.Read tells cut = elim cut [ ]
 cut_is_refused c b text status held holds faults.TooLarge tells cut = elim cut [ ]
 cut_is_refused c b text status held holds (faults.File fault) tells cut = elim cut [ ]
@@ -93,3 +95,44 @@ module _ (c : Conditions) (b text : List ℕ) (ended : ℕ) (held holds : Held) 
   pub result_cut : (r : Result ℕ ToolFault) → IfErr r (IsCutShort text held holds) → IfErr r (RefusesToEnumerate c b held holds)
   result_cut (Ok status) cut = tt
   result_cut (Err fault) cut = cut_is_refused c b text ended held holds fault tells cut
+
+-- the line of a result is there
+success_some : (run : Run) → 0 < length (success_line run)
+unfolding success_line
+success_some run = rw length-append (omega arith)
+
+trouble_some : (trouble : Trouble) (run : Run) → 0 < length (trouble_line trouble run)
+unfolding trouble_line
+trouble_some trouble run = rw length-append (omega arith)
+
+pub run_text_some : (o : Result DescriptorFile Trouble) (run : Run) → 0 < length (run_text o run)
+run_text_some (Ok f) run = rw length-append (omega (arith, success_some run))
+run_text_some (Err trouble) run = trouble_some trouble run
+
+-- a text, and after it a front of another one
+front_after : (a b c : Held) (s t : List ℕ) → Appends a b s → AppendsFront b c t → AppendsFront a c (s ++ t)
+front_after a b c s t whole f = record {
+  front = s ++ f.front;
+  rest = f.rest;
+  parts = ap (λ l. s ++ l) f.parts ∙ sym (append_assoc s f.front f.rest);
+  written = appends_more a b c s f.front whole f.written;
+}
+
+-- a text after what was written before
+pub ends_after : (a b c : Held) (log text : List ℕ) (ended status : ℕ) → Appends a b log → EndsWith text ended b c status
+    → EndsWith (log ++ text) ended a c status
+ends_after a b c log text ended status before (written, is) = (appends_more a b c log text before written, is)
+
+-- and one that was cut short
+pub cut_after : (a b c : Held) (log text : List ℕ) (e : ToolFault) → 0 < length text → Appends a b log → IsCutShort text b c e
+    → IsCutShort (log ++ text) a c e
+cut_after a b c log text faults.Write some before cut = front_after a b c log text before cut
+cut_after a b c log text faults.Memory some before (inl keeps) =
+    inr (stopped a c (log ++ text) log text refl (appends_kept a b c log before keeps) some)
+cut_after a b c log text faults.Memory some before (inr less) = inr (less_after a b c log text before less)
+cut_after a b c log text faults.Read some before cut = elim cut [ ]
+cut_after a b c log text faults.TooLarge some before cut = elim cut [ ]
+cut_after a b c log text (faults.File fault) some before cut = elim cut [ ]
+cut_after a b c log text (faults.List fault) some before cut = elim cut [ ]
+cut_after a b c log text (faults.Set fault) some before cut = elim cut [ ]
+cut_after a b c log text (faults.Trailing at) some before cut = elim cut [ ]

@@ -1,5 +1,5 @@
 -- What `enumerate` does to its input and its output.
-use Rattle.std.specs.Prelude.{◌≡◌, ℕ, ◌⊎◌, List, ◌++◌, Some, Result, Ok, Err}
+use Rattle.std.specs.Prelude.{◌≡◌, ℕ, ◌⊎◌, Bool, true, false, List, [], ◌++◌, Some, Result, Ok, Err}
 use Rattle.std.specs.Io.KnownBytes.{Appends, Keeps}
 use Rattle.usb_fields.specs.declared.speed.Speed.{Speed}
 use Rattle.usb_file_data.specs.declared.file.DescriptorFile.{DescriptorFile}
@@ -15,21 +15,32 @@ use Rattle.usb_bus.specs.declared.fate.Fate.{Fate}
 use Rattle.usb_host.specs.declared.step.Trouble.{Trouble}
 use Rattle.usb_enumeration.specs.Enumerate.{IsEnumeration}
 use Rattle.usb_enumeration.specs.declared.run.Run.{Run}
+use Rattle.usb_log.specs.Log.{IsLogOf, WritesLogLess}
 use Rattle.usb_tool.specs.Failing.{Fails, Succeeds}
 use Rattle.usb_tool.specs.Input.{Left}
 use Rattle.usb_tool.specs.ResultLines.{refused_line, success_line, trouble_line}
 use Rattle.usb_tool.specs.declared.fault.ToolFault.{ToolFault}
 use Rattle.usb_tool.specs.declared.fault.ToolFault.TheVariants as faults
 
--- what an enumeration is made under: the limits of the host, the speed of the device, and the fates of the transactions
+-- what an enumeration is made under: the limits of the host, the speed of the device, the fates of the transactions, and
+-- whether a log is asked for
 pub record Conditions : Type 0 where
   pub limits : LimitView
   pub speed : Speed
   pub fates : List Fate
+  pub logs : Bool
 
--- these conditions
+-- these conditions, with a log or without
+abbrev pub conditions_of : Bool → LimitView → Speed → List Fate → Conditions
+conditions_of logs limits speed fates = record { limits = limits; speed = speed; fates = fates; logs = logs }
+
+-- without a log
 abbrev pub under : LimitView → Speed → List Fate → Conditions
-under limits speed fates = record { limits = limits; speed = speed; fates = fates }
+under = conditions_of false
+
+-- and with one
+abbrev pub logged_under : LimitView → Speed → List Fate → Conditions
+logged_under = conditions_of true
 
 -- what is told of a run with this outcome: after success its line and the listing of the file that was read, and else the
 -- line of its trouble
@@ -49,12 +60,19 @@ pub record TellsRefusal (c : Conditions) (f : DescriptorFile) (text : List ℕ) 
   pub told : text ≡ refused_line fault
   pub ended : status ≡ 1
 
--- a device was made of the file and enumerated, and the text is what is told of that run
+-- a device with these descriptors was enumerated, and this is the log of that very run, or nothing where none is asked for
+abbrev pub IsRun : Bool → Conditions → DescriptorFile → Run → List ℕ → Type 0
+IsRun false c f run log = IsEnumeration f c.speed c.limits c.fates run × (log ≡ [])
+IsRun true c f run log = IsLogOf f c.speed c.limits c.fates run log
+
+-- a device was made of the file and enumerated, and the text is the log of that run, if it is asked for, and what is told
+-- of it
 pub record TellsRun (c : Conditions) (f : DescriptorFile) (text : List ℕ) (status : ℕ) : Type 0 where
   pub run : Run
+  pub log : List ℕ
   pub accepted : Accepted f c.speed
-  pub enumerated : IsEnumeration f c.speed c.limits c.fates run
-  pub told : text ≡ run_text run.outcome run
+  pub enumerated : IsRun c.logs c f run log
+  pub told : text ≡ log ++ run_text run.outcome run
   pub ended : status ≡ run_status run.outcome
 
 -- the text tells what comes of the file that has these bytes
@@ -83,12 +101,20 @@ pub record WritesResultLess (c : Conditions) (b : List ℕ) (held holds : Held) 
   pub tells : Tells c b text status
   pub written : AppendsLess held holds text
 
--- How bytes are not enumerated: nothing was written where they are no file, and else a front of what comes of them,
--- which is left unfinished out of memory.
+-- a log is asked for, and of that of an enumeration which goes on a front was written, and not all of it
+pub record WritesLogFront (c : Conditions) (b : List ℕ) (held holds : Held) : Type 0 where
+  pub file : DescriptorFile
+  pub layout : File file b
+  pub accepted : Accepted file c.speed
+  pub asked : c.logs ≡ true
+  pub written : WritesLogLess file c.speed c.limits c.fates held holds
+
+-- How bytes are not enumerated: nothing was written where they are no file, and else a front of what comes of them, or of
+-- the log so far. It is left unfinished out of memory.
 abbrev pub RefusesToEnumerate : Conditions → List ℕ → Held → Held → ToolFault → Type 0
 RefusesToEnumerate c b held holds (faults.File fault) = FileFaulty b fault.at fault.why × Keeps held holds
-RefusesToEnumerate c b held holds faults.Write = WritesResultFront c b held holds
-RefusesToEnumerate c b held holds faults.Memory = Keeps held holds ⊎ WritesResultLess c b held holds
+RefusesToEnumerate c b held holds faults.Write = WritesResultFront c b held holds ⊎ WritesLogFront c b held holds
+RefusesToEnumerate c b held holds faults.Memory = Keeps held holds ⊎ (WritesResultLess c b held holds ⊎ WritesLogFront c b held holds)
 RefusesToEnumerate c b held holds fault = ⊥
 
 -- all was read, at most what a file can have, and what comes of it was written

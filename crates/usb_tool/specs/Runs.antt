@@ -9,7 +9,7 @@ use Rattle.clap.specs.declared.error.kind.ErrorKind.TheVariants as kinds
 use Rattle.usb_listing.specs.Output.{Held}
 use Rattle.usb_tool.specs.Builds.{BuildFails, Built}
 use Rattle.usb_tool.specs.Checks.{CheckFails, Checked}
-use Rattle.usb_tool.specs.Enumerations.{Conditions, EnumerateFails, Enumerated, under}
+use Rattle.usb_tool.specs.Enumerations.{Conditions, EnumerateFails, Enumerated, conditions_of}
 use Rattle.usb_tool.specs.Explains.{ExplainFails, Explained}
 use Rattle.usb_tool.specs.Input.{Left}
 use Rattle.usb_command_line.specs.Lines.{Asks, usbdesc_app, word_texts}
@@ -78,7 +78,7 @@ pub record LineIsRefused (words : List (String Global)) (from to : Left) (held h
 
 -- what an enumeration with these settings is made under
 abbrev pub conditions : Settings → Conditions
-conditions s = under s.limits s.speed s.fates.items
+conditions s = conditions_of s.log s.limits s.speed s.fates.items
 
 -- the options were taken, and the enumeration was made
 pub record EnumerationIsDone (options : Options) (from to : Left) (held holds : Held) (status : ℕ) : Type 0 where

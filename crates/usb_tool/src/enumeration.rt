@@ -1,9 +1,9 @@
 //! The command `enumerate`.
 ghost use Rattle.std.specs.Prelude.{◌++◌, IfErr, IfOk};
 ghost use Rattle.usb_listing.specs.Listing.{file_lines};
-ghost use Rattle.usb_tool.specs.Enumerations.{EnumerateFails, Enumerated, RefusesToEnumerate, WritesResult, run_status, run_text, under};
+ghost use Rattle.usb_tool.specs.Enumerations.{EnumerateFails, Enumerated, RefusesToEnumerate, WritesResult, conditions_of, logged_under, run_status, run_text, under};
 ghost use Rattle.usb_tool.specs.ResultLines.{refused_line, success_line, trouble_line};
-ghost use Rattle.usb_tool.specs.inside.Telling.{EndsWith, IsCutShort};
+ghost use Rattle.usb_tool.specs.inside.Telling.{BreaksRun, EndsWith, IsCutShort, MakesRun};
 
 use crate::fault::ToolFault;
 use crate::output::write_flushed;
@@ -18,6 +18,7 @@ use usb_fields::Speed;
 use usb_file::{DescriptorFile, FILE_LIMIT, list, read_file};
 use usb_host::Trouble;
 use usb_listing::write_all;
+use usb_log::enumerate_logged;
 use usb_transfer::Limits;
 
 /// Reads a descriptor file to its end, and enumerates a device of this speed that has these descriptors, over a bus with
@@ -52,7 +53,52 @@ pub fn run_enumerate<R: Read, W: Write>(
     ensures err { IfErr result (EnumerateFails (under limits speed fates.now) (R.remaining r.old) (R.remaining r.new) (W.contents w.old) (W.contents w.new)) }
 {
     let bytes = read_all(alloc, r, FILE_LIMIT)?;
-    enumerate_bytes(alloc, &bytes, w, limits, speed, fates)
+    let bus = Bus {
+        fates,
+        is_logged: false,
+    };
+    enumerate_bytes(alloc, &bytes, w, limits, speed, bus)
+}
+
+/// Does the same as [`run_enumerate`], and writes a log before the line: a line for each bus reset, each transfer and
+/// each transaction, as soon as it is done.
+///
+/// ```rust
+/// let mut lines = Vec::new(alloc);
+/// let lost = [Fate::LostDown; 9];
+/// assert_eq!(rt; run_enumerate_logged(alloc, &mut input, &mut lines, limits, Speed::Full, &lost)?, 1);
+/// assert!(rt; lines.starts_with(b"attempt 1: bus reset\n"));
+/// assert!(rt; lines.ends_with(b"trouble 1 first attempts 3 transactions 9\n"));
+/// ```
+///
+/// # Errors
+///
+/// Those of `run_enumerate`. Where `Write` or `Memory` comes within the log, the enumeration goes no further: a front
+/// of the log was written, and not all of its last step.
+pub fn run_enumerate_logged<R: Read, W: Write>(
+    alloc: Global,
+    r: &mut R,
+    w: &mut W,
+    limits: Limits,
+    speed: Speed,
+    fates: &[Fate],
+) -> Result<u8, ToolFault>
+    ensures enumerated { IfOk result (Enumerated (logged_under limits speed fates.now) (R.remaining r.old) (R.remaining r.new) (W.contents w.old) (W.contents w.new)) }
+    ensures err { IfErr result (EnumerateFails (logged_under limits speed fates.now) (R.remaining r.old) (R.remaining r.new) (W.contents w.old) (W.contents w.new)) }
+{
+    let bytes = read_all(alloc, r, FILE_LIMIT)?;
+    let bus = Bus {
+        fates,
+        is_logged: true,
+    };
+    enumerate_bytes(alloc, &bytes, w, limits, speed, bus)
+}
+
+/// What the bus does to the transactions, and whether they are logged.
+#[derive(Clone, Copy)]
+struct Bus<'f> {
+    fates: &'f [Fate],
+    is_logged: bool,
 }
 
 /// Writes what comes of the file that the bytes are, and flushes the writer.
@@ -62,10 +108,10 @@ fn enumerate_bytes<W: Write>(
     w: &mut W,
     limits: Limits,
     speed: Speed,
-    fates: &[Fate],
+    bus: Bus<'_>,
 ) -> Result<u8, ToolFault>
-    ensures ok { IfOk result (WritesResult (under limits speed fates.now) bytes.now (W.contents w.old) (W.contents w.new)) }
-    ensures err { IfErr result (RefusesToEnumerate (under limits speed fates.now) bytes.now (W.contents w.old) (W.contents w.new)) }
+    ensures ok { IfOk result (WritesResult (conditions_of bus.entry.is_logged limits speed bus.entry.fates.now) bytes.now (W.contents w.old) (W.contents w.new)) }
+    ensures err { IfErr result (RefusesToEnumerate (conditions_of bus.entry.is_logged limits speed bus.entry.fates.now) bytes.now (W.contents w.old) (W.contents w.new)) }
 {
     let file = read_file(alloc, bytes)?;
     let description = match Description::new(alloc, file, speed) {
@@ -77,8 +123,27 @@ fn enumerate_bytes<W: Write>(
             return tell_refusal(alloc, fault, w);
         }
     };
-    let run = enumerate(alloc, &description, limits, fates);
+    let run = run_over(alloc, &description, limits, bus, w)?;
     tell_run(alloc, &run, w)
+}
+
+/// The enumeration, and its log where one is asked for.
+fn run_over<W: Write>(
+    alloc: Global,
+    d: &Description,
+    limits: Limits,
+    bus: Bus<'_>,
+    w: &mut W,
+) -> Result<Run, ToolFault>
+    ensures ok { IfOk result (MakesRun (conditions_of bus.entry.is_logged limits d.now.speed bus.entry.fates.now) d.now.file (W.contents w.old) (W.contents w.new)) }
+    ensures err { IfErr result (BreaksRun (conditions_of bus.entry.is_logged limits d.now.speed bus.entry.fates.now) d.now.file (W.contents w.old) (W.contents w.new)) }
+{
+    if bus.is_logged {
+        let run = enumerate_logged(alloc, d, limits, bus.fates, w)?;
+        Ok(run)
+    } else {
+        Ok(enumerate(alloc, d, limits, bus.fates))
+    }
 }
 
 fn tell_refusal<W: Write>(

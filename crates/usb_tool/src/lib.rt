@@ -36,7 +36,7 @@ mod whole;
 
 pub use build::run_build;
 pub use check::run_check;
-pub use enumeration::run_enumerate;
+pub use enumeration::{run_enumerate, run_enumerate_logged};
 pub use explanation::run_explain;
 pub use fault::{ToolFault, verdict};
 pub use program::run;

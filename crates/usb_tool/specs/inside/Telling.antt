@@ -1,7 +1,11 @@
 -- Telling what came of an enumeration.
-use Rattle.std.specs.Prelude.{◌≡◌, ℕ, ◌⊎◌, List}
+use Rattle.std.specs.Prelude.{◌≡◌, ℕ, ◌⊎◌, List, true}
 use Rattle.std.specs.Io.KnownBytes.{Appends, Keeps}
 use Rattle.usb_listing.specs.Output.{AppendsFront, AppendsLess, Held}
+use Rattle.usb_file_data.specs.declared.file.DescriptorFile.{DescriptorFile}
+use Rattle.usb_enumeration.specs.declared.run.Run.{Run}
+use Rattle.usb_log.specs.Log.{WritesLogLess}
+use Rattle.usb_tool.specs.Enumerations.{Conditions, IsRun}
 use Rattle.usb_tool.specs.declared.fault.ToolFault.{ToolFault}
 use Rattle.usb_tool.specs.declared.fault.ToolFault.TheVariants as faults
 
@@ -14,3 +18,15 @@ abbrev pub IsCutShort : List ℕ → Held → Held → ToolFault → Type 0
 IsCutShort text held holds faults.Write = AppendsFront held holds text
 IsCutShort text held holds faults.Memory = Keeps held holds ⊎ AppendsLess held holds text
 IsCutShort text held holds fault = ⊥
+
+-- a device with these descriptors was enumerated, and its log was written where one is asked for
+pub record MakesRun (c : Conditions) (f : DescriptorFile) (held holds : Held) (run : Run) : Type 0 where
+  pub log : List ℕ
+  pub enumerated : IsRun c.logs c f run log
+  pub written : Appends held holds log
+
+-- of the log of its enumeration not all was written
+abbrev pub BreaksRun : Conditions → DescriptorFile → Held → Held → ToolFault → Type 0
+BreaksRun c f held holds faults.Write = (c.logs ≡ true) × WritesLogLess f c.speed c.limits c.fates held holds
+BreaksRun c f held holds faults.Memory = (c.logs ≡ true) × WritesLogLess f c.speed c.limits c.fates held holds
+BreaksRun c f held holds fault = ⊥
