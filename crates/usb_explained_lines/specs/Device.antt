@@ -17,11 +17,14 @@ version_words b =
     codes ", USB " ++ release (little_endian_at b 2) ++ codes ", "
     ++ class_words (slice_index b 4) (slice_index b 5) (slice_index b 6)
 
+-- vendor and product
+unfoldable pub ids_words : ℕ → ℕ → List ℕ
+ids_words vendor product = codes "device " ++ encode_lower (big_endian vendor) ++ codes ":" ++ encode_lower (big_endian product)
+
 -- vendor and product, and what a qualifier tells too
 unfoldable pub device_words : List ℕ → List ℕ
 device_words b =
-    codes "device " ++ encode_lower (big_endian (little_endian_at b 8)) ++ codes ":" ++ encode_lower (big_endian (little_endian_at b 10))
-    ++ version_words b
+    ids_words (little_endian_at b 8) (little_endian_at b 10) ++ version_words b
 
 -- the same of the other speed, as far as a qualifier tells it
 unfoldable pub qualifier_words : List ℕ → List ℕ

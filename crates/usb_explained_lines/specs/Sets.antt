@@ -68,11 +68,14 @@ bound_words first n =
     else if n == 1 then codes "interface " ++ decimal first
     else range_words first (first + n - 1)
 
+-- what an association binds, and its class
+unfoldable pub function_words : List ℕ → List ℕ
+function_words b =
+    bound_words (slice_index b 2) (slice_index b 3) ++ codes ", " ++ class_words (slice_index b 4) (slice_index b 5) (slice_index b 6)
+
 -- the number of an association in its set, its interfaces and its class
 unfoldable pub association_words : ℕ → List ℕ → List ℕ
-association_words number b =
-    codes "association " ++ decimal number ++ codes " of " ++ bound_words (slice_index b 2) (slice_index b 3) ++ codes ", "
-    ++ class_words (slice_index b 4) (slice_index b 5) (slice_index b 6)
+association_words number b = codes "association " ++ decimal number ++ codes " of " ++ function_words b
 
 -- the values of its fields
 abbrev pub association_values : StringNames → List ℕ → List (List ℕ)

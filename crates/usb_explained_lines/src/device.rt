@@ -1,6 +1,6 @@
 //! The device descriptor and the device qualifier.
 ghost use Rattle.std.specs.Prelude.{◌≡◌, ◌++◌, slice_index, OnOk};
-ghost use Rattle.usb_explained_lines.specs.Device.{device_lines, device_words, packet_value, power_of_two_words, qualifier_lines, qualifier_words, version_words};
+ghost use Rattle.usb_explained_lines.specs.Device.{device_lines, device_words, ids_words, packet_value, power_of_two_words, qualifier_lines, qualifier_words, version_words};
 ghost use Rattle.usb_explained_lines.specs.Lines.{field_line};
 
 use crate::bytes::{byte_at, word_at};
@@ -19,11 +19,18 @@ use usb_words::{Text, put_class_words, put_count, put_release};
 pub(crate) fn put_device_words(text: &mut Text, b: &[u8]) -> Result<(), AllocError>
     ensures { OnOk result (text.new ≡ text.old ++ device_words b.now) }
 {
-    text.put("device ")?;
-    text.put_digits(&word_at(b, 8).to_be_bytes())?;
-    text.put(":")?;
-    text.put_digits(&word_at(b, 10).to_be_bytes())?;
+    put_ids(text, word_at(b, 8), word_at(b, 10))?;
     put_version(text, b)
+}
+
+#[tactic(auto, unfolding(crate::specs::Device::ids_words))]
+fn put_ids(text: &mut Text, vendor: u16, product: u16) -> Result<(), AllocError>
+    ensures { OnOk result (text.new ≡ text.old ++ ids_words vendor product) }
+{
+    text.put("device ")?;
+    text.put_digits(&vendor.to_be_bytes())?;
+    text.put(":")?;
+    text.put_digits(&product.to_be_bytes())
 }
 
 /// Puts the release of USB, and the class.

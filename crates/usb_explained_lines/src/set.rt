@@ -1,7 +1,7 @@
 //! The configuration, interface association and interface descriptors.
 ghost use Rattle.std.specs.Prelude.{◌≡◌, ◌++◌, slice_index, OnOk};
 ghost use Rattle.usb_explained_lines.specs.Lines.{field_line};
-ghost use Rattle.usb_explained_lines.specs.Sets.{association_lines, association_words, binding_words, bound_words, configuration_lines, configuration_words, interface_lines, interface_words, power_value, range_words, set_attributes, set_words, source_words, supply_words, wakeup_words};
+ghost use Rattle.usb_explained_lines.specs.Sets.{association_lines, association_words, binding_words, bound_words, configuration_lines, configuration_words, function_words, interface_lines, interface_words, power_value, range_words, set_attributes, set_words, source_words, supply_words, wakeup_words};
 
 use crate::bytes::byte_at;
 use crate::index::put_index;
@@ -152,6 +152,13 @@ pub(crate) fn put_association_words(
     text.put("association ")?;
     text.put_decimal(number)?;
     text.put(" of ")?;
+    put_function(text, b)
+}
+
+#[tactic(auto, unfolding(crate::specs::Sets::function_words))]
+fn put_function(text: &mut Text, b: &[u8]) -> Result<(), AllocError>
+    ensures { OnOk result (text.new ≡ text.old ++ function_words b.now) }
+{
     put_bound(text, byte_at(b, 2), byte_at(b, 3))?;
     text.put(", ")?;
     put_class_words(text, byte_at(b, 4), byte_at(b, 5), byte_at(b, 6))
@@ -168,16 +175,20 @@ fn put_bound(text: &mut Text, first: u8, count: u8) -> Result<(), AllocError>
         text.put("interface ")?;
         text.put_decimal(u64::from(first))
     } else {
-        put_range(text, first, u64::from(first) + u64::from(count) - 1)
+        put_range(
+            text,
+            u64::from(first),
+            u64::from(first) + u64::from(count) - 1,
+        )
     }
 }
 
 #[tactic(auto, unfolding(crate::specs::Sets::range_words))]
-fn put_range(text: &mut Text, first: u8, last: u64) -> Result<(), AllocError>
+fn put_range(text: &mut Text, first: u64, last: u64) -> Result<(), AllocError>
     ensures { OnOk result (text.new ≡ text.old ++ range_words first last) }
 {
     text.put("interfaces ")?;
-    text.put_decimal(u64::from(first))?;
+    text.put_decimal(first)?;
     text.put(" to ")?;
     text.put_decimal(last)
 }
