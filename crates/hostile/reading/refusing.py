@@ -13,6 +13,7 @@ sys.path.insert(0, os.path.join(os.path.dirname(os.path.abspath(__file__)), "../
 import building  # noqa: E402
 import checking  # noqa: E402
 import enumerations_of_files  # noqa: E402
+import explaining  # noqa: E402
 import reading  # noqa: E402
 
 DEVICE, TEXT, TRUNCATED, TRAILING = 1, 5, 6, 7
@@ -21,8 +22,31 @@ LEAST = {4: 9, 5: 7, 11: 8}
 INDEX = {2: 6, 7: 6, 4: 8, 11: 7}
 
 
+# What breaks a set, and what breaks a file, by the numbers of docs/FORMATS.md.
+SET_MESSAGES = [
+    "the first bLength is below 9",
+    "the first descriptor is no configuration",
+    "wTotalLength is below the first bLength",
+    "a bLength is below 2",
+    "a descriptor ends past wTotalLength",
+    "a configuration inside a set",
+    "an interface, endpoint or association descriptor is too short",
+    "an endpoint before any interface",
+    "the bytes end before the set does",
+]
+FILE_MESSAGES = [
+    "no device descriptor",
+    "in a set, ",
+    "a set of the other kind",
+    "no qualifier",
+    "no string descriptor",
+    "the bytes end before the file does",
+    "bytes after the end of the file",
+]
+
+
 class Fault(Exception):
-    """A number and a place."""
+    """A number, a place, and of a set in a file the number of its own fault."""
 
 
 class Truncated(Exception):
@@ -103,7 +127,7 @@ class File:
             try:
                 length, named = set_at(self.b[self.at :])
             except Fault as fault:
-                raise Fault(2, self.at + fault.args[1]) from None
+                raise Fault(2, self.at + fault.args[1], fault.args[0]) from None
             if self.b[self.at + 1] != kind:
                 raise Fault(3, self.at + 1)
             self.named |= named
@@ -146,7 +170,7 @@ def file_fault(b):
         file.read()
         return None, False
     except Fault as fault:
-        number, place = fault.args
+        number, place = fault.args[:2]
     except Truncated:
         number, place = TRUNCATED, len(b)
     return f"usbdesc: file fault {number} at {place}\n", file.is_dump
@@ -184,6 +208,33 @@ def check(b):
     return int(findings != "no findings\n"), findings.encode(), ""
 
 
+def file_message(b, number):
+    """What breaks a file, and of a set in it what breaks that."""
+    try:
+        File(b).read()
+    except (Fault, Truncated) as fault:
+        return FILE_MESSAGES[number - 1] + (SET_MESSAGES[fault.args[2] - 1] if number == 2 else "")
+
+
+def message(b, line):
+    """What the fault of this line is, in words."""
+    words = line.split(" ")
+    if words[0] == "trailing":
+        return "bytes after the set"
+    number = int(words[2])
+    return SET_MESSAGES[number - 1] if words[0] == "set" else file_message(b, number)
+
+
+def explain(b):
+    fault, kind = form(b)
+    if not fault:
+        return 0, explaining.Explanation(kind, b).text().encode(), ""
+    line = fault.strip().removeprefix("usbdesc: ")
+    place = int(line.rsplit(" ", 1)[1])
+    told = place, f"{line}: {message(b, line)}"
+    return 3, explaining.Explanation(kind, b, fault=told).text().encode(), fault
+
+
 def build(b):
     built = building.build(b)
     if isinstance(built, bytes):
@@ -201,7 +252,7 @@ def enumerate_(b):
     return 0, line.encode() + reading.listing("file", b).encode(), ""
 
 
-COMMANDS = {"show": show, "check": check, "build": build, "enumerate": enumerate_}
+COMMANDS = {"show": show, "check": check, "explain": explain, "build": build, "enumerate": enumerate_}
 
 
 @lru_cache(maxsize=None)

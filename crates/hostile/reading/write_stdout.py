@@ -32,10 +32,19 @@ def files(pattern, beside=None):
 
 
 # Which commands read an example of a kind, over readers and writers that fail.
-COMMANDS = {"set": ["show", "check"], "dump": ["show", "check"], "file": ["show", "check", "enumerate"], "listing": ["build"]}
+COMMANDS = {
+    "set": ["show", "check", "explain"],
+    "dump": ["show", "check", "explain"],
+    "file": ["show", "check", "explain", "enumerate"],
+    "listing": ["build"],
+}
 # The mouse, its set, the real mouse and the file with everything, and inputs at fault: a set whose last descriptor goes
 # over its end, a set with bytes behind it, and a file that is cut.
 STREAMED = ["mouse", "over", "goes-on", "cut-short", "sets/hid-one-endpoint", "files/with-everything", "files/qemu-usb-mouse", "files/every-rule-broken"]
+
+
+# Of these an explanation is short enough to be written anew for each of its bytes.
+EXPLAINED = ["mouse", "over", "goes-on", "cut-short"]
 
 
 def ways(kind, name):
@@ -48,7 +57,8 @@ def ways(kind, name):
     if kind in ("set", "listing") and name not in AT_FAULT:
         found.append("cut")
     if name in STREAMED:
-        found += [f"{command}-{streams}" for command in COMMANDS[kind] for streams in ("readers", "writers")]
+        commands = [command for command in COMMANDS[kind] if command != "explain" or name in EXPLAINED]
+        found += [f"{command}-{streams}" for command in commands for streams in ("readers", "writers")]
     return found
 
 
@@ -99,7 +109,7 @@ def blocks():
 
 def answers(b):
     """The answers to one input. What `show` lists is built again."""
-    for command in ("show", "check", "build", "enumerate"):
+    for command in ("show", "check", "explain", "build", "enumerate"):
         status, output, errors = refusing.answer(command, refusing.show(b)[1] or b if command == "build" else b)
         yield command, status, output, errors
 

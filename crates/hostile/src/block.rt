@@ -37,6 +37,7 @@ impl Block {
         self.begin("")?;
         let shown = self.answer(&Command::Show, input)?;
         self.answer(&Command::Check, input)?;
+        self.answer(&Command::Explain, input)?;
         if shown.is_empty() {
             self.answer(&Command::Build, input)?;
         } else {
