@@ -3,11 +3,11 @@ use crate::samples::{Command, Sample};
 use growths::{Answer, Call, refused, right};
 use std::alloc::Global;
 use std::io::{Cursor, Read, Write};
-use usb_tool::{ToolFault, run_build, run_check, run_enumerate, run_show};
+use usb_tool::{ToolFault, run_build, run_check, run_enumerate, run_enumerate_logged, run_show};
 use usb_transfer::Limits;
 
 /// More bytes than any of them writes.
-pub(crate) const PAGE: usize = 1024;
+pub(crate) const PAGE: usize = 2048;
 
 /// Runs a command. Where memory is wanting, it says so, or it tells of a host that is out of memory; then it has written
 /// less than all.
@@ -42,6 +42,10 @@ pub(crate) fn carry_out<R: Read, W: Write>(
         Command::Build => run_build(alloc, reader, writer),
         Command::Enumerate(speed, fates) => match Limits::new(1, 16, 3) {
             Ok(limits) => run_enumerate(alloc, reader, writer, limits, speed, fates),
+            Err(_) => Err(ToolFault::Read),
+        },
+        Command::Log(speed, fates) => match Limits::new(1, 16, 3) {
+            Ok(limits) => run_enumerate_logged(alloc, reader, writer, limits, speed, fates),
             Err(_) => Err(ToolFault::Read),
         },
     }

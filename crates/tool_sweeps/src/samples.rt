@@ -11,6 +11,8 @@ pub(crate) enum Command<'a> {
     Build,
     /// With this speed, and these fates.
     Enumerate(Speed, &'a [Fate]),
+    /// The same with a log.
+    Log(Speed, &'a [Fate]),
 }
 
 /// A run of a command.
@@ -62,14 +64,35 @@ const ONCE: &str = "success attempts 1 transactions 31 address 1 value 1\n";
 
 const TWICE: &str = "success attempts 2 transactions 24 address 1 value 1\n";
 
+/// The log of an enumeration of which nothing arrives, and the line of its trouble.
+const LOST_LOG: &str = "\
+attempt 1: bus reset
+first: GET_DESCRIPTOR device 0, 8 bytes, to address 0, 8006000100000800
+  1     d > SETUP lost                            strike 1               0/0 idle
+  2     d > SETUP lost                            strike 2               0/0 idle
+  3     d > SETUP lost                            strike 3: no answer    0/0 idle
+attempt 2: bus reset
+first: GET_DESCRIPTOR device 0, 8 bytes, to address 0, 8006000100000800
+  4     d > SETUP lost                            strike 1               0/0 idle
+  5     d > SETUP lost                            strike 2               0/0 idle
+  6     d > SETUP lost                            strike 3: no answer    0/0 idle
+attempt 3: bus reset
+first: GET_DESCRIPTOR device 0, 8 bytes, to address 0, 8006000100000800
+  7     d > SETUP lost                            strike 1               0/0 idle
+  8     d > SETUP lost                            strike 2               0/0 idle
+  9     d > SETUP lost                            strike 3: no answer    0/0 idle
+trouble 1 first attempts 3 transactions 9
+";
+
 /// The runs of commands.
-pub(crate) fn commands() -> [Sample; 13] {
+pub(crate) fn commands() -> [Sample; 14] {
     let [set, file, dump] = shows();
     let [keeps, breaks, lone, dumped] = checks();
     let [small, large] = builds();
-    let [once, twice, troubled, barred] = enumerations();
+    let [once, twice, troubled, barred, logged] = enumerations();
     [
         set, file, dump, keeps, breaks, lone, dumped, small, large, once, twice, troubled, barred,
+        logged,
     ]
 }
 
@@ -147,8 +170,9 @@ fn builds() -> [Sample; 2] {
     [small, large]
 }
 
-/// Enumerations that succeed at the first attempt and at the second, one that loses all, and a refused description.
-fn enumerations() -> [Sample; 4] {
+/// Enumerations that succeed at the first attempt and at the second, one that loses all, a refused description, and the
+/// log of the one that loses all.
+fn enumerations() -> [Sample; 5] {
     let once = Sample {
         name: "run_enumerate",
         command: Command::Enumerate(Speed::High, &[]),
@@ -179,14 +203,20 @@ fn enumerations() -> [Sample; 4] {
         words: "refused 3\n",
         ..troubled
     };
-    [once, twice, troubled, barred]
+    let logged = Sample {
+        name: "run_enumerate_logged",
+        command: Command::Log(Speed::Full, &ALL_LOST),
+        words: LOST_LOG,
+        ..troubled
+    };
+    [once, twice, troubled, barred, logged]
 }
 
 /// The runs of the whole program.
 pub(crate) fn lines() -> [Sample; 3] {
     let [_, file, _] = shows();
     let [_, breaks, _, _] = checks();
-    let [_, twice, _, _] = enumerations();
+    let [_, twice, _, _, _] = enumerations();
     [
         Sample {
             name: "usbdesc show",
