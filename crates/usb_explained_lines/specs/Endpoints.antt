@@ -1,5 +1,5 @@
 -- The endpoint descriptor, by its bytes (USB 2.0, 9.6.6).
-use Rattle.std.specs.Prelude.{ℕ, List, [], ◌∷◌, ◌++◌, drop, slice_index, codes, Bool, true, false, if◌then◌else◌}
+use Rattle.std.specs.Prelude.{ℕ, List, [], ◌∷◌, ◌++◌, drop, slice_index, codes, Bool, true, if◌then◌else◌}
 use Rattle.std.specs.Fmt.{decimal}
 use Rattle.usb_base.specs.Bytes.{little_endian_at}
 use Rattle.usb_base.specs.Fields.{names}
