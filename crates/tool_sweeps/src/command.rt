@@ -3,7 +3,9 @@ use crate::samples::{Command, Sample};
 use growths::{Answer, Call, refused, right};
 use std::alloc::Global;
 use std::io::{Cursor, Read, Write};
-use usb_tool::{ToolFault, run_build, run_check, run_enumerate, run_enumerate_logged, run_show};
+use usb_tool::{
+    ToolFault, run_build, run_check, run_enumerate, run_enumerate_logged, run_explain, run_show,
+};
 use usb_transfer::Limits;
 
 /// More bytes than any of them writes.
@@ -39,6 +41,7 @@ pub(crate) fn carry_out<R: Read, W: Write>(
     match command {
         Command::Show => run_show(alloc, reader, writer),
         Command::Check => run_check(alloc, reader, writer),
+        Command::Explain(manner) => run_explain(alloc, reader, writer, manner),
         Command::Build => run_build(alloc, reader, writer),
         Command::Enumerate(speed, fates) => match Limits::new(1, 16, 3) {
             Ok(limits) => run_enumerate(alloc, reader, writer, limits, speed, fates),

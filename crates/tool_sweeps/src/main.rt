@@ -4,6 +4,7 @@
 #![tactic(auto)]
 
 mod command;
+mod explained;
 mod line;
 mod longest;
 mod plenty;

@@ -1,13 +1,15 @@
 //! What the commands are run on, and what must come of them.
+use crate::explained::{DUMP_EXPLAINED, EVERYTHING_EXPLAINED, MIXED_EXPLAINED};
 use growths::{EVERYTHING, EVERYTHING_TEXT, MIXED, MIXED_TEXT, MOUSE, MOUSE_TEXT};
 use usb_fields::Speed;
-use usb_tool::Fate;
+use usb_tool::{Fate, Look, Manner};
 
 /// A command, as its function is called.
 #[derive(Clone, Copy)]
 pub(crate) enum Command<'a> {
     Show,
     Check,
+    Explain(Manner),
     Build,
     /// With this speed, and these fates.
     Enumerate(Speed, &'a [Fate]),
@@ -84,15 +86,34 @@ first: GET_DESCRIPTOR device 0, 8 bytes, to address 0, 8006000100000800
 trouble 1 first attempts 3 transactions 9
 ";
 
+/// With fields and places.
+const WHOLE: Manner = Manner {
+    look: Look {
+        brief: false,
+        places: true,
+    },
+    speed: None,
+};
+
+/// With places alone.
+const BRIEF: Manner = Manner {
+    look: Look {
+        brief: true,
+        places: true,
+    },
+    speed: None,
+};
+
 /// The runs of commands.
-pub(crate) fn commands() -> [Sample; 14] {
+pub(crate) fn commands() -> [Sample; 17] {
     let [set, file, dump] = shows();
     let [keeps, breaks, lone, dumped] = checks();
+    let [told, telling, named] = explanations();
     let [small, large] = builds();
     let [once, twice, troubled, barred, logged] = enumerations();
     [
-        set, file, dump, keeps, breaks, lone, dumped, small, large, once, twice, troubled, barred,
-        logged,
+        set, file, dump, keeps, breaks, lone, dumped, told, telling, named, small, large, once,
+        twice, troubled, barred, logged,
     ]
 }
 
@@ -149,6 +170,32 @@ fn checks() -> [Sample; 4] {
         ..keeps
     };
     [keeps, breaks, lone, dumped]
+}
+
+/// Explanations of a set, of a file and of a dump.
+fn explanations() -> [Sample; 3] {
+    let set = Sample {
+        name: "run_explain of a set",
+        command: Command::Explain(WHOLE),
+        input: &MIXED,
+        words: MIXED_EXPLAINED,
+        bytes: &[],
+        status: 0,
+    };
+    let file = Sample {
+        name: "run_explain of a file",
+        command: Command::Explain(BRIEF),
+        input: &EVERYTHING,
+        words: EVERYTHING_EXPLAINED,
+        ..set
+    };
+    let dump = Sample {
+        name: "run_explain of a dump",
+        input: &DUMP,
+        words: DUMP_EXPLAINED,
+        ..set
+    };
+    [set, file, dump]
 }
 
 /// Files of two listings.
@@ -213,9 +260,10 @@ fn enumerations() -> [Sample; 5] {
 }
 
 /// The runs of the whole program.
-pub(crate) fn lines() -> [Sample; 3] {
+pub(crate) fn lines() -> [Sample; 4] {
     let [_, file, _] = shows();
     let [_, breaks, _, _] = checks();
+    let [_, explained, _] = explanations();
     let [_, twice, _, _, _] = enumerations();
     [
         Sample {
@@ -225,6 +273,10 @@ pub(crate) fn lines() -> [Sample; 3] {
         Sample {
             name: "usbdesc check",
             ..breaks
+        },
+        Sample {
+            name: "usbdesc explain --brief",
+            ..explained
         },
         Sample {
             name: "usbdesc enumerate --naks 2 --fates .nnn",
