@@ -11,18 +11,25 @@ use Rattle.usb_words.specs.Names.{class_field, class_words, protocol_field, subc
 use Rattle.usb_explained_lines.specs.Lines.{field_lines}
 use Rattle.usb_explained_lines.specs.Names.{StringNames, index_words}
 
--- vendor, product and release of USB, and the class
+-- the release of USB, and the class
+unfoldable pub version_words : List ℕ → List ℕ
+version_words b =
+    codes ", USB " ++ release (little_endian_at b 2) ++ codes ", "
+    ++ class_words (slice_index b 4) (slice_index b 5) (slice_index b 6)
+
+-- vendor and product
+unfoldable pub ids_words : ℕ → ℕ → List ℕ
+ids_words vendor product = codes "device " ++ encode_lower (big_endian vendor) ++ codes ":" ++ encode_lower (big_endian product)
+
+-- vendor and product, and what a qualifier tells too
 unfoldable pub device_words : List ℕ → List ℕ
 device_words b =
-    codes "device " ++ encode_lower (big_endian (little_endian_at b 8)) ++ codes ":" ++ encode_lower (big_endian (little_endian_at b 10))
-    ++ codes ", USB " ++ release (little_endian_at b 2) ++ codes ", "
-    ++ class_words (slice_index b 4) (slice_index b 5) (slice_index b 6)
+    ids_words (little_endian_at b 8) (little_endian_at b 10) ++ version_words b
 
 -- the same of the other speed, as far as a qualifier tells it
 unfoldable pub qualifier_words : List ℕ → List ℕ
 qualifier_words b =
-    codes "qualifier of the other speed, USB " ++ release (little_endian_at b 2) ++ codes ", "
-    ++ class_words (slice_index b 4) (slice_index b 5) (slice_index b 6)
+    codes "qualifier of the other speed" ++ version_words b
 
 -- a release in hexadecimal and as it is meant
 unfoldable pub release_value : ℕ → List ℕ
@@ -33,7 +40,7 @@ abbrev pub power_of_two_words : ℕ → List ℕ
 power_of_two_words n = if nat_le n 15 then count (2 ^ n) (codes "byte") else codes "out of range"
 
 -- bMaxPacketSize0, which is an exponent at SuperSpeed (USB 3.2, 9.6.1)
-abbrev pub packet_value : Bool → ℕ → List ℕ
+unfoldable pub packet_value : Bool → ℕ → List ℕ
 packet_value true n = decimal n ++ meaning (power_of_two_words n)
 packet_value false n = decimal n
 
@@ -55,7 +62,7 @@ device_values exponent strings b =
 
 -- the lines of those fields
 unfoldable pub device_lines : ℕ → Bool → StringNames → List ℕ → List ℕ
-device_lines depth exponent strings b = field_lines depth (names device_fields) (device_values exponent strings b)
+device_lines depth exponent strings b = field_lines depth (names device_fields) (device_values exponent strings b) []
 
 -- the values of the fields of a qualifier
 abbrev pub qualifier_values : List ℕ → List (List ℕ)
@@ -70,4 +77,4 @@ qualifier_values b =
 
 -- the lines of those fields
 unfoldable pub qualifier_lines : ℕ → List ℕ → List ℕ
-qualifier_lines depth b = field_lines depth (names qualifier_fields) (qualifier_values b)
+qualifier_lines depth b = field_lines depth (names qualifier_fields) (qualifier_values b) []

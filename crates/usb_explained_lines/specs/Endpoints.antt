@@ -12,19 +12,31 @@ use Rattle.usb_words.specs.Speeds.{interval_at, is_periodic}
 use Rattle.usb_explained_lines.specs.Lines.{digits_line, field_line, field_lines}
 
 -- the interval of a periodic endpoint behind the other words
-abbrev pub interval_words : Speed → ℕ → ℕ → List ℕ
+unfoldable pub interval_words : Speed → ℕ → ℕ → List ℕ
 interval_words speed attributes interval =
     if is_periodic (transfer_type_of attributes) then codes ", " ++ interval_at speed (transfer_type_of attributes) interval else []
+
+-- bEndpointAddress
+unfoldable pub address_value : ℕ → ℕ → List ℕ
+address_value attributes address = byte_code address ++ meaning (end_words attributes address)
+
+-- bmAttributes
+unfoldable pub attributes_value : ℕ → List ℕ
+attributes_value attributes = byte_code attributes ++ meaning (attributes_words attributes)
+
+-- wMaxPacketSize
+unfoldable pub size_value : ℕ → ℕ → List ℕ
+size_value attributes max_packet = word_code max_packet ++ meaning (size_words attributes max_packet)
 
 -- address, attributes, size and interval of an endpoint
 unfoldable pub endpoint_words : Speed → List ℕ → List ℕ
 endpoint_words speed b =
-    codes "endpoint " ++ byte_code (slice_index b 2) ++ meaning (end_words (slice_index b 3) (slice_index b 2)) ++ codes ", "
+    codes "endpoint " ++ address_value (slice_index b 3) (slice_index b 2) ++ codes ", "
     ++ attributes_words (slice_index b 3) ++ codes ", " ++ size_words (slice_index b 3) (little_endian_at b 4)
     ++ interval_words speed (slice_index b 3) (slice_index b 6)
 
 -- bInterval, which has a meaning for periodic endpoints
-abbrev pub interval_value : Speed → ℕ → ℕ → List ℕ
+unfoldable pub interval_value : Speed → ℕ → ℕ → List ℕ
 interval_value speed attributes interval =
     if is_periodic (transfer_type_of attributes) then decimal interval ++ meaning (interval_at speed (transfer_type_of attributes) interval)
     else decimal interval
@@ -32,14 +44,14 @@ interval_value speed attributes interval =
 -- the values of its fields
 abbrev pub endpoint_values : Speed → List ℕ → List (List ℕ)
 endpoint_values speed b =
-    (byte_code (slice_index b 2) ++ meaning (end_words (slice_index b 3) (slice_index b 2)))
-    ∷ (byte_code (slice_index b 3) ++ meaning (attributes_words (slice_index b 3)))
-    ∷ (word_code (little_endian_at b 4) ++ meaning (size_words (slice_index b 3) (little_endian_at b 4)))
+    address_value (slice_index b 3) (slice_index b 2)
+    ∷ attributes_value (slice_index b 3)
+    ∷ size_value (slice_index b 3) (little_endian_at b 4)
     ∷ interval_value speed (slice_index b 3) (slice_index b 6) ∷ []
 
 -- What an endpoint has beyond its fields. Two bytes of an audio endpoint are bRefresh and bSynchAddress (audio 1.0, 4.6.1.1
 -- and 4.6.2.1).
-abbrev pub endpoint_tail : ℕ → Bool → List ℕ → List ℕ
+unfoldable pub endpoint_tail : ℕ → Bool → List ℕ → List ℕ
 endpoint_tail depth true (refresh ∷ synch ∷ []) =
     field_line depth (codes "bRefresh") (decimal refresh) ++ field_line depth (codes "bSynchAddress") (byte_code synch)
 endpoint_tail depth audio tail = digits_line depth (codes "tail") tail
@@ -47,4 +59,4 @@ endpoint_tail depth audio tail = digits_line depth (codes "tail") tail
 -- its lines
 unfoldable pub endpoint_lines : ℕ → Speed → Bool → List ℕ → List ℕ
 endpoint_lines depth speed audio b =
-    field_lines depth (names endpoint_fields) (endpoint_values speed b) ++ endpoint_tail depth audio (drop 7 b)
+    field_lines depth (names endpoint_fields) (endpoint_values speed b) (endpoint_tail depth audio (drop 7 b))

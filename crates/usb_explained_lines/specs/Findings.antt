@@ -28,15 +28,20 @@ rule_of told.Qualifier = rules.V11
 rule_of told.PacketSize = rules.V12
 rule_of told.Interfaces = rules.V13
 
+-- a count that a descriptor says, and what there is
+unfoldable pub counts_words : List ℕ → ℕ → List ℕ → ℕ → List ℕ → List ℕ
+counts_words field declared owner found noun =
+    field ++ codes " is " ++ decimal declared ++ codes ", and the " ++ owner ++ codes " has " ++ count found noun
+
 -- what is wrong
 unfoldable pub told_words : Told → List ℕ
 told_words (told.InterfaceCount declared found) =
-    codes "bNumInterfaces is " ++ decimal declared ++ codes ", and the set has " ++ count found (codes "interface")
+    counts_words (codes "bNumInterfaces") declared (codes "set") found (codes "interface")
 told_words told.NumberGap = codes "the interfaces aren't numbered from 0 without a gap"
 told_words told.RepeatedSetting = codes "this interface has this alternate setting already"
 told_words told.NoDefaultSetting = codes "this interface has no alternate setting 0"
 told_words (told.EndpointCount declared found) =
-    codes "bNumEndpoints is " ++ decimal declared ++ codes ", and the setting has " ++ count found (codes "endpoint")
+    counts_words (codes "bNumEndpoints") declared (codes "setting") found (codes "endpoint")
 told_words told.Address = codes "the address names endpoint 0, or bits 6 to 4 of it aren't zero"
 told_words told.RepeatedAddress = codes "this setting has this address already"
 told_words told.SharedAddress = codes "another interface of the set has this address"

@@ -10,13 +10,17 @@ use Rattle.usb_words.specs.Numbers.{byte_code, meaning, word_code}
 use Rattle.usb_explained_lines.specs.Lines.{digits_line, field_line}
 use Rattle.usb_explained_lines.specs.Device.{release_value}
 
+-- a descriptor that has no name
+unfoldable pub unnamed_words : ℕ → List ℕ
+unnamed_words type = codes "descriptor of type " ++ byte_code type
+
 -- the row of a descriptor behind an interface of these codes
 abbrev pub row_of_bytes : Option ClassCodes → List ℕ → Option Row
 row_of_bytes interface b = first_row (rows_behind interface) interface (slice_index b 1) (slice_get b 2)
 
 -- the name of a row, or the type of a descriptor that has none
 abbrev pub row_words : ℕ → Option Row → List ℕ
-row_words type None = codes "descriptor of type " ++ byte_code type
+row_words type None = unnamed_words type
 row_words type (Some row) = row.name
 
 -- what a descriptor is called
@@ -78,19 +82,23 @@ group_lines depth (field ∷ fields) body =
 
 -- how many times a group of so many bytes is there
 abbrev pub group_count : ℕ → ℕ → ℕ
-group_count 0 n = 0
-group_count width n = n / width
+group_count width n = if width == 0 then 0 else n / width
 
--- the lines of so many groups, and what is left behind them
-unfoldable pub groups_lines : ℕ → List Field → ℕ → List ℕ → List ℕ
-groups_lines depth group zero body = digits_line depth (codes "bytes") body
-groups_lines depth group (suc n) body =
-    group_lines depth group body ++ groups_lines depth group n (drop (width_of group) body)
+-- the lines of so many groups, each of this width, and what is left behind them
+unfoldable pub groups_lines : ℕ → List Field → ℕ → ℕ → List ℕ → List ℕ
+groups_lines depth group width zero body = digits_line depth (codes "bytes") body
+groups_lines depth group width (suc n) body =
+    group_lines depth group body ++ groups_lines depth group width n (drop width body)
+
+-- the lines of all groups that are there, and what is left behind them
+abbrev pub all_groups_lines : ℕ → List Field → List ℕ → List ℕ
+all_groups_lines depth group body =
+    groups_lines depth group (width_of group) (group_count (width_of group) (length body)) body
 
 -- The lines of a body: the fields while all bytes of the next one are there, then the group again and again while all
 -- bytes of one are, then what is left.
 unfoldable pub body_lines : ℕ → List Field → List Field → List ℕ → List ℕ
-body_lines depth [] group body = groups_lines depth group (group_count (width_of group) (length body)) body
+body_lines depth [] group body = all_groups_lines depth group body
 body_lines depth (field ∷ fields) group body =
     if nat_lt (length body) field.width then digits_line depth (codes "bytes") body
     else class_field_line depth field (take field.width body) ++ body_lines depth fields group (drop field.width body)

@@ -13,30 +13,33 @@ use Rattle.usb_explained_lines.specs.Lines.{digits_line, field_line, field_lines
 use Rattle.usb_explained_lines.specs.Names.{StringNames, index_words}
 
 -- which of the two the set is, by bDescriptorType
-abbrev pub set_words : ℕ → List ℕ
+unfoldable pub set_words : ℕ → List ℕ
 set_words kind = if kind == 7 then codes "other-speed configuration " else codes "configuration "
 
 -- where the power comes from, by bit 6 of bmAttributes
-abbrev pub source_words : ℕ → List ℕ
+unfoldable pub source_words : ℕ → List ℕ
 source_words attributes = if attributes / 64 % 2 == 1 then codes "self-powered" else codes "bus-powered"
 
 -- whether the device can wake the host, by bit 5
-abbrev pub wakeup_words : ℕ → List ℕ
+unfoldable pub wakeup_words : ℕ → List ℕ
 wakeup_words attributes = if attributes / 32 % 2 == 1 then codes ", remote wakeup" else []
+
+-- how much power of where a set takes
+unfoldable pub supply_words : Speed → ℕ → ℕ → List ℕ
+supply_words speed attributes power = source_words attributes ++ codes ", " ++ power_words speed power
 
 -- value, speed, interfaces and power of a set
 unfoldable pub configuration_words : Speed → List ℕ → List ℕ
 configuration_words speed b =
     set_words (slice_index b 1) ++ decimal (slice_index b 5) ++ codes ", " ++ speed_words speed ++ codes ", "
-    ++ count (slice_index b 4) (codes "interface") ++ codes ", " ++ source_words (slice_index b 7) ++ codes ", "
-    ++ power_words speed (slice_index b 8)
+    ++ count (slice_index b 4) (codes "interface") ++ codes ", " ++ supply_words speed (slice_index b 7) (slice_index b 8)
 
 -- bmAttributes of a set
-abbrev pub set_attributes : ℕ → List ℕ
+unfoldable pub set_attributes : ℕ → List ℕ
 set_attributes attributes = byte_code attributes ++ meaning (source_words attributes ++ wakeup_words attributes)
 
 -- bMaxPower of a set
-abbrev pub power_value : Speed → ℕ → List ℕ
+unfoldable pub power_value : Speed → ℕ → List ℕ
 power_value speed power = decimal power ++ meaning (power_words speed power)
 
 -- the values of the fields of a set's first descriptor behind wTotalLength
@@ -52,21 +55,27 @@ configuration_values speed strings b =
 unfoldable pub configuration_lines : ℕ → Speed → StringNames → List ℕ → List ℕ
 configuration_lines depth speed strings b =
     field_line depth (codes "wTotalLength") (decimal (little_endian_at b 2))
-    ++ field_lines depth (names configuration_fields) (configuration_values speed strings b)
-    ++ digits_line depth (codes "tail") (drop 9 b)
+    ++ field_lines depth (names configuration_fields) (configuration_values speed strings b) (digits_line depth (codes "tail") (drop 9 b))
+
+-- several interfaces
+unfoldable pub range_words : ℕ → ℕ → List ℕ
+range_words first last = codes "interfaces " ++ decimal first ++ codes " to " ++ decimal last
 
 -- the interfaces that an association binds, from this one on so many
-abbrev pub bound_words : ℕ → ℕ → List ℕ
+unfoldable pub bound_words : ℕ → ℕ → List ℕ
 bound_words first n =
     if n == 0 then codes "no interface"
     else if n == 1 then codes "interface " ++ decimal first
-    else codes "interfaces " ++ decimal first ++ codes " to " ++ decimal (first + n - 1)
+    else range_words first (first + n - 1)
+
+-- what an association binds, and its class
+unfoldable pub function_words : List ℕ → List ℕ
+function_words b =
+    bound_words (slice_index b 2) (slice_index b 3) ++ codes ", " ++ class_words (slice_index b 4) (slice_index b 5) (slice_index b 6)
 
 -- the number of an association in its set, its interfaces and its class
 unfoldable pub association_words : ℕ → List ℕ → List ℕ
-association_words number b =
-    codes "association " ++ decimal number ++ codes " of " ++ bound_words (slice_index b 2) (slice_index b 3) ++ codes ", "
-    ++ class_words (slice_index b 4) (slice_index b 5) (slice_index b 6)
+association_words number b = codes "association " ++ decimal number ++ codes " of " ++ function_words b
 
 -- the values of its fields
 abbrev pub association_values : StringNames → List ℕ → List (List ℕ)
@@ -81,10 +90,10 @@ association_values strings b =
 -- its lines, with what it has beyond its fields
 unfoldable pub association_lines : ℕ → StringNames → List ℕ → List ℕ
 association_lines depth strings b =
-    field_lines depth (names association_fields) (association_values strings b) ++ digits_line depth (codes "tail") (drop 8 b)
+    field_lines depth (names association_fields) (association_values strings b) (digits_line depth (codes "tail") (drop 8 b))
 
 -- the association that binds an interface, if there is one
-abbrev pub binding_words : Option ℕ → List ℕ
+unfoldable pub binding_words : Option ℕ → List ℕ
 binding_words None = []
 binding_words (Some number) = codes " of association " ++ decimal number
 
@@ -109,4 +118,4 @@ interface_values strings b =
 -- its lines, with what it has beyond its fields
 unfoldable pub interface_lines : ℕ → StringNames → List ℕ → List ℕ
 interface_lines depth strings b =
-    field_lines depth (names interface_fields) (interface_values strings b) ++ digits_line depth (codes "tail") (drop 9 b)
+    field_lines depth (names interface_fields) (interface_values strings b) (digits_line depth (codes "tail") (drop 9 b))

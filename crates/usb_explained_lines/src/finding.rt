@@ -2,7 +2,7 @@
 ghost use Rattle.std.specs.Prelude.{◌≡◌, ◌++◌, codes, OnOk};
 ghost use Rattle.std.specs.Fmt.{decimal};
 ghost use Rattle.usb_words.specs.Numbers.{count};
-ghost use Rattle.usb_explained_lines.specs.Findings.{finding_line, told_words};
+ghost use Rattle.usb_explained_lines.specs.Findings.{counts_words, finding_line, told_words};
 
 use crate::told::Told;
 use std::alloc::AllocError;
@@ -35,11 +35,22 @@ fn put_told(text: &mut Text, told: Told) -> Result<(), AllocError>
     ensures { OnOk result (text.new ≡ text.old ++ told_words told) }
 {
     match told {
-        Told::InterfaceCount { declared, found } => { put_interface_count(text, declared, found) }
+        Told::InterfaceCount { declared, found } => {
+            put_counts(text, "bNumInterfaces", declared, "set", found, "interface")
+        }
         Told::NumberGap => text.put("the interfaces aren't numbered from 0 without a gap"),
         Told::RepeatedSetting => text.put("this interface has this alternate setting already"),
         Told::NoDefaultSetting => text.put("this interface has no alternate setting 0"),
-        Told::EndpointCount { declared, found } => { put_endpoint_count(text, declared, found) }
+        Told::EndpointCount { declared, found } => {
+            put_counts(
+                text,
+                "bNumEndpoints",
+                declared,
+                "setting",
+                found,
+                "endpoint",
+            )
+        }
         Told::Address => {
             text.put("the address names endpoint 0, or bits 6 to 4 of it aren't zero")
         }
@@ -64,20 +75,23 @@ fn put_told(text: &mut Text, told: Told) -> Result<(), AllocError>
     }
 }
 
-fn put_interface_count(text: &mut Text, declared: u8, found: u64) -> Result<(), AllocError>
-    ensures { OnOk result (text.new ≡ text.old ++ (codes "bNumInterfaces is " ++ decimal declared ++ codes ", and the set has " ++ count found (codes "interface"))) }
+/// Puts a count that a descriptor says, and what there is.
+#[tactic(auto, unfolding(crate::specs::Findings::counts_words))]
+fn put_counts(
+    text: &mut Text,
+    field: &str,
+    declared: u8,
+    owner: &str,
+    found: u64,
+    noun: &str,
+) -> Result<(), AllocError>
+    ensures { OnOk result (text.new ≡ text.old ++ counts_words field.now declared owner.now found noun.now) }
 {
-    text.put("bNumInterfaces is ")?;
+    text.put(field)?;
+    text.put(" is ")?;
     text.put_decimal(u64::from(declared))?;
-    text.put(", and the set has ")?;
-    put_count(text, found, "interface")
-}
-
-fn put_endpoint_count(text: &mut Text, declared: u8, found: u64) -> Result<(), AllocError>
-    ensures { OnOk result (text.new ≡ text.old ++ (codes "bNumEndpoints is " ++ decimal declared ++ codes ", and the setting has " ++ count found (codes "endpoint"))) }
-{
-    text.put("bNumEndpoints is ")?;
-    text.put_decimal(u64::from(declared))?;
-    text.put(", and the setting has ")?;
-    put_count(text, found, "endpoint")
+    text.put(", and the ")?;
+    text.put(owner)?;
+    text.put(" has ")?;
+    put_count(text, found, noun)
 }

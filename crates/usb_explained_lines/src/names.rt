@@ -1,6 +1,7 @@
 //! The strings that indices name.
 ghost use Rattle.std.specs.Prelude.{◌≡◌, ◌+◌, ◌*◌, ◌==◌, position, slice_get, IfOk, option_map};
 ghost use Rattle.std.specs.Option.{option_copied};
+ghost use Rattle.usb_file_data.specs.StringPlaces.{units_at};
 ghost use Rattle.usb_explained_lines.specs.Names.{names_of, named_units, no_names, units_in_first_language};
 
 use std::alloc::Global;
@@ -82,10 +83,25 @@ impl<'f> Names<'f> {
 fn units_in_first_language<'s>(named: &[u8], index: u8, strings: &'s Strings) -> Option<&'s [u16]>
     ensures { option_copied result ≡ units_in_first_language named.now index strings.now }
 {
-    let language = strings.languages.first()?;
-    let row = place_of_language(&strings.languages, *language)?;
-    let column = named.iter().position(|other| *other == index)?;
-    units_at(&strings.texts, row, named.len(), column)
+    match strings.languages.first() {
+        Some(language) => units_at(strings, named, index, *language),
+        None => None,
+    }
+}
+
+/// The units of the string of an index in a language.
+fn units_at<'s>(strings: &'s Strings, named: &[u8], index: u8, language: u16) -> Option<&'s [u16]>
+    ensures { option_copied result ≡ units_at strings.now named.now index language }
+{
+    let row = place_of_language(&strings.languages, language)?;
+    let column = place_of_index(named, index)?;
+    units_in(&strings.texts, row, named.len(), column)
+}
+
+fn place_of_index(named: &[u8], index: u8) -> Option<usize>
+    ensures { result ≡ position (λ n. n == index) named.now }
+{
+    named.iter().position(|other| *other == index)
 }
 
 fn place_of_language(languages: &[u16], language: u16) -> Option<usize>
@@ -95,7 +111,7 @@ fn place_of_language(languages: &[u16], language: u16) -> Option<usize>
 }
 
 /// The units in this row and column of a table, of which each row has so many columns.
-fn units_at(table: &[Sequence<u16>], row: usize, columns: usize, column: usize) -> Option<&[u16]>
+fn units_in(table: &[Sequence<u16>], row: usize, columns: usize, column: usize) -> Option<&[u16]>
     ensures { option_copied result ≡ slice_get table.now (row * columns + column) }
 {
     // For the proof alone: there are fewer than a `usize` can count.

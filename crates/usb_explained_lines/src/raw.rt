@@ -1,12 +1,12 @@
 //! Descriptors of classes.
-ghost use Rattle.std.specs.Prelude.{◌≡◌, ◌++◌, drop, take, option_map, OnOk};
+ghost use Rattle.std.specs.Prelude.{◌≡◌, ◌++◌, drop, take, option_map, IfSome, OnOk};
 ghost use Rattle.std.specs.Option.{option_copied};
 ghost use Rattle.hex.specs.Hex.{encode_lower};
 ghost use Rattle.usb_names.specs.Shown.{field_of, row_of};
 ghost use Rattle.std.specs.Prelude.{map};
-ghost use Rattle.usb_explained_lines.specs.Raws.{body_lines, class_field_line, decimal_words, form_words, group_count, group_lines, groups_lines, hexadecimal_words, raw_lines, raw_words, release_words, report_type_words, report_words, row_lines, row_of_bytes, row_words, width_of};
+ghost use Rattle.usb_explained_lines.specs.Raws.{all_groups_lines, body_lines, class_field_line, decimal_words, form_words, group_count, group_lines, groups_lines, hexadecimal_words, raw_lines, raw_words, release_words, report_type_words, report_words, row_lines, row_of_bytes, row_words, unnamed_words, width_of};
 
-use crate::bytes::{behind, byte_at};
+use crate::bytes::{behind, byte_at, first};
 use crate::line::{begin_field, end_line};
 use crate::value::{put_byte, put_digits, put_release_value};
 use std::alloc::AllocError;
@@ -40,12 +40,17 @@ fn put_row_words(
     ensures { OnOk result (text.new ≡ text.old ++ row_words descriptor_type (option_map row_of (option_copied row.entry))) }
 {
     match row {
-        None => {
-            text.put("descriptor of type ")?;
-            put_byte_code(text, descriptor_type)
-        }
+        None => put_unnamed(text, descriptor_type),
         Some(row) => text.put(row.name),
     }
+}
+
+#[tactic(auto, unfolding(crate::specs::Raws::unnamed_words))]
+fn put_unnamed(text: &mut Text, descriptor_type: u8) -> Result<(), AllocError>
+    ensures { OnOk result (text.new ≡ text.old ++ unnamed_words descriptor_type) }
+{
+    text.put("descriptor of type ")?;
+    put_byte_code(text, descriptor_type)
 }
 
 /// Puts the fields of a descriptor behind an interface of these codes.
@@ -58,7 +63,7 @@ pub(crate) fn put_raw_fields(
 ) -> Result<(), AllocError>
     ensures { OnOk result (text.new ≡ text.old ++ raw_lines depth interface b.now) }
 {
-    put_byte(text, depth, "bDescriptorType", byte_at(b, 1))?;
+    put_byte(text, depth, "bDescriptorType", b, 1)?;
     put_row(text, depth, row_of_bytes(interface, b), behind(b, 2))
 }
 
@@ -88,13 +93,7 @@ fn put_body(
     ensures { OnOk result (text.new ≡ text.old ++ body_lines depth (map field_of fields.now) (map field_of group.now) body.now) }
 {
     match fields {
-        [] => put_groups(
-            text,
-            depth,
-            group,
-            group_count(width_of(group), body.len()),
-            body,
-        ),
+        [] => put_all_groups(text, depth, group, body),
         [field, more @ ..] => {
             let width = usize::from(field.width);
             if body.len() < width {
@@ -106,25 +105,43 @@ fn put_body(
     }
 }
 
-/// How many bytes the fields of a group have.
-fn width_of(fields: &[ClassField]) -> usize
-    ensures { result ≡ width_of (map field_of fields.now) }
+/// How many bytes fields have, if a `usize` can say it. It can of all that a memory holds.
+fn width_of(fields: &[ClassField]) -> Option<usize>
+    ensures { IfSome result (λ width. width ≡ width_of (map field_of fields.now)) }
 {
-    let mut width = 0;
-    for field in fields {
-        width += usize::from(field.width);
+    match fields {
+        [] => Some(0),
+        [field, more @ ..] => usize::from(field.width).checked_add(width_of(more)?),
     }
-    width
 }
 
 /// How many groups of so many bytes are there.
 fn group_count(width: usize, count: usize) -> usize
     ensures { result ≡ group_count width count }
 {
-    match width {
-        0 => 0,
-        _ => count / width,
-    }
+    if width == 0 { 0 } else { count / width }
+}
+
+/// Puts the groups that are there.
+fn put_all_groups(
+    text: &mut Text,
+    depth: u8,
+    group: &[ClassField],
+    body: &[u8],
+) -> Result<(), AllocError>
+    ensures { OnOk result (text.new ≡ text.old ++ all_groups_lines depth (map field_of group.now) body.now) }
+{
+    let Some(width) = width_of(group) else {
+        return Err(AllocError);
+    };
+    put_groups(
+        text,
+        depth,
+        group,
+        width,
+        group_count(width, body.len()),
+        body,
+    )
 }
 
 /// Puts so many groups, and what is left behind them.
@@ -133,16 +150,17 @@ fn put_groups(
     text: &mut Text,
     depth: u8,
     group: &[ClassField],
+    width: usize,
     count: usize,
     body: &[u8],
 ) -> Result<(), AllocError>
-    ensures { OnOk result (text.new ≡ text.old ++ groups_lines depth (map field_of group.now) count body.now) }
+    ensures { OnOk result (text.new ≡ text.old ++ groups_lines depth (map field_of group.now) width count body.now) }
 {
     if count == 0 {
         return put_digits(text, depth, "bytes", body);
     }
     put_group(text, depth, group, body)?;
-    put_groups(text, depth, group, count - 1, from(body, width_of(group)))
+    put_groups(text, depth, group, width, count - 1, behind(body, width))
 }
 
 /// Puts the fields of a group.
@@ -159,26 +177,13 @@ fn put_group(
         [] => Ok(()),
         [field, more @ ..] => {
             let width = usize::from(field.width);
-            put_field(text, depth, field, up_to(body, width))?;
-            put_group(text, depth, more, from(body, width))
+            put_field(text, depth, field, first(body, width))?;
+            put_group(text, depth, more, behind(body, width))
         }
     }
 }
 
-/// The first of the bytes, so many or all.
-fn up_to(b: &[u8], count: usize) -> &[u8]
-    ensures { result.now ≡ take count b.now }
-{
-    if count < b.len() { &b[..count] } else { b }
-}
-
-/// The bytes from this place on.
-fn from(b: &[u8], place: usize) -> &[u8]
-    ensures { result.now ≡ drop place b.now }
-{
-    if place < b.len() { &b[place..] } else { &[] }
-}
-
+#[tactic(auto, unfolding(crate::specs::Lines::field_line))]
 fn put_field(text: &mut Text, depth: u8, field: &ClassField, value: &[u8]) -> Result<(), AllocError>
     ensures { OnOk result (text.new ≡ text.old ++ class_field_line depth (field_of field.now) value.now) }
 {

@@ -1,7 +1,8 @@
 //! What is left of an input.
-ghost use Rattle.std.specs.Prelude.{◌≡◌, ◌++◌, take, OnOk};
+ghost use Rattle.std.specs.Prelude.{◌≡◌, ◌++◌, OnOk};
 ghost use Rattle.usb_explained_lines.specs.Rest.{more_words, rest_lines};
 
+use crate::bytes::first;
 use crate::line::{begin_field, end_line};
 use std::alloc::AllocError;
 use usb_words::Text;
@@ -12,16 +13,9 @@ pub(crate) fn put_rest_fields(text: &mut Text, depth: u8, b: &[u8]) -> Result<()
     ensures { OnOk result (text.new ≡ text.old ++ rest_lines depth b.now) }
 {
     begin_field(text, depth, "bytes")?;
-    text.put_digits(first_of(b))?;
+    text.put_digits(first(b, 32))?;
     put_more(text, b.len())?;
     end_line(text)
-}
-
-/// The first 32 bytes, or all.
-fn first_of(b: &[u8]) -> &[u8]
-    ensures { result.now ≡ take 32 b.now }
-{
-    if b.len() > 32 { &b[..32] } else { b }
 }
 
 fn put_more(text: &mut Text, count: usize) -> Result<(), AllocError>

@@ -1,14 +1,15 @@
 //! The configuration, interface association and interface descriptors.
-ghost use Rattle.std.specs.Prelude.{◌≡◌, ◌++◌, codes, OnOk};
+ghost use Rattle.std.specs.Prelude.{◌≡◌, ◌++◌, slice_index, OnOk};
 ghost use Rattle.usb_explained_lines.specs.Lines.{field_line};
-ghost use Rattle.usb_explained_lines.specs.Sets.{association_lines, association_words, binding_words, bound_words, configuration_lines, configuration_words, interface_lines, interface_words, power_value, set_attributes, set_words, source_words, wakeup_words};
+ghost use Rattle.usb_explained_lines.specs.Sets.{association_lines, association_words, binding_words, bound_words, configuration_lines, configuration_words, function_words, interface_lines, interface_words, power_value, range_words, set_attributes, set_words, source_words, supply_words, wakeup_words};
 
-use crate::bytes::{behind, byte_at, word_at};
+use crate::bytes::byte_at;
 use crate::index::put_index;
 use crate::line::{begin_field, end_line};
 use crate::names::Names;
 use crate::value::{
-    put_class_field, put_decimal, put_digits, put_protocol_field, put_subclass_field,
+    put_class_field, put_decimal, put_decimal_word, put_protocol_field, put_subclass_field,
+    put_tail,
 };
 use std::alloc::AllocError;
 use usb_words::{Speed, Text, put_byte_code, put_class_words, put_count, put_power, put_speed};
@@ -29,11 +30,19 @@ pub(crate) fn put_configuration_words(
     text.put(", ")?;
     put_count(text, u64::from(byte_at(b, 4)), "interface")?;
     text.put(", ")?;
-    text.put(source_words(byte_at(b, 7)))?;
-    text.put(", ")?;
-    put_power(text, speed, byte_at(b, 8))
+    put_supply(text, speed, byte_at(b, 7), byte_at(b, 8))
 }
 
+#[tactic(auto, unfolding(crate::specs::Sets::supply_words))]
+fn put_supply(text: &mut Text, speed: Speed, attributes: u8, power: u8) -> Result<(), AllocError>
+    ensures { OnOk result (text.new ≡ text.old ++ supply_words speed attributes power) }
+{
+    text.put(source_words(attributes))?;
+    text.put(", ")?;
+    put_power(text, speed, power)
+}
+
+#[tactic(auto, unfolding(crate::specs::Sets::set_words))]
 fn set_words(descriptor_type: u8) -> &'static str
     ensures { result.now ≡ set_words descriptor_type }
 {
@@ -44,6 +53,7 @@ fn set_words(descriptor_type: u8) -> &'static str
     }
 }
 
+#[tactic(auto, unfolding(crate::specs::Sets::source_words))]
 fn source_words(attributes: u8) -> &'static str
     ensures { result.now ≡ source_words attributes }
 {
@@ -54,6 +64,7 @@ fn source_words(attributes: u8) -> &'static str
     }
 }
 
+#[tactic(auto, unfolding(crate::specs::Sets::wakeup_words))]
 fn wakeup_words(attributes: u8) -> &'static str
     ensures { result.now ≡ wakeup_words attributes }
 {
@@ -75,38 +86,58 @@ pub(crate) fn put_configuration_fields(
 ) -> Result<(), AllocError>
     ensures { OnOk result (text.new ≡ text.old ++ configuration_lines depth speed names.now b.now) }
 {
-    put_decimal(text, depth, "wTotalLength", u64::from(word_at(b, 2)))?;
-    put_decimal(text, depth, "bNumInterfaces", u64::from(byte_at(b, 4)))?;
-    put_decimal(text, depth, "bConfigurationValue", u64::from(byte_at(b, 5)))?;
-    put_index(text, depth, "iConfiguration", names, byte_at(b, 6))?;
-    put_attributes(text, depth, byte_at(b, 7))?;
-    put_max_power(text, depth, speed, byte_at(b, 8))?;
-    put_digits(text, depth, "tail", behind(b, 9))
+    put_decimal_word(text, depth, "wTotalLength", b, 2)?;
+    put_decimal(text, depth, "bNumInterfaces", b, 4)?;
+    put_decimal(text, depth, "bConfigurationValue", b, 5)?;
+    put_index(text, depth, "iConfiguration", names, b, 6)?;
+    put_attributes(text, depth, "bmAttributes", b)?;
+    put_max_power(text, depth, "bMaxPower", speed, b)?;
+    put_tail(text, depth, b, 9)
 }
 
 #[tactic(auto, unfolding(crate::specs::Lines::field_line))]
-fn put_attributes(text: &mut Text, depth: u8, attributes: u8) -> Result<(), AllocError>
-    ensures { OnOk result (text.new ≡ text.old ++ field_line depth (codes "bmAttributes") (set_attributes attributes)) }
+fn put_attributes(text: &mut Text, depth: u8, name: &str, b: &[u8]) -> Result<(), AllocError>
+    ensures { OnOk result (text.new ≡ text.old ++ field_line depth name.now (set_attributes (slice_index b.now 7))) }
 {
-    begin_field(text, depth, "bmAttributes")?;
+    begin_field(text, depth, name)?;
+    put_attributes_value(text, byte_at(b, 7))?;
+    end_line(text)
+}
+
+#[tactic(auto, unfolding(crate::specs::Sets::set_attributes))]
+fn put_attributes_value(text: &mut Text, attributes: u8) -> Result<(), AllocError>
+    ensures { OnOk result (text.new ≡ text.old ++ set_attributes attributes) }
+{
     put_byte_code(text, attributes)?;
     text.put(" (")?;
     text.put(source_words(attributes))?;
     text.put(wakeup_words(attributes))?;
-    text.put(")")?;
-    end_line(text)
+    text.put(")")
 }
 
 #[tactic(auto, unfolding(crate::specs::Lines::field_line))]
-fn put_max_power(text: &mut Text, depth: u8, speed: Speed, power: u8) -> Result<(), AllocError>
-    ensures { OnOk result (text.new ≡ text.old ++ field_line depth (codes "bMaxPower") (power_value speed power)) }
+fn put_max_power(
+    text: &mut Text,
+    depth: u8,
+    name: &str,
+    speed: Speed,
+    b: &[u8],
+) -> Result<(), AllocError>
+    ensures { OnOk result (text.new ≡ text.old ++ field_line depth name.now (power_value speed (slice_index b.now 8))) }
 {
-    begin_field(text, depth, "bMaxPower")?;
+    begin_field(text, depth, name)?;
+    put_power_value(text, speed, byte_at(b, 8))?;
+    end_line(text)
+}
+
+#[tactic(auto, unfolding(crate::specs::Sets::power_value))]
+fn put_power_value(text: &mut Text, speed: Speed, power: u8) -> Result<(), AllocError>
+    ensures { OnOk result (text.new ≡ text.old ++ power_value speed power) }
+{
     text.put_decimal(u64::from(power))?;
     text.put(" (")?;
     put_power(text, speed, power)?;
-    text.put(")")?;
-    end_line(text)
+    text.put(")")
 }
 
 /// Puts the words of an interface association's heading (its ECN, 9.X.Y).
@@ -121,12 +152,20 @@ pub(crate) fn put_association_words(
     text.put("association ")?;
     text.put_decimal(number)?;
     text.put(" of ")?;
+    put_function(text, b)
+}
+
+#[tactic(auto, unfolding(crate::specs::Sets::function_words))]
+fn put_function(text: &mut Text, b: &[u8]) -> Result<(), AllocError>
+    ensures { OnOk result (text.new ≡ text.old ++ function_words b.now) }
+{
     put_bound(text, byte_at(b, 2), byte_at(b, 3))?;
     text.put(", ")?;
     put_class_words(text, byte_at(b, 4), byte_at(b, 5), byte_at(b, 6))
 }
 
 /// Puts which interfaces it binds. Their numbers don't wrap: the last may be one that no interface can have.
+#[tactic(auto, unfolding(crate::specs::Sets::bound_words))]
 fn put_bound(text: &mut Text, first: u8, count: u8) -> Result<(), AllocError>
     ensures { OnOk result (text.new ≡ text.old ++ bound_words first count) }
 {
@@ -136,11 +175,22 @@ fn put_bound(text: &mut Text, first: u8, count: u8) -> Result<(), AllocError>
         text.put("interface ")?;
         text.put_decimal(u64::from(first))
     } else {
-        text.put("interfaces ")?;
-        text.put_decimal(u64::from(first))?;
-        text.put(" to ")?;
-        text.put_decimal(u64::from(first) + u64::from(count) - 1)
+        put_range(
+            text,
+            u64::from(first),
+            u64::from(first) + u64::from(count) - 1,
+        )
     }
+}
+
+#[tactic(auto, unfolding(crate::specs::Sets::range_words))]
+fn put_range(text: &mut Text, first: u64, last: u64) -> Result<(), AllocError>
+    ensures { OnOk result (text.new ≡ text.old ++ range_words first last) }
+{
+    text.put("interfaces ")?;
+    text.put_decimal(first)?;
+    text.put(" to ")?;
+    text.put_decimal(last)
 }
 
 /// Puts the fields of an interface association.
@@ -153,14 +203,13 @@ pub(crate) fn put_association_fields(
 ) -> Result<(), AllocError>
     ensures { OnOk result (text.new ≡ text.old ++ association_lines depth names.now b.now) }
 {
-    let (class, subclass, protocol) = (byte_at(b, 4), byte_at(b, 5), byte_at(b, 6));
-    put_decimal(text, depth, "bFirstInterface", u64::from(byte_at(b, 2)))?;
-    put_decimal(text, depth, "bInterfaceCount", u64::from(byte_at(b, 3)))?;
-    put_class_field(text, depth, "bFunctionClass", class)?;
-    put_subclass_field(text, depth, "bFunctionSubClass", class, subclass)?;
-    put_protocol_field(text, depth, "bFunctionProtocol", class, subclass, protocol)?;
-    put_index(text, depth, "iFunction", names, byte_at(b, 7))?;
-    put_digits(text, depth, "tail", behind(b, 8))
+    put_decimal(text, depth, "bFirstInterface", b, 2)?;
+    put_decimal(text, depth, "bInterfaceCount", b, 3)?;
+    put_class_field(text, depth, "bFunctionClass", b, 4)?;
+    put_subclass_field(text, depth, "bFunctionSubClass", b, 4)?;
+    put_protocol_field(text, depth, "bFunctionProtocol", b, 4)?;
+    put_index(text, depth, "iFunction", names, b, 7)?;
+    put_tail(text, depth, b, 8)
 }
 
 /// Puts the words of an interface descriptor's heading (9.6.5).
@@ -183,6 +232,7 @@ pub(crate) fn put_interface_words(
     put_count(text, u64::from(byte_at(b, 4)), "endpoint")
 }
 
+#[tactic(auto, unfolding(crate::specs::Sets::binding_words))]
 fn put_binding(text: &mut Text, association: Option<u64>) -> Result<(), AllocError>
     ensures { OnOk result (text.new ≡ text.old ++ binding_words association) }
 {
@@ -205,13 +255,12 @@ pub(crate) fn put_interface_fields(
 ) -> Result<(), AllocError>
     ensures { OnOk result (text.new ≡ text.old ++ interface_lines depth names.now b.now) }
 {
-    let (class, subclass, protocol) = (byte_at(b, 5), byte_at(b, 6), byte_at(b, 7));
-    put_decimal(text, depth, "bInterfaceNumber", u64::from(byte_at(b, 2)))?;
-    put_decimal(text, depth, "bAlternateSetting", u64::from(byte_at(b, 3)))?;
-    put_decimal(text, depth, "bNumEndpoints", u64::from(byte_at(b, 4)))?;
-    put_class_field(text, depth, "bInterfaceClass", class)?;
-    put_subclass_field(text, depth, "bInterfaceSubClass", class, subclass)?;
-    put_protocol_field(text, depth, "bInterfaceProtocol", class, subclass, protocol)?;
-    put_index(text, depth, "iInterface", names, byte_at(b, 8))?;
-    put_digits(text, depth, "tail", behind(b, 9))
+    put_decimal(text, depth, "bInterfaceNumber", b, 2)?;
+    put_decimal(text, depth, "bAlternateSetting", b, 3)?;
+    put_decimal(text, depth, "bNumEndpoints", b, 4)?;
+    put_class_field(text, depth, "bInterfaceClass", b, 5)?;
+    put_subclass_field(text, depth, "bInterfaceSubClass", b, 5)?;
+    put_protocol_field(text, depth, "bInterfaceProtocol", b, 5)?;
+    put_index(text, depth, "iInterface", names, b, 8)?;
+    put_tail(text, depth, b, 9)
 }

@@ -1,64 +1,98 @@
 //! Lines of fields by the form of their values.
-ghost use Rattle.std.specs.Prelude.{◌≡◌, ◌++◌, OnOk};
+ghost use Rattle.std.specs.Prelude.{◌≡◌, ◌+◌, ◌++◌, codes, drop, slice_index, OnOk};
+ghost use Rattle.usb_base.specs.Bytes.{little_endian_at};
 ghost use Rattle.std.specs.Fmt.{decimal};
 ghost use Rattle.usb_words.specs.Names.{class_field, protocol_field, subclass_field};
 ghost use Rattle.usb_words.specs.Numbers.{byte_code, meaning, word_code};
 ghost use Rattle.usb_explained_lines.specs.Device.{release_value};
 ghost use Rattle.usb_explained_lines.specs.Lines.{digits_line, field_line};
 
+use crate::bytes::{behind, byte_at, word_at};
 use crate::line::{begin_field, end_line};
 use std::alloc::AllocError;
 use usb_words::{
     Text, put_byte_code, put_class, put_protocol, put_release, put_subclass, put_word_code,
 };
 
-/// Puts a field in decimal digits.
+/// Puts the byte at a place in decimal digits.
 #[tactic(auto, unfolding(crate::specs::Lines::field_line))]
 pub(crate) fn put_decimal(
     text: &mut Text,
     depth: u8,
     name: &str,
-    number: u64,
+    b: &[u8],
+    place: u8,
 ) -> Result<(), AllocError>
-    ensures { OnOk result (text.new ≡ text.old ++ field_line depth name.now (decimal number)) }
+    ensures { OnOk result (text.new ≡ text.old ++ field_line depth name.now (decimal (slice_index b.now place))) }
 {
+    let place = usize::from(place);
     begin_field(text, depth, name)?;
-    text.put_decimal(number)?;
+    text.put_decimal(u64::from(byte_at(b, place)))?;
     end_line(text)
 }
 
-/// Puts a field that is a code of one byte.
+/// Puts the byte at a place as a code.
 #[tactic(auto, unfolding(crate::specs::Lines::field_line))]
-pub(crate) fn put_byte(text: &mut Text, depth: u8, name: &str, byte: u8) -> Result<(), AllocError>
-    ensures { OnOk result (text.new ≡ text.old ++ field_line depth name.now (byte_code byte)) }
+pub(crate) fn put_byte(
+    text: &mut Text,
+    depth: u8,
+    name: &str,
+    b: &[u8],
+    place: u8,
+) -> Result<(), AllocError>
+    ensures { OnOk result (text.new ≡ text.old ++ field_line depth name.now (byte_code (slice_index b.now place))) }
 {
+    let place = usize::from(place);
     begin_field(text, depth, name)?;
-    put_byte_code(text, byte)?;
+    put_byte_code(text, byte_at(b, place))?;
     end_line(text)
 }
 
-/// Puts a field that is a code of two bytes.
+/// Puts the number of two bytes at a place in decimal digits.
 #[tactic(auto, unfolding(crate::specs::Lines::field_line))]
-pub(crate) fn put_word(text: &mut Text, depth: u8, name: &str, word: u16) -> Result<(), AllocError>
-    ensures { OnOk result (text.new ≡ text.old ++ field_line depth name.now (word_code word)) }
+pub(crate) fn put_decimal_word(
+    text: &mut Text,
+    depth: u8,
+    name: &str,
+    b: &[u8],
+    place: u8,
+) -> Result<(), AllocError>
+    ensures { OnOk result (text.new ≡ text.old ++ field_line depth name.now (decimal (little_endian_at b.now place))) }
 {
     begin_field(text, depth, name)?;
-    put_word_code(text, word)?;
+    text.put_decimal(u64::from(word_at(b, place)))?;
     end_line(text)
 }
 
-/// Puts a field that is a release in binary coded decimal.
+/// Puts the number of two bytes at a place as a code.
+#[tactic(auto, unfolding(crate::specs::Lines::field_line))]
+pub(crate) fn put_word(
+    text: &mut Text,
+    depth: u8,
+    name: &str,
+    b: &[u8],
+    place: u8,
+) -> Result<(), AllocError>
+    ensures { OnOk result (text.new ≡ text.old ++ field_line depth name.now (word_code (little_endian_at b.now place))) }
+{
+    begin_field(text, depth, name)?;
+    put_word_code(text, word_at(b, place))?;
+    end_line(text)
+}
+
+/// Puts the number of two bytes at a place as a release in binary coded decimal.
 #[tactic(auto, unfolding(crate::specs::Lines::field_line))]
 pub(crate) fn put_release_field(
     text: &mut Text,
     depth: u8,
     name: &str,
-    release: u16,
+    b: &[u8],
+    place: u8,
 ) -> Result<(), AllocError>
-    ensures { OnOk result (text.new ≡ text.old ++ field_line depth name.now (release_value release)) }
+    ensures { OnOk result (text.new ≡ text.old ++ field_line depth name.now (release_value (little_endian_at b.now place))) }
 {
     begin_field(text, depth, name)?;
-    put_release_value(text, release)?;
+    put_release_value(text, word_at(b, place))?;
     end_line(text)
 }
 
@@ -73,51 +107,59 @@ pub(crate) fn put_release_value(text: &mut Text, release: u16) -> Result<(), All
     text.put(")")
 }
 
-/// Puts the fields of class, subclass and protocol.
+/// Puts the class at a place.
 #[tactic(auto, unfolding(crate::specs::Lines::field_line))]
 pub(crate) fn put_class_field(
     text: &mut Text,
     depth: u8,
     name: &str,
-    class: u8,
+    b: &[u8],
+    place: u8,
 ) -> Result<(), AllocError>
-    ensures { OnOk result (text.new ≡ text.old ++ field_line depth name.now (class_field class)) }
+    ensures { OnOk result (text.new ≡ text.old ++ field_line depth name.now (class_field (slice_index b.now place))) }
 {
+    let place = usize::from(place);
     begin_field(text, depth, name)?;
-    put_class(text, class)?;
+    put_class(text, byte_at(b, place))?;
     end_line(text)
 }
 
-/// Puts the field of a subclass.
+/// Puts the subclass behind the class at a place.
 #[tactic(auto, unfolding(crate::specs::Lines::field_line))]
 pub(crate) fn put_subclass_field(
     text: &mut Text,
     depth: u8,
     name: &str,
-    class: u8,
-    subclass: u8,
+    b: &[u8],
+    place: u8,
 ) -> Result<(), AllocError>
-    ensures { OnOk result (text.new ≡ text.old ++ field_line depth name.now (subclass_field class subclass)) }
+    ensures { OnOk result (text.new ≡ text.old ++ field_line depth name.now (subclass_field (slice_index b.now place) (slice_index b.now (place + 1)))) }
 {
+    let place = usize::from(place);
     begin_field(text, depth, name)?;
-    put_subclass(text, class, subclass)?;
+    put_subclass(text, byte_at(b, place), byte_at(b, place + 1))?;
     end_line(text)
 }
 
-/// Puts the field of a protocol.
+/// Puts the protocol behind the class and the subclass at a place.
 #[tactic(auto, unfolding(crate::specs::Lines::field_line))]
 pub(crate) fn put_protocol_field(
     text: &mut Text,
     depth: u8,
     name: &str,
-    class: u8,
-    subclass: u8,
-    protocol: u8,
+    b: &[u8],
+    place: u8,
 ) -> Result<(), AllocError>
-    ensures { OnOk result (text.new ≡ text.old ++ field_line depth name.now (protocol_field class subclass protocol)) }
+    ensures { OnOk result (text.new ≡ text.old ++ field_line depth name.now (protocol_field (slice_index b.now place) (slice_index b.now (place + 1)) (slice_index b.now (place + 2)))) }
 {
+    let place = usize::from(place);
     begin_field(text, depth, name)?;
-    put_protocol(text, class, subclass, protocol)?;
+    put_protocol(
+        text,
+        byte_at(b, place),
+        byte_at(b, place + 1),
+        byte_at(b, place + 2),
+    )?;
     end_line(text)
 }
 
@@ -139,4 +181,11 @@ pub(crate) fn put_digits(
             end_line(text)
         }
     }
+}
+
+/// Puts what a descriptor has from this place on, if it has anything there.
+pub(crate) fn put_tail(text: &mut Text, depth: u8, b: &[u8], place: u8) -> Result<(), AllocError>
+    ensures { OnOk result (text.new ≡ text.old ++ digits_line depth (codes "tail") (drop place b.now)) }
+{
+    put_digits(text, depth, "tail", behind(b, usize::from(place)))
 }
