@@ -1,0 +1,50 @@
+-- The explanation of an input, and of bytes that are none.
+use Rattle.std.specs.Prelude.{ℕ, List, ◌++◌, length, take, drop, slice_index, codes, ◌==◌, ◌||◌, if◌then◌else◌}
+use Rattle.usb_words.specs.Numbers.{count}
+use Rattle.usb_file.specs.declared.input.Input.{Input}
+use Rattle.usb_file.specs.declared.input.Input.TheVariants as inputs
+use Rattle.usb_file.specs.declared.input_fault.InputFault.{InputFault}
+use Rattle.usb_explain.specs.declared.manner.Manner.{Manner}
+use Rattle.usb_explain.specs.Faults.{fault_text, place_of_fault}
+use Rattle.usb_explain.specs.Standings.{start}
+use Rattle.usb_explain.specs.Subjects.{Subject, broken_subject, findings_of, subject_with}
+use Rattle.usb_explain.specs.Walks.{rest_text, walked}
+
+-- the name of an input
+abbrev pub input_name : Input → List ℕ
+input_name (inputs.Set set) = codes "set"
+input_name (inputs.File file) = codes "file"
+input_name (inputs.Dump file) = codes "device and its sets without strings"
+
+-- the name of bytes that are none: they are read as a set by their second byte
+abbrev pub broken_name : List ℕ → List ℕ
+broken_name b = if (slice_index b 1 == 2) || (slice_index b 1 == 7) then codes "broken set" else codes "broken file"
+
+-- the first line
+unfoldable pub first_line : List ℕ → ℕ → List ℕ
+first_line name n = name ++ codes ", " ++ count n (codes "byte") ++ codes "\n"
+
+-- the last line of an input, of so many findings
+unfoldable pub last_line : ℕ → List ℕ
+last_line n = if n == 0 then codes "no findings\n" else count n (codes "finding") ++ codes "\n"
+
+-- what ends the explanation of an input
+abbrev pub whole_end : Subject → ℕ → List ℕ → ℕ → List ℕ
+whole_end subject findings b at = rest_text subject at (drop at b) ++ last_line findings
+
+-- what ends that of bytes which are none
+abbrev pub broken_end : Subject → InputFault → List ℕ → ℕ → List ℕ
+broken_end subject fault b at = fault_text fault ++ rest_text subject at (drop at b)
+
+-- the explanation of an input, of which these are the bytes
+abbrev pub explanation : Manner → Input → List ℕ → List ℕ
+explanation manner input b =
+    let subject = subject_with manner input (findings_of input) in
+    first_line (input_name input) (length b) ++ walked (length b) subject (whole_end subject (length (findings_of input)) b) start b
+
+-- the explanation of bytes that are no input, as far as the place of their fault
+abbrev pub broken_explanation : Manner → InputFault → List ℕ → List ℕ
+broken_explanation manner fault b =
+    let subject = broken_subject manner in
+    let whole = take (place_of_fault fault) b in
+    first_line (broken_name b) (length b) ++ walked (length whole) subject (broken_end subject fault b) start whole
