@@ -30,10 +30,14 @@ file_message files.Memory = codes "out of memory"
 abbrev pub numbered : ℕ → ℕ → List ℕ
 numbered number at = decimal number ++ codes " at " ++ decimal at ++ codes ": "
 
+-- bytes behind a set
+abbrev pub trailing_words : ℕ → List ℕ
+trailing_words at = codes "trailing bytes at " ++ decimal at ++ codes ": bytes after the set"
+
 -- the fault by its number, its place and its message
 abbrev pub fault_words : InputFault → List ℕ
 fault_words (faults.Set fault) = codes "set fault " ++ numbered (set_why_number fault.why) fault.at ++ set_message fault.why
-fault_words (faults.Trailing at) = codes "trailing bytes at " ++ decimal at ++ codes ": bytes after the set"
+fault_words (faults.Trailing at) = trailing_words at
 fault_words (faults.File fault) = codes "file fault " ++ numbered (why_number fault.why) fault.at ++ file_message fault.why
 
 -- its line

@@ -1,7 +1,7 @@
 //! The line of the fault of a broken input.
 ghost use Rattle.std.specs.Prelude.{◌≡◌, ◌++◌, OnOk};
 ghost use Rattle.usb_set.specs.Numbers.{why_message as set_message};
-ghost use Rattle.usb_explain.specs.Faults.{fault_text, fault_words, file_message, numbered, place_of_fault};
+ghost use Rattle.usb_explain.specs.Faults.{fault_text, fault_words, file_message, numbered, place_of_fault, trailing_words};
 
 use std::alloc::AllocError;
 use usb_file::{FileWhy, InputFault};
@@ -38,17 +38,21 @@ fn put_words(text: &mut Text, fault: InputFault) -> Result<(), AllocError>
             put_numbered(text, fault.number(), fault.at as usize)?;
             text.put(set_message(fault.why))
         }
-        InputFault::Trailing(at) => {
-            text.put("trailing bytes at ")?;
-            text.put_decimal(at as u64)?;
-            text.put(": bytes after the set")
-        }
+        InputFault::Trailing(at) => put_trailing(text, at),
         InputFault::File(fault) => {
             text.put("file fault ")?;
             put_numbered(text, fault.number(), fault.at)?;
             put_file_message(text, fault.why)
         }
     }
+}
+
+fn put_trailing(text: &mut Text, at: usize) -> Result<(), AllocError>
+    ensures { OnOk result (text.new ≡ text.old ++ trailing_words at) }
+{
+    text.put("trailing bytes at ")?;
+    text.put_decimal(at as u64)?;
+    text.put(": bytes after the set")
 }
 
 fn put_numbered(text: &mut Text, number: u8, at: usize) -> Result<(), AllocError>

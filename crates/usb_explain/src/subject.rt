@@ -62,7 +62,7 @@ impl<'i> Subject<'i> {
 
     /// An input without strings.
     fn without_strings(alloc: Global, manner: Manner, is_dump: bool, found: Found<'i>) -> Subject<'i>
-        ensures { result ≡ record { manner = manner; is_dump = is_dump; names = no_names NotInInput; strings = None; named = []; found = found } }
+        ensures { result ≡ record { manner = manner; is_dump = is_dump; names = no_names NotInInput; strings = None; named = []; found = found.entry } }
     {
         Subject {
             manner,
@@ -80,7 +80,7 @@ impl<'i> Subject<'i> {
         file: &'i DescriptorFile,
         found: Found<'i>,
     ) -> Result<Subject<'i>, AllocError>
-        ensures { IfOk result (λ subject. subject ≡ record { manner = manner; is_dump = false; names = names_of file.now; strings = file.now.strings; named = named_indices file.now; found = found }) }
+        ensures { IfOk result (λ subject. subject ≡ record { manner = manner; is_dump = false; names = names_of file.now; strings = file.now.strings; named = named_indices file.now; found = found.entry }) }
     {
         Ok(Subject {
             manner,

@@ -1,13 +1,12 @@
 //! The lines of all descriptors, one after another.
-ghost use Rattle.std.specs.Prelude.{◌≡◌, ◌<◌, ◌++◌, ℕ, List, [], drop, length, take, IfErr, IfOk, OnErr, OnOk};
-ghost use Rattle.std.specs.Io.KnownBytes.{Appends};
+ghost use Rattle.std.specs.Prelude.{◌≡◌, ◌≤◌, ◌++◌, ℕ, List, [], length, IfOk, IfSome, OnErr, OnOk};
 ghost use Rattle.usb_listing.specs.Output.{AppendsLess};
 ghost use Rattle.usb_listing.specs.inside.Pages.{Puts};
 ghost use Rattle.usb_explain.specs.Opening.{entered};
 ghost use Rattle.usb_explain.specs.Roles.{next_role};
 ghost use Rattle.usb_explain.specs.Standings.{start};
-ghost use Rattle.usb_explain.specs.Walks.{block, walked};
-ghost use Rattle.usb_explain.specs.inside.Walking.{Counted, PutsWalk};
+ghost use Rattle.usb_explain.specs.Walks.{walked};
+ghost use Rattle.usb_explain.specs.inside.Walking.{PutsWalk};
 
 use crate::role::Role;
 use crate::standing::Standing;
@@ -49,7 +48,9 @@ impl Standing {
     /// What the descriptor is with which the bytes begin, and how long it is, where it can stand here.
     #[tactic(auto, unfolding(crate::specs::Roles::next_role))]
     fn next_role(&self, ahead: &[u8]) -> Option<(Role, usize)>
-        ensures { result ≡ next_role self.now ahead.now }
+        ensures next { result ≡ next_role self.now ahead.now }
+        ensures least { IfSome result (λ next. 2 ≤ next.1) }
+        ensures most { IfSome result (λ next. next.1 ≤ length ahead.now) }
     {
         match descriptor_length(ahead) {
             None => None,
