@@ -1,13 +1,16 @@
 -- Whole explanations.
-use Rattle.std.proofs.Common.{◌≡◌, ◌<◌, ℕ, List, [], ◌++◌, codes, length, refl, sym, ap, subst, ◌∙◌, arith, append_assoc, length-append}
+use Rattle.usb_words.specs.Numbers.{count}
+use Rattle.std.proofs.Common.{◌≡◌, ◌<◌, ◌==◌, Bool, true, false, if◌then◌else◌, ℕ, List, [], ◌++◌, codes, length, refl, sym, ap, subst, ◌∙◌, arith, append_assoc, length-append, take}
 use Rattle.std.specs.Io.KnownBytes.{Appends}
 use Rattle.usb_listing.specs.Output.{AppendsLess, Held}
 use Rattle.usb_listing.specs.inside.Pages.{Puts}
 use Rattle.usb_listing.proofs.Pages.{appends_more, not_begun, puts_broken}
 use Rattle.usb_listing.proofs.HasBytes.{longer}
 use Rattle.usb_file.specs.declared.input_fault.InputFault.{InputFault}
-use Rattle.usb_explain.specs.Explanations.{first_line, last_line}
-use Rattle.usb_explain.specs.Faults.{fault_text}
+use Rattle.usb_explain.specs.Explanations.{broken_end, broken_name, broken_text, first_line, last_line, whole_end, whole_text}
+use Rattle.usb_explain.specs.Subjects.{Subject}
+use Rattle.usb_explain.specs.inside.Walking.{Walked}
+use Rattle.usb_explain.specs.Faults.{fault_text, place_of_fault}
 
 -- the end was written behind what was put
 pub ended : (a b c : Held) (page text done tail last : List ℕ) → Puts a b page text done → last ≡ text ++ tail → Appends b c last
@@ -31,10 +34,40 @@ pub first_has : (name : List ℕ) (n : ℕ) → 0 < length (first_line name n)
 unfolding first_line
 first_has name n = simp length-append (omega arith)
 
+pub has_last : (b : Bool) (n : ℕ) → 0 < length (if b then codes "no findings\n" else count n (codes "finding") ++ codes "\n")
+has_last true n = omega arith
+has_last false n = simp length-append (omega arith)
+
 pub last_has : (n : ℕ) → 0 < length (last_line n)
 unfolding last_line
-last_has n = ?
+last_has n = has_last (n == 0) n
 
 pub fault_has : (fault : InputFault) → 0 < length (fault_text fault)
 unfolding fault_text
 fault_has fault = simp length-append (omega arith)
+
+pub whole_has : (subject : Subject) (name : List ℕ) (n : ℕ) (b : List ℕ) → 0 < length (whole_text subject name n b)
+unfolding whole_text
+whole_has subject name n b = longer _ _ (first_has name (length b))
+
+pub broken_has : (subject : Subject) (fault : InputFault) (b : List ℕ) → 0 < length (broken_text subject fault b)
+unfolding broken_text
+broken_has subject fault b = longer _ _ (first_has (broken_name b) (length b))
+
+pub whole_end_has : (subject : Subject) (n : ℕ) (b : List ℕ) (at : ℕ) → 0 < length (whole_end subject n b at)
+whole_end_has subject n b at = simp length-append (omega (arith, last_has n))
+
+pub broken_end_has : (subject : Subject) (fault : InputFault) (b : List ℕ) (at : ℕ) → 0 < length (broken_end subject fault b at)
+broken_end_has subject fault b at = longer _ _ (fault_has fault)
+
+-- the whole text of an input, where the walk ended
+pub whole_parts : (subject : Subject) (name : List ℕ) (n at : ℕ) (b done : List ℕ) → Walked subject b done at
+    → whole_text subject name n b ≡ first_line name (length b) ++ (done ++ whole_end subject n b at)
+unfolding whole_text
+whole_parts subject name n at b done w = ap (λ l. first_line name (length b) ++ l) (w.whole (whole_end subject n b))
+
+-- that of bytes which are no input
+pub broken_parts : (subject : Subject) (fault : InputFault) (at : ℕ) (b done : List ℕ) → Walked subject (take (place_of_fault fault) b) done at
+    → broken_text subject fault b ≡ first_line (broken_name b) (length b) ++ (done ++ broken_end subject fault b at)
+unfolding broken_text
+broken_parts subject fault at b done w = ap (λ l. first_line (broken_name b) (length b) ++ l) (w.whole (broken_end subject fault b))

@@ -9,12 +9,18 @@ use Rattle.usb_explain.specs.declared.standing.SettingStanding.{SettingStanding}
 use Rattle.usb_explain.specs.declared.standing.Standing.{Standing}
 use Rattle.usb_explain.specs.Opening.{entered, opened}
 use Rattle.usb_explain.specs.Passing.{moved, noted, passed, with_endpoint, with_set}
+use Rattle.usb_explain.specs.Standings.{start}
 use Rattle.usb_explain.specs.inside.Walking.{Counted, endpoints_of}
 
 pub with_set_at : (p : Part) (s : Standing) → (with_set p s).at ≡ s.at
 with_set_at parts.Device s = refl
 with_set_at parts.Main s = refl
 with_set_at parts.Other s = refl
+
+-- the first place is 0
+pub start_at : start.at ≡ 0
+unfolding start
+start_at = refl
 
 -- what is kept of a descriptor doesn't move
 pub noted_at : (role : Role) (d : List ℕ) (s : Standing) → (noted role d s).at ≡ s.at

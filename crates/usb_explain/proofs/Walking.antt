@@ -1,5 +1,6 @@
 -- The walk over the descriptors of an input, step by step.
-use Rattle.std.proofs.Common.{◌≡◌, ◌≤◌, ◌<◌, ℕ, zero, suc, ◌+◌, ◌-◌, List, [], ◌∷◌, ◌++◌, codes, length, take, drop, Option, Some, None, unwrap_or, refl, sym, ap, subst, ◌∙◌, arith, append_assoc, append-nil, length-append, length-drop, length-take}
+use Rattle.std.proofs.Common.{◌≡◌, ◌≤◌, ◌<◌, ℕ, zero, suc, ◌+◌, ◌-◌, List, [], ◌∷◌, ◌++◌, codes, length, take, drop, Option, Some, None, unwrap_or, refl, sym, ap, subst, ◌∙◌, arith, append_assoc, append-nil, length-append, length-drop}
+use Rattle.std.proofs.lemmas.List.{length-take-le}
 use Rattle.std.specs.Option.{option_map}
 use Rattle.usb_listing.specs.Output.{AppendsLess, Held}
 use Rattle.usb_listing.specs.inside.Pages.{Puts}
@@ -75,7 +76,7 @@ walks_next subject bytes s ahead old mid new page text more rest next w e least 
     let here_puts : Puts mid new text rest (next_block subject s ahead next) =
         subst (λ l. Puts mid new text rest l) (append-nil (next_block subject s ahead next)) (puts_after mid new text more rest (next_block subject s ahead next) [] put passed_on) in
     let left : length (drop next.1 ahead) ≡ length ahead - next.1 = length-drop next.1 ahead in
-    let taken : length (take next.1 ahead) ≡ next.1 = length-take next.1 ahead most in
+    let taken : length (take next.1 ahead) ≡ next.1 = length-take-le next.1 ahead most in
     let at_here : (here subject s ahead next).at ≡ s.at = entered_at next.0 subject.manner.speed ahead s in
     let at_noted = noted_at next.0 (take next.1 ahead) (here subject s ahead next) in
     record {
@@ -85,7 +86,7 @@ walks_next subject bytes s ahead old mid new page text more rest next w e least 
       whole = onward.2;
       puts = puts_more old mid new page text rest w.done (next_block subject s ahead next) w.puts here_puts;
       counted = counted_noted next.0 (take next.1 ahead) (length (take next.1 ahead)) (here subject s ahead next) (omega arith) (counted_entered next.0 subject.manner.speed ahead s w.counted);
-      room = ?;
+      room = omega (arith, at_here, at_noted, left, taken, w.room, most);
     }
 
 -- the walk stopped where a descriptor can stand, of which nothing or a part was put

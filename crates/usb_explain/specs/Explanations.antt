@@ -36,15 +36,21 @@ whole_end subject findings b at = rest_text subject at (drop at b) ++ last_line 
 abbrev pub broken_end : Subject → InputFault → List ℕ → ℕ → List ℕ
 broken_end subject fault b at = fault_text fault ++ rest_text subject at (drop at b)
 
+-- the explanation of an input of this name
+unfoldable pub whole_text : Subject → List ℕ → ℕ → List ℕ → List ℕ
+whole_text subject name findings b = first_line name (length b) ++ walked (length b) subject (whole_end subject findings b) start b
+
 -- the explanation of an input, of which these are the bytes
 abbrev pub explanation : Manner → Input → List ℕ → List ℕ
 explanation manner input b =
-    let subject = subject_with manner input (findings_of input) in
-    first_line (input_name input) (length b) ++ walked (length b) subject (whole_end subject (length (findings_of input)) b) start b
+    whole_text (subject_with manner input (findings_of input)) (input_name input) (length (findings_of input)) b
 
--- the explanation of bytes that are no input, as far as the place of their fault
-abbrev pub broken_explanation : Manner → InputFault → List ℕ → List ℕ
-broken_explanation manner fault b =
-    let subject = broken_subject manner in
+-- the explanation of bytes that are no input
+unfoldable pub broken_text : Subject → InputFault → List ℕ → List ℕ
+broken_text subject fault b =
     let whole = take (place_of_fault fault) b in
     first_line (broken_name b) (length b) ++ walked (length whole) subject (broken_end subject fault b) start whole
+
+-- that of bytes that are no input: what stands before the place of their fault, the fault, and the rest
+abbrev pub broken_explanation : Manner → InputFault → List ℕ → List ℕ
+broken_explanation manner fault b = broken_text (broken_subject manner) fault b

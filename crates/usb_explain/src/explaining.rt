@@ -2,7 +2,7 @@
 ghost use Rattle.std.specs.Prelude.{◌≡◌, ◌++◌, length, OnErr, OnOk};
 ghost use Rattle.std.specs.Io.KnownBytes.{Appends};
 ghost use Rattle.usb_listing.specs.Output.{AppendsLess};
-ghost use Rattle.usb_explain.specs.Explanations.{broken_explanation, broken_name, explanation, first_line, input_name, last_line};
+ghost use Rattle.usb_explain.specs.Explanations.{broken_end, broken_explanation, broken_name, broken_text, explanation, first_line, input_name, last_line, whole_end, whole_text};
 
 use crate::ending::put_rest;
 use crate::fault_line::{fault_place, put_fault};
@@ -35,12 +35,39 @@ pub fn explain<W: Write>(
 {
     let findings = findings_of(alloc, input)?;
     let subject = Subject::of(alloc, manner, input, &findings)?;
+    write_whole(alloc, bytes, &subject, input_name(input), findings.len(), w)
+}
+
+/// Writes the explanation of an input of this name, with so many findings.
+fn write_whole<W: Write>(
+    alloc: Global,
+    bytes: &[u8],
+    subject: &Subject,
+    name: &str,
+    findings: usize,
+    w: &mut W,
+) -> Result<(), OutFault>
+    ensures ok { OnOk result (Appends (W.contents w.old) (W.contents w.new) (whole_text subject.now name.now findings bytes.now)) }
+    ensures err { OnErr result (AppendsLess (W.contents w.old) (W.contents w.new) (whole_text subject.now name.now findings bytes.now)) }
+{
     let mut text = Text::new(alloc);
-    put_first_line(&mut text, input_name(input), bytes)?;
-    let place = write_blocks(alloc, &mut text, &subject, bytes, w)?;
-    put_rest(&mut text, &subject, behind(bytes, place), place)?;
-    put_last_line(&mut text, findings.len())?;
+    put_first_line(&mut text, name, bytes)?;
+    let place = write_blocks(alloc, &mut text, subject, bytes, w)?;
+    put_whole_end(&mut text, subject, findings, bytes, place)?;
     write_all(w, text.as_bytes())
+}
+
+fn put_whole_end(
+    text: &mut Text,
+    subject: &Subject,
+    findings: usize,
+    bytes: &[u8],
+    place: usize,
+) -> Result<(), AllocError>
+    ensures { OnOk result (text.new ≡ text.old ++ whole_end subject.now findings bytes.now place) }
+{
+    put_rest(text, subject, behind(bytes, place), place)?;
+    put_last_line(text, findings)
 }
 
 /// Writes the explanation of bytes that are no input, as far as they go, and their fault.
@@ -60,12 +87,39 @@ pub fn explain_broken<W: Write>(
     ensures err { OnErr result (AppendsLess (W.contents w.old) (W.contents w.new) (broken_explanation manner fault bytes.now)) }
 {
     let subject = Subject::broken(alloc, manner)?;
+    write_broken(alloc, bytes, &subject, fault, w)
+}
+
+/// Writes the explanation of bytes that are no input.
+fn write_broken<W: Write>(
+    alloc: Global,
+    bytes: &[u8],
+    subject: &Subject,
+    fault: InputFault,
+    w: &mut W,
+) -> Result<(), OutFault>
+    ensures ok { OnOk result (Appends (W.contents w.old) (W.contents w.new) (broken_text subject.now fault bytes.now)) }
+    ensures err { OnErr result (AppendsLess (W.contents w.old) (W.contents w.new) (broken_text subject.now fault bytes.now)) }
+{
+    let whole = front(bytes, fault_place(fault));
     let mut text = Text::new(alloc);
     put_first_line(&mut text, broken_name(bytes), bytes)?;
-    let place = write_blocks(alloc, &mut text, &subject, front(bytes, fault_place(fault)), w)?;
-    put_fault(&mut text, fault)?;
-    put_rest(&mut text, &subject, behind(bytes, place), place)?;
+    let place = write_blocks(alloc, &mut text, subject, whole, w)?;
+    put_broken_end(&mut text, subject, fault, bytes, place)?;
     write_all(w, text.as_bytes())
+}
+
+fn put_broken_end(
+    text: &mut Text,
+    subject: &Subject,
+    fault: InputFault,
+    bytes: &[u8],
+    place: usize,
+) -> Result<(), AllocError>
+    ensures { OnOk result (text.new ≡ text.old ++ broken_end subject.now fault bytes.now place) }
+{
+    put_fault(text, fault)?;
+    put_rest(text, subject, behind(bytes, place), place)
 }
 
 #[tactic(auto, unfolding(crate::specs::Explanations::first_line))]
