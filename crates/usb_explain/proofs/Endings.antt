@@ -8,6 +8,8 @@ use Rattle.usb_listing.proofs.Pages.{appends_more, not_begun, puts_broken}
 use Rattle.usb_listing.proofs.HasBytes.{longer}
 use Rattle.usb_file.specs.declared.input_fault.InputFault.{InputFault}
 use Rattle.usb_explain.specs.Explanations.{broken_end, broken_name, broken_text, first_line, last_line, whole_end, whole_text}
+use Rattle.usb_explain.specs.Standings.{start}
+use Rattle.usb_explain.specs.Walks.{walked}
 use Rattle.usb_explain.specs.Subjects.{Subject}
 use Rattle.usb_explain.specs.inside.Walking.{Walked}
 use Rattle.usb_explain.specs.Faults.{fault_text, place_of_fault}
@@ -71,3 +73,36 @@ pub broken_parts : (subject : Subject) (fault : InputFault) (at : ℕ) (b done :
     → broken_text subject fault b ≡ first_line (broken_name b) (length b) ++ (done ++ broken_end subject fault b at)
 unfolding broken_text
 broken_parts subject fault at b done w = ap (λ l. first_line (broken_name b) (length b) ++ l) (w.whole (broken_end subject fault b))
+
+-- the writer failed within the walk
+pub walk_broken : (a c : Held) (subject : Subject) (name : List ℕ) (n : ℕ) (b page : List ℕ) → page ≡ first_line name (length b)
+    → ((ending : ℕ → List ℕ) → AppendsLess a c (page ++ walked (length b) subject ending start b)) → AppendsLess a c (whole_text subject name n b)
+unfolding whole_text
+walk_broken a c subject name n b page e less =
+    subst (λ l. AppendsLess a c (l ++ walked (length b) subject (whole_end subject n b) start b)) e (less (whole_end subject n b))
+
+pub broken_walk_broken : (a c : Held) (subject : Subject) (fault : InputFault) (b front page : List ℕ) → page ≡ first_line (broken_name b) (length b)
+    → front ≡ take (place_of_fault fault) b
+    → ((ending : ℕ → List ℕ) → AppendsLess a c (page ++ walked (length front) subject ending start front)) → AppendsLess a c (broken_text subject fault b)
+unfolding broken_text
+broken_walk_broken a c subject fault b front page e same less =
+    subst (λ l. AppendsLess a c (l ++ walked (length (take (place_of_fault fault) b)) subject (broken_end subject fault b) start (take (place_of_fault fault) b))) e
+        (subst (λ f. AppendsLess a c (page ++ walked (length f) subject (broken_end subject fault b) start f)) same (less (broken_end subject fault b)))
+
+-- a text of three parts, of which the last could not be put
+pub parts_unwritten : (a c : Held) (first page text done tail whole : List ℕ) → page ≡ first → whole ≡ first ++ (done ++ tail) → Puts a c page text done
+    → 0 < length tail → AppendsLess a c whole
+parts_unwritten a c first page text done tail whole e parts p some =
+    subst (λ l. AppendsLess a c l) (ap (λ l. l ++ (done ++ tail)) e ∙ sym parts) (end_unwritten a c page text done tail p some)
+
+-- it was written to its end
+pub parts_written : (a b c : Held) (first page text done tail last whole : List ℕ) → page ≡ first → whole ≡ first ++ (done ++ tail) → Puts a b page text done
+    → last ≡ text ++ tail → Appends b c last → Appends a c whole
+parts_written a b c first page text done tail last whole e parts p put w =
+    subst (λ l. Appends a c l) (ap (λ l. l ++ (done ++ tail)) e ∙ sym parts) (ended a b c page text done tail last p put w)
+
+-- the writer failed at its end
+pub parts_cut : (a b c : Held) (first page text done tail last whole : List ℕ) → page ≡ first → whole ≡ first ++ (done ++ tail) → Puts a b page text done
+    → last ≡ text ++ tail → AppendsLess b c last → AppendsLess a c whole
+parts_cut a b c first page text done tail last whole e parts p put less =
+    subst (λ l. AppendsLess a c l) (ap (λ l. l ++ (done ++ tail)) e ∙ sym parts) (ended_broken a b c page text done tail last p put less)

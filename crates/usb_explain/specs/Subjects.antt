@@ -15,6 +15,7 @@ use Rattle.usb_rules.specs.Findings.{dump_findings, findings, set_findings}
 use Rattle.usb_explained_lines.specs.declared.kind.StringPlace.{StringPlace}
 use Rattle.usb_explained_lines.specs.declared.names.Missing.TheVariants.{NotInInput, NotRead}
 use Rattle.usb_explained_lines.specs.Names.{StringNames, names_of, no_names}
+use Rattle.usb_explain.specs.declared.found.Key.{Key}
 use Rattle.usb_explain.specs.declared.manner.Manner.{Manner}
 
 -- what is explained: how; whether it is a dump; what its indices name; the strings and the named indices of a file; and
@@ -27,22 +28,24 @@ pub record Subject : Type 0 where
   pub named : List ℕ
   pub found : List Finding
 
--- the same part
-abbrev pub is_same_part : Part → Part → Bool
-is_same_part parts.Device parts.Device = true
-is_same_part parts.Main parts.Main = true
-is_same_part parts.Other parts.Other = true
-is_same_part p q = false
+-- the number of a part
+abbrev pub part_number : Part → ℕ
+part_number parts.Device = 0
+part_number parts.Main = 1
+part_number parts.Other = 2
+
+-- a finding by its numbers
+abbrev pub key_of : Finding → Key
+key_of f = record { rule = rule_number f.rule; part = part_number f.part; set = f.set; setting = f.setting; endpoint = f.endpoint }
 
 -- the same rule at the same place
-abbrev pub is_same_finding : Finding → Finding → Bool
-is_same_finding f g =
-    (rule_number f.rule == rule_number g.rule) && is_same_part f.part g.part && (f.set == g.set) && (f.setting == g.setting)
-    && (f.endpoint == g.endpoint)
+abbrev pub is_same_key : Key → Key → Bool
+is_same_key a b =
+    (a.rule == b.rule) && ((a.part == b.part) && ((a.set == b.set) && ((a.setting == b.setting) && (a.endpoint == b.endpoint))))
 
 -- whether a finding is among these
 unfoldable pub is_among : List Finding → Finding → Bool
-is_among all f = list_any (is_same_finding f) all
+is_among all f = list_any (λ g. is_same_key (key_of f) (key_of g)) all
 
 -- what breaks a rule in an input
 abbrev pub findings_of : Input → List Finding
