@@ -19,8 +19,8 @@ pub ended : (a b c : Held) (page text done tail last : List ℕ) → Puts a b pa
     → Appends a c (page ++ (done ++ tail))
 ended a b c page text done tail last p e w =
     subst (λ l. Appends a c l)
-        (ap (λ l. p.front ++ l) e ∙ sym (append_assoc p.front text tail) ∙ ap (λ l. l ++ tail) (sym p.parts) ∙ append_assoc page done tail)
-        (appends_more a b c p.front last p.written w)
+    (ap (λ l. p.front ++ l) e ∙ sym (append_assoc p.front text tail) ∙ ap (λ l. l ++ tail) (sym p.parts) ∙ append_assoc page done tail)
+    (appends_more a b c p.front last p.written w)
 
 -- the writer failed there
 pub ended_broken : (a b c : Held) (page text done tail last : List ℕ) → Puts a b page text done → last ≡ text ++ tail → AppendsLess b c last
@@ -87,7 +87,7 @@ pub broken_walk_broken : (a c : Held) (subject : Subject) (fault : InputFault) (
 unfolding broken_text
 broken_walk_broken a c subject fault b front page e same less =
     subst (λ l. AppendsLess a c (l ++ walked (length (take (place_of_fault fault) b)) subject (broken_end subject fault b) start (take (place_of_fault fault) b))) e
-        (subst (λ f. AppendsLess a c (page ++ walked (length f) subject (broken_end subject fault b) start f)) same (less (broken_end subject fault b)))
+    (subst (λ f. AppendsLess a c (page ++ walked (length f) subject (broken_end subject fault b) start f)) same (less (broken_end subject fault b)))
 
 -- a text of three parts, of which the last could not be put
 pub parts_unwritten : (a c : Held) (first page text done tail whole : List ℕ) → page ≡ first → whole ≡ first ++ (done ++ tail) → Puts a c page text done

@@ -59,13 +59,16 @@ pub next_whole : (subject : Subject) (bytes done ahead : List ℕ) (s : Standing
     → next_role s ahead ≡ Some next → 2 ≤ next.1 → next.1 ≤ length ahead
     → ((ending : ℕ → List ℕ) → walked (length bytes) subject ending start bytes ≡ done ++ walked fuel subject ending s ahead)
     → (n : ℕ) × (length (drop next.1 ahead) ≤ n)
-        × ((ending : ℕ → List ℕ) → walked (length bytes) subject ending start bytes
-            ≡ (done ++ next_block subject s ahead next) ++ walked n subject ending (behind_next subject s ahead next) (drop next.1 ahead))
+    × ((ending : ℕ → List ℕ) → walked (length bytes) subject ending start bytes
+    ≡ (done ++ next_block subject s ahead next) ++ walked n subject ending (behind_next subject s ahead next) (drop next.1 ahead))
 next_whole subject bytes done ahead s next zero enough e least most whole = absurd (omega arith)
 next_whole subject bytes done ahead s next (suc n) enough e least most whole =
-    let left : length (drop next.1 ahead) ≡ length ahead - next.1 = length-drop next.1 ahead in
-    (n, omega arith, λ ending. whole ending ∙ ap (λ l. done ++ l) (walk_next n subject ending s ahead next e)
-        ∙ sym (append_assoc done (next_block subject s ahead next) (walked n subject ending (behind_next subject s ahead next) (drop next.1 ahead))))
+    let left : length (drop next.1 ahead) ≡ length ahead - next.1 = length-drop next.1 ahead in (
+      n,
+      omega arith,
+      λ ending. whole ending ∙ ap (λ l. done ++ l) (walk_next n subject ending s ahead next e)
+          ∙ sym (append_assoc done (next_block subject s ahead next) (walked n subject ending (behind_next subject s ahead next) (drop next.1 ahead))),
+    )
 
 pub walks_next : (subject : Subject) (bytes : List ℕ) (s : Standing) (ahead : List ℕ) (old mid new : Held) (page text more rest : List ℕ) (next : Role × ℕ)
     → WalksOn subject bytes s ahead old mid page text → next_role s ahead ≡ Some next → 2 ≤ next.1 → next.1 ≤ length ahead
@@ -74,7 +77,7 @@ pub walks_next : (subject : Subject) (bytes : List ℕ) (s : Standing) (ahead : 
 walks_next subject bytes s ahead old mid new page text more rest next w e least most put passed_on =
     let onward = next_whole subject bytes w.done ahead s next w.fuel w.enough e least most w.whole in
     let here_puts : Puts mid new text rest (next_block subject s ahead next) =
-        subst (λ l. Puts mid new text rest l) (append-nil (next_block subject s ahead next)) (puts_after mid new text more rest (next_block subject s ahead next) [] put passed_on) in
+    subst (λ l. Puts mid new text rest l) (append-nil (next_block subject s ahead next)) (puts_after mid new text more rest (next_block subject s ahead next) [] put passed_on) in
     let left : length (drop next.1 ahead) ≡ length ahead - next.1 = length-drop next.1 ahead in
     let taken : length (take next.1 ahead) ≡ next.1 = length-take-le next.1 ahead most in
     let at_here : (here subject s ahead next).at ≡ s.at = entered_at next.0 subject.manner.speed ahead s in
@@ -98,7 +101,7 @@ walks_stopped subject bytes s ahead old mid new page text next w e least most le
     let onward = next_whole subject bytes w.done ahead s next w.fuel w.enough e least most w.whole in
     let more : List ℕ = walked onward.0 subject ending (behind_next subject s ahead next) (drop next.1 ahead) in
     let whole : walked (length bytes) subject ending start bytes ≡ w.done ++ (next_block subject s ahead next ++ more) =
-        onward.2 ending ∙ append_assoc w.done (next_block subject s ahead next) more in
+    onward.2 ending ∙ append_assoc w.done (next_block subject s ahead next) more in
     subst (λ l. AppendsLess old new (page ++ l)) (sym whole) (puts_broken old mid new page text w.done (next_block subject s ahead next ++ more) w.puts (less more))
 
 -- nothing of a descriptor's lines was written

@@ -61,7 +61,7 @@ interface_findings subject set d behind =
     told_line subject 2 (in_set set rules.V3 set.settings 0) told.RepeatedSetting
     ++ told_line subject 2 (in_set set rules.V4 set.settings 0) told.NoDefaultSetting
     ++ told_line subject 2 (in_set set rules.V5 set.settings 0)
-        (told.EndpointCount (slice_index d 4) (endpoints_before_interface (descriptors behind)))
+    (told.EndpointCount (slice_index d 4) (endpoints_before_interface (descriptors behind)))
 
 -- at an endpoint of a setting: V6, V7, V8 and V12
 unfoldable pub setting_findings : Subject → SetStanding → SettingStanding → List ℕ

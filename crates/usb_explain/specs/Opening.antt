@@ -57,7 +57,7 @@ set_by s running part survey = record {
   associations = 0;
   settings = 0;
   setting = None;
-  owner = owners.Configuration
+  owner = owners.Configuration;
 }
 
 -- at the first descriptor of a set: what its bytes say, as far as they are there

@@ -20,7 +20,7 @@ abbrev pub setting_of : ℕ → List ℕ → SettingStanding
 setting_of number d = record {
   number = number;
   endpoints = 0;
-  codes = record { class = slice_index d 5; subclass = slice_index d 6; protocol = slice_index d 7 }
+  codes = record { class = slice_index d 5; subclass = slice_index d 6; protocol = slice_index d 7 };
 }
 
 -- one endpoint more

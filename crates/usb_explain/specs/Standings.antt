@@ -18,7 +18,7 @@ before_sets = record {
   associations = 0;
   settings = 0;
   setting = None;
-  owner = owners.Configuration
+  owner = owners.Configuration;
 }
 
 -- at the first byte of an input
@@ -32,5 +32,5 @@ start = record {
   main_sets = 0;
   other_sets = 0;
   left = 0;
-  set = before_sets
+  set = before_sets;
 }

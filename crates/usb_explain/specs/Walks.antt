@@ -38,9 +38,9 @@ unfoldable pub walked : ℕ → Subject → (ℕ → List ℕ) → Standing → 
 walked zero subject ending s ahead = ending s.at
 walked (suc n) subject ending s ahead =
     unwrap_or
-        (option_map (λ next. next_block subject s ahead next ++ walked n subject ending (behind_next subject s ahead next) (drop next.1 ahead))
-            (next_role s ahead))
-        (ending s.at)
+    (option_map (λ next. next_block subject s ahead next ++ walked n subject ending (behind_next subject s ahead next) (drop next.1 ahead))
+    (next_role s ahead))
+    (ending s.at)
 
 -- the lines of the bytes that are left, if there are any
 abbrev pub rest_text : Subject → ℕ → List ℕ → List ℕ

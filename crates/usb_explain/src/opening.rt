@@ -8,7 +8,8 @@ use crate::standing::{DeviceFacts, Owner, SetStanding, Standing};
 use usb_base::descriptor_type;
 use usb_rules::Part;
 use usb_survey::{
-    RunningSpeed, Survey, byte_at, front, other_speed_at, speed_at, speed_by, speed_of_release, word_at,
+    RunningSpeed, Survey, byte_at, front, other_speed_at, speed_at, speed_by, speed_of_release,
+    word_at,
 };
 use usb_words::Speed;
 

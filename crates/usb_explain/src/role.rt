@@ -42,7 +42,10 @@ impl Standing {
         let length = d.len();
         match byte_at(d, 1) {
             descriptor_type::DEVICE => {
-                role_if(self.at == 0 && length == usize::from(descriptor_length::DEVICE), Role::Device)
+                role_if(
+                    self.at == 0 && length == usize::from(descriptor_length::DEVICE),
+                    Role::Device,
+                )
             }
             descriptor_type::DEVICE_QUALIFIER => role_if(
                 self.device.is_some() && length == usize::from(descriptor_length::DEVICE_QUALIFIER),
@@ -57,7 +60,6 @@ impl Standing {
             _ => None,
         }
     }
-
 
     #[tactic(auto, unfolding(crate::specs::Roles::inner_role))]
     fn inner_role(&self, d: &[u8]) -> Option<Role>

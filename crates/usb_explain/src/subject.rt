@@ -61,7 +61,12 @@ impl<'i> Subject<'i> {
     }
 
     /// An input without strings.
-    fn without_strings(alloc: Global, manner: Manner, is_dump: bool, found: Found<'i>) -> Subject<'i>
+    fn without_strings(
+        alloc: Global,
+        manner: Manner,
+        is_dump: bool,
+        found: Found<'i>,
+    ) -> Subject<'i>
         ensures { result ≡ record { manner = manner; is_dump = is_dump; names = no_names NotInInput; strings = None; named = []; found = found.entry } }
     {
         Subject {

@@ -52,7 +52,9 @@ impl Standing {
             Role::Qualifier => put_qualifier_findings(text, subject, d),
             Role::Configuration => self.set.put_set_findings(text, subject, d),
             Role::Association => self.set.put_association_findings(text, subject),
-            Role::Interface => self.set.put_interface_findings(text, subject, d, self.behind_in_set(d, behind)),
+            Role::Interface => self
+                .set
+                .put_interface_findings(text, subject, d, self.behind_in_set(d, behind)),
             Role::Endpoint => self.set.put_endpoint_findings(text, subject),
             _ => Ok(()),
         }
@@ -105,10 +107,22 @@ fn put_device_findings(text: &mut Text, subject: &Subject, d: &[u8]) -> Result<(
     ensures { OnOk result (text.new ≡ text.old ++ device_findings subject.now d.now) }
 {
     if byte_at(d, 17) == 0 {
-        put_told(text, subject, 0, part_finding(Rule::V10, Part::Main), Told::NoConfiguration)?;
+        put_told(
+            text,
+            subject,
+            0,
+            part_finding(Rule::V10, Part::Main),
+            Told::NoConfiguration,
+        )?;
     }
     let told = wrong_device(subject.is_dump(), word_at(d, 2));
-    put_told(text, subject, 0, part_finding(Rule::V11, Part::Device), told)
+    put_told(
+        text,
+        subject,
+        0,
+        part_finding(Rule::V11, Part::Device),
+        told,
+    )
 }
 
 fn wrong_device(is_dump: bool, usb: u16) -> Told
@@ -126,9 +140,21 @@ fn put_qualifier_findings(text: &mut Text, subject: &Subject, d: &[u8]) -> Resul
     ensures { OnOk result (text.new ≡ text.old ++ qualifier_findings subject.now d.now) }
 {
     if byte_at(d, 8) == 0 {
-        put_told(text, subject, 0, part_finding(Rule::V10, Part::Other), Told::NoConfiguration)?;
+        put_told(
+            text,
+            subject,
+            0,
+            part_finding(Rule::V10, Part::Other),
+            Told::NoConfiguration,
+        )?;
     }
-    put_told(text, subject, 0, part_finding(Rule::V11, Part::Other), Told::Qualifier)
+    put_told(
+        text,
+        subject,
+        0,
+        part_finding(Rule::V11, Part::Other),
+        Told::Qualifier,
+    )
 }
 
 impl SetStanding {
@@ -145,7 +171,12 @@ impl SetStanding {
     }
 
     #[tactic(auto, unfolding(crate::specs::Findings::set_findings_text))]
-    fn put_set_findings(&self, text: &mut Text, subject: &Subject, d: &[u8]) -> Result<(), AllocError>
+    fn put_set_findings(
+        &self,
+        text: &mut Text,
+        subject: &Subject,
+        d: &[u8],
+    ) -> Result<(), AllocError>
         ensures { OnOk result (text.new ≡ text.old ++ set_findings_text subject.now self.now d.now) }
     {
         let counted = Told::InterfaceCount {
@@ -153,8 +184,20 @@ impl SetStanding {
             found: self.interfaces,
         };
         put_told(text, subject, 1, self.finding(Rule::V1, 0, 0), counted)?;
-        put_told(text, subject, 1, self.finding(Rule::V2, 0, 0), Told::NumberGap)?;
-        put_told(text, subject, 1, self.finding(Rule::V9, 0, 0), Told::Attributes)?;
+        put_told(
+            text,
+            subject,
+            1,
+            self.finding(Rule::V2, 0, 0),
+            Told::NumberGap,
+        )?;
+        put_told(
+            text,
+            subject,
+            1,
+            self.finding(Rule::V9, 0, 0),
+            Told::Attributes,
+        )?;
         put_told(text, subject, 1, self.finding(Rule::V10, 0, 0), Told::Value)
     }
 
@@ -163,7 +206,13 @@ impl SetStanding {
         ensures { OnOk result (text.new ≡ text.old ++ association_findings subject.now self.now) }
     {
         let depth = below(self.owner);
-        put_told(text, subject, depth, self.finding(Rule::V13, self.associations, 0), Told::Interfaces)
+        put_told(
+            text,
+            subject,
+            depth,
+            self.finding(Rule::V13, self.associations, 0),
+            Told::Interfaces,
+        )
     }
 
     #[tactic(auto, unfolding(crate::specs::Findings::interface_findings))]
@@ -177,8 +226,20 @@ impl SetStanding {
         ensures { OnOk result (text.new ≡ text.old ++ interface_findings subject.now self.now d.now behind.now) }
     {
         let number = self.settings;
-        put_told(text, subject, 2, self.finding(Rule::V3, number, 0), Told::RepeatedSetting)?;
-        put_told(text, subject, 2, self.finding(Rule::V4, number, 0), Told::NoDefaultSetting)?;
+        put_told(
+            text,
+            subject,
+            2,
+            self.finding(Rule::V3, number, 0),
+            Told::RepeatedSetting,
+        )?;
+        put_told(
+            text,
+            subject,
+            2,
+            self.finding(Rule::V4, number, 0),
+            Told::NoDefaultSetting,
+        )?;
         put_endpoint_count(text, subject, self.finding(Rule::V5, number, 0), d, behind)
     }
 
@@ -201,9 +262,33 @@ impl SetStanding {
         ensures { OnOk result (text.new ≡ text.old ++ setting_findings subject.now self.now setting) }
     {
         let (number, endpoint) = (setting.number, setting.endpoints);
-        put_told(text, subject, 3, self.finding(Rule::V6, number, endpoint), Told::Address)?;
-        put_told(text, subject, 3, self.finding(Rule::V7, number, endpoint), Told::RepeatedAddress)?;
-        put_told(text, subject, 3, self.finding(Rule::V8, number, endpoint), Told::SharedAddress)?;
-        put_told(text, subject, 3, self.finding(Rule::V12, number, endpoint), Told::PacketSize)
+        put_told(
+            text,
+            subject,
+            3,
+            self.finding(Rule::V6, number, endpoint),
+            Told::Address,
+        )?;
+        put_told(
+            text,
+            subject,
+            3,
+            self.finding(Rule::V7, number, endpoint),
+            Told::RepeatedAddress,
+        )?;
+        put_told(
+            text,
+            subject,
+            3,
+            self.finding(Rule::V8, number, endpoint),
+            Told::SharedAddress,
+        )?;
+        put_told(
+            text,
+            subject,
+            3,
+            self.finding(Rule::V12, number, endpoint),
+            Told::PacketSize,
+        )
     }
 }

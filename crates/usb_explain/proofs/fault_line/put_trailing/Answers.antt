@@ -11,6 +11,6 @@ returns c =
     let one : c.put.new.self ≡ c.args.text.now ++ codes "trailing bytes at " = c.in_ok-put.ensures in
     let two : c.put_decimal.new.self ≡ c.put.new.self ++ decimal c.args.at = c.in_ok-put_decimal.ensures in
     on_ok_weaker c.put-2.result
-        (λ (three : c.put-2.new.self ≡ c.put_decimal.new.self ++ codes ": bytes after the set"). three
-            ∙ ap (λ l. l ++ codes ": bytes after the set") (two ∙ ap (λ l. l ++ decimal c.args.at) one)
-            ∙ three_put c.args.text.now (codes "trailing bytes at ") (decimal c.args.at) (codes ": bytes after the set")) c.put-2.ensures
+    (λ (three : c.put-2.new.self ≡ c.put_decimal.new.self ++ codes ": bytes after the set"). three
+    ∙ ap (λ l. l ++ codes ": bytes after the set") (two ∙ ap (λ l. l ++ decimal c.args.at) one)
+    ∙ three_put c.args.text.now (codes "trailing bytes at ") (decimal c.args.at) (codes ": bytes after the set")) c.put-2.ensures

@@ -28,15 +28,15 @@ pub returns-in_err-put_block-clause-err : goal.returns-in_err-put_block-clause-e
 returns-in_err-put_block-clause-err g c =
     let found : next_role c.loop-role.standing c.loop-role.ahead.now ≡ Some (c.in-Some.role, c.in-Some.length) = sym c.next_role.ensures.next ∙ c.in-Some.is in
     on_err _ (walks_stopped c.args.subject.now c.args.bytes.now c.loop-role.standing c.loop-role.ahead.now _ _ _ c.args.text.now c.loop-role.text (c.in-Some.role, c.in-Some.length)
-        c.loop-role.invariant found c.in-Some.ensures.least c.in-Some.ensures.most (block_unwritten c.args.subject.now c.loop-role.standing c.loop-role.ahead.now _ c.loop-role.text (c.in-Some.role, c.in-Some.length)))
+    c.loop-role.invariant found c.in-Some.ensures.least c.in-Some.ensures.most (block_unwritten c.args.subject.now c.loop-role.standing c.loop-role.ahead.now _ c.loop-role.text (c.in-Some.role, c.in-Some.length)))
 
 pub returns-in_err-pass_on-clause-err : goal.returns-in_err-pass_on-clause-err
 returns-in_err-pass_on-clause-err g c =
     let found : next_role c.loop-role.standing c.loop-role.ahead.now ≡ Some (c.in-Some.role, c.in-Some.length) = sym c.next_role.ensures.next ∙ c.in-Some.is in
     let put : c.put_block.new.text ≡ c.loop-role.text ++ next_block c.args.subject.now c.loop-role.standing c.loop-role.ahead.now (c.in-Some.role, c.in-Some.length) =
-        rw (sym c.front-d.ensures, sym c.behind.ensures, sym c.enter.ensures) c.in_ok-put_block.ensures in
+    rw (sym c.front-d.ensures, sym c.behind.ensures, sym c.enter.ensures) c.in_ok-put_block.ensures in
     on_err _ (walks_stopped c.args.subject.now c.args.bytes.now c.loop-role.standing c.loop-role.ahead.now _ _ _ c.args.text.now c.loop-role.text (c.in-Some.role, c.in-Some.length)
-        c.loop-role.invariant found c.in-Some.ensures.least c.in-Some.ensures.most (block_broken _ _ c.loop-role.text c.put_block.new.text _ put c.in_err-pass_on.ensures.err))
+    c.loop-role.invariant found c.in-Some.ensures.least c.in-Some.ensures.most (block_broken _ _ c.loop-role.text c.put_block.new.text _ put c.in_err-pass_on.ensures.err))
 
 pub pass-requires-clause-counted : goal.pass-requires-clause-counted
 pass-requires-clause-counted g c =
@@ -52,9 +52,9 @@ pub loop-role-preserved : goal.loop-role-preserved
 loop-role-preserved g c =
     let found : next_role c.loop-role.standing c.loop-role.ahead.now ≡ Some (c.in-Some.role, c.in-Some.length) = sym c.next_role.ensures.next ∙ c.in-Some.is in
     let put : c.put_block.new.text ≡ c.loop-role.text ++ next_block c.args.subject.now c.loop-role.standing c.loop-role.ahead.now (c.in-Some.role, c.in-Some.length) =
-        rw (sym c.front-d.ensures, sym c.behind.ensures, sym c.enter.ensures) c.in_ok-put_block.ensures in
+    rw (sym c.front-d.ensures, sym c.behind.ensures, sym c.enter.ensures) c.in_ok-put_block.ensures in
     let onward = walks_next c.args.subject.now c.args.bytes.now c.loop-role.standing c.loop-role.ahead.now _ _ _ c.args.text.now c.loop-role.text c.put_block.new.text c.pass_on.new.text (c.in-Some.role, c.in-Some.length)
-        c.loop-role.invariant found c.in-Some.ensures.least c.in-Some.ensures.most put c.in_ok-pass_on.ensures.ok in
+    c.loop-role.invariant found c.in-Some.ensures.least c.in-Some.ensures.most put c.in_ok-pass_on.ensures.ok in
     rw (c.behind-ahead.ensures, c.pass.ensures, c.enter.ensures, c.front-d.ensures) onward
 
 pub returns-clause-ok : goal.returns-clause-ok
