@@ -1,0 +1,4 @@
+pub mod Standings
+pub mod Walking
+pub mod Endings
+pub mod Keys

@@ -1,0 +1,11 @@
+pub mod Subjects
+pub mod Standings
+pub mod Roles
+pub mod Opening
+pub mod Kinds
+pub mod Findings
+pub mod Passing
+pub mod Walks
+pub mod Faults
+pub mod Explanations
+pub mod inside

@@ -1,4 +1,7 @@
 //! The lines of one descriptor.
+ghost use Rattle.std.specs.Prelude.{◌≡◌, ◌++◌, OnOk};
+ghost use Rattle.usb_explain.specs.Walks.{block};
+
 use crate::role::Role;
 use crate::standing::Standing;
 use crate::subject::Subject;
@@ -8,6 +11,7 @@ use usb_words::Text;
 
 impl Standing {
     /// Puts the lines of a descriptor of this role: its heading, its findings and its fields.
+    #[tactic(auto, unfolding(crate::specs::Walks::block))]
     pub(crate) fn put_block(
         &self,
         text: &mut Text,
@@ -15,7 +19,9 @@ impl Standing {
         role: Role,
         d: &[u8],
         behind: &[u8],
-    ) -> Result<(), AllocError> {
+    ) -> Result<(), AllocError>
+        ensures { OnOk result (text.new ≡ text.old ++ block subject.now self.now role d.now behind.now) }
+    {
         let kind = self.kind(subject, role, d);
         let depth = self.depth(role);
         let look = subject.manner().look;

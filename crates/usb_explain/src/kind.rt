@@ -1,6 +1,9 @@
 //! What the words of a descriptor depend on where it stands.
+ghost use Rattle.std.specs.Prelude.{◌≡◌};
+ghost use Rattle.usb_explain.specs.Kinds.{below, codes_of, depth_of, is_audio, is_super, kind_of};
+
 use crate::role::Role;
-use crate::standing::Standing;
+use crate::standing::{Owner, SettingStanding, Standing};
 use crate::subject::Subject;
 use usb_explained_lines::Kind;
 use usb_names::ClassCodes;
@@ -11,7 +14,10 @@ const AUDIO: u8 = 1;
 
 impl Standing {
     /// The kind of a descriptor of this role.
-    pub(crate) fn kind(&self, subject: &Subject, role: Role, d: &[u8]) -> Kind {
+    #[tactic(auto, unfolding(crate::specs::Kinds::kind_of))]
+    pub(crate) fn kind(&self, subject: &Subject, role: Role, d: &[u8]) -> Kind
+        ensures { result ≡ kind_of subject.now self.now role d.now }
+    {
         match role {
             Role::Device => Kind::Device {
                 exponent: is_super(subject.manner().speed, word_at(d, 2)),
@@ -28,10 +34,10 @@ impl Standing {
             },
             Role::Endpoint => Kind::Endpoint {
                 speed: self.set.speed,
-                audio: self.is_audio(),
+                audio: is_audio(self.set.setting),
             },
             Role::Raw => Kind::Raw {
-                interface: self.codes(),
+                interface: codes_of(self.set.setting),
             },
             Role::Languages => Kind::Languages,
             Role::Text => Kind::Text {
@@ -41,38 +47,58 @@ impl Standing {
     }
 
     /// The depth of its heading.
-    pub(crate) fn depth(&self, role: Role) -> u8 {
+    #[tactic(auto, unfolding(crate::specs::Kinds::depth_of))]
+    pub(crate) fn depth(&self, role: Role) -> u8
+        ensures { result ≡ depth_of self.now role }
+    {
         match role {
+            Role::Device => 0,
+            Role::Qualifier => 0,
             Role::Configuration => 1,
+            Role::Association => below(self.set.owner),
             Role::Interface => 2,
             Role::Endpoint => 3,
-            Role::Association | Role::Raw => self.below_owner(),
-            _ => 0,
-        }
-    }
-
-    fn below_owner(&self) -> u8 {
-        self.set.owner.saturating_add(1)
-    }
-
-    /// What the interface is, behind which it stands.
-    fn codes(&self) -> Option<ClassCodes> {
-        match self.set.setting {
-            None => None,
-            Some(setting) => Some(setting.codes),
-        }
-    }
-
-    fn is_audio(&self) -> bool {
-        match self.set.setting {
-            None => false,
-            Some(setting) => setting.codes.class == AUDIO,
+            Role::Raw => below(self.set.owner),
+            Role::Languages => 0,
+            Role::Text => 0,
         }
     }
 }
 
+/// The depth of what belongs to a descriptor.
+pub(crate) fn below(owner: Owner) -> u8
+    ensures { result ≡ below owner }
+{
+    match owner {
+        Owner::Configuration => 2,
+        Owner::Interface => 3,
+        Owner::Endpoint => 4,
+    }
+}
+
+/// What the interface is, behind which a descriptor stands.
+fn codes_of(setting: Option<SettingStanding>) -> Option<ClassCodes>
+    ensures { result ≡ codes_of setting }
+{
+    match setting {
+        None => None,
+        Some(setting) => Some(setting.codes),
+    }
+}
+
+fn is_audio(setting: Option<SettingStanding>) -> bool
+    ensures { result ≡ is_audio setting }
+{
+    match setting {
+        None => false,
+        Some(setting) => setting.codes.class == AUDIO,
+    }
+}
+
 /// Whether a device of this bcdUSB is one of SuperSpeed.
-fn is_super(running: Option<RunningSpeed>, usb: u16) -> bool {
+fn is_super(running: Option<RunningSpeed>, usb: u16) -> bool
+    ensures { result ≡ is_super running usb }
+{
     match running {
         None => usb >= 0x0300,
         Some(RunningSpeed::Super) => true,

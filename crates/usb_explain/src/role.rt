@@ -1,10 +1,13 @@
 //! What a descriptor is where it stands.
+ghost use Rattle.std.specs.Prelude.{◌≡◌, length};
+ghost use Rattle.usb_explain.specs.Roles.{inner_role, outer_role, role_if, role_of, string_role, typed_role};
+
 use crate::standing::Standing;
 use usb_base::{descriptor_length, descriptor_type};
 use usb_survey::{byte_at, word_at};
 
 /// What a descriptor is where it stands.
-#[derive(Clone, Copy, Debug, PartialEq, Eq)]
+#[derive(Clone, Copy)]
 pub(crate) enum Role {
     Device,
     Qualifier,
@@ -19,7 +22,10 @@ pub(crate) enum Role {
 
 impl Standing {
     /// What the descriptor is, where it can stand here.
-    pub(crate) fn role(&self, d: &[u8]) -> Option<Role> {
+    #[tactic(auto, unfolding(crate::specs::Roles::role_of))]
+    pub(crate) fn role(&self, d: &[u8]) -> Option<Role>
+        ensures { result ≡ role_of self.now d.now }
+    {
         if self.left == 0 {
             self.outer_role(d)
         } else if d.len() <= self.left {
@@ -29,11 +35,17 @@ impl Standing {
         }
     }
 
-    fn outer_role(&self, d: &[u8]) -> Option<Role> {
+    #[tactic(auto, unfolding(crate::specs::Roles::outer_role))]
+    fn outer_role(&self, d: &[u8]) -> Option<Role>
+        ensures { result ≡ outer_role self.now d.now }
+    {
         let length = d.len();
         match byte_at(d, 1) {
             descriptor_type::DEVICE => {
-                role_if(self.at == 0 && length == usize::from(descriptor_length::DEVICE), Role::Device)
+                role_if(
+                    self.at == 0 && length == usize::from(descriptor_length::DEVICE),
+                    Role::Device,
+                )
             }
             descriptor_type::DEVICE_QUALIFIER => role_if(
                 self.device.is_some() && length == usize::from(descriptor_length::DEVICE_QUALIFIER),
@@ -44,20 +56,15 @@ impl Standing {
                     && length <= usize::from(word_at(d, 2)),
                 Role::Configuration,
             ),
-            descriptor_type::STRING => self.string_role(length),
+            descriptor_type::STRING => string_role(self.has_languages, length),
             _ => None,
         }
     }
 
-    fn string_role(&self, length: usize) -> Option<Role> {
-        if self.has_languages {
-            role_if(length % 2 == 0, Role::Text)
-        } else {
-            role_if(length % 2 == 0 && length >= 4, Role::Languages)
-        }
-    }
-
-    fn inner_role(&self, d: &[u8]) -> Option<Role> {
+    #[tactic(auto, unfolding(crate::specs::Roles::inner_role))]
+    fn inner_role(&self, d: &[u8]) -> Option<Role>
+        ensures { result ≡ inner_role self.now d.now }
+    {
         let length = d.len();
         match byte_at(d, 1) {
             descriptor_type::CONFIGURATION | descriptor_type::OTHER_SPEED_CONFIGURATION => None,
@@ -78,11 +85,25 @@ impl Standing {
     }
 }
 
-fn role_if(holds: bool, role: Role) -> Option<Role> {
+fn string_role(has_languages: bool, length: usize) -> Option<Role>
+    ensures { result ≡ string_role has_languages length }
+{
+    if has_languages {
+        role_if(length % 2 == 0, Role::Text)
+    } else {
+        role_if(length % 2 == 0 && length >= 4, Role::Languages)
+    }
+}
+
+fn role_if(holds: bool, role: Role) -> Option<Role>
+    ensures { result ≡ role_if holds role }
+{
     if holds { Some(role) } else { None }
 }
 
 /// The role of a descriptor of a type that has one, or that of any other.
-fn typed_role(holds: bool, role: Role) -> Role {
+fn typed_role(holds: bool, role: Role) -> Role
+    ensures { result ≡ typed_role holds role }
+{
     if holds { role } else { Role::Raw }
 }

@@ -1,4 +1,8 @@
 //! Where a descriptor stands in the input.
+ghost use Rattle.std.specs.Prelude.{◌≡◌};
+ghost use Rattle.usb_explain.specs.Standings.{before_sets, start};
+ghost use Rattle.usb_explain.specs.inside.Walking.{Counted};
+
 use usb_names::ClassCodes;
 use usb_rules::Part;
 use usb_survey::Bindings;
@@ -55,8 +59,8 @@ pub(crate) struct SetStanding {
     pub(crate) settings: usize,
     /// The last one of them.
     pub(crate) setting: Option<SettingStanding>,
-    /// The depth of the configuration, the interface or the endpoint that came last.
-    pub(crate) owner: u8,
+    /// What came last of what owns other descriptors.
+    pub(crate) owner: Owner,
 }
 
 /// The setting behind whose interface descriptor a descriptor stands.
@@ -70,9 +74,21 @@ pub(crate) struct SettingStanding {
     pub(crate) codes: ClassCodes,
 }
 
+/// What owns a descriptor that owns none itself.
+#[derive(Clone, Copy)]
+pub(crate) enum Owner {
+    Configuration,
+    Interface,
+    Endpoint,
+}
+
 impl Standing {
     /// At the first byte of an input.
-    pub(crate) fn start() -> Standing {
+    #[tactic(auto, unfolding(crate::specs::Standings::before_sets, crate::specs::Standings::start))]
+    pub(crate) fn start() -> Standing
+        ensures start { result ≡ start }
+        ensures counted { Counted result }
+    {
         Standing {
             at: 0,
             device: None,
@@ -91,7 +107,7 @@ impl Standing {
                 associations: 0,
                 settings: 0,
                 setting: None,
-                owner: 1,
+                owner: Owner::Configuration,
             },
         }
     }

@@ -1,10 +1,18 @@
 //! What is explained.
+ghost use Rattle.std.specs.Prelude.{◌≡◌, [], false, IfOk};
+ghost use Rattle.usb_file_data.specs.Named.{named_indices};
+ghost use Rattle.usb_explained_lines.specs.Names.{names_of, no_names};
+ghost use Rattle.usb_explained_lines.specs.declared.names.Missing.TheVariants.{NotInInput};
+ghost use Rattle.usb_explain.specs.Kinds.{place_of};
+ghost use Rattle.usb_explain.specs.Subjects.{broken_subject, findings_of, is_among, subject_with};
+
 use crate::found::Found;
 use crate::manner::Manner;
 use crate::places::string_place;
 use std::alloc::{AllocError, Global};
+use std::marker::Model;
 use usb_explained_lines::{Missing, Names, StringPlace};
-use usb_file::{Input, InputFault};
+use usb_file::Input;
 use usb_file_data::{DescriptorFile, Strings, named};
 use usb_rules::{Finding, check, check_dump, check_set};
 
@@ -22,40 +30,77 @@ pub(crate) struct Subject<'i> {
     /// The indices that are named.
     named: Vec<u8>,
     /// What breaks a rule.
-    found: Found,
+    found: Found<'i>,
+}
+
+impl<'i> Model for Subject<'i> {
+    ghost use Rattle.std.specs.Prelude.{option_map};
+    ghost use Rattle.usb_explain.specs.Subjects.{Subject as Seen};
+
+    ghost Value = { Seen };
+
+    ghost view = { λ s. record { manner = s.manner; is_dump = s.is_dump; names = s.names; strings = option_map (λ strings. strings.now) s.strings; named = s.named.items; found = s.found } };
 }
 
 impl<'i> Subject<'i> {
-    /// An input.
+    /// An input, and what breaks a rule in it.
     pub(crate) fn of(
         alloc: Global,
         manner: Manner,
         input: &'i Input,
-        findings: &[Finding],
-    ) -> Result<Subject<'i>, AllocError> {
+        findings: &'i [Finding],
+    ) -> Result<Subject<'i>, AllocError>
+        ensures { IfOk result (λ subject. subject ≡ subject_with manner input.now findings.now) }
+    {
         let found = Found::of(alloc, findings)?;
         match input {
-            Input::File(file) => Ok(Subject {
-                manner,
-                is_dump: false,
-                names: Names::of(alloc, file)?,
-                strings: file.strings.as_ref(),
-                named: named(alloc, file)?,
-                found,
-            }),
-            _ => Ok(Subject {
-                manner,
-                is_dump: matches!(input, Input::Dump(_)),
-                names: Names::none(alloc, Missing::NotInInput),
-                strings: None,
-                named: Vec::new(alloc),
-                found,
-            }),
+            Input::Set(_) => Ok(Subject::without_strings(alloc, manner, false, found)),
+            Input::File(file) => Subject::of_file(alloc, manner, file, found),
+            Input::Dump(_) => Ok(Subject::without_strings(alloc, manner, true, found)),
         }
     }
 
+    /// An input without strings.
+    fn without_strings(
+        alloc: Global,
+        manner: Manner,
+        is_dump: bool,
+        found: Found<'i>,
+    ) -> Subject<'i>
+        ensures { result ≡ record { manner = manner; is_dump = is_dump; names = no_names NotInInput; strings = None; named = []; found = found.entry } }
+    {
+        Subject {
+            manner,
+            is_dump,
+            names: Names::none(alloc, Missing::NotInInput),
+            strings: None,
+            named: Vec::new(alloc),
+            found,
+        }
+    }
+
+    fn of_file(
+        alloc: Global,
+        manner: Manner,
+        file: &'i DescriptorFile,
+        found: Found<'i>,
+    ) -> Result<Subject<'i>, AllocError>
+        ensures { IfOk result (λ subject. subject ≡ record { manner = manner; is_dump = false; names = names_of file.now; strings = file.now.strings; named = named_indices file.now; found = found.entry }) }
+    {
+        Ok(Subject {
+            manner,
+            is_dump: false,
+            names: Names::of(alloc, file)?,
+            strings: file.strings.as_ref(),
+            named: named(alloc, file)?,
+            found,
+        })
+    }
+
     /// Bytes that are no input.
-    pub(crate) fn broken(alloc: Global, manner: Manner) -> Result<Subject<'i>, AllocError> {
+    pub(crate) fn broken(alloc: Global, manner: Manner) -> Result<Subject<'i>, AllocError>
+        ensures { IfOk result (λ subject. subject ≡ broken_subject manner) }
+    {
         Ok(Subject {
             manner,
             is_dump: false,
@@ -66,31 +111,46 @@ impl<'i> Subject<'i> {
         })
     }
 
-    pub(crate) fn manner(&self) -> Manner {
+    pub(crate) fn manner(&self) -> Manner
+        ensures { result ≡ self.now.manner }
+    {
         self.manner
     }
 
-    pub(crate) fn is_dump(&self) -> bool {
+    pub(crate) fn is_dump(&self) -> bool
+        ensures { result ≡ self.now.is_dump }
+    {
         self.is_dump
     }
 
-    pub(crate) fn names(&self) -> &Names<'i> {
+    pub(crate) fn names(&self) -> &Names<'i>
+        ensures { result.now ≡ self.now.names }
+    {
         &self.names
     }
 
     /// Whether this finding is among those of the input.
-    pub(crate) fn has(&self, finding: Finding) -> bool {
+    pub(crate) fn has(&self, finding: Finding) -> bool
+        ensures { result ≡ is_among self.now.found finding }
+    {
         self.found.has(finding)
     }
 
     /// Where the string of this number stands among those of a file.
-    pub(crate) fn place(&self, number: usize) -> Option<StringPlace> {
-        string_place(&self.strings, &self.named, number)
+    pub(crate) fn place(&self, number: usize) -> Option<StringPlace>
+        ensures { result ≡ place_of self.now number }
+    {
+        match self.strings {
+            None => None,
+            Some(strings) => string_place(strings, &self.named, number),
+        }
     }
 }
 
 /// What breaks a rule in an input.
-pub(crate) fn findings_of(alloc: Global, input: &Input) -> Result<Vec<Finding>, AllocError> {
+pub(crate) fn findings_of(alloc: Global, input: &Input) -> Result<Vec<Finding>, AllocError>
+    ensures { IfOk result (λ findings. findings.items ≡ findings_of input.now) }
+{
     match input {
         Input::Set(set) => check_set(alloc, set),
         Input::File(file) => check(alloc, file),

@@ -1,11 +1,20 @@
 //! The lines of all descriptors, one after another.
+ghost use Rattle.std.specs.Prelude.{◌≡◌, ◌≤◌, ◌++◌, ℕ, List, [], length, IfOk, IfSome, OnErr, OnOk};
+ghost use Rattle.usb_listing.specs.Output.{AppendsLess};
+ghost use Rattle.usb_listing.specs.inside.Pages.{Puts};
+ghost use Rattle.usb_explain.specs.Opening.{entered};
+ghost use Rattle.usb_explain.specs.Roles.{next_role};
+ghost use Rattle.usb_explain.specs.Standings.{start};
+ghost use Rattle.usb_explain.specs.Walks.{walked};
+ghost use Rattle.usb_explain.specs.inside.Walking.{PutsWalk};
+
 use crate::role::Role;
 use crate::standing::Standing;
 use crate::subject::Subject;
 use std::alloc::{AllocError, Global};
 use std::io::Write;
 use usb_listing::{OutFault, write_all};
-use usb_survey::descriptor_length;
+use usb_survey::{behind, descriptor_length, front};
 use usb_words::Text;
 
 /// A text of so many bytes is passed on to the writer.
@@ -18,44 +27,56 @@ pub(crate) fn write_blocks<W: Write>(
     subject: &Subject,
     bytes: &[u8],
     w: &mut W,
-) -> Result<usize, OutFault> {
+) -> Result<usize, OutFault>
+    ensures ok { IfOk result (PutsWalk subject.now bytes.now (W.contents w.old) (W.contents w.new) text.old text.new) }
+    ensures err { OnErr result ((ending : ℕ → List ℕ) → AppendsLess (W.contents w.old) (W.contents w.new) (text.old ++ walked (length bytes.now) subject.now ending start bytes.now)) }
+{
     let mut standing = Standing::start();
     let mut ahead = bytes;
-    while let Some((role, length)) = standing.next(ahead) {
-        standing.put_next(text, subject, role, length, ahead)?;
+    while let Some((role, length)) = standing.next_role(ahead) {
+        standing.enter(role, subject, ahead);
+        let d = front(ahead, length);
+        standing.put_block(text, subject, role, d, behind(ahead, length))?;
         pass_on(alloc, text, w)?;
-        standing.pass(role, &ahead[..length]);
-        ahead = &ahead[length..];
+        standing.pass(role, d);
+        ahead = behind(ahead, length);
     }
     Ok(standing.at)
 }
 
 impl Standing {
     /// What the descriptor is with which the bytes begin, and how long it is, where it can stand here.
-    fn next(&self, ahead: &[u8]) -> Option<(Role, usize)> {
-        let length = descriptor_length(ahead)?;
-        let role = self.role(&ahead[..length])?;
-        Some((role, length))
+    #[tactic(auto, unfolding(crate::specs::Roles::next_role))]
+    fn next_role(&self, ahead: &[u8]) -> Option<(Role, usize)>
+        ensures next { result ≡ next_role self.now ahead.now }
+        ensures least { IfSome result (λ next. 2 ≤ next.1) }
+        ensures most { IfSome result (λ next. next.1 ≤ length ahead.now) }
+    {
+        match descriptor_length(ahead) {
+            None => None,
+            Some(length) => match self.role(front(ahead, length)) {
+                None => None,
+                Some(role) => Some((role, length)),
+            },
+        }
     }
 
-    /// Puts the lines of that descriptor.
-    fn put_next(
-        &mut self,
-        text: &mut Text,
-        subject: &Subject,
-        role: Role,
-        length: usize,
-        ahead: &[u8],
-    ) -> Result<(), AllocError> {
-        if role == Role::Configuration {
-            self.open_set(subject.manner().speed, ahead);
+    /// Opens the set that a descriptor begins.
+    fn enter(&mut self, role: Role, subject: &Subject, ahead: &[u8])
+        ensures { self.new ≡ entered role subject.now.manner.speed ahead.now self.old }
+    {
+        match role {
+            Role::Configuration => self.open_set(subject.manner().speed, ahead),
+            _ => {}
         }
-        self.put_block(text, subject, role, &ahead[..length], &ahead[length..])
     }
 }
 
 /// Writes the text and empties it, where it is full.
-fn pass_on<W: Write>(alloc: Global, text: &mut Text, w: &mut W) -> Result<(), OutFault> {
+fn pass_on<W: Write>(alloc: Global, text: &mut Text, w: &mut W) -> Result<(), OutFault>
+    ensures ok { OnOk result (Puts (W.contents w.old) (W.contents w.new) text.old text.new []) }
+    ensures err { OnErr result (AppendsLess (W.contents w.old) (W.contents w.new) text.old) }
+{
     if text.as_bytes().len() >= FULL {
         write_all(w, text.as_bytes())?;
         *text = Text::new(alloc);

@@ -21,5 +21,5 @@ unfoldable pub survey_of : List (List ℕ) → Survey
 survey_of ds = record {
   spoken = spoken_speed (list_any speaks_high ds) (list_any speaks_low_or_full ds);
   interfaces = interfaces_beyond unmarked ds;
-  bindings = bindings ds
+  bindings = bindings ds;
 }

@@ -1,5 +1,5 @@
 //! Which association binds each interface.
-ghost use Rattle.std.specs.Prelude.{◌≡◌, ◌<◌, ℕ, None, Some, if◌then◌else◌, replicate, slice_index_or};
+ghost use Rattle.std.specs.Prelude.{◌≡◌, ◌<◌, ℕ, length, None, Some, if◌then◌else◌, replicate, slice_index_or};
 ghost use Rattle.usb_survey.specs.Bindings.{binds};
 ghost use Rattle.usb_survey.specs.inside.Gathered.{bound_at, or_else};
 
@@ -42,7 +42,8 @@ impl Bindings {
 
     /// Binds those of so many numbers that no earlier association binds.
     pub(crate) fn bind(&mut self, association: u64, first: u8, count: u8)
-        ensures { (n : ℕ) → n < 256 → bound_at self.new n ≡ or_else (bound_at self.old n) (if binds first count n then Some association else None) }
+        ensures cells { length self.new ≡ 256 }
+        ensures bound { (n : ℕ) → n < 256 → bound_at self.new n ≡ or_else (bound_at self.old n) (if binds first count n then Some association else None) }
     {
         let end = (usize::from(first) + usize::from(count)).min(256);
         for number in usize::from(first)..end {

@@ -3,7 +3,7 @@ ghost use Rattle.std.specs.Prelude.{◌≡◌};
 ghost use Rattle.usb_survey.specs.Cut.{descriptors};
 ghost use Rattle.usb_survey.specs.Counts.{endpoints_before_interface};
 
-use crate::cut::descriptor_length;
+use crate::cut::{behind, descriptor_length, front};
 use crate::kinds::{is_endpoint, is_interface};
 
 /// How many endpoints stand before the next interface, where these are the bytes of a set behind an interface.
@@ -11,18 +11,18 @@ use crate::kinds::{is_endpoint, is_interface};
 /// ```rust
 /// assert_eq!(rt; endpoint_count(&[7, 5, 0x81, 2, 64, 0, 0, 9, 4, 1, 0, 0, 255, 0, 0, 0]), 1);
 /// ```
-pub fn endpoint_count(behind: &[u8]) -> u64
-    ensures { result ≡ endpoints_before_interface (descriptors behind.now) }
+pub fn endpoint_count(setting: &[u8]) -> u64
+    ensures { result ≡ endpoints_before_interface (descriptors setting.now) }
 {
-    let mut rest = behind;
+    let mut rest = setting;
     let mut count = 0;
     while let Some(length) = descriptor_length(rest) {
-        let d = &rest[..length];
+        let d = front(rest, length);
         if is_interface(d) {
             return count;
         }
         count += u64::from(is_endpoint(d));
-        rest = &rest[length..];
+        rest = behind(rest, length);
     }
     count
 }

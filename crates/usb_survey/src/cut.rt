@@ -1,5 +1,5 @@
 //! Descriptors one after another, each as long as its first byte says.
-ghost use Rattle.std.specs.Prelude.{◌≡◌, ◌≤◌, length, slice_index, IfSome};
+ghost use Rattle.std.specs.Prelude.{◌≡◌, ◌≤◌, drop, length, slice_index, take, IfSome};
 ghost use Rattle.usb_base.specs.Bytes.{little_endian_at};
 ghost use Rattle.usb_survey.specs.Cut.{descriptor_length};
 
@@ -25,6 +25,20 @@ pub fn descriptor_length(b: &[u8]) -> Option<usize>
             }
         }
     }
+}
+
+/// At most so many of the bytes, from the first on.
+pub fn front(b: &[u8], count: usize) -> &[u8]
+    ensures { result.now ≡ take count b.now }
+{
+    if count < b.len() { &b[..count] } else { b }
+}
+
+/// The bytes behind so many.
+pub fn behind(b: &[u8], count: usize) -> &[u8]
+    ensures { result.now ≡ drop count b.now }
+{
+    if count < b.len() { &b[count..] } else { &[] }
 }
 
 /// The byte at this place of a descriptor, and 0 where it has none.

@@ -1,8 +1,8 @@
 //! What is gathered of a set, descriptor by descriptor.
-ghost use Rattle.std.specs.Prelude.{◌≡◌, ◌<◌, ◌≤◌, ◌+◌, ◌^◌, ◌∷◌, [], ◌||◌, ℕ, List};
-ghost use Rattle.usb_survey.specs.inside.Gathered.{Gathers};
+ghost use Rattle.std.specs.Prelude.{◌≡◌, ◌<◌, ◌≤◌, ◌+◌, ◌^◌, ◌∷◌, [], ◌||◌, ℕ, List, length};
 ghost use Rattle.usb_survey.specs.Speaking.{speaks_high, speaks_low_or_full};
 ghost use Rattle.usb_survey.specs.Surveys.{survey_of};
+ghost use Rattle.usb_survey.specs.inside.Gathered.{BindsOn, CountsOn, Gathers};
 
 use crate::bindings::Bindings;
 use crate::cut::byte_at;
@@ -18,65 +18,59 @@ pub(crate) struct Gathering {
     high: bool,
     /// Whether one spoke for low or full speed.
     low_or_full: bool,
-    /// The interface numbers.
-    numbers: Marks,
-    /// How many these are.
-    interfaces: u64,
-    /// How many associations there were.
-    associations: u64,
-    /// What they bind.
+    /// The interfaces.
+    interfaces: Numbers,
+    /// The associations.
+    associations: Binders,
+}
+
+/// The distinct numbers of interfaces.
+#[derive(Drop)]
+struct Numbers {
+    marks: Marks,
+    count: u64,
+}
+
+/// The associations, and what they bind.
+#[derive(Drop)]
+struct Binders {
     bindings: Bindings,
+    count: u64,
 }
 
 impl Gathering {
     /// Before the first descriptor.
     pub(crate) fn new() -> Gathering
         ensures all { (all : List (List ℕ)) → Gathers all result all }
-        ensures interfaces { result.interfaces ≡ 0 }
-        ensures associations { result.associations ≡ 0 }
+        ensures interfaces { result.interfaces.count ≡ 0 }
+        ensures associations { result.associations.count ≡ 0 }
     {
         Gathering {
             high: false,
             low_or_full: false,
-            numbers: Marks::new(),
-            interfaces: 0,
-            associations: 0,
-            bindings: Bindings::new(),
+            interfaces: Numbers {
+                marks: Marks::new(),
+                count: 0,
+            },
+            associations: Binders {
+                bindings: Bindings::new(),
+                count: 0,
+            },
         }
     }
 
     /// Adds a descriptor.
     pub(crate) fn add(&mut self, d: &[u8])
-        requires interfaces { self.old.interfaces + 1 < 2 ^ 64 }
-        requires associations { self.old.associations + 1 < 2 ^ 64 }
+        requires interfaces { self.old.interfaces.count + 1 < 2 ^ 64 }
+        requires associations { self.old.associations.count + 1 < 2 ^ 64 }
         ensures gathers { (all ds : List (List ℕ)) → Gathers all self.old (d.now ∷ ds) → Gathers all self.new ds }
-        ensures interfaces { self.new.interfaces ≤ self.old.interfaces + 1 }
-        ensures associations { self.new.associations ≤ self.old.associations + 1 }
+        ensures interfaces { self.new.interfaces.count ≤ self.old.interfaces.count + 1 }
+        ensures associations { self.new.associations.count ≤ self.old.associations.count + 1 }
     {
         self.high = self.high || speaks_high(d);
         self.low_or_full = self.low_or_full || speaks_low_or_full(d);
-        if is_interface(d) {
-            self.add_interface(byte_at(d, 2));
-        }
-        if is_association(d) {
-            self.add_association(byte_at(d, 2), byte_at(d, 3));
-        }
-    }
-
-    fn add_interface(&mut self, number: u8)
-        requires { self.old.interfaces + 1 < 2 ^ 64 }
-    {
-        if !self.numbers.has(number) {
-            self.numbers.add(number);
-            self.interfaces += 1;
-        }
-    }
-
-    fn add_association(&mut self, first: u8, count: u8)
-        requires { self.old.associations + 1 < 2 ^ 64 }
-    {
-        self.bindings.bind(self.associations, first, count);
-        self.associations += 1;
+        self.interfaces.add(d);
+        self.associations.add(d);
     }
 
     /// What all descriptors said.
@@ -85,8 +79,38 @@ impl Gathering {
     {
         Survey {
             spoken: spoken_speed(self.high, self.low_or_full),
-            interfaces: self.interfaces,
-            bindings: self.bindings,
+            interfaces: self.interfaces.count,
+            bindings: self.associations.bindings,
+        }
+    }
+}
+
+impl Numbers {
+    /// Adds a descriptor, which counts where it is an interface of a new number.
+    fn add(&mut self, d: &[u8])
+        requires { self.old.count + 1 < 2 ^ 64 }
+        ensures counts { (ds : List (List ℕ)) → CountsOn self.old self.new d.now ds }
+        ensures count { self.new.count ≤ self.old.count + 1 }
+    {
+        let number = byte_at(d, 2);
+        if is_interface(d) && !self.marks.has(number) {
+            self.marks.add(number);
+            self.count += 1;
+        }
+    }
+}
+
+impl Binders {
+    /// Adds a descriptor, which binds interfaces where it is an association.
+    fn add(&mut self, d: &[u8])
+        requires { self.old.count + 1 < 2 ^ 64 }
+        ensures binds { (n : ℕ) → n < 256 → (ds : List (List ℕ)) → BindsOn self.old self.new n d.now ds }
+        ensures cells { length self.old.bindings ≡ 256 → length self.new.bindings ≡ 256 }
+        ensures count { self.new.count ≤ self.old.count + 1 }
+    {
+        if is_association(d) {
+            self.bindings.bind(self.count, byte_at(d, 2), byte_at(d, 3));
+            self.count += 1;
         }
     }
 }

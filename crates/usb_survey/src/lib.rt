@@ -19,6 +19,6 @@ mod survey;
 
 pub use bindings::Bindings;
 pub use counts::endpoint_count;
-pub use cut::{byte_at, descriptor_length, word_at};
+pub use cut::{behind, byte_at, descriptor_length, front, word_at};
 pub use speed::{RunningSpeed, other_speed_at, speed_at, speed_by, speed_of_release};
 pub use survey::Survey;

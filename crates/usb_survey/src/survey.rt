@@ -4,7 +4,7 @@ ghost use Rattle.usb_survey.specs.Cut.{descriptors};
 ghost use Rattle.usb_survey.specs.Surveys.{spoken_speed, survey_of};
 
 use crate::bindings::Bindings;
-use crate::cut::descriptor_length;
+use crate::cut::{behind, descriptor_length, front};
 use crate::gathering::Gathering;
 use usb_words::Speed;
 
@@ -32,8 +32,8 @@ impl Survey {
         let mut gathered = Gathering::new();
         let mut rest = set;
         while let Some(length) = descriptor_length(rest) {
-            gathered.add(&rest[..length]);
-            rest = &rest[length..];
+            gathered.add(front(rest, length));
+            rest = behind(rest, length);
         }
         gathered.survey()
     }

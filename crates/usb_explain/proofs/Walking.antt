@@ -1,0 +1,126 @@
+-- The walk over the descriptors of an input, step by step.
+use Rattle.std.proofs.Common.{◌≡◌, ◌≤◌, ◌<◌, ℕ, zero, suc, ◌+◌, ◌-◌, List, [], ◌∷◌, ◌++◌, codes, length, take, drop, Option, Some, None, unwrap_or, refl, sym, ap, subst, ◌∙◌, arith, append_assoc, append-nil, length-append, length-drop}
+use Rattle.std.proofs.lemmas.List.{length-take-le}
+use Rattle.std.specs.Option.{option_map}
+use Rattle.usb_listing.specs.Output.{AppendsLess, Held}
+use Rattle.usb_listing.specs.inside.Pages.{Puts}
+use Rattle.usb_listing.proofs.Pages.{front_longer, not_begun, puts_after, puts_broken, puts_more}
+use Rattle.usb_listing.proofs.HasBytes.{longer}
+use Rattle.usb_explained_lines.specs.declared.kind.Kind.{Kind}
+use Rattle.usb_explained_lines.specs.declared.look.Look.{Look}
+use Rattle.usb_explained_lines.specs.Kinds.{heading}
+use Rattle.usb_explained_lines.specs.Lines.{heading_line}
+use Rattle.usb_explain.specs.declared.role.Role.{Role}
+use Rattle.usb_explain.specs.declared.standing.Standing.{Standing}
+use Rattle.usb_explain.specs.Passing.{passed}
+use Rattle.usb_explain.specs.Roles.{next_role}
+use Rattle.usb_explain.specs.Standings.{start}
+use Rattle.usb_explain.specs.Subjects.{Subject}
+use Rattle.usb_explain.specs.Walks.{behind_next, block, here, next_block, walked}
+use Rattle.usb_explain.specs.inside.Walking.{Counted, PutsWalk, Walked}
+use Rattle.usb_explain.proofs.Standings.{counted_entered, counted_noted, entered_at, noted_at}
+
+-- where a descriptor can stand, its lines come first
+pub walk_next : (n : ℕ) (subject : Subject) (ending : ℕ → List ℕ) (s : Standing) (ahead : List ℕ) (next : Role × ℕ) → next_role s ahead ≡ Some next
+    → walked (suc n) subject ending s ahead ≡ next_block subject s ahead next ++ walked n subject ending (behind_next subject s ahead next) (drop next.1 ahead)
+unfolding walked
+walk_next n subject ending s ahead next e =
+    ap (λ o. unwrap_or (option_map (λ next. next_block subject s ahead next ++ walked n subject ending (behind_next subject s ahead next) (drop next.1 ahead)) o) (ending s.at)) e
+
+-- where none can, the text ends
+pub walk_end : (n : ℕ) (subject : Subject) (ending : ℕ → List ℕ) (s : Standing) (ahead : List ℕ) → next_role s ahead ≡ None
+    → walked n subject ending s ahead ≡ ending s.at
+unfolding walked
+walk_end zero subject ending s ahead e = refl
+walk_end (suc n) subject ending s ahead e =
+    ap (λ o. unwrap_or (option_map (λ next. next_block subject s ahead next ++ walked n subject ending (behind_next subject s ahead next) (drop next.1 ahead)) o) (ending s.at)) e
+
+-- a heading has bytes
+pub heading_has : (look : Look) (depth : ℕ) (kind : Kind) (b : List ℕ) (at : ℕ) → 0 < length (heading look depth kind b at)
+unfolding heading heading_line
+heading_has look depth kind b at = simp length-append (omega arith)
+
+pub block_has : (subject : Subject) (s : Standing) (role : Role) (d behind : List ℕ) → 0 < length (block subject s role d behind)
+unfolding block
+block_has subject s role d behind = longer _ _ (longer _ _ (heading_has _ _ _ _ _))
+
+-- The walk as far as it came: what was put, and what is left to be put from here on.
+pub record WalksOn (subject : Subject) (bytes : List ℕ) (s : Standing) (ahead : List ℕ) (old new : Held) (page text : List ℕ) : Type 0 where
+  pub done : List ℕ
+  pub fuel : ℕ
+  pub enough : length ahead ≤ fuel
+  pub whole : (ending : ℕ → List ℕ) → walked (length bytes) subject ending start bytes ≡ done ++ walked fuel subject ending s ahead
+  pub puts : Puts old new page text done
+  pub counted : Counted s
+  pub room : s.at + length ahead ≡ length bytes
+
+-- the same with one descriptor more
+pub next_whole : (subject : Subject) (bytes done ahead : List ℕ) (s : Standing) (next : Role × ℕ) (fuel : ℕ) → length ahead ≤ fuel
+    → next_role s ahead ≡ Some next → 2 ≤ next.1 → next.1 ≤ length ahead
+    → ((ending : ℕ → List ℕ) → walked (length bytes) subject ending start bytes ≡ done ++ walked fuel subject ending s ahead)
+    → (n : ℕ) × (length (drop next.1 ahead) ≤ n)
+    × ((ending : ℕ → List ℕ) → walked (length bytes) subject ending start bytes
+    ≡ (done ++ next_block subject s ahead next) ++ walked n subject ending (behind_next subject s ahead next) (drop next.1 ahead))
+next_whole subject bytes done ahead s next zero enough e least most whole = absurd (omega arith)
+next_whole subject bytes done ahead s next (suc n) enough e least most whole =
+    let left : length (drop next.1 ahead) ≡ length ahead - next.1 = length-drop next.1 ahead in (
+      n,
+      omega arith,
+      λ ending. whole ending ∙ ap (λ l. done ++ l) (walk_next n subject ending s ahead next e)
+          ∙ sym (append_assoc done (next_block subject s ahead next) (walked n subject ending (behind_next subject s ahead next) (drop next.1 ahead))),
+    )
+
+pub walks_next : (subject : Subject) (bytes : List ℕ) (s : Standing) (ahead : List ℕ) (old mid new : Held) (page text more rest : List ℕ) (next : Role × ℕ)
+    → WalksOn subject bytes s ahead old mid page text → next_role s ahead ≡ Some next → 2 ≤ next.1 → next.1 ≤ length ahead
+    → more ≡ text ++ next_block subject s ahead next → Puts mid new more rest []
+    → WalksOn subject bytes (behind_next subject s ahead next) (drop next.1 ahead) old new page rest
+walks_next subject bytes s ahead old mid new page text more rest next w e least most put passed_on =
+    let onward = next_whole subject bytes w.done ahead s next w.fuel w.enough e least most w.whole in
+    let here_puts : Puts mid new text rest (next_block subject s ahead next) =
+    subst (λ l. Puts mid new text rest l) (append-nil (next_block subject s ahead next)) (puts_after mid new text more rest (next_block subject s ahead next) [] put passed_on) in
+    let left : length (drop next.1 ahead) ≡ length ahead - next.1 = length-drop next.1 ahead in
+    let taken : length (take next.1 ahead) ≡ next.1 = length-take-le next.1 ahead most in
+    let at_here : (here subject s ahead next).at ≡ s.at = entered_at next.0 subject.manner.speed ahead s in
+    let at_noted = noted_at next.0 (take next.1 ahead) (here subject s ahead next) in
+    record {
+      done = w.done ++ next_block subject s ahead next;
+      fuel = onward.0;
+      enough = onward.1;
+      whole = onward.2;
+      puts = puts_more old mid new page text rest w.done (next_block subject s ahead next) w.puts here_puts;
+      counted = counted_noted next.0 (take next.1 ahead) (length (take next.1 ahead)) (here subject s ahead next) (omega arith) (counted_entered next.0 subject.manner.speed ahead s w.counted);
+      room = omega (arith, at_here, at_noted, left, taken, w.room, most);
+    }
+
+-- the walk stopped where a descriptor can stand, of which nothing or a part was put
+pub walks_stopped : (subject : Subject) (bytes : List ℕ) (s : Standing) (ahead : List ℕ) (old mid new : Held) (page text : List ℕ) (next : Role × ℕ)
+    → WalksOn subject bytes s ahead old mid page text → next_role s ahead ≡ Some next → 2 ≤ next.1 → next.1 ≤ length ahead
+    → ((more : List ℕ) → AppendsLess mid new (text ++ (next_block subject s ahead next ++ more)))
+    → (ending : ℕ → List ℕ) → AppendsLess old new (page ++ walked (length bytes) subject ending start bytes)
+walks_stopped subject bytes s ahead old mid new page text next w e least most less ending =
+    let onward = next_whole subject bytes w.done ahead s next w.fuel w.enough e least most w.whole in
+    let more : List ℕ = walked onward.0 subject ending (behind_next subject s ahead next) (drop next.1 ahead) in
+    let whole : walked (length bytes) subject ending start bytes ≡ w.done ++ (next_block subject s ahead next ++ more) =
+    onward.2 ending ∙ append_assoc w.done (next_block subject s ahead next) more in
+    subst (λ l. AppendsLess old new (page ++ l)) (sym whole) (puts_broken old mid new page text w.done (next_block subject s ahead next ++ more) w.puts (less more))
+
+-- nothing of a descriptor's lines was written
+pub block_unwritten : (subject : Subject) (s : Standing) (ahead : List ℕ) (now : Held) (text : List ℕ) (next : Role × ℕ)
+    → (more : List ℕ) → AppendsLess now now (text ++ (next_block subject s ahead next ++ more))
+block_unwritten subject s ahead now text next more =
+    not_begun now text (next_block subject s ahead next ++ more) (longer _ _ (block_has subject (here subject s ahead next) next.0 (take next.1 ahead) (drop next.1 ahead)))
+
+-- a part of the text with those lines was written
+pub block_broken : (old new : Held) (text put block : List ℕ) → put ≡ text ++ block → AppendsLess old new put
+    → (more : List ℕ) → AppendsLess old new (text ++ (block ++ more))
+block_broken old new text put block e less more =
+    subst (λ l. AppendsLess old new l) (append_assoc text block more) (front_longer old new (text ++ block) more (subst (λ l. AppendsLess old new l) e less))
+
+-- the walk at its end
+pub walks_end : (subject : Subject) (bytes : List ℕ) (s : Standing) (ahead : List ℕ) (old new : Held) (page text : List ℕ)
+    → WalksOn subject bytes s ahead old new page text → next_role s ahead ≡ None → PutsWalk subject bytes old new page text s.at
+walks_end subject bytes s ahead old new page text w e = record {
+  done = w.done;
+  whole = record { whole = λ ending. w.whole ending ∙ ap (λ l. w.done ++ l) (walk_end w.fuel subject ending s ahead e) };
+  puts = w.puts;
+}

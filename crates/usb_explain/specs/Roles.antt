@@ -1,0 +1,52 @@
+-- What a descriptor is where it stands (USB 2.0, table 9-5 and 9.6).
+use Rattle.std.specs.Prelude.{ℕ, ◌%◌, List, length, slice_index, take, Bool, true, false, nat_le, ◌==◌, ◌&&◌, ◌||◌, Option, Some, None, is_some, option_and_then, if◌then◌else◌}
+use Rattle.std.specs.Option.{option_map}
+use Rattle.usb_base.specs.Bytes.{little_endian_at}
+use Rattle.usb_survey.specs.Cut.{descriptor_length}
+use Rattle.usb_explain.specs.declared.role.Role.{Role}
+use Rattle.usb_explain.specs.declared.role.Role.TheVariants.{Device, Qualifier, Configuration, Association, Interface, Endpoint, Raw, Languages, Text}
+use Rattle.usb_explain.specs.declared.standing.Standing.{Standing}
+
+-- this role, if it has what the role asks for
+abbrev pub role_if : Bool → Role → Option Role
+role_if holds role = if holds then Some role else None
+
+-- this role, and else that of a descriptor without one of its own
+abbrev pub typed_role : Bool → Role → Role
+typed_role holds role = if holds then role else Raw
+
+-- a string descriptor: first comes the language list, which has one language at least; then come strings
+abbrev pub string_role : Bool → ℕ → Option Role
+string_role true n = role_if (n % 2 == 0) Text
+string_role false n = role_if ((n % 2 == 0) && nat_le 4 n) Languages
+
+-- outside of a set: the device at the first byte, a qualifier behind it, the first descriptor of a set, and strings
+unfoldable pub outer_role : Standing → List ℕ → Option Role
+outer_role s d =
+    let kind = slice_index d 1 in
+    if kind == 1 then role_if ((s.at == 0) && (length d == 18)) Device
+    else if kind == 6 then role_if (is_some s.device && (length d == 10)) Qualifier
+    else if (kind == 2) || (kind == 7) then role_if (nat_le 9 (length d) && nat_le (length d) (little_endian_at d 2)) Configuration
+    else if kind == 3 then string_role s.has_languages (length d)
+    else None
+
+-- in a set
+unfoldable pub inner_role : Standing → List ℕ → Option Role
+inner_role s d =
+    let kind = slice_index d 1 in
+    if (kind == 2) || (kind == 7) then None
+    else if kind == 4 then Some (typed_role (nat_le 9 (length d)) Interface)
+    else if kind == 5 then Some (typed_role (is_some s.set.setting && nat_le 7 (length d)) Endpoint)
+    else if kind == 11 then Some (typed_role (nat_le 8 (length d)) Association)
+    else Some Raw
+
+-- what a descriptor is here; one that ends behind its set can't stand here
+unfoldable pub role_of : Standing → List ℕ → Option Role
+role_of s d =
+    if s.left == 0 then outer_role s d
+    else if nat_le (length d) s.left then inner_role s d
+    else None
+
+-- the descriptor with which the bytes begin: what it is, and how long
+unfoldable pub next_role : Standing → List ℕ → Option (Role × ℕ)
+next_role s ahead = option_and_then (λ n. option_map (λ role. (role, n)) (role_of s (take n ahead))) (descriptor_length ahead)

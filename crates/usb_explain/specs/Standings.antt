@@ -1,0 +1,36 @@
+-- Where a descriptor stands in an input.
+use Rattle.std.specs.Prelude.{ℕ, ◌≤◌, replicate, false, Option, Some, None, MatchOption}
+use Rattle.usb_rules.specs.declared.finding.Part.TheVariants.{Main}
+use Rattle.usb_words.specs.declared.speed.Speed.TheVariants.{FullOrHigh}
+use Rattle.usb_explain.specs.declared.standing.Owner.TheVariants as owners
+use Rattle.usb_explain.specs.declared.standing.SetStanding.{SetStanding}
+use Rattle.usb_explain.specs.declared.standing.SettingStanding.{SettingStanding}
+use Rattle.usb_explain.specs.declared.standing.Standing.{Standing}
+
+-- in no set yet
+unfoldable pub before_sets : SetStanding
+before_sets = record {
+  part = Main;
+  number = 0;
+  speed = FullOrHigh;
+  interfaces = 0;
+  bindings = replicate 256 None;
+  associations = 0;
+  settings = 0;
+  setting = None;
+  owner = owners.Configuration;
+}
+
+-- at the first byte of an input
+unfoldable pub start : Standing
+start = record {
+  at = 0;
+  device = None;
+  other_packet = None;
+  has_languages = false;
+  strings = 0;
+  main_sets = 0;
+  other_sets = 0;
+  left = 0;
+  set = before_sets;
+}

@@ -1,0 +1,49 @@
+-- The lines of all descriptors of an input, one after another.
+use Rattle.std.specs.Prelude.{ℕ, zero, suc, List, [], ◌∷◌, ◌++◌, length, take, drop, Option, unwrap_or}
+use Rattle.std.specs.Option.{option_map}
+use Rattle.usb_explained_lines.specs.declared.kind.Kind.{Kind}
+use Rattle.usb_explained_lines.specs.declared.kind.Kind.TheVariants as kinds
+use Rattle.usb_explained_lines.specs.Kinds.{fields, heading}
+use Rattle.usb_explain.specs.declared.role.Role.{Role}
+use Rattle.usb_explain.specs.declared.standing.Standing.{Standing}
+use Rattle.usb_explain.specs.Findings.{role_findings}
+use Rattle.usb_explain.specs.Kinds.{depth_of, kind_of}
+use Rattle.usb_explain.specs.Opening.{entered}
+use Rattle.usb_explain.specs.Passing.{passed}
+use Rattle.usb_explain.specs.Roles.{next_role}
+use Rattle.usb_explain.specs.Subjects.{Subject}
+
+-- the lines of a descriptor, with the bytes behind it: its heading, what it breaks, and its fields
+unfoldable pub block : Subject → Standing → Role → List ℕ → List ℕ → List ℕ
+block subject s role d behind =
+    heading subject.manner.look (depth_of s role) (kind_of subject s role d) d s.at
+    ++ role_findings subject s role d behind
+    ++ fields subject.manner.look (depth_of s role) subject.names (kind_of subject s role d) d
+
+-- where it stands at the first of these bytes
+abbrev pub here : Subject → Standing → List ℕ → Role × ℕ → Standing
+here subject s ahead next = entered next.0 subject.manner.speed ahead s
+
+-- the lines of the descriptor with which these bytes begin
+abbrev pub next_block : Subject → Standing → List ℕ → Role × ℕ → List ℕ
+next_block subject s ahead next = block subject (here subject s ahead next) next.0 (take next.1 ahead) (drop next.1 ahead)
+
+-- where it stands behind that descriptor
+abbrev pub behind_next : Subject → Standing → List ℕ → Role × ℕ → Standing
+behind_next subject s ahead next = passed next.0 (take next.1 ahead) (here subject s ahead next)
+
+-- The lines of the descriptors that stand in these bytes, at most so many, and then what ends the text, given the place
+-- where they end.
+unfoldable pub walked : ℕ → Subject → (ℕ → List ℕ) → Standing → List ℕ → List ℕ
+walked zero subject ending s ahead = ending s.at
+walked (suc n) subject ending s ahead =
+    unwrap_or
+    (option_map (λ next. next_block subject s ahead next ++ walked n subject ending (behind_next subject s ahead next) (drop next.1 ahead))
+    (next_role s ahead))
+    (ending s.at)
+
+-- the lines of the bytes that are left, if there are any
+abbrev pub rest_text : Subject → ℕ → List ℕ → List ℕ
+rest_text subject at [] = []
+rest_text subject at (x ∷ rest) =
+    heading subject.manner.look 0 kinds.Rest (x ∷ rest) at ++ fields subject.manner.look 0 subject.names kinds.Rest (x ∷ rest)
