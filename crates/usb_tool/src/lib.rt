@@ -6,7 +6,8 @@
 //! fault. What each line says stands in the crate `usb_listing`. [`run_check`] writes what breaks a rule of
 //! chapter 9 in a file (`specs/Checks.antt`), and [`run_build`] reads a listing and writes the bytes of its file
 //! (`specs/Builds.antt`). [`run_enumerate`] enumerates a device that has the descriptors of a file, over a bus that loses
-//! packets and handshakes, and writes what came of that (`specs/Enumerations.antt`).
+//! packets and handshakes, and writes what came of that (`specs/Enumerations.antt`). [`run_enumerate_logged`] writes a log
+//! of it too, whose lines stand in the crate `usb_log`.
 //!
 //! [`run`] is the whole program over any standard streams: [`read_line`] reads its command line,
 //! [`ToolFault`] says why a command failed, and [`verdict`] gives the exit status. What a run does is
