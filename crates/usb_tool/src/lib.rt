@@ -7,7 +7,8 @@
 //! chapter 9 in a file (`specs/Checks.antt`), and [`run_build`] reads a listing and writes the bytes of its file
 //! (`specs/Builds.antt`). [`run_explain`] writes what the descriptors of an input mean, in words (`specs/Explains.antt`).
 //! [`run_enumerate`] enumerates a device that has the descriptors of a file, over a bus that loses
-//! packets and handshakes, and writes what came of that (`specs/Enumerations.antt`).
+//! packets and handshakes, and writes what came of that (`specs/Enumerations.antt`). [`run_enumerate_logged`] writes a log
+//! of it too, whose lines stand in the crate `usb_log`.
 //!
 //! [`run`] is the whole program over any standard streams: [`read_line`] reads its command line,
 //! [`ToolFault`] says why a command failed, and [`verdict`] gives the exit status. What a run does is

@@ -80,9 +80,7 @@ fn enumerate_with<R: Read, W: Write, E: Write>(
     ensures { EndsEnumeration options.now (R.remaining r.old) (R.remaining r.new) (W.contents w.old) (W.contents w.new) result }
 {
     match settings_of(alloc, options) {
-        Ok(settings) => {
-            finish(&enumerate_as(alloc, &settings, r, w), e)
-        }
+        Ok(settings) => { finish(&enumerate_as(alloc, &settings, r, w), e) }
         Err(fault) => refuse(fault, e),
     }
 }
