@@ -19,6 +19,11 @@ use usb_words::{Text, put_count};
 
 /// Writes the explanation of an input, of which these are the bytes.
 ///
+/// ```rust
+/// let input = read_input(alloc, &bytes)?;
+/// explain(alloc, &bytes, &input, manner, &mut rt.stdout())?;
+/// ```
+///
 /// # Errors
 ///
 /// `Write` where the writer failed, `Memory` when out of memory. A front of the explanation is written then, and not all
@@ -71,6 +76,12 @@ fn put_whole_end(
 }
 
 /// Writes the explanation of bytes that are no input, as far as they go, and their fault.
+///
+/// ```rust
+/// if let Err(fault) = read_input(alloc, &bytes) {
+///     explain_broken(alloc, &bytes, fault, manner, &mut rt.stdout())?;
+/// }
+/// ```
 ///
 /// # Errors
 ///

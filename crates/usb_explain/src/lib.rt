@@ -2,6 +2,9 @@
 //!
 //! [`explain`] writes that of a set, a file or a dump, and [`explain_broken`] that of bytes which are none of them, as far
 //! as they go. Both go over the bytes descriptor by descriptor, each as long as its first byte says.
+//!
+//! What the whole text is is `specs/Explanations.antt`, and the walk over the bytes `specs/Walks.antt`. Where a descriptor
+//! stands is `specs/Standings.antt`, what it is there `specs/Roles.antt`, and what is told of it `specs/Findings.antt`.
 #![tactic(auto)]
 
 mod block;
