@@ -1,5 +1,5 @@
 -- On telling what came of an enumeration.
-use Rattle.std.proofs.Common.{◌≡◌, ◌≢◌, ℕ, List, ◌∷◌, ◌++◌, ◌<◌, length, length-append, codes, arith, true, Some, Result, Ok, Err, refl, sym, ap, ◌∙◌, inl, inr, subst, append_assoc, append-nil, []}
+use Rattle.std.proofs.Common.{◌≡◌, ◌≢◌, ℕ, List, ◌∷◌, ◌++◌, ◌<◌, length, length-append, arith, Some, Result, Ok, Err, refl, sym, ap, ◌∙◌, inl, inr, subst, append_assoc}
 use Rattle.std.specs.Prelude.{IfErr, IfOk}
 use Rattle.std.specs.Io.KnownBytes.{Appends}
 use Rattle.usb_fields.specs.declared.speed.Speed.{Speed}
@@ -8,7 +8,6 @@ use Rattle.usb_file_data.specs.File.{File}
 use Rattle.usb_listing.specs.declared.output.OutFault.{OutFault}
 use Rattle.usb_listing.specs.declared.output.OutFault.TheVariants as outs
 use Rattle.usb_listing.specs.Output.{AppendsLess, Held}
-use Rattle.usb_listing.specs.Listing.{file_lines}
 use Rattle.usb_listing.specs.Output.{AppendsFront}
 use Rattle.usb_listing.proofs.Pages.{appends_kept, appends_more, less_is_front, stopped}
 use Rattle.usb_description.specs.Accepted.{Accepted, Refuses, refusal_of}

@@ -1,7 +1,6 @@
-use Rattle.std.proofs.Common.{◌≢◌, ◌++◌, rules, subst}
+use Rattle.std.proofs.Common.{◌≢◌, rules, subst}
 use Rattle.std.proofs.lemmas.Result.{IfErr-weaker, IfOk-weaker}
 use Rattle.usb_description.specs.Described.{Described}
-use Rattle.usb_description.specs.Accepted.{Accepted}
 use Rattle.usb_description.specs.declared.fault.DescriptionFault.TheVariants.{Memory}
 use Rattle.usb_tool.specs.Enumerations.{conditions_of, run_text}
 use Rattle.usb_tool.specs.inside.Telling.{MakesRun}
