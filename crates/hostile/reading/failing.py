@@ -54,5 +54,6 @@ def writers(command, b):
                 failed = count < len(calls)
                 answer = (3, taken, WRITE_FAILED) if failed else (status, taken, errors)
                 yield f"{step} a call, {fault} after {count}, 0 calls behind\n", *answer
-        answer = (3, output, WRITE_FAILED) if status < 3 else (status, output, errors)
+        # Of an input at fault nothing is written and nothing flushed, but where it is explained.
+        answer = (3, output, WRITE_FAILED) if status < 3 or output else (status, output, errors)
         yield f"{step} a call, no flush after 0, 0 calls behind\n", *answer
