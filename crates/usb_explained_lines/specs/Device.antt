@@ -8,8 +8,9 @@ use Rattle.usb_fields.specs.Device.{device_fields}
 use Rattle.usb_fields.specs.Qualifier.{qualifier_fields}
 use Rattle.usb_words.specs.Numbers.{byte_code, count, meaning, release, word_code}
 use Rattle.usb_words.specs.Names.{class_field, class_words, protocol_field, subclass_field}
-use Rattle.usb_explained_lines.specs.Lines.{field_lines}
-use Rattle.usb_explained_lines.specs.Names.{StringNames, index_words}
+use Rattle.usb_explained_fields.specs.Lines.{field_lines}
+use Rattle.usb_explained_fields.specs.Names.{StringNames, index_words}
+use Rattle.usb_explained_fields.specs.Values.{release_value}
 
 -- the release of USB, and the class
 unfoldable pub version_words : List ℕ → List ℕ
@@ -30,10 +31,6 @@ device_words b =
 unfoldable pub qualifier_words : List ℕ → List ℕ
 qualifier_words b =
     codes "qualifier of the other speed" ++ version_words b
-
--- a release in hexadecimal and as it is meant
-unfoldable pub release_value : ℕ → List ℕ
-release_value n = word_code n ++ meaning (release n)
 
 -- the bytes of 2^n, for n up to 15
 abbrev pub power_of_two_words : ℕ → List ℕ

@@ -9,7 +9,7 @@ use Rattle.usb_words.specs.declared.speed.Speed.{Speed}
 use Rattle.usb_words.specs.Numbers.{byte_code, meaning, word_code}
 use Rattle.usb_words.specs.Endpoints.{attributes_words, end_words, size_words}
 use Rattle.usb_words.specs.Speeds.{interval_at, is_periodic}
-use Rattle.usb_explained_lines.specs.Lines.{digits_line, field_line, field_lines}
+use Rattle.usb_explained_fields.specs.Lines.{digits_line, field_line, field_lines}
 
 -- the interval of a periodic endpoint behind the other words
 unfoldable pub interval_words : Speed → ℕ → ℕ → List ℕ

@@ -2,13 +2,13 @@
 use Rattle.std.specs.Prelude.{ℕ, List, [], length, codes, if◌then◌else◌}
 use Rattle.usb_explained_lines.specs.declared.kind.Kind.{Kind}
 use Rattle.usb_explained_lines.specs.declared.kind.Kind.TheVariants.{Device, Qualifier, Configuration, Association, Interface, Endpoint, Raw, Languages, Text, Rest}
-use Rattle.usb_explained_lines.specs.declared.look.Look.{Look}
-use Rattle.usb_explained_lines.specs.Lines.{heading_line}
-use Rattle.usb_explained_lines.specs.Names.{StringNames}
+use Rattle.usb_explained_fields.specs.declared.look.Look.{Look}
+use Rattle.usb_explained_fields.specs.Lines.{heading_line}
+use Rattle.usb_explained_fields.specs.Names.{StringNames}
 use Rattle.usb_explained_lines.specs.Device.{device_lines, device_words, qualifier_lines, qualifier_words}
 use Rattle.usb_explained_lines.specs.Sets.{association_lines, association_words, configuration_lines, configuration_words, interface_lines, interface_words}
 use Rattle.usb_explained_lines.specs.Endpoints.{endpoint_lines, endpoint_words}
-use Rattle.usb_explained_lines.specs.Raws.{raw_lines, raw_words}
+use Rattle.usb_explained_fields.specs.Raws.{raw_lines, raw_words}
 use Rattle.usb_explained_lines.specs.Strings.{languages_words, string_words}
 use Rattle.usb_explained_lines.specs.Rest.{rest_lines}
 

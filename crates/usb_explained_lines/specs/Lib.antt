@@ -1,9 +1,6 @@
-pub mod Lines
-pub mod Names
 pub mod Device
 pub mod Sets
 pub mod Endpoints
-pub mod Raws
 pub mod Strings
 pub mod Rest
 pub mod Kinds

@@ -9,8 +9,8 @@ use Rattle.usb_words.specs.declared.speed.Speed.{Speed}
 use Rattle.usb_words.specs.Numbers.{byte_code, count, meaning}
 use Rattle.usb_words.specs.Names.{class_field, class_words, protocol_field, subclass_field}
 use Rattle.usb_words.specs.Speeds.{power_words, speed_words}
-use Rattle.usb_explained_lines.specs.Lines.{digits_line, field_line, field_lines}
-use Rattle.usb_explained_lines.specs.Names.{StringNames, index_words}
+use Rattle.usb_explained_fields.specs.Lines.{digits_line, field_line, field_lines}
+use Rattle.usb_explained_fields.specs.Names.{StringNames, index_words}
 
 -- which of the two the set is, by bDescriptorType
 unfoldable pub set_words : ℕ → List ℕ

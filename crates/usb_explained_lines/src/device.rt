@@ -1,17 +1,13 @@
 //! The device descriptor and the device qualifier.
 ghost use Rattle.std.specs.Prelude.{◌≡◌, ◌++◌, slice_index, OnOk};
 ghost use Rattle.usb_explained_lines.specs.Device.{device_lines, device_words, ids_words, packet_value, power_of_two_words, qualifier_lines, qualifier_words, version_words};
-ghost use Rattle.usb_explained_lines.specs.Lines.{field_line};
+ghost use Rattle.usb_explained_fields.specs.Lines.{field_line};
 
-use crate::bytes::{byte_at, word_at};
-use crate::index::put_index;
-use crate::line::{begin_field, end_line};
-use crate::names::Names;
-use crate::value::{
-    put_byte, put_class_field, put_decimal, put_protocol_field, put_release_field,
-    put_subclass_field, put_word,
-};
 use std::alloc::AllocError;
+use usb_explained_fields::{
+    Names, begin_field, byte_at, end_line, put_byte, put_class_field, put_decimal, put_index,
+    put_protocol_field, put_release_field, put_subclass_field, put_word, word_at,
+};
 use usb_words::{Text, put_class_words, put_count, put_release};
 
 /// Puts the words of a device descriptor's heading (USB 2.0, 9.6.1).
@@ -78,7 +74,7 @@ pub(crate) fn put_device_fields(
     put_decimal(text, depth, "bNumConfigurations", b, 17)
 }
 
-#[tactic(auto, unfolding(crate::specs::Lines::field_line))]
+#[tactic(auto, unfolding(usb_explained_fields::specs::Lines::field_line))]
 fn put_packet_size(
     text: &mut Text,
     depth: u8,

@@ -2,12 +2,12 @@
 ghost use Rattle.std.specs.Prelude.{◌≡◌, ◌++◌, drop, slice_index, OnOk};
 ghost use Rattle.usb_base.specs.Bytes.{little_endian_at};
 ghost use Rattle.usb_explained_lines.specs.Endpoints.{address_value, attributes_value, endpoint_lines, endpoint_tail, endpoint_words, interval_value, interval_words, size_value};
-ghost use Rattle.usb_explained_lines.specs.Lines.{field_line};
+ghost use Rattle.usb_explained_fields.specs.Lines.{field_line};
 
-use crate::bytes::{behind, byte_at, word_at};
-use crate::line::{begin_field, end_line};
-use crate::value::{put_byte, put_decimal, put_digits};
 use std::alloc::AllocError;
+use usb_explained_fields::{
+    begin_field, behind, byte_at, end_line, put_byte, put_decimal, put_digits, word_at,
+};
 use usb_words::{
     Speed, Text, is_periodic, put_attributes, put_byte_code, put_end, put_interval, put_size,
     put_word_code,
@@ -73,7 +73,7 @@ pub(crate) fn put_endpoint_fields(
     put_tail(text, depth, audio, b)
 }
 
-#[tactic(auto, unfolding(crate::specs::Lines::field_line))]
+#[tactic(auto, unfolding(usb_explained_fields::specs::Lines::field_line))]
 fn put_address_field(text: &mut Text, depth: u8, name: &str, b: &[u8]) -> Result<(), AllocError>
     ensures { OnOk result (text.new ≡ text.old ++ field_line depth name.now (address_value (slice_index b.now 3) (slice_index b.now 2))) }
 {
@@ -82,7 +82,7 @@ fn put_address_field(text: &mut Text, depth: u8, name: &str, b: &[u8]) -> Result
     end_line(text)
 }
 
-#[tactic(auto, unfolding(crate::specs::Lines::field_line))]
+#[tactic(auto, unfolding(usb_explained_fields::specs::Lines::field_line))]
 fn put_attributes_field(text: &mut Text, depth: u8, name: &str, b: &[u8]) -> Result<(), AllocError>
     ensures { OnOk result (text.new ≡ text.old ++ field_line depth name.now (attributes_value (slice_index b.now 3))) }
 {
@@ -101,7 +101,7 @@ fn put_attributes_value(text: &mut Text, attributes: u8) -> Result<(), AllocErro
     text.put(")")
 }
 
-#[tactic(auto, unfolding(crate::specs::Lines::field_line))]
+#[tactic(auto, unfolding(usb_explained_fields::specs::Lines::field_line))]
 fn put_size_field(text: &mut Text, depth: u8, name: &str, b: &[u8]) -> Result<(), AllocError>
     ensures { OnOk result (text.new ≡ text.old ++ field_line depth name.now (size_value (slice_index b.now 3) (little_endian_at b.now 4))) }
 {
@@ -120,7 +120,7 @@ fn put_size_value(text: &mut Text, attributes: u8, max_packet: u16) -> Result<()
     text.put(")")
 }
 
-#[tactic(auto, unfolding(crate::specs::Lines::field_line))]
+#[tactic(auto, unfolding(usb_explained_fields::specs::Lines::field_line))]
 fn put_interval_field(
     text: &mut Text,
     depth: u8,

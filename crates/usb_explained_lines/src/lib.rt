@@ -4,30 +4,22 @@
 //! and [`put_fields`] the lines of its fields. A descriptor is its bytes and what its words depend on beside them, as the
 //! speed of its set. A byte that isn't there is read as 0, so that all of it is defined for any bytes.
 //!
-//! What the lines of each kind are is `specs/Kinds.antt`, which leads to the definitions of each descriptor; the forms of
-//! lines are `specs/Lines.antt`, and findings `specs/Findings.antt`.
+//! What the lines of each kind are is `specs/Kinds.antt`, which leads to the definitions of each descriptor, and findings
+//! are `specs/Findings.antt`. The forms of lines, and class descriptors, are those of usb_explained_fields.
 #![tactic(auto)]
 
-mod bytes;
 mod device;
 mod endpoint;
 mod finding;
-mod index;
 mod kind;
 mod line;
-mod look;
-mod names;
-mod quoted;
-mod raw;
 mod rest;
 mod set;
 mod string;
 mod told;
-mod value;
 
 pub use finding::put_finding;
 pub use kind::{Kind, StringPlace};
 pub use line::{put_fields, put_heading};
-pub use look::Look;
-pub use names::{Missing, Names};
 pub use told::Told;
+pub use usb_explained_fields::{Look, Missing, Names};

@@ -1,16 +1,13 @@
 //! Headings, and the lines of fields.
 ghost use Rattle.std.specs.Prelude.{◌≡◌, ◌++◌, codes, length, OnOk};
 ghost use Rattle.usb_explained_lines.specs.Kinds.{fields, heading, kind_lines, kind_words};
-ghost use Rattle.usb_explained_lines.specs.Lines.{field_start, heading_line, place_words};
+ghost use Rattle.usb_explained_fields.specs.Lines.{heading_line};
 
 use crate::device::{
     put_device_fields, put_device_words, put_qualifier_fields, put_qualifier_words,
 };
 use crate::endpoint::{put_endpoint_fields, put_endpoint_words};
 use crate::kind::Kind;
-use crate::look::Look;
-use crate::names::Names;
-use crate::raw::{put_raw_fields, put_raw_words};
 use crate::rest::put_rest_fields;
 use crate::set::{
     put_association_fields, put_association_words, put_configuration_fields,
@@ -18,6 +15,7 @@ use crate::set::{
 };
 use crate::string::{put_languages_words, put_string_words};
 use std::alloc::AllocError;
+use usb_explained_fields::{Look, Names, end_line, put_place, put_raw_fields, put_raw_words};
 use usb_words::Text;
 
 /// Puts the heading of a descriptor of these bytes, which starts at this place of the input.
@@ -31,7 +29,7 @@ use usb_words::Text;
 /// # Errors
 ///
 /// Out of memory.
-#[tactic(auto, unfolding(crate::specs::Kinds::heading, crate::specs::Lines::heading_line))]
+#[tactic(auto, unfolding(crate::specs::Kinds::heading, usb_explained_fields::specs::Lines::heading_line))]
 pub fn put_heading(
     text: &mut Text,
     look: Look,
@@ -46,19 +44,6 @@ pub fn put_heading(
     put_words(text, kind, bytes)?;
     put_place(text, look, at, bytes.len())?;
     end_line(text)
-}
-
-fn put_place(text: &mut Text, look: Look, at: usize, count: usize) -> Result<(), AllocError>
-    ensures { OnOk result (text.new ≡ text.old ++ place_words look at count) }
-{
-    if look.places {
-        text.put(" @")?;
-        text.put_decimal(at as u64)?;
-        text.put("+")?;
-        text.put_decimal(count as u64)
-    } else {
-        Ok(())
-    }
 }
 
 #[tactic(auto, unfolding(crate::specs::Kinds::kind_words))]
@@ -134,22 +119,4 @@ fn put_lines(
         Kind::Text { .. } => Ok(()),
         Kind::Rest => put_rest_fields(text, depth, bytes),
     }
-}
-
-/// Begins the line of a field: its name, which takes 22 characters at least.
-#[tactic(auto, unfolding(crate::specs::Lines::field_start))]
-pub(crate) fn begin_field(text: &mut Text, depth: u8, name: &str) -> Result<(), AllocError>
-    ensures { OnOk result (text.new ≡ text.old ++ field_start depth name.now) }
-{
-    text.put_spaces(2 * usize::from(depth) + 4)?;
-    text.put(name)?;
-    text.put_spaces(22_usize.saturating_sub(name.len()))?;
-    text.put(" ")
-}
-
-/// Ends a line.
-pub(crate) fn end_line(text: &mut Text) -> Result<(), AllocError>
-    ensures { OnOk result (text.new ≡ text.old ++ codes "\n") }
-{
-    text.put("\n")
 }

@@ -1,17 +1,13 @@
 //! The configuration, interface association and interface descriptors.
 ghost use Rattle.std.specs.Prelude.{◌≡◌, ◌++◌, slice_index, OnOk};
-ghost use Rattle.usb_explained_lines.specs.Lines.{field_line};
+ghost use Rattle.usb_explained_fields.specs.Lines.{field_line};
 ghost use Rattle.usb_explained_lines.specs.Sets.{association_lines, association_words, binding_words, bound_words, configuration_lines, configuration_words, function_words, interface_lines, interface_words, power_value, range_words, set_attributes, set_words, source_words, supply_words, wakeup_words};
 
-use crate::bytes::byte_at;
-use crate::index::put_index;
-use crate::line::{begin_field, end_line};
-use crate::names::Names;
-use crate::value::{
-    put_class_field, put_decimal, put_decimal_word, put_protocol_field, put_subclass_field,
-    put_tail,
-};
 use std::alloc::AllocError;
+use usb_explained_fields::{
+    Names, begin_field, byte_at, end_line, put_class_field, put_decimal, put_decimal_word,
+    put_index, put_protocol_field, put_subclass_field, put_tail,
+};
 use usb_words::{Speed, Text, put_byte_code, put_class_words, put_count, put_power, put_speed};
 
 /// Puts the words of the heading of a set's first descriptor (USB 2.0, 9.6.3 and 9.6.4).
@@ -95,7 +91,7 @@ pub(crate) fn put_configuration_fields(
     put_tail(text, depth, b, 9)
 }
 
-#[tactic(auto, unfolding(crate::specs::Lines::field_line))]
+#[tactic(auto, unfolding(usb_explained_fields::specs::Lines::field_line))]
 fn put_attributes(text: &mut Text, depth: u8, name: &str, b: &[u8]) -> Result<(), AllocError>
     ensures { OnOk result (text.new ≡ text.old ++ field_line depth name.now (set_attributes (slice_index b.now 7))) }
 {
@@ -115,7 +111,7 @@ fn put_attributes_value(text: &mut Text, attributes: u8) -> Result<(), AllocErro
     text.put(")")
 }
 
-#[tactic(auto, unfolding(crate::specs::Lines::field_line))]
+#[tactic(auto, unfolding(usb_explained_fields::specs::Lines::field_line))]
 fn put_max_power(
     text: &mut Text,
     depth: u8,

@@ -2,9 +2,10 @@ use Rattle.std.proofs.Common.{◌≡◌, ◌++◌, append_assoc, append-nil, cod
 use Rattle.usb_base.specs.Bytes.{little_endian_at}
 use Rattle.usb_words.specs.Names.{class_field, protocol_field, subclass_field}
 use Rattle.usb_words.specs.Numbers.{word_code}
-use Rattle.usb_explained_lines.specs.Lines.{field_line}
-use Rattle.usb_explained_lines.specs.Names.{index_words}
-use Rattle.usb_explained_lines.specs.Device.{device_lines, packet_value, release_value}
+use Rattle.usb_explained_fields.specs.Lines.{field_line}
+use Rattle.usb_explained_fields.specs.Names.{index_words}
+use Rattle.usb_explained_fields.specs.Values.{release_value}
+use Rattle.usb_explained_lines.specs.Device.{device_lines, packet_value}
 use Rattle.std.proofs.lemmas.Result.{on_ok_weaker}
 use Rattle.usb_explained_lines.proofs.device.put_device_fields.Goals as goal
 

@@ -2,8 +2,9 @@ use Rattle.std.proofs.Common.{◌≡◌, ◌++◌, append_assoc, append-nil, cod
 use Rattle.usb_base.specs.Bytes.{little_endian_at}
 use Rattle.usb_words.specs.Names.{class_field, protocol_field, subclass_field}
 use Rattle.usb_words.specs.Numbers.{byte_code}
-use Rattle.usb_explained_lines.specs.Lines.{field_line}
-use Rattle.usb_explained_lines.specs.Device.{qualifier_lines, release_value}
+use Rattle.usb_explained_fields.specs.Lines.{field_line}
+use Rattle.usb_explained_fields.specs.Values.{release_value}
+use Rattle.usb_explained_lines.specs.Device.{qualifier_lines}
 use Rattle.std.proofs.lemmas.Result.{on_ok_weaker}
 use Rattle.usb_explained_lines.proofs.device.put_qualifier_fields.Goals as goal
 

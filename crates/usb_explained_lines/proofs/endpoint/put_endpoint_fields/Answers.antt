@@ -1,6 +1,6 @@
 use Rattle.std.proofs.Common.{◌≡◌, ◌++◌, append_assoc, codes, drop, slice_index}
 use Rattle.usb_base.specs.Bytes.{little_endian_at}
-use Rattle.usb_explained_lines.specs.Lines.{field_line}
+use Rattle.usb_explained_fields.specs.Lines.{field_line}
 use Rattle.usb_explained_lines.specs.Endpoints.{endpoint_lines, endpoint_tail, address_value, attributes_value, size_value, interval_value}
 use Rattle.std.proofs.lemmas.Result.{on_ok_weaker}
 use Rattle.usb_explained_lines.proofs.endpoint.put_endpoint_fields.Goals as goal

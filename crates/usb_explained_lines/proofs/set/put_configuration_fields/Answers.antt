@@ -1,7 +1,7 @@
 use Rattle.std.proofs.Common.{◌≡◌, ◌++◌, append_assoc, codes, drop, slice_index, decimal}
 use Rattle.usb_base.specs.Bytes.{little_endian_at}
-use Rattle.usb_explained_lines.specs.Lines.{digits_line, field_line}
-use Rattle.usb_explained_lines.specs.Names.{index_words}
+use Rattle.usb_explained_fields.specs.Lines.{digits_line, field_line}
+use Rattle.usb_explained_fields.specs.Names.{index_words}
 use Rattle.usb_explained_lines.specs.Sets.{configuration_lines, set_attributes, power_value}
 use Rattle.std.proofs.lemmas.Result.{on_ok_weaker}
 use Rattle.usb_explained_lines.proofs.set.put_configuration_fields.Goals as goal

@@ -2,7 +2,7 @@
 use Rattle.std.specs.Prelude.{ℕ, ◌+◌, ◌-◌, ◌*◌, List, [], ◌∷◌, ◌++◌, length, replicate, codes, if◌then◌else◌}
 use Rattle.std.specs.Fmt.{decimal}
 use Rattle.hex.specs.Hex.{encode_lower}
-use Rattle.usb_explained_lines.specs.declared.look.Look.{Look}
+use Rattle.usb_explained_fields.specs.declared.look.Look.{Look}
 
 -- so many spaces
 abbrev pub spaces : ℕ → List ℕ

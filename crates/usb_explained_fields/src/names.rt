@@ -2,7 +2,7 @@
 ghost use Rattle.std.specs.Prelude.{◌≡◌, ◌+◌, ◌*◌, ◌==◌, position, slice_get, IfOk, option_map};
 ghost use Rattle.std.specs.Option.{option_copied};
 ghost use Rattle.usb_file_data.specs.StringPlaces.{units_at};
-ghost use Rattle.usb_explained_lines.specs.Names.{names_of, named_units, no_names, units_in_first_language};
+ghost use Rattle.usb_explained_fields.specs.Names.{names_of, named_units, no_names, units_in_first_language};
 
 use std::alloc::Global;
 use std::marker::Model;
@@ -28,7 +28,7 @@ pub struct Names<'f> {
 
 impl<'f> Model for Names<'f> {
     ghost use Rattle.std.specs.Prelude.{option_map};
-    ghost use Rattle.usb_explained_lines.specs.Names.{StringNames};
+    ghost use Rattle.usb_explained_fields.specs.Names.{StringNames};
 
     ghost Value = { StringNames };
 

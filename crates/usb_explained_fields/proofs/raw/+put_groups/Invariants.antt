@@ -1,4 +1,4 @@
-use Rattle.usb_explained_lines.proofs.raw.+put_groups.Given as goal
+use Rattle.usb_explained_fields.proofs.raw.+put_groups.Given as goal
 
 abbrev pub decreases-put_groups : goal.decreases-put_groups
 decreases-put_groups l = l.count

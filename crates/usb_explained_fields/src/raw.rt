@@ -4,7 +4,7 @@ ghost use Rattle.std.specs.Option.{option_copied};
 ghost use Rattle.hex.specs.Hex.{encode_lower};
 ghost use Rattle.usb_names.specs.Shown.{field_of, row_of};
 ghost use Rattle.std.specs.Prelude.{map};
-ghost use Rattle.usb_explained_lines.specs.Raws.{all_groups_lines, body_lines, class_field_line, decimal_words, form_words, group_count, group_lines, groups_lines, hexadecimal_words, raw_lines, raw_words, release_words, report_type_words, report_words, row_lines, row_of_bytes, row_words, unnamed_words, width_of};
+ghost use Rattle.usb_explained_fields.specs.Raws.{all_groups_lines, body_lines, class_field_line, decimal_words, form_words, group_count, group_lines, groups_lines, hexadecimal_words, raw_lines, raw_words, release_words, report_type_words, report_words, row_lines, row_of_bytes, row_words, unnamed_words, width_of};
 
 use crate::bytes::{behind, byte_at, first};
 use crate::line::{begin_field, end_line};
@@ -14,8 +14,12 @@ use usb_names::{ClassCodes, ClassDescriptor, ClassField, Form, class_descriptor}
 use usb_words::{Text, put_byte_code, put_word_code};
 
 /// Puts the name of a descriptor behind an interface of these codes, or its type where it has no name.
+///
+/// # Errors
+///
+/// Out of memory.
 #[tactic(auto, unfolding(crate::specs::Raws::raw_words))]
-pub(crate) fn put_raw_words(
+pub fn put_raw_words(
     text: &mut Text,
     interface: Option<ClassCodes>,
     b: &[u8],
@@ -54,8 +58,12 @@ fn put_unnamed(text: &mut Text, descriptor_type: u8) -> Result<(), AllocError>
 }
 
 /// Puts the fields of a descriptor behind an interface of these codes.
+///
+/// # Errors
+///
+/// Out of memory.
 #[tactic(auto, unfolding(crate::specs::Raws::raw_lines))]
-pub(crate) fn put_raw_fields(
+pub fn put_raw_fields(
     text: &mut Text,
     depth: u8,
     interface: Option<ClassCodes>,

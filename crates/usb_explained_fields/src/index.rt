@@ -1,8 +1,8 @@
 //! Indices of strings.
 ghost use Rattle.std.specs.Prelude.{◌≡◌, ◌++◌, slice_index, OnOk};
 ghost use Rattle.std.specs.Option.{option_copied};
-ghost use Rattle.usb_explained_lines.specs.Lines.{field_line};
-ghost use Rattle.usb_explained_lines.specs.Names.{index_words, missing_words, name_words};
+ghost use Rattle.usb_explained_fields.specs.Lines.{field_line};
+ghost use Rattle.usb_explained_fields.specs.Names.{index_words, missing_words, name_words};
 
 use crate::bytes::byte_at;
 use crate::line::{begin_field, end_line};
@@ -12,8 +12,12 @@ use std::alloc::AllocError;
 use usb_words::Text;
 
 /// Puts the index of a string that stands at a place: `0 (none)`, or the number and the string that it names.
+///
+/// # Errors
+///
+/// Out of memory.
 #[tactic(auto, unfolding(crate::specs::Lines::field_line))]
-pub(crate) fn put_index(
+pub fn put_index(
     text: &mut Text,
     depth: u8,
     name: &str,

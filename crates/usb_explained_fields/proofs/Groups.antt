@@ -1,7 +1,7 @@
 -- On groups of fields.
 use Rattle.std.proofs.Common.{◌≡◌, ℕ, zero, suc, ◌-◌, ◌<◌, List, ◌++◌, drop, refl, arith}
 use Rattle.usb_names.specs.Rows.{Field}
-use Rattle.usb_explained_lines.specs.Raws.{group_lines, groups_lines}
+use Rattle.usb_explained_fields.specs.Raws.{group_lines, groups_lines}
 
 -- a group, and then those behind it
 pub one_more : (depth : ℕ) (group : List Field) (width count : ℕ) (body : List ℕ) → 0 < count

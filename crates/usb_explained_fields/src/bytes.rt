@@ -3,7 +3,7 @@ ghost use Rattle.std.specs.Prelude.{◌≡◌, drop, slice_index, take};
 ghost use Rattle.usb_base.specs.Bytes.{little_endian_at};
 
 /// The byte at this place, and 0 where there is none.
-pub(crate) fn byte_at(bytes: &[u8], place: usize) -> u8
+pub fn byte_at(bytes: &[u8], place: usize) -> u8
     ensures { result ≡ slice_index bytes.now place }
 {
     match bytes.get(place) {
@@ -13,7 +13,7 @@ pub(crate) fn byte_at(bytes: &[u8], place: usize) -> u8
 }
 
 /// The number of two bytes at this place, the low one first (USB 2.0, 8.1).
-pub(crate) fn word_at(bytes: &[u8], place: u8) -> u16
+pub fn word_at(bytes: &[u8], place: u8) -> u16
     ensures { result ≡ little_endian_at bytes.now place }
 {
     let place = usize::from(place);
@@ -21,7 +21,7 @@ pub(crate) fn word_at(bytes: &[u8], place: u8) -> u16
 }
 
 /// The bytes from this place on.
-pub(crate) fn behind(bytes: &[u8], place: usize) -> &[u8]
+pub fn behind(bytes: &[u8], place: usize) -> &[u8]
     ensures { result.now ≡ drop place bytes.now }
 {
     if place < bytes.len() {
@@ -32,7 +32,7 @@ pub(crate) fn behind(bytes: &[u8], place: usize) -> &[u8]
 }
 
 /// So many of the bytes, or all.
-pub(crate) fn first(bytes: &[u8], count: usize) -> &[u8]
+pub fn first(bytes: &[u8], count: usize) -> &[u8]
     ensures { result.now ≡ take count bytes.now }
 {
     if count < bytes.len() {

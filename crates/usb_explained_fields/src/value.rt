@@ -4,8 +4,8 @@ ghost use Rattle.usb_base.specs.Bytes.{little_endian_at};
 ghost use Rattle.std.specs.Fmt.{decimal};
 ghost use Rattle.usb_words.specs.Names.{class_field, protocol_field, subclass_field};
 ghost use Rattle.usb_words.specs.Numbers.{byte_code, meaning, word_code};
-ghost use Rattle.usb_explained_lines.specs.Device.{release_value};
-ghost use Rattle.usb_explained_lines.specs.Lines.{digits_line, field_line};
+ghost use Rattle.usb_explained_fields.specs.Values.{release_value};
+ghost use Rattle.usb_explained_fields.specs.Lines.{digits_line, field_line};
 
 use crate::bytes::{behind, byte_at, word_at};
 use crate::line::{begin_field, end_line};
@@ -15,8 +15,12 @@ use usb_words::{
 };
 
 /// Puts the byte at a place in decimal digits.
+///
+/// # Errors
+///
+/// Out of memory.
 #[tactic(auto, unfolding(crate::specs::Lines::field_line))]
-pub(crate) fn put_decimal(
+pub fn put_decimal(
     text: &mut Text,
     depth: u8,
     name: &str,
@@ -32,8 +36,12 @@ pub(crate) fn put_decimal(
 }
 
 /// Puts the byte at a place as a code.
+///
+/// # Errors
+///
+/// Out of memory.
 #[tactic(auto, unfolding(crate::specs::Lines::field_line))]
-pub(crate) fn put_byte(
+pub fn put_byte(
     text: &mut Text,
     depth: u8,
     name: &str,
@@ -49,8 +57,12 @@ pub(crate) fn put_byte(
 }
 
 /// Puts the number of two bytes at a place in decimal digits.
+///
+/// # Errors
+///
+/// Out of memory.
 #[tactic(auto, unfolding(crate::specs::Lines::field_line))]
-pub(crate) fn put_decimal_word(
+pub fn put_decimal_word(
     text: &mut Text,
     depth: u8,
     name: &str,
@@ -65,8 +77,12 @@ pub(crate) fn put_decimal_word(
 }
 
 /// Puts the number of two bytes at a place as a code.
+///
+/// # Errors
+///
+/// Out of memory.
 #[tactic(auto, unfolding(crate::specs::Lines::field_line))]
-pub(crate) fn put_word(
+pub fn put_word(
     text: &mut Text,
     depth: u8,
     name: &str,
@@ -81,8 +97,12 @@ pub(crate) fn put_word(
 }
 
 /// Puts the number of two bytes at a place as a release in binary coded decimal.
+///
+/// # Errors
+///
+/// Out of memory.
 #[tactic(auto, unfolding(crate::specs::Lines::field_line))]
-pub(crate) fn put_release_field(
+pub fn put_release_field(
     text: &mut Text,
     depth: u8,
     name: &str,
@@ -97,7 +117,7 @@ pub(crate) fn put_release_field(
 }
 
 /// Puts a release in hexadecimal digits, and as it is meant.
-#[tactic(auto, unfolding(crate::specs::Device::release_value))]
+#[tactic(auto, unfolding(crate::specs::Values::release_value))]
 pub(crate) fn put_release_value(text: &mut Text, release: u16) -> Result<(), AllocError>
     ensures { OnOk result (text.new ≡ text.old ++ release_value release) }
 {
@@ -108,8 +128,12 @@ pub(crate) fn put_release_value(text: &mut Text, release: u16) -> Result<(), All
 }
 
 /// Puts the class at a place.
+///
+/// # Errors
+///
+/// Out of memory.
 #[tactic(auto, unfolding(crate::specs::Lines::field_line))]
-pub(crate) fn put_class_field(
+pub fn put_class_field(
     text: &mut Text,
     depth: u8,
     name: &str,
@@ -125,8 +149,12 @@ pub(crate) fn put_class_field(
 }
 
 /// Puts the subclass behind the class at a place.
+///
+/// # Errors
+///
+/// Out of memory.
 #[tactic(auto, unfolding(crate::specs::Lines::field_line))]
-pub(crate) fn put_subclass_field(
+pub fn put_subclass_field(
     text: &mut Text,
     depth: u8,
     name: &str,
@@ -142,8 +170,12 @@ pub(crate) fn put_subclass_field(
 }
 
 /// Puts the protocol behind the class and the subclass at a place.
+///
+/// # Errors
+///
+/// Out of memory.
 #[tactic(auto, unfolding(crate::specs::Lines::field_line))]
-pub(crate) fn put_protocol_field(
+pub fn put_protocol_field(
     text: &mut Text,
     depth: u8,
     name: &str,
@@ -164,13 +196,12 @@ pub(crate) fn put_protocol_field(
 }
 
 /// Puts bytes as hexadecimal digits, if there are any.
+///
+/// # Errors
+///
+/// Out of memory.
 #[tactic(auto, unfolding(crate::specs::Lines::digits_line, crate::specs::Lines::field_line))]
-pub(crate) fn put_digits(
-    text: &mut Text,
-    depth: u8,
-    name: &str,
-    bytes: &[u8],
-) -> Result<(), AllocError>
+pub fn put_digits(text: &mut Text, depth: u8, name: &str, bytes: &[u8]) -> Result<(), AllocError>
     ensures { OnOk result (text.new ≡ text.old ++ digits_line depth name.now bytes.now) }
 {
     match bytes {
@@ -184,7 +215,11 @@ pub(crate) fn put_digits(
 }
 
 /// Puts what a descriptor has from this place on, if it has anything there.
-pub(crate) fn put_tail(text: &mut Text, depth: u8, b: &[u8], place: u8) -> Result<(), AllocError>
+///
+/// # Errors
+///
+/// Out of memory.
+pub fn put_tail(text: &mut Text, depth: u8, b: &[u8], place: u8) -> Result<(), AllocError>
     ensures { OnOk result (text.new ≡ text.old ++ digits_line depth (codes "tail") (drop place b.now)) }
 {
     put_digits(text, depth, "tail", behind(b, usize::from(place)))

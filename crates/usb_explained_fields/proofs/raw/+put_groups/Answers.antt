@@ -1,9 +1,9 @@
 use Rattle.std.proofs.Common.{◌≡◌, ◌-◌, ◌<◌, ◌++◌, append_assoc, arith, drop, map}
 use Rattle.std.proofs.lemmas.Result.{on_ok_weaker}
 use Rattle.usb_names.specs.Shown.{field_of}
-use Rattle.usb_explained_lines.specs.Raws.{group_lines, groups_lines}
-use Rattle.usb_explained_lines.proofs.Groups.{one_more}
-use Rattle.usb_explained_lines.proofs.raw.+put_groups.Goals as goal
+use Rattle.usb_explained_fields.specs.Raws.{group_lines, groups_lines}
+use Rattle.usb_explained_fields.proofs.Groups.{one_more}
+use Rattle.usb_explained_fields.proofs.raw.+put_groups.Goals as goal
 
 pub returns : goal.returns
 returns n c =

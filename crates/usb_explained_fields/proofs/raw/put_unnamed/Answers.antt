@@ -1,8 +1,8 @@
 use Rattle.std.proofs.Common.{◌≡◌, ◌++◌, append_assoc, codes}
 use Rattle.std.proofs.lemmas.Result.{on_ok_weaker}
 use Rattle.usb_words.specs.Numbers.{byte_code}
-use Rattle.usb_explained_lines.specs.Raws.{unnamed_words}
-use Rattle.usb_explained_lines.proofs.raw.put_unnamed.Goals as goal
+use Rattle.usb_explained_fields.specs.Raws.{unnamed_words}
+use Rattle.usb_explained_fields.proofs.raw.put_unnamed.Goals as goal
 
 pub returns : goal.returns
 unfolding unnamed_words

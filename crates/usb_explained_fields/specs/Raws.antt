@@ -7,8 +7,8 @@ use Rattle.usb_names.specs.declared.field.Form.{Form}
 use Rattle.usb_names.specs.declared.field.Form.TheVariants.{Decimal, Hexadecimal, Release, ReportType}
 use Rattle.usb_names.specs.Rows.{Field, Row, first_row, rows_behind}
 use Rattle.usb_words.specs.Numbers.{byte_code, word_code}
-use Rattle.usb_explained_lines.specs.Lines.{digits_line, field_line}
-use Rattle.usb_explained_lines.specs.Device.{release_value}
+use Rattle.usb_explained_fields.specs.Lines.{digits_line, field_line}
+use Rattle.usb_explained_fields.specs.Values.{release_value}
 
 -- a descriptor that has no name
 unfoldable pub unnamed_words : ℕ → List ℕ

@@ -2,7 +2,7 @@
 ghost use Rattle.std.specs.Prelude.{◌≡◌, ◌++◌, OnOk};
 ghost use Rattle.std.specs.List.{flat_map};
 ghost use Rattle.usb_listing.specs.StringListing.{is_plain, written_unit};
-ghost use Rattle.usb_explained_lines.specs.Names.{quoted};
+ghost use Rattle.usb_explained_fields.specs.Names.{quoted};
 
 use std::alloc::AllocError;
 use usb_words::Text;
@@ -27,8 +27,12 @@ fn put_units(text: &mut Text, units: &[u16]) -> Result<(), AllocError>
 }
 
 /// Puts a unit of a string: its character, or a backslash and four digits.
+///
+/// # Errors
+///
+/// Out of memory.
 #[tactic(auto, unfolding(usb_listing::specs::StringListing::written_unit))]
-pub(crate) fn put_unit(text: &mut Text, unit: u16) -> Result<(), AllocError>
+pub fn put_unit(text: &mut Text, unit: u16) -> Result<(), AllocError>
     ensures { OnOk result (text.new ≡ text.old ++ written_unit unit) }
 {
     if is_plain(unit) {

@@ -7,8 +7,8 @@ use Rattle.usb_file_data.specs.declared.file.Strings.{Strings}
 use Rattle.usb_file_data.specs.Named.{named_indices}
 use Rattle.usb_file_data.specs.StringPlaces.{units_at}
 use Rattle.usb_listing.specs.StringListing.{written_unit}
-use Rattle.usb_explained_lines.specs.declared.names.Missing.{Missing}
-use Rattle.usb_explained_lines.specs.declared.names.Missing.TheVariants.{NotInInput, NotRead}
+use Rattle.usb_explained_fields.specs.declared.names.Missing.{Missing}
+use Rattle.usb_explained_fields.specs.declared.names.Missing.TheVariants.{NotInInput, NotRead}
 
 -- the strings of an input and the indices that name them, and why there is no string of another index
 pub record StringNames : Type 0 where

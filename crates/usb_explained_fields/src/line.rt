@@ -1,0 +1,51 @@
+//! The parts of lines.
+ghost use Rattle.std.specs.Prelude.{◌≡◌, ◌++◌, codes, length, OnOk};
+ghost use Rattle.usb_explained_fields.specs.Lines.{field_start, place_words};
+
+use crate::look::Look;
+use std::alloc::AllocError;
+use usb_words::Text;
+
+/// Puts where a descriptor starts in the input, and how many bytes it has, where places are shown.
+///
+/// # Errors
+///
+/// Out of memory.
+pub fn put_place(text: &mut Text, look: Look, at: usize, count: usize) -> Result<(), AllocError>
+    ensures { OnOk result (text.new ≡ text.old ++ place_words look at count) }
+{
+    if look.places {
+        text.put(" @")?;
+        text.put_decimal(at as u64)?;
+        text.put("+")?;
+        text.put_decimal(count as u64)
+    } else {
+        Ok(())
+    }
+}
+
+/// Begins the line of a field: its name, which takes 22 characters at least.
+///
+/// # Errors
+///
+/// Out of memory.
+#[tactic(auto, unfolding(crate::specs::Lines::field_start))]
+pub fn begin_field(text: &mut Text, depth: u8, name: &str) -> Result<(), AllocError>
+    ensures { OnOk result (text.new ≡ text.old ++ field_start depth name.now) }
+{
+    text.put_spaces(2 * usize::from(depth) + 4)?;
+    text.put(name)?;
+    text.put_spaces(22_usize.saturating_sub(name.len()))?;
+    text.put(" ")
+}
+
+/// Ends a line.
+///
+/// # Errors
+///
+/// Out of memory.
+pub fn end_line(text: &mut Text) -> Result<(), AllocError>
+    ensures { OnOk result (text.new ≡ text.old ++ codes "\n") }
+{
+    text.put("\n")
+}
