@@ -13,8 +13,8 @@ use Rattle.usb_rules.specs.declared.finding.Part.TheVariants as parts
 use Rattle.usb_rules.specs.FindingLine.{rule_number}
 use Rattle.usb_rules.specs.Findings.{dump_findings, findings, set_findings}
 use Rattle.usb_explained_lines.specs.declared.kind.StringPlace.{StringPlace}
-use Rattle.usb_explained_lines.specs.declared.names.Missing.TheVariants.{NotInInput, NotRead}
-use Rattle.usb_explained_lines.specs.Names.{StringNames, names_of, no_names}
+use Rattle.usb_explained_fields.specs.declared.names.Missing.TheVariants.{NotInInput, NotRead}
+use Rattle.usb_explained_fields.specs.Names.{StringNames, names_of, no_names}
 use Rattle.usb_explain.specs.declared.found.Key.{Key}
 use Rattle.usb_explain.specs.declared.manner.Manner.{Manner}
 

@@ -1,8 +1,8 @@
 //! What is explained.
 ghost use Rattle.std.specs.Prelude.{◌≡◌, [], false, IfOk};
 ghost use Rattle.usb_file_data.specs.Named.{named_indices};
-ghost use Rattle.usb_explained_lines.specs.Names.{names_of, no_names};
-ghost use Rattle.usb_explained_lines.specs.declared.names.Missing.TheVariants.{NotInInput};
+ghost use Rattle.usb_explained_fields.specs.Names.{names_of, no_names};
+ghost use Rattle.usb_explained_fields.specs.declared.names.Missing.TheVariants.{NotInInput};
 ghost use Rattle.usb_explain.specs.Kinds.{place_of};
 ghost use Rattle.usb_explain.specs.Subjects.{broken_subject, findings_of, is_among, subject_with};
 
