@@ -5,7 +5,7 @@ use Rattle.usb_base.specs.Bytes.{little_endian_at}
 use Rattle.usb_names.specs.declared.codes.ClassCodes.{ClassCodes}
 use Rattle.usb_survey.specs.declared.speed.RunningSpeed.{RunningSpeed}
 use Rattle.usb_survey.specs.declared.speed.RunningSpeed.TheVariants.{Super}
-use Rattle.usb_survey.specs.inside.Gathered.{bound_at}
+use Rattle.usb_survey.specs.Bindings.{bound_at}
 use Rattle.usb_explained_lines.specs.declared.kind.Kind.{Kind}
 use Rattle.usb_explained_lines.specs.declared.kind.Kind.TheVariants as kinds
 use Rattle.usb_explained_lines.specs.declared.kind.StringPlace.{StringPlace}
