@@ -13,6 +13,7 @@ mod explaining;
 mod fault_line;
 mod found;
 mod kind;
+pub mod laws;
 mod manner;
 mod opening;
 mod passing;

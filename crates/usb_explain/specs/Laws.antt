@@ -1,0 +1,63 @@
+-- What holds of each explanation: its headings stand for each byte once.
+use Rattle.std.specs.Prelude.{◌≡◌, ◌<◌, ℕ, ◌+◌, List, [], ◌∷◌, ◌++◌, length, map, drop, flat_map}
+use Rattle.usb_file.specs.declared.input.Input.{Input}
+use Rattle.usb_file.specs.declared.input_fault.InputFault.{InputFault}
+use Rattle.usb_explain.specs.declared.manner.Manner.{Manner}
+use Rattle.usb_explain.specs.declared.role.Role.{Role}
+use Rattle.usb_explain.specs.declared.standing.Standing.{Standing}
+use Rattle.usb_explain.specs.Explanations.{broken_end, broken_explanation, broken_name, explanation, first_line, input_name, whole_end}
+use Rattle.usb_explain.specs.Subjects.{Subject, broken_subject, findings_of, subject_with}
+use Rattle.usb_explain.specs.Walks.{block}
+
+-- a descriptor of an explanation: where it stands, what it is there, its bytes, and those behind it
+pub record Shown : Type 0 where
+  pub standing : Standing
+  pub role : Role
+  pub bytes : List ℕ
+  pub behind : List ℕ
+
+-- its lines, of which the first is its heading: that has the place where it stands, and how many bytes it has
+abbrev pub lines_of : Subject → Shown → List ℕ
+lines_of subject d = block subject d.standing d.role d.bytes d.behind
+
+-- a place and a length
+pub record Span : Type 0 where
+  pub start : ℕ
+  pub count : ℕ
+
+-- the place and the length of a descriptor
+abbrev pub span_of : Shown → Span
+span_of d = record { start = d.standing.at; count = length d.bytes }
+
+-- those of the rest, if bytes are left
+abbrev pub rest_span : ℕ → List ℕ → List Span
+rest_span at [] = []
+rest_span at (x ∷ rest) = record { start = at; count = length (x ∷ rest) } ∷ []
+
+-- spans from a place to another one: the first begins at the one, each begins where the one before ends, and the last ends
+-- at the other; none is empty
+abbrev pub Follow : ℕ → List Span → ℕ → Type 0
+Follow from [] to = from ≡ to
+Follow from (x ∷ xs) to = (x.start ≡ from) × (0 < x.count) × Follow (from + x.count) xs to
+
+-- A text that stands for each of these bytes once. Between its first line and its end are the lines of descriptors. Their
+-- bytes and those of the rest are the bytes, in their order, and the headings' places are where those bytes stand.
+pub record EachByteOnce (subject : Subject) (bytes first : List ℕ) (ending : ℕ → List ℕ) (text : List ℕ) : Type 0 where
+  pub shown : List Shown
+  pub end : ℕ
+  pub lines : text ≡ first ++ (flat_map (lines_of subject) shown ++ ending end)
+  pub parts : bytes ≡ flat_map (λ d. d.bytes) shown ++ drop end bytes
+  pub spans : Follow 0 (map span_of shown ++ rest_span end (drop end bytes)) (length bytes)
+
+-- each explanation of an input stands for each byte once
+abbrev pub WholeEachByteOnce : Type 0
+WholeEachByteOnce =
+    (manner : Manner) (input : Input) (b : List ℕ) →
+    (let subject = subject_with manner input (findings_of input) in
+    EachByteOnce subject b (first_line (input_name input) (length b)) (whole_end subject (length (findings_of input)) b) (explanation manner input b))
+
+-- so does that of bytes that are no input: its rest begins at the fault's place or before it
+abbrev pub BrokenEachByteOnce : Type 0
+BrokenEachByteOnce =
+    (manner : Manner) (fault : InputFault) (b : List ℕ) →
+    EachByteOnce (broken_subject manner) b (first_line (broken_name b) (length b)) (broken_end (broken_subject manner) fault b) (broken_explanation manner fault b)
