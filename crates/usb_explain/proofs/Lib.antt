@@ -3,3 +3,4 @@ pub mod Walking
 pub mod Endings
 pub mod Keys
 pub mod Spans
+pub mod Brief

@@ -134,12 +134,12 @@ once_by subject b front tail first text n ending whole e =
       spans = rest_follows (map span_of w.shown) 0 w.end (length b) (drop w.end b) (subst (λ k. Follow k (map span_of w.shown) w.end) start_at w.spans) (omega (arith, ends, total));
     }
 
-whole_is : (subject : Subject) (name : List ℕ) (n : ℕ) (b : List ℕ)
+pub whole_is : (subject : Subject) (name : List ℕ) (n : ℕ) (b : List ℕ)
     → whole_text subject name n b ≡ first_line name (length b) ++ walked (length b) subject (whole_end subject n b) start b
 unfolding whole_text
 whole_is subject name n b = refl
 
-broken_is : (subject : Subject) (fault : InputFault) (b : List ℕ)
+pub broken_is : (subject : Subject) (fault : InputFault) (b : List ℕ)
     → broken_text subject fault b
     ≡ first_line (broken_name b) (length b) ++ walked (length (take (place_of_fault fault) b)) subject (broken_end subject fault b) start (take (place_of_fault fault) b)
 unfolding broken_text

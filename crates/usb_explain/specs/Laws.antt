@@ -1,11 +1,16 @@
--- What holds of each explanation: its headings stand for each byte once.
-use Rattle.std.specs.Prelude.{◌≡◌, ◌<◌, ℕ, ◌+◌, List, [], ◌∷◌, ◌++◌, length, map, drop, flat_map}
+-- What holds of each explanation: its headings stand for each byte once, and a brief one leaves out the fields alone.
+use Rattle.std.specs.Prelude.{◌≡◌, ◌<◌, ℕ, true, false, ◌+◌, List, [], ◌∷◌, ◌++◌, length, map, drop, flat_map}
 use Rattle.usb_file.specs.declared.input.Input.{Input}
 use Rattle.usb_file.specs.declared.input_fault.InputFault.{InputFault}
+use Rattle.usb_explained_lines.specs.declared.kind.Kind.TheVariants as kinds
+use Rattle.usb_explained_lines.specs.Kinds.{heading, kind_lines}
 use Rattle.usb_explain.specs.declared.manner.Manner.{Manner}
 use Rattle.usb_explain.specs.declared.role.Role.{Role}
 use Rattle.usb_explain.specs.declared.standing.Standing.{Standing}
-use Rattle.usb_explain.specs.Explanations.{broken_end, broken_explanation, broken_name, explanation, first_line, input_name, whole_end}
+use Rattle.usb_explain.specs.Explanations.{broken_end, broken_explanation, broken_name, explanation, first_line, input_name, last_line, whole_end}
+use Rattle.usb_explain.specs.Faults.{fault_text}
+use Rattle.usb_explain.specs.Findings.{role_findings}
+use Rattle.usb_explain.specs.Kinds.{depth_of, kind_of}
 use Rattle.usb_explain.specs.Subjects.{Subject, broken_subject, findings_of, subject_with}
 use Rattle.usb_explain.specs.Walks.{block}
 
@@ -61,3 +66,53 @@ abbrev pub BrokenEachByteOnce : Type 0
 BrokenEachByteOnce =
     (manner : Manner) (fault : InputFault) (b : List ℕ) →
     EachByteOnce (broken_subject manner) b (first_line (broken_name b) (length b)) (broken_end (broken_subject manner) fault b) (broken_explanation manner fault b)
+
+-- the same manner, with the lines of fields or without them
+abbrev pub with_fields : Manner → Manner
+with_fields manner = record manner { look = record manner.look { brief = false } }
+
+abbrev pub without_fields : Manner → Manner
+without_fields manner = record manner { look = record manner.look { brief = true } }
+
+-- a descriptor's heading, with its place, and what it breaks
+abbrev pub head_of : Subject → Shown → List ℕ
+head_of subject d =
+    heading subject.manner.look (depth_of d.standing d.role) (kind_of subject d.standing d.role d.bytes) d.bytes d.standing.at
+    ++ role_findings subject d.standing d.role d.bytes d.behind
+
+-- the lines of its fields
+abbrev pub fields_of : Subject → Shown → List ℕ
+fields_of subject d = kind_lines (depth_of d.standing d.role) subject.names (kind_of subject d.standing d.role d.bytes) d.bytes
+
+-- the heading of the rest, if bytes are left
+abbrev pub rest_head : Subject → ℕ → List ℕ → List ℕ
+rest_head subject at [] = []
+rest_head subject at (x ∷ rest) = heading subject.manner.look 0 kinds.Rest (x ∷ rest) at
+
+-- the lines of its fields
+abbrev pub rest_fields : Subject → List ℕ → List ℕ
+rest_fields subject [] = []
+rest_fields subject (x ∷ rest) = kind_lines 0 subject.names kinds.Rest (x ∷ rest)
+
+-- Two texts about the same descriptors: the one has their fields, and the other is the one without them. Both have the same
+-- first line, headings and findings, then the same lines before the rest, its heading, and the same last line.
+pub record LeavesOutFields (subject : Subject) (bytes first before_rest last one other : List ℕ) : Type 0 where
+  pub shown : List Shown
+  pub end : ℕ
+  pub has_fields : one ≡ first ++ (flat_map (λ d. head_of subject d ++ fields_of subject d) shown
+      ++ (before_rest ++ ((rest_head subject end (drop end bytes) ++ rest_fields subject (drop end bytes)) ++ last)))
+  pub has_none : other ≡ first ++ (flat_map (head_of subject) shown ++ (before_rest ++ (rest_head subject end (drop end bytes) ++ last)))
+
+-- a brief explanation of an input is the other one without its fields
+abbrev pub WholeLeavesOutFields : Type 0
+WholeLeavesOutFields =
+    (manner : Manner) (input : Input) (b : List ℕ) →
+    LeavesOutFields (subject_with manner input (findings_of input)) b (first_line (input_name input) (length b)) [] (last_line (length (findings_of input)))
+    (explanation (with_fields manner) input b) (explanation (without_fields manner) input b)
+
+-- so is that of bytes that are no input
+abbrev pub BrokenLeavesOutFields : Type 0
+BrokenLeavesOutFields =
+    (manner : Manner) (fault : InputFault) (b : List ℕ) →
+    LeavesOutFields (broken_subject manner) b (first_line (broken_name b) (length b)) (fault_text fault) []
+    (broken_explanation (with_fields manner) fault b) (broken_explanation (without_fields manner) fault b)
