@@ -1,5 +1,5 @@
 -- What holds of each explanation: its headings stand for each byte once, and a brief one leaves out the fields alone.
-use Rattle.std.specs.Prelude.{◌≡◌, ◌<◌, ℕ, true, false, ◌+◌, List, [], ◌∷◌, ◌++◌, length, map, drop, flat_map}
+use Rattle.std.specs.Prelude.{◌≡◌, ◌<◌, ℕ, true, false, ◌+◌, List, [], ◌∷◌, ◌++◌, length, map, take, drop, flat_map, slice_index}
 use Rattle.usb_file.specs.declared.input.Input.{Input}
 use Rattle.usb_file.specs.declared.input_fault.InputFault.{InputFault}
 use Rattle.usb_explained_lines.specs.declared.kind.Kind.TheVariants as kinds
@@ -8,7 +8,7 @@ use Rattle.usb_explain.specs.declared.manner.Manner.{Manner}
 use Rattle.usb_explain.specs.declared.role.Role.{Role}
 use Rattle.usb_explain.specs.declared.standing.Standing.{Standing}
 use Rattle.usb_explain.specs.Explanations.{broken_end, broken_explanation, broken_name, explanation, first_line, input_name, last_line, whole_end}
-use Rattle.usb_explain.specs.Faults.{fault_text}
+use Rattle.usb_explain.specs.Faults.{fault_text, place_of_fault}
 use Rattle.usb_explain.specs.Findings.{role_findings}
 use Rattle.usb_explain.specs.Kinds.{depth_of, kind_of}
 use Rattle.usb_explain.specs.Subjects.{Subject, broken_subject, findings_of, subject_with}
@@ -45,12 +45,18 @@ abbrev pub Follow : ℕ → List Span → ℕ → Type 0
 Follow from [] to = from ≡ to
 Follow from (x ∷ xs) to = (x.start ≡ from) × (0 < x.count) × Follow (from + x.count) xs to
 
--- A text that stands for each of these bytes once. Between its first line and its end are the lines of descriptors. Their
--- bytes and those of the rest are the bytes, in their order, and the headings' places are where those bytes stand.
-pub record EachByteOnce (subject : Subject) (bytes first : List ℕ) (ending : ℕ → List ℕ) (text : List ℕ) : Type 0 where
+-- these bytes are descriptors one after another, each as long as its first byte says, and then a rest
+abbrev pub Cut : List ℕ → List Shown → List ℕ → Type 0
+Cut bytes [] rest = bytes ≡ rest
+Cut bytes (d ∷ ds) rest = (bytes ≡ d.bytes ++ d.behind) × (slice_index d.bytes 0 ≡ length d.bytes) × Cut d.behind ds rest
+
+-- A text that stands for each of these bytes once. Between its first line and its end are the lines of the descriptors into
+-- which a front of the bytes is cut. Their bytes and the rest are all bytes, and the headings' places are where those stand.
+pub record EachByteOnce (subject : Subject) (front bytes first : List ℕ) (ending : ℕ → List ℕ) (text : List ℕ) : Type 0 where
   pub shown : List Shown
   pub end : ℕ
   pub lines : text ≡ first ++ (flat_map (lines_of subject) shown ++ ending end)
+  pub cut : Cut front shown (drop end front)
   pub parts : bytes ≡ flat_map (λ d. d.bytes) shown ++ drop end bytes
   pub spans : Follow 0 (map span_of shown ++ rest_span end (drop end bytes)) (length bytes)
 
@@ -59,13 +65,14 @@ abbrev pub WholeEachByteOnce : Type 0
 WholeEachByteOnce =
     (manner : Manner) (input : Input) (b : List ℕ) →
     (let subject = subject_with manner input (findings_of input) in
-    EachByteOnce subject b (first_line (input_name input) (length b)) (whole_end subject (length (findings_of input)) b) (explanation manner input b))
+    EachByteOnce subject b b (first_line (input_name input) (length b)) (whole_end subject (length (findings_of input)) b) (explanation manner input b))
 
--- so does that of bytes that are no input: its rest begins at the fault's place or before it
+-- so does that of bytes that are no input: its descriptors end at the place of the fault or before it
 abbrev pub BrokenEachByteOnce : Type 0
 BrokenEachByteOnce =
     (manner : Manner) (fault : InputFault) (b : List ℕ) →
-    EachByteOnce (broken_subject manner) b (first_line (broken_name b) (length b)) (broken_end (broken_subject manner) fault b) (broken_explanation manner fault b)
+    EachByteOnce (broken_subject manner) (take (place_of_fault fault) b) b (first_line (broken_name b) (length b))
+    (broken_end (broken_subject manner) fault b) (broken_explanation manner fault b)
 
 -- the same manner, with the lines of fields or without them
 abbrev pub with_fields : Manner → Manner

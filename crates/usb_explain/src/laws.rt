@@ -2,7 +2,8 @@
 ghost use Rattle.usb_explain.specs.Laws.{BrokenEachByteOnce, BrokenLeavesOutFields, WholeEachByteOnce, WholeLeavesOutFields};
 
 /// Each byte once: the places and lengths in the headings follow each other from 0 to the number of bytes, and each heading
-/// begins the lines of the descriptor that stands there. The last one is that of the rest, if bytes are left.
+/// begins the lines of the descriptor that stands there, as long as its bLength. The last one is that of the rest, if bytes
+/// are left. In bytes that are no input the rest begins at the place of the fault or before it.
 pub fn each_byte_has_one_heading()
     ensures whole { WholeEachByteOnce }
     ensures broken { BrokenEachByteOnce }
