@@ -2,3 +2,5 @@ pub mod Standings
 pub mod Walking
 pub mod Endings
 pub mod Keys
+pub mod Spans
+pub mod Brief

@@ -1,5 +1,5 @@
 -- How it stands behind a descriptor.
-use Rattle.std.proofs.Common.{◌≡◌, ◌≤◌, ℕ, ◌+◌, List, length, Option, Some, None, refl, arith}
+use Rattle.std.proofs.Common.{◌≡◌, ◌≤◌, ℕ, ◌+◌, List, Option, Some, None, refl, arith}
 use Rattle.usb_rules.specs.declared.finding.Part.{Part}
 use Rattle.usb_rules.specs.declared.finding.Part.TheVariants as parts
 use Rattle.usb_survey.specs.declared.speed.RunningSpeed.{RunningSpeed}
@@ -8,7 +8,7 @@ use Rattle.usb_explain.specs.declared.role.Role.TheVariants.{Device, Qualifier, 
 use Rattle.usb_explain.specs.declared.standing.SettingStanding.{SettingStanding}
 use Rattle.usb_explain.specs.declared.standing.Standing.{Standing}
 use Rattle.usb_explain.specs.Opening.{entered, opened}
-use Rattle.usb_explain.specs.Passing.{moved, noted, passed, with_endpoint, with_set}
+use Rattle.usb_explain.specs.Passing.{moved, noted, with_endpoint, with_set}
 use Rattle.usb_explain.specs.Standings.{start}
 use Rattle.usb_explain.specs.inside.Walking.{Counted, endpoints_of}
 

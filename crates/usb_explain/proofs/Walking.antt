@@ -1,5 +1,5 @@
 -- The walk over the descriptors of an input, step by step.
-use Rattle.std.proofs.Common.{◌≡◌, ◌≤◌, ◌<◌, ℕ, zero, suc, ◌+◌, ◌-◌, List, [], ◌∷◌, ◌++◌, codes, length, take, drop, Option, Some, None, unwrap_or, refl, sym, ap, subst, ◌∙◌, arith, append_assoc, append-nil, length-append, length-drop}
+use Rattle.std.proofs.Common.{◌≡◌, ◌≤◌, ◌<◌, ℕ, zero, suc, ◌+◌, ◌-◌, List, [], ◌++◌, length, take, drop, Some, None, unwrap_or, refl, sym, ap, subst, ◌∙◌, arith, append_assoc, append-nil, length-append, length-drop}
 use Rattle.std.proofs.lemmas.List.{length-take-le}
 use Rattle.std.specs.Option.{option_map}
 use Rattle.usb_listing.specs.Output.{AppendsLess, Held}
@@ -12,12 +12,11 @@ use Rattle.usb_explained_lines.specs.Kinds.{heading}
 use Rattle.usb_explained_fields.specs.Lines.{heading_line}
 use Rattle.usb_explain.specs.declared.role.Role.{Role}
 use Rattle.usb_explain.specs.declared.standing.Standing.{Standing}
-use Rattle.usb_explain.specs.Passing.{passed}
 use Rattle.usb_explain.specs.Roles.{next_role}
 use Rattle.usb_explain.specs.Standings.{start}
 use Rattle.usb_explain.specs.Subjects.{Subject}
 use Rattle.usb_explain.specs.Walks.{behind_next, block, here, next_block, walked}
-use Rattle.usb_explain.specs.inside.Walking.{Counted, PutsWalk, Walked}
+use Rattle.usb_explain.specs.inside.Walking.{Counted, PutsWalk}
 use Rattle.usb_explain.proofs.Standings.{counted_entered, counted_noted, entered_at, noted_at}
 
 -- where a descriptor can stand, its lines come first

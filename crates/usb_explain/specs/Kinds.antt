@@ -1,15 +1,13 @@
 -- What the words of a descriptor depend on, and the depth of its heading.
 use Rattle.std.specs.Prelude.{ℕ, List, length, slice_index, Bool, true, false, nat_le, ◌==◌, Option, Some, None, option_and_then}
-use Rattle.std.specs.Option.{option_map}
 use Rattle.usb_base.specs.Bytes.{little_endian_at}
 use Rattle.usb_names.specs.declared.codes.ClassCodes.{ClassCodes}
 use Rattle.usb_survey.specs.declared.speed.RunningSpeed.{RunningSpeed}
 use Rattle.usb_survey.specs.declared.speed.RunningSpeed.TheVariants.{Super}
-use Rattle.usb_survey.specs.inside.Gathered.{bound_at}
+use Rattle.usb_survey.specs.Bindings.{bound_at}
 use Rattle.usb_explained_lines.specs.declared.kind.Kind.{Kind}
 use Rattle.usb_explained_lines.specs.declared.kind.Kind.TheVariants as kinds
 use Rattle.usb_explained_lines.specs.declared.kind.StringPlace.{StringPlace}
-use Rattle.usb_file_data.specs.declared.file.Strings.{Strings}
 use Rattle.usb_explain.specs.declared.role.Role.{Role}
 use Rattle.usb_explain.specs.declared.role.Role.TheVariants.{Device, Qualifier, Configuration, Association, Interface, Endpoint, Raw, Languages, Text}
 use Rattle.usb_explain.specs.declared.standing.Owner.{Owner}

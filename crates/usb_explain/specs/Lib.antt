@@ -8,4 +8,5 @@ pub mod Passing
 pub mod Walks
 pub mod Faults
 pub mod Explanations
+pub mod Laws
 pub mod inside

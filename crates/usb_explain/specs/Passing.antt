@@ -6,7 +6,6 @@ use Rattle.usb_rules.specs.declared.finding.Part.TheVariants.{Other}
 use Rattle.usb_explain.specs.declared.role.Role.{Role}
 use Rattle.usb_explain.specs.declared.role.Role.TheVariants.{Device, Qualifier, Configuration, Association, Interface, Endpoint, Raw, Languages, Text}
 use Rattle.usb_explain.specs.declared.standing.Owner.TheVariants as owners
-use Rattle.usb_explain.specs.declared.standing.SetStanding.{SetStanding}
 use Rattle.usb_explain.specs.declared.standing.SettingStanding.{SettingStanding}
 use Rattle.usb_explain.specs.declared.standing.Standing.{Standing}
 

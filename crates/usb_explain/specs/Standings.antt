@@ -1,10 +1,9 @@
 -- Where a descriptor stands in an input.
-use Rattle.std.specs.Prelude.{ℕ, ◌≤◌, replicate, false, Option, Some, None, MatchOption}
+use Rattle.std.specs.Prelude.{replicate, false, None}
 use Rattle.usb_rules.specs.declared.finding.Part.TheVariants.{Main}
 use Rattle.usb_words.specs.declared.speed.Speed.TheVariants.{FullOrHigh}
 use Rattle.usb_explain.specs.declared.standing.Owner.TheVariants as owners
 use Rattle.usb_explain.specs.declared.standing.SetStanding.{SetStanding}
-use Rattle.usb_explain.specs.declared.standing.SettingStanding.{SettingStanding}
 use Rattle.usb_explain.specs.declared.standing.Standing.{Standing}
 
 -- in no set yet

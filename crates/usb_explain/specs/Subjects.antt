@@ -1,8 +1,6 @@
 -- What is explained, and what is known of the whole of it.
-use Rattle.std.specs.Prelude.{ℕ, zero, ◌/◌, ◌%◌, ◌==◌, ◌&&◌, List, [], slice_get, Bool, true, false, Option, Some, None, option_and_then}
+use Rattle.std.specs.Prelude.{ℕ, zero, ◌/◌, ◌%◌, ◌==◌, ◌&&◌, List, [], slice_get, Bool, true, false, Option, Some, None}
 use Rattle.std.specs.List.{list_any}
-use Rattle.std.specs.Option.{option_map}
-use Rattle.usb_file_data.specs.declared.file.DescriptorFile.{DescriptorFile}
 use Rattle.usb_file_data.specs.declared.file.Strings.{Strings}
 use Rattle.usb_file_data.specs.Named.{named_indices}
 use Rattle.usb_file.specs.declared.input.Input.{Input}

@@ -5,6 +5,8 @@
 //!
 //! What the whole text is is `specs/Explanations.antt`, and the walk over the bytes `specs/Walks.antt`. Where a descriptor
 //! stands is `specs/Standings.antt`, what it is there `specs/Roles.antt`, and what is told of it `specs/Findings.antt`.
+//!
+//! [`laws`] says what holds of each explanation: every byte stands under one heading, and a brief text leaves out fields alone.
 #![tactic(auto)]
 
 mod block;
@@ -13,6 +15,7 @@ mod explaining;
 mod fault_line;
 mod found;
 mod kind;
+pub mod laws;
 mod manner;
 mod opening;
 mod passing;

@@ -7,10 +7,10 @@ use Rattle.std.proofs.lemmas.List.FromFn.{get_or-map-range_with_len, length-map-
 use Rattle.usb_words.specs.declared.speed.Speed.{Speed}
 use Rattle.usb_survey.specs.declared.gathering.Gathering.{Gathering}
 use Rattle.usb_survey.specs.declared.survey.Survey.{Survey}
-use Rattle.usb_survey.specs.Bindings.{binding, bindings}
+use Rattle.usb_survey.specs.Bindings.{binding, bindings, bound_at}
 use Rattle.usb_survey.specs.Speaking.{speaks_high, speaks_low_or_full}
 use Rattle.usb_survey.specs.Surveys.{spoken_speed, survey_of}
-use Rattle.usb_survey.specs.inside.Gathered.{bound_at, bound_with, Gathers, or_else}
+use Rattle.usb_survey.specs.inside.Gathered.{bound_with, Gathers, or_else}
 
 pub or_none : (x : Option ℕ) → or_else x None ≡ x
 or_none None = refl

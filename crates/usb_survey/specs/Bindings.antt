@@ -1,5 +1,5 @@
 -- Which association binds an interface (ECN on interface associations, 9.X.Y).
-use Rattle.std.specs.Prelude.{ℕ, ◌+◌, List, [], ◌∷◌, map, slice_index, Bool, nat_le, nat_lt, ◌&&◌, Option, Some, None, if◌then◌else◌}
+use Rattle.std.specs.Prelude.{ℕ, ◌+◌, List, [], ◌∷◌, map, slice_index, slice_index_or, Bool, nat_le, nat_lt, ◌&&◌, Option, Some, None, if◌then◌else◌}
 use Rattle.std.specs.List.{range_with_len}
 use Rattle.usb_survey.specs.Kinds.{is_association}
 
@@ -21,3 +21,7 @@ binding number next (d ∷ ds) =
 -- that association for each of the 256 numbers
 unfoldable pub bindings : List (List ℕ) → List (Option ℕ)
 bindings ds = map (λ number. binding number 0 ds) (range_with_len 0 256)
+
+-- the association that binds an interface of this number
+abbrev pub bound_at : List (Option ℕ) → ℕ → Option ℕ
+bound_at bindings number = slice_index_or bindings number None

@@ -1,7 +1,7 @@
 //! Which association binds each interface.
 ghost use Rattle.std.specs.Prelude.{◌≡◌, ◌<◌, ℕ, length, None, Some, if◌then◌else◌, replicate, slice_index_or};
-ghost use Rattle.usb_survey.specs.Bindings.{binds};
-ghost use Rattle.usb_survey.specs.inside.Gathered.{bound_at, or_else};
+ghost use Rattle.usb_survey.specs.Bindings.{binds, bound_at};
+ghost use Rattle.usb_survey.specs.inside.Gathered.{or_else};
 
 use std::marker::Model;
 

@@ -1,17 +1,13 @@
 -- What is gathered of a set, descriptor by descriptor.
-use Rattle.std.specs.Prelude.{◌≡◌, ◌≤◌, ◌<◌, ℕ, ◌+◌, List, ◌∷◌, length, slice_index_or, Bool, ◌||◌, Option, Some, None}
+use Rattle.std.specs.Prelude.{◌≡◌, ◌≤◌, ◌<◌, ℕ, ◌+◌, List, ◌∷◌, length, Bool, ◌||◌, Option, Some, None}
 use Rattle.std.specs.List.{list_any}
 use Rattle.usb_base.specs.Marks.{is_marked, unmarked}
-use Rattle.usb_survey.specs.Bindings.{binding}
+use Rattle.usb_survey.specs.Bindings.{binding, bound_at}
 use Rattle.usb_survey.specs.Counts.{interfaces_beyond}
 use Rattle.usb_survey.specs.Speaking.{speaks_high, speaks_low_or_full}
 use Rattle.usb_survey.specs.declared.gathering.Gathering.{Gathering}
 use Rattle.usb_survey.specs.declared.gathering.Numbers.{Numbers}
 use Rattle.usb_survey.specs.declared.gathering.Binders.{Binders}
-
--- the association that binds an interface of this number
-abbrev pub bound_at : List (Option ℕ) → ℕ → Option ℕ
-bound_at bindings number = slice_index_or bindings number None
 
 -- the first of two that is there
 abbrev pub or_else : Option ℕ → Option ℕ → Option ℕ

@@ -1,8 +1,8 @@
 use Rattle.std.proofs.Common.{[], length}
 use Rattle.usb_listing.proofs.Pages.{not_begun, on_err}
 use Rattle.usb_explain.specs.Explanations.{input_name}
-use Rattle.usb_explain.specs.Subjects.{broken_subject, findings_of, subject_with}
-use Rattle.usb_explain.proofs.Endings.{broken_has, whole_has}
+use Rattle.usb_explain.specs.Subjects.{findings_of, subject_with}
+use Rattle.usb_explain.proofs.Endings.{whole_has}
 use Rattle.usb_explain.proofs.explaining.explain.Goals as goal
 
 pub returns-in_err-findings-clause-err : goal.returns-in_err-findings-clause-err

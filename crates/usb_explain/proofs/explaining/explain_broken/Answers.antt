@@ -1,8 +1,7 @@
-use Rattle.std.proofs.Common.{[], length}
+use Rattle.std.proofs.Common.{[]}
 use Rattle.usb_listing.proofs.Pages.{not_begun, on_err}
-use Rattle.usb_explain.specs.Explanations.{input_name}
-use Rattle.usb_explain.specs.Subjects.{broken_subject, findings_of, subject_with}
-use Rattle.usb_explain.proofs.Endings.{broken_has, whole_has}
+use Rattle.usb_explain.specs.Subjects.{broken_subject}
+use Rattle.usb_explain.proofs.Endings.{broken_has}
 use Rattle.usb_explain.proofs.explaining.explain_broken.Goals as goal
 
 pub returns-in_err-subject-clause-err : goal.returns-in_err-subject-clause-err

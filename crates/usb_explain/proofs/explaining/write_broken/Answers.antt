@@ -1,10 +1,10 @@
-use Rattle.std.proofs.Common.{◌≡◌, ◌++◌, ◌∙◌, ℕ, List, [], ap, length, refl, subst, sym, take}
+use Rattle.std.proofs.Common.{◌≡◌, ◌++◌, ◌∙◌, [], ap, length, subst, take}
 use Rattle.std.proofs.lemmas.Result.{on_err_weaker, on_ok_weaker}
 use Rattle.usb_listing.proofs.Pages.{not_begun, on_err}
-use Rattle.usb_explain.specs.Explanations.{broken_end, broken_name, broken_text, first_line, whole_end, whole_text}
+use Rattle.usb_explain.specs.Explanations.{broken_end, broken_name, first_line}
 use Rattle.usb_explain.specs.Faults.{place_of_fault}
 use Rattle.usb_explain.specs.inside.Walking.{PutsWalk}
-use Rattle.usb_explain.proofs.Endings.{broken_end_has, broken_has, broken_parts, broken_walk_broken, parts_cut, parts_unwritten, parts_written, walk_broken, whole_end_has, whole_has, whole_parts}
+use Rattle.usb_explain.proofs.Endings.{broken_end_has, broken_has, broken_parts, broken_walk_broken, parts_cut, parts_unwritten, parts_written}
 use Rattle.usb_explain.proofs.explaining.write_broken.Goals as goal
 
 pub returns-in_err-put_first_line-clause-err : goal.returns-in_err-put_first_line-clause-err

@@ -1,16 +1,12 @@
-use Rattle.std.proofs.Common.{◌≡◌, ◌+◌, zero-add, ◌≤◌, ◌<◌, ◌++◌, ◌∙◌, ℕ, List, Some, None, ap, arith, drop, length, refl, subst, sym, take, rules, append-nil, [], length-drop}
+use Rattle.std.proofs.Common.{◌≡◌, ◌+◌, zero-add, ◌++◌, ◌∙◌, Some, ap, arith, length, subst, sym, append-nil, []}
 use Rattle.std.proofs.lemmas.List.{length-take-le}
 use Rattle.usb_listing.proofs.Pages.{appends_nothing, keeps_refl, on_err}
-use Rattle.usb_explain.specs.declared.role.Role.{Role}
 use Rattle.usb_explain.specs.declared.standing.Standing.{Standing}
-use Rattle.usb_explain.specs.Opening.{entered}
-use Rattle.usb_explain.specs.Passing.{passed}
 use Rattle.usb_explain.specs.Roles.{next_role}
-use Rattle.usb_explain.specs.Standings.{start}
-use Rattle.usb_explain.specs.Walks.{behind_next, block, next_block, walked}
+use Rattle.usb_explain.specs.Walks.{next_block, walked}
 use Rattle.usb_explain.specs.inside.Walking.{Counted}
 use Rattle.usb_explain.proofs.Standings.{counted_entered, entered_at, start_at}
-use Rattle.usb_explain.proofs.Walking.{WalksOn, block_broken, block_unwritten, walks_end, walks_next, walks_stopped}
+use Rattle.usb_explain.proofs.Walking.{block_broken, block_unwritten, walks_end, walks_next, walks_stopped}
 use Rattle.usb_explain.proofs.walk.write_blocks.Goals as goal
 
 pub loop-role-init : goal.loop-role-init

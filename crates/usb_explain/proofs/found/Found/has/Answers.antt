@@ -1,4 +1,4 @@
-use Rattle.std.proofs.Common.{◌≡◌, ◌∙◌, ap}
+use Rattle.std.proofs.Common.{◌∙◌, ap}
 use Rattle.std.specs.List.{list_any}
 use Rattle.usb_explain.specs.Subjects.{is_among, is_same_key, key_of}
 use Rattle.usb_explain.proofs.Keys.{any_same}

@@ -1,4 +1,4 @@
-use Rattle.std.proofs.Common.{◌≡◌, ◌∙◌, ◌||◌, ap, arith, sym}
+use Rattle.std.proofs.Common.{◌∙◌, ◌||◌, ap, arith, sym}
 use Rattle.std.specs.List.{list_any}
 use Rattle.usb_explain.specs.contracts.found.KeyPartialEq.TheImpl.{eq-value}
 use Rattle.usb_explain.proofs.Keys.{any_same, more_found, one_more}

@@ -1,5 +1,6 @@
 use Rattle.std.proofs.Common.{◌≡◌, ◌<◌, ◌≤◌, ◌&&◌, ℕ, Some, None, nat_le, nat_lt, if◌then◌else◌, length}
-use Rattle.usb_survey.specs.inside.Gathered.{bound_at, or_else}
+use Rattle.usb_survey.specs.Bindings.{bound_at}
+use Rattle.usb_survey.specs.inside.Gathered.{or_else}
 use Rattle.usb_survey.proofs.bindings.Bindings.bind.Given as goal
 
 abbrev pub invariant-loop-number : goal.invariant-loop-number

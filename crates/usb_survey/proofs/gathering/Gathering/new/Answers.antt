@@ -1,9 +1,9 @@
 use Rattle.std.proofs.Common.{◌≡◌, refl, sym, ap, ◌∙◌, None, Option, ℕ, length, replicate, add-zero}
 use Rattle.std.proofs.lemmas.List.{length-replicate}
 use Rattle.std.proofs.lemmas.List.{get_or-replicate}
-use Rattle.usb_survey.specs.Bindings.{binding}
+use Rattle.usb_survey.specs.Bindings.{binding, bound_at}
 use Rattle.usb_survey.specs.Counts.{interfaces_beyond}
-use Rattle.usb_survey.specs.inside.Gathered.{bound_at, or_else}
+use Rattle.usb_survey.specs.inside.Gathered.{or_else}
 use Rattle.usb_survey.proofs.gathering.Gathering.new.Goals as goal
 
 pub returns-clause-all : goal.returns-clause-all

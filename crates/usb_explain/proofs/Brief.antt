@@ -1,0 +1,197 @@
+-- A text with its fields, and the same one without them.
+use Rattle.std.proofs.Common.{◌≡◌, ℕ, List, [], ◌∷◌, ◌++◌, Bool, true, false, flat_map, length, drop, take, refl, sym, ap, ◌∙◌, append-nil}
+use Rattle.usb_file.specs.declared.input.Input.{Input}
+use Rattle.usb_file.specs.declared.input.Input.TheVariants as inputs
+use Rattle.usb_file.specs.declared.input_fault.InputFault.{InputFault}
+use Rattle.usb_rules.specs.declared.finding.Finding.{Finding}
+use Rattle.usb_explained_lines.specs.declared.kind.Kind.{Kind}
+use Rattle.usb_explained_lines.specs.declared.kind.Kind.TheVariants as kinds
+use Rattle.usb_explained_lines.specs.declared.look.Look.{Look}
+use Rattle.usb_explained_lines.specs.Kinds.{fields, heading, kind_lines}
+use Rattle.usb_explained_lines.specs.Lines.{heading_line}
+use Rattle.usb_explain.specs.declared.manner.Manner.{Manner}
+use Rattle.usb_explain.specs.declared.role.Role.{Role}
+use Rattle.usb_explain.specs.declared.role.Role.TheVariants.{Device, Qualifier, Configuration, Association, Interface, Endpoint, Raw, Languages, Text}
+use Rattle.usb_explain.specs.declared.standing.SettingStanding.{SettingStanding}
+use Rattle.usb_explain.specs.declared.standing.Standing.{Standing}
+use Rattle.usb_explain.specs.Explanations.{broken_end, broken_explanation, broken_name, explanation, first_line, input_name, last_line, whole_end, whole_text}
+use Rattle.usb_explain.specs.Faults.{fault_text, place_of_fault}
+use Rattle.usb_explain.specs.Findings.{association_findings, device_findings, interface_findings, qualifier_findings, role_findings, set_findings_text, setting_findings, told_line}
+use Rattle.usb_explain.specs.Kinds.{depth_of, kind_of}
+use Rattle.usb_explain.specs.Laws.{BrokenLeavesOutFields, LeavesOutFields, Shown, WholeLeavesOutFields, fields_of, head_of, lines_of, rest_fields, rest_head, with_fields, without_fields}
+use Rattle.usb_explain.specs.Standings.{start}
+use Rattle.usb_explain.specs.Subjects.{Subject, broken_subject, findings_of, subject_with}
+use Rattle.usb_explain.specs.Walks.{block, rest_text, walked}
+use Rattle.usb_explain.proofs.Spans.{broken_is, walk_shows, whole_is, with_look}
+
+-- a look with the lines of fields or without them
+abbrev pub brief_if : Bool → Look → Look
+brief_if brief look = record look { brief = brief }
+
+-- a heading doesn't tell whether fields follow
+heading_same : (brief : Bool) (look : Look) (depth : ℕ) (kind : Kind) (b : List ℕ) (at : ℕ) → heading (brief_if brief look) depth kind b at ≡ heading look depth kind b at
+unfolding heading heading_line
+heading_same brief look depth kind b at = refl
+
+fields_shown : (look : Look) (depth : ℕ) (subject : Subject) (kind : Kind) (b : List ℕ) → fields (brief_if false look) depth subject.names kind b ≡ kind_lines depth subject.names kind b
+unfolding fields
+fields_shown look depth subject kind b = refl
+
+fields_left_out : (look : Look) (depth : ℕ) (subject : Subject) (kind : Kind) (b : List ℕ) → fields (brief_if true look) depth subject.names kind b ≡ []
+unfolding fields
+fields_left_out look depth subject kind b = refl
+
+-- a kind doesn't depend on the look
+kind_same : (look : Look) (subject : Subject) (s : Standing) (role : Role) (d : List ℕ) → kind_of (with_look look subject) s role d ≡ kind_of subject s role d
+unfolding kind_of
+kind_same look subject s Device d = refl
+kind_same look subject s Qualifier d = refl
+kind_same look subject s Configuration d = refl
+kind_same look subject s Association d = refl
+kind_same look subject s Interface d = refl
+kind_same look subject s Endpoint d = refl
+kind_same look subject s Raw d = refl
+kind_same look subject s Languages d = refl
+kind_same look subject s Text d = refl
+
+-- neither do findings
+setting_same : (look : Look) (subject : Subject) (s : Standing) (setting : SettingStanding) → setting_findings (with_look look subject) s.set setting ≡ setting_findings subject s.set setting
+unfolding setting_findings told_line
+setting_same look subject s setting = refl
+
+findings_same : (look : Look) (subject : Subject) (s : Standing) (role : Role) (d behind : List ℕ) → role_findings (with_look look subject) s role d behind ≡ role_findings subject s role d behind
+unfolding role_findings device_findings qualifier_findings set_findings_text association_findings interface_findings setting_findings told_line
+findings_same look subject s Device d behind = refl
+findings_same look subject s Qualifier d behind = refl
+findings_same look subject s Configuration d behind = refl
+findings_same look subject s Association d behind = refl
+findings_same look subject s Interface d behind = refl
+findings_same look subject s Endpoint d behind = refl
+findings_same look subject s Raw d behind = refl
+findings_same look subject s Languages d behind = refl
+findings_same look subject s Text d behind = refl
+
+-- the lines of a descriptor are its heading and findings, and then its fields
+head_same : (brief : Bool) (subject : Subject) (d : Shown)
+    → head_of (with_look (brief_if brief subject.manner.look) subject) d ≡ head_of subject d
+head_same brief subject d =
+    ap (λ kind. heading (brief_if brief subject.manner.look) (depth_of d.standing d.role) kind d.bytes d.standing.at ++ role_findings (with_look (brief_if brief subject.manner.look) subject) d.standing d.role d.bytes d.behind)
+    (kind_same (brief_if brief subject.manner.look) subject d.standing d.role d.bytes)
+    ∙ ap (λ l. l ++ role_findings (with_look (brief_if brief subject.manner.look) subject) d.standing d.role d.bytes d.behind)
+    (heading_same brief subject.manner.look (depth_of d.standing d.role) (kind_of subject d.standing d.role d.bytes) d.bytes d.standing.at)
+    ∙ ap (λ l. heading subject.manner.look (depth_of d.standing d.role) (kind_of subject d.standing d.role d.bytes) d.bytes d.standing.at ++ l)
+    (findings_same (brief_if brief subject.manner.look) subject d.standing d.role d.bytes d.behind)
+
+lines_are : (subject : Subject) (d : Shown)
+    → lines_of subject d ≡ head_of subject d ++ fields subject.manner.look (depth_of d.standing d.role) subject.names (kind_of subject d.standing d.role d.bytes) d.bytes
+unfolding block
+lines_are subject d = refl
+
+full_lines : (subject : Subject) (d : Shown) → lines_of (with_look (brief_if false subject.manner.look) subject) d ≡ head_of subject d ++ fields_of subject d
+full_lines subject d =
+    let look = brief_if false subject.manner.look in
+    lines_are (with_look look subject) d
+    ∙ ap (λ l. head_of (with_look look subject) d ++ l) (fields_shown subject.manner.look (depth_of d.standing d.role) subject (kind_of (with_look look subject) d.standing d.role d.bytes) d.bytes)
+    ∙ ap (λ kind. head_of (with_look look subject) d ++ kind_lines (depth_of d.standing d.role) subject.names kind d.bytes) (kind_same look subject d.standing d.role d.bytes)
+    ∙ ap (λ l. l ++ fields_of subject d) (head_same false subject d)
+
+brief_lines : (subject : Subject) (d : Shown) → lines_of (with_look (brief_if true subject.manner.look) subject) d ≡ head_of subject d
+brief_lines subject d =
+    let look = brief_if true subject.manner.look in
+    lines_are (with_look look subject) d
+    ∙ ap (λ l. head_of (with_look look subject) d ++ l) (fields_left_out subject.manner.look (depth_of d.standing d.role) subject (kind_of (with_look look subject) d.standing d.role d.bytes) d.bytes)
+    ∙ append-nil (head_of (with_look look subject) d)
+    ∙ head_same true subject d
+
+all_same : (f g : Shown → List ℕ) → ((d : Shown) → f d ≡ g d) → (ds : List Shown) → flat_map f ds ≡ flat_map g ds
+all_same f g e [] = refl
+all_same f g e (d ∷ ds) = ap (λ l. l ++ flat_map f ds) (e d) ∙ ap (λ l. g d ++ l) (all_same f g e ds)
+
+-- the rest
+full_rest : (subject : Subject) (at : ℕ) (rest : List ℕ) → rest_text (with_look (brief_if false subject.manner.look) subject) at rest ≡ rest_head subject at rest ++ rest_fields subject rest
+full_rest subject at [] = refl
+full_rest subject at (x ∷ rest) =
+    ap (λ l. l ++ fields (brief_if false subject.manner.look) 0 subject.names kinds.Rest (x ∷ rest)) (heading_same false subject.manner.look 0 kinds.Rest (x ∷ rest) at)
+    ∙ ap (λ l. heading subject.manner.look 0 kinds.Rest (x ∷ rest) at ++ l) (fields_shown subject.manner.look 0 subject kinds.Rest (x ∷ rest))
+
+brief_rest : (subject : Subject) (at : ℕ) (rest : List ℕ) → rest_text (with_look (brief_if true subject.manner.look) subject) at rest ≡ rest_head subject at rest
+brief_rest subject at [] = refl
+brief_rest subject at (x ∷ rest) =
+    ap (λ l. l ++ fields (brief_if true subject.manner.look) 0 subject.names kinds.Rest (x ∷ rest)) (heading_same true subject.manner.look 0 kinds.Rest (x ∷ rest) at)
+    ∙ ap (λ l. heading subject.manner.look 0 kinds.Rest (x ∷ rest) at ++ l) (fields_left_out subject.manner.look 0 subject kinds.Rest (x ∷ rest))
+    ∙ append-nil (heading subject.manner.look 0 kinds.Rest (x ∷ rest) at)
+
+-- what ends a text: lines before the rest, the rest, and the last line
+abbrev pub end_by : Subject → List ℕ → List ℕ → List ℕ → ℕ → List ℕ
+end_by subject b before_rest last at = before_rest ++ (rest_text subject at (drop at b) ++ last)
+
+pub leaves_out : (subject : Subject) (b front first before_rest last one other : List ℕ) (n : ℕ) (one_end other_end : ℕ → List ℕ)
+    → ((at : ℕ) → one_end at ≡ end_by (with_look (brief_if false subject.manner.look) subject) b before_rest last at)
+    → ((at : ℕ) → other_end at ≡ end_by (with_look (brief_if true subject.manner.look) subject) b before_rest last at)
+    → one ≡ first ++ walked n (with_look (brief_if false subject.manner.look) subject) one_end start front
+    → other ≡ first ++ walked n (with_look (brief_if true subject.manner.look) subject) other_end start front
+    → LeavesOutFields subject b first before_rest last one other
+leaves_out subject b front first before_rest last one other n one_end other_end one_ends other_ends full brief =
+    let w = walk_shows subject n start front in
+    let long = with_look (brief_if false subject.manner.look) subject in
+    let short = with_look (brief_if true subject.manner.look) subject in
+    record {
+      shown = w.shown;
+      end = w.end;
+      has_fields = full ∙ ap (λ l. first ++ l) (w.lines (brief_if false subject.manner.look) one_end
+          ∙ ap (λ l. flat_map (lines_of long) w.shown ++ l) (one_ends w.end)
+          ∙ ap (λ l. l ++ end_by long b before_rest last w.end) (all_same (lines_of long) (λ d. head_of subject d ++ fields_of subject d) (full_lines subject) w.shown)
+          ∙ ap (λ l. flat_map (λ d. head_of subject d ++ fields_of subject d) w.shown ++ (before_rest ++ (l ++ last))) (full_rest subject w.end (drop w.end b)));
+      has_none = brief ∙ ap (λ l. first ++ l) (w.lines (brief_if true subject.manner.look) other_end
+          ∙ ap (λ l. flat_map (lines_of short) w.shown ++ l) (other_ends w.end)
+          ∙ ap (λ l. l ++ end_by short b before_rest last w.end) (all_same (lines_of short) (head_of subject) (brief_lines subject) w.shown)
+          ∙ ap (λ l. flat_map (head_of subject) w.shown ++ (before_rest ++ (l ++ last))) (brief_rest subject w.end (drop w.end b)));
+    }
+
+-- what ends the explanation of an input, and that of bytes which are none
+subject_looks : (brief : Bool) (manner : Manner) (input : Input) (all : List Finding)
+    → subject_with (record manner { look = brief_if brief manner.look }) input all ≡ with_look (brief_if brief manner.look) (subject_with manner input all)
+subject_looks brief manner (inputs.Set set) all = refl
+subject_looks brief manner (inputs.File file) all = refl
+subject_looks brief manner (inputs.Dump file) all = refl
+
+manner_of : (manner : Manner) (input : Input) (all : List Finding) → (subject_with manner input all).manner ≡ manner
+manner_of manner (inputs.Set set) all = refl
+manner_of manner (inputs.File file) all = refl
+manner_of manner (inputs.Dump file) all = refl
+
+-- the explanation of an input with fields or without
+whole_looks : (brief : Bool) (manner : Manner) (input : Input) (b : List ℕ)
+    → (let subject = subject_with manner input (findings_of input) in
+    let looks = with_look (brief_if brief subject.manner.look) subject in
+    explanation (record manner { look = brief_if brief manner.look }) input b
+    ≡ first_line (input_name input) (length b) ++ walked (length b) looks (whole_end looks (length (findings_of input)) b) start b)
+whole_looks brief manner input b =
+    ap (λ s. whole_text s (input_name input) (length (findings_of input)) b)
+    (subject_looks brief manner input (findings_of input)
+    ∙ ap (λ m. with_look (brief_if brief m.look) (subject_with manner input (findings_of input))) (sym (manner_of manner input (findings_of input))))
+    ∙ whole_is (with_look (brief_if brief (subject_with manner input (findings_of input)).manner.look) (subject_with manner input (findings_of input)))
+    (input_name input) (length (findings_of input)) b
+
+pub whole_leaves_out : WholeLeavesOutFields
+whole_leaves_out manner input b =
+    leaves_out (subject_with manner input (findings_of input)) b b (first_line (input_name input) (length b)) [] (last_line (length (findings_of input)))
+    (explanation (with_fields manner) input b) (explanation (without_fields manner) input b) (length b)
+    (whole_end (with_look (brief_if false (subject_with manner input (findings_of input)).manner.look) (subject_with manner input (findings_of input))) (length (findings_of input)) b)
+    (whole_end (with_look (brief_if true (subject_with manner input (findings_of input)).manner.look) (subject_with manner input (findings_of input))) (length (findings_of input)) b)
+    (λ at. refl) (λ at. refl)
+    (whole_looks false manner input b) (whole_looks true manner input b)
+
+-- nothing behind the rest
+broken_ends : (subject : Subject) (fault : InputFault) (b : List ℕ) (at : ℕ) → broken_end subject fault b at ≡ end_by subject b (fault_text fault) [] at
+broken_ends subject fault b at = ap (λ l. fault_text fault ++ l) (sym (append-nil (rest_text subject at (drop at b))))
+
+pub broken_leaves_out : BrokenLeavesOutFields
+broken_leaves_out manner fault b =
+    let subject = broken_subject manner in
+    let long = with_look (brief_if false manner.look) subject in
+    let short = with_look (brief_if true manner.look) subject in
+    leaves_out subject b (take (place_of_fault fault) b) (first_line (broken_name b) (length b)) (fault_text fault) []
+    (broken_explanation (with_fields manner) fault b) (broken_explanation (without_fields manner) fault b) (length (take (place_of_fault fault) b))
+    (broken_end long fault b) (broken_end short fault b) (broken_ends long fault b) (broken_ends short fault b)
+    (broken_is long fault b) (broken_is short fault b)

@@ -1,0 +1,8 @@
+use Rattle.usb_explain.proofs.Spans.{broken_once, whole_once}
+use Rattle.usb_explain.proofs.laws.each_byte_has_one_heading.Goals as goal
+
+pub returns-clause-whole : goal.returns-clause-whole
+returns-clause-whole c = whole_once
+
+pub returns-clause-broken : goal.returns-clause-broken
+returns-clause-broken c = broken_once

@@ -1,0 +1,125 @@
+-- What holds of each explanation: its headings stand for each byte once, and a brief one leaves out the fields alone.
+use Rattle.std.specs.Prelude.{◌≡◌, ◌<◌, ℕ, true, false, ◌+◌, List, [], ◌∷◌, ◌++◌, length, map, take, drop, flat_map, slice_index}
+use Rattle.usb_file.specs.declared.input.Input.{Input}
+use Rattle.usb_file.specs.declared.input_fault.InputFault.{InputFault}
+use Rattle.usb_explained_lines.specs.declared.kind.Kind.TheVariants as kinds
+use Rattle.usb_explained_lines.specs.Kinds.{heading, kind_lines}
+use Rattle.usb_explain.specs.declared.manner.Manner.{Manner}
+use Rattle.usb_explain.specs.declared.role.Role.{Role}
+use Rattle.usb_explain.specs.declared.standing.Standing.{Standing}
+use Rattle.usb_explain.specs.Explanations.{broken_end, broken_explanation, broken_name, explanation, first_line, input_name, last_line, whole_end}
+use Rattle.usb_explain.specs.Faults.{fault_text, place_of_fault}
+use Rattle.usb_explain.specs.Findings.{role_findings}
+use Rattle.usb_explain.specs.Kinds.{depth_of, kind_of}
+use Rattle.usb_explain.specs.Subjects.{Subject, broken_subject, findings_of, subject_with}
+use Rattle.usb_explain.specs.Walks.{block}
+
+-- a descriptor of an explanation: where it stands, what it is there, its bytes, and those behind it
+pub record Shown : Type 0 where
+  pub standing : Standing
+  pub role : Role
+  pub bytes : List ℕ
+  pub behind : List ℕ
+
+-- its lines, of which the first is its heading: that has the place where it stands, and how many bytes it has
+abbrev pub lines_of : Subject → Shown → List ℕ
+lines_of subject d = block subject d.standing d.role d.bytes d.behind
+
+-- a place and a length
+pub record Span : Type 0 where
+  pub start : ℕ
+  pub count : ℕ
+
+-- the place and the length of a descriptor
+abbrev pub span_of : Shown → Span
+span_of d = record { start = d.standing.at; count = length d.bytes }
+
+-- those of the rest, if bytes are left
+abbrev pub rest_span : ℕ → List ℕ → List Span
+rest_span at [] = []
+rest_span at (x ∷ rest) = record { start = at; count = length (x ∷ rest) } ∷ []
+
+-- spans from a place to another one: the first begins at the one, each begins where the one before ends, and the last ends
+-- at the other; none is empty
+abbrev pub Follow : ℕ → List Span → ℕ → Type 0
+Follow from [] to = from ≡ to
+Follow from (x ∷ xs) to = (x.start ≡ from) × (0 < x.count) × Follow (from + x.count) xs to
+
+-- these bytes are descriptors one after another, each as long as its first byte says, and then a rest
+abbrev pub Cut : List ℕ → List Shown → List ℕ → Type 0
+Cut bytes [] rest = bytes ≡ rest
+Cut bytes (d ∷ ds) rest = (bytes ≡ d.bytes ++ d.behind) × (slice_index d.bytes 0 ≡ length d.bytes) × Cut d.behind ds rest
+
+-- A text that stands for each of these bytes once. Between its first line and its end are the lines of the descriptors into
+-- which a front of the bytes is cut. Their bytes and the rest are all bytes, and the headings' places are where those stand.
+pub record EachByteOnce (subject : Subject) (front bytes first : List ℕ) (ending : ℕ → List ℕ) (text : List ℕ) : Type 0 where
+  pub shown : List Shown
+  pub end : ℕ
+  pub lines : text ≡ first ++ (flat_map (lines_of subject) shown ++ ending end)
+  pub cut : Cut front shown (drop end front)
+  pub parts : bytes ≡ flat_map (λ d. d.bytes) shown ++ drop end bytes
+  pub spans : Follow 0 (map span_of shown ++ rest_span end (drop end bytes)) (length bytes)
+
+-- each explanation of an input stands for each byte once
+abbrev pub WholeEachByteOnce : Type 0
+WholeEachByteOnce =
+    (manner : Manner) (input : Input) (b : List ℕ) →
+    (let subject = subject_with manner input (findings_of input) in
+    EachByteOnce subject b b (first_line (input_name input) (length b)) (whole_end subject (length (findings_of input)) b) (explanation manner input b))
+
+-- so does that of bytes that are no input: its descriptors end at the place of the fault or before it
+abbrev pub BrokenEachByteOnce : Type 0
+BrokenEachByteOnce =
+    (manner : Manner) (fault : InputFault) (b : List ℕ) →
+    EachByteOnce (broken_subject manner) (take (place_of_fault fault) b) b (first_line (broken_name b) (length b))
+    (broken_end (broken_subject manner) fault b) (broken_explanation manner fault b)
+
+-- the same manner, with the lines of fields or without them
+abbrev pub with_fields : Manner → Manner
+with_fields manner = record manner { look = record manner.look { brief = false } }
+
+abbrev pub without_fields : Manner → Manner
+without_fields manner = record manner { look = record manner.look { brief = true } }
+
+-- a descriptor's heading, with its place, and what it breaks
+abbrev pub head_of : Subject → Shown → List ℕ
+head_of subject d =
+    heading subject.manner.look (depth_of d.standing d.role) (kind_of subject d.standing d.role d.bytes) d.bytes d.standing.at
+    ++ role_findings subject d.standing d.role d.bytes d.behind
+
+-- the lines of its fields
+abbrev pub fields_of : Subject → Shown → List ℕ
+fields_of subject d = kind_lines (depth_of d.standing d.role) subject.names (kind_of subject d.standing d.role d.bytes) d.bytes
+
+-- the heading of the rest, if bytes are left
+abbrev pub rest_head : Subject → ℕ → List ℕ → List ℕ
+rest_head subject at [] = []
+rest_head subject at (x ∷ rest) = heading subject.manner.look 0 kinds.Rest (x ∷ rest) at
+
+-- the lines of its fields
+abbrev pub rest_fields : Subject → List ℕ → List ℕ
+rest_fields subject [] = []
+rest_fields subject (x ∷ rest) = kind_lines 0 subject.names kinds.Rest (x ∷ rest)
+
+-- Two texts about the same descriptors: the one has their fields, and the other is the one without them. Both have the same
+-- first line, headings and findings, then the same lines before the rest, its heading, and the same last line.
+pub record LeavesOutFields (subject : Subject) (bytes first before_rest last one other : List ℕ) : Type 0 where
+  pub shown : List Shown
+  pub end : ℕ
+  pub has_fields : one ≡ first ++ (flat_map (λ d. head_of subject d ++ fields_of subject d) shown
+      ++ (before_rest ++ ((rest_head subject end (drop end bytes) ++ rest_fields subject (drop end bytes)) ++ last)))
+  pub has_none : other ≡ first ++ (flat_map (head_of subject) shown ++ (before_rest ++ (rest_head subject end (drop end bytes) ++ last)))
+
+-- a brief explanation of an input is the other one without its fields
+abbrev pub WholeLeavesOutFields : Type 0
+WholeLeavesOutFields =
+    (manner : Manner) (input : Input) (b : List ℕ) →
+    LeavesOutFields (subject_with manner input (findings_of input)) b (first_line (input_name input) (length b)) [] (last_line (length (findings_of input)))
+    (explanation (with_fields manner) input b) (explanation (without_fields manner) input b)
+
+-- so is that of bytes that are no input
+abbrev pub BrokenLeavesOutFields : Type 0
+BrokenLeavesOutFields =
+    (manner : Manner) (fault : InputFault) (b : List ℕ) →
+    LeavesOutFields (broken_subject manner) b (first_line (broken_name b) (length b)) (fault_text fault) []
+    (broken_explanation (with_fields manner) fault b) (broken_explanation (without_fields manner) fault b)

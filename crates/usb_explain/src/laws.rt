@@ -1,0 +1,17 @@
+//! What holds of each explanation. The functions of these laws do nothing: what they say stands in their contracts.
+ghost use Rattle.usb_explain.specs.Laws.{BrokenEachByteOnce, BrokenLeavesOutFields, WholeEachByteOnce, WholeLeavesOutFields};
+
+/// Each byte once: the places and lengths in the headings follow each other from 0 to the number of bytes, and each heading
+/// begins the lines of the descriptor that stands there, as long as its bLength. The last one is that of the rest, if bytes
+/// are left. In bytes that are no input the rest begins at the place of the fault or before it.
+pub fn each_byte_has_one_heading()
+    ensures whole { WholeEachByteOnce }
+    ensures broken { BrokenEachByteOnce }
+{}
+
+/// A brief explanation is the other one without the lines of fields: it has the same headings at the same places, and the
+/// same findings.
+pub fn a_brief_explanation_leaves_out_the_fields()
+    ensures whole { WholeLeavesOutFields }
+    ensures broken { BrokenLeavesOutFields }
+{}
