@@ -7,7 +7,7 @@ use Rattle.std.proofs.lemmas.List.{length-take-le, take-append-drop}
 use Rattle.std.proofs.Math.Seq.{drop-append_seam}
 use Rattle.usb_survey.specs.Cut.{descriptor_length}
 use Rattle.usb_file.specs.declared.input_fault.InputFault.{InputFault}
-use Rattle.usb_explained_lines.specs.declared.look.Look.{Look}
+use Rattle.usb_explained_fields.specs.declared.look.Look.{Look}
 use Rattle.usb_explain.specs.declared.role.Role.{Role}
 use Rattle.usb_explain.specs.declared.standing.Standing.{Standing}
 use Rattle.usb_explain.specs.Explanations.{broken_end, broken_name, broken_text, broken_explanation, explanation, first_line, input_name, whole_end, whole_text}
