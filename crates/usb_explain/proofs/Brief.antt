@@ -11,7 +11,6 @@ use Rattle.usb_explained_lines.specs.Lines.{heading_line}
 use Rattle.usb_explain.specs.declared.manner.Manner.{Manner}
 use Rattle.usb_explain.specs.declared.role.Role.{Role}
 use Rattle.usb_explain.specs.declared.role.Role.TheVariants.{Device, Qualifier, Configuration, Association, Interface, Endpoint, Raw, Languages, Text}
-use Rattle.usb_explain.specs.declared.standing.SettingStanding.{SettingStanding}
 use Rattle.usb_explain.specs.declared.standing.Standing.{Standing}
 use Rattle.usb_explain.specs.Explanations.{broken_end, broken_explanation, broken_name, explanation, first_line, input_name, last_line, whole_end, whole_text}
 use Rattle.usb_explain.specs.Faults.{fault_text, place_of_fault}
@@ -54,10 +53,6 @@ kind_same look subject s Languages d = refl
 kind_same look subject s Text d = refl
 
 -- neither do findings
-setting_same : (look : Look) (subject : Subject) (s : Standing) (setting : SettingStanding) → setting_findings (with_look look subject) s.set setting ≡ setting_findings subject s.set setting
-unfolding setting_findings told_line
-setting_same look subject s setting = refl
-
 findings_same : (look : Look) (subject : Subject) (s : Standing) (role : Role) (d behind : List ℕ) → role_findings (with_look look subject) s role d behind ≡ role_findings subject s role d behind
 unfolding role_findings device_findings qualifier_findings set_findings_text association_findings interface_findings setting_findings told_line
 findings_same look subject s Device d behind = refl
