@@ -2,7 +2,6 @@
 use Rattle.std.proofs.Common.{◌≡◌, ℕ, List, [], ◌∷◌, ◌++◌, Bool, true, false, flat_map, length, drop, take, refl, sym, ap, ◌∙◌, append-nil}
 use Rattle.usb_file.specs.declared.input.Input.{Input}
 use Rattle.usb_file.specs.declared.input.Input.TheVariants as inputs
-use Rattle.usb_file.specs.declared.input_fault.InputFault.{InputFault}
 use Rattle.usb_rules.specs.declared.finding.Finding.{Finding}
 use Rattle.usb_explained_lines.specs.declared.kind.Kind.{Kind}
 use Rattle.usb_explained_lines.specs.declared.kind.Kind.TheVariants as kinds
@@ -12,7 +11,6 @@ use Rattle.usb_explained_fields.specs.Lines.{heading_line}
 use Rattle.usb_explain.specs.declared.manner.Manner.{Manner}
 use Rattle.usb_explain.specs.declared.role.Role.{Role}
 use Rattle.usb_explain.specs.declared.role.Role.TheVariants.{Device, Qualifier, Configuration, Association, Interface, Endpoint, Raw, Languages, Text}
-use Rattle.usb_explain.specs.declared.standing.SettingStanding.{SettingStanding}
 use Rattle.usb_explain.specs.declared.standing.Standing.{Standing}
 use Rattle.usb_explain.specs.Explanations.{broken_end, broken_explanation, broken_name, explanation, first_line, input_name, last_line, whole_end, whole_text}
 use Rattle.usb_explain.specs.Faults.{fault_text, place_of_fault}
@@ -21,8 +19,8 @@ use Rattle.usb_explain.specs.Kinds.{depth_of, kind_of}
 use Rattle.usb_explain.specs.Laws.{BrokenLeavesOutFields, LeavesOutFields, Shown, WholeLeavesOutFields, fields_of, head_of, lines_of, rest_fields, rest_head, with_fields, without_fields}
 use Rattle.usb_explain.specs.Standings.{start}
 use Rattle.usb_explain.specs.Subjects.{Subject, broken_subject, findings_of, subject_with}
-use Rattle.usb_explain.specs.Walks.{block, rest_text, walked}
-use Rattle.usb_explain.proofs.Spans.{broken_is, walk_shows, whole_is, with_look}
+use Rattle.usb_explain.specs.Walks.{rest_text, walked}
+use Rattle.usb_explain.proofs.Spans.{broken_ends, broken_is, end_by, walk_shows, whole_is, with_look}
 
 -- a look with the lines of fields or without them
 abbrev pub brief_if : Bool → Look → Look
@@ -55,10 +53,6 @@ kind_same look subject s Languages d = refl
 kind_same look subject s Text d = refl
 
 -- neither do findings
-setting_same : (look : Look) (subject : Subject) (s : Standing) (setting : SettingStanding) → setting_findings (with_look look subject) s.set setting ≡ setting_findings subject s.set setting
-unfolding setting_findings told_line
-setting_same look subject s setting = refl
-
 findings_same : (look : Look) (subject : Subject) (s : Standing) (role : Role) (d behind : List ℕ) → role_findings (with_look look subject) s role d behind ≡ role_findings subject s role d behind
 unfolding role_findings device_findings qualifier_findings set_findings_text association_findings interface_findings setting_findings told_line
 findings_same look subject s Device d behind = refl
@@ -84,7 +78,6 @@ head_same brief subject d =
 
 lines_are : (subject : Subject) (d : Shown)
     → lines_of subject d ≡ head_of subject d ++ fields subject.manner.look (depth_of d.standing d.role) subject.names (kind_of subject d.standing d.role d.bytes) d.bytes
-unfolding block
 lines_are subject d = refl
 
 full_lines : (subject : Subject) (d : Shown) → lines_of (with_look (brief_if false subject.manner.look) subject) d ≡ head_of subject d ++ fields_of subject d
@@ -120,10 +113,6 @@ brief_rest subject at (x ∷ rest) =
     ap (λ l. l ++ fields (brief_if true subject.manner.look) 0 subject.names kinds.Rest (x ∷ rest)) (heading_same true subject.manner.look 0 kinds.Rest (x ∷ rest) at)
     ∙ ap (λ l. heading subject.manner.look 0 kinds.Rest (x ∷ rest) at ++ l) (fields_left_out subject.manner.look 0 subject kinds.Rest (x ∷ rest))
     ∙ append-nil (heading subject.manner.look 0 kinds.Rest (x ∷ rest) at)
-
--- what ends a text: lines before the rest, the rest, and the last line
-abbrev pub end_by : Subject → List ℕ → List ℕ → List ℕ → ℕ → List ℕ
-end_by subject b before_rest last at = before_rest ++ (rest_text subject at (drop at b) ++ last)
 
 pub leaves_out : (subject : Subject) (b front first before_rest last one other : List ℕ) (n : ℕ) (one_end other_end : ℕ → List ℕ)
     → ((at : ℕ) → one_end at ≡ end_by (with_look (brief_if false subject.manner.look) subject) b before_rest last at)
@@ -181,10 +170,6 @@ whole_leaves_out manner input b =
     (whole_end (with_look (brief_if true (subject_with manner input (findings_of input)).manner.look) (subject_with manner input (findings_of input))) (length (findings_of input)) b)
     (λ at. refl) (λ at. refl)
     (whole_looks false manner input b) (whole_looks true manner input b)
-
--- nothing behind the rest
-broken_ends : (subject : Subject) (fault : InputFault) (b : List ℕ) (at : ℕ) → broken_end subject fault b at ≡ end_by subject b (fault_text fault) [] at
-broken_ends subject fault b at = ap (λ l. fault_text fault ++ l) (sym (append-nil (rest_text subject at (drop at b))))
 
 pub broken_leaves_out : BrokenLeavesOutFields
 broken_leaves_out manner fault b =

@@ -10,13 +10,13 @@ use Rattle.usb_file.specs.declared.input_fault.InputFault.{InputFault}
 use Rattle.usb_explained_fields.specs.declared.look.Look.{Look}
 use Rattle.usb_explain.specs.declared.role.Role.{Role}
 use Rattle.usb_explain.specs.declared.standing.Standing.{Standing}
-use Rattle.usb_explain.specs.Explanations.{broken_end, broken_name, broken_text, broken_explanation, explanation, first_line, input_name, whole_end, whole_text}
-use Rattle.usb_explain.specs.Faults.{place_of_fault}
+use Rattle.usb_explain.specs.Explanations.{broken_end, broken_explanation, broken_name, broken_text, explanation, first_line, input_name, last_line, whole_end, whole_text}
+use Rattle.usb_explain.specs.Faults.{fault_text, place_of_fault}
 use Rattle.usb_explain.specs.Laws.{BrokenEachByteOnce, Cut, EachByteOnce, Follow, Shown, Span, WholeEachByteOnce, lines_of, rest_span, span_of}
 use Rattle.usb_explain.specs.Roles.{next_role, role_of}
 use Rattle.usb_explain.specs.Standings.{start}
 use Rattle.usb_explain.specs.Subjects.{Subject, broken_subject, findings_of, subject_with}
-use Rattle.usb_explain.specs.Walks.{behind_next, here, next_block, walked}
+use Rattle.usb_explain.specs.Walks.{behind_next, block, here, next_block, rest_text, walked}
 use Rattle.usb_explain.proofs.Standings.{entered_at, noted_at, start_at}
 use Rattle.usb_explain.proofs.Walking.{walk_end, walk_next}
 
@@ -83,6 +83,7 @@ walk_none subject n s ahead e = record { shown = []; rest = ahead; end = s.at; l
 
 walk_more : (subject : Subject) (n : ℕ) (s : Standing) (ahead : List ℕ) (next : Role × ℕ) → next_role s ahead ≡ Some next
     → Walk subject n (behind_next subject s ahead next) (drop next.1 ahead) → Walk subject (suc n) s ahead
+unfolding block
 walk_more subject n s ahead next e w =
     let bounds = next_bounds s ahead next e in
     let taken : length (take next.1 ahead) ≡ next.1 = length-take-le next.1 ahead bounds.1 in
@@ -138,10 +139,19 @@ rest_follows [] from at total [] f e = omega (arith, f, e)
 rest_follows [] from at total (x ∷ rest) f e = (sym f, omega arith, omega (arith, f, e))
 rest_follows (x ∷ xs) from at total rest f e = (f.0, f.1, rest_follows xs (from + x.count) at total rest f.2 e)
 
+-- what ends a text: lines before the rest, the rest, and the last line
+abbrev pub end_by : Subject → List ℕ → List ℕ → List ℕ → ℕ → List ℕ
+end_by subject b before_rest last at = before_rest ++ (rest_text subject at (drop at b) ++ last)
+
+-- nothing behind the rest
+pub broken_ends : (subject : Subject) (fault : InputFault) (b : List ℕ) (at : ℕ) → broken_end subject fault b at ≡ end_by subject b (fault_text fault) [] at
+broken_ends subject fault b at = ap (λ l. fault_text fault ++ l) (sym (append-nil (rest_text subject at (drop at b))))
+
 -- a text made of a walk over the front of these bytes
-pub once_by : (subject : Subject) (b front tail first text : List ℕ) (n : ℕ) (ending : ℕ → List ℕ) → b ≡ front ++ tail
-    → text ≡ first ++ walked n subject ending start front → EachByteOnce subject front b first ending text
-once_by subject b front tail first text n ending whole e =
+pub once_by : (subject : Subject) (b front tail first before_rest last text : List ℕ) (n : ℕ) (ending : ℕ → List ℕ) → b ≡ front ++ tail
+    → ((at : ℕ) → ending at ≡ end_by subject b before_rest last at)
+    → text ≡ first ++ walked n subject ending start front → EachByteOnce subject front b first before_rest last text
+once_by subject b front tail first before_rest last text n ending whole ends_so e =
     let w = walk_shows subject n start front in
     let ends : length (flat_map (λ d. d.bytes) w.shown) ≡ w.end = sym (zero-add (length (flat_map (λ d. d.bytes) w.shown))) ∙ ap (λ k. k + length (flat_map (λ d. d.bytes) w.shown)) (sym start_at) ∙ spans_end w.shown start.at w.end w.spans in
     let walked_parts = cut_parts w.shown front w.rest w.cut in
@@ -152,7 +162,7 @@ once_by subject b front tail first text n ending whole e =
     record {
       shown = w.shown;
       end = w.end;
-      lines = e ∙ ap (λ l. first ++ l) (w.lines subject.manner.look ending);
+      lines = e ∙ ap (λ l. first ++ l) (w.lines subject.manner.look ending ∙ ap (λ l. flat_map (lines_of subject) w.shown ++ l) (ends_so w.end));
       cut = subst (λ l. Cut front w.shown l) (sym (left_behind (flat_map (λ d. d.bytes) w.shown) w.rest front w.end walked_parts ends)) w.cut;
       parts = parts;
       spans = rest_follows (map span_of w.shown) 0 w.end (length b) (drop w.end b) (subst (λ k. Follow k (map span_of w.shown) w.end) start_at w.spans) (omega (arith, ends, total));
@@ -172,12 +182,13 @@ broken_is subject fault b = refl
 pub whole_once : WholeEachByteOnce
 whole_once manner input b =
     let subject = subject_with manner input (findings_of input) in
-    once_by subject b b [] (first_line (input_name input) (length b)) (explanation manner input b) (length b) (whole_end subject (length (findings_of input)) b) (sym (append-nil b))
+    once_by subject b b [] (first_line (input_name input) (length b)) [] (last_line (length (findings_of input))) (explanation manner input b) (length b)
+    (whole_end subject (length (findings_of input)) b) (sym (append-nil b)) (λ at. refl)
     (whole_is subject (input_name input) (length (findings_of input)) b)
 
 pub broken_once : BrokenEachByteOnce
 broken_once manner fault b =
     let subject = broken_subject manner in
     let front = take (place_of_fault fault) b in
-    once_by subject b front (drop (place_of_fault fault) b) (first_line (broken_name b) (length b)) (broken_explanation manner fault b) (length front) (broken_end subject fault b)
-    (sym (take-append-drop (place_of_fault fault) b)) (broken_is subject fault b)
+    once_by subject b front (drop (place_of_fault fault) b) (first_line (broken_name b) (length b)) (fault_text fault) [] (broken_explanation manner fault b)
+    (length front) (broken_end subject fault b) (sym (take-append-drop (place_of_fault fault) b)) (broken_ends subject fault b) (broken_is subject fault b)

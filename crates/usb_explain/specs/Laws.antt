@@ -3,16 +3,16 @@ use Rattle.std.specs.Prelude.{◌≡◌, ◌<◌, ℕ, true, false, ◌+◌, Lis
 use Rattle.usb_file.specs.declared.input.Input.{Input}
 use Rattle.usb_file.specs.declared.input_fault.InputFault.{InputFault}
 use Rattle.usb_explained_lines.specs.declared.kind.Kind.TheVariants as kinds
-use Rattle.usb_explained_lines.specs.Kinds.{heading, kind_lines}
+use Rattle.usb_explained_lines.specs.Kinds.{fields, heading, kind_lines}
 use Rattle.usb_explain.specs.declared.manner.Manner.{Manner}
 use Rattle.usb_explain.specs.declared.role.Role.{Role}
 use Rattle.usb_explain.specs.declared.standing.Standing.{Standing}
-use Rattle.usb_explain.specs.Explanations.{broken_end, broken_explanation, broken_name, explanation, first_line, input_name, last_line, whole_end}
+use Rattle.usb_explain.specs.Explanations.{broken_explanation, broken_name, explanation, first_line, input_name, last_line}
 use Rattle.usb_explain.specs.Faults.{fault_text, place_of_fault}
 use Rattle.usb_explain.specs.Findings.{role_findings}
 use Rattle.usb_explain.specs.Kinds.{depth_of, kind_of}
 use Rattle.usb_explain.specs.Subjects.{Subject, broken_subject, findings_of, subject_with}
-use Rattle.usb_explain.specs.Walks.{block}
+use Rattle.usb_explain.specs.Walks.{rest_text}
 
 -- a descriptor of an explanation: where it stands, what it is there, its bytes, and those behind it
 pub record Shown : Type 0 where
@@ -21,9 +21,17 @@ pub record Shown : Type 0 where
   pub bytes : List ℕ
   pub behind : List ℕ
 
--- its lines, of which the first is its heading: that has the place where it stands, and how many bytes it has
+-- its heading, with the place where it stands and its length, and what it breaks
+abbrev pub head_of : Subject → Shown → List ℕ
+head_of subject d =
+    heading subject.manner.look (depth_of d.standing d.role) (kind_of subject d.standing d.role d.bytes) d.bytes d.standing.at
+    ++ role_findings subject d.standing d.role d.bytes d.behind
+
+-- its lines: behind those the lines of its fields, where they are shown
 abbrev pub lines_of : Subject → Shown → List ℕ
-lines_of subject d = block subject d.standing d.role d.bytes d.behind
+lines_of subject d =
+    head_of subject d
+    ++ fields subject.manner.look (depth_of d.standing d.role) subject.names (kind_of subject d.standing d.role d.bytes) d.bytes
 
 -- a place and a length
 pub record Span : Type 0 where
@@ -50,12 +58,13 @@ abbrev pub Cut : List ℕ → List Shown → List ℕ → Type 0
 Cut bytes [] rest = bytes ≡ rest
 Cut bytes (d ∷ ds) rest = (bytes ≡ d.bytes ++ d.behind) × (slice_index d.bytes 0 ≡ length d.bytes) × Cut d.behind ds rest
 
--- A text that stands for each of these bytes once. Between its first line and its end are the lines of the descriptors into
--- which a front of the bytes is cut. Their bytes and the rest are all bytes, and the headings' places are where those stand.
-pub record EachByteOnce (subject : Subject) (front bytes first : List ℕ) (ending : ℕ → List ℕ) (text : List ℕ) : Type 0 where
+-- A text that stands for each of these bytes once. Behind its first line are the lines of the descriptors into which a front
+-- of the bytes is cut, what comes before the rest, the lines of the rest, and the last line. The descriptors' bytes and the
+-- rest are all bytes, and the headings' places are where those stand.
+pub record EachByteOnce (subject : Subject) (front bytes first before_rest last text : List ℕ) : Type 0 where
   pub shown : List Shown
   pub end : ℕ
-  pub lines : text ≡ first ++ (flat_map (lines_of subject) shown ++ ending end)
+  pub lines : text ≡ first ++ (flat_map (lines_of subject) shown ++ (before_rest ++ (rest_text subject end (drop end bytes) ++ last)))
   pub cut : Cut front shown (drop end front)
   pub parts : bytes ≡ flat_map (λ d. d.bytes) shown ++ drop end bytes
   pub spans : Follow 0 (map span_of shown ++ rest_span end (drop end bytes)) (length bytes)
@@ -64,15 +73,15 @@ pub record EachByteOnce (subject : Subject) (front bytes first : List ℕ) (endi
 abbrev pub WholeEachByteOnce : Type 0
 WholeEachByteOnce =
     (manner : Manner) (input : Input) (b : List ℕ) →
-    (let subject = subject_with manner input (findings_of input) in
-    EachByteOnce subject b b (first_line (input_name input) (length b)) (whole_end subject (length (findings_of input)) b) (explanation manner input b))
+    EachByteOnce (subject_with manner input (findings_of input)) b b (first_line (input_name input) (length b)) [] (last_line (length (findings_of input)))
+    (explanation manner input b)
 
 -- so does that of bytes that are no input: its descriptors end at the place of the fault or before it
 abbrev pub BrokenEachByteOnce : Type 0
 BrokenEachByteOnce =
     (manner : Manner) (fault : InputFault) (b : List ℕ) →
-    EachByteOnce (broken_subject manner) (take (place_of_fault fault) b) b (first_line (broken_name b) (length b))
-    (broken_end (broken_subject manner) fault b) (broken_explanation manner fault b)
+    EachByteOnce (broken_subject manner) (take (place_of_fault fault) b) b (first_line (broken_name b) (length b)) (fault_text fault) []
+    (broken_explanation manner fault b)
 
 -- the same manner, with the lines of fields or without them
 abbrev pub with_fields : Manner → Manner
@@ -80,12 +89,6 @@ with_fields manner = record manner { look = record manner.look { brief = false }
 
 abbrev pub without_fields : Manner → Manner
 without_fields manner = record manner { look = record manner.look { brief = true } }
-
--- a descriptor's heading, with its place, and what it breaks
-abbrev pub head_of : Subject → Shown → List ℕ
-head_of subject d =
-    heading subject.manner.look (depth_of d.standing d.role) (kind_of subject d.standing d.role d.bytes) d.bytes d.standing.at
-    ++ role_findings subject d.standing d.role d.bytes d.behind
 
 -- the lines of its fields
 abbrev pub fields_of : Subject → Shown → List ℕ
