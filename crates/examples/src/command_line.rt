@@ -107,9 +107,7 @@ pub(crate) fn manner(alloc: Global, words: &[String]) -> Result<String> {
     match manner_of(&options) {
         Ok(manner) => Ok(format!(in alloc;
             "brief {} places {} {:?}",
-            manner.look.brief,
-            manner.look.places,
-            manner.speed
+            manner.look.brief, manner.look.places, manner.speed
         )?),
         Err(fault) => Ok(format!(in alloc; "{} {fault}", fault.status())?),
     }

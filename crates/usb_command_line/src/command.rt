@@ -6,8 +6,8 @@ ghost use Rattle.usb_command_line.specs.Lines.{address_rule, attempts_rule, enum
 
 use crate::help::{
     ABOUT, ADDRESS_HELP, ATTEMPTS_HELP, BRIEF_HELP, BUILD_ABOUT, BUILD_HELP, CHECK_ABOUT,
-    CHECK_HELP, ENUMERATE_ABOUT, ENUMERATE_HELP, EXPLAIN_ABOUT, EXPLAIN_HELP, FATES_HELP,
-    LOG_HELP, NAKS_HELP, NO_PLACES_HELP, RAN_AT_HELP, SHOW_ABOUT, SHOW_HELP, SPEED_HELP,
+    CHECK_HELP, ENUMERATE_ABOUT, ENUMERATE_HELP, EXPLAIN_ABOUT, EXPLAIN_HELP, FATES_HELP, LOG_HELP,
+    NAKS_HELP, NO_PLACES_HELP, RAN_AT_HELP, SHOW_ABOUT, SHOW_HELP, SPEED_HELP,
 };
 use clap::{Arg, ArgAction, Command, value_parser};
 use std::alloc::{AllocError, Global};
@@ -41,10 +41,7 @@ fn add<'a>(
 }
 
 /// The command with one more subcommand, none of whose options its own subcommands take.
-fn add_command<'a>(
-    command: Command<'a>,
-    subcommand: Command<'a>,
-) -> Result<Command<'a>, AllocError>
+fn add_command<'a>(command: Command<'a>, subcommand: Command<'a>) -> Result<Command<'a>, AllocError>
     requires { (out-Command subcommand).has_globals ≡ false }
     ensures { IfOk result (λ c. app_of c ≡ with_subcommand (app_of command.entry) (app_of subcommand.entry).top) }
 {
