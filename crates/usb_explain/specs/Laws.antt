@@ -2,6 +2,7 @@
 use Rattle.std.specs.Prelude.{◌≡◌, ◌<◌, ℕ, true, false, ◌+◌, List, [], ◌∷◌, ◌++◌, length, map, take, drop, flat_map, slice_index}
 use Rattle.usb_file.specs.declared.input.Input.{Input}
 use Rattle.usb_file.specs.declared.input_fault.InputFault.{InputFault}
+use Rattle.usb_file.specs.Inputs.{input_findings}
 use Rattle.usb_explained_lines.specs.declared.kind.Kind.TheVariants as kinds
 use Rattle.usb_explained_lines.specs.Kinds.{fields, heading, kind_lines}
 use Rattle.usb_explain.specs.declared.manner.Manner.{Manner}
@@ -11,7 +12,7 @@ use Rattle.usb_explain.specs.Explanations.{broken_explanation, broken_name, expl
 use Rattle.usb_explain.specs.Faults.{fault_text, place_of_fault}
 use Rattle.usb_explain.specs.Findings.{role_findings}
 use Rattle.usb_explain.specs.Kinds.{depth_of, kind_of}
-use Rattle.usb_explain.specs.Subjects.{Subject, broken_subject, findings_of, subject_with}
+use Rattle.usb_explain.specs.Subjects.{Subject, broken_subject, subject_with}
 use Rattle.usb_explain.specs.Walks.{rest_text}
 
 -- a descriptor of an explanation: where it stands, what it is there, its bytes, and those behind it
@@ -73,7 +74,7 @@ pub record EachByteOnce (subject : Subject) (front bytes first before_rest last 
 abbrev pub WholeEachByteOnce : Type 0
 WholeEachByteOnce =
     (manner : Manner) (input : Input) (b : List ℕ) →
-    EachByteOnce (subject_with manner input (findings_of input)) b b (first_line (input_name input) (length b)) [] (last_line (length (findings_of input)))
+    EachByteOnce (subject_with manner input (input_findings input)) b b (first_line (input_name input) (length b)) [] (last_line (length (input_findings input)))
     (explanation manner input b)
 
 -- so does that of bytes that are no input: its descriptors end at the place of the fault or before it
@@ -117,7 +118,7 @@ pub record LeavesOutFields (subject : Subject) (bytes first before_rest last one
 abbrev pub WholeLeavesOutFields : Type 0
 WholeLeavesOutFields =
     (manner : Manner) (input : Input) (b : List ℕ) →
-    LeavesOutFields (subject_with manner input (findings_of input)) b (first_line (input_name input) (length b)) [] (last_line (length (findings_of input)))
+    LeavesOutFields (subject_with manner input (input_findings input)) b (first_line (input_name input) (length b)) [] (last_line (length (input_findings input)))
     (explanation (with_fields manner) input b) (explanation (without_fields manner) input b)
 
 -- so is that of bytes that are no input
