@@ -4,3 +4,4 @@ pub mod Endings
 pub mod Keys
 pub mod Spans
 pub mod Brief
+pub mod plain

@@ -7,6 +7,7 @@ use Rattle.std.proofs.lemmas.List.{length-take-le, take-append-drop}
 use Rattle.std.proofs.Math.Seq.{drop-append_seam}
 use Rattle.usb_survey.specs.Cut.{descriptor_length}
 use Rattle.usb_file.specs.declared.input_fault.InputFault.{InputFault}
+use Rattle.usb_file.specs.Inputs.{input_findings}
 use Rattle.usb_explained_fields.specs.declared.look.Look.{Look}
 use Rattle.usb_explain.specs.declared.role.Role.{Role}
 use Rattle.usb_explain.specs.declared.standing.Standing.{Standing}
@@ -15,7 +16,7 @@ use Rattle.usb_explain.specs.Faults.{fault_text, place_of_fault}
 use Rattle.usb_explain.specs.Laws.{BrokenEachByteOnce, Cut, EachByteOnce, Follow, Shown, Span, WholeEachByteOnce, lines_of, rest_span, span_of}
 use Rattle.usb_explain.specs.Roles.{next_role, role_of}
 use Rattle.usb_explain.specs.Standings.{start}
-use Rattle.usb_explain.specs.Subjects.{Subject, broken_subject, findings_of, subject_with}
+use Rattle.usb_explain.specs.Subjects.{Subject, broken_subject, subject_with}
 use Rattle.usb_explain.specs.Walks.{behind_next, block, here, next_block, rest_text, walked}
 use Rattle.usb_explain.proofs.Standings.{entered_at, noted_at, start_at}
 use Rattle.usb_explain.proofs.Walking.{walk_end, walk_next}
@@ -181,10 +182,10 @@ broken_is subject fault b = refl
 
 pub whole_once : WholeEachByteOnce
 whole_once manner input b =
-    let subject = subject_with manner input (findings_of input) in
-    once_by subject b b [] (first_line (input_name input) (length b)) [] (last_line (length (findings_of input))) (explanation manner input b) (length b)
-    (whole_end subject (length (findings_of input)) b) (sym (append-nil b)) (λ at. refl)
-    (whole_is subject (input_name input) (length (findings_of input)) b)
+    let subject = subject_with manner input (input_findings input) in
+    once_by subject b b [] (first_line (input_name input) (length b)) [] (last_line (length (input_findings input))) (explanation manner input b) (length b)
+    (whole_end subject (length (input_findings input)) b) (sym (append-nil b)) (λ at. refl)
+    (whole_is subject (input_name input) (length (input_findings input)) b)
 
 pub broken_once : BrokenEachByteOnce
 broken_once manner fault b =

@@ -1,7 +1,10 @@
--- What holds of each explanation: its headings stand for each byte once, and a brief one leaves out the fields alone.
+-- What holds of each explanation: its headings stand for each byte once, a brief one leaves out the fields alone, and each
+-- byte of it is a line feed or printable.
 use Rattle.std.specs.Prelude.{◌≡◌, ◌<◌, ℕ, true, false, ◌+◌, List, [], ◌∷◌, ◌++◌, length, map, take, drop, flat_map, slice_index}
+use Rattle.usb_base.specs.Bytes.{AreBytes}
 use Rattle.usb_file.specs.declared.input.Input.{Input}
 use Rattle.usb_file.specs.declared.input_fault.InputFault.{InputFault}
+use Rattle.usb_file.specs.Inputs.{IsInput, input_findings}
 use Rattle.usb_explained_lines.specs.declared.kind.Kind.TheVariants as kinds
 use Rattle.usb_explained_lines.specs.Kinds.{fields, heading, kind_lines}
 use Rattle.usb_explain.specs.declared.manner.Manner.{Manner}
@@ -11,7 +14,8 @@ use Rattle.usb_explain.specs.Explanations.{broken_explanation, broken_name, expl
 use Rattle.usb_explain.specs.Faults.{fault_text, place_of_fault}
 use Rattle.usb_explain.specs.Findings.{role_findings}
 use Rattle.usb_explain.specs.Kinds.{depth_of, kind_of}
-use Rattle.usb_explain.specs.Subjects.{Subject, broken_subject, findings_of, subject_with}
+use Rattle.usb_explain.specs.PlainText.{IsPlainText}
+use Rattle.usb_explain.specs.Subjects.{Subject, broken_subject, subject_with}
 use Rattle.usb_explain.specs.Walks.{rest_text}
 
 -- a descriptor of an explanation: where it stands, what it is there, its bytes, and those behind it
@@ -73,7 +77,7 @@ pub record EachByteOnce (subject : Subject) (front bytes first before_rest last 
 abbrev pub WholeEachByteOnce : Type 0
 WholeEachByteOnce =
     (manner : Manner) (input : Input) (b : List ℕ) →
-    EachByteOnce (subject_with manner input (findings_of input)) b b (first_line (input_name input) (length b)) [] (last_line (length (findings_of input)))
+    EachByteOnce (subject_with manner input (input_findings input)) b b (first_line (input_name input) (length b)) [] (last_line (length (input_findings input)))
     (explanation manner input b)
 
 -- so does that of bytes that are no input: its descriptors end at the place of the fault or before it
@@ -117,7 +121,7 @@ pub record LeavesOutFields (subject : Subject) (bytes first before_rest last one
 abbrev pub WholeLeavesOutFields : Type 0
 WholeLeavesOutFields =
     (manner : Manner) (input : Input) (b : List ℕ) →
-    LeavesOutFields (subject_with manner input (findings_of input)) b (first_line (input_name input) (length b)) [] (last_line (length (findings_of input)))
+    LeavesOutFields (subject_with manner input (input_findings input)) b (first_line (input_name input) (length b)) [] (last_line (length (input_findings input)))
     (explanation (with_fields manner) input b) (explanation (without_fields manner) input b)
 
 -- so is that of bytes that are no input
@@ -126,3 +130,11 @@ BrokenLeavesOutFields =
     (manner : Manner) (fault : InputFault) (b : List ℕ) →
     LeavesOutFields (broken_subject manner) b (first_line (broken_name b) (length b)) (fault_text fault) []
     (broken_explanation (with_fields manner) fault b) (broken_explanation (without_fields manner) fault b)
+
+-- each explanation of an input is a plain text
+abbrev pub WholeIsPlainText : Type 0
+WholeIsPlainText = (manner : Manner) (input : Input) (b : List ℕ) → IsInput input b → IsPlainText (explanation manner input b)
+
+-- so is that of any bytes with any fault
+abbrev pub BrokenIsPlainText : Type 0
+BrokenIsPlainText = (manner : Manner) (fault : InputFault) (b : List ℕ) → AreBytes b → IsPlainText (broken_explanation manner fault b)

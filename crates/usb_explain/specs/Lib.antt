@@ -8,5 +8,6 @@ pub mod Passing
 pub mod Walks
 pub mod Faults
 pub mod Explanations
+pub mod PlainText
 pub mod Laws
 pub mod inside

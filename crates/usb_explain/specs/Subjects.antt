@@ -9,7 +9,6 @@ use Rattle.usb_rules.specs.declared.finding.Finding.{Finding}
 use Rattle.usb_rules.specs.declared.finding.Part.{Part}
 use Rattle.usb_rules.specs.declared.finding.Part.TheVariants as parts
 use Rattle.usb_rules.specs.FindingLine.{rule_number}
-use Rattle.usb_rules.specs.Findings.{dump_findings, findings, set_findings}
 use Rattle.usb_explained_lines.specs.declared.kind.StringPlace.{StringPlace}
 use Rattle.usb_explained_fields.specs.declared.names.Missing.TheVariants.{NotInInput, NotRead}
 use Rattle.usb_explained_fields.specs.Names.{StringNames, names_of, no_names}
@@ -44,12 +43,6 @@ is_same_key a b =
 -- whether a finding is among these
 unfoldable pub is_among : List Finding → Finding → Bool
 is_among all f = list_any (λ g. is_same_key (key_of f) (key_of g)) all
-
--- what breaks a rule in an input
-abbrev pub findings_of : Input → List Finding
-findings_of (inputs.Set set) = set_findings set
-findings_of (inputs.File file) = findings file
-findings_of (inputs.Dump file) = dump_findings file
 
 -- an input of which these findings are known
 abbrev pub subject_with : Manner → Input → List Finding → Subject

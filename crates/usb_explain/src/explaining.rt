@@ -7,12 +7,12 @@ ghost use Rattle.usb_explain.specs.Explanations.{broken_end, broken_explanation,
 use crate::ending::put_rest;
 use crate::fault_line::{fault_place, put_fault};
 use crate::manner::Manner;
-use crate::subject::{Subject, findings_of};
+use crate::subject::Subject;
 use crate::walk::write_blocks;
 use std::alloc::{AllocError, Global};
 use std::io::Write;
 use usb_base::descriptor_type;
-use usb_file::{Input, InputFault};
+use usb_file::{Input, InputFault, check_input};
 use usb_listing::{OutFault, write_all};
 use usb_survey::{behind, byte_at, front};
 use usb_words::{Text, put_count};
@@ -38,7 +38,7 @@ pub fn explain<W: Write>(
     ensures ok { OnOk result (Appends (W.contents w.old) (W.contents w.new) (explanation manner input.now bytes.now)) }
     ensures err { OnErr result (AppendsLess (W.contents w.old) (W.contents w.new) (explanation manner input.now bytes.now)) }
 {
-    let findings = findings_of(alloc, input)?;
+    let findings = check_input(alloc, input)?;
     let subject = Subject::of(alloc, manner, input, &findings)?;
     write_whole(alloc, bytes, &subject, input_name(input), findings.len(), w)
 }

@@ -1,5 +1,5 @@
 //! What holds of each explanation. The functions of these laws do nothing: what they say stands in their contracts.
-ghost use Rattle.usb_explain.specs.Laws.{BrokenEachByteOnce, BrokenLeavesOutFields, WholeEachByteOnce, WholeLeavesOutFields};
+ghost use Rattle.usb_explain.specs.Laws.{BrokenEachByteOnce, BrokenIsPlainText, BrokenLeavesOutFields, WholeEachByteOnce, WholeIsPlainText, WholeLeavesOutFields};
 
 /// Each byte once: the places and lengths in the headings follow each other from 0 to the number of bytes, and each heading
 /// begins the lines of the descriptor that stands there, as long as its bLength. The last one is that of the rest, if bytes
@@ -14,4 +14,11 @@ pub fn each_byte_has_one_heading()
 pub fn a_brief_explanation_leaves_out_the_fields()
     ensures whole { WholeLeavesOutFields }
     ensures broken { BrokenLeavesOutFields }
+{}
+
+/// Each byte of an explanation is a line feed or printable ASCII (20 to 7e hexadecimal), whatever the bytes of the input:
+/// nothing that a device says of itself reaches a terminal as a control character.
+pub fn each_byte_is_printable()
+    ensures whole { WholeIsPlainText }
+    ensures broken { BrokenIsPlainText }
 {}

@@ -6,7 +6,8 @@
 //! What the whole text is is `specs/Explanations.antt`, and the walk over the bytes `specs/Walks.antt`. Where a descriptor
 //! stands is `specs/Standings.antt`, what it is there `specs/Roles.antt`, and what is told of it `specs/Findings.antt`.
 //!
-//! [`laws`] says what holds of each explanation: every byte stands under one heading, and a brief text leaves out fields alone.
+//! [`laws`] says what holds of each explanation: every byte of the input stands under one heading, a brief text leaves out
+//! fields alone, and every byte of the text is a line feed or printable.
 #![tactic(auto)]
 
 mod block;

@@ -4,7 +4,7 @@ ghost use Rattle.usb_file_data.specs.Named.{named_indices};
 ghost use Rattle.usb_explained_fields.specs.Names.{names_of, no_names};
 ghost use Rattle.usb_explained_fields.specs.declared.names.Missing.TheVariants.{NotInInput};
 ghost use Rattle.usb_explain.specs.Kinds.{place_of};
-ghost use Rattle.usb_explain.specs.Subjects.{broken_subject, findings_of, is_among, subject_with};
+ghost use Rattle.usb_explain.specs.Subjects.{broken_subject, is_among, subject_with};
 
 use crate::found::Found;
 use crate::manner::Manner;
@@ -14,7 +14,7 @@ use std::marker::Model;
 use usb_explained_lines::{Missing, Names, StringPlace};
 use usb_file::Input;
 use usb_file_data::{DescriptorFile, Strings, named};
-use usb_rules::{Finding, check, check_dump, check_set};
+use usb_rules::Finding;
 
 /// What is explained, and what is known of the whole of it.
 #[derive(Drop)]
@@ -144,16 +144,5 @@ impl<'i> Subject<'i> {
             None => None,
             Some(strings) => string_place(strings, &self.named, number),
         }
-    }
-}
-
-/// What breaks a rule in an input.
-pub(crate) fn findings_of(alloc: Global, input: &Input) -> Result<Vec<Finding>, AllocError>
-    ensures { IfOk result (λ findings. findings.items ≡ findings_of input.now) }
-{
-    match input {
-        Input::Set(set) => check_set(alloc, set),
-        Input::File(file) => check(alloc, file),
-        Input::Dump(file) => check_dump(alloc, file),
     }
 }

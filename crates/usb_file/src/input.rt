@@ -1,13 +1,14 @@
 //! An input: one set, a descriptor file, or a dump of Linux.
 ghost use Rattle.std.specs.Prelude.{◌≡◌, IfErr, IfOk, true};
 ghost use Rattle.usb_set.specs.Layout.{Layout};
-ghost use Rattle.usb_file.specs.Inputs.{InputRefused, IsInput, is_one_set};
+ghost use Rattle.usb_file.specs.Inputs.{InputRefused, IsInput, input_findings, is_one_set};
 
 use crate::input_fault::InputFault;
 use crate::reading::{Form, read_file_or_dump};
-use std::alloc::Global;
+use std::alloc::{AllocError, Global};
 use usb_base::descriptor_type::{CONFIGURATION, OTHER_SPEED_CONFIGURATION};
 use usb_file_data::DescriptorFile;
+use usb_rules::{Finding, check, check_dump, check_set};
 use usb_set::{Configuration, read_set};
 
 /// What a program is given of a device, in one of three forms.
@@ -52,6 +53,28 @@ pub fn read_input(alloc: Global, b: &[u8]) -> Result<Input, InputFault>
     match form {
         Form::File => Ok(Input::File(file)),
         Form::Dump => Ok(Input::Dump(file)),
+    }
+}
+
+/// Everything in an input that breaks a rule of chapter 9: what [`check_set`] tells of a set, [`check`] of a file and
+/// [`check_dump`] of a dump.
+///
+/// ```rust
+/// for finding in &check_input(alloc, &read_input(alloc, &bytes)?)? {
+///     println!(rt; "{finding}")?;
+/// }
+/// ```
+///
+/// # Errors
+///
+/// Out of memory.
+pub fn check_input(alloc: Global, input: &Input) -> Result<Vec<Finding>, AllocError>
+    ensures { IfOk result (λ findings. findings.items ≡ input_findings input.now) }
+{
+    match input {
+        Input::Set(set) => check_set(alloc, set),
+        Input::File(file) => check(alloc, file),
+        Input::Dump(file) => check_dump(alloc, file),
     }
 }
 

@@ -5,7 +5,7 @@
 //! named, the language list and the strings (USB 2.0, 9.4.3 and 9.6). [`read_file`] reads it into plain data,
 //! [`DescriptorFile`], and [`write_file`] writes it again, each byte as it was. [`named`] tells which
 //! strings a file names, [`check`] which rules of chapter 9 it breaks; [`check_dump`] and [`check_set`] tell that of what
-//! is less than a file. [`list`] writes a file as text, a line
+//! is less than a file, and [`check_input`] of any of the three. [`list`] writes a file as text, a line
 //! for each descriptor, and [`list_set`] one set alone. [`assemble`] reads the text of a file back.
 //!
 //! - The data, what its bytes are and which strings it names stand in the crate usb_file_data, the rules in
@@ -29,7 +29,7 @@ mod strings;
 mod writing;
 
 pub use fault::{FileFault, FileWhy};
-pub use input::{Input, read_input};
+pub use input::{Input, check_input, read_input};
 pub use input_fault::InputFault;
 pub use laws::{FILE_LIMIT, LISTING_LIMIT};
 pub use reading::read_file;

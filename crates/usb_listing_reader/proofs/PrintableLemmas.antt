@@ -29,7 +29,7 @@ Printable line = list_all is_printable line ≡ true
 both : (a b : Bool) → a ≡ true → b ≡ true → (a && b) ≡ true
 both a b ea eb = rw (ea, eb) refl
 
-joined : (xs ys : List ℕ) → Printable xs → Printable ys → Printable (xs ++ ys)
+pub joined : (xs ys : List ℕ) → Printable xs → Printable ys → Printable (xs ++ ys)
 joined xs ys hx hy = list_all-append is_printable xs ys ∙ both (list_all is_printable xs) (list_all is_printable ys) hx hy
 
 abbrev digit_prints : ℕ → Bool
@@ -44,7 +44,7 @@ digit_printable d lt = all_below-at digit_prints 16 d all_print lt
 digits_printable : (b : ℕ) (rest : List ℕ) → b < 256 → Printable rest → Printable (high_digit b ∷ low_digit b ∷ rest)
 digits_printable b rest lt h = both _ _ (digit_printable (b / 16) (omega arith)) (both _ _ (digit_printable (b % 16) (omega arith)) h)
 
-encoded_printable : (bytes : List ℕ) → AreBytes bytes → Printable (encode_lower bytes)
+pub encoded_printable : (bytes : List ℕ) → AreBytes bytes → Printable (encode_lower bytes)
 unfolding encode_with
 encoded_printable [] h = refl
 encoded_printable (b ∷ bytes) h = digits_printable b (encode_lower bytes) h.0 (encoded_printable bytes h.1)
@@ -53,10 +53,10 @@ field_printable : (bytes : List ℕ) → AreBytes bytes → Printable (written_f
 field_printable [] h = refl
 field_printable (b ∷ bytes) h = encoded_printable (b ∷ bytes) h
 
-two_fit : (u : ℕ) → u < 65536 → AreBytes (two_bytes u)
+pub two_fit : (u : ℕ) → u < 65536 → AreBytes (two_bytes u)
 two_fit u lt = (omega arith, (omega arith, tt))
 
-unit_printable : (u : ℕ) → u < 65536 → Printable (written_unit u)
+pub unit_printable : (u : ℕ) → u < 65536 → Printable (written_unit u)
 unfolding written_unit
 unit_printable u lt = cases (is_plain u) refl
   where

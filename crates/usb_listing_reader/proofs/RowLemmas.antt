@@ -16,7 +16,7 @@ pub bytes_append : (a b : List ℕ) → AreBytes a → AreBytes b → AreBytes (
 bytes_append [] b h k = k
 bytes_append (x ∷ a) b h k = (h.0, bytes_append a b h.1 k)
 
-bytes_front : (n : ℕ) (b : List ℕ) → AreBytes b → AreBytes (take n b)
+pub bytes_front : (n : ℕ) (b : List ℕ) → AreBytes b → AreBytes (take n b)
 bytes_front zero b h = tt
 bytes_front (suc n) [] h = tt
 bytes_front (suc n) (x ∷ b) h = (h.0, bytes_front n b h.1)

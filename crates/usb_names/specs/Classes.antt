@@ -4,8 +4,8 @@ use Rattle.std.specs.Prelude.{ℕ, List, [], ◌∷◌, Option, Some, None, ◌=
 
 -- a code and its name
 pub record Named : Type 0 where
-  code : ℕ
-  name : List ℕ
+  pub code : ℕ
+  pub name : List ℕ
 
 -- the name of the first row that has the code
 abbrev pub name_in : List Named → ℕ → Option (List ℕ)
@@ -170,9 +170,9 @@ subclasses class =
 
 -- a subclass with a protocol, and its name
 pub record NamedProtocol : Type 0 where
-  subclass : ℕ
-  protocol : ℕ
-  name : List ℕ
+  pub subclass : ℕ
+  pub protocol : ℕ
+  pub name : List ℕ
 
 -- the name of the first row that has both codes
 abbrev pub protocol_in : List NamedProtocol → ℕ → ℕ → Option (List ℕ)

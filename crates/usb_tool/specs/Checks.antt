@@ -2,14 +2,12 @@
 use Rattle.std.specs.Prelude.{◌≡◌, ℕ, List, [], ◌∷◌, ◌++◌, codes}
 use Rattle.std.specs.List.{flat_map}
 use Rattle.std.specs.Io.KnownBytes.{Appends, Keeps}
-use Rattle.usb_file.specs.Inputs.{InputFaulty, IsInput}
+use Rattle.usb_file.specs.Inputs.{InputFaulty, IsInput, input_findings}
 use Rattle.usb_file.specs.declared.input.Input.{Input}
-use Rattle.usb_file.specs.declared.input.Input.TheVariants as inputs
 use Rattle.usb_file.specs.declared.input_fault.InputFault.TheVariants as input_faults
 use Rattle.usb_file.specs.declared.laws.TheConstants.{FILE_LIMIT}
 use Rattle.usb_listing.specs.Output.{AppendsFront, Held}
 use Rattle.usb_rules.specs.FindingLine.{finding_line}
-use Rattle.usb_rules.specs.Findings.{dump_findings, findings, set_findings}
 use Rattle.usb_rules.specs.declared.finding.Finding.{Finding}
 use Rattle.usb_tool.specs.Failing.{Fails, Succeeds}
 use Rattle.usb_tool.specs.Input.{Left}
@@ -33,12 +31,6 @@ check_text (f ∷ found) = finding_lines (f ∷ found)
 abbrev pub check_status : List Finding → ℕ
 check_status [] = 0
 check_status (f ∷ found) = 1
-
--- what is found in an input: in a set alone, in a file, or in a dump, whose device may be one of SuperSpeed
-abbrev pub input_findings : Input → List Finding
-input_findings (inputs.Set set) = set_findings set
-input_findings (inputs.File file) = findings file
-input_findings (inputs.Dump file) = dump_findings file
 
 -- what is found in the set, the file or the dump that has these bytes
 pub record AreFindings (b : List ℕ) (found : List Finding) : Type 0 where

@@ -1,13 +1,13 @@
 //! The command `check`.
 ghost use Rattle.std.specs.Prelude.{◌≡◌, ◌++◌, IfErr, IfOk, OnOk};
-ghost use Rattle.usb_tool.specs.Checks.{CheckFails, Checked, RefusesToCheck, WritesChecked, check_status, check_text, finding_line_end, finding_lines, input_findings};
+ghost use Rattle.usb_tool.specs.Checks.{CheckFails, Checked, RefusesToCheck, WritesChecked, check_status, check_text, finding_line_end, finding_lines};
 
 use crate::fault::ToolFault;
 use crate::output::write_flushed;
 use crate::whole::read_all;
 use std::alloc::{AllocError, Global};
 use std::io::{Read, Write};
-use usb_file::{FILE_LIMIT, Finding, Input, check, check_dump, check_set, read_input};
+use usb_file::{FILE_LIMIT, Finding, check_input, read_input};
 
 /// Reads the input to its end, and writes a line for each thing in it that breaks a rule of chapter 9, or `no findings`.
 /// The input is one configuration set, a descriptor file or a dump, as that of [`run_show`](crate::run_show) is. The number
@@ -40,22 +40,11 @@ fn check_bytes<W: Write>(alloc: Global, bytes: &[u8], w: &mut W) -> Result<u8, T
     ensures err { IfErr result (RefusesToCheck bytes.now (W.contents w.old) (W.contents w.new)) }
 {
     let input = read_input(alloc, bytes)?;
-    let found = findings_of(alloc, &input)?;
+    let found = check_input(alloc, &input)?;
     let text = text_of(alloc, &found)?;
     match write_flushed(w, &text) {
         Ok(()) => Ok(check_status(&found)),
         Err(_) => Err(ToolFault::Write),
-    }
-}
-
-/// Everything in the input that breaks a rule.
-fn findings_of(alloc: Global, input: &Input) -> Result<Vec<Finding>, AllocError>
-    ensures { IfOk result (λ v. v.items ≡ input_findings input.now) }
-{
-    match input {
-        Input::Set(set) => check_set(alloc, set),
-        Input::File(file) => check(alloc, file),
-        Input::Dump(file) => check_dump(alloc, file),
     }
 }
 

@@ -1,0 +1,10 @@
+pub mod Texts
+pub mod Parts
+pub mod Names
+pub mod Words
+pub mod Fields
+pub mod Raws
+pub mod Lines
+pub mod Findings
+pub mod Walks
+pub mod Inputs

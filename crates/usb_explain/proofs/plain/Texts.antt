@@ -1,0 +1,103 @@
+-- Texts of lines of printable ASCII, put together of such texts.
+use Rattle.std.proofs.Common.{◌≡◌, ℕ, zero, suc, ◌/◌, ◌%◌, ◌<◌, ◌==◌, ◌&&◌, Bool, true, false, if◌then◌else◌, List, [], ◌∷◌, ◌++◌, Option, Some, None, drop, replicate, refl, ◌∙◌, arith}
+use Rattle.std.specs.Fmt.{decimal, digit_glyph, digits, digits_onto}
+use Rattle.std.specs.List.{AllByRecursion, flat_map, list_all}
+use Rattle.std.proofs.lemmas.Bool.{and_parts}
+use Rattle.std.proofs.lemmas.Bool.Decides.{nat_tests}
+use Rattle.std.proofs.lemmas.List.Folds.{list_all-append}
+use Rattle.hex.specs.Hex.{encode_lower}
+use Rattle.usb_base.specs.Bytes.{AreBytes, big_endian}
+use Rattle.usb_listing.specs.StringListing.{written_unit}
+use Rattle.usb_listing_reader.specs.Words.{is_printable}
+use Rattle.usb_listing_reader.proofs.PrintableLemmas.{Printable, encoded_printable, two_fit, unit_printable}
+use Rattle.usb_explain.specs.PlainText.{IsPlainText, is_of_text}
+
+-- a text of two parts, and one of two that a test chooses
+pub joined : (xs ys : List ℕ) → list_all is_of_text (xs ++ ys) ≡ (list_all is_of_text xs && list_all is_of_text ys)
+joined xs ys = list_all-append is_of_text xs ys
+
+pub chosen : (b : Bool) (xs ys : List ℕ) → list_all is_of_text (if b then xs else ys) ≡ (if b then list_all is_of_text xs else list_all is_of_text ys)
+chosen true xs ys = refl
+chosen false xs ys = refl
+
+pub same : (b x : Bool) → (if b then x else x) ≡ x
+same true x = refl
+same false x = refl
+
+pub both_plain : (xs ys : List ℕ) → IsPlainText xs → IsPlainText ys → IsPlainText (xs ++ ys)
+both_plain xs ys h k = joined xs ys ∙ rw (h, k) refl
+
+pub either_plain : (b : Bool) (xs ys : List ℕ) → IsPlainText xs → IsPlainText ys → IsPlainText (if b then xs else ys)
+either_plain true xs ys h k = h
+either_plain false xs ys h k = k
+
+-- by these a text is plain where its parts are
+pub ruleset parts = (joined, chosen, same)
+
+pub dropped : (n : ℕ) (text : List ℕ) → IsPlainText text → IsPlainText (drop n text)
+dropped zero text h = h
+dropped (suc n) [] h = refl
+dropped (suc n) (x ∷ text) h = dropped n text (and_parts (is_of_text x) (list_all is_of_text text) h).1
+
+pub spaces_plain : (n : ℕ) → IsPlainText (replicate n 32)
+spaces_plain zero = refl
+spaces_plain (suc n) = spaces_plain n
+
+-- decimal digits
+digit_plain : (d : ℕ) → d < 10 → is_of_text (digit_glyph false d) ≡ true
+digit_plain d lt = grind (arith, nat_tests)
+
+onto_plain : (k n : ℕ) (behind : List ℕ) → IsPlainText behind → IsPlainText (digits_onto k 10 false n behind)
+onto_plain zero n behind h = h
+onto_plain (suc k) n behind h =
+    let glyph = digit_glyph false (n % 10) in
+    let more : IsPlainText (glyph ∷ behind) = rw (digit_plain (n % 10) (omega arith), h) refl in
+    chosen (n / 10 == 0) (glyph ∷ behind) (digits_onto k 10 false (n / 10) (glyph ∷ behind))
+    ∙ rw (more, onto_plain k (n / 10) (glyph ∷ behind) more) (same (n / 10 == 0) true)
+
+pub decimal_plain : (n : ℕ) → IsPlainText (decimal n)
+unfolding digits
+decimal_plain n = onto_plain 64 n [] refl
+
+-- what a line may have, a text may have too
+byte_plain : (x : ℕ) → is_printable x ≡ true → is_of_text x ≡ true
+byte_plain x h = grind (arith, nat_tests, h)
+
+line_plain : (line : List ℕ) → Printable line → IsPlainText line
+line_plain [] h = refl
+line_plain (x ∷ line) h =
+    let p = and_parts (is_printable x) (list_all is_printable line) h in
+    rw (byte_plain x p.0, line_plain line p.1) refl
+
+pub digits_plain : (b : List ℕ) → AreBytes b → IsPlainText (encode_lower b)
+digits_plain b h = line_plain (encode_lower b) (encoded_printable b h)
+
+pub byte_digits : (n : ℕ) → n < 256 → IsPlainText (encode_lower (n ∷ []))
+byte_digits n lt = digits_plain (n ∷ []) (lt, tt)
+
+pub word_digits : (n : ℕ) → n < 65536 → IsPlainText (encode_lower (big_endian n))
+word_digits n lt = digits_plain (big_endian n) (two_fit n lt)
+
+pub unit_plain : (u : ℕ) → u < 65536 → IsPlainText (written_unit u)
+unit_plain u lt = line_plain (written_unit u) (unit_printable u lt)
+
+-- numbers of two bytes
+abbrev pub IsWord : ℕ → Type 0
+IsWord n = n < 65536
+
+abbrev pub AreWords : List ℕ → Type 0
+AreWords us = AllByRecursion IsWord us
+
+pub each_plain : (f : ℕ → List ℕ) → ((u : ℕ) → IsWord u → IsPlainText (f u)) → (us : List ℕ) → AreWords us → IsPlainText (flat_map f us)
+each_plain f h [] words = refl
+each_plain f h (u ∷ us) words = simp (parts, h u words.0, each_plain f h us words.1) refl
+
+-- a proof and those behind it, as of all texts of a list
+infixr 5 ◌&◌
+pub ◌&◌ : {A B : Type 0} → A → B → A × B
+a & b = (a, b)
+
+-- a text that there may be
+abbrev pub MaybePlain : Option (List ℕ) → Type 0
+MaybePlain None = Unit {0}
+MaybePlain (Some text) = IsPlainText text
