@@ -57,7 +57,7 @@ fn write_whole<W: Write>(
 {
     let mut text = Text::new(alloc);
     put_first_line(&mut text, name, bytes)?;
-    let place = write_blocks(alloc, &mut text, subject, bytes, w)?;
+    let place = write_blocks(&mut text, subject, bytes, w)?;
     put_whole_end(&mut text, subject, findings, bytes, place)?;
     write_all(w, text.as_bytes())
 }
@@ -115,7 +115,7 @@ fn write_broken<W: Write>(
     let whole = front(bytes, fault_place(fault));
     let mut text = Text::new(alloc);
     put_first_line(&mut text, broken_name(bytes), bytes)?;
-    let place = write_blocks(alloc, &mut text, subject, whole, w)?;
+    let place = write_blocks(&mut text, subject, whole, w)?;
     put_broken_end(&mut text, subject, fault, bytes, place)?;
     write_all(w, text.as_bytes())
 }

@@ -11,7 +11,7 @@ ghost use Rattle.usb_explain.specs.inside.Walking.{PutsWalk};
 use crate::role::Role;
 use crate::standing::Standing;
 use crate::subject::Subject;
-use std::alloc::{AllocError, Global};
+use std::alloc::AllocError;
 use std::io::Write;
 use usb_listing::{OutFault, write_all};
 use usb_survey::{behind, descriptor_length, front};
@@ -22,7 +22,6 @@ const FULL: usize = 32 * 1024;
 
 /// Writes the lines of the descriptors that stand in these bytes, from the first on. Answers how many bytes they are.
 pub(crate) fn write_blocks<W: Write>(
-    alloc: Global,
     text: &mut Text,
     subject: &Subject,
     bytes: &[u8],
@@ -37,7 +36,7 @@ pub(crate) fn write_blocks<W: Write>(
         standing.enter(role, subject, ahead);
         let d = front(ahead, length);
         standing.put_block(text, subject, role, d, behind(ahead, length))?;
-        pass_on(alloc, text, w)?;
+        pass_on(text, w)?;
         standing.pass(role, d);
         ahead = behind(ahead, length);
     }
@@ -73,13 +72,13 @@ impl Standing {
 }
 
 /// Writes the text and empties it, where it is full.
-fn pass_on<W: Write>(alloc: Global, text: &mut Text, w: &mut W) -> Result<(), OutFault>
+fn pass_on<W: Write>(text: &mut Text, w: &mut W) -> Result<(), OutFault>
     ensures ok { OnOk result (Puts (W.contents w.old) (W.contents w.new) text.old text.new []) }
     ensures err { OnErr result (AppendsLess (W.contents w.old) (W.contents w.new) text.old) }
 {
     if text.as_bytes().len() >= FULL {
         write_all(w, text.as_bytes())?;
-        *text = Text::new(alloc);
+        text.clear();
     }
     Ok(())
 }
