@@ -1,10 +1,10 @@
 //! The commands of the program `usbdesc`, over any reader and writer.
 //!
-//! [`run_show`] reads a configuration set or a descriptor file to the end of its input and writes its
+//! [`run_show`] reads a configuration set, a descriptor file or a dump to the end of its input and writes its
 //! listing, a line for each descriptor. Its contract speaks of the bytes that the reader has and of
 //! those that the writer gains, where the two tell them: `specs/Shows.antt` says what it does, fault by
 //! fault. What each line says stands in the crate `usb_listing`. [`run_check`] writes what breaks a rule of
-//! chapter 9 in a file (`specs/Checks.antt`), and [`run_build`] reads a listing and writes the bytes of its file
+//! chapter 9 in such an input (`specs/Checks.antt`), and [`run_build`] reads a listing and writes the bytes of its file
 //! (`specs/Builds.antt`). [`run_explain`] writes what the descriptors of an input mean, in words (`specs/Explains.antt`).
 //! [`run_enumerate`] enumerates a device that has the descriptors of a file, over a bus that loses
 //! packets and handshakes, and writes what came of that (`specs/Enumerations.antt`). [`run_enumerate_logged`] writes a log
