@@ -21,8 +21,10 @@ pub fn put_count(text: &mut Text, number: u64, noun: &str) -> Result<(), AllocEr
 pub fn put_byte_code(text: &mut Text, code: u8) -> Result<(), AllocError>
     ensures { OnOk result (text.new ≡ text.old ++ byte_code code) }
 {
-    text.put("0x")?;
-    text.put_digits(&[code])
+    let mut digits = *b"0x00";
+    // Two digits are room for one byte.
+    let _ = hex::encode_to_slice([code], &mut digits[2..]);
+    text.put_bytes(&digits)
 }
 
 /// Puts a code of two bytes: `0x0409`.
@@ -30,8 +32,10 @@ pub fn put_byte_code(text: &mut Text, code: u8) -> Result<(), AllocError>
 pub fn put_word_code(text: &mut Text, code: u16) -> Result<(), AllocError>
     ensures { OnOk result (text.new ≡ text.old ++ word_code code) }
 {
-    text.put("0x")?;
-    text.put_digits(&code.to_be_bytes())
+    let mut digits = *b"0x0000";
+    // Four digits are room for two bytes.
+    let _ = hex::encode_to_slice(code.to_be_bytes(), &mut digits[2..]);
+    text.put_bytes(&digits)
 }
 
 /// Puts a release in binary coded decimal: `2.00` of 0200.

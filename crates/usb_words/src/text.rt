@@ -1,5 +1,5 @@
 //! A text that grows at its end.
-ghost use Rattle.std.specs.Prelude.{◌≡◌, ◌+◌, ◌-◌, ◌*◌, [], ◌++◌, length, replicate, ◌==◌, IfSome, OnOk};
+ghost use Rattle.std.specs.Prelude.{◌≡◌, ◌≤◌, ◌+◌, ◌-◌, ◌*◌, [], ◌∷◌, ◌++◌, drop, length, max, replicate, take, ◌==◌, IfSome, OnOk};
 ghost use Rattle.std.specs.Fmt.{decimal};
 ghost use Rattle.usb_words.specs.Columns.{column, filling};
 ghost use Rattle.hex.specs.Hex.{encode_lower};
@@ -72,6 +72,7 @@ impl Text {
     /// # Errors
     ///
     /// A growth was refused, here as in all that puts something.
+    #[inline]
     pub fn put(&mut self, words: &str) -> Result<(), AllocError>
         ensures { OnOk result (self.new ≡ self.old ++ words.now) }
     {
@@ -79,10 +80,22 @@ impl Text {
     }
 
     /// Puts characters as they stand, each of which is one byte.
+    #[inline]
     pub fn put_bytes(&mut self, characters: &[u8]) -> Result<(), AllocError>
         ensures { OnOk result (self.new ≡ self.old ++ characters.now) }
     {
         self.bytes.extend_from_slice(characters)
+    }
+
+    /// Puts a character, which is one byte.
+    #[inline]
+    pub fn put_character(&mut self, character: u8) -> Result<(), AllocError>
+        ensures { OnOk result (self.new ≡ self.old ++ character ∷ []) }
+    {
+        match self.bytes.push(character) {
+            Ok(()) => Ok(()),
+            Err(_) => Err(AllocError),
+        }
     }
 
     /// Puts so many spaces.
@@ -96,9 +109,13 @@ impl Text {
     }
 
     /// Puts a number in decimal digits.
+    #[tactic(auto, using(std::proofs::lemmas::Fmt::decimal_digit))]
     pub fn put_decimal(&mut self, number: u64) -> Result<(), AllocError>
         ensures { OnOk result (self.new ≡ self.old ++ decimal number) }
     {
+        if number < 10 {
+            return self.put_character(b'0' + number as u8);
+        }
         self.put(Buffer::new().format(number))
     }
 
@@ -124,8 +141,31 @@ impl Text {
     pub fn put_column(&mut self, words: &str, width: usize) -> Result<(), AllocError>
         ensures { OnOk result (self.new ≡ self.old ++ column width words.now) }
     {
-        self.put(words)?;
-        self.put_spaces(width.saturating_sub(words.len()).max(1))
+        self.put_column_behind(0, words, width)
+    }
+
+    /// Puts so many spaces, and words in a column of this width.
+    ///
+    /// ```rust
+    /// text.put_column_behind(2, "> IN", 7)?;
+    /// assert_eq!(rt; text.as_bytes(), b"  > IN   ");
+    /// ```
+    #[tactic(auto, using(crate::proofs::Columns::length_with_spaces, crate::proofs::Columns::column_within))]
+    pub fn put_column_behind(
+        &mut self,
+        indent: usize,
+        words: &str,
+        width: usize,
+    ) -> Result<(), AllocError>
+        ensures { OnOk result (self.new ≡ self.old ++ replicate indent 32 ++ column width words.now) }
+    {
+        let start = self.bytes.len();
+        let Some(count) = spaces_for(indent, words.len(), width) else {
+            return Err(AllocError);
+        };
+        self.put_spaces(count)?;
+        overwrite(&mut self.bytes, start + indent, words.as_bytes());
+        Ok(())
     }
 
     /// Fills the column of this width that begins at `start`: with spaces to the width, and with at least one.
@@ -143,4 +183,19 @@ fn with_digits(len: usize, bytes: usize) -> Option<usize>
     ensures { IfSome result (λ end. end ≡ len + 2 * bytes) }
 {
     bytes.checked_mul(2)?.checked_add(len)
+}
+
+/// How many characters an indent and a column of this width have, of which so many are used, if a `usize` can say it.
+fn spaces_for(indent: usize, used: usize, width: usize) -> Option<usize>
+    ensures { IfSome result (λ count. count ≡ indent + max width (used + 1)) }
+{
+    indent.checked_add(width.max(used.checked_add(1)?))
+}
+
+/// Writes characters over those that stand from `start` on.
+fn overwrite(bytes: &mut Vec<u8>, start: usize, characters: &[u8])
+    requires { start + length characters.now ≤ length bytes.old.items }
+    ensures { bytes.new.items ≡ take start bytes.old.items ++ characters.now ++ drop (start + length characters.now) bytes.old.items }
+{
+    bytes.as_mut_slice()[start..start + characters.len()].copy_from_slice(characters);
 }

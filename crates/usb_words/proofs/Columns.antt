@@ -1,0 +1,32 @@
+-- A column that is written into the spaces for it.
+use Rattle.std.proofs.Common.{◌≡◌, ℕ, ◌+◌, ◌-◌, ◌≤◌, List, ◌++◌, length, take, drop, replicate, max, refl, arith, append_assoc}
+use Rattle.std.proofs.Math.Seq.{take-append-add, drop-append-add}
+use Rattle.std.proofs.lemmas.List.{length-append, length-replicate, take-replicate, drop-replicate}
+
+-- how long a text is with spaces behind it
+pub length_with_spaces : (old : List ℕ) (count : ℕ) → length (old ++ replicate {A = ℕ} count 32) ≡ length old + count
+length_with_spaces old count =
+    let space : ℕ = 32 in
+    rw (length-append old (replicate count space), length-replicate count space) refl
+
+-- the characters over the spaces behind a text: the indent, the characters, and the filling
+pub column_within : (old words : List ℕ) (indent width : ℕ)
+    → take (length old + indent) (old ++ replicate (indent + max width (length words + 1)) 32)
+    ++ words
+    ++ drop (length old + indent + length words) (old ++ replicate (indent + max width (length words + 1)) 32)
+    ≡ old ++ replicate indent 32 ++ (words ++ replicate (max (width - length words) 1) 32)
+column_within old words indent width =
+    let space : ℕ = 32 in
+    let count = indent + max width (length words + 1) in
+    let behind : length old + indent + length words ≡ length old + (indent + length words) = omega arith in
+    let inside : indent ≤ count = omega arith in
+    let left : count - (indent + length words) ≡ max (width - length words) 1 = omega arith in
+    rw (
+      behind,
+      take-append-add old (replicate count space) indent,
+      drop-append-add old (replicate count space) (indent + length words),
+      take-replicate indent count space inside,
+      drop-replicate (indent + length words) count space,
+      left,
+    )
+    (append_assoc (old ++ replicate indent space) words (replicate (max (width - length words) 1) space))
