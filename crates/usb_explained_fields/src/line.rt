@@ -29,14 +29,11 @@ pub fn put_place(text: &mut Text, look: Look, at: usize, count: usize) -> Result
 /// # Errors
 ///
 /// Out of memory.
-#[tactic(auto, unfolding(crate::specs::Lines::field_start))]
+#[tactic(auto, using(crate::proofs::Fields::name_column), unfolding(crate::specs::Lines::field_start))]
 pub fn begin_field(text: &mut Text, depth: u8, name: &str) -> Result<(), AllocError>
     ensures { OnOk result (text.new ≡ text.old ++ field_start depth name.now) }
 {
-    text.put_spaces(2 * usize::from(depth) + 4)?;
-    text.put(name)?;
-    text.put_spaces(22_usize.saturating_sub(name.len()))?;
-    text.put(" ")
+    text.put_column_behind(2 * usize::from(depth) + 4, name, 23)
 }
 
 /// Ends a line.
@@ -47,5 +44,5 @@ pub fn begin_field(text: &mut Text, depth: u8, name: &str) -> Result<(), AllocEr
 pub fn end_line(text: &mut Text) -> Result<(), AllocError>
     ensures { OnOk result (text.new ≡ text.old ++ codes "\n") }
 {
-    text.put("\n")
+    text.put_character(b'\n')
 }

@@ -62,6 +62,20 @@ impl<'f> Names<'f> {
         }
     }
 
+    /// The strings, of all languages.
+    pub fn strings(&self) -> Option<&'f Strings>
+        ensures { option_map (λ s. s.now) result ≡ self.now.strings }
+    {
+        self.strings
+    }
+
+    /// The indices that are named, ascending.
+    pub fn indices(&self) -> &[u8]
+        ensures { result.now ≡ self.now.named }
+    {
+        &self.named
+    }
+
     /// Why there is no string of an index that has none.
     pub(crate) fn missing(&self) -> Missing
         ensures { result ≡ self.now.missing }
