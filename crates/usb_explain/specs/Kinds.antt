@@ -34,7 +34,9 @@ is_audio (Some setting) = setting.codes.class == 1
 
 -- where a string stands among those of a file
 abbrev pub place_of : Subject → ℕ → Option StringPlace
-place_of subject number = option_and_then (λ strings. place_among (length subject.named) subject.named strings number) subject.strings
+place_of subject number =
+    let named = subject.names.named in
+    option_and_then (λ strings. place_among (length named) named strings number) subject.names.strings
 
 -- the kind of a descriptor of this role
 unfoldable pub kind_of : Subject → Standing → Role → List ℕ → Kind

@@ -2,7 +2,6 @@
 use Rattle.std.specs.Prelude.{ℕ, zero, ◌/◌, ◌%◌, ◌==◌, ◌&&◌, List, [], slice_get, Bool, true, false, Option, Some, None}
 use Rattle.std.specs.List.{list_any}
 use Rattle.usb_file_data.specs.declared.file.Strings.{Strings}
-use Rattle.usb_file_data.specs.Named.{named_indices}
 use Rattle.usb_file.specs.declared.input.Input.{Input}
 use Rattle.usb_file.specs.declared.input.Input.TheVariants as inputs
 use Rattle.usb_rules.specs.declared.finding.Finding.{Finding}
@@ -15,14 +14,11 @@ use Rattle.usb_explained_fields.specs.Names.{StringNames, names_of, no_names}
 use Rattle.usb_explain.specs.declared.found.Key.{Key}
 use Rattle.usb_explain.specs.declared.manner.Manner.{Manner}
 
--- what is explained: how; whether it is a dump; what its indices name; the strings and the named indices of a file; and
--- what breaks a rule
+-- what is explained: how; whether it is a dump; what its indices name; and what breaks a rule
 pub record Subject : Type 0 where
   pub manner : Manner
   pub is_dump : Bool
   pub names : StringNames
-  pub strings : Option Strings
-  pub named : List ℕ
   pub found : List Finding
 
 -- the number of a part
@@ -47,16 +43,16 @@ is_among all f = list_any (λ g. is_same_key (key_of f) (key_of g)) all
 -- an input of which these findings are known
 abbrev pub subject_with : Manner → Input → List Finding → Subject
 subject_with manner (inputs.Set set) all =
-    record { manner = manner; is_dump = false; names = no_names NotInInput; strings = None; named = []; found = all }
+    record { manner = manner; is_dump = false; names = no_names NotInInput; found = all }
 subject_with manner (inputs.File file) all =
-    record { manner = manner; is_dump = false; names = names_of file; strings = file.strings; named = named_indices file; found = all }
+    record { manner = manner; is_dump = false; names = names_of file; found = all }
 subject_with manner (inputs.Dump file) all =
-    record { manner = manner; is_dump = true; names = no_names NotInInput; strings = None; named = []; found = all }
+    record { manner = manner; is_dump = true; names = no_names NotInInput; found = all }
 
 -- bytes that are no input
 abbrev pub broken_subject : Manner → Subject
 broken_subject manner =
-    record { manner = manner; is_dump = false; names = no_names NotRead; strings = None; named = []; found = [] }
+    record { manner = manner; is_dump = false; names = no_names NotRead; found = [] }
 
 -- a language and an index
 abbrev pub place_by : Option ℕ → Option ℕ → Option StringPlace

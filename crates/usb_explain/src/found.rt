@@ -60,7 +60,10 @@ impl<'f> Found<'f> {
     pub(crate) fn has(&self, finding: Finding) -> bool
         ensures { result ≡ is_among self.now finding }
     {
-        self.index.contains(&key_of(finding))
+        match self.all {
+            [] => false,
+            _ => self.index.contains(&key_of(finding)),
+        }
     }
 }
 

@@ -1,6 +1,5 @@
 //! What is explained.
-ghost use Rattle.std.specs.Prelude.{◌≡◌, [], false, IfOk};
-ghost use Rattle.usb_file_data.specs.Named.{named_indices};
+ghost use Rattle.std.specs.Prelude.{◌≡◌, false, IfOk};
 ghost use Rattle.usb_explained_fields.specs.Names.{names_of, no_names};
 ghost use Rattle.usb_explained_fields.specs.declared.names.Missing.TheVariants.{NotInInput};
 ghost use Rattle.usb_explain.specs.Kinds.{place_of};
@@ -13,7 +12,7 @@ use std::alloc::{AllocError, Global};
 use std::marker::Model;
 use usb_explained_lines::{Missing, Names, StringPlace};
 use usb_file::Input;
-use usb_file_data::{DescriptorFile, Strings, named};
+use usb_file_data::DescriptorFile;
 use usb_rules::Finding;
 
 /// What is explained, and what is known of the whole of it.
@@ -25,21 +24,16 @@ pub(crate) struct Subject<'i> {
     is_dump: bool,
     /// The strings that indices name.
     names: Names<'i>,
-    /// The strings of a file.
-    strings: Option<&'i Strings>,
-    /// The indices that are named.
-    named: Vec<u8>,
     /// What breaks a rule.
     found: Found<'i>,
 }
 
 impl<'i> Model for Subject<'i> {
-    ghost use Rattle.std.specs.Prelude.{option_map};
     ghost use Rattle.usb_explain.specs.Subjects.{Subject as Seen};
 
     ghost Value = { Seen };
 
-    ghost view = { λ s. record { manner = s.manner; is_dump = s.is_dump; names = s.names; strings = option_map (λ strings. strings.now) s.strings; named = s.named.items; found = s.found } };
+    ghost view = { λ s. record { manner = s.manner; is_dump = s.is_dump; names = s.names; found = s.found } };
 }
 
 impl<'i> Subject<'i> {
@@ -67,14 +61,12 @@ impl<'i> Subject<'i> {
         is_dump: bool,
         found: Found<'i>,
     ) -> Subject<'i>
-        ensures { result ≡ record { manner = manner; is_dump = is_dump; names = no_names NotInInput; strings = None; named = []; found = found.entry } }
+        ensures { result ≡ record { manner = manner; is_dump = is_dump; names = no_names NotInInput; found = found.entry } }
     {
         Subject {
             manner,
             is_dump,
             names: Names::none(alloc, Missing::NotInInput),
-            strings: None,
-            named: Vec::new(alloc),
             found,
         }
     }
@@ -85,14 +77,12 @@ impl<'i> Subject<'i> {
         file: &'i DescriptorFile,
         found: Found<'i>,
     ) -> Result<Subject<'i>, AllocError>
-        ensures { IfOk result (λ subject. subject ≡ record { manner = manner; is_dump = false; names = names_of file.now; strings = file.now.strings; named = named_indices file.now; found = found.entry }) }
+        ensures { IfOk result (λ subject. subject ≡ record { manner = manner; is_dump = false; names = names_of file.now; found = found.entry }) }
     {
         Ok(Subject {
             manner,
             is_dump: false,
             names: Names::of(alloc, file)?,
-            strings: file.strings.as_ref(),
-            named: named(alloc, file)?,
             found,
         })
     }
@@ -105,8 +95,6 @@ impl<'i> Subject<'i> {
             manner,
             is_dump: false,
             names: Names::none(alloc, Missing::NotRead),
-            strings: None,
-            named: Vec::new(alloc),
             found: Found::of(alloc, &[])?,
         })
     }
@@ -140,9 +128,9 @@ impl<'i> Subject<'i> {
     pub(crate) fn place(&self, number: usize) -> Option<StringPlace>
         ensures { result ≡ place_of self.now number }
     {
-        match self.strings {
+        match self.names.strings() {
             None => None,
-            Some(strings) => string_place(strings, &self.named, number),
+            Some(strings) => string_place(strings, self.names.indices(), number),
         }
     }
 }

@@ -46,11 +46,10 @@ are_bytes (inputs.File file) b is = is.fits
 are_bytes (inputs.Dump file) b is = is.fits
 
 subject_fits : (manner : Manner) (input : Input) (b : List ℕ) → IsInput input b → SubjectFits (subject_with manner input (input_findings input))
-subject_fits manner (inputs.Set set) b is = record { names = tt; strings = tt }
+subject_fits manner (inputs.Set set) b is = tt
 subject_fits manner (inputs.File file) b is =
-    let fit = file_strings_fit file (subst AreBytes is.bytes is.fits) in
-    record { names = fit; strings = fit }
-subject_fits manner (inputs.Dump file) b is = record { names = tt; strings = tt }
+    file_strings_fit file (subst AreBytes is.bytes is.fits)
+subject_fits manner (inputs.Dump file) b is = tt
 
 name_plain : (input : Input) → IsPlainText (input_name input)
 name_plain (inputs.Set set) = refl
@@ -63,4 +62,4 @@ whole_is_plain manner input b is =
     (subject_fits manner input b is) (name_plain input) (are_bytes input b is)
 
 pub broken_is_plain : BrokenIsPlainText
-broken_is_plain manner fault b are = broken_text_plain (broken_subject manner) fault b (record { names = tt; strings = tt }) are
+broken_is_plain manner fault b are = broken_text_plain (broken_subject manner) fault b tt are

@@ -25,9 +25,8 @@ use Rattle.usb_explain.proofs.plain.Lines.{KindFits, PlaceFits, fields_plain, he
 use Rattle.usb_explain.proofs.plain.Findings.{fault_plain, findings_plain}
 
 -- the strings of a subject have numbers of two bytes
-pub record SubjectFits (subject : Subject) : Type 0 where
-  pub names : MaybeFit subject.names.strings
-  pub strings : MaybeFit subject.strings
+abbrev pub SubjectFits : Subject → Type 0
+SubjectFits subject = MaybeFit subject.names.strings
 
 -- ---- where a string stands
 
@@ -66,7 +65,7 @@ kind_fits subject s Interface d fit = tt
 kind_fits subject s Endpoint d fit = tt
 kind_fits subject s Raw d fit = tt
 kind_fits subject s Languages d fit = tt
-kind_fits subject s Text d fit = place_fits subject.named s.strings subject.strings fit.strings
+kind_fits subject s Text d fit = place_fits subject.names.named s.strings subject.names.strings fit
 
 -- ---- the walk
 
@@ -79,7 +78,7 @@ block_plain subject s role d behind fit h =
       parts,
       heading_plain subject.manner.look (depth_of s role) kind d s.at (kind_fits subject s role d fit) h,
       findings_plain subject s role d behind,
-      fields_plain subject.manner.look (depth_of s role) subject.names kind d fit.names h,
+      fields_plain subject.manner.look (depth_of s role) subject.names kind d fit h,
     ) refl
 
 next_or_end : {A : Type 0} (f : A → List ℕ) (o : Option A) (otherwise : List ℕ) → ((x : A) → IsPlainText (f x)) → IsPlainText otherwise
@@ -105,7 +104,7 @@ rest_plain subject at (x ∷ rest) fit h =
     simp (
       parts,
       heading_plain subject.manner.look 0 kinds.Rest (x ∷ rest) at tt h,
-      fields_plain subject.manner.look 0 subject.names kinds.Rest (x ∷ rest) fit.names h,
+      fields_plain subject.manner.look 0 subject.names kinds.Rest (x ∷ rest) fit h,
     ) refl
 
 -- ---- whole texts
