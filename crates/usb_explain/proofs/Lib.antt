@@ -5,3 +5,4 @@ pub mod Keys
 pub mod Spans
 pub mod Brief
 pub mod plain
+pub mod rest

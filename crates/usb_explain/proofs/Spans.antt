@@ -1,5 +1,5 @@
 -- The descriptors of a walk, and where they stand.
-use Rattle.std.proofs.Common.{◌≡◌, ◌≤◌, ℕ, zero, suc, zero-add, ◌+◌, List, [], ◌∷◌, ◌++◌, ◌||◌, if◌then◌else◌, nat_lt, flat_map, length, map, slice_index, take, drop, Option, Some, None, unwrap_or, option_and_then, refl, sym, ap, subst, ◌∙◌, arith, append_assoc, append-nil, length-append}
+use Rattle.std.proofs.Common.{◌≡◌, ◌≤◌, ℕ, zero, suc, ◌+◌, List, [], ◌∷◌, ◌++◌, ◌||◌, if◌then◌else◌, nat_lt, flat_map, length, map, slice_index, take, drop, Option, Some, None, unwrap_or, option_and_then, refl, sym, ap, subst, ◌∙◌, arith, append_assoc, append-nil, length-append}
 use Rattle.std.specs.Option.{option_map}
 use Rattle.std.proofs.lemmas.Bool.Decides.{nat_tests}
 use Rattle.std.proofs.lemmas.Option.{none-some}
@@ -116,13 +116,37 @@ pub walk_shows : (subject : Subject) (n : ℕ) (s : Standing) (ahead : List ℕ)
 walk_shows subject zero s ahead = walk_none subject zero s ahead (λ look ending. walk_zero (with_look look subject) s ahead ending)
 walk_shows subject (suc n) s ahead = walk_by subject n s ahead (next_role s ahead) refl (walk_shows subject n)
 
+-- a walk that comes to the end of the bytes
+pub record Ended (subject : Subject) (n : ℕ) (s : Standing) (ahead : List ℕ) : Type 0 where
+  pub walk : Walk subject n s ahead
+  pub no_rest : walk.rest ≡ []
+
+-- where no bytes are, no descriptor can stand
+none_of_nothing : (s : Standing) → next_role s [] ≡ None
+unfolding next_role
+none_of_nothing s = refl
+
+pub ended_none : (subject : Subject) (n : ℕ) (s : Standing) → Ended subject n s []
+unfolding walk_none
+ended_none subject n s =
+    record { walk = walk_none subject n s [] (λ look ending. walk_end n (with_look look subject) ending s [] (none_of_nothing s)); no_rest = refl }
+
+pub ended_more : (subject : Subject) (n : ℕ) (s : Standing) (ahead : List ℕ) (next : Role × ℕ) → next_role s ahead ≡ Some next
+    → Ended subject n (behind_next subject s ahead next) (drop next.1 ahead) → Ended subject (suc n) s ahead
+unfolding walk_more
+ended_more subject n s ahead next e ended = record { walk = walk_more subject n s ahead next e ended.walk; no_rest = ended.no_rest }
+
 -- spans end where the lengths add up to
-pub spans_end : (shown : List Shown) (from to : ℕ) → Follow from (map span_of shown) to → from + length (flat_map (λ d. d.bytes) shown) ≡ to
+spans_end : (shown : List Shown) (from to : ℕ) → Follow from (map span_of shown) to → from + length (flat_map (λ d. d.bytes) shown) ≡ to
 spans_end [] from to e = omega (arith, e)
 spans_end (d ∷ ds) from to f =
     let rest : (from + length d.bytes) + length (flat_map (λ d. d.bytes) ds) ≡ to = spans_end ds (from + length d.bytes) to f.2 in
     let sum : length (d.bytes ++ flat_map (λ d. d.bytes) ds) ≡ length d.bytes + length (flat_map (λ d. d.bytes) ds) = length-append d.bytes (flat_map (λ d. d.bytes) ds) in
     omega (arith, rest, sum)
+
+-- from the first place on they end where the lengths end
+pub ends_at : (shown : List Shown) (end : ℕ) → Follow start.at (map span_of shown) end → length (flat_map (λ d. d.bytes) shown) ≡ end
+ends_at shown end f = omega (arith, start_at, spans_end shown start.at end f)
 
 -- what is cut is all of it
 pub cut_parts : (shown : List Shown) (b rest : List ℕ) → Cut b shown rest → b ≡ flat_map (λ d. d.bytes) shown ++ rest
@@ -154,7 +178,7 @@ pub once_by : (subject : Subject) (b front tail first before_rest last text : Li
     → text ≡ first ++ walked n subject ending start front → EachByteOnce subject front b first before_rest last text
 once_by subject b front tail first before_rest last text n ending whole ends_so e =
     let w = walk_shows subject n start front in
-    let ends : length (flat_map (λ d. d.bytes) w.shown) ≡ w.end = sym (zero-add (length (flat_map (λ d. d.bytes) w.shown))) ∙ ap (λ k. k + length (flat_map (λ d. d.bytes) w.shown)) (sym start_at) ∙ spans_end w.shown start.at w.end w.spans in
+    let ends : length (flat_map (λ d. d.bytes) w.shown) ≡ w.end = ends_at w.shown w.end w.spans in
     let walked_parts = cut_parts w.shown front w.rest w.cut in
     let all : b ≡ flat_map (λ d. d.bytes) w.shown ++ (w.rest ++ tail) = whole ∙ ap (λ l. l ++ tail) walked_parts ∙ append_assoc (flat_map (λ d. d.bytes) w.shown) w.rest tail in
     let left : drop w.end b ≡ w.rest ++ tail = left_behind (flat_map (λ d. d.bytes) w.shown) (w.rest ++ tail) b w.end all ends in

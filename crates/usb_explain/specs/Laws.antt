@@ -1,5 +1,5 @@
--- What holds of each explanation: its headings stand for each byte once, a brief one leaves out the fields alone, and each
--- byte of it is a line feed or printable.
+-- What holds of each explanation: its headings stand for each byte once, and of an input no bytes are left for the rest. A
+-- brief one leaves out the fields alone, and each byte of it is a line feed or printable.
 use Rattle.std.specs.Prelude.{◌≡◌, ◌<◌, ℕ, true, false, ◌+◌, List, [], ◌∷◌, ◌++◌, length, map, take, drop, flat_map, slice_index}
 use Rattle.usb_base.specs.Bytes.{AreBytes}
 use Rattle.usb_file.specs.declared.input.Input.{Input}
@@ -73,6 +73,13 @@ pub record EachByteOnce (subject : Subject) (front bytes first before_rest last 
   pub parts : bytes ≡ flat_map (λ d. d.bytes) shown ++ drop end bytes
   pub spans : Follow 0 (map span_of shown ++ rest_span end (drop end bytes)) (length bytes)
 
+-- a text that stands for these bytes by the headings of descriptors alone: nothing is left for the rest
+pub record NothingLeft (subject : Subject) (bytes first last text : List ℕ) : Type 0 where
+  pub shown : List Shown
+  pub lines : text ≡ first ++ (flat_map (lines_of subject) shown ++ last)
+  pub cut : Cut bytes shown []
+  pub spans : Follow 0 (map span_of shown) (length bytes)
+
 -- each explanation of an input stands for each byte once
 abbrev pub WholeEachByteOnce : Type 0
 WholeEachByteOnce =
@@ -86,6 +93,13 @@ BrokenEachByteOnce =
     (manner : Manner) (fault : InputFault) (b : List ℕ) →
     EachByteOnce (broken_subject manner) (take (place_of_fault fault) b) b (first_line (broken_name b) (length b)) (fault_text fault) []
     (broken_explanation manner fault b)
+
+-- of an input nothing is left: each of its bytes stands under the heading of a descriptor
+abbrev pub WholeHasNoRest : Type 0
+WholeHasNoRest =
+    (manner : Manner) (input : Input) (b : List ℕ) → IsInput input b →
+    NothingLeft (subject_with manner input (input_findings input)) b (first_line (input_name input) (length b)) (last_line (length (input_findings input)))
+    (explanation manner input b)
 
 -- the same manner, with the lines of fields or without them
 abbrev pub with_fields : Manner → Manner

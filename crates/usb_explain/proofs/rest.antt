@@ -1,0 +1,4 @@
+pub mod Walks
+pub mod Steps
+pub mod Sets
+pub mod Inputs
