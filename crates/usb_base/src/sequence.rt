@@ -66,7 +66,7 @@ impl<T> Sequence<T> {
         Sequence { items }
     }
 
-    /// The elements as a vector.
+    /// The elements as a vector. Nothing is promised of its room.
     pub fn into_vec(self) -> Vec<T>
         ensures { result.items ≡ self }
     {
@@ -105,7 +105,7 @@ impl<T> Sequence<T> {
         self.items.push(value)
     }
 
-    /// Takes the last element off, if there is one.
+    /// Takes the last element off, if there is one. Nothing is promised of the room that is left.
     pub fn pop(&mut self) -> Option<T>
         ensures some { IfSome result (λ last. self.old ≡ self.new ++ last ∷ []) }
         ensures none { IfNone result ((self.old ≡ []) × (self.new ≡ [])) }

@@ -29,4 +29,4 @@ mod value;
 
 pub use checking::{NoMemory, check, check_dump, check_set};
 pub use finding::{Finding, Part};
-pub use rule::Rule;
+pub use rule::{MESSAGES, Rule};

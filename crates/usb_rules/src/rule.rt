@@ -1,5 +1,5 @@
 //! The rules, and what each asks.
-ghost use Rattle.std.specs.Prelude.{◌≡◌};
+ghost use Rattle.std.specs.Prelude.{◌≡◌, ◌-◌, [], get_or, map};
 ghost use Rattle.usb_rules.specs.FindingLine.{rule_number};
 
 /// A rule of chapter 9 of USB 2.0.
@@ -79,28 +79,27 @@ impl Rule {
         }
     }
 
-    /// What breaks it, in words.
-    pub fn message(self) -> &'static str {
-        match self {
-            Rule::V1 => "bNumInterfaces is not the count of distinct interface numbers",
-            Rule::V2 => "interfaces are not numbered from 0 without a gap",
-            Rule::V3 => "an alternate setting of an interface stands twice",
-            Rule::V4 => "an interface has no alternate setting 0",
-            Rule::V5 => "bNumEndpoints is not the count of the setting's endpoints",
-            Rule::V6 => {
-                "an endpoint has number 0, or one of bits 6 to 4 of bEndpointAddress is one"
-            }
-            Rule::V7 => "two endpoints of a setting have one address",
-            Rule::V8 => "two interfaces of a set claim one endpoint address",
-            Rule::V9 => {
-                "in bmAttributes of a configuration bit 7 is zero, or one of bits 4 to 0 is one"
-            }
-            Rule::V10 => "a part has no set, or a bConfigurationValue is 0 or stands twice",
-            Rule::V11 => {
-                "bMaxPacketSize0 is not 8, 16, 32 or 64, a subclass has no class, or bReserved is not 0"
-            }
-            Rule::V12 => "one of bits 15 to 13 of wMaxPacketSize is one",
-            Rule::V13 => "an association binds no interface, or one that the set does not have",
-        }
+    /// What breaks it, in words: its row of [`MESSAGES`].
+    pub fn message(self) -> &'static str
+        ensures { result.now ≡ get_or (map (λ message. message.now) MESSAGES) (rule_number self - 1) [] }
+    {
+        MESSAGES[usize::from(self.number()) - 1]
     }
 }
+
+/// What breaks each rule, in words, in their order.
+pub const MESSAGES: [&str; 13] = [
+    "bNumInterfaces is not the count of distinct interface numbers",
+    "interfaces are not numbered from 0 without a gap",
+    "an alternate setting of an interface stands twice",
+    "an interface has no alternate setting 0",
+    "bNumEndpoints is not the count of the setting's endpoints",
+    "an endpoint has number 0, or one of bits 6 to 4 of bEndpointAddress is one",
+    "two endpoints of a setting have one address",
+    "two interfaces of a set claim one endpoint address",
+    "in bmAttributes of a configuration bit 7 is zero, or one of bits 4 to 0 is one",
+    "a part has no set, or a bConfigurationValue is 0 or stands twice",
+    "bMaxPacketSize0 is not 8, 16, 32 or 64, a subclass has no class, or bReserved is not 0",
+    "one of bits 15 to 13 of wMaxPacketSize is one",
+    "an association binds no interface, or one that the set does not have",
+];
