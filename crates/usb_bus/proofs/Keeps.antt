@@ -66,10 +66,10 @@ module _ (answer : State → SetupPacket → Outcome) (cut : ℕ) (s : State) (q
         (subst (λ x. Goal answer cut s q size naks l b a fate (both answer cut s q size naks Setup at awaited x strikes nak_count pending)) (sym h.1)
         (subst (λ x. Goal answer cut s q size naks l b a fate (both answer cut s q size naks Setup at x [] strikes nak_count pending)) (sym h.2)
         (setup_all answer cut s q size naks l b a fate at strikes nak_count pending w c h.3 r)))
-    by_stage l b a fate DataIn device.Halted awaited got strikes nak_count pending d r h =
-        let h' = subst (λ x. Stages answer cut s q size naks l b a DataIn device.Halted awaited got strikes x) h.same_state h in
-        subst (λ x. Goal answer cut s q size naks l b a fate (both_at answer cut s q size naks x DataIn device.Halted awaited got strikes nak_count pending)) (sym h.same_state)
-        (data_in_halted answer cut s q size naks l b a fate awaited got strikes nak_count pending h' r)
+    by_stage l b a fate DataIn (device.Halted refused) awaited got strikes nak_count pending d r h =
+        let h' = subst (λ x. Stages answer cut s q size naks l b a DataIn (device.Halted refused) awaited got strikes x) h.same_state h in
+        subst (λ x. Goal answer cut s q size naks l b a fate (both_at answer cut s q size naks x DataIn (device.Halted refused) awaited got strikes nak_count pending)) (sym h.same_state)
+        (data_in_halted answer cut s q size naks l b a fate refused awaited got strikes nak_count pending h' r)
     by_stage l b a fate DataIn (device.Sending bytes m k) awaited got strikes nak_count pending d r h =
         let h' = subst (λ x. IsReading answer cut s q size naks l bytes m k awaited got strikes x) h.same_state h in
         let h'' = subst (λ x. IsReading answer cut s q size naks l bytes x k awaited got strikes s) h.wants h' in
@@ -77,20 +77,20 @@ module _ (answer : State → SetupPacket → Outcome) (cut : ℕ) (s : State) (q
         (subst (λ x. Goal answer cut s q size naks l b a fate (both answer cut s q size naks DataIn (Sending bytes x k) awaited got strikes nak_count pending)) (sym h.wants)
         (sending l b a fate bytes k awaited got strikes nak_count pending h''.left h''.answered r h''.owed h''.due h''.joins h''.ahead h''))
     by_stage l b a fate DataIn _ awaited got strikes nak_count pending d r h = absurd h
-    by_stage l b a fate DataOut device.Halted awaited got strikes nak_count pending d r h =
-        let h' = subst (λ x. Stages answer cut s q size naks l b a DataOut device.Halted awaited got strikes x) h.same_state h in
-        subst (λ x. Goal answer cut s q size naks l b a fate (both_at answer cut s q size naks x DataOut device.Halted awaited got strikes nak_count pending)) (sym h.same_state)
-        (data_out_all answer cut s q size naks l b a fate device.Halted awaited got strikes nak_count pending h' r)
+    by_stage l b a fate DataOut (device.Halted refused) awaited got strikes nak_count pending d r h =
+        let h' = subst (λ x. Stages answer cut s q size naks l b a DataOut (device.Halted refused) awaited got strikes x) h.same_state h in
+        subst (λ x. Goal answer cut s q size naks l b a fate (both_at answer cut s q size naks x DataOut (device.Halted refused) awaited got strikes nak_count pending)) (sym h.same_state)
+        (data_out_all answer cut s q size naks l b a fate (device.Halted refused) awaited got strikes nak_count pending h' r)
     by_stage l b a fate DataOut _ awaited got strikes nak_count pending d r h = absurd h
     by_stage l b a fate StatusOut at awaited got strikes nak_count pending d r h =
         let e : d ≡ s = grind arith in
         let h' = subst (λ x. Stages answer cut s q size naks l b a StatusOut at awaited got strikes x) e h in
         subst (λ x. Goal answer cut s q size naks l b a fate (both_at answer cut s q size naks x StatusOut at awaited got strikes nak_count pending)) (sym e)
         (status_out_all answer cut s q size naks l b a fate at awaited got strikes nak_count pending h' r)
-    by_stage l b a fate StatusIn device.Halted awaited got strikes nak_count pending d r h =
-        let h' = subst (λ x. Stages answer cut s q size naks l b a StatusIn device.Halted awaited got strikes x) h.same_state h in
-        subst (λ x. Goal answer cut s q size naks l b a fate (both_at answer cut s q size naks x StatusIn device.Halted awaited got strikes nak_count pending)) (sym h.same_state)
-        (status_in_halted answer cut s q size naks l b a fate awaited got strikes nak_count pending h' r)
+    by_stage l b a fate StatusIn (device.Halted refused) awaited got strikes nak_count pending d r h =
+        let h' = subst (λ x. Stages answer cut s q size naks l b a StatusIn (device.Halted refused) awaited got strikes x) h.same_state h in
+        subst (λ x. Goal answer cut s q size naks l b a fate (both_at answer cut s q size naks x StatusIn (device.Halted refused) awaited got strikes nak_count pending)) (sym h.same_state)
+        (status_in_halted answer cut s q size naks l b a fate refused awaited got strikes nak_count pending h' r)
     by_stage l b a fate StatusIn (device.StatusIn asked carried) awaited got strikes nak_count pending d r h =
         status_in answer cut s q size naks l b a fate asked carried awaited got strikes nak_count pending d w h r
     by_stage l b a fate StatusIn _ awaited got strikes nak_count pending d r h = absurd h

@@ -8,3 +8,6 @@ mod Leading
 mod TableLemmas
 pub mod Runs
 mod Conversing
+mod ResponderSteps
+mod ResponderTables
+mod ResponderMoments

@@ -1,5 +1,5 @@
 -- A transaction outside the data stage keeps the two ends coupled.
-use Rattle.std.proofs.Common.{◌≡◌, ℕ, ◌+◌, ◌*◌, ◌/◌, ◌%◌, ◌<◌, ◌≤◌, ◌==◌, Bool, false, if◌then◌else◌, List, [], length, refl, sym, arith, inl, subst}
+use Rattle.std.proofs.Common.{◌≡◌, ℕ, ◌+◌, ◌*◌, ◌/◌, ◌%◌, ◌<◌, ◌≤◌, ◌==◌, Bool, false, if◌then◌else◌, List, [], length, Option, refl, sym, arith, inl, subst}
 use Rattle.std.proofs.lemmas.Bool.Decides.{nat_tests}
 use Rattle.usb_fields.specs.declared.packet.Toggle.{Toggle}
 use Rattle.usb_fields.specs.declared.packet.Toggle.TheVariants.{Data1}
@@ -81,15 +81,15 @@ module _ (answer : State → SetupPacket → Outcome) (cut : ℕ) (s : State) (q
       Goal l b a fate (both DataOut at awaited got strikes nak_count pending)
   data_out_all l b a fate at awaited got strikes nak_count pending e r = grind (arith, nat_tests)
 
-  pub data_in_halted : (l b a : ℕ) (fate : Fate) (awaited : Toggle) (got : List ℕ) (strikes nak_count : ℕ) (pending : Bool) →
-      Stages answer cut s q size naks l b a DataIn device.Halted awaited got strikes s → nak_count ≤ b →
-      Goal l b a fate (both DataIn device.Halted awaited got strikes nak_count pending)
-  data_in_halted l b a fate awaited got strikes nak_count pending e r = grind (arith, nat_tests)
+  pub data_in_halted : (l b a : ℕ) (fate : Fate) (refused : Option SetupPacket) (awaited : Toggle) (got : List ℕ) (strikes nak_count : ℕ) (pending : Bool) →
+      Stages answer cut s q size naks l b a DataIn (device.Halted refused) awaited got strikes s → nak_count ≤ b →
+      Goal l b a fate (both DataIn (device.Halted refused) awaited got strikes nak_count pending)
+  data_in_halted l b a fate refused awaited got strikes nak_count pending e r = grind (arith, nat_tests)
 
-  pub status_in_halted : (l b a : ℕ) (fate : Fate) (awaited : Toggle) (got : List ℕ) (strikes nak_count : ℕ) (pending : Bool) →
-      Stages answer cut s q size naks l b a StatusIn device.Halted awaited got strikes s → nak_count ≤ b →
-      Goal l b a fate (both StatusIn device.Halted awaited got strikes nak_count pending)
-  status_in_halted l b a fate awaited got strikes nak_count pending e r = grind (arith, nat_tests)
+  pub status_in_halted : (l b a : ℕ) (fate : Fate) (refused : Option SetupPacket) (awaited : Toggle) (got : List ℕ) (strikes nak_count : ℕ) (pending : Bool) →
+      Stages answer cut s q size naks l b a StatusIn (device.Halted refused) awaited got strikes s → nak_count ≤ b →
+      Goal l b a fate (both StatusIn (device.Halted refused) awaited got strikes nak_count pending)
+  status_in_halted l b a fate refused awaited got strikes nak_count pending e r = grind (arith, nat_tests)
 
   pub status_in : (l b a : ℕ) (fate : Fate) (asked : SetupPacket) (carried : Bool) (awaited : Toggle) (got : List ℕ) (strikes nak_count : ℕ) (pending : Bool) (d : State) →
       IsAnswering answer s q →

@@ -1,12 +1,14 @@
 -- The laws of two ends over a bus: what comes of transfers that have ended, under every list of fates.
-use Rattle.std.specs.Prelude.{◌≡◌, ℕ, ◌<◌, List, []}
+use Rattle.std.specs.Prelude.{◌≡◌, ℕ, ◌<◌, Bool, List, [], ◌∷◌}
 use Rattle.usb_fields.specs.declared.setup.Setup.{Setup as SetupPacket}
+use Rattle.usb_fields.specs.Packet.{Sent}
 use Rattle.usb_file_data.specs.declared.file.DescriptorFile.{DescriptorFile}
 use Rattle.usb_transfer.specs.declared.reply.Reply.{Reply}
 use Rattle.usb_transfer.specs.Plan.{Plan}
 use Rattle.usb_device.specs.declared.state.State.{State}
 use Rattle.usb_device.specs.Requests.{Outcome, Bytes}
-use Rattle.usb_device.specs.Step.{DeviceView, new_device}
+use Rattle.usb_device.specs.Step.{DeviceView, new_device, served, acked}
+use Rattle.usb_device.specs.Beside.{Response, beside}
 use Rattle.usb_bus.specs.declared.fate.Fate.{Fate}
 use Rattle.usb_bus.specs.declared.talk.Talk.{Talk}
 use Rattle.usb_bus.specs.Fates.{losses, busies, acks_lost}
@@ -16,6 +18,7 @@ use Rattle.usb_bus.specs.Attempt.{Answers, begins, attempt_run, is_moved_last, p
 use Rattle.usb_bus.specs.Ending.{TransferEnds, AttemptEnds}
 use Rattle.usb_bus.specs.Talk.{ends_with_address, talk_plan, replies_to, state_after}
 use Rattle.usb_bus.specs.Converse.{IsTalkRun, first_place, talk_start}
+use Rattle.usb_bus.specs.Responders.{served_with, Moment, fates_of, IsAmong, run_moments}
 
 -- One transfer, begun at the device's address, of a device that cuts the packets that the host expects.
 abbrev pub TransfersHaveCauses : Type 0
@@ -48,3 +51,30 @@ abbrev pub TalksAreDetermined : Type 0
 TalksAreDetermined =
     (f : DescriptorFile) (naks : ℕ) (requests : List SetupPacket) (fates : List Fate) (a b : Talk) →
     IsTalkRun f naks requests fates a → IsTalkRun f naks requests fates b → a ≡ b
+
+-- A device and its responder are one device, of the table with the responder beside it: step by step, so that the responder
+-- may be another one at each.
+pub record IsOneDevice (room : ℕ) (table : State → SetupPacket → Outcome) (respond : State → SetupPacket → Response) (packet : ℕ) : Type 0 where
+  pub serves : (d : DeviceView) (sent : Sent) (ready : Bool) →
+      served_with room respond table packet d sent ready ≡ served (beside room table respond) packet d sent ready
+  pub acks : (d : DeviceView) → acked table packet d ≡ acked (beside room table respond) packet d
+
+abbrev pub RespondersAreOneDevice : Type 0
+RespondersAreOneDevice =
+    (room : ℕ) (table : State → SetupPacket → Outcome) (respond : State → SetupPacket → Response) (packet : ℕ) → IsOneDevice room table respond packet
+
+-- Whatever a responder answers, the table with it is one that these laws are about.
+abbrev pub RespondersKeepTables : Type 0
+RespondersKeepTables =
+    (room : ℕ) (table : State → SetupPacket → Outcome) (respond : State → SetupPacket → Response) → IsTable table → IsTable (beside room table respond)
+
+-- Whatever a responder answers at each moment, a transfer ends as one with the responder of a single moment, under the same
+-- losses: its bytes are never pieces of two answers.
+abbrev pub TransfersReadOneAnswer : Type 0
+TransfersReadOneAnswer =
+    (room : ℕ) (table : State → SetupPacket → Outcome) (packet naks : ℕ) (q : SetupPacket) (d : DeviceView) (first : Moment) (more : List Moment) →
+    0 < packet → IsTable table →
+    (let fates = fates_of (first ∷ more) in
+    let e = run_moments room table packet (first ∷ more) (record { host = begins d.state.address packet naks q; device = d }) in
+    (respond : State → SetupPacket → Response) × IsAmong respond (first ∷ more)
+    × TransferEnds (beside room table respond) d.state q naks (losses fates) (busies fates) (acks_lost fates) e.host.transfer.stage e.host.got e.device.state)

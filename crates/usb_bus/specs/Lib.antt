@@ -6,5 +6,6 @@ pub mod Ending
 pub mod Talk
 pub mod Run
 pub mod Converse
+pub mod Responders
 pub mod Laws
 pub mod inside

@@ -4,7 +4,7 @@
 ghost use Rattle.usb_device.specs.Requests.{answer};
 ghost use Rattle.usb_file_data.specs.declared.file.DescriptorFile.{DescriptorFile};
 ghost use Rattle.usb_bus.specs.Answering.{IsTable};
-ghost use Rattle.usb_bus.specs.Laws.{AttemptsHaveCauses, TalksAreDetermined, TalksHaveCauses, TransfersHaveCauses};
+ghost use Rattle.usb_bus.specs.Laws.{AttemptsHaveCauses, RespondersAreOneDevice, RespondersKeepTables, TalksAreDetermined, TalksHaveCauses, TransfersHaveCauses, TransfersReadOneAnswer};
 
 /// A transfer begun at the device's address. Completed, it brought the device's answer, and the device is in the state that
 /// the answer gives, or the ACK of a SET_ADDRESS was lost. Failed, it was refused, or had three losses, or more busy
@@ -37,4 +37,23 @@ pub fn a_talk_is_determined()
 #[tactic(auto, using(crate::proofs::TableLemmas::table_kept))]
 pub fn a_device_keeps_its_table()
     ensures { (f : DescriptorFile) → IsTable (answer f) }
+{}
+
+/// A device whose owner answers what it refuses, right after each SETUP that was taken, goes step by step as one device
+/// does, whose table is the device's own with the owner's answers beside it.
+#[tactic(auto, using(crate::proofs::ResponderSteps::one_device))]
+pub fn a_responder_makes_one_device()
+    ensures { RespondersAreOneDevice }
+{}
+
+/// Whatever the owner answers, the device's table with it is a table that these laws are about.
+#[tactic(auto, using(crate::proofs::ResponderTables::beside_kept))]
+pub fn a_responder_keeps_a_table()
+    ensures { RespondersKeepTables }
+{}
+
+/// A transfer brings one answer of an owner who answers otherwise at each moment, and never pieces of two.
+#[tactic(auto, using(crate::proofs::ResponderMoments::one_answer))]
+pub fn a_transfer_reads_one_answer()
+    ensures { TransfersReadOneAnswer }
 {}

@@ -7,7 +7,7 @@ use Rattle.usb_device.specs.Stages.{stage_of, IsStage}
 
 -- the stage that a device with these descriptors is in
 abbrev pub stage_in : DescriptorFile → EndpointZero → DeviceStage
-stage_in f e = stage_of f e.stage e.data_stage e.request e.carried_out
+stage_in f e = stage_of f e.stage e.data_stage e.request e.settled
 
 -- what it is with these descriptors
 abbrev pub device_of : DescriptorFile → EndpointZero → DeviceView

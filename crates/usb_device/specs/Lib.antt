@@ -1,6 +1,8 @@
 pub mod States
 pub mod Requests
 pub mod Step
+pub mod Beside
+pub mod Numbers
 pub mod View
 pub mod Stages
 pub mod EndpointZero

@@ -1,5 +1,5 @@
 -- Stages, as the code holds them: a place in the bytes and a toggle, where the definition has a list of packets.
-use Rattle.std.specs.Prelude.{◌≡◌, ℕ, ◌*◌, ◌/◌, ◌<◌, ◌≤◌, Bool, List, length, take}
+use Rattle.std.specs.Prelude.{◌≡◌, ℕ, ◌*◌, ◌/◌, ◌<◌, ◌≤◌, Bool, List, length, take, Some, None, if◌then◌else◌}
 use Rattle.usb_fields.specs.Packets.{toggle_of}
 use Rattle.usb_fields.specs.declared.setup.Setup.{Setup}
 use Rattle.usb_file_data.specs.declared.file.DescriptorFile.{DescriptorFile}
@@ -20,19 +20,19 @@ source_bytes f Kept kept = kept
 abbrev pub data_bytes : DescriptorFile → DataStage → List ℕ
 data_bytes f d = take d.count (source_bytes f d.source d.kept)
 
--- the stage, where this is the data stage or that the request of the status stage
+-- the stage, where this is the data stage or that the request, which is settled or not: carried out, or its refusal told
 abbrev pub stage_of : DescriptorFile → Stage → DataStage → Setup → Bool → DeviceStage
-stage_of f stages.Idle d request carried_out = Idle
-stage_of f stages.Halted d request carried_out = Halted
-stage_of f stages.Sending d request carried_out = Sending (data_bytes f d) d.limit (d.offset / f.device.packet)
-stage_of f stages.StatusOut d request carried_out = StatusOut
-stage_of f stages.Over d request carried_out = Over
-stage_of f stages.StatusIn d request carried_out = StatusIn request carried_out
+stage_of f stages.Idle d request settled = Idle
+stage_of f stages.Halted d request settled = Halted (if settled then None else Some request)
+stage_of f stages.Sending d request settled = Sending (data_bytes f d) d.limit (d.offset / f.device.packet)
+stage_of f stages.StatusOut d request settled = StatusOut
+stage_of f stages.Over d request settled = Over
+stage_of f stages.StatusIn d request settled = StatusIn request settled
 
 -- which stage it is, whatever it holds
 abbrev pub stage_kind : DeviceStage → Stage
 stage_kind Idle = stages.Idle
-stage_kind Halted = stages.Halted
+stage_kind (Halted refused) = stages.Halted
 stage_kind (Sending bytes limit acked) = stages.Sending
 stage_kind StatusOut = stages.StatusOut
 stage_kind Over = stages.Over

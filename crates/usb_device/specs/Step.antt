@@ -1,6 +1,6 @@
 -- A device's end of control transfers: what it answers to a transaction, and where it stands then (USB 2.0, 8.5.3 and
 -- 9.2.6). For any answers to requests, and any packet size of endpoint zero.
-use Rattle.std.specs.Prelude.{ℕ, suc, ◌%◌, ◌==◌, ◌||◌, ◌&&◌, Bool, true, false, List, [], ◌∷◌, drop, if◌then◌else◌}
+use Rattle.std.specs.Prelude.{ℕ, suc, ◌%◌, ◌==◌, ◌||◌, ◌&&◌, Bool, true, false, List, [], ◌∷◌, drop, if◌then◌else◌, Option, Some, None}
 use Rattle.usb_fields.specs.declared.packet.Toggle.{Toggle}
 use Rattle.usb_fields.specs.declared.packet.Toggle.TheVariants.{Data0, Data1}
 use Rattle.usb_fields.specs.declared.setup.Setup.{Setup}
@@ -12,11 +12,12 @@ use Rattle.usb_device.specs.States.{zero}
 use Rattle.usb_device.specs.Requests.{Outcome, Bytes, Done, Refused}
 
 -- Where a device stands in a transfer: in none, in one that it refuses, in a data stage, in the status stage that follows
--- it, past that, or in the status stage of this request. A data stage answers with these bytes to a request for `limit`
--- bytes, and `acked` of its packets were acknowledged. A request without a data stage was carried out, or not yet.
+-- it, past that, or in the status stage of this request. A refused request is named until the host is told. A data stage
+-- answers with these bytes to a request for `limit` bytes, and `acked` of its packets were acknowledged. A request without
+-- a data stage was carried out, or not yet.
 pub data DeviceStage : Type 0 where
   Idle : DeviceStage
-  Halted : DeviceStage
+  Halted : (refused : Option Setup) → DeviceStage
   Sending : (bytes : List ℕ) (limit acked : ℕ) → DeviceStage
   StatusOut : DeviceStage
   Over : DeviceStage
@@ -39,7 +40,7 @@ replies reply s stage pending = record { reply = reply; device = record { state 
 
 -- a STALL, until the next SETUP (8.5.3.4)
 abbrev pub stalls : State → Served
-stalls s = replies StallReply s Halted false
+stalls s = replies StallReply s (Halted None) false
 
 -- a new device, and one after a bus reset
 abbrev pub new_device : DeviceView
@@ -49,7 +50,7 @@ new_device = record { state = zero; stage = Idle; pending = false }
 abbrev pub begun : Setup → Outcome → DeviceStage
 begun q (Bytes bytes) = Sending bytes q.length 0
 begun q (Done next) = StatusIn q false
-begun q Refused = Halted
+begun q Refused = Halted (Some q)
 
 -- the state after a request
 abbrev pub carried_out : State → Outcome → State
@@ -77,7 +78,7 @@ status_out s stage Data1 (byte ∷ bytes) = stalls s
 -- OUT, by the stage
 abbrev pub served_out : State → DeviceStage → Toggle → List ℕ → Served
 served_out s Idle toggle bytes = stalls s
-served_out s Halted toggle bytes = stalls s
+served_out s (Halted refused) toggle bytes = stalls s
 served_out s (Sending b m k) toggle bytes = status_out s (Sending b m k) toggle bytes
 served_out s StatusOut toggle bytes = status_out s StatusOut toggle bytes
 served_out s Over toggle bytes = status_out s Over toggle bytes
@@ -96,7 +97,7 @@ module _ (answer : State → Setup → Outcome) (packet : ℕ) where
   -- IN, by the stage
   abbrev pub served_in : State → DeviceStage → Served
   served_in s Idle = stalls s
-  served_in s Halted = stalls s
+  served_in s (Halted refused) = stalls s
   served_in s (Sending b m k) = next_packet s (Sending b m k) k (drop k (packets b packet m))
   served_in s StatusOut = stalls s
   served_in s Over = stalls s
@@ -119,7 +120,7 @@ module _ (answer : State → Setup → Outcome) (packet : ℕ) where
   -- the stage after the ACK of what was sent
   abbrev pub acked_stage : DeviceStage → DeviceStage
   acked_stage Idle = Idle
-  acked_stage Halted = Halted
+  acked_stage (Halted refused) = Halted refused
   acked_stage (Sending b m k) = next_stage b m k (drop (suc k) (packets b packet m))
   acked_stage StatusOut = StatusOut
   acked_stage Over = Over
@@ -128,7 +129,7 @@ module _ (answer : State → Setup → Outcome) (packet : ℕ) where
   -- and the state: with the status stage done a new address holds
   abbrev pub acked_state : State → DeviceStage → State
   acked_state s Idle = s
-  acked_state s Halted = s
+  acked_state s (Halted refused) = s
   acked_state s (Sending b m k) = s
   acked_state s StatusOut = s
   acked_state s Over = s

@@ -23,7 +23,7 @@ acked_by f d = acked (answer f) f.device.packet d
 -- the bytes of a data stage that were acknowledged, in packets of this size
 abbrev pub acknowledged : ℕ → DeviceStage → ℕ
 acknowledged packet Idle = 0
-acknowledged packet Halted = 0
+acknowledged packet (Halted refused) = 0
 acknowledged packet (Sending bytes limit acked) = acked * packet
 acknowledged packet StatusOut = 0
 acknowledged packet Over = 0

@@ -2,19 +2,20 @@
 //!
 //! The calls are inlined down to the request of a SETUP, so that an answer, which is of several shapes, needs no room
 //! in memory.
-ghost use Rattle.std.specs.Prelude.{◌≡◌};
+ghost use Rattle.std.specs.Prelude.{◌≡◌, None, Some, OnOk, OnErr, IfErr};
 ghost use Rattle.std.specs.Borrow.{sem};
 
 use crate::endpoint_zero::{EndpointZero, Reaction};
 use crate::stage::Stage;
 use crate::state::State;
+use crate::unanswered::Unanswered;
 use std::marker::Model;
 use usb_description::Description;
-use usb_fields::{Answer, Transaction};
+use usb_fields::{Answer, Setup, Transaction};
 
 /// A device on the bus: it answers each transaction as USB 2.0 says, by its description. It takes no
-/// memory: the bytes of an [`Answer::Data`] are lent from the description, or from the two bytes that a
-/// device keeps for a status.
+/// memory: the bytes of an [`Answer::Data`] are lent from the description, or from a room in the device, which
+/// keeps a status or its owner's answer to a request that the device itself refuses.
 ///
 /// ```rust
 /// // GET_DESCRIPTOR of the first 8 bytes of the device descriptor.
@@ -50,6 +51,7 @@ impl<'d> Device<'d> {
     ghost use Rattle.usb_device.specs.Stages.{stage_kind};
     ghost use Rattle.usb_device.specs.View.{acked_by, acknowledged, served_by};
     ghost use Rattle.usb_device.specs.Lending.{EndsAs};
+    ghost use Rattle.usb_device.specs.Beside.{answered, carried_out_in, refused_in, room_size, unanswered, unfit_bytes, unfit_status, Gives, Does};
     ghost use Rattle.usb_device.specs.inside.Reactions.{packet_due, reply_with};
 
     /// A device in the Default state, and in no transfer.
@@ -107,6 +109,61 @@ impl<'d> Device<'d> {
         ensures { self.new ≡ record self.old { device = acked_by self.old.description.file self.old.device } }
     {
         self.endpoint_zero.acked(self.description);
+    }
+
+    /// The request that is refused, and whose refusal the host was not told yet. A SETUP is acknowledged whatever it
+    /// asks for, and the STALL comes with the IN or OUT after it: in between the device's owner may answer the
+    /// request, where it [`is_open`](crate::is_open), by [`Device::answer_with`] or [`Device::accept`]. A SETUP whose
+    /// ACK was lost comes again, and its request is then refused anew.
+    ///
+    /// ```rust
+    /// let answer = device.serve(&transaction, true);
+    /// controller.reply(&answer);
+    /// if let Some(q) = device.refused() {
+    ///     match (q.request_type, q.request, q.value) {
+    ///         // The report descriptor, and SET_IDLE.
+    ///         (0x81, 6, 0x2200) => device.answer_with(&REPORT_DESCRIPTOR)?,
+    ///         (0x21, 10, _) => device.accept()?,
+    ///         _ => {}
+    ///     }
+    /// }
+    /// ```
+    #[inline]
+    pub fn refused(&self) -> Option<Setup>
+        ensures { result ≡ refused_in self.now.device.stage }
+    {
+        self.endpoint_zero.refused()
+    }
+
+    /// Answers the request that is refused by these bytes, cut to wLength. They are sent as a descriptor is, with a
+    /// short or an empty packet last where they are fewer than wLength, and kept for that: nothing is borrowed.
+    pub fn answer_with(&mut self, bytes: &[u8]) -> Result<(), Unanswered>
+        ensures device { self.new ≡ record self.old { device = answered room_size (Gives bytes.now) self.old.device } }
+        ensures ok { OnOk result (unanswered (unfit_bytes room_size bytes.now) (refused_in self.old.device.stage) ≡ None) }
+        ensures err { IfErr result (λ why. unanswered (unfit_bytes room_size bytes.now) (refused_in self.old.device.stage) ≡ Some why) }
+        ensures same { OnErr result (self.new ≡ self.old) }
+    {
+        self.endpoint_zero.answer_with(self.description, bytes)
+    }
+
+    /// Answers the request that is refused by the status stage of a request without data.
+    pub fn accept(&mut self) -> Result<(), Unanswered>
+        ensures device { self.new ≡ record self.old { device = answered room_size Does self.old.device } }
+        ensures ok { OnOk result (unanswered unfit_status (refused_in self.old.device.stage) ≡ None) }
+        ensures err { IfErr result (λ why. unanswered unfit_status (refused_in self.old.device.stage) ≡ Some why) }
+        ensures same { OnErr result (self.new ≡ self.old) }
+    {
+        self.endpoint_zero.accept(self.description)
+    }
+
+    /// The request that was carried out, one of the table's own too: from the first empty packet of its status stage to
+    /// the ACK of it. An owner to whom twice isn't once acts when this turns Some, since an accepted request may come
+    /// again before. The address of a SET_ADDRESS holds from that ACK on.
+    #[inline]
+    pub fn carried_out(&self) -> Option<Setup>
+        ensures { result ≡ carried_out_in self.now.device.stage }
+    {
+        self.endpoint_zero.carried_out()
     }
 
     /// The state.

@@ -1,6 +1,6 @@
 //! The device's end of the control transfers of endpoint zero.
 ghost use Rattle.std.specs.Borrow.{sem};
-ghost use Rattle.std.specs.Prelude.{◌≡◌, ◌<◌, ◌≤◌, ◌/◌, suc, false, take, drop};
+ghost use Rattle.std.specs.Prelude.{◌≡◌, ◌<◌, ◌≤◌, ◌/◌, suc, true, false, take, drop, length, None, Some, OnOk, OnErr, IfErr};
 ghost use Rattle.usb_fields.specs.Packet.{reply_of, sent_of};
 ghost use Rattle.usb_fields.specs.Packets.{packets};
 ghost use Rattle.usb_description.specs.Places.{descriptor_at};
@@ -8,12 +8,14 @@ ghost use Rattle.usb_device.specs.Requests.{answer};
 ghost use Rattle.usb_device.specs.Step.{begun, carried_out, is_set_address, next_stage, Sending};
 ghost use Rattle.usb_device.specs.Stages.{data_bytes, stage_kind, IsData, IsSource};
 
+use crate::beside::{ROOM, is_open};
 use crate::request::Request;
 use crate::response::Response;
 use crate::stage::{DataStage, Source, Stage};
 use crate::state::State;
+use crate::unanswered::Unanswered;
 use usb_description::Description;
-use usb_fields::{Answer, Setup, Stage as Token, Toggle, Transaction, request};
+use usb_fields::{Answer, Direction, Setup, Stage as Token, Toggle, Transaction, request};
 
 /// What a device answers to a transaction, with the bytes left out.
 #[derive(Clone, Copy)]
@@ -49,10 +51,11 @@ pub struct EndpointZero {
     stage: Stage,
     /// In the stage `Sending`: the data stage.
     data_stage: DataStage,
-    /// In the stage `StatusIn`: the request.
+    /// In the stages `Halted` and `StatusIn`: the request.
     request: Setup,
-    /// In the stage `StatusIn`: whether the request was carried out.
-    carried_out: bool,
+    /// In the stage `Halted`: whether the host was told of the refusal. In `StatusIn`: whether the request was carried
+    /// out, SET_ADDRESS excepted.
+    settled: bool,
     pending: bool,
 }
 
@@ -61,6 +64,7 @@ impl EndpointZero {
     ghost use Rattle.usb_device.specs.View.{acked_by, acknowledged, served_by};
     ghost use Rattle.usb_file_data.specs.declared.file.DescriptorFile.{DescriptorFile};
     ghost use Rattle.usb_device.specs.EndpointZero.{device_of, IsOf};
+    ghost use Rattle.usb_device.specs.Beside.{answered, carried_out_in, refused_in, room_size, unanswered, unfit_bytes, unfit_status, Gives, Does};
     ghost use Rattle.usb_device.specs.inside.Devices.{received_by, replied, sent_by};
     ghost use Rattle.usb_device.specs.Lending.{PartEndsAs};
     ghost use Rattle.usb_device.specs.inside.Reactions.{packet_due};
@@ -75,7 +79,7 @@ impl EndpointZero {
             stage: Stage::Idle,
             data_stage: DataStage::empty(),
             request: Setup::from_bytes(&[0; 8]),
-            carried_out: false,
+            settled: false,
             pending: false,
         }
     }
@@ -178,15 +182,21 @@ impl EndpointZero {
         };
         match request.respond() {
             Response::Descriptor(place) => self.send_descriptor(d, place, q.length),
-            Response::Byte(byte) => self.send_kept(d, [byte, 0], 1),
-            Response::Status(first) => self.send_kept(d, [first, 0], 2),
-            Response::Done(_) => {
-                self.stage = Stage::StatusIn;
-                self.request = q;
-                self.carried_out = false;
-            }
-            Response::Refused => self.stage = Stage::Halted,
+            Response::Byte(byte) => self.send_kept(d, &[byte], 1),
+            Response::Status(first) => self.send_kept(d, &[first, 0], 2),
+            Response::Done(_) => self.wait(Stage::StatusIn, q),
+            Response::Refused => self.wait(Stage::Halted, q),
         }
+    }
+
+    /// Stands in a stage of a request that isn't settled yet.
+    #[inline(always)]
+    fn wait(&mut self, stage: Stage, q: Setup)
+        ensures { self.new ≡ record self.old { stage = stage; request = q; settled = false } }
+    {
+        self.stage = stage;
+        self.request = q;
+        self.settled = false;
     }
 
     /// Begins a data stage with a descriptor, of which so many bytes are asked for.
@@ -203,17 +213,102 @@ impl EndpointZero {
             .begin(d.bytes(place).len().min(limit), limit);
     }
 
-    /// Begins a data stage with the first so many of two bytes, as many as are asked for.
-    fn send_kept(&mut self, d: &Description, kept: [u8; 2], count: usize)
-        requires some { 0 < count }
-        requires kept { count ≤ 2 }
-        ensures device { device_of d.now.file self.new ≡ record (device_of d.now.file self.old) { stage = Sending (take count kept) count 0 } }
+    /// Begins a data stage with these bytes, which are kept, where up to `limit` are asked for.
+    // Inlined, so that one or two bytes are written with no call.
+    #[inline(always)]
+    fn send_kept(&mut self, d: &Description, bytes: &[u8], limit: usize)
+        requires some { 0 < limit }
+        requires asked { length bytes.now ≤ limit }
+        requires kept { length bytes.now ≤ room_size }
+        ensures device { device_of d.now.file self.new ≡ record (device_of d.now.file self.old) { stage = Sending bytes.now limit 0 } }
         ensures of { IsOf d.now.file self.new }
     {
         self.stage = Stage::Sending;
         self.data_stage.source = Source::Kept;
-        self.data_stage.kept = kept;
-        self.data_stage.begin(count, count);
+        self.data_stage.kept[..bytes.len()].copy_from_slice(bytes);
+        self.data_stage.begin(bytes.len(), limit);
+    }
+
+    /// The request that is refused, and whose refusal the host was not told yet: as
+    /// [`Device::refused`](crate::Device::refused).
+    #[inline]
+    pub fn refused(&self) -> Option<Setup>
+        ensures { (f : DescriptorFile) → result ≡ refused_in (device_of f self.now).stage }
+    {
+        match self.stage {
+            Stage::Halted if !self.settled => Some(self.request),
+            _ => None,
+        }
+    }
+
+    /// Answers that request by these bytes, cut to wLength, as
+    /// [`Device::answer_with`](crate::Device::answer_with).
+    ///
+    /// # Requires
+    ///
+    /// The description is the one that it was made for.
+    pub fn answer_with(&mut self, d: &Description, bytes: &[u8]) -> Result<(), Unanswered>
+        requires { IsOf d.now.file self.old }
+        ensures device { device_of d.now.file self.new ≡ answered room_size (Gives bytes.now) (device_of d.now.file self.old) }
+        ensures ok { OnOk result (unanswered (unfit_bytes room_size bytes.now) (refused_in (device_of d.now.file self.old).stage) ≡ None) }
+        ensures err { IfErr result (λ why. unanswered (unfit_bytes room_size bytes.now) (refused_in (device_of d.now.file self.old).stage) ≡ Some why) }
+        ensures same { OnErr result (self.new ≡ self.old) }
+        ensures of { IsOf d.now.file self.new }
+    {
+        let Some(q) = self.refused() else {
+            return Err(Unanswered::Nothing);
+        };
+        if !is_open(q) {
+            return Err(Unanswered::Closed);
+        }
+        let limit = usize::from(q.length);
+        if limit == 0 || q.direction() == Direction::Out {
+            return Err(Unanswered::Shape);
+        }
+        let count = bytes.len().min(limit);
+        if count > ROOM {
+            return Err(Unanswered::Room);
+        }
+        self.send_kept(d, &bytes[..count], limit);
+        Ok(())
+    }
+
+    /// Answers that request by its status stage, as [`Device::accept`](crate::Device::accept).
+    ///
+    /// # Requires
+    ///
+    /// The description is the one that it was made for.
+    pub fn accept(&mut self, d: &Description) -> Result<(), Unanswered>
+        requires { IsOf d.now.file self.old }
+        ensures device { device_of d.now.file self.new ≡ answered room_size Does (device_of d.now.file self.old) }
+        ensures ok { OnOk result (unanswered unfit_status (refused_in (device_of d.now.file self.old).stage) ≡ None) }
+        ensures err { IfErr result (λ why. unanswered unfit_status (refused_in (device_of d.now.file self.old).stage) ≡ Some why) }
+        ensures same { OnErr result (self.new ≡ self.old) }
+        ensures of { IsOf d.now.file self.new }
+    {
+        let Some(q) = self.refused() else {
+            return Err(Unanswered::Nothing);
+        };
+        if !is_open(q) {
+            return Err(Unanswered::Closed);
+        }
+        if q.length != 0 {
+            return Err(Unanswered::Shape);
+        }
+        self.wait(Stage::StatusIn, q);
+        Ok(())
+    }
+
+    /// The request that was carried out, in its status stage: as
+    /// [`Device::carried_out`](crate::Device::carried_out).
+    #[inline]
+    pub fn carried_out(&self) -> Option<Setup>
+        ensures { (f : DescriptorFile) → result ≡ carried_out_in (device_of f self.now).stage }
+    {
+        match self.stage {
+            Stage::StatusIn if self.settled => Some(self.request),
+            _ => None,
+        }
     }
 
     /// An IN transaction.
@@ -233,10 +328,10 @@ impl EndpointZero {
                 Reaction::Packet(self.data_stage.toggle)
             }
             Stage::StatusIn => {
-                if !self.carried_out && !is_set_address(self.request) {
+                if !self.settled && !is_set_address(self.request) {
                     self.carry_out(d, self.request);
                 }
-                self.carried_out = true;
+                self.settled = true;
                 self.pending = true;
                 Reaction::Packet(Toggle::Data1)
             }
@@ -273,10 +368,11 @@ impl EndpointZero {
     #[inline(always)]
     fn stall(&mut self, d: &Description) -> Reaction
         ensures reply { result ≡ Reaction.Stall }
-        ensures device { self.new ≡ record self.old { stage = Stage.Halted; pending = false } }
+        ensures device { self.new ≡ record self.old { stage = Stage.Halted; settled = true; pending = false } }
         ensures of { IsOf d.now.file self.new }
     {
         self.stage = Stage::Halted;
+        self.settled = true;
         self.pending = false;
         Reaction::Stall
     }

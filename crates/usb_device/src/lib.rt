@@ -6,18 +6,20 @@
 //! [`Device::state`] is what it keeps between requests,
 //! [`State::device_state`] in which [`DeviceState`] it then is, and [`Device::stage`] where it stands in a transfer.
 //! [`EndpointZero`] is what changes in a device, without the description, and [`is_set_address`] tells the request that a
-//! device carries out after its status stage.
+//! device carries out after its status stage. What a device refuses its owner may answer: [`Device::refused`].
 //!
 //! - Descriptions, and which descriptors make a device, stand in the crate usb_description; its public types are named
 //!   here too.
 //! - What comes of each request is `specs/Requests.antt`, a definition for each row of the table, over
 //!   `specs/States.antt` and the descriptors of `usb_description/specs/Descriptors.antt`.
 //! - How a device goes through a control transfer is `specs/Step.antt`, whatever the table is.
+//! - What may be answered beside the table is `specs/Beside.antt`.
 //! - What the parts of an [`EndpointZero`] mean is `specs/EndpointZero.antt` and `specs/Stages.antt`: the code has an
 //!   offset and a toggle where the definition has a list of packets.
 //! - What no public contract cites stands in `specs/inside/`.
 #![tactic(auto)]
 
+mod beside;
 mod device;
 mod device_state;
 mod endpoint_zero;
@@ -28,10 +30,13 @@ mod response;
 mod selected;
 mod stage;
 mod state;
+mod unanswered;
 
+pub use beside::{ROOM, is_open};
 pub use device::Device;
 pub use device_state::DeviceState;
 pub use endpoint_zero::{EndpointZero, is_set_address};
 pub use stage::Stage as DeviceStage;
 pub use state::State;
+pub use unanswered::Unanswered;
 pub use usb_description::{Description, DescriptionFault};

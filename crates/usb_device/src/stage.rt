@@ -2,6 +2,7 @@
 ghost use Rattle.std.specs.Prelude.{◌≡◌, ◌≤◌, length, take, drop};
 ghost use Rattle.usb_device.specs.Stages.{data_bytes, source_bytes, IsData, IsSource};
 
+use crate::beside::ROOM;
 use usb_description::Description;
 use usb_fields::Toggle;
 
@@ -27,7 +28,7 @@ pub enum Stage {
 pub(crate) enum Source {
     /// The descriptor at this place of the description.
     Descriptor(usize),
-    /// The bytes that the device keeps for a status.
+    /// The bytes that the device keeps.
     Kept,
 }
 
@@ -36,8 +37,8 @@ pub(crate) enum Source {
 pub(crate) struct DataStage {
     /// Where the bytes stand.
     pub(crate) source: Source,
-    /// The answer to GET_STATUS, or in the first byte that to GET_CONFIGURATION or GET_INTERFACE.
-    pub(crate) kept: [u8; 2],
+    /// A status or an owner's answer, in the front of this room.
+    pub(crate) kept: [u8; ROOM],
     /// How many bytes there are to send.
     pub(crate) count: usize,
     /// wLength, above 0.
@@ -55,7 +56,7 @@ impl DataStage {
     pub(crate) fn empty() -> DataStage {
         DataStage {
             source: Source::Kept,
-            kept: [0; 2],
+            kept: [0; ROOM],
             count: 0,
             limit: 0,
             offset: 0,

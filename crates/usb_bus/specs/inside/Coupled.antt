@@ -78,17 +78,17 @@ module _ (answer : State → SetupPacket → Outcome) (cut : ℕ) (s : State) (q
   -- device's state follow.
   abbrev pub Stages : ℕ → ℕ → ℕ → TransferStage → DeviceStage → Toggle → List ℕ → ℕ → State → Type 0
   Stages l b a Setup stage awaited got strikes d = (d ≡ s) × (got ≡ []) × (awaited ≡ Data1) × (strikes ≤ l)
-  Stages l b a DataIn device.Halted awaited got strikes d = IsRefused l strikes d
+  Stages l b a DataIn (device.Halted refused) awaited got strikes d = IsRefused l strikes d
   Stages l b a DataIn (device.Sending bytes limit k) awaited got strikes d = IsReading l bytes limit k awaited got strikes d
   Stages l b a DataIn _ awaited got strikes d = ⊥
-  Stages l b a DataOut device.Halted awaited got strikes d = IsRefused l strikes d
+  Stages l b a DataOut (device.Halted refused) awaited got strikes d = IsRefused l strikes d
   Stages l b a DataOut _ awaited got strikes d = ⊥
   Stages l b a StatusOut (device.Sending bytes limit k) awaited got strikes d =
       HasAll l got strikes d × (drop (suc k) (packets bytes cut limit) ≡ [])
   Stages l b a StatusOut device.StatusOut awaited got strikes d = HasAll l got strikes d
   Stages l b a StatusOut device.Over awaited got strikes d = HasAll l got strikes d
   Stages l b a StatusOut _ awaited got strikes d = ⊥
-  Stages l b a StatusIn device.Halted awaited got strikes d = IsRefused l strikes d
+  Stages l b a StatusIn (device.Halted refused) awaited got strikes d = IsRefused l strikes d
   Stages l b a StatusIn (device.StatusIn asked carried) awaited got strikes d = IsDone l asked carried strikes d
   Stages l b a StatusIn _ awaited got strikes d = ⊥
   -- a transfer that has ended

@@ -14,7 +14,7 @@ first_packet (p ∷ rest) = p
 -- the bytes of the packet that is due, which in the status stage are none
 abbrev pub packet_due : ℕ → DeviceStage → List ℕ
 packet_due size Idle = []
-packet_due size Halted = []
+packet_due size (Halted refused) = []
 packet_due size (Sending b m k) = first_packet (drop k (packets b size m))
 packet_due size StatusOut = []
 packet_due size Over = []

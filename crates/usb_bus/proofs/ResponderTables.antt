@@ -1,0 +1,108 @@
+-- A table and a responder beside it are a table.
+use Rattle.std.proofs.Common.{◌≡◌, ℕ, ◌<◌, ◌≤◌, ◌==◌, ◌&&◌, ◌%◌, ◌/◌, not, Bool, true, false, length, take, refl, arith, sym, subst, ◌∙◌, length-take}
+use Rattle.std.proofs.lemmas.Bool.Decides.{nat_tests}
+use Rattle.usb_fields.specs.declared.setup.Setup.{Setup}
+use Rattle.usb_fields.specs.declared.setup.Class.TheVariants as classes
+use Rattle.usb_fields.specs.Setup.{class_of}
+use Rattle.usb_base.specs.declared.direction.Direction.{Direction}
+use Rattle.usb_base.specs.declared.direction.Direction.TheVariants as directions
+use Rattle.usb_base.specs.Directions.{direction_of}
+use Rattle.usb_device.specs.declared.state.State.{State}
+use Rattle.usb_device.specs.Requests.{Outcome, Bytes, Done, Refused, when}
+use Rattle.usb_device.specs.Step.{is_set_address}
+use Rattle.usb_device.specs.Beside.{Response, Gives, Does, Declines, asks_for_bytes, beside, is_in, is_open, is_open_to, is_other_descriptor, kept_open, kept_to, otherwise, overflows}
+use Rattle.usb_bus.specs.Answering.{IsTable}
+use Rattle.usb_bus.specs.Laws.{RespondersKeepTables}
+
+first_true : (a b : Bool) → (a && b) ≡ true → a ≡ true
+first_true true b e = refl
+first_true false b e = e
+
+-- SET_ADDRESS is open to no responder
+set_address_closed : (q : Setup) → is_open q ≡ true → is_set_address q ≡ false
+set_address_closed q may = by_type (q.request_type % 128 == 0) refl
+  where
+    by_request : (c : Bool) → (q.request == 5) ≡ c → class_of q.request_type ≡ classes.Standard → (q.request == 5) ≡ false
+    by_request false e standard = e
+    by_request true e standard =
+        (let six : (q.request == 6) ≡ false = grind (arith, nat_tests) in
+        let here : is_other_descriptor q ≡ true = subst (λ c. is_open_to c q ≡ true) standard may in
+        absurd (let z = sym (first_true (q.request == 6) _ here) ∙ six in cc))
+
+    by_type : (c : Bool) → (q.request_type % 128 == 0) ≡ c → is_set_address q ≡ false
+    by_type false e = rw e refl
+    by_type true e =
+        (let zero : q.request_type % 128 ≡ 0 = grind (arith, nat_tests) in
+        let none : q.request_type / 32 % 4 ≡ 0 = omega arith in
+        let kind : (q.request_type / 32 % 4 == 0) ≡ true = rw none refl in
+        let standard : class_of q.request_type ≡ classes.Standard = rw kind refl in
+        rw (e, by_request (q.request == 5) refl standard) refl)
+
+-- what an answer keeps, by its kind
+abbrev Kept : State → Setup → Outcome → Type 0
+Kept s q (Bytes b) = (0 < q.length) × (direction_of q.request_type ≡ directions.In) × (length b ≤ q.length)
+Kept s q (Done t) =
+    (q.length ≡ 0) × (is_set_address q ≡ false → t.address ≡ s.address) × (is_set_address q ≡ true → (q.value < 128) × (t ≡ record s { address = q.value }))
+Kept s q Refused = Unit {0}
+
+when_kept : (s : State) (q : Setup) (c : Bool) (a : Outcome) → (c ≡ true → Kept s q a) → Kept s q (when c a)
+when_kept s q true a x = x refl
+when_kept s q false a x = tt
+
+-- a request that asks for bytes has a data stage, to the host
+some_asked : (q : Setup) → asks_for_bytes q ≡ true → 0 < q.length
+some_asked q e =
+    let some : not (q.length == 0) ≡ true = first_true (not (q.length == 0)) (is_in (direction_of q.request_type)) e in
+    grind (arith, nat_tests)
+
+second_true : (a b : Bool) → (a && b) ≡ true → b ≡ true
+second_true true b e = e
+second_true false b e = cc
+
+goes_in : (d : Direction) → is_in d ≡ true → d ≡ directions.In
+goes_in directions.In e = refl
+goes_in directions.Out e = cc
+
+in_asked : (q : Setup) → asks_for_bytes q ≡ true → direction_of q.request_type ≡ directions.In
+in_asked q e = goes_in (direction_of q.request_type) (second_true (not (q.length == 0)) (is_in (direction_of q.request_type)) e)
+
+kept_open_kept : (room : ℕ) (s : State) (q : Setup) (r : Response) → is_open q ≡ true → Kept s q (kept_open room s q r)
+kept_open_kept room s q (Gives b) may =
+    when_kept s q (asks_for_bytes q && not (overflows room q b)) (Bytes (take q.length b))
+    (λ e. (let asked = first_true (asks_for_bytes q) (not (overflows room q b)) e in
+    (some_asked q asked, in_asked q asked, simp length-take (omega arith))))
+kept_open_kept room s q Does may =
+    when_kept s q (q.length == 0) (Done s)
+    (λ e. (grind (arith, nat_tests), (λ i. refl), (λ i. absurd (let z = sym i ∙ set_address_closed q may in cc))))
+kept_open_kept room s q Declines may = tt
+
+kept_to_kept : (room : ℕ) (s : State) (q : Setup) (r : Response) → Kept s q (kept_to room s q r)
+kept_to_kept room s q r = when_kept s q (is_open q) (kept_open room s q r) (λ may. kept_open_kept room s q r may)
+
+otherwise_kept : (room : ℕ) (s : State) (q : Setup) (a : Outcome) (r : Response) → Kept s q a → Kept s q (otherwise a (kept_to room s q r))
+otherwise_kept room s q (Bytes b) r x = x
+otherwise_kept room s q (Done t) r x = x
+otherwise_kept room s q Refused r x = kept_to_kept room s q r
+
+module _ (table : State → Setup → Outcome) (is : IsTable table) (s : State) (q : Setup) where
+  kept_by : (o : Outcome) → table s q ≡ o → Kept s q o
+  kept_by (Bytes b) e = (let a = (is.answering s q).bytes b e in (a.0, a.1, is.fits s q b e))
+  kept_by (Done t) e = ((is.answering s q).done t e, (λ i. (is.answering s q).stays t e i), (λ i. is.goes s q t e i))
+  kept_by Refused e = tt
+
+both_kept : (room : ℕ) (table : State → Setup → Outcome) (respond : State → Setup → Response) → IsTable table → (s : State) (q : Setup) → Kept s q (beside room table respond s q)
+both_kept room table respond is s q = otherwise_kept room s q (table s q) (respond s q) (kept_by table is s q (table s q) refl)
+
+pub beside_kept : RespondersKeepTables
+beside_kept room table respond is =
+    let kept : (s : State) (q : Setup) (o : Outcome) → beside room table respond s q ≡ o → Kept s q o =
+    λ s q o e. subst (λ a. Kept s q a) e (both_kept room table respond is s q) in
+    record {
+      answering = λ s q. record {
+        bytes = λ b e. (let k = kept s q (Bytes b) e in (k.0, k.1));
+        done = λ t e. (kept s q (Done t) e).0;
+        stays = λ t e i. (kept s q (Done t) e).1 i;
+      };
+      fits = λ s q b e. (kept s q (Bytes b) e).2;
+      goes = λ s q t e i. (kept s q (Done t) e).2 i;
+    }
