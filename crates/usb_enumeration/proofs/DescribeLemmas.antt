@@ -26,11 +26,11 @@ use Rattle.usb_enumeration.proofs.AcceptLemmas.{AreSound, AreStrings, sets_sound
 use Rattle.usb_enumeration.proofs.HeadLemmas.{length_is, headed_bytes}
 use Rattle.usb_file_data.proofs.WholeSets.{whole_length, no_some}
 
-before : (a b : List ℕ) → AreBytes (a ++ b) → AreBytes a
+pub before : (a b : List ℕ) → AreBytes (a ++ b) → AreBytes a
 before [] b h = tt
 before (x ∷ a) b h = (h.0, before a b h.1)
 
-behind : (a b : List ℕ) → AreBytes (a ++ b) → AreBytes b
+pub behind : (a b : List ℕ) → AreBytes (a ++ b) → AreBytes b
 behind [] b h = h
 behind (x ∷ a) b h = behind a b h.1
 

@@ -1,7 +1,8 @@
 -- The loop of an enumeration, and its end.
-use Rattle.std.proofs.Common.{◌≡◌, ℕ, suc, ◌+◌, ◌*◌, ◌<◌, ◌≤◌, true, List, ◌∷◌, Some, Result, Ok, Err, inl, inr, ap, sym, ◌∙◌, arith, subst}
+use Rattle.std.proofs.Common.{◌≡◌, ℕ, suc, ◌+◌, ◌*◌, ◌/◌, ◌<◌, ◌≤◌, true, List, ◌∷◌, Some, Result, Ok, Err, inl, inr, ap, sym, ◌∙◌, arith, subst}
 use Rattle.std.specs.Prelude.{IfOk, IfErr}
-use Rattle.std.proofs.lemmas.Nat.{mul-le}
+use Rattle.std.proofs.lemmas.Nat.{mul-le, le-div, div_below}
+use Rattle.std.proofs.Math.Nat.{div-mul-le_self}
 use Rattle.usb_fields.specs.declared.speed.Speed.{Speed}
 use Rattle.usb_fields.specs.Packet.{Reply as Answer}
 use Rattle.usb_file_data.specs.declared.file.DescriptorFile.{DescriptorFile}
@@ -87,18 +88,28 @@ says f limits used attempts s (Ended place) o good e = says_at f limits used att
 pub all_used : (limits : LimitView) (used : List Fate) (attempts : ℕ) (o : Result DescriptorFile Trouble) →
     IfErr o (λ trouble. HasCause limits used attempts trouble.why) → IfErr o (λ trouble. blames_bus trouble.why ≡ true → attempts ≡ limits.attempts)
 all_used limits used attempts (Ok g) h = tt
-all_used limits used attempts (Err trouble) (inl e) = λ blamed. absurd (let wrong = sym (ap blames_bus e) ∙ blamed in cc)
+all_used limits used attempts (Err trouble) (inl (e, heard)) = λ blamed. absurd (let wrong = sym (ap blames_bus e) ∙ blamed in cc)
 all_used limits used attempts (Err trouble) (inr (blamed, all, bad)) = λ again. all
 
--- with few losses and few Busy in the list, only *out of memory* is left
+-- fewer Busy have no more whole measures
+fewer_measures : (a b naks : ℕ) → a ≤ b → a / suc naks ≤ b / suc naks
+fewer_measures a b naks few = le-div (a / suc naks) b (suc naks) (omega arith) (let within = div-mul-le_self a (suc naks) in omega arith)
+
 only_memory : (limits : LimitView) (fates : List Fate) (n attempts : ℕ) (why : Why) → HasCause limits (fates_used fates n) attempts why →
-    losses fates < limits.attempts → busies fates ≤ limits.naks → why ≡ Memory
-only_memory limits fates n attempts why (inl e) few small = e
-only_memory limits fates n attempts why (inr (blamed, all, inl lost)) few small = absurd (let l = losses-fates_used fates n in omega arith)
-only_memory limits fates n attempts why (inr (blamed, all, inr busy)) few small = absurd (let b = busies-fates_used fates n in omega arith)
+    losses fates + busies fates / suc limits.naks < limits.attempts → why ≡ Memory
+only_memory limits fates n attempts why (inl (e, heard)) few = e
+only_memory limits fates n attempts why (inr (blamed, all, bad)) few =
+    absurd (let l = losses-fates_used fates n in let b = fewer_measures (busies (fates_used fates n)) (busies fates) limits.naks (busies-fates_used fates n) in omega arith)
+
+-- with fewer losses and whole measures of Busy in the list than attempts, only *out of memory* is left
+pub memory_left : (limits : LimitView) (fates : List Fate) (n attempts : ℕ) (o : Result DescriptorFile Trouble) →
+    IfErr o (λ trouble. HasCause limits (fates_used fates n) attempts trouble.why) →
+    losses fates + busies fates / suc limits.naks < limits.attempts → IfErr o (λ trouble. trouble.why ≡ Memory)
+memory_left limits fates n attempts (Ok g) h few = tt
+memory_left limits fates n attempts (Err trouble) h few = only_memory limits fates n attempts trouble.why h few
 
 pub memory_alone : (limits : LimitView) (fates : List Fate) (n attempts : ℕ) (o : Result DescriptorFile Trouble) →
     IfErr o (λ trouble. HasCause limits (fates_used fates n) attempts trouble.why) → losses fates < limits.attempts → busies fates ≤ limits.naks →
     IfErr o (λ trouble. trouble.why ≡ Memory)
-memory_alone limits fates n attempts (Ok g) h few small = tt
-memory_alone limits fates n attempts (Err trouble) h few small = only_memory limits fates n attempts trouble.why h few small
+memory_alone limits fates n attempts o h few small =
+    memory_left limits fates n attempts o h (let none = div_below (busies fates) (suc limits.naks) 1 (omega arith) (omega arith) in omega arith)

@@ -26,9 +26,9 @@ use Rattle.usb_host.specs.declared.place.Place.TheVariants.{First, Address, Devi
 use Rattle.usb_host.specs.declared.kept.Kept.{Kept}
 use Rattle.usb_host.specs.declared.kept.Kept.TheVariants as kept
 use Rattle.usb_host.specs.Order.{asks, next, stopped, bytes_lead, set_leads, done_leads, refused_leads}
-use Rattle.usb_host.specs.Keeping.{nothing_kept, WantsMemory, set_kept}
+use Rattle.usb_host.specs.Keeping.{nothing_kept, set_kept}
 use Rattle.usb_host.specs.Gathered.{reached}
-use Rattle.usb_host.specs.Steps.{HostPhase, Reading, Ended, KeepsHeard, TakesHeard, enter, read_leads, completed_leads, goes_on}
+use Rattle.usb_host.specs.Steps.{HostPhase, Reading, Ended, Grows, KeepsHeard, LacksMemory, TakesHeard, enter, read_leads, completed_leads, goes_on}
 use Rattle.usb_host.specs.inside.Steady.{FitsPlace}
 use Rattle.usb_enumeration.specs.inside.Image.{KeptFrom, IsInWork, IsTransfer, IsImage, plan_of}
 use Rattle.usb_enumeration.specs.inside.Readers.{ReadsSets}
@@ -184,7 +184,7 @@ module _ (laws : SetLaws) (set_of : List ℕ → Option Configuration) (limits :
 
   -- what is kept goes with the bytes
   keeps : (place : Place) (got : List ℕ) (old new : Kept) (heard : Hearing) (result : Result Progress SetFault) → FitsPlace place old → KeptFrom got old →
-      KeepsHeard old heard result new → (WantsMemory result → ⊥) → FitsPlace place new × KeptFrom (with_heard got heard) new
+      KeepsHeard old heard result new → (LacksMemory heard old result → ⊥) → FitsPlace place new × KeptFrom (with_heard got heard) new
   keeps place got old new Goes result fits is e fine = (subst (λ w. FitsPlace place w) (sym e) fits, subst (λ w. KeptFrom got w) (sym e) is)
   keeps place got old new Completes result fits is e fine = (subst (λ w. FitsPlace place w) (sym e) fits, subst (λ w. KeptFrom got w) (sym e) is)
   keeps place got old new (Fails why) result fits is e fine = (subst (λ w. FitsPlace place w) (sym e) fits, subst (λ w. KeptFrom got w) (sym e) is)
@@ -197,9 +197,10 @@ module _ (laws : SetLaws) (set_of : List ℕ → Option Configuration) (limits :
 
   pub stays : (replies : List Reply) (h : HostEnd) (d : DeviceView) (place : Place) (t : TransferView) (k : Kept) (packet : Packet) (new : HostPhase) →
       Image replies (Running h) (Reading place t k) → TakesHeard limits speed place k (taken t packet) new →
-      (new ≡ Ended (stopped place Memory))
+      ((result : Result Progress SetFault) × (LacksMemory (taken t packet).heard k result ⊎ Grows (taken t packet).heard place)
+      × (new ≡ Ended (stopped place Memory)))
       ⊎ (let e = hears h packet in let x = advance plan limits.naks replies e e.transfer.stage d in Image x.replies x.phase new)
-  stays replies h d place t k packet new (here, open_, fits, is) (result, after, works, inl (wants, e)) = inl e
+  stays replies h d place t k packet new (here, open_, fits, is) (result, after, works, inl (wants, e)) = inl (result, wants, e)
   stays replies h d place t k packet new (here, open_, fits, is) (result, after, works, inr (fine, e)) =
       let by = taken t packet in
       let end : HostEnd = host_after h.got by in

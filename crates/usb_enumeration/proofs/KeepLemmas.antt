@@ -1,5 +1,5 @@
 -- A decoder that is fed packet by packet holds what the join of the packets says.
-use Rattle.std.proofs.Common.{◌≡◌, ℕ, ◌+◌, ◌||◌, ◌≤◌, nat_lt, Bool, true, false, List, [], ◌++◌, length, ◌⊎◌, inl, inr, refl, ap, sym, ◌∙◌, arith, subst, length-append}
+use Rattle.std.proofs.Common.{◌≡◌, ℕ, ◌+◌, ◌||◌, nat_lt, Bool, true, false, List, [], ◌++◌, length, ◌⊎◌, inl, inr, refl, ap, sym, ◌∙◌, arith, subst, length-append}
 use Rattle.std.specs.Prelude.{Option, Some, None, Result, Ok, Err}
 use Rattle.std.proofs.lemmas.Bool.Decides.{nat_tests}
 use Rattle.std.proofs.lemmas.List.{append-nil, nil_from_length}
@@ -13,6 +13,7 @@ use Rattle.usb_set.specs.Feeding.{Answers}
 use Rattle.usb_set.specs.Layout.{Layout}
 use Rattle.usb_set.specs.Faults.{Begins, Faulty, IsOpen}
 use Rattle.usb_host.specs.Keeping.{WantsMemory, is_over, set_kept}
+use Rattle.usb_host.proofs.CameLemmas.{begins_within, over_more, over_first}
 use Rattle.usb_enumeration.specs.inside.Image.{DecodedFrom}
 use Rattle.usb_enumeration.specs.inside.Readers.{ReadsSets}
 
@@ -24,15 +25,6 @@ pub record SetLaws : Type 0 where
   pub more_fault : (b more : List ℕ) (p : ℕ) (w : SetWhy) → Faulty b p w → Faulty (b ++ more) p w
 
 module _ (laws : SetLaws) where
-  begins_within : (b : List ℕ) (c : Configuration) (n : ℕ) → Begins b c n → n ≤ length b
-  begins_within b c n h = (let all = ap length h.parts in let sum = length-append h.front h.rest in let ends = h.ends in omega arith)
-
-  over_more : (over : Bool) (n size more : ℕ) → n ≤ size → over ≡ nat_lt n size → (over || nat_lt 0 more) ≡ nat_lt n (size + more)
-  over_more over n size more within e = grind (arith, nat_tests)
-
-  over_first : (used size count more : ℕ) → count ≡ size → nat_lt used more ≡ nat_lt (count + used) (size + more)
-  over_first used size count more e = grind (arith, nat_tests)
-
   pub feeds : (got piece : List ℕ) (old new : Decoding) (over now : Bool) (result : Result Progress SetFault) → DecodedFrom got old over → Answers old piece result new →
       now ≡ is_over over result (length piece) → WantsMemory result ⊎ DecodedFrom (got ++ piece) new now
   feeds got piece (gathers s) new over now (Ok More) (same, before, none) (open_, e) at =

@@ -1,4 +1,5 @@
 mod AcceptLemmas
+mod BesideLemmas
 mod TextLemmas
 mod HeadLemmas
 mod OpenLemmas
@@ -11,5 +12,7 @@ mod DescribeLemmas
 mod ReaderLemmas
 mod SeriesLemmas
 mod ImageLemmas
+mod HeardLemmas
 mod RunLemmas
+mod ByteLemmas
 pub mod EnumerateLemmas

@@ -13,7 +13,9 @@ use Rattle.usb_transfer.specs.declared.reply.Reply.{Reply}
 use Rattle.usb_transfer.specs.Limits.{LimitView}
 use Rattle.usb_transfer.specs.Plan.{Plan}
 use Rattle.usb_transfer.specs.Transfer.{TransferView, due, taken}
-use Rattle.usb_device.specs.Requests.{answer}
+use Rattle.usb_fields.specs.declared.setup.Setup.{Setup as SetupPacket}
+use Rattle.usb_device.specs.declared.state.State.{State}
+use Rattle.usb_device.specs.Requests.{Outcome}
 use Rattle.usb_device.specs.Step.{DeviceView, new_device}
 use Rattle.usb_bus.specs.declared.fate.Fate.{Fate}
 use Rattle.usb_bus.specs.declared.fate.Fate.TheVariants.{Pass}
@@ -29,12 +31,13 @@ use Rattle.usb_host.specs.declared.kept.Kept.{Kept}
 use Rattle.usb_host.specs.Order.{stopped}
 use Rattle.usb_host.specs.Gathered.{reached}
 use Rattle.usb_host.specs.Steps.{HostPhase, ResetDue, Reading, Ended, HostView, WantsReset, WantsSent, wanted, sends, enter, settled, blames_bus, TakesHeard, TakesIn}
-use Rattle.usb_enumeration.specs.Enumerate.{configured_state}
+use Rattle.usb_enumeration.specs.Enumerate.{brings, configured_state, ends_heard}
 use Rattle.usb_host.proofs.AskingLemmas.{wants_reset, reset_is}
 use Rattle.usb_enumeration.specs.inside.Series.{Series, fresh, settle, series_step, series_run, Verdict}
 use Rattle.usb_enumeration.specs.inside.Image.{plan_of, IsImage, StaysImage}
-use Rattle.usb_enumeration.specs.Run.{Pair, new_pair, IsReset, IsTransaction, Runs}
-use Rattle.usb_enumeration.specs.inside.Ends.{EndsWell, GoesWell, KeepsLimits}
+use Rattle.usb_enumeration.specs.Run.{Pair, new_pair, IsReset, IsTransactionAt, RunsAt}
+use Rattle.usb_enumeration.specs.inside.Ends.{EndsWell, GoesWell}
+use Rattle.usb_enumeration.proofs.HeardLemmas.{wanting_heard}
 
 -- one transaction more
 fates_used-more : (fates : List Fate) (n : ℕ) → fates_used fates (suc n) ≡ fates_used fates n ++ fate_at fates n ∷ []
@@ -47,6 +50,15 @@ fates_used-more (f ∷ fates) (suc n) = ap (λ fs. f ∷ fs) (fates_used-more fa
 is_due : (o : Option Sent) (sent : Sent) → sends o ≡ WantsSent sent → o ≡ Some sent
 is_due None sent e = absurd (cc)
 is_due (Some other) sent e = cc
+
+ends_with : (fates : List Fate) (fate : Fate) → ends_heard (fates ++ fate ∷ []) ≡ brings fate
+ends_with [] fate = refl
+ends_with (f ∷ []) fate = refl
+ends_with (f ∷ g ∷ fates) fate = ends_with (g ∷ fates) fate
+
+last_heard : (fates : List Fate) (m n : ℕ) → n ≡ suc m → brings (fate_at fates m) ≡ true → ends_heard (fates_used fates n) ≡ true
+last_heard fates m n count arrived =
+    ap (λ k. ends_heard (fates_used fates k)) count ∙ ap ends_heard (fates_used-more fates m) ∙ ends_with (fates_used fates m) (fate_at fates m) ∙ arrived
 
 module _ (set_of : List ℕ → Option Configuration) (limits : LimitView) (speed : Speed) where
   abbrev plan : List Reply → Plan
@@ -75,7 +87,7 @@ module _ (set_of : List ℕ → Option Configuration) (limits : LimitView) (spee
 
   -- or memory was wanting
   abbrev IsWanting : HostView → Type 0
-  IsWanting v = (place : Place) × (v.phase ≡ Ended (stopped place Memory)) × (v.limits ≡ limits) × (v.resets ≤ limits.attempts)
+  IsWanting v = (place : Place) × (v.phase ≡ Ended (stopped place Memory))
 
   -- an attempt that failed by the bus
   agains_match : (attempts : ℕ) (y : Attempt) (trouble : Trouble) (d : DeviceView) (small : Bool) → nat_lt attempts limits.attempts ≡ small →
@@ -139,9 +151,9 @@ module _ (set_of : List ℕ → Option Configuration) (limits : LimitView) (spee
             (subst (λ l. Matches (suc x.host.resets) (enter l First) y.device s) (sym m.limits_are) now);
       }
 
-  module _ (stays : StaysImage set_of limits speed) (f : DescriptorFile) where
+  module _ (stays : StaysImage set_of limits speed) (f : DescriptorFile) (table : State → SetupPacket → Outcome) where
     abbrev stepped : Fate → Series → Series
-    stepped fate s = series_step plan limits.naks limits.attempts (answer f) f.device.packet fate s
+    stepped fate s = series_step plan limits.naks limits.attempts table f.device.packet fate s
 
     advanced_device : (replies : List Reply) (h : HostEnd) (stage : TransferStage) (d : DeviceView) → (advance plan limits.naks replies h stage d).device ≡ d
     advanced_device replies h Completed d = refl
@@ -160,21 +172,21 @@ module _ (set_of : List ℕ → Option Configuration) (limits : LimitView) (spee
 
     abbrev Stepped : Fate → List Reply → Phase → DeviceView → Sent → HostPhase → Type 0
     Stepped fate replies p d sent new =
-        let y = attempt_step plan limits.naks (answer f) f.device.packet fate replies p d in
-        Image y.replies y.phase new × (y.device ≡ (carried (answer f) f.device.packet d sent fate).device)
+        let y = attempt_step plan limits.naks table f.device.packet fate replies p d in
+        Image y.replies y.phase new × (y.device ≡ (carried table f.device.packet d sent fate).device)
 
     attempt_matches : (fate : Fate) (replies : List Reply) (p : Phase) (d : DeviceView) (place : Place) (t : TransferView) (k : Kept) (sent : Sent) (new : HostPhase) →
         Image replies p (Reading place t k) → due t ≡ Some sent →
-        TakesHeard limits speed place k (taken t (carried (answer f) f.device.packet d sent fate).reply) new →
-        (new ≡ Ended (stopped place Memory)) ⊎ Stepped fate replies p d sent new
+        TakesHeard limits speed place k (taken t (carried table f.device.packet d sent fate).reply) new →
+        ((new ≡ Ended (stopped place Memory)) × (brings fate ≡ true)) ⊎ Stepped fate replies p d sent new
     attempt_matches fate replies (Running h) d place t k sent new image asks takes =
-        let r = carried (answer f) f.device.packet d sent fate in
+        let r = carried table f.device.packet d sent fate in
         let z = hears h r.reply in
         let asked : due h.transfer ≡ Some sent = ap due image.3.is_transfer ∙ asks in
-        let there : exchanged (answer f) f.device.packet h d (due h.transfer) fate ≡ record { host = z; device = r.device } =
-        ap (λ o. exchanged (answer f) f.device.packet h d o fate) asked in
+        let there : exchanged table f.device.packet h d (due h.transfer) fate ≡ record { host = z; device = r.device } =
+        ap (λ o. exchanged table f.device.packet h d o fate) asked in
         elim (stays replies h r.device place t k r.reply new image takes) [
-          | inl wants ↦ inl wants
+          | inl (result, wants, e) ↦ inl (e, wanting_heard table f.device.packet t k place sent fate d result asks wants)
           | inr ok ↦
               inr (subst (λ e. (let y = advance plan limits.naks replies e.host e.host.transfer.stage e.device in Image y.replies y.phase new × (y.device ≡ r.device)))
               (sym there) (ok, advanced_device replies z z.transfer.stage r.device))
@@ -184,14 +196,14 @@ module _ (set_of : List ℕ → Option Configuration) (limits : LimitView) (spee
 
     -- a transaction
     reading_matches : (fate : Fate) (x y : Pair) (s : Series) (sent : Sent) (p : HostPhase) → wanted p ≡ WantsSent sent → Follows x s → Matches x.host.resets p x.device s →
-        TakesIn x.host p (carried (answer f) f.device.packet x.device sent fate).reply y.host →
-        y.device ≡ (carried (answer f) f.device.packet x.device sent fate).device →
-        IsWanting y.host ⊎ Follows y (stepped fate s)
+        TakesIn x.host p (carried table f.device.packet x.device sent fate).reply y.host →
+        y.device ≡ (carried table f.device.packet x.device sent fate).device →
+        (IsWanting y.host × (brings fate ≡ true)) ⊎ Follows y (stepped fate s)
     reading_matches fate x y s sent ResetDue asks m before takes device = absurd (cc)
     reading_matches fate x y s sent (Ended place) asks m before takes device = absurd (cc)
     reading_matches fate x y s sent (Reading place t k) asks m (few, attempts_are, image, device_is) (phase, heard, host_is) device =
         let a = s.attempt in
-        let answered : DeviceView → Answer = λ d. (carried (answer f) f.device.packet d sent fate).reply in
+        let answered : DeviceView → Answer = λ d. (carried table f.device.packet d sent fate).reply in
         let heard_here : TakesHeard limits speed place k (taken t (answered a.device)) phase =
         subst (λ d. TakesHeard limits speed place k (taken t (answered d)) phase) (sym device_is)
         (subst (λ v. TakesHeard limits v place k (taken t (answered x.device)) phase) m.speed_is
@@ -199,15 +211,10 @@ module _ (set_of : List ℕ → Option Configuration) (limits : LimitView) (spee
         let phase_is : y.host.phase ≡ settled limits.attempts x.host.resets phase =
         ap (λ h. h.phase) host_is ∙ ap (λ l. settled l.attempts x.host.resets phase) m.limits_are in
         elim (attempt_matches fate a.replies a.phase a.device place t k sent phase image (is_due (due t) sent asks) heard_here) [
-          | inl wants ↦ inl (
-            place,
-            phase_is ∙ ap (λ z. settled limits.attempts x.host.resets z) wants,
-            ap (λ h. h.limits) host_is ∙ m.limits_are,
-            subst (λ n. n ≤ limits.attempts) (sym (ap (λ h. h.resets) host_is)) few,
-          )
+          | inl (wants, arrived) ↦ inl ((place, phase_is ∙ ap (λ z. settled limits.attempts x.host.resets z) wants), arrived)
           | inr ok ↦
-              let z = attempt_step plan limits.naks (answer f) f.device.packet fate a.replies a.phase a.device in
-              let same_device : z.device ≡ y.device = ok.1 ∙ ap (λ d. (carried (answer f) f.device.packet d sent fate).device) device_is ∙ sym device in
+              let z = attempt_step plan limits.naks table f.device.packet fate a.replies a.phase a.device in
+              let same_device : z.device ≡ y.device = ok.1 ∙ ap (λ d. (carried table f.device.packet d sent fate).device) device_is ∙ sym device in
               let now = settles_match s.attempts z z.phase phase y.device refl (subst (λ n. n ≤ limits.attempts) (sym attempts_are) few) ok.0 same_device in
               let resets_are : s.attempts ≡ y.host.resets = attempts_are ∙ sym (ap (λ h. h.resets) host_is) in
               let later : y.host.phase ≡ settled limits.attempts s.attempts phase = phase_is ∙ ap (λ n. settled limits.attempts n phase) (sym attempts_are) in
@@ -220,7 +227,7 @@ module _ (set_of : List ℕ → Option Configuration) (limits : LimitView) (spee
               })
         ]
 
-    transaction_matches : (fate : Fate) (x y : Pair) (s : Series) → IsTransaction f fate x y → Follows x s → IsWanting y.host ⊎ Follows y (stepped fate s)
+    transaction_matches : (fate : Fate) (x y : Pair) (s : Series) → IsTransactionAt table f.device.packet fate x y → Follows x s → (IsWanting y.host × (brings fate ≡ true)) ⊎ Follows y (stepped fate s)
     transaction_matches fate x y s t m = reading_matches fate x y s t.sent x.host.phase t.due m m.matches t.host t.device
 
     -- a host for which memory was wanting has ended
@@ -231,41 +238,41 @@ module _ (set_of : List ℕ → Option Configuration) (limits : LimitView) (spee
     sends_nothing v sent w e = absurd (let z = sym e ∙ ap wanted w.1 in cc)
 
     series_more : (used : List Fate) (fate : Fate) (s : Series) →
-        series_run plan limits.naks limits.attempts (answer f) f.device.packet (used ++ fate ∷ []) s
-        ≡ stepped fate (series_run plan limits.naks limits.attempts (answer f) f.device.packet used s)
+        series_run plan limits.naks limits.attempts table f.device.packet (used ++ fate ∷ []) s
+        ≡ stepped fate (series_run plan limits.naks limits.attempts table f.device.packet used s)
     series_more [] fate s = refl
     series_more (g ∷ used) fate s = series_more used fate (stepped g s)
 
     abbrev after : List Fate → ℕ → Series
-    after fates n = series_run plan limits.naks limits.attempts (answer f) f.device.packet (fates_used fates n) (begin 1)
+    after fates n = series_run plan limits.naks limits.attempts table f.device.packet (fates_used fates n) (begin 1)
 
-    runs_match : (some : 0 < limits.attempts) (fates : List Fate) (earlier : List Pair) (n : ℕ) (last : Pair) → Runs f fates (new_pair limits speed) earlier n last →
-        IsWanting last.host ⊎ Follows last (after fates n)
+    runs_match : (some : 0 < limits.attempts) (fates : List Fate) (earlier : List Pair) (n : ℕ) (last : Pair) → RunsAt table f.device.packet fates (new_pair limits speed) earlier n last →
+        (IsWanting last.host × (ends_heard (fates_used fates n) ≡ true)) ⊎ Follows last (after fates n)
     runs_match some fates [] n last (e, none) =
         let new : Follows (new_pair limits speed) (begin 1) = record { limits_are = refl; speed_is = refl; matches = (some, refl) } in
         inr (subst (λ m. Follows last (after fates m)) (sym none) (subst (λ y. Follows y (begin 1)) (sym e) new))
     runs_match some fates (x ∷ earlier) n last (inl (r, more)) =
         elim (runs_match some fates earlier n x more) [
-          | inl wants ↦ absurd (wants_no_reset x.host wants r.due)
+          | inl (wants, heard) ↦ absurd (wants_no_reset x.host wants r.due)
           | inr m ↦ inr (resets_match x last (after fates n) r m)
         ]
     runs_match some fates (x ∷ earlier) n last (inr (m, count, t, more)) =
         elim (runs_match some fates earlier m x more) [
-          | inl wants ↦ absurd (sends_nothing x.host t.sent wants t.due)
+          | inl (wants, heard) ↦ absurd (sends_nothing x.host t.sent wants t.due)
           | inr ok ↦
               let same : stepped (fate_at fates m) (after fates m) ≡ after fates n =
               sym (series_more (fates_used fates m) (fate_at fates m) (begin 1))
-              ∙ ap (λ used. series_run plan limits.naks limits.attempts (answer f) f.device.packet used (begin 1)) (sym (fates_used-more fates m))
+              ∙ ap (λ used. series_run plan limits.naks limits.attempts table f.device.packet used (begin 1)) (sym (fates_used-more fates m))
               ∙ ap (λ k. after fates k) (sym count) in
               elim (transaction_matches (fate_at fates m) x last (after fates m) t ok) [
-                | inl wants ↦ inl wants
+                | inl (wants, arrived) ↦ inl (wants, last_heard fates m n count arrived)
                 | inr there ↦ inr (subst (λ s. Follows last s) same there)
               ]
         ]
 
     abbrev Judged : List Reply → List Fate → Series → Phase → Type 0
     Judged all used x p =
-        Verdict plan limits.naks limits.attempts (answer f) f.device.packet all (configured_state limits.address f) (losses used) (busies used) x.attempts x.attempt p
+        Verdict plan limits.naks limits.attempts table f.device.packet all (configured_state limits.address f) (losses used) (busies used) x.attempts x.attempt p
 
     module _ (all : List Reply) (reads : reached set_of speed First all ≡ Reported f) (used : List Fate) where
       blames : (why : Why) → (why ≡ NoAnswer) ⊎ (why ≡ Busy) → blames_bus why ≡ true
@@ -289,25 +296,11 @@ module _ (set_of : List ℕ → Option Configuration) (limits : LimitView) (spee
       goes x resets (Ended place) d m v = ends x x.attempt.phase place resets d m.2 m.0 m.1 m.3 v
 
     pub run_ends : (some : 0 < limits.attempts) (all : List Reply) → reached set_of speed First all ≡ Reported f →
-        (fates : List Fate) (earlier : List Pair) (n : ℕ) (last : Pair) → Runs f fates (new_pair limits speed) earlier n last →
+        (fates : List Fate) (earlier : List Pair) (n : ℕ) (last : Pair) → RunsAt table f.device.packet fates (new_pair limits speed) earlier n last →
         (let x = after fates n in Judged all (fates_used fates n) x x.attempt.phase) →
         GoesWell f limits (fates_used fates n) last.host.resets last.device.state last.host.phase
     run_ends some all reads fates earlier n last r v =
         elim (runs_match some fates earlier n last r) [
-          | inl wants ↦ subst (λ p. GoesWell f limits (fates_used fates n) last.host.resets last.device.state p) (sym wants.1) (inl refl)
+          | inl (wants, heard) ↦ subst (λ p. GoesWell f limits (fates_used fates n) last.host.resets last.device.state p) (sym wants.1) (inl (refl, heard))
           | inr m ↦ goes all reads (fates_used fates n) (after fates n) last.host.resets last.host.phase last.device m.matches v
         ]
-
-    pub run_keeps : (some : 0 < limits.attempts) (fates : List Fate) (earlier : List Pair) (n : ℕ) (last : Pair) →
-        Runs f fates (new_pair limits speed) earlier n last → KeepsLimits limits last.host
-    run_keeps some fates earlier n last r =
-        elim (runs_match some fates earlier n last r) [
-          | inl wants ↦ (wants.2, wants.3, λ e. absurd (let z = sym e ∙ wants.1 in cc))
-          | inr m ↦ by_phase last.host.resets last.host.phase last.device (after fates n) m.limits_are m.matches
-        ]
-      where
-        by_phase : (resets : ℕ) (phase : HostPhase) (d : DeviceView) (x : Series) → last.host.limits ≡ limits → Matches resets phase d x →
-            (last.host.limits ≡ limits) × (resets ≤ limits.attempts) × (phase ≡ ResetDue → resets < limits.attempts)
-        by_phase resets ResetDue d x e m = (let below = m.0 in (e, omega arith, λ i. below))
-        by_phase resets (Reading place t k) d x e m = (e, m.0, λ i. absurd (cc))
-        by_phase resets (Ended place) d x e m = (e, m.0, λ i. absurd (cc))

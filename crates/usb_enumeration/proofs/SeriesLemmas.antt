@@ -1,7 +1,8 @@
--- Attempts: a failed one costs a loss, or more Busy than NAKs are borne. Of the two ends this uses the law of one attempt
+-- Attempts: a failed one costs a loss, or a Busy more than NAKs are borne. Of the two ends this uses the law of one attempt
 -- and nothing else.
-use Rattle.std.proofs.Common.{◌≡◌, ℕ, suc, ◌+◌, ◌<◌, ◌≤◌, Bool, true, false, ◌⊎◌, List, [], ◌∷◌, ◌++◌, refl, ap, sym, ◌∙◌, arith, inl, inr, subst, nat_lt, if◌then◌else◌, zero-add}
+use Rattle.std.proofs.Common.{◌≡◌, ℕ, suc, ◌+◌, ◌*◌, ◌/◌, ◌<◌, ◌≤◌, Bool, true, false, List, [], ◌∷◌, ◌++◌, refl, ap, sym, ◌∙◌, arith, inl, inr, subst, nat_lt, if◌then◌else◌, zero-add}
 use Rattle.std.proofs.lemmas.Bool.Decides.{nat_tests}
+use Rattle.std.proofs.lemmas.Nat.{le-div}
 use Rattle.usb_fields.specs.declared.setup.Setup.{Setup as SetupPacket}
 use Rattle.usb_transfer.specs.declared.why.Why.{Why}
 use Rattle.usb_transfer.specs.declared.why.Why.TheVariants.{NoAnswer, Busy, Stalled, TooLong, Unexpected, Malformed, Memory}
@@ -23,6 +24,9 @@ ack_at_most_lost f = grind arith
 acks_at_most_losses : (fates : List Fate) → acks_lost fates ≤ losses fates
 acks_at_most_losses [] = omega arith
 acks_at_most_losses (f ∷ fates) = (let a = ack_at_most_lost f in let b = acks_at_most_losses fates in omega arith)
+
+one_more : (m k : ℕ) → suc m * k ≡ m * k + k
+one_more m k = grind arith
 
 losses_more : (fates : List Fate) (f : Fate) → losses (fates ++ f ∷ []) ≡ losses fates + lost f
 losses_more [] f = omega arith
@@ -51,6 +55,12 @@ module _ (plan : List Reply → Plan) (naks limit : ℕ) (answer : State → Set
   not_broken [] s why f e = let b = ap (λ x. phase_of naks x) f.0 in cc
   not_broken (r ∷ todo) s why (packet, (q, (planned, front, ends, more))) e = let b = ap (λ x. phase_of naks x) planned.begins in cc
 
+  -- Each attempt but so many cost a loss of its own, or a whole measure of Busy.
+  record IsPaid (attempts more l b : ℕ) : Type 0 where
+    measures : ℕ
+    busy_for : measures * suc naks ≤ b
+    paid_for : attempts ≤ l + measures + more
+
   -- what was lost before this attempt, and the fates in it
   record Account (total_l total_b attempts : ℕ) (x : Attempt) : Type 0 where
     before_l : ℕ
@@ -59,7 +69,7 @@ module _ (plan : List Reply → Plan) (naks limit : ℕ) (answer : State → Set
     at : x ≡ run since first
     sum_l : total_l ≡ before_l + losses since
     sum_b : total_b ≡ before_b + busies since
-    paid : (attempts ≤ before_l + 1) ⊎ (naks < before_b)
+    paid : IsPaid attempts 1 before_l before_b
 
   -- all that is kept of a series
   abbrev Holds : ℕ → ℕ → Series → Type 0
@@ -73,36 +83,43 @@ module _ (plan : List Reply → Plan) (naks limit : ℕ) (answer : State → Set
     sound since x phase at e =
         subst (λ p. SoundAt since x p) e (subst (λ y. SoundAt since y y.phase) (sym at) (attempts_sound plan naks answer cut false all last new_device since follows))
 
-    starts : (l b attempts : ℕ) → (attempts ≤ l + 1) ⊎ (naks < b) → Holds l b (fresh plan naks limit attempts)
+    starts : (l b attempts : ℕ) → IsPaid attempts 1 l b → Holds l b (fresh plan naks limit attempts)
     starts l b attempts p = (
       record { before_l = l; before_b = b; since = []; at = refl; sum_l = omega arith; sum_b = omega arith; paid = p },
       λ why e. absurd (not_broken all new_device.state why follows e),
     )
 
-    agains : (l b attempts : ℕ) (x : Attempt) (small : Bool) → nat_lt attempts limit ≡ small → (attempts ≤ l) ⊎ (naks < b) → Account l b attempts x →
+    agains : (l b attempts : ℕ) (x : Attempt) (small : Bool) → nat_lt attempts limit ≡ small → IsPaid attempts 0 l b → Account l b attempts x →
         Holds l b (if small then fresh plan naks limit (suc attempts) else record { attempts = attempts; attempt = x })
-    agains l b attempts x true e p h = starts l b (suc attempts) (elim p [ inl e ↦ inl (omega arith) | inr e ↦ inr e ])
+    agains l b attempts x true e p h = starts l b (suc attempts)
+        (let most = p.paid_for in record { measures = p.measures; busy_for = p.busy_for; paid_for = omega arith })
     agains l b attempts x false e p h = let full : limit ≤ attempts = grind (arith, nat_tests) in (h, λ why e. full)
 
-    -- a failed attempt has cost a loss, or more Busy than are borne
-    no_answer_cost : (l b attempts : ℕ) (x : Attempt) → x.phase ≡ Broken NoAnswer → Account l b attempts x → (attempts ≤ l) ⊎ (naks < b)
+    -- a failed attempt has cost a loss, or a Busy more than are borne
+    no_answer_cost : (l b attempts : ℕ) (x : Attempt) → x.phase ≡ Broken NoAnswer → Account l b attempts x → IsPaid attempts 0 l b
     no_answer_cost l b attempts x e h =
         let s = sound h.since x (Broken NoAnswer) h.at e in
         let acks = acks_at_most_losses h.since in
         let some : 0 < losses h.since = elim s.0 [ inl three ↦ omega arith | inr ack ↦ omega arith ] in
         let sum_l = h.sum_l in
         let sum_b = h.sum_b in
-        elim h.paid [ inl few ↦ inl (omega arith) | inr many ↦ inr (omega arith) ]
+        let most = h.paid.paid_for in
+        let enough = h.paid.busy_for in
+        record { measures = h.paid.measures; busy_for = omega arith; paid_for = omega arith }
 
-    busy_cost : (l b attempts : ℕ) (x : Attempt) → x.phase ≡ Broken Busy → Account l b attempts x → naks < b
+    busy_cost : (l b attempts : ℕ) (x : Attempt) → x.phase ≡ Broken Busy → Account l b attempts x → IsPaid attempts 0 l b
     busy_cost l b attempts x e h =
         let s = (sound h.since x (Broken Busy) h.at e).0 in
+        let sum_l = h.sum_l in
         let sum_b = h.sum_b in
-        omega arith
+        let most = h.paid.paid_for in
+        let enough = h.paid.busy_for in
+        let one = one_more h.paid.measures (suc naks) in
+        record { measures = suc h.paid.measures; busy_for = omega arith; paid_for = omega arith }
 
     settles : (l b attempts : ℕ) (x : Attempt) (phase : Phase) → x.phase ≡ phase → Account l b attempts x → Holds l b (settle plan naks limit attempts x phase)
     settles l b attempts x (Broken NoAnswer) e h = agains l b attempts x (nat_lt attempts limit) refl (no_answer_cost l b attempts x e h) h
-    settles l b attempts x (Broken Busy) e h = agains l b attempts x (nat_lt attempts limit) refl (inr (busy_cost l b attempts x e h)) h
+    settles l b attempts x (Broken Busy) e h = agains l b attempts x (nat_lt attempts limit) refl (busy_cost l b attempts x e h) h
     settles l b attempts x (Broken Stalled) e h = absurd (sound h.since x (Broken Stalled) h.at e)
     settles l b attempts x (Broken TooLong) e h = absurd (sound h.since x (Broken TooLong) h.at e)
     settles l b attempts x (Broken Unexpected) e h = absurd (sound h.since x (Broken Unexpected) h.at e)
@@ -142,6 +159,13 @@ module _ (plan : List Reply → Plan) (naks limit : ℕ) (answer : State → Set
         let eb : (b + busy g) + busies fates ≡ b + (busy g + busies fates) = omega arith in
         subst (λ n. Holds n (b + (busy g + busies fates)) z) el (subst (λ n. Holds ((l + lost g) + losses fates) n z) eb r)
 
+    -- the measures of Busy are at most as many as there is Busy for
+    costs : (l b attempts : ℕ) → limit ≤ attempts → IsPaid attempts 0 l b → limit ≤ l + b / suc naks
+    costs l b attempts all p =
+        let most = p.paid_for in
+        let enough : p.measures ≤ b / suc naks = le-div p.measures b (suc naks) (omega arith) p.busy_for in
+        omega arith
+
     judged : (l b : ℕ) (x : Series) (phase : Phase) → x.attempt.phase ≡ phase → Holds l b x →
         Verdict plan naks limit answer cut all last l b x.attempts x.attempt phase
     judged l b x (Running h) e i = tt
@@ -150,8 +174,10 @@ module _ (plan : List Reply → Plan) (naks limit : ℕ) (answer : State → Set
         (s.0, elim s.1 [ inl d ↦ d | inr (z, ok, d) ↦ absurd (cc) ])
     judged l b x (Broken NoAnswer) e (h, full) =
         let all_used : limit ≤ x.attempts = full NoAnswer e in
-        (inl refl, all_used, elim (no_answer_cost l b x.attempts x.attempt e h) [ inl few ↦ inl (omega arith) | inr many ↦ inr many ])
-    judged l b x (Broken Busy) e (h, full) = (inr refl, full Busy e, inr (busy_cost l b x.attempts x.attempt e h))
+        (inl refl, all_used, costs l b x.attempts all_used (no_answer_cost l b x.attempts x.attempt e h))
+    judged l b x (Broken Busy) e (h, full) =
+        let all_used : limit ≤ x.attempts = full Busy e in
+        (inr refl, all_used, costs l b x.attempts all_used (busy_cost l b x.attempts x.attempt e h))
     judged l b x (Broken Stalled) e (h, full) = absurd (sound h.since x.attempt (Broken Stalled) h.at e)
     judged l b x (Broken TooLong) e (h, full) = absurd (sound h.since x.attempt (Broken TooLong) h.at e)
     judged l b x (Broken Unexpected) e (h, full) = absurd (sound h.since x.attempt (Broken Unexpected) h.at e)
@@ -163,7 +189,7 @@ module _ (plan : List Reply → Plan) (naks limit : ℕ) (answer : State → Set
         Verdict plan naks limit answer cut all last (losses fates) (busies fates) x.attempts x.attempt x.attempt.phase)
     series_judged fates =
         let x = series_run plan naks limit answer cut fates (fresh plan naks limit 1) in
-        let h : Holds (0 + losses fates) (0 + busies fates) x = series_all 0 0 fates (fresh plan naks limit 1) (starts 0 0 1 (inl (omega arith))) in
+        let h : Holds (0 + losses fates) (0 + busies fates) x = series_all 0 0 fates (fresh plan naks limit 1) (starts 0 0 1 (record { measures = 0; busy_for = omega arith; paid_for = omega arith })) in
         let h' = subst (λ y. Holds y (0 + busies fates) x) (zero-add (losses fates)) h in
         let h'' = subst (λ y. Holds (losses fates) y x) (zero-add (busies fates)) h' in
         judged (losses fates) (busies fates) x x.attempt.phase refl h''

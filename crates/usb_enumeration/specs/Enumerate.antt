@@ -1,5 +1,5 @@
 -- What an enumeration promises.
-use Rattle.std.specs.Prelude.{◌≡◌, ℕ, ◌<◌, ◌≤◌, true, false, List, Some, ◌⊎◌}
+use Rattle.std.specs.Prelude.{◌≡◌, ℕ, suc, ◌+◌, ◌/◌, ◌≤◌, Bool, true, false, List, [], ◌∷◌, Some, ◌⊎◌}
 use Rattle.usb_fields.specs.declared.speed.Speed.{Speed}
 use Rattle.usb_file_data.specs.declared.file.DescriptorFile.{DescriptorFile}
 use Rattle.usb_transfer.specs.declared.why.Why.{Why}
@@ -8,19 +8,26 @@ use Rattle.usb_transfer.specs.Limits.{LimitView}
 use Rattle.usb_device.specs.declared.state.State.{State}
 use Rattle.usb_device.specs.States.{first_alternates}
 use Rattle.usb_bus.specs.declared.fate.Fate.{Fate}
+use Rattle.usb_bus.specs.declared.fate.Fate.TheVariants.{Pass, LostAck}
 use Rattle.usb_bus.specs.Fates.{losses, busies}
 use Rattle.usb_host.specs.Order.{first_value}
 use Rattle.usb_host.specs.Steps.{outcome_of, blames_bus}
 use Rattle.usb_enumeration.specs.declared.run.Run.{Run}
-use Rattle.usb_enumeration.specs.Run.{Pair, new_pair, Runs}
+use Rattle.usb_enumeration.specs.Run.{Pair, new_pair, RunsAt}
+use Rattle.usb_fields.specs.declared.setup.Setup.{Setup as SetupPacket}
+use Rattle.usb_device.specs.Requests.{Outcome, answer}
 
 -- The enumeration is a run of both ends, from a new host and a new device on. Each step is a reset, where one is due, or a
 -- transaction, where the host asks for one, under the fates in their order. The run has so many transactions and resets, and
 -- its last pair has this outcome and this state.
-abbrev pub IsEnumeration : DescriptorFile → Speed → LimitView → List Fate → Run → Type 0
-IsEnumeration f speed limits fates run =
-    (earlier : List Pair) × (last : Pair) × Runs f fates (new_pair limits speed) earlier run.transactions last
+abbrev pub IsEnumerationAt : (State → SetupPacket → Outcome) → ℕ → Speed → LimitView → List Fate → Run → Type 0
+IsEnumerationAt table packet speed limits fates run =
+    (earlier : List Pair) × (last : Pair) × RunsAt table packet fates (new_pair limits speed) earlier run.transactions last
     × (last.host.resets ≡ run.attempts) × (outcome_of last.host.phase ≡ Some run.outcome) × (last.device.state ≡ run.state)
+
+-- the same of a device with these descriptors
+abbrev pub IsEnumeration : DescriptorFile → Speed → LimitView → List Fate → Run → Type 0
+IsEnumeration f speed limits fates run = IsEnumerationAt (answer f) f.device.packet speed limits fates run
 
 -- the device once it is configured by its first set's value, and nothing else has changed (9.1.1.5)
 abbrev pub configured_state : ℕ → DescriptorFile → State
@@ -31,9 +38,22 @@ configured_state address f = record { address = address; selected = first_value 
 abbrev pub HasReadAll : DescriptorFile → ℕ → State → DescriptorFile → Type 0
 HasReadAll f address s g = (g ≡ f) × (s ≡ configured_state address f)
 
--- Why an enumeration of a device that keeps to the standard ends without success, after these fates: out of memory;
--- or it used all attempts, and there was a loss for each, or more Busy than NAKs are borne.
+-- whether what the device answers under a fate reaches the host, and is no NAK
+abbrev pub brings : Fate → Bool
+brings Pass = true
+brings LostAck = true
+brings fate = false
+
+-- whether so does what it answered under the last one
+abbrev pub ends_heard : List Fate → Bool
+ends_heard [] = false
+ends_heard (fate ∷ []) = brings fate
+ends_heard (fate ∷ next ∷ more) = ends_heard (next ∷ more)
+
+-- Why an enumeration of a device that keeps to the standard ends without success, after these fates: out of memory, at an
+-- answer that reached the host; or it used all attempts, and each cost a loss of its own, or a Busy more than NAKs are
+-- borne.
 abbrev pub HasCause : LimitView → List Fate → ℕ → Why → Type 0
 HasCause limits used attempts why =
-    (why ≡ Memory)
-    ⊎ ((blames_bus why ≡ true) × (attempts ≡ limits.attempts) × ((limits.attempts ≤ losses used) ⊎ (limits.naks < busies used)))
+    ((why ≡ Memory) × (ends_heard used ≡ true))
+    ⊎ ((blames_bus why ≡ true) × (attempts ≡ limits.attempts) × (limits.attempts ≤ losses used + busies used / suc limits.naks))

@@ -1,21 +1,49 @@
 -- What holds of an enumeration over a bus.
-use Rattle.std.specs.Prelude.{◌≤◌, IfErr, IfOk, List}
+use Rattle.std.specs.Prelude.{◌≡◌, ℕ, ◌≤◌, IfErr, IfOk, List}
 use Rattle.usb_base.specs.Bytes.{AreBytes}
+use Rattle.usb_fields.specs.declared.setup.Setup.{Setup}
 use Rattle.usb_fields.specs.declared.speed.Speed.{Speed}
 use Rattle.usb_file_data.specs.declared.file.DescriptorFile.{DescriptorFile}
 use Rattle.usb_file_data.specs.File.{file_bytes}
 use Rattle.usb_transfer.specs.Limits.{LimitView, IsInRange}
 use Rattle.usb_description.specs.Accepted.{Accepted}
+use Rattle.usb_device.specs.declared.state.State.{State}
+use Rattle.usb_device.specs.Beside.{Response, Gives, beside}
+use Rattle.usb_device.specs.Requests.{Outcome, answer}
 use Rattle.usb_bus.specs.declared.fate.Fate.{Fate}
+use Rattle.usb_bus.specs.Fates.{losses, busies}
 use Rattle.usb_bus.specs.Run.{fates_used}
+use Rattle.usb_host.specs.Cost.{most}
 use Rattle.usb_enumeration.specs.declared.run.Run.{Run}
-use Rattle.usb_enumeration.specs.Enumerate.{IsEnumeration, HasReadAll, HasCause}
+use Rattle.usb_enumeration.specs.Beside.{IsBeside}
+use Rattle.usb_enumeration.specs.Enumerate.{IsEnumeration, IsEnumerationAt, HasReadAll, HasCause}
 
--- Whatever a bus does to a host and a device with accepted descriptors: an enumeration that has ended begins no attempt too
--- many. A success has read these descriptors and configured the device, and any other end has a cause.
+-- Whatever a bus does to a host and a device with accepted descriptors: an enumeration that has ended began no attempt too
+-- many, and had at most `most` transactions. A success has read these descriptors and configured the device, and any other
+-- end has a cause.
 abbrev pub EnumerationsEndWell : Type 0
 EnumerationsEndWell =
     (f : DescriptorFile) (speed : Speed) (limits : LimitView) (fates : List Fate) (run : Run) → Accepted f speed → AreBytes (file_bytes f) →
     IsInRange limits.address limits.attempts → IsEnumeration f speed limits fates run →
-    (run.attempts ≤ limits.attempts) × IfOk run.outcome (HasReadAll f limits.address run.state)
+    (run.attempts ≤ limits.attempts) × (run.transactions ≤ most limits) × IfOk run.outcome (HasReadAll f limits.address run.state)
     × IfErr run.outcome (λ trouble. HasCause limits (fates_used fates run.transactions) run.attempts trouble.why)
+
+-- The same of a device whose owner answers beside its table: no owner changes what an enumeration reads, or how it ends.
+abbrev pub OwnersChangeNothing : Type 0
+OwnersChangeNothing =
+    (f : DescriptorFile) (table : State → Setup → Outcome) (speed : Speed) (limits : LimitView) (fates : List Fate) (run : Run) →
+    IsBeside (answer f) table → Accepted f speed → AreBytes (file_bytes f) → IsInRange limits.address limits.attempts →
+    IsEnumerationAt table f.device.packet speed limits fates run →
+    (run.attempts ≤ limits.attempts) × (run.transactions ≤ most limits) × IfOk run.outcome (HasReadAll f limits.address run.state)
+    × IfErr run.outcome (λ trouble. HasCause limits (fates_used fates run.transactions) run.attempts trouble.why)
+
+-- Whatever bytes a responder gives, the device's table with it is such a table.
+abbrev pub RespondersAreBeside : Type 0
+RespondersAreBeside =
+    (f : DescriptorFile) (room : ℕ) (respond : State → Setup → Response) →
+    ((s : State) (q : Setup) (bytes : List ℕ) → respond s q ≡ Gives bytes → AreBytes bytes) →
+    IsBeside (answer f) (beside room (answer f) respond)
+
+-- Of the fates of a list, those that were used lose no more, and are no more often busy.
+abbrev pub UsesFates : Type 0
+UsesFates = (fates : List Fate) (n : ℕ) → (losses (fates_used fates n) ≤ losses fates) × (busies (fates_used fates n) ≤ busies fates)

@@ -1,4 +1,5 @@
 pub mod Run
+pub mod Beside
 pub mod Stepping
 pub mod Enumerate
 pub mod Laws

@@ -1,5 +1,5 @@
 //! An enumeration, from a new host and a new device to its outcome.
-ghost use Rattle.std.specs.Prelude.{◌≡◌, ◌<◌, ◌≤◌, ◌+◌, ◌^◌, true, IfErr, IfOk, IfSome, IsNone, IsSome};
+ghost use Rattle.std.specs.Prelude.{◌≡◌, ◌<◌, ◌≤◌, ◌+◌, ◌/◌, ◌^◌, suc, true, IfErr, IfOk, IfSome, IsNone, IsSome};
 ghost use Rattle.usb_transfer.specs.declared.why.Why.TheVariants.{Memory};
 ghost use Rattle.usb_bus.specs.Fates.{busies, losses};
 ghost use Rattle.usb_bus.specs.Run.{fates_used};
@@ -94,7 +94,10 @@ pub fn enumerate(alloc: Global, d: &Description, limits: Limits, fates: &[Fate])
 
     // An end without success has a cause, and it does not come without one.
     ensures cause { IfErr result.outcome (λ trouble. HasCause limits (fates_used fates.now result.transactions) result.attempts trouble.why) }
-    ensures succeeds { losses fates.now < limits.attempts → busies fates.now ≤ limits.naks → IfErr result.outcome (λ trouble. trouble.why ≡ Memory) }
+    ensures succeeds { losses fates.now + busies fates.now / suc limits.naks < limits.attempts → IfErr result.outcome (λ trouble. trouble.why ≡ Memory) }
+
+    // So with fewer losses than attempts, and no more Busy than NAKs are borne, it succeeds.
+    ensures plainly { losses fates.now < limits.attempts → busies fates.now ≤ limits.naks → IfErr result.outcome (λ trouble. trouble.why ≡ Memory) }
 {
     // For the proof alone: what holds of a description, of limits and of every run.
     let _file = d.file();

@@ -3,11 +3,11 @@
 //! The functions do nothing: what they say stands in their contracts.
 ghost use Rattle.usb_enumeration.specs.inside.Laws.{AttemptsHaveCauses, EnumerationsHaveCauses, ReadsTheDescription, KeepsTheImage, RunsEndWell, RunsKeepLimits, SetsAreRead};
 
-use usb_bus::laws::a_device_keeps_its_table;
+use usb_host::laws::a_host_ends;
 use usb_set::laws::{more_bytes, one_judgement, one_layout};
 
-/// Transfers by a plan, with a bus reset before each attempt: a failure has a loss for each attempt, or more busy
-/// transactions than NAKs are borne.
+/// Transfers by a plan, with a bus reset before each attempt: in a failure each attempt had a loss of its own, or a busy
+/// transaction more than NAKs are borne.
 pub(crate) fn attempts_have_causes()
     ensures { AttemptsHaveCauses }
 {}
@@ -18,7 +18,6 @@ pub(crate) fn an_enumeration_reads_the_description()
     ensures reads { ReadsTheDescription }
 {
     attempts_have_causes();
-    a_device_keeps_its_table();
 }
 
 /// A host that keeps a place and a decoder goes as one that keeps all bytes.
@@ -44,6 +43,7 @@ pub(crate) fn a_run_ends_well()
     ensures ends { RunsEndWell }
     ensures limits { RunsKeepLimits }
 {
+    a_host_ends();
     an_enumeration_reads_the_description();
     a_host_keeps_the_image();
     descriptions_are_read();

@@ -4,8 +4,8 @@
 //! address and configures it, under any list of fates of its transactions. Its answer is a [`Run`].
 //!
 //! - A success has read just the descriptors of the device, whatever was lost on the way.
-//! - Any other end has a cause: as many losses as attempts, more busy transactions than NAKs are borne, or want of
-//!   memory.
+//! - Any other end has a cause: for each attempt a loss of its own, or a busy transaction more than NAKs are borne; or
+//!   want of memory.
 //! - There are at most as many attempts and transactions as the limits allow.
 //!
 //! [`step`] is one step of it, for a caller that looks at both ends on the way.

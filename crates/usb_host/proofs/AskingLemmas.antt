@@ -22,6 +22,7 @@ use Rattle.usb_host.specs.declared.kept.Kept.{Kept}
 use Rattle.usb_host.specs.Order.{refused_leads}
 use Rattle.usb_host.specs.Steps.{HostPhase, ResetDue, Reading, Ended, HostView, WantsReset, WantsSent, WantsNothing, blames_bus, completed_leads, enter, goes_on, new_host, outcome_at, outcome_of, reset, reset_in, sends, settled, wanted, Takes, TakesHeard, TakesIn}
 use Rattle.usb_host.specs.Cost.{most, left_to_ask, BringsBytes}
+use Rattle.usb_host.specs.Gathered.{Came}
 use Rattle.usb_host.specs.Laws.{Asks, HostsEnd}
 use Rattle.usb_host.specs.inside.Steady.{IsSteady}
 use Rattle.usb_host.proofs.LowerLemmas.{asks_less, takes_low}
@@ -239,15 +240,16 @@ module _ (limits : LimitView) where
         less = omega arith;
       }
 
-  asks_on : (speed : Speed) (some : 0 < limits.attempts) (earlier : List HostView) (n : ℕ) (last : HostView) → Asks (new_host limits speed) earlier n last → IsOn n last
-  asks_on speed some [] n last (e, none) =
+  asks_on : (speed : Speed) (some : 0 < limits.attempts) (earlier : List HostView) (n : ℕ) (came : Came) (last : HostView) →
+      Asks (new_host limits speed) earlier n came last → IsOn n last
+  asks_on speed some [] n came last (e, none, nothing) =
       let first = asks_less.at_most limits speed in
       let new : IsOn 0 (new_host limits speed) = record { limits_are = refl; few = omega arith; stands = some; steady = tt; less = omega arith } in
       subst (λ m. IsOn m last) (sym none) (subst (λ v. IsOn 0 v) (sym e) new)
-  asks_on speed some (v ∷ earlier) n last (inl (wants, e, more)) =
-      subst (λ w. IsOn n w) (sym e) (resets_on n v wants (asks_on speed some earlier n v more))
-  asks_on speed some (v ∷ earlier) n last (inr (m, sent, answer, count, asks, bytes, takes, more)) =
-      subst (λ x. IsOn x last) (sym count) (takes_on m v last v.phase sent answer refl asks bytes (asks_on speed some earlier m v more) takes)
+  asks_on speed some (v ∷ earlier) n came last (inl (wants, e, nothing, (before, more))) =
+      subst (λ w. IsOn n w) (sym e) (resets_on n v wants (asks_on speed some earlier n before v more))
+  asks_on speed some (v ∷ earlier) n came last (inr (m, sent, answer, before, count, asks, bytes, takes, adds, more)) =
+      subst (λ x. IsOn x last) (sym count) (takes_on m v last v.phase sent answer refl asks bytes (asks_on speed some earlier m before v more) takes)
 
 -- what wants nothing has an outcome
 ended : (attempts resets : ℕ) (p : HostPhase) → Stands attempts resets p → wanted p ≡ WantsNothing → IsSome (outcome_of p)
@@ -260,7 +262,7 @@ ended attempts resets (Reading place t k) s e = absurd (by (due t) s.1 e)
 ended attempts resets (Ended place) s e = s
 
 pub hosts_end : HostsEnd
-hosts_end limits speed earlier n last some asks =
-    let on = asks_on limits speed some earlier n last asks in
+hosts_end limits speed earlier n came last some asks =
+    let on = asks_on limits speed some earlier n came last asks in
     let less = on.less in
     (omega arith, on.few, ended limits.attempts last.resets last.phase on.stands)

@@ -4,7 +4,7 @@ pub mod CostLemmas
 pub mod LowerLemmas
 pub mod PlaceLemmas
 pub mod TakeLemmas
-pub mod GatherLemmas
+pub mod CameLemmas
 pub mod StandLemmas
 pub mod EndLemmas
 pub mod AskingLemmas

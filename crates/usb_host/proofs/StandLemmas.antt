@@ -1,13 +1,11 @@
 -- What holds of a read in work still holds of the one that an answer leads to.
-use Rattle.std.proofs.Common.{◌≡◌, ℕ, ◌+◌, ◌<◌, ◌≤◌, ◌&&◌, Bool, true, false, if◌then◌else◌, nat_lt, ◌++◌, length, refl, ap, sym, ◌∙◌, arith, subst, length-append}
-use Rattle.std.specs.Prelude.{Option, Some, None, IsSome, Result, Ok, Err}
+use Rattle.std.proofs.Common.{◌≡◌, ℕ, ◌+◌, ◌<◌, ◌≤◌, ◌&&◌, Bool, true, false, if◌then◌else◌, nat_lt, length, refl, ap, sym, ◌∙◌, arith, subst, length-append}
+use Rattle.std.specs.Prelude.{Some, None, IsSome, Result}
 use Rattle.std.proofs.lemmas.Bool.Decides.{nat_tests}
 use Rattle.usb_fields.specs.Packet.{Reply as Answer}
 use Rattle.usb_fields.specs.declared.speed.Speed.{Speed}
 use Rattle.usb_set.specs.declared.fault.SetFault.{SetFault}
 use Rattle.usb_set.specs.declared.decoder.Progress.{Progress}
-use Rattle.usb_file_data.specs.File.{File}
-use Rattle.usb_file_data.specs.declared.file.DescriptorFile.{DescriptorFile}
 use Rattle.usb_transfer.specs.declared.stage.TransferStage.{TransferStage}
 use Rattle.usb_transfer.specs.declared.stage.TransferStage.TheVariants.{Setup, DataIn, DataOut, StatusOut, StatusIn, Completed, Failed}
 use Rattle.usb_transfer.specs.Bound.{left}
@@ -22,12 +20,8 @@ use Rattle.usb_host.specs.Steps.{HostPhase, Reading, Ended, HostView, outcome_at
 use Rattle.usb_host.specs.inside.Steady.{IsGood, IsSteady}
 use Rattle.usb_host.specs.Cost.{BringsBytes, left_to_ask}
 use Rattle.usb_host.specs.inside.Leading.{is_end, is_bus_trouble}
-use Rattle.usb_host.specs.inside.Reads.{IsGoing, IsCounted, IsReading, IsStanding, EndsBy, Hears, LeadsOn, GoesOn, standing}
-use Rattle.usb_host.specs.declared.step.Trouble.{Trouble}
-use Rattle.usb_host.specs.Gathered.{bytes_at, bytes_in_work, gathered}
-use Rattle.usb_host.specs.inside.Sound.{IsWhole, HasSet}
+use Rattle.usb_host.specs.inside.Reads.{IsGoing, IsCounted, IsReading, IsStanding, EndsBy, Hears, GoesOn, standing}
 use Rattle.usb_host.specs.inside.Hosts.{IsPhase, phase_in}
-use Rattle.usb_host.proofs.GatherLemmas.{Gives, next_gives, ends_report, keeps_set}
 use Rattle.usb_host.proofs.LowerLemmas.{asks_less}
 use Rattle.usb_host.proofs.TakeLemmas.{StageOf, CountOf, heeds, hears_steady, hears_on, hears_end, next_good}
 
@@ -39,7 +33,7 @@ counted_still t u (kept.Bytes b) (count, most) same request = (same ∙ count, s
 counted_still t u (kept.Set d over) counted same request = tt
 
 counted_on : (t u : TransferView) (old k : Kept) (heard : Hearing) (result : Result Progress SetFault) → IsCounted t old → CountOf t heard u →
-    u.request ≡ t.request → KeepsHeard old heard result k → EndsBy heard result None → IsCounted u k
+    u.request ≡ t.request → KeepsHeard old heard result k → EndsBy old heard result None → IsCounted u k
 counted_on t u old k Goes result counted count request keeps ends =
     subst (λ x. IsCounted u x) (sym keeps) (counted_still t u old counted count request)
 counted_on t u (kept.Bytes b) (kept.Bytes new) (Brings bytes) result (counted, most) count request keeps ends =
@@ -51,11 +45,12 @@ counted_on t u old k Completes result counted count request keeps ends = absurd 
 counted_on t u old k (Fails why) result counted count request keeps ends = absurd (ends)
 
 -- its transfer goes on
-going_on : (heard : Hearing) (result : Result Progress SetFault) (u : TransferView) → StageOf heard u.stage → EndsBy heard result None → IsGoing u.stage
-going_on Goes result u stage ends = stage
-going_on (Brings bytes) result u stage ends = stage
-going_on Completes result u stage ends = absurd (ends)
-going_on (Fails why) result u stage ends = absurd (ends)
+going_on : (old : Kept) (heard : Hearing) (result : Result Progress SetFault) (u : TransferView) → StageOf heard u.stage → EndsBy old heard result None →
+    IsGoing u.stage
+going_on old Goes result u stage ends = stage
+going_on old (Brings bytes) result u stage ends = stage
+going_on old Completes result u stage ends = absurd (ends)
+going_on old (Fails why) result u stage ends = absurd (ends)
 
 pub still_reading : (place : Place) (t u : TransferView) (old k : Kept) (answer : Answer) → IsReading place t old → BringsBytes answer →
     Hears old (taken t answer) u k None → IsReading place u k
@@ -67,10 +62,8 @@ still_reading place t u old k answer is bytes (same, (result, keeps, ends)) =
       is_read = is.is_read;
       fits = steady.0;
       bytes = steady.1;
-      going = going_on (taken t answer).heard result (taken t answer).transfer h.stage ends;
+      going = going_on old (taken t answer).heard result (taken t answer).transfer h.stage ends;
       counted = counted_on t (taken t answer).transfer old k (taken t answer).heard result is.counted h.count h.request keeps ends;
-      whole = is.whole;
-      set = keeps_set old k (taken t answer).heard result is.set keeps;
     } in
     subst (λ x. IsReading place x k) (sym same) reads
 
@@ -89,18 +82,18 @@ going_due t going = by_stage t.stage going
 
 -- ---- a read that begins
 
-pub enters_standing : (limits : LimitView) (place : Place) → IsGood place → IsWhole place → IsStanding (enter limits place)
-enters_standing limits First good whole = record { good = good; is_read = refl; fits = tt; bytes = tt; going = tt; counted = (refl, omega arith); whole = whole; set = tt }
-enters_standing limits (Address first) good whole = record { good = good; is_read = refl; fits = tt; bytes = tt; going = tt; counted = (refl, omega arith); whole = whole; set = tt }
-enters_standing limits (Device first) good whole = record { good = good; is_read = refl; fits = tt; bytes = tt; going = tt; counted = (refl, omega arith); whole = whole; set = tt }
-enters_standing limits (Header kind f) good whole = record { good = good; is_read = refl; fits = tt; bytes = tt; going = tt; counted = (refl, omega arith); whole = whole; set = tt }
-enters_standing limits (Set kind f total) good whole = record { good = good; is_read = refl; fits = tt; bytes = tt; going = tt; counted = tt; whole = whole; set = tt }
-enters_standing limits (Qualifier f) good whole = record { good = good; is_read = refl; fits = tt; bytes = tt; going = tt; counted = (refl, omega arith); whole = whole; set = tt }
-enters_standing limits (Languages f named) good whole = record { good = good; is_read = refl; fits = tt; bytes = tt; going = tt; counted = (refl, omega arith); whole = whole; set = tt }
-enters_standing limits (Text f s named) good whole = record { good = good; is_read = refl; fits = tt; bytes = tt; going = tt; counted = (refl, omega arith); whole = whole; set = tt }
-enters_standing limits (Configure f) good whole = record { good = good; is_read = refl; fits = tt; bytes = tt; going = tt; counted = (refl, omega arith); whole = whole; set = tt }
-enters_standing limits (Reported f) good whole = tt
-enters_standing limits (Stopped trouble) good whole = tt
+pub enters_standing : (limits : LimitView) (place : Place) → IsGood place → IsStanding (enter limits place)
+enters_standing limits First good = record { good = good; is_read = refl; fits = tt; bytes = tt; going = tt; counted = (refl, omega arith) }
+enters_standing limits (Address first) good = record { good = good; is_read = refl; fits = tt; bytes = tt; going = tt; counted = (refl, omega arith) }
+enters_standing limits (Device first) good = record { good = good; is_read = refl; fits = tt; bytes = tt; going = tt; counted = (refl, omega arith) }
+enters_standing limits (Header kind f) good = record { good = good; is_read = refl; fits = tt; bytes = tt; going = tt; counted = (refl, omega arith) }
+enters_standing limits (Set kind f total) good = record { good = good; is_read = refl; fits = tt; bytes = tt; going = tt; counted = tt }
+enters_standing limits (Qualifier f) good = record { good = good; is_read = refl; fits = tt; bytes = tt; going = tt; counted = (refl, omega arith) }
+enters_standing limits (Languages f named) good = record { good = good; is_read = refl; fits = tt; bytes = tt; going = tt; counted = (refl, omega arith) }
+enters_standing limits (Text f s named) good = record { good = good; is_read = refl; fits = tt; bytes = tt; going = tt; counted = (refl, omega arith) }
+enters_standing limits (Configure f) good = record { good = good; is_read = refl; fits = tt; bytes = tt; going = tt; counted = (refl, omega arith) }
+enters_standing limits (Reported f) good = tt
+enters_standing limits (Stopped trouble) good = tt
 
 -- a place with its read stands as such
 stands_here : (place : Place) (t : TransferView) (k : Kept) → is_end place ≡ false → IsReading place t k → IsStanding (standing place t k)
@@ -116,42 +109,14 @@ takes_on limits speed place t u old k answer is bytes hears = (
   stands_here place u k is.is_read (still_reading place t u old k answer is bytes hears),
 )
 
--- the set that is kept then
-hears_set : (t u : TransferView) (old k : Kept) (answer : Answer) (ending : Option Ending) → HasSet old → Hears old (taken t answer) u k ending → HasSet k
-hears_set t u old k answer ending set (same, (result, keeps, ends)) = keeps_set old k (taken t answer).heard result set keeps
-
-next_there : (place : Place) (speed : Speed) (t u : TransferView) (old k : Kept) (answer : Answer) (ending : Ending) (next : Place) → IsReading place t old →
-    BringsBytes answer → Hears old (taken t answer) u k (Some ending) → LeadsOn speed place u k ending next → IsGood next × Gives place k next
-next_there place speed t u old k answer ending next is bytes hears leads =
-    let steady = hears_steady place t old k answer u (Some ending) is.fits is.bytes bytes hears in (
-      next_good speed place u k ending next is.good steady.0 steady.1 leads,
-      next_gives speed place u k ending next is.whole steady.1 (hears_set t u old k answer (Some ending) is.set hears) leads,
-    )
-
 pub takes_end : (limits : LimitView) (speed : Speed) (place : Place) (t u : TransferView) (old k : Kept) (answer : Answer) (ending : Ending) (next : Place)
     (new : HostPhase) → IsReading place t old → BringsBytes answer → Hears old (taken t answer) u k (Some ending) → GoesOn limits speed place u k ending next new →
     TakesHeard limits speed place old (taken t answer) new × IsStanding new
 takes_end limits speed place t u old k answer ending next new is bytes hears goes =
-    let there = next_there place speed t u old k answer ending next is bytes hears goes.leads in
+    let steady = hears_steady place t old k answer u (Some ending) is.fits is.bytes bytes hears in
+    let good = next_good speed place u k ending next is.good steady.0 steady.1 goes.leads in
     subst (λ x. TakesHeard limits speed place old (taken t answer) x × IsStanding x) (sym goes.enters)
-    (hears_end limits speed place t u old k answer ending next is.going hears goes.leads, enters_standing limits next there.0 there.1.whole)
-
--- a report is the file of what was gathered before
-pub reports_end : (speed : Speed) (place : Place) (t u : TransferView) (old k : Kept) (answer : Answer) (ending : Ending) (next : Place) (g : DescriptorFile) →
-    IsReading place t old → BringsBytes answer → Hears old (taken t answer) u k (Some ending) → LeadsOn speed place u k ending next → next ≡ Reported g →
-    File g (bytes_at place ++ bytes_in_work place old)
-reports_end speed place t u old k answer ending next g is bytes hears leads e =
-    by_heard hears (next_there place speed t u old k answer ending next is bytes hears leads).1
-  where
-    by_heard : Hears old (taken t answer) u k (Some ending) → Gives place k next → File g (bytes_at place ++ bytes_in_work place old)
-    by_heard (same, (result, keeps, ends)) give = ends_report speed place u old k (taken t answer).heard result ending next g ends keeps leads give e
-
--- a read that goes on is no report
-pub no_report_on : (place : Place) (g : DescriptorFile) → is_end place ≡ false → place ≡ Reported g → ⊥
-no_report_on place g reads e = no_end (subst (λ x. is_end x ≡ false) e reads)
-  where
-    no_end : true ≡ false → ⊥
-    no_end wrong = cc
+    (hears_end limits speed place t u old k answer ending next is.going hears goes.leads, enters_standing limits next good)
 
 -- ---- what comes of trouble for which the bus is to blame
 
@@ -225,29 +190,3 @@ outcome_there (Qualifier f) t k = refl
 outcome_there (Languages f named) t k = refl
 outcome_there (Text f s named) t k = refl
 outcome_there (Configure f) t k = refl
-
--- ---- a report of a whole host
-
-abbrev given : DescriptorFile → Option (Result DescriptorFile Trouble) → DescriptorFile
-given g (Some (Ok f)) = f
-given g (Some (Err trouble)) = g
-given g None = g
-
-abbrev IsOk : Option (Result DescriptorFile Trouble) → Type 0
-IsOk (Some (Ok f)) = Unit {0}
-IsOk (Some (Err trouble)) = ⊥
-IsOk None = ⊥
-
-reported_there : (place : Place) (g : DescriptorFile) → outcome_at place ≡ Some (Ok g) → place ≡ Reported g
-reported_there (Reported f) g e = ap (λ o. Reported (given g o)) e
-reported_there (Stopped trouble) g e = absurd (subst (λ o. IsOk o) (sym e) tt)
-reported_there place g e = absurd (subst (λ o. IsOk o) (sym e) tt)
-
-reported_phase : (due : Bool) (place : Place) (t : TransferView) (k : Kept) (g : DescriptorFile) → outcome_of (phase_in due place t k) ≡ Some (Ok g) → place ≡ Reported g
-reported_phase true place t k g e = absurd (subst (λ o. IsOk o) (sym e) tt)
-reported_phase false place t k g e = reported_there place g (sym (outcome_there place t k) ∙ e)
-
-pub host_reports : (v : HostView) (place here : Place) (t u : TransferView) (k j : Kept) (due : Bool) (g : DescriptorFile) → v.phase ≡ Reading place t k →
-    (here ≡ Reported g → File g (bytes_at place ++ bytes_in_work place k)) → outcome_of (phase_in due here u j) ≡ Some (Ok g) → File g (gathered v.phase)
-host_reports v place here t u k j due g at reports e =
-    subst (λ x. File g (gathered x)) (sym at) (reports (reported_phase due here u j g e))

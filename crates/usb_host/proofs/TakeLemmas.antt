@@ -24,7 +24,7 @@ use Rattle.usb_host.specs.declared.kept.Kept.TheVariants as kept
 use Rattle.usb_host.specs.declared.reading.Ending.{Ending}
 use Rattle.usb_host.specs.declared.reading.Ending.TheVariants as endings
 use Rattle.usb_host.specs.Order.{stopped}
-use Rattle.usb_host.specs.Steps.{Reading, Ended, enter, goes_on, IsEnd, KeepsHeard, TakesHeard}
+use Rattle.usb_host.specs.Steps.{Reading, Ended, enter, goes_on, Grows, KeepsHeard, LacksMemory, TakesHeard}
 use Rattle.usb_host.specs.inside.Steady.{IsGood, FitsPlace, KeepsBytes}
 use Rattle.usb_host.specs.Cost.{BringsBytes}
 use Rattle.usb_host.specs.inside.Leading.{HasRoom, is_end}
@@ -158,12 +158,12 @@ leads_good speed place t k (endings.Failed Memory) good fits are = tt
 
 pub next_good : (speed : Speed) (place : Place) (t : TransferView) (k : Kept) (ending : Ending) (next : Place) → IsGood place → FitsPlace place k → KeepsBytes k →
     LeadsOn speed place t k ending next → IsGood next
-next_good speed place t k ending next good fits are (inl e) = subst (λ x. IsGood x) (sym e) tt
+next_good speed place t k ending next good fits are (inl (grows, e)) = subst (λ x. IsGood x) (sym e) tt
 next_good speed place t k ending next good fits are (inr e) = subst (λ x. IsGood x) (sym e) (leads_good speed place t k ending good fits are)
 
 -- ---- what a host takes
 
-going_on : (limits : LimitView) (speed : Speed) (place : Place) (t : TransferView) (k : Kept) (stage : TransferStage) → IsGoing stage →
+pub going_on : (limits : LimitView) (speed : Speed) (place : Place) (t : TransferView) (k : Kept) (stage : TransferStage) → IsGoing stage →
     goes_on limits speed place t k stage ≡ Reading place t k
 going_on limits speed place t k Setup going = refl
 going_on limits speed place t k DataIn going = refl
@@ -185,23 +185,23 @@ failing_on limits speed place t k Memory = refl
 
 -- the read goes on
 takes_on : (limits : LimitView) (speed : Speed) (place : Place) (old : Kept) (by : Taken) (k : Kept) (heard : Hearing) (result : Result Progress SetFault) →
-    by.heard ≡ heard → StageOf heard by.transfer.stage → KeepsHeard old heard result k → EndsBy heard result None →
+    by.heard ≡ heard → StageOf heard by.transfer.stage → KeepsHeard old heard result k → EndsBy old heard result None →
     TakesHeard limits speed place old by (Reading place by.transfer k)
 takes_on limits speed place old by k Goes result e stage keeps fine =
-    (result, k, subst (λ h. KeepsHeard old h result k) (sym e) keeps, inr (fine, sym (going_on limits speed place by.transfer k by.transfer.stage stage)))
+    (result, k, subst (λ h. KeepsHeard old h result k) (sym e) keeps, inr (subst (λ h. LacksMemory h old result → ⊥) (sym e) (λ lacks. lacks), sym (going_on limits speed place by.transfer k by.transfer.stage stage)))
 takes_on limits speed place old by k (Brings bytes) result e stage keeps fine =
-    (result, k, subst (λ h. KeepsHeard old h result k) (sym e) keeps, inr (fine, sym (going_on limits speed place by.transfer k by.transfer.stage stage)))
+    (result, k, subst (λ h. KeepsHeard old h result k) (sym e) keeps, inr (subst (λ h. LacksMemory h old result → ⊥) (sym e) fine, sym (going_on limits speed place by.transfer k by.transfer.stage stage)))
 takes_on limits speed place old by k Completes result e stage keeps fine = absurd (fine)
 takes_on limits speed place old by k (Fails why) result e stage keeps fine = absurd (fine)
 
 -- the read ends, and leads on or finds no memory
 no_memory : (limits : LimitView) (speed : Speed) (place : Place) (t : TransferView) (k : Kept) (next : Place) → LeadsOn speed place t k (endings.Failed Memory) next →
     enter limits next ≡ Ended (stopped place Memory)
-no_memory limits speed place t k next (inl e) = ap (λ x. enter limits x) e
+no_memory limits speed place t k next (inl (grows, e)) = ap (λ x. enter limits x) e
 no_memory limits speed place t k next (inr e) = ap (λ x. enter limits x) e
 
 takes_end : (limits : LimitView) (speed : Speed) (place : Place) (old : Kept) (by : Taken) (k : Kept) (heard : Hearing) (result : Result Progress SetFault)
-    (ending : Ending) (next : Place) → by.heard ≡ heard → StageOf heard by.transfer.stage → KeepsHeard old heard result k → EndsBy heard result (Some ending) →
+    (ending : Ending) (next : Place) → by.heard ≡ heard → StageOf heard by.transfer.stage → KeepsHeard old heard result k → EndsBy old heard result (Some ending) →
     LeadsOn speed place by.transfer k ending next → TakesHeard limits speed place old by (enter limits next)
 takes_end limits speed place old by k Goes result ending next e stage keeps ends leads = absurd (ends)
 takes_end limits speed place old by k (Brings bytes) result endings.Completed next e stage keeps ends leads = absurd (ends)
@@ -209,27 +209,31 @@ takes_end limits speed place old by k (Brings bytes) result (endings.Failed why)
   result,
   k,
   subst (λ h. KeepsHeard old h result k) (sym e) keeps,
-  inl (inl ends.1, no_memory limits speed place by.transfer k next (subst (λ w. LeadsOn speed place by.transfer k (endings.Failed w) next) ends.0 leads)),
+  inl (inl (subst (λ h. LacksMemory h old result) (sym e) ends.1), no_memory limits speed place by.transfer k next (subst (λ w. LeadsOn speed place by.transfer k (endings.Failed w) next) ends.0 leads)),
 )
-takes_end limits speed place old by k Completes result endings.Completed next e stage keeps ends (inl m) =
-    (result, k, subst (λ h. KeepsHeard old h result k) (sym e) keeps, inl (inr (subst (λ h. IsEnd h) (sym e) tt), ap (λ x. enter limits x) m))
+takes_end limits speed place old by k Completes result endings.Completed next e stage keeps ends (inl (grows, m)) =
+    (result, k, subst (λ h. KeepsHeard old h result k) (sym e) keeps, inl (inr (subst (λ h. Grows h place) (sym e) grows), ap (λ x. enter limits x) m))
 takes_end limits speed place old by k Completes result endings.Completed next e stage keeps ends (inr m) = (
   result,
   k,
   subst (λ h. KeepsHeard old h result k) (sym e) keeps,
-  inr (ends, ap (λ x. enter limits x) m ∙ ap (λ x. goes_on limits speed place by.transfer k x) (sym stage)),
+  inr (subst (λ h. LacksMemory h old result → ⊥) (sym e) (λ lacks. lacks), ap (λ x. enter limits x) m ∙ ap (λ x. goes_on limits speed place by.transfer k x) (sym stage)),
 )
 takes_end limits speed place old by k Completes result (endings.Failed why) next e stage keeps ends leads = absurd (ends)
 takes_end limits speed place old by k (Fails why) result endings.Completed next e stage keeps ends leads = absurd (ends)
-takes_end limits speed place old by k (Fails why) result (endings.Failed w) next e stage keeps ends (inl m) =
-    (result, k, subst (λ h. KeepsHeard old h result k) (sym e) keeps, inl (inr (subst (λ h. IsEnd h) (sym e) tt), ap (λ x. enter limits x) m))
+takes_end limits speed place old by k (Fails why) result (endings.Failed w) next e stage keeps ends (inl (grows, m)) = (
+  result,
+  k,
+  subst (λ h. KeepsHeard old h result k) (sym e) keeps,
+  inl (inr (subst (λ h. Grows h place) (sym e) (subst (λ y. Grows (Fails y) place) ends grows)), ap (λ x. enter limits x) m),
+)
 takes_end limits speed place old by k (Fails why) result (endings.Failed w) next e stage keeps ends (inr m) = (
   result,
   k,
   subst (λ h. KeepsHeard old h result k) (sym e) keeps,
   inr (
-    ends.1,
-    ap (λ x. enter limits x) m ∙ ap (λ x. enter limits (ended_leads speed place by.transfer k (endings.Failed x))) ends.0
+    subst (λ h. LacksMemory h old result → ⊥) (sym e) (λ lacks. lacks),
+    ap (λ x. enter limits x) m ∙ ap (λ x. enter limits (ended_leads speed place by.transfer k (endings.Failed x))) ends
         ∙ sym (failing_on limits speed place by.transfer k why) ∙ ap (λ x. goes_on limits speed place by.transfer k x) (sym stage),
   ),
 )
@@ -250,14 +254,14 @@ hears_end limits speed place t u old k answer ending next going (is, (result, ke
     (subst (λ x. LeadsOn speed place x k ending next) is leads)
 
 -- what is heard where no bytes are kept
-pub hears_goes : (by : Taken) (old : Kept) → Goes ≡ by.heard → (x : Result Progress SetFault) × KeepsHeard old by.heard x old × EndsBy by.heard x None
-hears_goes by old e = subst (λ h. (x : Result Progress SetFault) × KeepsHeard old h x old × EndsBy h x None) e (Ok More, refl, λ wants. wants)
+pub hears_goes : (by : Taken) (old : Kept) → Goes ≡ by.heard → (x : Result Progress SetFault) × KeepsHeard old by.heard x old × EndsBy old by.heard x None
+hears_goes by old e = subst (λ h. (x : Result Progress SetFault) × KeepsHeard old h x old × EndsBy old h x None) e (Ok More, refl, tt)
 
 pub hears_completes : (by : Taken) (old : Kept) → Completes ≡ by.heard →
-    (x : Result Progress SetFault) × KeepsHeard old by.heard x old × EndsBy by.heard x (Some endings.Completed)
-hears_completes by old e = subst (λ h. (x : Result Progress SetFault) × KeepsHeard old h x old × EndsBy h x (Some endings.Completed)) e (Ok More, refl, λ wants. wants)
+    (x : Result Progress SetFault) × KeepsHeard old by.heard x old × EndsBy old by.heard x (Some endings.Completed)
+hears_completes by old e = subst (λ h. (x : Result Progress SetFault) × KeepsHeard old h x old × EndsBy old h x (Some endings.Completed)) e (Ok More, refl, tt)
 
 pub hears_fails : (by : Taken) (old : Kept) (why : Why) → Fails why ≡ by.heard →
-    (x : Result Progress SetFault) × KeepsHeard old by.heard x old × EndsBy by.heard x (Some (endings.Failed why))
+    (x : Result Progress SetFault) × KeepsHeard old by.heard x old × EndsBy old by.heard x (Some (endings.Failed why))
 hears_fails by old why e =
-    subst (λ h. (x : Result Progress SetFault) × KeepsHeard old h x old × EndsBy h x (Some (endings.Failed why))) e (Ok More, refl, (refl, λ wants. wants))
+    subst (λ h. (x : Result Progress SetFault) × KeepsHeard old h x old × EndsBy old h x (Some (endings.Failed why))) e (Ok More, refl, refl)

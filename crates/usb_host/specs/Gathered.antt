@@ -1,57 +1,17 @@
--- The bytes of the reads that count: those of the parts of a file, in its order.
+-- The bytes that came, as far as they count: those of the parts of a file, in its order.
 use Rattle.std.specs.Prelude.{ℕ, List, [], ◌∷◌, ◌++◌, Option}
+use Rattle.usb_fields.specs.Packet.{Reply as Answer}
 use Rattle.usb_fields.specs.declared.speed.Speed.{Speed}
 use Rattle.usb_set.specs.declared.tree.Configuration.{Configuration}
-use Rattle.usb_set.specs.Decoding.{Decoding, gathers, has, refused}
-use Rattle.usb_file_data.specs.File.{file_bytes, whole_set}
-use Rattle.usb_file_data.specs.Front.{with_strings}
 use Rattle.usb_transfer.specs.declared.reply.Reply.{Reply}
 use Rattle.usb_transfer.specs.declared.reply.Reply.TheVariants as replied
+use Rattle.usb_transfer.specs.Transfer.{Hearing, Goes, Brings, Completes, Fails, taken}
 use Rattle.usb_host.specs.declared.place.Place.{Place}
-use Rattle.usb_host.specs.declared.place.Place.TheVariants.{Device, Header, Set, Qualifier, Languages, Text, Configure, Reported}
-use Rattle.usb_host.specs.declared.kept.Kept.{Kept}
-use Rattle.usb_host.specs.declared.kept.Kept.TheVariants as kept
+use Rattle.usb_host.specs.declared.place.Place.TheVariants.{Device, Set, Qualifier, Languages, Text}
 use Rattle.usb_host.specs.Order.{next}
-use Rattle.usb_host.specs.Steps.{HostPhase, ResetDue, Reading, Ended}
+use Rattle.usb_host.specs.Steps.{HostPhase, Reading}
 
--- the bytes of the parts that are whole
-abbrev pub bytes_at : Place → List ℕ
-bytes_at (Header kind f) = file_bytes f
-bytes_at (Set kind f total) = file_bytes f
-bytes_at (Qualifier f) = file_bytes f
-bytes_at (Languages f named) = file_bytes f
-bytes_at (Text f s named) = file_bytes (with_strings s f)
-bytes_at (Configure f) = file_bytes f
-bytes_at (Reported f) = file_bytes f
-bytes_at _ = []
-
--- the bytes that a decoder has taken of a set; of a refused set there are none
-abbrev pub decoded : Decoding → List ℕ
-decoded (gathers s) = s
-decoded (has c) = whole_set c
-decoded (refused fault) = []
-
--- the bytes in work
-abbrev pub bytes_kept : Kept → List ℕ
-bytes_kept (kept.Bytes bytes) = bytes
-bytes_kept (kept.Set d over) = decoded d
-
--- those in work at a place: the first read and fronts of sets are no part of a file
-abbrev pub bytes_in_work : Place → Kept → List ℕ
-bytes_in_work (Device first) k = bytes_kept k
-bytes_in_work (Set kind f total) k = bytes_kept k
-bytes_in_work (Qualifier f) k = bytes_kept k
-bytes_in_work (Languages f named) k = bytes_kept k
-bytes_in_work (Text f s named) k = bytes_kept k
-bytes_in_work place k = []
-
--- the bytes that a host has gathered in this attempt
-abbrev pub gathered : HostPhase → List ℕ
-gathered ResetDue = []
-gathered (Reading place transfer k) = bytes_at place ++ bytes_in_work place k
-gathered (Ended place) = bytes_at place
-
--- of a whole reply, the bytes that count
+-- of a whole reply, the bytes that count: the first read and fronts of sets are no part of a file
 abbrev pub part_of : Place → Reply → List ℕ
 part_of (Device first) (replied.Bytes b) = b
 part_of (Set kind f total) (replied.Bytes b) = b
@@ -60,13 +20,34 @@ part_of (Languages f named) (replied.Bytes b) = b
 part_of (Text f s named) (replied.Bytes b) = b
 part_of place reply = []
 
+-- what came since the last bus reset: what counts of the reads that have completed, and the bytes of the one in work
+pub record Came : Type 0 where
+  pub whole : List ℕ
+  pub read : List ℕ
+
+-- after a bus reset
+abbrev pub no_bytes : Came
+no_bytes = record { whole = []; read = [] }
+
+-- what came then, where this was heard at a place: of a read that failed nothing counts
+abbrev pub came_by : Place → Hearing → Came → Came
+came_by place Goes c = c
+came_by place (Brings bytes) c = record c { read = c.read ++ bytes }
+came_by place Completes c = record { whole = c.whole ++ part_of place (replied.Bytes c.read); read = [] }
+came_by place (Fails why) c = record c { read = [] }
+
+-- and after an answer, where a read may be in work
+abbrev pub came_in : HostPhase → Answer → Came → Came
+came_in (Reading place transfer kept) answer c = came_by place (taken transfer answer).heard c
+came_in phase answer c = c
+
 module _ (set_of : List ℕ → Option Configuration) (speed : Speed) where
   -- where replies lead to, one after another
   abbrev pub reached : Place → List Reply → Place
   reached place [] = place
   reached place (r ∷ rs) = reached (next set_of speed place r) rs
 
-  -- those of all replies
+  -- the bytes that count of all replies
   abbrev pub parts_of : Place → List Reply → List ℕ
   parts_of place [] = []
   parts_of place (r ∷ rs) = part_of place r ++ parts_of (next set_of speed place r) rs

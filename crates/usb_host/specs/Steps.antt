@@ -18,7 +18,7 @@ use Rattle.usb_host.specs.declared.action.Action.TheVariants as actions
 use Rattle.usb_host.specs.declared.step.Step.{Step}
 use Rattle.usb_host.specs.declared.step.Trouble.{Trouble}
 use Rattle.usb_host.specs.declared.place.Place.{Place}
-use Rattle.usb_host.specs.declared.place.Place.TheVariants.{First, Set, Reported, Stopped}
+use Rattle.usb_host.specs.declared.place.Place.TheVariants.{First, Set, Qualifier, Languages, Text, Reported, Stopped}
 use Rattle.usb_host.specs.declared.kept.Kept.{Kept}
 use Rattle.usb_host.specs.declared.kept.Kept.TheVariants as kept
 use Rattle.usb_host.specs.Order.{asks, step_of, stopped, bytes_lead, set_leads, done_leads, refused_leads}
@@ -148,13 +148,6 @@ goes_on limits speed place t k (Failed Malformed) = Ended (stopped place Malform
 goes_on limits speed place t k (Failed Memory) = Ended (stopped place Memory)
 goes_on limits speed place t k stage = Reading place t k
 
--- the transfer has ended
-abbrev pub IsEnd : Hearing → Type 0
-IsEnd Goes = ⊥
-IsEnd (Brings bytes) = ⊥
-IsEnd Completes = Unit {0}
-IsEnd (Fails why) = Unit {0}
-
 -- new bytes change what is kept, and nothing else does
 abbrev pub KeepsHeard : Kept → Hearing → Result Progress SetFault → Kept → Type 0
 KeepsHeard old (Brings bytes) result new = Keeps old bytes result new
@@ -162,13 +155,28 @@ KeepsHeard old Goes result new = new ≡ old
 KeepsHeard old Completes result new = new ≡ old
 KeepsHeard old (Fails why) result new = new ≡ old
 
--- A host takes what its transfer made of an answer. The read goes on, or the next one begins; or memory was wanting: for
--- the new bytes, or where the transfer has ended.
+-- memory was wanting for new bytes: the decoder of a set has said so
+abbrev pub LacksMemory : Hearing → Kept → Result Progress SetFault → Type 0
+LacksMemory (Brings bytes) (kept.Set d over) result = WantsMemory result
+LacksMemory heard old result = ⊥
+
+-- A read has ended for which a place takes memory: a set, a language list or a string, which are kept, or the qualifier,
+-- after which and after whose refusal the indices of the strings are.
+abbrev pub Grows : Hearing → Place → Type 0
+Grows Completes (Set kind f total) = Unit {0}
+Grows Completes (Qualifier f) = Unit {0}
+Grows Completes (Languages f named) = Unit {0}
+Grows Completes (Text f s named) = Unit {0}
+Grows (Fails Stalled) (Qualifier f) = Unit {0}
+Grows heard place = ⊥
+
+-- A host takes what its transfer made of an answer. The read goes on, or the next one begins; or memory was wanting where
+-- it is asked for.
 abbrev pub TakesHeard : LimitView → Speed → Place → Kept → Taken → HostPhase → Type 0
 TakesHeard limits speed place old by new =
     (result : Result Progress SetFault) × (k : Kept) × KeepsHeard old by.heard result k
-    × (((WantsMemory result ⊎ IsEnd by.heard) × (new ≡ Ended (stopped place Memory)))
-    ⊎ ((WantsMemory result → ⊥) × (new ≡ goes_on limits speed place by.transfer k by.transfer.stage)))
+    × (((LacksMemory by.heard old result ⊎ Grows by.heard place) × (new ≡ Ended (stopped place Memory)))
+    ⊎ ((LacksMemory by.heard old result → ⊥) × (new ≡ goes_on limits speed place by.transfer k by.transfer.stage)))
 
 -- by the phase: only a read in work takes an answer
 abbrev pub TakesIn : HostView → HostPhase → Reply → HostView → Type 0

@@ -1,5 +1,5 @@
 //! The host.
-ghost use Rattle.std.specs.Prelude.{◌≡◌, ◌<◌, ◌≤◌, ◌&&◌, nat_lt, IsSome, Ok, None, Some};
+ghost use Rattle.std.specs.Prelude.{◌≡◌, ◌<◌, ◌≤◌, ◌&&◌, nat_lt, IsSome};
 ghost use Rattle.usb_fields.specs.Packet.{Sent, reply_of};
 ghost use Rattle.usb_host.specs.Cost.{BringsBytes};
 ghost use Rattle.usb_host.specs.inside.Leading.{is_bus_trouble};
@@ -57,9 +57,6 @@ impl Model for Host {
 
 impl Host {
     ghost use Rattle.usb_host.specs.Steps.{Takes, WantsNothing, WantsReset, WantsSent, lent_outcome, new_host, outcome_of, reset, step_in, transfer_in, wanted, wanted_by};
-    ghost use Rattle.usb_file_data.specs.File.{File};
-    ghost use Rattle.usb_file_data.specs.declared.file.DescriptorFile.{DescriptorFile};
-    ghost use Rattle.usb_host.specs.Gathered.{gathered};
     ghost use Rattle.usb_host.specs.Cost.{left_to_ask};
 
     /// A host that has done nothing. What it bears and the address that it gives are in `limits`.
@@ -125,7 +122,6 @@ impl Host {
     /// ```
     pub fn take(&mut self, answer: Answer<'_>)
         ensures taken { Takes self.old (reply_of answer.entry) self.new }
-        ensures reports { (g : DescriptorFile) → outcome_of self.old.phase ≡ None → outcome_of self.new.phase ≡ Some (Ok g) → File g (gathered self.old.phase) }
         ensures fewer { (sent : Sent) → wanted self.old.phase ≡ WantsSent sent → left_to_ask self.new < left_to_ask self.old }
     {
         if self.reset_due || self.reading.place.is_end() {

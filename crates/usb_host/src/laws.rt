@@ -1,10 +1,15 @@
 //! What holds of every enumeration, whatever is answered. The functions do nothing: what they say stands in their
 //! contracts.
-ghost use Rattle.usb_host.specs.Laws.{HostsEnd, ReportsWhatWasRead};
+ghost use Rattle.usb_host.specs.Laws.{HostsEnd, HostsReportWhatCame, ReportsWhatWasRead};
 
 /// Whatever a device answers, a success reports the file whose bytes were read.
 pub fn a_report_is_what_was_read()
     ensures { ReportsWhatWasRead }
+{}
+
+/// Whatever is answered, a host that reports a file was given its bytes in this attempt.
+pub fn a_host_reports_what_came()
+    ensures { HostsReportWhatCame }
 {}
 
 /// Whatever is answered, a host ends within a stated number of transactions and attempts, with an outcome.

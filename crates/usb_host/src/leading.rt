@@ -1,11 +1,12 @@
 //! Where a read leads to.
-ghost use Rattle.std.specs.Prelude.{◌≡◌, ◌⊎◌, ◌<◌, ◌≤◌, ◌*◌, IfOk, length};
-ghost use Rattle.usb_host.specs.Order.{after_sets as place_after_sets, bytes_lead, device_leads, done_leads, header_leads, languages_lead, qualifier_leads, refused_leads, set_leads, step_of, stopped, sets_due as set_due_at, strings_due as strings_due_at, text_leads, texts_due as text_due_at};
+ghost use Rattle.std.specs.Prelude.{◌≡◌, ◌<◌, ◌≤◌, ◌*◌, IfOk, OnErr, length};
+ghost use Rattle.usb_host.specs.Order.{after_sets as place_after_sets, bytes_lead, declared_sets, device_leads, done_leads, header_leads, languages_lead, qualifier_leads, refused_leads, set_leads, step_of, sets_of, sets_due as set_due_at, strings_due as strings_due_at, text_leads, texts_due as text_due_at};
 ghost use Rattle.usb_host.specs.Keeping.{set_kept};
-ghost use Rattle.usb_host.specs.inside.Leading.{IsShort, LeadsTo, OrMemory, Settles};
+ghost use Rattle.usb_host.specs.inside.Leading.{Leads, LeadsTo, OrMemory, Settles};
 ghost use Rattle.usb_host.specs.inside.Steady.{IsGood};
 ghost use Rattle.usb_host.specs.Steps.{completed_leads, read_leads};
-ghost use Rattle.usb_transfer.specs.declared.why.Why.TheVariants.{Memory};
+ghost use Rattle.usb_transfer.specs.declared.why.Why.TheVariants.{Stalled};
+ghost use Rattle.usb_transfer.specs.Transfer.{Completes, Fails};
 ghost use Rattle.usb_host.specs.declared.kept.Kept.TheVariants as kept;
 ghost use Rattle.usb_host.specs.declared.place.Place.TheVariants.{First, Device, Header, Set, Qualifier as SecondSpeed, Languages, Text};
 
@@ -67,7 +68,8 @@ fn sets_due(
     kind: SetKind,
     file: DescriptorFile,
 ) -> Result<Place, NoMemory>
-    ensures { IfOk result (λ place. place ≡ set_due_at speed kind file) }
+    ensures ok { IfOk result (λ place. place ≡ set_due_at speed kind file) }
+    ensures err { OnErr result (declared_sets kind file ≤ length (sets_of kind file)) }
 {
     if count_sets(kind, &file) < usize::from(count_declared(kind, &file)) {
         Ok(Place::Header { kind, file })
@@ -268,7 +270,7 @@ fn settle(step: Step, next: Result<Place, Why>) -> Place
 fn lead_bytes(alloc: Global, speed: Speed, step: Step, place: Place, bytes: &[u8]) -> Place
     requires good { IsGood place }
     requires step { step ≡ step_of place }
-    ensures { (result ≡ stopped place Memory) ⊎ (result ≡ bytes_lead speed place bytes.now) }
+    ensures { Leads Completes place (bytes_lead speed place bytes.now) result }
 {
     match place {
         Place::Device { first } => settle(step, read_device(alloc, speed, first, bytes)),
@@ -282,19 +284,8 @@ fn lead_bytes(alloc: Global, speed: Speed, step: Step, place: Place, bytes: &[u8
             strings,
             named,
         } => settle(step, read_text(alloc, speed, file, strings, named, bytes)),
-        other => lead_front(speed, other, bytes),
-    }
-}
-
-/// Where the first read leads to; no other place is left here.
-fn lead_front(speed: Speed, place: Place, bytes: &[u8]) -> Place
-    requires good { IsGood place }
-    requires short { IsShort place }
-    ensures { (result ≡ stopped place Memory) ⊎ (result ≡ bytes_lead speed place bytes.now) }
-{
-    match &place {
-        Place::First => settle(Step::First, read_first(speed, bytes)),
-        _ => place.stop(Why::Malformed),
+        Place::First => settle(step, read_first(speed, bytes)),
+        other => other.stop(Why::Malformed),
     }
 }
 
@@ -310,7 +301,7 @@ fn lead_set(
 ) -> Place
     requires good { IsGood place }
     requires step { step ≡ step_of place }
-    ensures { (result ≡ stopped place Memory) ⊎ (result ≡ read_leads speed place count (kept.Set decoder over)) }
+    ensures { Leads Completes place (read_leads speed place count (kept.Set decoder over)) result }
 {
     let set = set_in(decoder, over);
     match place {
@@ -340,7 +331,7 @@ fn lead_done(place: Place) -> Place
 /// where memory is wanting.
 pub fn lead_refused(alloc: Global, place: Place) -> Place
     requires { IsGood place }
-    ensures { (result ≡ stopped place Memory) ⊎ (result ≡ refused_leads place) }
+    ensures { Leads (Fails Stalled) place (refused_leads place) result }
 {
     match place {
         Place::Qualifier { file } => settle(Step::Qualifier, or_memory(strings_due(alloc, file))),
@@ -357,7 +348,7 @@ pub fn lead_completed(
     kept: &mut Kept,
 ) -> Place
     requires { IsGood place }
-    ensures { (result ≡ stopped place Memory) ⊎ (result ≡ completed_leads speed place transfer.now kept.old) }
+    ensures { Leads Completes place (completed_leads speed place transfer.now kept.old) result }
 {
     if transfer.request().length == 0 {
         return lead_done(place);

@@ -1,5 +1,5 @@
 //! A read in work.
-ghost use Rattle.std.specs.Prelude.{◌≡◌, ◌<◌, ◌++◌};
+ghost use Rattle.std.specs.Prelude.{◌≡◌, ◌<◌};
 ghost use Rattle.usb_fields.specs.Packet.{reply_of};
 ghost use Rattle.usb_transfer.specs.Bound.{left};
 ghost use Rattle.usb_transfer.specs.Transfer.{taken};
@@ -7,11 +7,7 @@ ghost use Rattle.usb_host.specs.Keeping.{nothing_kept};
 ghost use Rattle.usb_host.specs.declared.kept.Kept.{Kept};
 ghost use Rattle.usb_host.specs.Cost.{BringsBytes};
 ghost use Rattle.usb_host.specs.inside.Steady.{FitsPlace, IsGood, KeepsBytes};
-ghost use Rattle.usb_file_data.specs.File.{File};
-ghost use Rattle.usb_file_data.specs.declared.file.DescriptorFile.{DescriptorFile};
-ghost use Rattle.usb_host.specs.Gathered.{bytes_at, bytes_in_work};
 ghost use Rattle.usb_host.specs.Steps.{TakesHeard, enter};
-ghost use Rattle.usb_host.specs.declared.place.Place.TheVariants.{Reported};
 ghost use Rattle.usb_host.specs.inside.Reads.{GoesOn, Hears, IsReading, IsStanding, LeadsOn, standing};
 
 use crate::kept::Kept;
@@ -89,7 +85,6 @@ impl Reading {
         requires bytes { BringsBytes (reply_of answer) }
         ensures takes { TakesHeard limits.now speed self.old.place self.old.kept (taken self.old.transfer (reply_of answer.entry)) (standing self.new.place self.new.transfer self.new.kept) }
         ensures fewer { left (taken self.old.transfer (reply_of answer.entry)).transfer < left self.old.transfer }
-        ensures reports { (g : DescriptorFile) → self.new.place ≡ Reported g → File g (bytes_at self.old.place ++ bytes_in_work self.old.place self.old.kept) }
         ensures stands { IsStanding (standing self.new.place self.new.transfer self.new.kept) }
     {
         if let Some(ending) = self.hear(answer) {

@@ -1,12 +1,12 @@
 -- What holds of a run of both ends after each step.
-use Rattle.std.specs.Prelude.{◌≡◌, ℕ, ◌<◌, ◌≤◌, List}
+use Rattle.std.specs.Prelude.{ℕ, List}
 use Rattle.usb_file_data.specs.declared.file.DescriptorFile.{DescriptorFile}
 use Rattle.usb_transfer.specs.Limits.{LimitView}
 use Rattle.usb_device.specs.declared.state.State.{State}
 use Rattle.usb_bus.specs.declared.fate.Fate.{Fate}
 use Rattle.usb_host.specs.declared.place.Place.{Place}
 use Rattle.usb_host.specs.declared.place.Place.TheVariants.{Reported, Stopped}
-use Rattle.usb_host.specs.Steps.{HostPhase, ResetDue, Reading, Ended, HostView}
+use Rattle.usb_host.specs.Steps.{HostPhase, ResetDue, Reading, Ended}
 use Rattle.usb_enumeration.specs.Enumerate.{HasReadAll, HasCause}
 
 -- The end of an enumeration at a place. A report is the description, and the device has the address and is configured by
@@ -21,7 +21,3 @@ abbrev pub GoesWell : DescriptorFile → LimitView → List Fate → ℕ → Sta
 GoesWell f limits used attempts s ResetDue = Unit {0}
 GoesWell f limits used attempts s (Reading place transfer kept) = Unit {0}
 GoesWell f limits used attempts s (Ended place) = EndsWell f limits used attempts s place
-
--- a host keeps its limits, and begins no attempt too many
-abbrev pub KeepsLimits : LimitView → HostView → Type 0
-KeepsLimits limits v = (v.limits ≡ limits) × (v.resets ≤ limits.attempts) × (v.phase ≡ ResetDue → v.resets < limits.attempts)

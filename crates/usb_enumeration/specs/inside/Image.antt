@@ -1,8 +1,10 @@
 -- A host that keeps a place and hands the packets of a set to a decoder, against one that keeps all replies and all bytes.
-use Rattle.std.specs.Prelude.{◌≡◌, ℕ, nat_lt, List, length, Option, ◌⊎◌, Bool, false}
+use Rattle.std.specs.Prelude.{◌≡◌, ℕ, nat_lt, List, length, Option, Result, ◌⊎◌, Bool, false}
 use Rattle.usb_fields.specs.declared.speed.Speed.{Speed}
 use Rattle.usb_fields.specs.Packet.{Reply as Answer}
 use Rattle.usb_set.specs.declared.tree.Configuration.{Configuration}
+use Rattle.usb_set.specs.declared.fault.SetFault.{SetFault}
+use Rattle.usb_set.specs.declared.decoder.Progress.{Progress}
 use Rattle.usb_set.specs.Decoding.{Decoding, gathers, has, refused}
 use Rattle.usb_set.specs.Faults.{Begins, Faulty, IsOpen}
 use Rattle.usb_transfer.specs.declared.why.Why.TheVariants.{Memory}
@@ -19,7 +21,7 @@ use Rattle.usb_host.specs.declared.kept.Kept.{Kept}
 use Rattle.usb_host.specs.declared.kept.Kept.TheVariants.{Bytes, Set}
 use Rattle.usb_host.specs.Order.{asks, stopped}
 use Rattle.usb_host.specs.Gathered.{reached}
-use Rattle.usb_host.specs.Steps.{HostPhase, Reading, Ended, TakesHeard}
+use Rattle.usb_host.specs.Steps.{HostPhase, Reading, Ended, Grows, LacksMemory, TakesHeard}
 use Rattle.usb_host.specs.inside.Steady.{FitsPlace}
 
 -- What bytes that came in pieces have made of a decoder that was not out of memory, and whether bytes came behind
@@ -59,12 +61,13 @@ module _ (set_of : List ℕ → Option Configuration) (limits : LimitView) (spee
   IsImage replies (Broken why) (Ended (Stopped trouble)) = why ≡ trouble.why
   IsImage replies phase other = ⊥
 
-  -- whatever is answered, it stays one, or memory was wanting
+  -- whatever is answered, it stays one, or memory was wanting where that is asked for
   abbrev pub StaysImage : Type 0
   StaysImage =
       (replies : List Reply) (h : HostEnd) (d : DeviceView) (place : Place) (t : TransferView) (k : Kept) (answer : Answer) (new : HostPhase) →
       IsImage replies (Running h) (Reading place t k) → TakesHeard limits speed place k (taken t answer) new →
-      (new ≡ Ended (stopped place Memory))
+      ((result : Result Progress SetFault) × (LacksMemory (taken t answer).heard k result ⊎ Grows (taken t answer).heard place)
+      × (new ≡ Ended (stopped place Memory)))
       ⊎ (let e = hears h answer in
       let x = advance plan_of limits.naks replies e e.transfer.stage d in
       IsImage x.replies x.phase new)

@@ -1,5 +1,5 @@
 -- The laws of attempts, of scripts and of runs that prove what holds of an enumeration.
-use Rattle.std.specs.Prelude.{◌≡◌, ℕ, false, List, [], Option, ◌<◌}
+use Rattle.std.specs.Prelude.{◌≡◌, ℕ, false, List, [], Option, ◌<◌, ◌≤◌}
 use Rattle.usb_base.specs.Bytes.{AreBytes}
 use Rattle.usb_fields.specs.declared.setup.Setup.{Setup as SetupPacket}
 use Rattle.usb_fields.specs.declared.speed.Speed.{Speed}
@@ -18,14 +18,16 @@ use Rattle.usb_bus.specs.Fates.{losses, busies}
 use Rattle.usb_bus.specs.inside.Sound.{Follows}
 use Rattle.usb_bus.specs.Run.{fates_used}
 use Rattle.usb_host.specs.declared.place.Place.TheVariants.{First, Reported}
+use Rattle.usb_host.specs.Cost.{most}
 use Rattle.usb_host.specs.Gathered.{reached}
 use Rattle.usb_enumeration.specs.inside.Script.{replies_in, script}
 use Rattle.usb_enumeration.specs.Enumerate.{configured_state}
 use Rattle.usb_enumeration.specs.inside.Series.{Verdict, fresh, series_run}
 use Rattle.usb_enumeration.specs.inside.Image.{plan_of, StaysImage}
 use Rattle.usb_enumeration.specs.inside.Readers.{ReadsSets}
-use Rattle.usb_enumeration.specs.Run.{Pair, new_pair, Runs}
-use Rattle.usb_enumeration.specs.inside.Ends.{GoesWell, KeepsLimits}
+use Rattle.usb_enumeration.specs.Beside.{IsBeside}
+use Rattle.usb_enumeration.specs.Run.{Pair, new_pair, RunsAt}
+use Rattle.usb_enumeration.specs.inside.Ends.{GoesWell}
 
 -- For any plan that a device answers as expected, with a reset before each attempt, over every list of fates.
 abbrev pub AttemptsHaveCauses : Type 0
@@ -35,15 +37,15 @@ AttemptsHaveCauses =
     (let x = series_run plan naks limit answer cut fates (fresh plan naks limit 1) in
     Verdict plan naks limit answer cut all last (losses fates) (busies fates) x.attempts x.attempt x.attempt.phase)
 
--- An enumeration of a device with accepted descriptors whose numbers fit their fields, over every list of fates: a success
--- has all replies of the script, and the device is configured.
+-- An enumeration of a device with accepted descriptors whose numbers fit their fields, and with any owner beside its table,
+-- over every list of fates: a success has all replies of the script, and the device is configured.
 abbrev pub EnumerationsHaveCauses : Type 0
 EnumerationsHaveCauses =
-    (set_of : List ℕ → Option Configuration) (limits : LimitView) (speed : Speed) (f : DescriptorFile) (fates : List Fate) →
-    ReadsSets set_of → Accepted f speed → AreBytes (file_bytes f) → IsInRange limits.address limits.attempts →
+    (set_of : List ℕ → Option Configuration) (limits : LimitView) (speed : Speed) (f : DescriptorFile) (table : State → SetupPacket → Outcome) (fates : List Fate) →
+    IsBeside (answer f) table → ReadsSets set_of → Accepted f speed → AreBytes (file_bytes f) → IsInRange limits.address limits.attempts →
     (let plan = plan_of set_of limits speed in
-    let x = series_run plan limits.naks limits.attempts (answer f) f.device.packet fates (fresh plan limits.naks limits.attempts 1) in
-    Verdict plan limits.naks limits.attempts (answer f) f.device.packet (replies_in (script limits.address f.device.packet speed f))
+    let x = series_run plan limits.naks limits.attempts table f.device.packet fates (fresh plan limits.naks limits.attempts 1) in
+    Verdict plan limits.naks limits.attempts table f.device.packet (replies_in (script limits.address f.device.packet speed f))
     (configured_state limits.address f) (losses fates) (busies fates) x.attempts x.attempt x.attempt.phase)
 
 -- The replies of the script lead to a report of the descriptors.
@@ -62,16 +64,17 @@ KeepsTheImage = (set_of : List ℕ → Option Configuration) (limits : LimitView
 -- a cause.
 abbrev pub RunsEndWell : Type 0
 RunsEndWell =
-    (limits : LimitView) (speed : Speed) (f : DescriptorFile) (fates : List Fate) (earlier : List Pair) (n : ℕ) (last : Pair) →
-    Accepted f speed → AreBytes (file_bytes f) → IsInRange limits.address limits.attempts →
-    Runs f fates (new_pair limits speed) earlier n last →
+    (limits : LimitView) (speed : Speed) (f : DescriptorFile) (table : State → SetupPacket → Outcome) (fates : List Fate) (earlier : List Pair) (n : ℕ) (last : Pair) →
+    IsBeside (answer f) table → Accepted f speed → AreBytes (file_bytes f) → IsInRange limits.address limits.attempts →
+    RunsAt table f.device.packet fates (new_pair limits speed) earlier n last →
     GoesWell f limits (fates_used fates n) last.host.resets last.device.state last.host.phase
 
--- And the host keeps its limits, and begins no attempt too many.
+-- And the host begins no attempt too many, and asks for no transaction too many.
 abbrev pub RunsKeepLimits : Type 0
 RunsKeepLimits =
-    (limits : LimitView) (speed : Speed) (f : DescriptorFile) (fates : List Fate) (earlier : List Pair) (n : ℕ) (last : Pair) →
-    0 < limits.attempts → Runs f fates (new_pair limits speed) earlier n last → KeepsLimits limits last.host
+    (limits : LimitView) (speed : Speed) (f : DescriptorFile) (table : State → SetupPacket → Outcome) (fates : List Fate) (earlier : List Pair) (n : ℕ) (last : Pair) →
+    IsBeside (answer f) table → AreBytes (file_bytes f) → 0 < limits.attempts → RunsAt table f.device.packet fates (new_pair limits speed) earlier n last →
+    (last.host.resets ≤ limits.attempts) × (n ≤ most limits)
 
 -- There is a reader of sets that the laws are about.
 abbrev pub SetsAreRead : Type 0

@@ -1,5 +1,5 @@
 -- Attempts of a plan, with a bus reset before each.
-use Rattle.std.specs.Prelude.{◌≡◌, ℕ, suc, ◌≤◌, ◌<◌, if◌then◌else◌, nat_lt, ◌⊎◌, List, [], ◌∷◌}
+use Rattle.std.specs.Prelude.{◌≡◌, ℕ, suc, ◌+◌, ◌/◌, ◌≤◌, if◌then◌else◌, nat_lt, ◌⊎◌, List, [], ◌∷◌}
 use Rattle.usb_fields.specs.declared.setup.Setup.{Setup as SetupPacket}
 use Rattle.usb_transfer.specs.declared.why.Why.TheVariants.{NoAnswer, Busy}
 use Rattle.usb_transfer.specs.declared.reply.Reply.{Reply}
@@ -44,9 +44,9 @@ module _ (plan : List Reply → Plan) (naks limit : ℕ) where
     series_run (f ∷ fates) x = series_run fates (series_step f x)
 
     -- How a series stands after so many losses and so many Busy. A success has all replies and left the device in the last
-    -- state. A failure has used all attempts, with a loss for each or more Busy than NAKs are borne.
+    -- state. A failure has used all attempts, with a loss of its own for each, or a whole measure of NAKs.
     abbrev pub Verdict : List Reply → State → ℕ → ℕ → ℕ → Attempt → Phase → Type 0
     Verdict all last losses busies attempts x (Running host) = Unit {0}
     Verdict all last losses busies attempts x Succeeded = (x.replies ≡ all) × (x.device.state ≡ last)
     Verdict all last losses busies attempts x (Broken why) =
-        ((why ≡ NoAnswer) ⊎ (why ≡ Busy)) × (limit ≤ attempts) × ((limit ≤ losses) ⊎ (naks < busies))
+        ((why ≡ NoAnswer) ⊎ (why ≡ Busy)) × (limit ≤ attempts) × (limit ≤ losses + busies / suc naks)

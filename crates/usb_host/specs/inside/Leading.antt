@@ -6,6 +6,7 @@ use Rattle.usb_set.specs.declared.decoder.Progress.{Progress}
 use Rattle.usb_transfer.specs.declared.why.Why.{Why}
 use Rattle.usb_transfer.specs.declared.why.Why.TheVariants.{Memory}
 use Rattle.usb_transfer.specs.Plan.{Plan, Begin}
+use Rattle.usb_transfer.specs.Transfer.{Hearing, Brings, Completes}
 use Rattle.usb_host.specs.declared.kept.Kept.{Kept}
 use Rattle.usb_host.specs.declared.kept.Kept.TheVariants as kept
 use Rattle.usb_host.specs.declared.place.Place.{Place}
@@ -13,13 +14,13 @@ use Rattle.usb_host.specs.declared.place.Place.TheVariants.{Device, Header, Qual
 use Rattle.usb_host.specs.declared.request.Request.{Request}
 use Rattle.usb_host.specs.declared.step.Step.{Step}
 use Rattle.usb_host.specs.Order.{stopped}
-use Rattle.usb_host.specs.Keeping.{WantsMemory, Keeps}
-use Rattle.usb_host.specs.Steps.{blames_bus}
+use Rattle.usb_host.specs.Keeping.{Keeps}
+use Rattle.usb_host.specs.Steps.{blames_bus, LacksMemory, Grows}
 
--- the next place, or why the read of this one is refused; or memory was wanting
+-- the next place, or why the read of this one is refused; or memory was wanting, where that is asked for
 abbrev pub LeadsTo : Place → Place → Result Place Why → Type 0
 LeadsTo here target (Ok place) = place ≡ target
-LeadsTo here target (Err why) = (why ≡ Memory) ⊎ (target ≡ stopped here why)
+LeadsTo here target (Err why) = (Grows Completes here × (why ≡ Memory)) ⊎ (target ≡ stopped here why)
 
 -- whether an enumeration has ended at a place
 abbrev pub is_end : Place → Bool
@@ -37,8 +38,12 @@ abbrev pub Adds : Kept → List ℕ → Bool → Kept → Type 0
 Adds old piece wants new = (result : Result Progress SetFault) × Keeps old piece result new × Tells wants result
   where
     Tells : Bool → Result Progress SetFault → Type 0
-    Tells true result = WantsMemory result
-    Tells false result = WantsMemory result → ⊥
+    Tells true result = LacksMemory (Brings piece) old result
+    Tells false result = LacksMemory (Brings piece) old result → ⊥
+
+-- where a read leads to that has ended so, or the end where memory is asked for and wanting
+abbrev pub Leads : Hearing → Place → Place → Place → Type 0
+Leads heard here target next = (Grows heard here × (next ≡ stopped here Memory)) ⊎ (next ≡ target)
 
 -- a read of bytes that are kept has at most 255 of them
 abbrev pub HasRoom : Kept → ℕ → Type 0
@@ -54,15 +59,6 @@ OrMemory (Err e) new = new ≡ Err Memory
 abbrev pub Settles : Step → Result Place Why → Place → Type 0
 Settles step (Ok place) new = new ≡ place
 Settles step (Err why) new = new ≡ Stopped (record { step = step; why = why })
-
--- a place whose bytes are read with no decoder and no memory: the first one, or one that reads none
-abbrev pub IsShort : Place → Type 0
-IsShort (Device first) = ⊥
-IsShort (Header kind f) = ⊥
-IsShort (SecondSpeed f) = ⊥
-IsShort (Languages f named) = ⊥
-IsShort (Text f s named) = ⊥
-IsShort place = Unit {0}
 
 -- whether an enumeration has ended by trouble for which the bus is to blame
 abbrev pub is_bus_trouble : Place → Bool

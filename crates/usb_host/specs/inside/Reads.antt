@@ -1,5 +1,5 @@
 -- A read in work, as the code holds it.
-use Rattle.std.specs.Prelude.{◌≡◌, ◌≤◌, ◌⊎◌, false, if◌then◌else◌, length, Option, Some, None, Result}
+use Rattle.std.specs.Prelude.{◌≡◌, ◌≤◌, false, if◌then◌else◌, length, Option, Some, None, Result}
 use Rattle.usb_set.specs.declared.fault.SetFault.{SetFault}
 use Rattle.usb_set.specs.declared.decoder.Progress.{Progress}
 use Rattle.usb_fields.specs.declared.speed.Speed.{Speed}
@@ -14,11 +14,9 @@ use Rattle.usb_host.specs.declared.kept.Kept.TheVariants as kept
 use Rattle.usb_host.specs.declared.reading.Ending.{Ending}
 use Rattle.usb_host.specs.declared.reading.Ending.TheVariants as endings
 use Rattle.usb_host.specs.Order.{stopped, refused_leads}
-use Rattle.usb_host.specs.Keeping.{WantsMemory}
-use Rattle.usb_host.specs.Steps.{HostPhase, ResetDue, Reading, Ended, KeepsHeard, completed_leads, enter}
+use Rattle.usb_host.specs.Steps.{HostPhase, ResetDue, Reading, Ended, KeepsHeard, LacksMemory, completed_leads, enter}
 use Rattle.usb_host.specs.inside.Steady.{IsGood, FitsPlace, KeepsBytes}
-use Rattle.usb_host.specs.inside.Leading.{is_end}
-use Rattle.usb_host.specs.inside.Sound.{IsWhole, HasSet}
+use Rattle.usb_host.specs.inside.Leading.{is_end, Leads}
 
 -- a transfer that goes on
 abbrev pub IsGoing : TransferStage → Type 0
@@ -39,22 +37,20 @@ pub record IsReading (place : Place) (t : TransferView) (k : Kept) : Type 0 wher
   pub bytes : KeepsBytes k
   pub going : IsGoing t.stage
   pub counted : IsCounted t k
-  pub whole : IsWhole place
-  pub set : HasSet k
 
 -- how a read ends, by what was heard and what a decoder answered
-abbrev pub EndsBy : Hearing → Result Progress SetFault → Option Ending → Type 0
-EndsBy Goes result None = WantsMemory result → ⊥
-EndsBy (Brings bytes) result None = WantsMemory result → ⊥
-EndsBy (Brings bytes) result (Some (endings.Failed why)) = (why ≡ Memory) × WantsMemory result
-EndsBy Completes result (Some endings.Completed) = WantsMemory result → ⊥
-EndsBy (Fails why) result (Some (endings.Failed w)) = (w ≡ why) × (WantsMemory result → ⊥)
-EndsBy heard result ending = ⊥
+abbrev pub EndsBy : Kept → Hearing → Result Progress SetFault → Option Ending → Type 0
+EndsBy old Goes result None = Unit {0}
+EndsBy old (Brings bytes) result None = LacksMemory (Brings bytes) old result → ⊥
+EndsBy old (Brings bytes) result (Some (endings.Failed why)) = (why ≡ Memory) × LacksMemory (Brings bytes) old result
+EndsBy old Completes result (Some endings.Completed) = Unit {0}
+EndsBy old (Fails why) result (Some (endings.Failed w)) = w ≡ why
+EndsBy old heard result ending = ⊥
 
 -- an answer is heard: what is kept changes, and the read goes on or ends
 abbrev pub Hears : Kept → Taken → TransferView → Kept → Option Ending → Type 0
 Hears old by transfer new ending =
-    (transfer ≡ by.transfer) × ((result : Result Progress SetFault) × KeepsHeard old by.heard result new × EndsBy by.heard result ending)
+    (transfer ≡ by.transfer) × ((result : Result Progress SetFault) × KeepsHeard old by.heard result new × EndsBy old by.heard result ending)
 
 -- where a read leads to that has ended
 abbrev pub ended_leads : Speed → Place → TransferView → Kept → Ending → Place
@@ -62,9 +58,14 @@ ended_leads speed place t k endings.Completed = completed_leads speed place t k
 ended_leads speed place t k (endings.Failed Stalled) = refused_leads place
 ended_leads speed place t k (endings.Failed why) = stopped place why
 
+-- how an ending was heard
+abbrev pub heard_as : Ending → Hearing
+heard_as endings.Completed = Completes
+heard_as (endings.Failed why) = Fails why
+
 -- a read that has ended leads on, or memory was wanting
 abbrev pub LeadsOn : Speed → Place → TransferView → Kept → Ending → Place → Type 0
-LeadsOn speed place t k ending next = (next ≡ stopped place Memory) ⊎ (next ≡ ended_leads speed place t k ending)
+LeadsOn speed place t k ending next = Leads (heard_as ending) place (ended_leads speed place t k ending) next
 
 -- a host comes to where a read leads that has ended
 pub record GoesOn (limits : LimitView) (speed : Speed) (place : Place) (t : TransferView) (k : Kept) (ending : Ending) (next : Place) (new : HostPhase) : Type 0 where

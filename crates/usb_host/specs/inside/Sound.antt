@@ -1,22 +1,17 @@
--- What holds of a place after the bytes that were gathered.
+-- What holds of a place after the bytes that count.
 use Rattle.std.specs.Prelude.{◌≡◌, ℕ, ◌*◌, ◌<◌, ◌≤◌, List, [], length, Some, None}
 use Rattle.usb_base.specs.Bytes.{AreBytes}
 use Rattle.usb_set.specs.declared.tree.SetKind.{SetKind}
 use Rattle.usb_set.specs.declared.tree.SetKind.TheVariants as kinds
-use Rattle.usb_set.specs.Decoding.{has}
-use Rattle.usb_set.specs.Layout.{Layout}
 use Rattle.usb_file_data.specs.declared.file.DescriptorFile.{DescriptorFile}
 use Rattle.usb_file_data.specs.declared.file.Other.{Other}
 use Rattle.usb_file_data.specs.declared.file.Strings.{Strings}
-use Rattle.usb_file_data.specs.File.{File, file_bytes, whole_set}
+use Rattle.usb_file_data.specs.File.{File, file_bytes}
 use Rattle.usb_file_data.specs.Named.{named_indices}
 use Rattle.usb_file_data.specs.Front.{IsFront, AllSets, StringsFollow, with_strings}
 use Rattle.usb_host.specs.declared.place.Place.{Place}
 use Rattle.usb_host.specs.declared.place.Place.TheVariants.{First, Address, Device, Header, Set, Qualifier, Languages, Text, Configure, Reported, Stopped}
-use Rattle.usb_host.specs.declared.kept.Kept.{Kept}
-use Rattle.usb_host.specs.declared.kept.Kept.TheVariants as kept
 use Rattle.usb_host.specs.Order.{sets_of, declared_sets}
-use Rattle.usb_host.specs.Gathered.{bytes_at}
 
 -- the bytes so far are those of the front of a file
 pub record IsRead (f : DescriptorFile) (b : List ℕ) : Type 0 where
@@ -77,12 +72,3 @@ Holds (Text f s named) b = InStrings f s named b × (length s.texts < length s.l
 Holds (Configure f) b = IsRead f b × (AreBytes b → File f b)
 Holds (Reported f) b = IsRead f b × (AreBytes b → File f b)
 Holds (Stopped trouble) b = Unit {0}
-
--- what a host has gathered up to a place
-abbrev pub IsWhole : Place → Type 0
-IsWhole place = Holds place (bytes_at place) × AreBytes (bytes_at place)
-
--- the set that a decoder has is laid out as it was read
-abbrev pub HasSet : Kept → Type 0
-HasSet (kept.Set (has c) over) = Layout c (whole_set c)
-HasSet k = Unit {0}

@@ -1,13 +1,14 @@
 use Rattle.std.proofs.Common.{◌≤◌, ◌∙◌, IfOk, IfErr, [], refl, sym, ap, subst, arith}
 use Rattle.std.specs.Prelude.{IsSome}
 use Rattle.usb_bus.specs.Run.{fates_used}
+use Rattle.usb_host.specs.Cost.{most}
 use Rattle.usb_host.specs.Steps.{new_host}
 use Rattle.usb_host.proofs.LowerLemmas.{asks_less}
 use Rattle.usb_enumeration.specs.declared.run.Run.{Run}
 use Rattle.usb_enumeration.specs.Enumerate.{HasReadAll, HasCause, IsEnumeration}
 use Rattle.usb_enumeration.specs.Run.{Pair}
 use Rattle.usb_enumeration.specs.Stepping.{both, Moves, LeadsTo}
-use Rattle.usb_enumeration.proofs.EnumerateLemmas.{leads_on, most_few, all_used, memory_alone}
+use Rattle.usb_enumeration.proofs.EnumerateLemmas.{leads_on, most_few, all_used, memory_left, memory_alone}
 use Rattle.usb_enumeration.proofs.enumeration.enumerate.Goals as goal
 
 pub loop-now-init : goal.loop-now-init
@@ -72,28 +73,33 @@ pub returns-clause-run : goal.returns-clause-run
 returns-clause-run c = is_run c
 
 -- by the law of enumerations that have ended
-ends : (c : goal.After-state) → ((result c).attempts ≤ c.args.limits.attempts) × IfOk (result c).outcome (HasReadAll c.args.d.now.file c.args.limits.address (result c).state)
+ends : (c : goal.After-state) → ((result c).attempts ≤ c.args.limits.attempts) × ((result c).transactions ≤ most c.args.limits)
+    × IfOk (result c).outcome (HasReadAll c.args.d.now.file c.args.limits.address (result c).state)
     × IfErr (result c).outcome (λ trouble. HasCause c.args.limits (fates_used c.args.fates.now c.loop-now.transactions) (result c).attempts trouble.why)
 ends c =
     c.an_enumeration_ends_well.ensures c.args.d.now.file c.args.d.now.speed c.args.limits c.args.fates.now (result c)
     c.file-file.ensures.accepted c.known.ensures c.known-2.ensures (is_run c)
 
 pub returns-clause-reads : goal.returns-clause-reads
-returns-clause-reads c = (ends c).1
+returns-clause-reads c = (ends c).2
 
 pub returns-clause-few : goal.returns-clause-few
-returns-clause-few c = (let few = c.loop-now.invariant.few in omega arith)
+returns-clause-few c = (ends c).1
 
 pub returns-clause-attempts : goal.returns-clause-attempts
 returns-clause-attempts c = (ends c).0
 
 pub returns-clause-all : goal.returns-clause-all
 returns-clause-all c =
-    all_used c.args.limits (fates_used c.args.fates.now c.loop-now.transactions) (result c).attempts (result c).outcome (ends c).2
+    all_used c.args.limits (fates_used c.args.fates.now c.loop-now.transactions) (result c).attempts (result c).outcome (ends c).3
 
 pub returns-clause-cause : goal.returns-clause-cause
-returns-clause-cause c = (ends c).2
+returns-clause-cause c = (ends c).3
 
 pub returns-clause-succeeds : goal.returns-clause-succeeds
 returns-clause-succeeds c =
-    memory_alone c.args.limits c.args.fates.now c.loop-now.transactions (result c).attempts (result c).outcome (ends c).2
+    memory_left c.args.limits c.args.fates.now c.loop-now.transactions (result c).attempts (result c).outcome (ends c).3
+
+pub returns-clause-plainly : goal.returns-clause-plainly
+returns-clause-plainly c =
+    memory_alone c.args.limits c.args.fates.now c.loop-now.transactions (result c).attempts (result c).outcome (ends c).3

@@ -1,14 +1,13 @@
-use Rattle.std.proofs.Common.{◌≤◌, subst}
-use Rattle.usb_bus.specs.Run.{fates_used}
-use Rattle.usb_enumeration.proofs.EnumerateLemmas.{Says, says}
+use Rattle.std.proofs.Common.{inl, refl, subst, sym}
+use Rattle.usb_device.specs.Requests.{answer}
+use Rattle.usb_enumeration.specs.Beside.{IsOfBytes}
 use Rattle.usb_enumeration.proofs.laws.an_enumeration_ends_well.Goals as goal
 
 pub returns : goal.returns
-returns c = λ f speed limits fates run accepted fits range (earlier, last, runs, resets, outcome, state).
-    let used = fates_used fates run.transactions in
-    let well = c.a_run_ends_well.ensures.ends limits speed f fates earlier run.transactions last accepted fits range runs in
-    let keeps = c.a_run_ends_well.ensures.limits limits speed f fates earlier run.transactions last range.attempts_from runs in
-    let there = says f limits used last.host.resets last.device.state last.host.phase run.outcome well outcome in
-    let said = subst (λ s. Says f limits used run.attempts s run.outcome) state
-    (subst (λ n. Says f limits used n last.device.state run.outcome) resets there) in
-    (subst (λ n. n ≤ limits.attempts) resets keeps.1, said.0, said.1)
+returns c = λ f speed limits fates run.
+    c.no_owner_changes_an_enumeration.ensures f (answer f) speed limits fates run
+    (record {
+      keeps = c.a_device_keeps_its_table.ensures f;
+      same = λ s q. inl refl;
+      bytes = λ s q refused state. subst (λ o. IsOfBytes o) (sym refused) tt;
+    })

@@ -3,7 +3,7 @@ use Rattle.usb_fields.specs.Packet.{reply_of}
 use Rattle.usb_host.specs.Steps.{Takes, Reading}
 use Rattle.usb_host.specs.inside.Hosts.{view_of}
 use Rattle.usb_host.specs.contracts.host.Host.{the_view}
-use Rattle.usb_host.proofs.StandLemmas.{reads_here, host_takes, host_asks_less, host_reports, reads_sound}
+use Rattle.usb_host.proofs.StandLemmas.{reads_here, host_takes, host_asks_less, reads_sound}
 use Rattle.usb_host.proofs.host.Host.take.Goals as goal
 
 -- src/host.rt: what the read took, and whether another attempt is begun
@@ -29,12 +29,3 @@ returns-clause-fewer c sent due =
     (reads_sound c.self.inside.limits.attempts c.self.inside.resets c.self.inside.reset_due c.self.inside.reading.place c.self.inside.reading.transfer
     c.self.inside.reading.kept c.if-self.false (sym c.if-is_end.ensures) c.self.invariant)
     c.known_answer.ensures c.take.ensures.fewer (returns-clause-taken c)
-
-pub returns-clause-reports : goal.returns-clause-reports
-returns-clause-reports c g none some =
-    host_reports c.args.self.now c.self.inside.reading.place c.take.new.self.place c.self.inside.reading.transfer c.take.new.self.transfer c.self.inside.reading.kept
-    c.take.new.self.kept c.may_try_again-self-inside.result g
-    (subst (λ v. v.phase ≡ Reading c.self.inside.reading.place c.self.inside.reading.transfer c.self.inside.reading.kept) c.self.view_is
-    (reads_here c.self.inside.reset_due c.self.inside.reading.place c.self.inside.reading.transfer c.self.inside.reading.kept c.if-self.false (sym c.if-is_end.ensures)))
-    (c.take.ensures.reports g)
-    some
