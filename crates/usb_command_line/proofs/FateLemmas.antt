@@ -1,8 +1,8 @@
 -- The fates of a text, a letter at a time.
-use Rattle.std.proofs.Common.{◌≡◌, ℕ, ◌+◌, ◌<◌, ◌≤◌, suc, List, [], ◌∷◌, ◌++◌, drop, length, get_or, Option, Some, None, refl, sym, ap, ◌∙◌, append_assoc, append-nil, add-one, drop_of_length-le}
+use Rattle.std.proofs.Common.{◌≡◌, ℕ, ◌+◌, ◌<◌, ◌≤◌, zero, suc, arith, List, [], ◌∷◌, ◌++◌, drop, length, get_or, Option, Some, None, refl, sym, ap, ◌∙◌, append_assoc, append-nil, add-one, drop_of_length-le}
 use Rattle.std.specs.Prelude.{option_map, option_and_then}
 use Rattle.std.proofs.Math.Seq.{drop-cons}
-use Rattle.usb_command_line.specs.Values.{fate_of, fates_of}
+use Rattle.usb_command_line.specs.Values.{BeginsWithFate, fate_of, fates_of}
 use Rattle.usb_bus.specs.declared.fate.Fate.{Fate}
 
 -- the fates so far, and those of the rest
@@ -41,3 +41,9 @@ fates_stop text i done h e =
 pub fates_end : (text : List ℕ) (i : ℕ) (done : List Fate) → length text ≤ i → with_rest done (fates_of (drop i text)) ≡ Some done
 fates_end text i done h =
     ap (with_rest done) (ap fates_of (drop_of_length-le text h) ∙ fates_nil) ∙ ap (λ l. Some l) (append-nil done)
+
+-- a letter has a fate only behind one that has
+pub begins : (text : List ℕ) (i : ℕ) (f : Fate) → i < length text → fate_of (get_or text i 0) ≡ Some f → (0 < i → BeginsWithFate text) → BeginsWithFate text
+begins [] i f h e before = absurd (omega arith)
+begins (letter ∷ rest) zero f h e before = rw e
+begins (letter ∷ rest) (suc i) f h e before = before (omega arith)

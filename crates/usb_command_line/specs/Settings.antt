@@ -1,5 +1,5 @@
 -- What the options of `enumerate` come to.
-use Rattle.std.specs.Prelude.{◌≡◌, ◌&&◌, ◌^◌, ℕ, List, [], IsSome, length, Option, Some, None, is_some, nat_lt, if◌then◌else◌, option_and_then}
+use Rattle.std.specs.Prelude.{◌≡◌, ◌&&◌, ◌^◌, ℕ, List, [], IsSome, IsSomeAnd, length, Option, Some, None, is_some, nat_lt, if◌then◌else◌, option_and_then}
 use Rattle.std.specs.Borrow.{Bor}
 use Rattle.std.specs.Char.{digit_value}
 use Rattle.std.specs.List.{list_all}
@@ -8,7 +8,7 @@ use Rattle.usb_fields.specs.declared.speed.Speed.{Speed}
 use Rattle.usb_fields.specs.declared.speed.Speed.TheVariants.{Full}
 use Rattle.usb_bus.specs.declared.fate.Fate.{Fate}
 use Rattle.usb_transfer.specs.Limits.{LimitView, limit_fault}
-use Rattle.usb_command_line.specs.Values.{fates_of, speed_of}
+use Rattle.usb_command_line.specs.Values.{RefusesFates, fates_of, speed_of}
 use Rattle.usb_command_line.specs.declared.fates.FatesFault.{FatesFault}
 use Rattle.usb_command_line.specs.declared.fates.FatesFault.TheVariants as letters
 use Rattle.usb_command_line.specs.declared.options.Options.{Options}
@@ -74,8 +74,8 @@ pub record IsSettled (o : Options) (s : Settings) : Type 0 where
 abbrev pub RefusesOptions : Options → SettingsFault → Type 0
 RefusesOptions o faults.Number = limits_said o ≡ None
 RefusesOptions o faults.Speed = IsSome (limits_said o) × (speed_said o ≡ None)
-RefusesOptions o faults.Fates = IsSome (limits_said o) × (IsSome (speed_said o) × (fates_said o ≡ None))
-RefusesOptions o faults.Memory = IsSome (limits_said o) × IsSome (speed_said o)
+RefusesOptions o faults.Fates = IsSome (limits_said o) × (IsSome (speed_said o) × IsSomeAnd o.fates (λ text. RefusesFates text.now letters.Letter))
+RefusesOptions o faults.Memory = IsSome (limits_said o) × (IsSome (speed_said o) × IsSomeAnd o.fates (λ text. RefusesFates text.now letters.Memory))
 
 -- a fault of the fates is one of the settings
 abbrev pub settings_fault_of : FatesFault → SettingsFault

@@ -1,5 +1,5 @@
 -- What the values of `--speed` and `--fates` say.
-use Rattle.std.specs.Prelude.{◌≡◌, ℕ, List, [], ◌∷◌, Option, Some, None, ◌==◌, if◌then◌else◌, codes, option_map, option_and_then}
+use Rattle.std.specs.Prelude.{◌≡◌, ℕ, List, [], ◌∷◌, IsSome, Option, Some, None, ◌==◌, if◌then◌else◌, codes, option_map, option_and_then}
 use Rattle.std.specs.Str.{bytes_eq}
 use Rattle.usb_fields.specs.declared.speed.Speed.{Speed}
 use Rattle.usb_fields.specs.declared.speed.Speed.TheVariants.{Low, Full, High}
@@ -31,7 +31,12 @@ unfoldable pub fates_of : List ℕ → Option (List Fate)
 fates_of [] = Some []
 fates_of (letter ∷ rest) = option_and_then (λ fate. option_map (λ fates. fate ∷ fates) (fates_of rest)) (fate_of letter)
 
--- a letter is refused only where one has no fate
+-- the first letter has a fate
+abbrev pub BeginsWithFate : List ℕ → Type 0
+BeginsWithFate [] = ⊥
+BeginsWithFate (letter ∷ rest) = IsSome (fate_of letter)
+
+-- why letters are refused: one has no fate, or memory is wanting, which is asked for at the first one that has a fate
 abbrev pub RefusesFates : List ℕ → FatesFault → Type 0
 RefusesFates text faults.Letter = fates_of text ≡ None
-RefusesFates text faults.Memory = Unit {0}
+RefusesFates text faults.Memory = BeginsWithFate text

@@ -18,7 +18,7 @@ use usb_bus::Fate;
 /// # Errors
 ///
 /// [`FatesFault::Letter`] where a character is none of the five, and [`FatesFault::Memory`] where a growth was
-/// refused.
+/// refused, the first of which is asked for where the first character is one of the five.
 pub fn read_fates(alloc: Global, text: &str) -> Result<Vec<Fate>, FatesFault>
     ensures ok { IfOk result (λ fates. fates_of text.now ≡ Some fates.items) }
     ensures err { IfErr result (RefusesFates text.now) }

@@ -1,8 +1,8 @@
 //! What the options of `enumerate` come to.
-ghost use Rattle.std.specs.Prelude.{◌≡◌, IfErr, IfOk, Some};
+ghost use Rattle.std.specs.Prelude.{◌≡◌, IfErr, IfOk, IsSomeAnd, Some};
 ghost use Rattle.usb_command_line.specs.Settings.{IsSettled, RefusesOptions, byte_said, fates_said, limits_said, settings_fault_of, speed_said, word_said};
 ghost use Rattle.usb_command_line.specs.Numbers.{settings_fault_number, settings_line, settings_status};
-ghost use Rattle.usb_command_line.specs.inside.Choosing.{RefusesFatesSaid};
+ghost use Rattle.usb_command_line.specs.Values.{RefusesFates};
 
 use crate::fates::{FatesFault, read_fates};
 use crate::options::Options;
@@ -38,8 +38,8 @@ pub struct Settings {
 /// # Errors
 ///
 /// The first of these that holds: [`SettingsFault::Number`] where one of the numbers is none that `parse` reads or
-/// is out of its range, [`SettingsFault::Speed`], and [`SettingsFault::Fates`]. [`SettingsFault::Memory`] when out of
-/// memory; then neither of the first two holds.
+/// is out of its range, [`SettingsFault::Speed`], and [`SettingsFault::Fates`]. [`SettingsFault::Memory`] as
+/// [`read_fates`] has it; then neither of the first two holds.
 pub fn settings_of(alloc: Global, options: &Options<'_>) -> Result<Settings, SettingsFault>
     ensures ok { IfOk result (IsSettled options.now) }
     ensures err { IfErr result (RefusesOptions options.now) }
@@ -102,7 +102,7 @@ fn speed_of(options: &Options<'_>) -> Option<Speed>
 /// The fates that are named: none where there is no such option.
 fn fates_of(alloc: Global, options: &Options<'_>) -> Result<Vec<Fate>, FatesFault>
     ensures ok { IfOk result (λ fates. fates_said options.now ≡ Some fates.items) }
-    ensures err { IfErr result (RefusesFatesSaid options.now) }
+    ensures err { IfErr result (λ fault. IsSomeAnd options.now.fates (λ text. RefusesFates text.now fault)) }
 {
     match options.fates {
         Some(letters) => read_fates(alloc, letters),

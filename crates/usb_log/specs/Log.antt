@@ -1,8 +1,10 @@
 -- The log of a run: the lines of its steps, and of no others.
 use Rattle.std.specs.Prelude.{◌≡◌, ℕ, ◌-◌, List, [], ◌∷◌, ◌++◌, Option, Some, codes, if◌then◌else◌}
-use Rattle.std.specs.Io.KnownBytes.{Appends}
+use Rattle.std.specs.Io.KnownBytes.{Appends, Keeps}
 use Rattle.usb_fields.specs.declared.speed.Speed.{Speed}
 use Rattle.usb_file_data.specs.declared.file.DescriptorFile.{DescriptorFile}
+use Rattle.usb_listing.specs.declared.output.OutFault.{OutFault}
+use Rattle.usb_listing.specs.declared.output.OutFault.TheVariants as outs
 use Rattle.usb_listing.specs.Output.{AppendsLess, Held}
 use Rattle.usb_words.specs.Columns.{column}
 use Rattle.usb_fields.specs.Packet.{Reply}
@@ -16,6 +18,7 @@ use Rattle.usb_host.specs.declared.step.Step.{Step}
 use Rattle.usb_host.specs.Steps.{Wanted, WantsNothing, WantsReset, WantsSent, outcome_of, step_in, transfer_in, wanted}
 use Rattle.usb_enumeration.specs.declared.run.Run.{Run}
 use Rattle.usb_enumeration.specs.Run.{Pair, Runs, new_pair}
+use Rattle.usb_enumeration.specs.Stepping.{Moves}
 use Rattle.usb_log.specs.Exchanges.{answered, brought, trouble_why}
 use Rattle.usb_log.specs.Lines.{device_part, device_words, host_words, packets_part, reset_line, transfer_line}
 
@@ -74,22 +77,26 @@ pub record IsLogOf (f : DescriptorFile) (speed : Speed) (limits : LimitView) (fa
   pub state : last.device.state ≡ run.state
   pub text : log ≡ log_text f fates earlier run.transactions last
 
--- this is the log of a run that may go on
-pub record IsLogSoFar (f : DescriptorFile) (speed : Speed) (limits : LimitView) (fates : List Fate) (log : List ℕ) : Type 0 where
-  pub transactions : ℕ
-  pub earlier : List Pair
-  pub last : Pair
-  pub runs : Runs f fates (new_pair limits speed) earlier transactions last
-  pub text : log ≡ log_text f fates earlier transactions last
-
 -- the log of that run was written
 pub record WritesLog (f : DescriptorFile) (speed : Speed) (limits : LimitView) (fates : List Fate) (held holds : Held) (run : Run) : Type 0 where
   pub log : List ℕ
   pub of_run : IsLogOf f speed limits fates run log
   pub written : Appends held holds log
 
--- of the log of a run a front was written, and not all of it
-pub record WritesLogLess (f : DescriptorFile) (speed : Speed) (limits : LimitView) (fates : List Fate) (held holds : Held) : Type 0 where
-  pub log : List ℕ
-  pub so_far : IsLogSoFar f speed limits fates log
-  pub written : AppendsLess held holds log
+-- what was written of lines: a front, which lacks at least their last byte, and nothing where memory was wanting for them
+abbrev pub CutsOff : OutFault → Held → Held → List ℕ → Type 0
+CutsOff outs.Write held holds lines = AppendsLess held holds lines
+CutsOff outs.Memory held holds lines = Keeps held holds
+
+-- The log of a run so far was written. Then a step was made, which leads from `before` to `last`, and its lines were cut off.
+pub record WritesLogLess (f : DescriptorFile) (speed : Speed) (limits : LimitView) (fates : List Fate) (held holds : Held) (fault : OutFault) : Type 0 where
+  pub earlier : List Pair
+  pub before : Pair
+  pub transactions : ℕ
+  pub runs : Runs f fates (new_pair limits speed) earlier transactions before
+  pub last : Pair
+  pub now : ℕ
+  pub moves : Moves f fates before transactions last now
+  pub between : Held
+  pub logged : Appends held between (log_text f fates earlier transactions before)
+  pub written : CutsOff fault between holds (step_lines f fates now before last)

@@ -1,5 +1,5 @@
 //! An enumeration that is logged.
-ghost use Rattle.std.specs.Prelude.{◌≡◌, ◌<◌, ◌≤◌, ◌+◌, ◌^◌, true, IfErr, IfOk, IfSome, IsNone, IsSome, OnErr, OnOk};
+ghost use Rattle.std.specs.Prelude.{◌≡◌, ◌<◌, ◌≤◌, ◌+◌, ◌/◌, ◌^◌, suc, true, IfErr, IfOk, IfSome, IsNone, IsSome, OnOk};
 ghost use Rattle.usb_transfer.specs.declared.why.Why.TheVariants.{Memory};
 ghost use Rattle.usb_bus.specs.Fates.{busies, losses};
 ghost use Rattle.usb_bus.specs.Run.{fates_used};
@@ -9,7 +9,7 @@ ghost use Rattle.usb_enumeration.specs.Enumerate.{HasCause, HasReadAll};
 ghost use Rattle.usb_enumeration.specs.Run.{new_pair};
 ghost use Rattle.usb_enumeration.specs.Stepping.{both, measure};
 ghost use Rattle.usb_log.specs.Log.{WritesLog, WritesLogLess};
-ghost use Rattle.usb_log.specs.inside.Walking.{Breaks, Goes, IsLogged};
+ghost use Rattle.usb_log.specs.inside.Walking.{Breaks, BreaksAt, Goes, IsLogged};
 
 use crate::step_lines::{Before, put_step};
 use crate::turn::Turn;
@@ -49,7 +49,7 @@ impl<'d> Walk<'d> {
         ensures falls { IfOk result (λ o. IfSome o (λ now. measure self.new.host < measure self.old.host)) }
         ensures ended { IfOk result (λ o. IsNone o → IsSome (outcome_of self.new.host.phase) × (both self.new.host self.new.device.device ≡ both self.old.host self.old.device.device) × (W.contents w.new ≡ W.contents w.old)) }
         ensures description { self.new.device.description ≡ self.old.device.description }
-        ensures breaks { OnErr result (Breaks self.old.device.description.file fates.now (both self.old.host self.old.device.device) transactions (W.contents w.old) (W.contents w.new)) }
+        ensures breaks { IfErr result (Breaks self.old.device.description.file fates.now (both self.old.host self.old.device.device) transactions (both self.new.host self.new.device.device) (W.contents w.old) (W.contents w.new)) }
     {
         let before = Before::of(&self.host, &self.device);
         let Some(now) = step(&mut self.host, &mut self.device, fates, transactions) else {
@@ -79,7 +79,7 @@ impl<'d> Walk<'d> {
         ensures logged { IfOk result (λ n. IsLogged self.old.device.description.file self.old.host.speed self.old.host.limits fates.now n (both self.new.host self.new.device.device) (W.contents w.old) (W.contents w.new)) }
         ensures ended { OnOk result (IsSome (outcome_of self.new.host.phase)) }
         ensures few { IfOk result (λ n. n ≤ left_to_ask self.old.host) }
-        ensures err { OnErr result (WritesLogLess self.old.device.description.file self.old.host.speed self.old.host.limits fates.now (W.contents w.old) (W.contents w.new)) }
+        ensures err { IfErr result (BreaksAt (both self.new.host self.new.device.device) self.old.device.description.file self.old.host.speed self.old.host.limits fates.now (W.contents w.old) (W.contents w.new)) }
     {
         let mut transactions = 0u64;
         while let Some(now) = self.step(fates, transactions, w)? {
@@ -106,8 +106,9 @@ impl<'d> Walk<'d> {
 /// # Errors
 ///
 /// `Write` where the writer failed, and `Memory` where the lines of a step took more memory than there is. The
-/// enumeration goes no further then, and a front of its log was written, which lacks at least the last byte of that
-/// step. Want of memory of the host is no error: it ends the enumeration.
+/// enumeration goes no further then. Its log was written up to that step, and of the step's lines a front, which lacks at
+/// least their last byte; of those that memory was wanting for, nothing. Want of memory of the host is no error: it ends
+/// the enumeration.
 pub fn enumerate_logged<W: Write>(
     alloc: Global,
     d: &Description,
@@ -116,7 +117,7 @@ pub fn enumerate_logged<W: Write>(
     w: &mut W,
 ) -> Result<Run, OutFault>
     ensures log { IfOk result (WritesLog d.now.file d.now.speed limits fates.now (W.contents w.old) (W.contents w.new)) }
-    ensures err { OnErr result (WritesLogLess d.now.file d.now.speed limits fates.now (W.contents w.old) (W.contents w.new)) }
+    ensures err { IfErr result (WritesLogLess d.now.file d.now.speed limits fates.now (W.contents w.old) (W.contents w.new)) }
 
     // What holds of each enumeration.
     ensures reads { IfOk result (λ run. IfOk run.outcome (HasReadAll d.now.file limits.address run.state)) }
@@ -124,7 +125,7 @@ pub fn enumerate_logged<W: Write>(
     ensures attempts { IfOk result (λ run. run.attempts ≤ limits.attempts) }
     ensures all { IfOk result (λ run. IfErr run.outcome (λ trouble. blames_bus trouble.why ≡ true → run.attempts ≡ limits.attempts)) }
     ensures cause { IfOk result (λ run. IfErr run.outcome (λ trouble. HasCause limits (fates_used fates.now run.transactions) run.attempts trouble.why)) }
-    ensures succeeds { IfOk result (λ run. losses fates.now < limits.attempts → busies fates.now ≤ limits.naks → IfErr run.outcome (λ trouble. trouble.why ≡ Memory)) }
+    ensures succeeds { IfOk result (λ run. losses fates.now + busies fates.now / suc limits.naks < limits.attempts → IfErr run.outcome (λ trouble. trouble.why ≡ Memory)) }
 {
     // For the proof alone: what holds of a description, of limits and of every run.
     let _file = d.file();

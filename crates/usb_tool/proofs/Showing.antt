@@ -23,7 +23,7 @@ use Rattle.usb_tool.specs.Faults.{fault_by_why, fault_of_input, fault_of_output,
 use Rattle.usb_tool.specs.inside.Intake.{IsNoSet}
 use Rattle.usb_tool.specs.inside.Telling.{IsCutShort}
 use Rattle.usb_tool.specs.Checks.{RefusesToCheck}
-use Rattle.usb_tool.specs.Explains.{Explains, ExplainsBroken, ExplainsInput, RefusesToExplain, WritesBroken}
+use Rattle.usb_tool.specs.Explains.{Explains, RefusesToExplain}
 use Rattle.usb_tool.specs.Shows.{IsListing, RefusesToShow, WritesListing, WritesListingFront, WritesListingLess, input_lines}
 use Rattle.usb_tool.specs.declared.fault.ToolFault.{ToolFault}
 use Rattle.usb_tool.specs.declared.fault.ToolFault.TheVariants as faults

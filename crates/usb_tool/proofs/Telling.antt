@@ -1,5 +1,5 @@
 -- On telling what came of an enumeration.
-use Rattle.std.proofs.Common.{◌≡◌, ◌≢◌, ℕ, List, ◌∷◌, ◌++◌, ◌<◌, length, length-append, arith, Some, Result, Ok, Err, refl, sym, ap, ◌∙◌, inl, inr, subst, append_assoc}
+use Rattle.std.proofs.Common.{◌≡◌, ◌≢◌, ℕ, List, [], ◌∷◌, ◌++◌, ◌<◌, length, length-append, arith, Some, Result, Ok, Err, refl, sym, ap, ◌∙◌, inl, inr, subst, append_assoc}
 use Rattle.std.specs.Prelude.{IfErr, IfOk}
 use Rattle.std.specs.Io.KnownBytes.{Appends}
 use Rattle.usb_fields.specs.declared.speed.Speed.{Speed}
@@ -8,14 +8,13 @@ use Rattle.usb_file_data.specs.File.{File}
 use Rattle.usb_listing.specs.declared.output.OutFault.{OutFault}
 use Rattle.usb_listing.specs.declared.output.OutFault.TheVariants as outs
 use Rattle.usb_listing.specs.Output.{AppendsLess, Held}
-use Rattle.usb_listing.specs.Output.{AppendsFront}
-use Rattle.usb_listing.proofs.Pages.{appends_kept, appends_more, less_is_front, stopped}
+use Rattle.usb_listing.proofs.Pages.{appends_more, appends_nothing, less_is_front, stopped}
 use Rattle.usb_description.specs.Accepted.{Accepted, Refuses, refusal_of}
 use Rattle.usb_description.specs.declared.fault.DescriptionFault.{DescriptionFault}
 use Rattle.usb_description.specs.declared.fault.DescriptionFault.TheVariants as refusals
 use Rattle.usb_enumeration.specs.declared.run.Run.{Run}
 use Rattle.usb_host.specs.declared.step.Trouble.{Trouble}
-use Rattle.usb_tool.specs.Enumerations.{Conditions, IsRun, RefusesToEnumerate, Tells, WritesResult, run_status, run_text}
+use Rattle.usb_tool.specs.Enumerations.{Conditions, IsRun, RefusesToEnumerate, StopsShort, Tells, WritesResult, WritesResultFront, run_status, run_text}
 use Rattle.usb_tool.specs.Faults.{fault_of_output}
 use Rattle.usb_tool.specs.ResultLines.{refused_line, success_line, trouble_line}
 use Rattle.usb_tool.specs.inside.Telling.{EndsWith, IsCutShort}
@@ -41,17 +40,17 @@ first_reason f s refusals.Unwritable why known = why
 
 -- what is told of a file that no device can be made of
 pub refusal_told : (c : Conditions) (f : DescriptorFile) (b : List ℕ) (fault : DescriptionFault) → File f b
-    → refusal_of f c.speed ≡ Some fault → Tells c b (refused_line fault) 1
+    → refusal_of f c.speed ≡ Some fault → Tells c b [] (refused_line fault) 1
 refusal_told c f b fault layout why =
-    record { file = f; layout = layout; told = inl (record { fault = fault; why = why; told = refl; ended = refl }) }
+    record { file = f; layout = layout; told = inl (record { fault = fault; why = why; told = refl; ended = refl }, refl) }
 
 -- what is told of a run
 pub run_told : (c : Conditions) (f : DescriptorFile) (b : List ℕ) (run : Run) (log : List ℕ) → File f b → Accepted f c.speed
-    → IsRun c.logs c f run log → Tells c b (log ++ run_text run.outcome run) (run_status run.outcome)
+    → IsRun c.logs c f run log → Tells c b log (run_text run.outcome run) (run_status run.outcome)
 run_told c f b run log layout accepted enumerated = record {
   file = f;
   layout = layout;
-  told = inr (record { run = run; log = log; accepted = accepted; enumerated = enumerated; told = refl; ended = refl });
+  told = inr (record { run = run; accepted = accepted; enumerated = enumerated; told = refl; ended = refl });
 }
 
 -- a text that was not written to its end
@@ -69,31 +68,30 @@ less_after a b c s t whole less = record {
   written = appends_more a b c s less.front whole less.written;
 }
 
-cut_is_refused : (c : Conditions) (b text : List ℕ) (status : ℕ) (held holds : Held) (e : ToolFault) → Tells c b text status
-    → IsCutShort text held holds e → RefusesToEnumerate c b held holds e
-cut_is_refused c b text status held holds faults.Write tells front =
-    inl (record { text = text; status = status; tells = tells; written = front })
-cut_is_refused c b text status held holds faults.Memory tells (inl nothing) = inl nothing
-cut_is_refused c b text status held holds faults.Memory tells (inr less) =
-    inr (inl (record { text = text; status = status; tells = tells; written = less }))
-cut_is_refused c b text status held holds faults.Read tells cut = elim cut [ ]
-cut_is_refused c b text status held holds faults.TooLarge tells cut = elim cut [ ]
-cut_is_refused c b text status held holds (faults.File fault) tells cut = elim cut [ ]
-cut_is_refused c b text status held holds (faults.List fault) tells cut = elim cut [ ]
-cut_is_refused c b text status held holds (faults.Set fault) tells cut = elim cut [ ]
-cut_is_refused c b text status held holds (faults.Trailing at) tells cut = elim cut [ ]
-
-module _ (c : Conditions) (b text : List ℕ) (ended : ℕ) (held holds : Held) (tells : Tells c b text ended) where
+module _ (c : Conditions) (b log text : List ℕ) (ended : ℕ) (held between holds : Held) (tells : Tells c b log text ended) (logged : Appends held between log) where
   -- what was written is what comes of the bytes
-  pub result_written : (r : Result ℕ ToolFault) → IfOk r (EndsWith text ended held holds) → IfOk r (WritesResult c b held holds)
+  pub result_written : (r : Result ℕ ToolFault) → IfOk r (EndsWith text ended between holds) → IfOk r (WritesResult c b held holds)
   result_written (Ok status) (written, is) =
-      record { text = text; tells = subst (Tells c b text) (sym is) tells; written = written }
+      record { log = log; text = text; tells = subst (Tells c b log text) (sym is) tells; written = appends_more held between holds log text logged written }
   result_written (Err fault) ends = tt
 
+  cut_off : (fault : OutFault) → StopsShort fault between holds text → WritesResultFront c b held holds fault
+  cut_off fault short =
+      record { log = log; text = text; status = ended; tells = tells; between = between; logged = logged; written = short }
+
   -- and where it was cut short, a front of that
-  pub result_cut : (r : Result ℕ ToolFault) → IfErr r (IsCutShort text held holds) → IfErr r (RefusesToEnumerate c b held holds)
-  result_cut (Ok status) cut = tt
-  result_cut (Err fault) cut = cut_is_refused c b text ended held holds fault tells cut
+  pub result_cut : (r : Result ℕ ToolFault) → 0 < length text → IfErr r (IsCutShort text between holds) → IfErr r (RefusesToEnumerate c b held holds)
+  result_cut (Ok status) some cut = tt
+  result_cut (Err faults.Write) some front = inr (cut_off outs.Write front)
+  result_cut (Err faults.Memory) some (inl keeps) =
+      inr (inr (cut_off outs.Memory (stopped between holds text [] text refl (appends_nothing between holds keeps) some)))
+  result_cut (Err faults.Memory) some (inr less) = inr (inr (cut_off outs.Memory less))
+  result_cut (Err faults.Read) some cut = elim cut [ ]
+  result_cut (Err faults.TooLarge) some cut = elim cut [ ]
+  result_cut (Err (faults.File fault)) some cut = elim cut [ ]
+  result_cut (Err (faults.List fault)) some cut = elim cut [ ]
+  result_cut (Err (faults.Set fault)) some cut = elim cut [ ]
+  result_cut (Err (faults.Trailing at)) some cut = elim cut [ ]
 
 -- the line of a result is there
 success_some : (run : Run) → 0 < length (success_line run)
@@ -108,30 +106,10 @@ pub run_text_some : (o : Result DescriptorFile Trouble) (run : Run) → 0 < leng
 run_text_some (Ok f) run = rw length-append (omega (arith, success_some run))
 run_text_some (Err trouble) run = trouble_some trouble run
 
--- a text, and after it a front of another one
-front_after : (a b c : Held) (s t : List ℕ) → Appends a b s → AppendsFront b c t → AppendsFront a c (s ++ t)
-front_after a b c s t whole f = record {
-  front = s ++ f.front;
-  rest = f.rest;
-  parts = ap (λ l. s ++ l) f.parts ∙ sym (append_assoc s f.front f.rest);
-  written = appends_more a b c s f.front whole f.written;
-}
-
--- a text after what was written before
-pub ends_after : (a b c : Held) (log text : List ℕ) (ended status : ℕ) → Appends a b log → EndsWith text ended b c status
-    → EndsWith (log ++ text) ended a c status
-ends_after a b c log text ended status before (written, is) = (appends_more a b c log text before written, is)
-
--- and one that was cut short
-pub cut_after : (a b c : Held) (log text : List ℕ) (e : ToolFault) → 0 < length text → Appends a b log → IsCutShort text b c e
-    → IsCutShort (log ++ text) a c e
-cut_after a b c log text faults.Write some before cut = front_after a b c log text before cut
-cut_after a b c log text faults.Memory some before (inl keeps) =
-    inr (stopped a c (log ++ text) log text refl (appends_kept a b c log before keeps) some)
-cut_after a b c log text faults.Memory some before (inr less) = inr (less_after a b c log text before less)
-cut_after a b c log text faults.Read some before cut = elim cut [ ]
-cut_after a b c log text faults.TooLarge some before cut = elim cut [ ]
-cut_after a b c log text (faults.File fault) some before cut = elim cut [ ]
-cut_after a b c log text (faults.List fault) some before cut = elim cut [ ]
-cut_after a b c log text (faults.Set fault) some before cut = elim cut [ ]
-cut_after a b c log text (faults.Trailing at) some before cut = elim cut [ ]
+pub refused_some : (fault : DescriptionFault) → 0 < length (refused_line fault)
+unfolding refused_line
+refused_some (refusals.Finding finding) = rw length-append (omega arith)
+refused_some refusals.Texts = rw length-append (omega arith)
+refused_some refusals.Speed = rw length-append (omega arith)
+refused_some refusals.Memory = rw length-append (omega arith)
+refused_some refusals.Unwritable = rw length-append (omega arith)

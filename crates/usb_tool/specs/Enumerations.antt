@@ -7,6 +7,8 @@ use Rattle.usb_file_data.specs.File.{File}
 use Rattle.usb_file.specs.FileFaults.{FileFaulty}
 use Rattle.usb_file.specs.declared.laws.TheConstants.{FILE_LIMIT}
 use Rattle.usb_listing.specs.Listing.{file_lines}
+use Rattle.usb_listing.specs.declared.output.OutFault.{OutFault}
+use Rattle.usb_listing.specs.declared.output.OutFault.TheVariants as outs
 use Rattle.usb_listing.specs.Output.{AppendsFront, AppendsLess, Held}
 use Rattle.usb_transfer.specs.Limits.{LimitView}
 use Rattle.usb_description.specs.Accepted.{Accepted, refusal_of}
@@ -65,56 +67,58 @@ abbrev pub IsRun : Bool → Conditions → DescriptorFile → Run → List ℕ �
 IsRun false c f run log = IsEnumeration f c.speed c.limits c.fates run × (log ≡ [])
 IsRun true c f run log = IsLogOf f c.speed c.limits c.fates run log
 
--- a device was made of the file and enumerated, and the text is the log of that run, if it is asked for, and what is told
+-- a device was made of the file and enumerated, this is the log of that run, if it is asked for, and the text what is told
 -- of it
-pub record TellsRun (c : Conditions) (f : DescriptorFile) (text : List ℕ) (status : ℕ) : Type 0 where
+pub record TellsRun (c : Conditions) (f : DescriptorFile) (log text : List ℕ) (status : ℕ) : Type 0 where
   pub run : Run
-  pub log : List ℕ
   pub accepted : Accepted f c.speed
   pub enumerated : IsRun c.logs c f run log
-  pub told : text ≡ log ++ run_text run.outcome run
+  pub told : text ≡ run_text run.outcome run
   pub ended : status ≡ run_status run.outcome
 
--- the text tells what comes of the file that has these bytes
-pub record Tells (c : Conditions) (b text : List ℕ) (status : ℕ) : Type 0 where
+-- the log, if there is one, and the text behind it tell what comes of the file that has these bytes
+pub record Tells (c : Conditions) (b log text : List ℕ) (status : ℕ) : Type 0 where
   pub file : DescriptorFile
   pub layout : File file b
-  pub told : TellsRefusal c file text status ⊎ TellsRun c file text status
+  pub told : (TellsRefusal c file text status × (log ≡ [])) ⊎ TellsRun c file log text status
 
 -- what comes of the bytes was written
 pub record WritesResult (c : Conditions) (b : List ℕ) (held holds : Held) (status : ℕ) : Type 0 where
+  pub log : List ℕ
   pub text : List ℕ
-  pub tells : Tells c b text status
-  pub written : Appends held holds text
+  pub tells : Tells c b log text status
+  pub written : Appends held holds (log ++ text)
 
--- a front of what comes of the bytes was written
-pub record WritesResultFront (c : Conditions) (b : List ℕ) (held holds : Held) : Type 0 where
+-- a front of a text was written, which is left unfinished out of memory
+abbrev pub StopsShort : OutFault → Held → Held → List ℕ → Type 0
+StopsShort outs.Write held holds text = AppendsFront held holds text
+StopsShort outs.Memory held holds text = AppendsLess held holds text
+
+-- of what comes of the bytes the log was written, and a front of the text behind it
+pub record WritesResultFront (c : Conditions) (b : List ℕ) (held holds : Held) (fault : OutFault) : Type 0 where
+  pub log : List ℕ
   pub text : List ℕ
   pub status : ℕ
-  pub tells : Tells c b text status
-  pub written : AppendsFront held holds text
+  pub tells : Tells c b log text status
+  pub between : Held
+  pub logged : Appends held between log
+  pub written : StopsShort fault between holds text
 
--- a front of what comes of the bytes was written, and not all of it
-pub record WritesResultLess (c : Conditions) (b : List ℕ) (held holds : Held) : Type 0 where
-  pub text : List ℕ
-  pub status : ℕ
-  pub tells : Tells c b text status
-  pub written : AppendsLess held holds text
-
--- a log is asked for, and of that of an enumeration which goes on a front was written, and not all of it
-pub record WritesLogFront (c : Conditions) (b : List ℕ) (held holds : Held) : Type 0 where
+-- a log is asked for, and a step of the enumeration broke it
+pub record WritesLogFront (c : Conditions) (b : List ℕ) (held holds : Held) (fault : OutFault) : Type 0 where
   pub file : DescriptorFile
   pub layout : File file b
   pub accepted : Accepted file c.speed
   pub asked : c.logs ≡ true
-  pub written : WritesLogLess file c.speed c.limits c.fates held holds
+  pub written : WritesLogLess file c.speed c.limits c.fates held holds fault
 
--- How bytes are not enumerated: nothing was written where they are no file, and else a front of what comes of them, or of
--- the log so far. It is left unfinished out of memory.
+-- How bytes are not enumerated: nothing was written where they are no file, or where memory was wanting for a device, and
+-- else a front of what comes of them, or of the log so far.
 abbrev pub RefusesToEnumerate : Conditions → List ℕ → Held → Held → ToolFault → Type 0
 RefusesToEnumerate c b held holds (faults.File fault) = FileFaulty b fault.at fault.why × Keeps held holds
-RefusesToEnumerate c b held holds faults.Write = WritesResultFront c b held holds ⊎ WritesLogFront c b held holds
-RefusesToEnumerate c b held holds faults.Memory = Keeps held holds ⊎ (WritesResultLess c b held holds ⊎ WritesLogFront c b held holds)
+RefusesToEnumerate c b held holds faults.Write = WritesLogFront c b held holds outs.Write ⊎ WritesResultFront c b held holds outs.Write
+RefusesToEnumerate c b held holds faults.Memory =
+    Keeps held holds ⊎ (WritesLogFront c b held holds outs.Memory ⊎ WritesResultFront c b held holds outs.Memory)
 RefusesToEnumerate c b held holds fault = ⊥
 
 -- all was read, at most what a file can have, and what comes of it was written

@@ -68,7 +68,8 @@ Ends line does fails words from to held holds status =
 abbrev pub WithStatusZero : (Left → Left → Held → Held → Type 0) → Work
 WithStatusZero does from to held holds status = does from to held holds × (status ≡ 0)
 
--- the words are no command, for one of the reasons that clap has or out of memory; nothing is read
+-- the words are no command, for one of the reasons that clap has, or memory is wanting, which is asked for before any
+-- word is looked at; nothing is read
 pub record LineIsRefused (words : List (String Global)) (from to : Left) (held holds : Held) (status : ℕ) : Type 0 where
   pub kind : ErrorKind
   pub why : (kind ≡ kinds.OutOfMemory) ⊎ IsAmong kind (fault_of usbdesc_app (word_texts words))

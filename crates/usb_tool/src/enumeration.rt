@@ -73,8 +73,8 @@ pub fn run_enumerate<R: Read, W: Write>(
 ///
 /// # Errors
 ///
-/// Those of `run_enumerate`. Where `Write` or `Memory` comes within the log, the enumeration goes no further: a front
-/// of the log was written, and not all of its last step.
+/// Those of `run_enumerate`. Where `Write` or `Memory` comes within the log, the enumeration goes no further: the log was
+/// written up to a step, and of that step's lines a front, or nothing out of memory.
 pub fn run_enumerate_logged<R: Read, W: Write>(
     alloc: Global,
     r: &mut R,

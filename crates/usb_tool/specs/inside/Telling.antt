@@ -1,6 +1,7 @@
 -- Telling what came of an enumeration.
 use Rattle.std.specs.Prelude.{◌≡◌, ℕ, ◌⊎◌, List, true}
 use Rattle.std.specs.Io.KnownBytes.{Appends, Keeps}
+use Rattle.usb_listing.specs.declared.output.OutFault.TheVariants as outs
 use Rattle.usb_listing.specs.Output.{AppendsFront, AppendsLess, Held}
 use Rattle.usb_file_data.specs.declared.file.DescriptorFile.{DescriptorFile}
 use Rattle.usb_enumeration.specs.declared.run.Run.{Run}
@@ -25,8 +26,8 @@ pub record MakesRun (c : Conditions) (f : DescriptorFile) (held holds : Held) (r
   pub enumerated : IsRun c.logs c f run log
   pub written : Appends held holds log
 
--- of the log of its enumeration not all was written
+-- a log is asked for, and a step of the enumeration broke it
 abbrev pub BreaksRun : Conditions → DescriptorFile → Held → Held → ToolFault → Type 0
-BreaksRun c f held holds faults.Write = (c.logs ≡ true) × WritesLogLess f c.speed c.limits c.fates held holds
-BreaksRun c f held holds faults.Memory = (c.logs ≡ true) × WritesLogLess f c.speed c.limits c.fates held holds
+BreaksRun c f held holds faults.Write = (c.logs ≡ true) × WritesLogLess f c.speed c.limits c.fates held holds outs.Write
+BreaksRun c f held holds faults.Memory = (c.logs ≡ true) × WritesLogLess f c.speed c.limits c.fates held holds outs.Memory
 BreaksRun c f held holds fault = ⊥

@@ -2,7 +2,7 @@ use Rattle.std.proofs.Common.{◌≡◌, ◌∙◌, ap, ap₂, codes}
 use Rattle.std.proofs.lemmas.Result.{IfOk-weaker}
 use Rattle.clap.specs.Words.{App, app_of, new_app, with_subcommand}
 use Rattle.clap.specs.Simple.{app_of_fields}
-use Rattle.usb_command_line.specs.Lines.{enumerate_app, explain_app, requiring, usbdesc_app}
+use Rattle.usb_command_line.specs.Lines.{requiring}
 use Rattle.usb_command_line.proofs.command.usbdesc.Goals as goal
 
 -- a command with one more subcommand

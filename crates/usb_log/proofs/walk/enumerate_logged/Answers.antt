@@ -2,7 +2,7 @@ use Rattle.std.proofs.Common.{◌≤◌, IfOk, IfErr, rules}
 use Rattle.usb_bus.specs.Run.{fates_used}
 use Rattle.usb_enumeration.specs.declared.run.Run.{Run}
 use Rattle.usb_enumeration.specs.Enumerate.{HasCause, HasReadAll}
-use Rattle.usb_enumeration.proofs.EnumerateLemmas.{all_used, memory_alone}
+use Rattle.usb_enumeration.proofs.EnumerateLemmas.{all_used, memory_left}
 use Rattle.usb_log.specs.Log.{WritesLog}
 use Rattle.usb_log.proofs.WalkLemmas.{logged_ends}
 use Rattle.usb_log.proofs.walk.enumerate_logged.Given.{Over}
@@ -45,4 +45,4 @@ returns-clause-cause g c = (ends g c).2
 
 pub returns-clause-succeeds : goal.returns-clause-succeeds
 returns-clause-succeeds g c =
-    memory_alone c.args.limits c.args.fates.now (run_of g c).transactions (run_of g c).attempts (run_of g c).outcome (ends g c).2
+    memory_left c.args.limits c.args.fates.now (run_of g c).transactions (run_of g c).attempts (run_of g c).outcome (ends g c).2

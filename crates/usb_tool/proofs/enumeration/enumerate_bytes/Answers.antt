@@ -1,10 +1,10 @@
 use Rattle.std.proofs.Common.{◌≢◌, rules, subst}
-use Rattle.std.proofs.lemmas.Result.{IfErr-weaker, IfOk-weaker}
 use Rattle.usb_description.specs.Described.{Described}
 use Rattle.usb_description.specs.declared.fault.DescriptionFault.TheVariants.{Memory}
-use Rattle.usb_tool.specs.Enumerations.{conditions_of, run_text}
+use Rattle.usb_listing.proofs.Pages.{appends_nothing, keeps_refl}
+use Rattle.usb_tool.specs.Enumerations.{conditions_of}
 use Rattle.usb_tool.specs.inside.Telling.{MakesRun}
-use Rattle.usb_tool.proofs.Telling.{cut_after, ends_after, first_reason, refusal_told, result_cut, result_written, run_text_some, run_told}
+use Rattle.usb_tool.proofs.Telling.{first_reason, refusal_told, refused_some, result_cut, result_written, run_text_some, run_told}
 use Rattle.usb_tool.proofs.enumeration.enumerate_bytes.Goals as goal
 
 pub returns-in-Err : goal.returns-in-Err
@@ -12,13 +12,15 @@ returns-in-Err g c =
     let known : c.in-Err.fault ≢ Memory = search rules in
     let why = first_reason c.in_ok-file.file c.args.speed c.in-Err.fault c.in-Err.ensures.err known in
     let told = refusal_told (conditions_of c.args.bus.is_logged c.args.limits c.args.speed c.args.bus.fates.now) c.in_ok-file.file c.args.bytes.now c.in-Err.fault c.in_ok-file.ensures.ok why in
+    let held = g.W.Write.contents c.args.w.now in
+    let unlogged = appends_nothing held held (keeps_refl held) in
     record {
-      ok = result_written _ _ _ _ _ _ told _ c.tell_refusal.ensures.ok;
-      err = result_cut _ _ _ _ _ _ told _ c.tell_refusal.ensures.err;
+      ok = result_written _ _ _ _ _ _ _ _ told unlogged _ c.tell_refusal.ensures.ok;
+      err = result_cut _ _ _ _ _ _ _ _ told unlogged _ (refused_some c.in-Err.fault) c.tell_refusal.ensures.err;
     }
 
-pub returns-clause-ok : goal.returns-clause-ok
-returns-clause-ok g c =
+pub returns : goal.returns
+returns g c =
     let run = c.in_ok-run.run' in
     let held = g.W.Write.contents c.args.w.now in
     let mid = g.W.Write.contents c.run_over.new.w in
@@ -28,18 +30,7 @@ returns-clause-ok g c =
     in
     let told = run_told (conditions_of c.args.bus.is_logged c.args.limits c.args.speed c.args.bus.fates.now) c.in_ok-file.file c.args.bytes.now run made.log c.in_ok-file.ensures.ok
     c.in-Ok.ensures.accepted made.enumerated in
-    result_written _ _ _ _ _ _ told _ (IfOk-weaker c.tell_run.result _ _ (λ status. ends_after held mid _ made.log (run_text run.outcome run) _ status made.written) c.tell_run.ensures.ok)
-
-pub returns-clause-err : goal.returns-clause-err
-returns-clause-err g c =
-    let run = c.in_ok-run.run' in
-    let held = g.W.Write.contents c.args.w.now in
-    let mid = g.W.Write.contents c.run_over.new.w in
-    let made =
-    subst (λ (d : Described). MakesRun (conditions_of c.args.bus.is_logged c.args.limits d.speed c.args.bus.fates.now) d.file held mid run) c.in-Ok.ensures.ok
-    c.in_ok-run.ensures.ok
-    in
-    let told = run_told (conditions_of c.args.bus.is_logged c.args.limits c.args.speed c.args.bus.fates.now) c.in_ok-file.file c.args.bytes.now run made.log c.in_ok-file.ensures.ok
-    c.in-Ok.ensures.accepted made.enumerated in
-    result_cut _ _ _ _ _ _ told _
-    (IfErr-weaker c.tell_run.result _ _ (λ fault. cut_after held mid _ made.log (run_text run.outcome run) fault (run_text_some run.outcome run) made.written) c.tell_run.ensures.err)
+    record {
+      ok = result_written _ _ _ _ _ _ _ _ told made.written _ c.tell_run.ensures.ok;
+      err = result_cut _ _ _ _ _ _ _ _ told made.written _ (run_text_some run.outcome run) c.tell_run.ensures.err;
+    }

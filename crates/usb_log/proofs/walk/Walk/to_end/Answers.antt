@@ -1,8 +1,8 @@
 use Rattle.std.proofs.Common.{◌≤◌, ◌+◌, ◌∙◌, refl, arith, subst, IfSome}
 use Rattle.usb_host.specs.Cost.{left_to_ask}
-use Rattle.usb_listing.proofs.Pages.{on_err}
+use Rattle.usb_description.proofs.Exits.{exit_err}
 use Rattle.usb_enumeration.specs.Stepping.{both}
-use Rattle.usb_log.specs.inside.Walking.{Breaks, Goes}
+use Rattle.usb_log.specs.inside.Walking.{Breaks, BreaksAt, Goes}
 use Rattle.usb_log.proofs.WalkLemmas.{logged_less, logged_none, logged_on}
 use Rattle.usb_log.proofs.walk.Walk.to_end.Goals as goal
 
@@ -45,6 +45,9 @@ returns-in_err-now-clause-err g c =
     let held = g.W.Write.contents c.loop-now.w in
     let holds = g.W.Write.contents c.step.new.w in
     let before = both old.host old.device.device in
-    let broken = subst (λ d. Breaks d.file c.args.fates.now before c.loop-now.transactions held holds) c.loop-now.invariant.description c.in_err-now.ensures.breaks in
-    on_err _ (logged_less s.device.description.file s.host.speed s.host.limits c.args.fates.now before c.loop-now.transactions
-    (g.W.Write.contents c.args.w.now) held holds c.loop-now.invariant.logged broken)
+    let after = both c.step.new.self.host c.step.new.self.device.device in
+    let fault = c.in_err-now.field-0.0 in
+    let broken = subst (λ d. Breaks d.file c.args.fates.now before c.loop-now.transactions after held holds fault) c.loop-now.invariant.description c.in_err-now.ensures.breaks in
+    exit_err c.from_residual.result fault (BreaksAt after s.device.description.file s.host.speed s.host.limits c.args.fates.now (g.W.Write.contents c.args.w.now) holds)
+    c.from_residual.ensures.1 (logged_less s.device.description.file s.host.speed s.host.limits c.args.fates.now before after c.loop-now.transactions
+    (g.W.Write.contents c.args.w.now) held holds fault c.loop-now.invariant.logged broken)
