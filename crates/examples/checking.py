@@ -75,6 +75,7 @@ def of_set(rule, c):
     s, numbers = c.settings, c.numbers()
     pairs = [(x.number, x.alternate) for x in s]
     owner = lambda i: s[i].number
+    endpoints = c.endpoints()
     if rule == 1:
         return [(0, 0)] * (c.declared != len(numbers))
     if rule == 2:
@@ -87,19 +88,19 @@ def of_set(rule, c):
     if rule == 5:
         return [(i, 0) for i, x in enumerate(s) if x.declared != len(x.endpoints)]
     if rule == 6:
-        return [(i, j) for i, j, a, _ in c.endpoints() if a % 16 == 0 or a // 16 % 8]
+        return [(i, j) for i, j, a, _ in endpoints if a % 16 == 0 or a // 16 % 8]
     if rule == 7:
-        return [(i, j) for i, j, a, _ in c.endpoints() if a in [b for b, _ in s[i].endpoints[:j]]]
+        return [(i, j) for i, j, a, _ in endpoints if a in [b for b, _ in s[i].endpoints[:j]]]
     if rule == 8:
         return [
             (i, j)
-            for i, j, a, _ in c.endpoints()
-            if any(b == a and owner(k) != owner(i) for k, _, b, _ in c.endpoints() if k < i)
+            for i, j, a, _ in endpoints
+            if any(b == a and owner(k) != owner(i) for k, _, b, _ in endpoints if k < i)
         ]
     if rule == 9:
         return [(0, 0)] * (c.attributes < 128 or c.attributes % 32 != 0)
     if rule == 12:
-        return [(i, j) for i, j, _, size in c.endpoints() if size // 8192]
+        return [(i, j) for i, j, _, size in endpoints if size // 8192]
     if rule == 13:
         return [
             (i, 0)

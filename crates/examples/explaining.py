@@ -181,11 +181,11 @@ class Explanation:
     def __init__(self, kind, data, speed=None, fault=None, brief=False, places=True):
         self.kind, self.data, self.asked, self.brief, self.places = kind, data, speed, brief, places
         self.fault, self.lines = fault, []
-        self.found = []
+        self.found = set()
         self.names, self.string_places = {}, None
         if not fault:
             lines = checking.findings(kind, data).splitlines()
-            self.found = [line.split() for line in lines if line != "no findings"]
+            self.found = {tuple(line.split()) for line in lines if line != "no findings"}
             if kind == "file":
                 self.find_names()
         self.device, self.qualifier, self.languages = None, None, None
@@ -242,7 +242,7 @@ class Explanation:
                 self.lines.append(" " * (2 * depth + 4) + f"{name:<22} {value}")
 
     def breaks(self, rule, part, set_=0, setting=0, endpoint=0):
-        return [f"V{rule}", part, str(set_), str(setting), str(endpoint)] in self.found
+        return (f"V{rule}", part, str(set_), str(setting), str(endpoint)) in self.found
 
     def findings(self, depth, texts, part, set_=0, setting=0, endpoint=0):
         for rule, text in texts:

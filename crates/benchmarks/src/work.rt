@@ -6,159 +6,89 @@ use crate::host::{Until, drive_again, take_naks, take_packets, talk_again};
 use crate::listings::assemble_again;
 use crate::rules::{check_file, check_sets};
 use crate::transfers::{refuse_again, transfer_again};
-use anyhow::Result;
+use anyhow::{Result, bail};
 use std::alloc::Global;
-use std::{fmt, result};
+use std::result;
 use usb_file::{list_set, read_file, write_file};
 use usb_set::{Configuration, Decoder, SetFault};
 use usb_set_encoder::encode;
 
-/// One kind of work. Making and freeing of what it makes are part of it.
-#[derive(Clone, Copy, PartialEq, Eq)]
-pub(crate) enum Work {
-    DecodeWhole,
-    DecodePieces,
-    DecodeBytes,
-    Encode,
-    List,
-    ReadFile,
-    WriteFile,
-    WriteGiven,
-    ListGiven,
-    Describe,
-    FindLast,
-    HostSetup,
-    HostData,
-    HostStatus,
-    HostPackets,
-    HostNaks,
-    EnumerationHeader,
-    EnumerationSetup,
-    EnumerationPackets,
-    EnumerationNaks,
-    Enumerate,
-    Talk,
-    CheckSets,
-    CheckFile,
-    Assemble,
-    Setup,
-    OnePacket,
-    TenPackets,
-    Status,
-    Nak,
-}
+/// The words that ask for each kind of work.
+pub(crate) const WORKS: [&str; 30] = [
+    "decode-whole",
+    "decode-pieces",
+    "decode-bytes",
+    "encode",
+    "list",
+    "read-file",
+    "write-file",
+    "write-given",
+    "list-given",
+    "describe",
+    "find-last",
+    "host-setup",
+    "host-data",
+    "host-status",
+    "host-packets",
+    "host-naks",
+    "enumeration-header",
+    "enumeration-setup",
+    "enumeration-packets",
+    "enumeration-naks",
+    "enumerate",
+    "talk",
+    "check-sets",
+    "check-file",
+    "assemble",
+    "setup",
+    "one-packet",
+    "ten-packets",
+    "status",
+    "nak",
+];
 
-impl Work {
-    pub(crate) const ALL: [Work; 30] = [
-        Work::DecodeWhole,
-        Work::DecodePieces,
-        Work::DecodeBytes,
-        Work::Encode,
-        Work::List,
-        Work::ReadFile,
-        Work::WriteFile,
-        Work::WriteGiven,
-        Work::ListGiven,
-        Work::Describe,
-        Work::FindLast,
-        Work::HostSetup,
-        Work::HostData,
-        Work::HostStatus,
-        Work::HostPackets,
-        Work::HostNaks,
-        Work::EnumerationHeader,
-        Work::EnumerationSetup,
-        Work::EnumerationPackets,
-        Work::EnumerationNaks,
-        Work::Enumerate,
-        Work::Talk,
-        Work::CheckSets,
-        Work::CheckFile,
-        Work::Assemble,
-        Work::Setup,
-        Work::OnePacket,
-        Work::TenPackets,
-        Work::Status,
-        Work::Nak,
-    ];
-
-    /// The word that asks for it.
-    pub(crate) fn name(self) -> &'static str {
-        match self {
-            Work::DecodeWhole => "decode-whole",
-            Work::DecodePieces => "decode-pieces",
-            Work::DecodeBytes => "decode-bytes",
-            Work::Encode => "encode",
-            Work::List => "list",
-            Work::ReadFile => "read-file",
-            Work::WriteFile => "write-file",
-            Work::WriteGiven => "write-given",
-            Work::ListGiven => "list-given",
-            Work::Describe => "describe",
-            Work::FindLast => "find-last",
-            Work::HostSetup => "host-setup",
-            Work::HostData => "host-data",
-            Work::HostStatus => "host-status",
-            Work::HostPackets => "host-packets",
-            Work::HostNaks => "host-naks",
-            Work::EnumerationHeader => "enumeration-header",
-            Work::EnumerationSetup => "enumeration-setup",
-            Work::EnumerationPackets => "enumeration-packets",
-            Work::EnumerationNaks => "enumeration-naks",
-            Work::Enumerate => "enumerate",
-            Work::Talk => "talk",
-            Work::CheckSets => "check-sets",
-            Work::CheckFile => "check-file",
-            Work::Assemble => "assemble",
-            Work::Setup => "setup",
-            Work::OnePacket => "one-packet",
-            Work::TenPackets => "ten-packets",
-            Work::Status => "status",
-            Work::Nak => "nak",
-        }
-    }
-
-    /// Does it so many times over, and answers how many bytes it is of: those of the set, those of a file with so
-    /// many copies of it, those of a listing, or those that a device sent; of `enumerate`, how many transactions there are.
-    pub(crate) fn run(self, alloc: Global, set: &[u8], copies: u32, rounds: u32) -> Result<usize> {
-        match self {
-            Work::DecodeWhole => decode(alloc, set, rounds, set.len()),
-            Work::DecodePieces => decode(alloc, set, rounds, 64),
-            Work::DecodeBytes => decode(alloc, set, rounds, 1),
-            Work::Encode => encode_again(alloc, set, rounds),
-            Work::List => list(alloc, set, rounds),
-            Work::ReadFile => read_again(alloc, set, copies, rounds),
-            Work::WriteFile => write_again(alloc, set, copies, rounds),
-            Work::WriteGiven => write_given(alloc, set, rounds),
-            Work::ListGiven => list_given(alloc, set, rounds),
-            Work::Describe => describe_again(alloc, set, rounds),
-            Work::FindLast => find_last(alloc, set, rounds),
-            Work::HostSetup => drive_again(set, Until::Setup, rounds),
-            Work::HostData => drive_again(set, Until::Data, rounds),
-            Work::HostStatus => drive_again(set, Until::Status, rounds),
-            Work::HostPackets => take_packets(set, rounds),
-            Work::HostNaks => take_naks(set, rounds),
-            Work::EnumerationHeader => count_transactions(alloc, set, Counted::Header, rounds),
-            Work::EnumerationSetup => count_transactions(alloc, set, Counted::Setup, rounds),
-            Work::EnumerationPackets => count_transactions(alloc, set, Counted::Packets, rounds),
-            Work::EnumerationNaks => count_naks(alloc, set, rounds),
-            Work::Enumerate => enumerate_again(alloc, set, rounds),
-            Work::Talk => talk_again(alloc, set, rounds),
-            Work::CheckSets => check_sets(alloc, set, copies, rounds),
-            Work::CheckFile => check_file(alloc, set, rounds),
-            Work::Assemble => assemble_again(alloc, set, rounds),
-            Work::Setup => transfer_again(alloc, set, 0, false, rounds),
-            Work::OnePacket => transfer_again(alloc, set, 1, false, rounds),
-            Work::TenPackets => transfer_again(alloc, set, 10, false, rounds),
-            Work::Status => transfer_again(alloc, set, 1, true, rounds),
-            Work::Nak => refuse_again(alloc, set, rounds),
-        }
-    }
-}
-
-impl fmt::Display for Work {
-    fn fmt<W: fmt::Write>(&self, f: &mut fmt::Formatter<W>) -> fmt::Result {
-        f.write_str(self.name())
+/// Does the work that this word asks for so many times over; making and freeing of what it makes are part of it. Answers
+/// how many bytes it is of: those of the set, those of a file with so many copies of it, those of a listing, or those
+/// that a device sent; of `enumerate`, how many transactions there are.
+pub(crate) fn run(
+    name: &str,
+    alloc: Global,
+    set: &[u8],
+    copies: u32,
+    rounds: u32,
+) -> Result<usize> {
+    match name {
+        "decode-whole" => decode(alloc, set, rounds, set.len()),
+        "decode-pieces" => decode(alloc, set, rounds, 64),
+        "decode-bytes" => decode(alloc, set, rounds, 1),
+        "encode" => encode_again(alloc, set, rounds),
+        "list" => list(alloc, set, rounds),
+        "read-file" => read_again(alloc, set, copies, rounds),
+        "write-file" => write_again(alloc, set, copies, rounds),
+        "write-given" => write_given(alloc, set, rounds),
+        "list-given" => list_given(alloc, set, rounds),
+        "describe" => describe_again(alloc, set, rounds),
+        "find-last" => find_last(alloc, set, rounds),
+        "host-setup" => drive_again(set, Until::Setup, rounds),
+        "host-data" => drive_again(set, Until::Data, rounds),
+        "host-status" => drive_again(set, Until::Status, rounds),
+        "host-packets" => take_packets(set, rounds),
+        "host-naks" => take_naks(set, rounds),
+        "enumeration-header" => count_transactions(alloc, set, Counted::Header, rounds),
+        "enumeration-setup" => count_transactions(alloc, set, Counted::Setup, rounds),
+        "enumeration-packets" => count_transactions(alloc, set, Counted::Packets, rounds),
+        "enumeration-naks" => count_naks(alloc, set, rounds),
+        "enumerate" => enumerate_again(alloc, set, rounds),
+        "talk" => talk_again(alloc, set, rounds),
+        "check-sets" => check_sets(alloc, set, copies, rounds),
+        "check-file" => check_file(alloc, set, rounds),
+        "assemble" => assemble_again(alloc, set, rounds),
+        "setup" => transfer_again(alloc, set, 0, false, rounds),
+        "one-packet" => transfer_again(alloc, set, 1, false, rounds),
+        "ten-packets" => transfer_again(alloc, set, 10, false, rounds),
+        "status" => transfer_again(alloc, set, 1, true, rounds),
+        "nak" => refuse_again(alloc, set, rounds),
+        _ => bail!("no work is named {name}"),
     }
 }
 

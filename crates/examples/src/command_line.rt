@@ -3,12 +3,11 @@ use crate::fields::fault;
 use anyhow::{Result, bail};
 use std::alloc::Global;
 use usb_tool::{
-    Explaining, Fate, Line, Options, Settings, manner_of, read_fates, read_line,
-    read_running_speed, read_speed, settings_of,
+    Fate, Line, manner_of, read_fates, read_line, read_running_speed, read_speed, settings_of,
 };
 
 /// The words of the program, its name first.
-pub(crate) fn line_of(alloc: Global, words: &[String]) -> Result<Vec<String>> {
+fn line_of(alloc: Global, words: &[String]) -> Result<Vec<String>> {
     let mut line = Vec::new(alloc);
     line.push(String::from_str(alloc, "usbdesc")?)?;
     for word in words {
@@ -21,57 +20,48 @@ pub(crate) fn line_of(alloc: Global, words: &[String]) -> Result<Vec<String>> {
 pub(crate) fn line(alloc: Global, words: &[String]) -> Result<String> {
     let words = line_of(alloc, words)?;
     match read_line(alloc, &words) {
-        Ok(line) => told(alloc, &line),
+        Ok(line) => command(alloc, &line),
         Err(error) if error.use_stderr() => Ok(String::from_str(alloc, "fault")?),
         Err(_) => Ok(String::from_str(alloc, "help")?),
     }
 }
 
-/// The command with its options.
-fn told(alloc: Global, line: &Line<'_>) -> Result<String> {
-    Ok(String::from_str(
-        alloc,
-        match line {
-            Line::Show => "show",
-            Line::Check => "check",
-            Line::Build => "build",
-            Line::Explain(options) => return with_flags(alloc, options),
-            Line::Enumerate(options) => return with_options(alloc, options),
-        },
-    )?)
-}
-
-/// `explain` with the options that are given.
-fn with_flags(alloc: Global, options: &Explaining<'_>) -> Result<String> {
-    let mut told = String::from_str(alloc, "explain")?;
-    if options.brief {
-        told.push_str(" brief")?;
-    }
-    if options.no_places {
-        told.push_str(" no-places")?;
-    }
-    if let Some(speed) = options.speed {
-        told.push_str(format!(in alloc; " speed {speed}")?.as_str())?;
-    }
-    Ok(told)
-}
-
-/// `enumerate` with the options that are given.
-fn with_options(alloc: Global, options: &Options<'_>) -> Result<String> {
-    let mut told = String::from_str(alloc, "enumerate")?;
-    for (name, option) in [
-        ("speed", options.speed),
-        ("address", options.address),
-        ("naks", options.naks),
-        ("attempts", options.attempts),
-        ("fates", options.fates),
-    ] {
-        if let Some(text) = option {
-            told.push_str(format!(in alloc; " {name} {text}")?.as_str())?;
+/// A command with the options that are given.
+fn command(alloc: Global, line: &Line<'_>) -> Result<String> {
+    match line {
+        Line::Show => Ok(String::from_str(alloc, "show")?),
+        Line::Check => Ok(String::from_str(alloc, "check")?),
+        Line::Build => Ok(String::from_str(alloc, "build")?),
+        Line::Explain(options) => {
+            let given = [
+                ("brief", options.brief.then_some("")),
+                ("no-places", options.no_places.then_some("")),
+                ("speed", options.speed),
+            ];
+            with_options(alloc, "explain", &given)
+        }
+        Line::Enumerate(options) => {
+            let given = [
+                ("speed", options.speed),
+                ("address", options.address),
+                ("naks", options.naks),
+                ("attempts", options.attempts),
+                ("fates", options.fates),
+                ("log", options.log.then_some("")),
+            ];
+            with_options(alloc, "enumerate", &given)
         }
     }
-    if options.log {
-        told.push_str(" log")?;
+}
+
+/// The command with the options that are given; a flag has no text.
+fn with_options(alloc: Global, command: &str, options: &[(&str, Option<&str>)]) -> Result<String> {
+    let mut told = String::from_str(alloc, command)?;
+    for (name, option) in options {
+        if let Some(text) = option {
+            let option = format!(in alloc; " {name} {text}")?;
+            told.push_str(option.as_str().trim_end())?;
+        }
     }
     Ok(told)
 }
@@ -136,32 +126,26 @@ fn listed(alloc: Global, fates: &[Fate]) -> Result<String> {
     Ok(text)
 }
 
-/// What the options of a line come to, or the exit status and the line of the fault.
+/// What the options of a line come to, limits, speed, fates and whether a log is asked for, or the exit status and the
+/// line of the fault.
 pub(crate) fn settings(alloc: Global, words: &[String]) -> Result<String> {
     let words = line_of(alloc, words)?;
     let Ok(Line::Enumerate(options)) = read_line(alloc, &words) else {
         bail!("no enumeration");
     };
-    match settings_of(alloc, &options) {
-        Ok(settings) => settled(alloc, &settings),
-        Err(fault) => Ok(format!(in alloc; "{} {fault}", fault.status())?),
-    }
-}
-
-/// The limits, the speed, the fates, and whether a log is asked for.
-fn settled(alloc: Global, settings: &Settings) -> Result<String> {
-    let limits = settings.limits;
-    let speed = settings.speed;
+    let settings = match settings_of(alloc, &options) {
+        Ok(settings) => settings,
+        Err(fault) => return Ok(format!(in alloc; "{} {fault}", fault.status())?),
+    };
+    let (limits, speed) = (settings.limits, settings.speed);
     let fates = listed(alloc, &settings.fates)?;
+    let log = if settings.log { "log" } else { "" };
     let told = format!(in alloc;
         "address {} naks {} attempts {} {speed:?} {fates}",
         limits.address(),
         limits.naks(),
         limits.attempts()
     )?;
-    let mut told = String::from_str(alloc, told.as_str().trim_end())?;
-    if settings.log {
-        told.push_str(" log")?;
-    }
-    Ok(told)
+    let told = format!(in alloc; "{} {log}", told.as_str().trim_end())?;
+    Ok(String::from_str(alloc, told.as_str().trim_end())?)
 }

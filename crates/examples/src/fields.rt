@@ -1,6 +1,6 @@
 //! Rows on single descriptors and setup packets.
+use crate::words::{bytes_of, units_of};
 use anyhow::{Result, bail, ensure};
-use rows::{bytes_of, units_of};
 use std::alloc::Global;
 use usb_fields::{DeviceDescriptor, Qualifier, Setup, read_units, write_units};
 use usb_set::{Endpoint, Sequence};
@@ -93,19 +93,25 @@ pub(crate) fn endpoint(alloc: Global, words: &[String]) -> Result<String> {
     Ok(format!(in alloc; "{direction:?} {} {kind:?}", endpoint.number())?)
 }
 
-/// The units of a string, which give its bytes again.
+/// The units of a string as four digits each, or `none`; they give its bytes again.
 pub(crate) fn units(alloc: Global, words: &[String]) -> Result<String> {
     let bytes = bytes_of(alloc, words)?;
-    match read_units(alloc, &bytes) {
-        Ok(units) => {
-            ensure!(
-                write_units(alloc, &units)? == bytes,
-                "other bytes are written"
-            );
-            written_units(alloc, &units)
-        }
-        Err(why) => fault(alloc, why.number()),
+    let units = match read_units(alloc, &bytes) {
+        Ok(units) => units,
+        Err(why) => return fault(alloc, why.number()),
+    };
+    ensure!(
+        write_units(alloc, &units)? == bytes,
+        "other bytes are written"
+    );
+    let mut text = String::new(alloc);
+    for unit in units.iter() {
+        text.push_str(format!(in alloc; "{unit:04x}")?.as_str())?;
     }
+    if text.is_empty() {
+        text.push_str("none")?;
+    }
+    Ok(text)
 }
 
 /// The bytes of a string with these units.
@@ -115,16 +121,4 @@ pub(crate) fn write_string(alloc: Global, words: &[String]) -> Result<String> {
         Ok(bytes) => Ok(hex::encode(alloc, &bytes)?),
         Err(why) => fault(alloc, why.number()),
     }
-}
-
-/// The units as four digits each, or `none`.
-fn written_units(alloc: Global, units: &[u16]) -> Result<String> {
-    if units.is_empty() {
-        return Ok(String::from_str(alloc, "none")?);
-    }
-    let mut text = String::new(alloc);
-    for unit in units {
-        text.push_str(format!(in alloc; "{unit:04x}")?.as_str())?;
-    }
-    Ok(text)
 }

@@ -134,7 +134,6 @@ pub(crate) fn message(alloc: Global, words: &[String]) -> Result<String> {
         }
         "WriteFault" => numbered(alloc, &WRITE_FAULTS, WriteFault::number, n),
         "OutFault" => numbered(alloc, &OUT_FAULTS, OutFault::number, n),
-        "ToolFault" => of_tool(alloc, n),
         "ListWhy" => numbered(alloc, &LIST_WHYS, ListWhy::number, n),
         "ListFault" => {
             let faults = LIST_WHYS.map(|why| ListFault { line: 12, why });
@@ -143,42 +142,33 @@ pub(crate) fn message(alloc: Global, words: &[String]) -> Result<String> {
         "DescriptionFault" => numbered(alloc, &DESCRIPTION_FAULTS, DescriptionFault::number, n),
         "LimitFault" => numbered(alloc, &LIMIT_FAULTS, LimitFault::number, n),
         "FatesFault" => numbered(alloc, &FATES_FAULTS, FatesFault::number, n),
-        "SettingsFault" => of_settings(alloc, n),
         "Why" => numbered(alloc, &TRANSFER_WHYS, Why::number, n),
+        name => of_others(alloc, name, n),
+    }
+}
+
+/// The line of a fault of the program or of its options, with the status that it ends with, or what breaks a rule.
+fn of_others(alloc: Global, name: &str, number: u8) -> Result<String> {
+    match name {
+        "ToolFault" => {
+            let fault = found(&tool_faults(), |fault| fault.number(), number)?;
+            Ok(format!(in alloc; "{} {fault}", verdict(&Err(fault)))?)
+        }
+        "SettingsFault" => {
+            let fault = found(&SETTINGS_FAULTS, SettingsFault::number, number)?;
+            Ok(format!(in alloc; "{} {fault}", fault.status())?)
+        }
+        "Rule" => {
+            let rule = found(&Rule::ALL, Rule::number, number)?;
+            Ok(String::from_str(alloc, rule.message())?)
+        }
         _ => bail!("no such type"),
     }
 }
 
-/// The message of the fault with this number.
-fn numbered<T: Display + Copy, F: Fn(T) -> u8>(
-    alloc: Global,
-    faults: &[T],
-    number_of: F,
-    number: u8,
-) -> Result<String>
-    requires { F.IsAlwaysCallable number_of }
-{
-    for fault in faults {
-        if number_of(*fault) == number {
-            return Ok(format!(in alloc; "{fault}")?);
-        }
-    }
-    bail!("no fault of that number")
-}
-
-/// The line of a fault of the options, and the status that it ends with.
-fn of_settings(alloc: Global, number: u8) -> Result<String> {
-    for fault in SETTINGS_FAULTS {
-        if fault.number() == number {
-            return Ok(format!(in alloc; "{} {fault}", fault.status())?);
-        }
-    }
-    bail!("no fault of that number")
-}
-
-/// The line of a fault of the program, and the status that it ends with.
-fn of_tool(alloc: Global, number: u8) -> Result<String> {
-    for fault in [
+/// All that can go wrong with the program.
+fn tool_faults() -> [ToolFault; 8] {
+    [
         ToolFault::Read,
         ToolFault::Write,
         ToolFault::TooLarge,
@@ -199,11 +189,30 @@ fn of_tool(alloc: Global, number: u8) -> Result<String> {
             at: 18,
             why: FileWhy::Memory,
         }),
-    ] {
-        if fault.number() == number {
-            let status = verdict(&Err(fault));
-            return Ok(format!(in alloc; "{status} {fault}")?);
+    ]
+}
+
+/// The message of the fault with this number.
+fn numbered<T: Display + Copy, F: Fn(T) -> u8>(
+    alloc: Global,
+    faults: &[T],
+    number_of: F,
+    number: u8,
+) -> Result<String>
+    requires { F.IsAlwaysCallable number_of }
+{
+    let fault = found(faults, number_of, number)?;
+    Ok(format!(in alloc; "{fault}")?)
+}
+
+/// The one with this number.
+fn found<T: Copy, F: Fn(T) -> u8>(all: &[T], number_of: F, number: u8) -> Result<T>
+    requires { F.IsAlwaysCallable number_of }
+{
+    for one in all {
+        if number_of(*one) == number {
+            return Ok(*one);
         }
     }
-    bail!("no fault of that number")
+    bail!("none of that number")
 }

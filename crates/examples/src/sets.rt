@@ -1,7 +1,8 @@
 //! Rows on configuration sets.
 use crate::fields::fault;
+use crate::tree::set_of;
+use crate::words::bytes_of;
 use anyhow::{Context, Result, ensure};
-use rows::{Answer, bytes_of, set_of};
 use std::alloc::Global;
 use usb_set::{Configuration, Decoder, EncodeFault, Progress, SetFault, read_set};
 use usb_set_encoder::{encode, refusal};
@@ -15,21 +16,57 @@ const SHORT: usize = 1000;
 /// What the pieces of a set come to: the set and its length, or a fault.
 type Read = std::result::Result<(Configuration, usize), SetFault>;
 
-/// How many bytes the set has that the bytes begin with, or their fault; whichever way they are cut.
+/// How many bytes the set has that the bytes begin with, or their fault; whichever way they are cut. The set is encoded
+/// to the same bytes.
 pub(crate) fn set(alloc: Global, words: &[String]) -> Result<String> {
     let bytes = bytes_of(alloc, words)?;
-    let whole = read(alloc, &bytes, bytes.len())?;
-    cut_evenly(alloc, &bytes, &whole)?;
+    let whole = read(alloc, &bytes, bytes.len(), 1)?;
+    for length in LENGTHS {
+        ensure!(
+            read(alloc, &bytes, 0, length)? == whole,
+            "pieces of {length} bytes give another answer"
+        );
+    }
     if bytes.len() <= SHORT {
         cut_everywhere(alloc, &bytes, &whole)?;
     }
     match &whole {
         Ok((set, length)) => {
-            write_again(alloc, bytes.get(..*length), set)?;
+            let again = encoded(alloc, set)??;
+            ensure!(
+                bytes.get(..*length) == Some(again.as_slice()),
+                "other bytes are written"
+            );
             Ok(format!(in alloc; "done {length}")?)
         }
         Err(fault) => told_fault(alloc, *fault),
     }
+}
+
+/// Reads the bytes in two pieces, cut at each place.
+fn cut_everywhere(alloc: Global, bytes: &[u8], whole: &Read) -> Result<()> {
+    for place in 0..=bytes.len() {
+        ensure!(
+            read(alloc, bytes, place, usize::MAX)? == *whole,
+            "cut at {place} they give another answer"
+        );
+    }
+    Ok(())
+}
+
+/// What the bytes come to in a first piece of so many, and the rest in pieces of this length.
+fn read(alloc: Global, bytes: &[u8], first: usize, length: usize) -> Result<Read> {
+    let (front, rest) = bytes.split_at(first.min(bytes.len()));
+    let mut reading = Reading {
+        decoder: Decoder::new(alloc),
+        length: 0,
+        fault: None,
+    };
+    reading.take(front)?;
+    for piece in rest.chunks(length.max(1)) {
+        reading.take(piece)?;
+    }
+    reading.finish()
 }
 
 /// A fault and its place.
@@ -38,7 +75,7 @@ fn told_fault(alloc: Global, fault: SetFault) -> Result<String> {
 }
 
 /// The set that the bytes are.
-pub(crate) fn decoded(alloc: Global, bytes: &[u8]) -> Result<Configuration> {
+fn decoded(alloc: Global, bytes: &[u8]) -> Result<Configuration> {
     let (set, used) = read_set(alloc, bytes)?;
     ensure!(used == bytes.len(), "it has {used} bytes");
     Ok(set)
@@ -57,45 +94,13 @@ fn encoded(
     Ok(outcome)
 }
 
-/// Writes the set to the bytes from which it was read.
-pub(crate) fn write_again(alloc: Global, bytes: Option<&[u8]>, set: &Configuration) -> Result<()> {
-    let again = encoded(alloc, set)??;
-    ensure!(bytes == Some(again.as_slice()), "other bytes are written");
-    Ok(())
-}
-
-/// What the bytes come to in pieces of this length.
-fn read(alloc: Global, bytes: &[u8], length: usize) -> Result<Read> {
-    let mut reading = Reading::new(alloc);
-    for piece in bytes.chunks(length.max(1)) {
-        reading.take(piece)?;
-    }
-    reading.finish()
-}
-
-/// Reads the bytes in pieces of each of the lengths.
-fn cut_evenly(alloc: Global, bytes: &[u8], whole: &Read) -> Result<()> {
-    for length in LENGTHS {
-        ensure!(
-            read(alloc, bytes, length)? == *whole,
-            "pieces of {length} bytes give another answer"
-        );
-    }
-    Ok(())
-}
-
-/// Reads the bytes in two pieces, cut at each place.
-fn cut_everywhere(alloc: Global, bytes: &[u8], whole: &Read) -> Result<()> {
-    for place in 0..=bytes.len() {
-        let (front, rest) = bytes.split_at(place);
-        let mut reading = Reading::new(alloc);
-        reading.take(front)?;
-        reading.take(rest)?;
-        ensure!(
-            reading.finish()? == *whole,
-            "cut at {place} they give another answer"
-        );
-    }
+/// Reads the set that the bytes are, and encodes it to these bytes.
+pub(crate) fn go_round(alloc: Global, bytes: &[u8]) -> Result<()> {
+    let set = decoded(alloc, bytes)?;
+    ensure!(
+        encoded(alloc, &set)??.as_slice() == bytes,
+        "other bytes are written"
+    );
     Ok(())
 }
 
@@ -108,14 +113,6 @@ struct Reading {
 }
 
 impl Reading {
-    fn new(alloc: Global) -> Reading {
-        Reading {
-            decoder: Decoder::new(alloc),
-            length: 0,
-            fault: None,
-        }
-    }
-
     /// Feeds a piece, and an empty one, which changes nothing. After a fault each is answered with it.
     fn take(&mut self, piece: &[u8]) -> Result<()> {
         let answer = self.decoder.feed(piece);
@@ -158,27 +155,22 @@ impl Reading {
 }
 
 /// What each piece is answered with, on a line; the first word is their length.
-pub(crate) fn feed(alloc: Global, words: &[String]) -> Result<Answer> {
+pub(crate) fn feed(alloc: Global, words: &[String]) -> Result<String> {
     let (length, words) = words.split_first().context("no length of the pieces")?;
     let length = length.parse::<usize>()?.max(1);
     let bytes = bytes_of(alloc, words)?;
     let mut decoder = Decoder::new(alloc);
-    let mut answer = Answer::of(String::new(alloc), alloc);
+    let mut answers = String::new(alloc);
     for piece in bytes.chunks(length) {
-        let told = answer_to(alloc, &mut decoder, piece)?;
-        answer.output.push_str(told.as_str())?;
-        answer.output.push_str("\n")?;
+        let answer = match decoder.feed(piece) {
+            Ok(Progress::More) => String::from_str(alloc, "more")?,
+            Ok(Progress::Done { used }) => format!(in alloc; "done {used}")?,
+            Err(fault) => told_fault(alloc, fault)?,
+        };
+        answers.push_str(answer.as_str())?;
+        answers.push_str("\n")?;
     }
-    Ok(answer)
-}
-
-/// What the decoder answers to one piece.
-fn answer_to(alloc: Global, decoder: &mut Decoder, piece: &[u8]) -> Result<String> {
-    match decoder.feed(piece) {
-        Ok(Progress::More) => Ok(String::from_str(alloc, "more")?),
-        Ok(Progress::Done { used }) => Ok(format!(in alloc; "done {used}")?),
-        Err(fault) => told_fault(alloc, fault),
-    }
+    Ok(answers)
 }
 
 /// The bytes of the set that the lines say, from which it is read back, or why it has none.

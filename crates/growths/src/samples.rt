@@ -1,7 +1,7 @@
 //! Small sets and files that calls are made on, with their listings.
 
 /// A boot mouse with packets of 64 bytes.
-pub const MOUSE: [u8; 52] = [
+pub(crate) const MOUSE: [u8; 52] = [
     0x12, 0x01, 0x10, 0x01, 0x00, 0x00, 0x00, 0x40, 0x34, 0x12, 0x78, 0x56, 0x00, 0x01, 0x00, 0x00,
     0x00, 0x01, 0x09, 0x02, 0x22, 0x00, 0x01, 0x01, 0x00, 0xa0, 0x32, 0x09, 0x04, 0x00, 0x00, 0x01,
     0x03, 0x01, 0x02, 0x00, 0x09, 0x21, 0x10, 0x01, 0x00, 0x01, 0x22, 0x34, 0x00, 0x07, 0x05, 0x81,
@@ -9,7 +9,7 @@ pub const MOUSE: [u8; 52] = [
 ];
 
 /// Its listing.
-pub const MOUSE_TEXT: &str = "device 0110 00 00 00 40 1234 5678 0100 00 00 00 01
+pub(crate) const MOUSE_TEXT: &str = "device 0110 00 00 00 40 1234 5678 0100 00 00 00 01
 configuration 01 01 00 a0 32 -
 interface 00 00 01 03 01 02 00 -
 raw 21 10010001223400
@@ -17,10 +17,10 @@ endpoint 81 03 0004 0a -
 ";
 
 /// Where a part of its file begins: the device descriptor and the set.
-pub const MOUSE_PARTS: [usize; 2] = [0, 18];
+pub(crate) const MOUSE_PARTS: [usize; 2] = [0, 18];
 
 /// A mouse with a second speed and a string.
-pub const EVERYTHING: [u8; 112] = [
+pub(crate) const EVERYTHING: [u8; 112] = [
     0x12, 0x01, 0x00, 0x02, 0x00, 0x00, 0x00, 0x40, 0x34, 0x12, 0x78, 0x56, 0x00, 0x01, 0x00, 0x01,
     0x00, 0x01, 0x09, 0x02, 0x22, 0x00, 0x01, 0x01, 0x00, 0xa0, 0x32, 0x09, 0x04, 0x00, 0x00, 0x01,
     0x03, 0x01, 0x02, 0x00, 0x09, 0x21, 0x10, 0x01, 0x00, 0x01, 0x22, 0x34, 0x00, 0x07, 0x05, 0x81,
@@ -31,7 +31,7 @@ pub const EVERYTHING: [u8; 112] = [
 ];
 
 /// Its listing.
-pub const EVERYTHING_TEXT: &str = "device 0200 00 00 00 40 1234 5678 0100 00 01 00 01
+pub(crate) const EVERYTHING_TEXT: &str = "device 0200 00 00 00 40 1234 5678 0100 00 01 00 01
 configuration 01 01 00 a0 32 -
 interface 00 00 01 03 01 02 00 -
 raw 21 10010001223400
@@ -47,21 +47,21 @@ string \"Mouse\"
 
 /// Where a part of its file begins: the device descriptor, a set, the qualifier, a set, the language list, a string,
 /// and where the file ends.
-pub const EVERYTHING_PARTS: [usize; 6] = [0, 18, 52, 62, 96, 100];
+pub(crate) const EVERYTHING_PARTS: [usize; 6] = [0, 18, 52, 62, 96, 100];
 
 /// A set with a descriptor of each kind, of which two have bytes behind their fields: a configuration, an association, an
 /// interface with a class descriptor, and an endpoint with one.
-pub const MIXED: [u8; 44] = [
+pub(crate) const MIXED: [u8; 44] = [
     0x0a, 0x02, 0x2c, 0x00, 0x01, 0x01, 0x00, 0x80, 0x32, 0xaa, 0x08, 0x0b, 0x00, 0x01, 0x02, 0x02,
     0x01, 0x00, 0x09, 0x04, 0x00, 0x00, 0x01, 0x02, 0x02, 0x01, 0x00, 0x05, 0x24, 0x00, 0x10, 0x01,
     0x09, 0x05, 0x81, 0x03, 0x08, 0x00, 0x0a, 0x01, 0x02, 0x03, 0x30, 0x05,
 ];
 
 /// Where a descriptor of it begins.
-pub const MIXED_PARTS: [usize; 6] = [0, 10, 18, 27, 32, 41];
+pub(crate) const MIXED_PARTS: [usize; 6] = [0, 10, 18, 27, 32, 41];
 
 /// Its listing.
-pub const MIXED_TEXT: &str = "configuration 01 01 00 80 32 aa
+pub(crate) const MIXED_TEXT: &str = "configuration 01 01 00 80 32 aa
 association 00 01 02 02 01 00 -
 interface 00 00 01 02 02 01 00 -
 raw 24 001001

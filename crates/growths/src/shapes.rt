@@ -7,7 +7,7 @@ const MOST: usize = 65_535;
 
 /// A set of as many equal descriptors as it has room for.
 #[derive(Clone, Copy, Debug, PartialEq, Eq)]
-pub struct Shape {
+pub(crate) struct Shape {
     /// What there are many of.
     pub name: &'static str,
     /// The descriptors before them.
@@ -24,7 +24,7 @@ pub struct Shape {
 const INTERFACE: &[u8] = &[9, 4, 0, 0, 0, 3, 0, 0, 0];
 
 /// Of equal settings all but the first break V3.
-pub const SETTINGS: Shape = Shape {
+pub(crate) const SETTINGS: Shape = Shape {
     name: "settings",
     front: &[],
     each: INTERFACE,
@@ -33,7 +33,7 @@ pub const SETTINGS: Shape = Shape {
 };
 
 /// Endpoints as many as are not declared break V5, and all but the first of an address V7.
-pub const ENDPOINTS: Shape = Shape {
+pub(crate) const ENDPOINTS: Shape = Shape {
     name: "endpoints",
     front: INTERFACE,
     each: &[7, 5, 0x81, 3, 8, 0, 10],
@@ -42,7 +42,7 @@ pub const ENDPOINTS: Shape = Shape {
 };
 
 /// Associations of one interface break no rule.
-pub const ASSOCIATIONS: Shape = Shape {
+pub(crate) const ASSOCIATIONS: Shape = Shape {
     name: "associations",
     front: INTERFACE,
     each: &[8, 11, 0, 1, 3, 0, 0, 0],
@@ -51,7 +51,7 @@ pub const ASSOCIATIONS: Shape = Shape {
 };
 
 /// With no interface where one is declared V1 is broken.
-pub const CLASS_DESCRIPTORS: Shape = Shape {
+pub(crate) const CLASS_DESCRIPTORS: Shape = Shape {
     name: "class descriptors",
     front: &[],
     each: &[2, 0x21],
@@ -64,7 +64,7 @@ pub const CLASS_DESCRIPTORS: Shape = Shape {
 /// # Errors
 ///
 /// Out of memory.
-pub fn push_set(bytes: &mut Vec<u8>, shape: Shape) -> Result<(), AllocError> {
+pub(crate) fn push_set(bytes: &mut Vec<u8>, shape: Shape) -> Result<(), AllocError> {
     let each = shape.count.saturating_mul(shape.each.len());
     let total = each
         .saturating_add(shape.front.len())
@@ -80,14 +80,14 @@ pub fn push_set(bytes: &mut Vec<u8>, shape: Shape) -> Result<(), AllocError> {
 }
 
 /// How many sets and strings [`many_strings`] has.
-pub const STRINGS: u8 = 255;
+pub(crate) const STRINGS: u8 = 255;
 
 /// A file of 255 sets, each of which names a string, with these strings of 0 to 126 units.
 ///
 /// # Errors
 ///
 /// Out of memory.
-pub fn many_strings(alloc: Global) -> Result<Vec<u8>, AllocError> {
+pub(crate) fn many_strings(alloc: Global) -> Result<Vec<u8>, AllocError> {
     let mut bytes = Vec::from_slice(alloc, &MOUSE[..17])?;
     bytes.push(STRINGS)?;
     for value in 1..=STRINGS {

@@ -7,28 +7,15 @@ use std::io;
 /// # Errors
 ///
 /// Those of standard output.
-pub fn tell<R: Print>(rt: &R, group: &str, all: bool, calls: &[Call]) -> io::Result<()> {
-    for call in calls {
-        let name = call.name;
-        match call.answer {
+pub(crate) fn tell<R: Print>(rt: &R, group: &str, all: bool, calls: &[Call]) -> io::Result<()> {
+    for (name, answer) in calls {
+        match answer {
             Answer::Right => if all {
                 println!(rt; "{group} {name}: right")?;
             }
             Answer::Memory => println!(rt; "{group} {name}")?,
             Answer::Wrong => println!(rt; "{group} {name}: wrong")?,
         }
-    }
-    Ok(())
-}
-
-/// Prints the group's name and `end` where a request of the program's own is refused: then those of the calls are over.
-///
-/// # Errors
-///
-/// Those of standard output.
-pub fn tell_end<R: Print + AllocGlobal>(rt: &R, group: &str) -> io::Result<()> {
-    if Box::new(rt.alloc(), 0u64).is_err() {
-        println!(rt; "{group} end")?;
     }
     Ok(())
 }

@@ -1,13 +1,13 @@
 #!/usr/bin/env python3
 """Writes ../data/talks/losses.talk: each single loss in a transfer of each kind, counted by the rules as talks.py of
-crates/totals reads them.
+crates/generated reads them.
 
 Run it in this folder; it prints nothing.
 """
 import os
 import sys
 
-sys.path.insert(0, os.path.join(os.path.dirname(os.path.abspath(__file__)), "../../totals/reading"))
+sys.path.insert(0, os.path.join(os.path.dirname(os.path.abspath(__file__)), "../../generated/reading"))
 import talks  # noqa: E402
 
 PACKET = 8

@@ -11,7 +11,7 @@ use usb_device::Description;
 /// What steps are played with, but for a device.
 #[derive(Drop)]
 pub struct Bench {
-    talk: TalkInWork,
+    pub(crate) talk: TalkInWork,
     transfer: TransferInWork,
     host: HostInWork,
     traces: bool,
@@ -63,11 +63,6 @@ impl Bench {
         }
     }
 
-    /// Forgets the talk in work.
-    pub fn reset(&mut self) {
-        self.talk.reset();
-    }
-
     /// What comes of a step with a device, if it is one.
     pub fn act_with(
         &mut self,
@@ -75,12 +70,8 @@ impl Bench {
         target: &mut Target<'_>,
         words: &[&str],
     ) -> Result<Option<Outcome>> {
-        if let [verb] = words {
-            if *verb == "reset" {
-                target.driven.reset();
-                self.talk.reset();
-                return Ok(Outcome::done(alloc)?);
-            }
+        if matches!(words, [verb] if *verb == "reset") {
+            self.talk.reset();
         }
         if let Some(outcome) = target.driven.act(alloc, words)? {
             return Ok(Some(outcome));

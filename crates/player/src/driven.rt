@@ -30,14 +30,13 @@ impl<'d> Driven<'d> {
         }
     }
 
-    /// A bus reset.
-    pub fn reset(&mut self) {
-        self.device.reset();
-    }
-
     /// What comes of a step with the device, if it is one.
     pub fn act(&mut self, alloc: Global, words: &[&str]) -> Result<Option<Outcome>> {
         match words {
+            [verb] if *verb == "reset" => {
+                self.device.reset();
+                Ok(Outcome::done(alloc)?)
+            }
             [verb] if *verb == "acked" => {
                 self.device.acked();
                 Ok(Outcome::done(alloc)?)

@@ -18,24 +18,16 @@ pub struct Line {
 pub fn next_line<R: BufRead>(alloc: Global, lines: &mut R, before: u64) -> Result<Option<Line>> {
     let mut number = before;
     for _ in 0..u64::MAX {
-        let Some(text) = read_text(alloc, lines)? else {
+        let mut text = String::new(alloc);
+        if lines.read_line(&mut text)? == 0 {
             return Ok(None);
-        };
+        }
         number = number.saturating_add(1);
         if let Some(line) = line_of(alloc, number, text.as_str())? {
             return Ok(Some(line));
         }
     }
     Ok(None)
-}
-
-/// The text of the next line, or none at the end.
-fn read_text<R: BufRead>(alloc: Global, lines: &mut R) -> Result<Option<String>> {
-    let mut text = String::new(alloc);
-    if lines.read_line(&mut text)? == 0 {
-        return Ok(None);
-    }
-    Ok(Some(text))
 }
 
 /// The line with this text, if it has a step. What stands behind a `#` is a comment.

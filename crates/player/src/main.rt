@@ -3,8 +3,7 @@
 //!
 //! With no word on the command line all files that `list` names are played one after another. A word is the name of
 //! one file. With the word `-` steps are read from standard input, and what comes of each is written at once, so that
-//! another program can drive what is here. With the word `memory` a device gets every kind of request, for
-//! `.ci/memory`.
+//! another program can drive what is here.
 //!
 //! The lines stand in `docs/SCRIPTS.md`.
 #![tactic(auto)]
@@ -15,7 +14,6 @@ mod descriptors;
 mod driven;
 mod host;
 mod line;
-mod memory;
 mod outcome;
 mod play;
 mod score;
@@ -26,7 +24,6 @@ mod transfer;
 mod words;
 
 use anyhow::Result;
-use memory::play_requests;
 use play::play;
 use std::io::BufReader;
 use std::process::ExitCode;
@@ -39,7 +36,6 @@ fn main(rt: HostRuntime) -> Result<ExitCode> {
         None => play_all(&rt)?,
         Some(word) => match word.as_str() {
             "-" => play_input(&rt)?,
-            "memory" => play_requests(&rt)?,
             name => play_file(&rt, name)?,
         },
     };

@@ -107,7 +107,7 @@ fn make<H: Print + AllocGlobal>(
 ) -> Result<Option<Description>> {
     match game.descriptors.describe(rt.alloc(), word)? {
         Made::Accepted(description) => {
-            game.bench.reset();
+            game.bench.talk.reset();
             let outcome = Outcome::word(rt.alloc(), "accepted")?;
             game.score.settle(rt, line, &outcome)?;
             Ok(Some(description))

@@ -1,0 +1,113 @@
+"""The calls of rows that ask something of the program, and the runs that each asks for."""
+
+import os
+import sys
+
+from playing.row import Fault, change
+from playing.run import Run, ends_with
+
+sys.path.insert(0, os.path.join(os.path.dirname(os.path.abspath(__file__)), "../../crates/player/reading"))
+from enumerating import named, word  # noqa: E402
+
+# These are asked of the libraries, by the program crates/examples.
+OF_LIBRARIES = set(
+    "setup device qualifier endpoint units write_units set feed encode file write named failing_reads failing_writes"
+    " failing_write failing_flush line speed running_speed fates manner settings message".split()
+)
+
+
+def usbdesc(row):
+    words = row.words()
+    place = words.index("<") if "<" in words else len(words)
+    yield Run(words[:place], change(b"", words[place + 1 :]), int(row.wanted()), row.text(">"), row.text("!"))
+
+
+def build(row):
+    text, wanted = change(row.text("|"), row.words()), row.wanted()
+    if wanted.startswith("0 "):
+        yield Run(["build"], text, 0, bytes.fromhex(wanted[2:]))
+    else:
+        yield ends_with(["build"], text, wanted)
+
+
+def cuts(row):
+    """Behind whole lines the line after them is missing, and elsewhere the line that is cut is at fault."""
+    text, told = row.text("|"), [0, 0]
+    for length in range(len(text)):
+        front = text[:length]
+        is_whole = not front or front.endswith(b"\n")
+        told[not is_whole] += 1
+        fault = f"3 usbdesc: listing fault {6 if is_whole else 1} line {front.count(10) + 1}"
+        yield ends_with(["build"], front, fault)
+    compare(row, f"{told[0]} missing, {told[1]} broken")
+
+
+def parts(data):
+    """The device descriptor and its sets, as far as they are there, and where they end."""
+    sets, place = [], 18
+    for _ in range(data[17]):
+        sets.append(data[place : place + word(data, place + 2)])
+        place += len(sets[-1])
+    return data[:18], sets, place
+
+
+def is_dump(data):
+    """Whether the bytes, a device descriptor and its sets, lack the strings that they name."""
+    device, sets, _ = parts(data)
+    return bool(named(device, sets))
+
+
+def fronts(data):
+    """The runs over each front: it is truncated at its end, as an input of `show` and as a file of `enumerate`. Right
+    behind the sets it is an input, and a file where no string is named."""
+    end = parts(data)[2]
+    for length in range(len(data)):
+        fault = f"3 usbdesc: file fault 6 at {length}"
+        show, read = (ends_with([command], data[:length], fault) for command in ("show", "enumerate"))
+        if length == end:
+            show = show._replace(status=0, output=None, errors=b"")
+        if length == end and not is_dump(data):
+            read = read._replace(status=None, output=None, errors=b"")
+        yield show
+        yield read
+
+
+def fronts_of_row(row):
+    data = change(b"", row.words())
+    end = parts(data)[2]
+    yield from fronts(data)
+    form = f", a {'dump' if is_dump(data) else 'file'} of {end}" if end < len(data) else ""
+    compare(row, f"{len(data)} truncated{form}")
+
+
+def check(row):
+    wanted = row.wanted()
+    status = 0 if wanted == "no findings" else 1
+    yield Run(["check"], change(b"", row.words()), status, (wanted.replace(", ", "\n") + "\n").encode())
+
+
+def endless(row):
+    command, *words = row.words()
+    told, _, read = row.wanted().rpartition(", ")
+    run = ends_with([command], change(row.text("|"), words), told)
+    yield run._replace(read=int(read.split()[0]))
+
+
+def compare(row, told):
+    if told != row.wanted():
+        raise Fault(f"{told}, and not {row.wanted()}")
+
+
+CALLS = {
+    "usbdesc": usbdesc,
+    "build": build,
+    "cuts": cuts,
+    "fronts": fronts_of_row,
+    "check": check,
+    "endless": endless,
+}
+
+
+def runs_of_row(row):
+    """The runs that a row asks for."""
+    return CALLS[row.call](row)

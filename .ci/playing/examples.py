@@ -1,0 +1,91 @@
+"""The examples that the file 'list' names, and the runs that each asks for."""
+
+import glob
+import os
+import re
+
+from playing.calls import fronts, is_dump
+from playing.row import Fault
+from playing.run import Run, ends_with
+
+# Each file of these must be named by the list.
+LISTED = ["rows/*.txt", "enumerate/*.txt", "sets/*.bin", "files/*.file", "rules/*.file", "dumps/*.descriptors"]
+LISTED += ["listings/*.txt", "explain/*.bin", "explain/*.descriptors"]
+
+
+def bytes_of(name, ending=""):
+    with open(name + ending, "rb") as source:
+        return source.read()
+
+
+def told_of(name, ending):
+    """The runs that list, check and explain an input."""
+    data, findings = bytes_of(name, ending), bytes_of(name, ".check")
+    yield Run(["show"], data, 0, bytes_of(name, ".txt"))
+    yield Run(["check"], data, 0 if findings == b"no findings\n" else 1, findings)
+    yield Run(["explain"], data, 0, bytes_of(name, ".explain"))
+
+
+def set_(name):
+    yield from told_of(name, ".bin")
+
+
+def file(name):
+    yield from told_of(name, ".file")
+    yield from listing(name)
+    data, text = bytes_of(name, ".file"), bytes_of(name, ".txt")
+    for line in bytes_of(name, ".enumerate").decode().splitlines():
+        speed, _, result = line.partition(" ")
+        status, listed = (0, text) if result.startswith("success ") else (1, b"")
+        yield Run(["enumerate", "--speed", speed], data, status, f"{result}\n".encode() + listed)
+    yield from fronts(data)
+
+
+def dump(name):
+    """Where a dump names a string its listing lacks the languages behind its last line; else it is a file."""
+    yield from told_of(name, ".descriptors")
+    data, text = bytes_of(name, ".descriptors"), bytes_of(name, ".txt")
+    if is_dump(data):
+        yield ends_with(["build"], text, f"3 usbdesc: listing fault 6 line {text.count(10) + 1}")
+        yield ends_with(["enumerate"], data, f"3 usbdesc: file fault 6 at {len(data)}")
+    else:
+        yield Run(["build"], text, 0, data)
+    yield from fronts(data)
+
+
+def listing(name):
+    yield Run(["build"], bytes_of(name, ".txt"), 0, bytes_of(name, ".file"))
+
+
+def broken(name):
+    yield Run(["build"], bytes_of(name, ".txt"), 3, b"", bytes_of(name, ".fault"))
+
+
+def output(line):
+    """A run with options. The line of a fault must stand in the text too."""
+    name, status, source, *words = line.split()
+    text = bytes_of(name)
+    faults = re.findall(rb"^  ! ((?:set|file) fault \d+ at \d+|trailing bytes at \d+): ", text, flags=re.M) if status != "0" else []
+    yield Run(words, bytes_of(source), int(status), text, b"".join(b"usbdesc: %b\n" % fault for fault in faults))
+
+
+KINDS = {"set": set_, "file": file, "dump": dump, "listing": listing, "broken": broken, "output": output}
+
+
+def lines_of_list():
+    """The kind and the rest of each line."""
+    for line in bytes_of("list").decode().splitlines():
+        if line and not line.startswith("#"):
+            kind, _, name = line.partition(" ")
+            if kind != "rows" and kind not in KINDS:
+                raise Fault(f"list: nothing is called {kind}")
+            yield kind, name
+
+
+def unlisted():
+    """The files that the list leaves out."""
+    listed = {word for _, name in lines_of_list() for word in name.split()}
+    for pattern in LISTED:
+        for path in sorted(glob.glob(pattern)):
+            if path not in listed and os.path.splitext(path)[0] not in listed:
+                yield path

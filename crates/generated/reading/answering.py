@@ -1,0 +1,106 @@
+"""Hosts that are answered by a fixed generator: by anything, or by a device whose answers are now and then others.
+
+The host and the device are those of the second reading of an enumeration, enumerating.py beside the scripts of `player`.
+"""
+
+import os
+import sys
+
+from changing import Numbers
+
+sys.path.insert(0, os.path.join(os.path.dirname(os.path.abspath(__file__)), "../../player/reading"))
+from enumerating import Device, File, Host  # noqa: E402
+
+HOSTS = 10_000
+MORE = 4
+
+
+def new_host(numbers):
+    address = numbers.below(127) + 1
+    naks = numbers.below(4)
+    return Host("full", address, naks, numbers.below(8) + 1)
+
+
+def any_answer(numbers, b):
+    """Any answer; a packet begins as these bytes do."""
+    kind = numbers.below(8)
+    if kind < 5:
+        return ["ack", "ack", "nak", "stall", "silence"][kind]
+    if kind == 5:
+        return True, b""
+    return kind == 7, b[: numbers.below(65)]
+
+
+def other_answer(numbers, kind, answer):
+    """Another answer, of this kind, and whether the device hears the ACK of it."""
+    if kind < 4:
+        return ["ack", "nak", "stall", "silence"][kind], False
+    if isinstance(answer, str):
+        return (True, b""), False
+    one, b = answer
+    if kind == 4:
+        return (not one, b), False
+    if kind == 5:
+        return (one, b[:-1]), True
+    if kind == 6:
+        return (one, b + b"\x00"), True
+    place, value = numbers.below(max(len(b), 1)), numbers.below(256)
+    return (one, b[:place] + bytes([value]) + b[place + 1 :] if b else b), True
+
+
+def end(host):
+    """How a host has ended: what that is counted as, and what it has read or at which step it has ended."""
+    if host.due != "ended":
+        return "host, asking", ""
+    if host.outcome:
+        return f"host, trouble {host.outcome} {host.step.split()[0]}", host.step
+    return "host, success", host.read.hex()
+
+
+def settled(host, numbers, b):
+    """The line of a host, and its kind. One that has ended is answered some more, and must keep its outcome."""
+    before = end(host)
+    line = f"{before[0]} {before[1]} attempts {host.resets} transactions {host.transactions}\n"
+    for _ in range(MORE if host.due == "ended" else 0):
+        host.take(any_answer(numbers, b))
+        host.reset_done()
+    return line, before[0] if end(host) == before else "host, changed"
+
+
+def anything(b):
+    numbers = Numbers(1)
+    for _ in range(HOSTS):
+        host = new_host(numbers)
+        for _ in range(numbers.below(64)):
+            if host.due == "reset":
+                host.reset_done()
+            elif host.due == "send":
+                host.take(any_answer(numbers, b))
+        yield settled(host, numbers, b)
+
+
+def exchange(host, device, kind, times, numbers):
+    """A transaction, in which the device's answer is another one once in so many times."""
+    lies = numbers.below(times) == 0
+    answer = device.serve(host.transfer.address, host.transfer.token())
+    acknowledged = isinstance(answer, tuple)
+    if lies:
+        answer, acknowledged = other_answer(numbers, kind, answer)
+    host.take(answer)
+    if acknowledged:
+        device.acked()
+
+
+def lies(b):
+    numbers, device = Numbers(2), Device(File(b))
+    for _ in range(HOSTS):
+        host = new_host(numbers)
+        device.reset()
+        answers, kind, times = numbers.below(256), numbers.below(8), numbers.below(32) + 2
+        for _ in range(answers):
+            if host.due == "reset":
+                device.reset()
+                host.reset_done()
+            elif host.due == "send":
+                exchange(host, device, kind, times, numbers)
+        yield settled(host, numbers, b)

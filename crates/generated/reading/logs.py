@@ -1,0 +1,106 @@
+"""The log of an enumeration, by docs/ENUMERATION.md: what each step writes. Both ends are those of the second reading of
+an enumeration, enumerating.py beside the scripts of `player`."""
+
+import copy
+import os
+import sys
+
+sys.path.insert(0, os.path.join(os.path.dirname(os.path.abspath(__file__)), "../../player/reading"))
+from enumerating import BUSY, MALFORMED, NO_ANSWER, STALLED, TOO_LONG, UNEXPECTED, word  # noqa: E402
+
+KINDS = {1: "device", 2: "configuration", 3: "string", 6: "qualifier", 7: "other-speed configuration"}
+WIDTHS = [6, 2, 13, 15, 12, 23, 22]
+
+
+def request(setup):
+    """A request in words."""
+    value, index, length = word(setup, 2), word(setup, 4), word(setup, 6)
+    if setup[1] == 5:
+        return f"SET_ADDRESS {value}"
+    if setup[1] == 9:
+        return f"SET_CONFIGURATION {value}"
+    language = f" language 0x{index:04x}" if value >> 8 == 3 and value & 255 else ""
+    return f"GET_DESCRIPTOR {KINDS[value >> 8]} {value & 255}{language}, {length} bytes"
+
+
+def transfer_line(step, transfer):
+    address = transfer.address
+    return f"{step}: {request(transfer.setup)}, to address {address}, {transfer.setup.hex()}\n"
+
+
+def has_data(answer):
+    return isinstance(answer, tuple)
+
+
+def answer_words(answer):
+    if has_data(answer):
+        return f"< DATA{int(answer[0])}"
+    return "" if answer == "silence" else f"< {answer.upper()}"
+
+
+def marked(words, is_lost):
+    return f"{words} lost" if words and is_lost else words
+
+
+def going_words(before, after, came):
+    """What a transfer has that goes on."""
+    if came == "ack":
+        return "accepted"
+    if came == "nak":
+        return f"NAK {after.naks}"
+    if has_data(came):
+        if before.one != after.one:
+            return f"has {len(after.got)} of {after.length}"
+        return f"duplicate, strike {after.strikes}"
+    return f"strike {after.strikes}"
+
+
+def host_words(host, before, came):
+    """What the host has, after it has taken what came."""
+    after = copy.copy(before)
+    why = after.take(came)
+    host.take(came)
+    if why is None:
+        return going_words(before, after, came)
+    if why == 0:
+        return "complete: malformed" if host.outcome == MALFORMED else "complete"
+    busy = f"NAK {after.naks}: busy"
+    return {NO_ANSWER: "strike 3: no answer", BUSY: busy, STALLED: "stalled", TOO_LONG: "too long", UNEXPECTED: "unexpected"}[why]
+
+
+def device_words(device):
+    stage = f"sending {device.sent}" if device.stage == "sending" else device.stage.replace("_", " ")
+    return f"{device.address}/{device.selected} {stage}"
+
+
+def transaction_line(device, host, number, fate):
+    """One transaction, and its line."""
+    before = copy.copy(host.transfer)
+    token = before.token()
+    answer = "silence" if fate == "d" else device.serve(before.address, token, fate != "n")
+    came = "silence" if fate == "u" else answer
+    if has_data(came) and fate != "a":
+        device.acked()
+    acknowledged = marked("> ACK" if has_data(came) else "", fate == "a")
+    sent = marked(f"> {token[0].upper()}", fate == "d")
+    columns = [str(number), fate, sent, marked(answer_words(answer), fate == "u"), acknowledged]
+    columns += [host_words(host, before, came), device_words(device)]
+    data = (answer[1].hex() or "-") if has_data(answer) else ""
+    filled = "".join(words.ljust(width - 1) + " " for words, width in zip(columns, WIDTHS))
+    return ("  " + filled + data).rstrip() + "\n"
+
+
+def steps(device, host, fates):
+    """What each step of an enumeration writes."""
+    number, begun = 0, None
+    while host.due != "ended":
+        if host.due == "reset":
+            device.reset()
+            host.reset_done()
+            yield f"attempt {host.resets}: bus reset\n"
+            continue
+        line = "" if host.transfer is begun else transfer_line(host.step, host.transfer)
+        begun = host.transfer
+        fate = fates[number] if number < len(fates) else "."
+        number += 1
+        yield line + transaction_line(device, host, number, fate)

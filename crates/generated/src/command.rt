@@ -1,0 +1,102 @@
+//! The commands of the program, each over any reader and writer.
+use crate::answer::Answer;
+use crate::tally::Tally;
+use std::alloc::Global;
+use std::io::{Read, Write};
+use usb_bus::Fate;
+use usb_fields::Speed;
+use usb_tool::{
+    Look, Manner, ToolFault, run_build, run_check, run_enumerate, run_enumerate_logged,
+    run_explain, run_show,
+};
+use usb_transfer::Limits;
+
+/// How an input is explained.
+const WHOLE: Manner = Manner {
+    look: Look {
+        brief: false,
+        places: true,
+    },
+    speed: None,
+};
+
+/// The bus of an enumeration.
+#[derive(Drop)]
+pub(crate) struct Bus {
+    pub limits: Limits,
+    pub fates: Vec<Fate>,
+}
+
+/// A command.
+#[derive(Clone, Copy)]
+pub(crate) enum Command {
+    Show,
+    Check,
+    /// With fields and places, at a speed that the descriptors say.
+    Explain,
+    Build,
+    /// At full speed.
+    Enumerate,
+    /// The same with its log.
+    Log,
+}
+
+impl Command {
+    /// The command of this word.
+    pub(crate) fn of(word: &str) -> Option<Command> {
+        match word {
+            "show" => Some(Command::Show),
+            "check" => Some(Command::Check),
+            "explain" => Some(Command::Explain),
+            "build" => Some(Command::Build),
+            "enumerate" => Some(Command::Enumerate),
+            "log" => Some(Command::Log),
+            _ => None,
+        }
+    }
+
+    /// Its word.
+    pub(crate) fn word(self) -> &'static str {
+        match self {
+            Command::Show => "show",
+            Command::Check => "check",
+            Command::Explain => "explain",
+            Command::Build => "build",
+            Command::Enumerate => "enumerate",
+            Command::Log => "log",
+        }
+    }
+
+    /// Carries it out. What the commands promise ends here: whoever calls this is proved without it.
+    pub(crate) fn run<R: Read, W: Write>(
+        self,
+        alloc: Global,
+        r: &mut R,
+        w: &mut W,
+        bus: &Bus,
+    ) -> Result<u8, ToolFault> {
+        let (limits, speed) = (bus.limits, Speed::Full);
+        match self {
+            Command::Show => run_show(alloc, r, w),
+            Command::Check => run_check(alloc, r, w),
+            Command::Explain => run_explain(alloc, r, w, WHOLE),
+            Command::Build => run_build(alloc, r, w),
+            Command::Enumerate => run_enumerate(alloc, r, w, limits, speed, &bus.fates),
+            Command::Log => run_enumerate_logged(alloc, r, w, limits, speed, &bus.fates),
+        }
+    }
+
+    /// Adds its answer to this input to the case, and gives what it writes.
+    pub(crate) fn answer(
+        self,
+        mut input: &[u8],
+        bus: &Bus,
+        tally: &mut Tally,
+    ) -> anyhow::Result<Vec<u8>> {
+        let mut output = Vec::new(tally.alloc);
+        let outcome = self.run(tally.alloc, &mut input, &mut output, bus);
+        let answer = Answer::new(tally.alloc, outcome, output)?;
+        tally.add(self.word(), &answer)?;
+        Ok(answer.output)
+    }
+}
