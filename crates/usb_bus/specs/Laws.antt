@@ -59,6 +59,7 @@ pub record IsOneDevice (room : ℕ) (table : State → SetupPacket → Outcome) 
       served_with room respond table packet d sent ready ≡ served (beside room table respond) packet d sent ready
   pub acks : (d : DeviceView) → acked table packet d ≡ acked (beside room table respond) packet d
 
+-- So it is for every responder and every table.
 abbrev pub RespondersAreOneDevice : Type 0
 RespondersAreOneDevice =
     (room : ℕ) (table : State → SetupPacket → Outcome) (respond : State → SetupPacket → Response) (packet : ℕ) → IsOneDevice room table respond packet

@@ -42,21 +42,23 @@ is_beside_file Reserved kind = false
 abbrev pub is_other_descriptor : Setup → Bool
 is_other_descriptor q = (q.request == 6) && is_beside_file (recipient_of q.request_type) (q.value / 256)
 
--- which requests an owner may answer, by who defines them (table 9-2)
+-- which of the requests that the standard, a class or a vendor defines are open (table 9-2)
 abbrev pub is_open_to : Class → Setup → Bool
 is_open_to classes.Standard q = is_other_descriptor q
 is_open_to classes.Class q = true
 is_open_to classes.Vendor q = true
 is_open_to classes.Reserved q = false
 
+-- which requests an owner may answer
 abbrev pub is_open : Setup → Bool
 is_open q = is_open_to (class_of q.request_type) q
 
--- whether a request asks for bytes from the device (9.3.1 and 9.3.5)
+-- whether a data stage goes to the host (9.3.1)
 abbrev pub is_in : Direction → Bool
 is_in directions.In = true
 is_in directions.Out = false
 
+-- whether a request asks for bytes from the device (9.3.1 and 9.3.5)
 abbrev pub asks_for_bytes : Setup → Bool
 asks_for_bytes q = not (q.length == 0) && is_in (direction_of q.request_type)
 

@@ -17,8 +17,8 @@ IsOfBytes (Bytes bytes) = AreBytes bytes
 IsOfBytes (Done next) = HasBytes next
 IsOfBytes Refused = Unit {0}
 
--- Answers beside a device's own table: a request is answered as the table says, but for one that it refuses and that is
--- open to an owner, whose answer is of bytes.
+-- Answers beside a device's own table: they keep what each table keeps; a request is answered as the own table says, but for
+-- one that it refuses and that is open to an owner; and such an answer is of bytes.
 pub record IsBeside (own table : State → Setup → Outcome) : Type 0 where
   pub keeps : IsTable table
   pub same : (s : State) (q : Setup) → (table s q ≡ own s q) ⊎ ((own s q ≡ Refused) × (is_open q ≡ true))

@@ -44,7 +44,7 @@ brings Pass = true
 brings LostAck = true
 brings fate = false
 
--- whether so does what it answered under the last one
+-- whether what the device answered under the last of these fates reaches the host, and is no NAK
 abbrev pub ends_heard : List Fate → Bool
 ends_heard [] = false
 ends_heard (fate ∷ []) = brings fate

@@ -18,24 +18,25 @@ use Rattle.usb_enumeration.specs.declared.run.Run.{Run}
 use Rattle.usb_enumeration.specs.Beside.{IsBeside}
 use Rattle.usb_enumeration.specs.Enumerate.{IsEnumeration, IsEnumerationAt, HasReadAll, HasCause}
 
--- Whatever a bus does to a host and a device with accepted descriptors: an enumeration that has ended began no attempt too
--- many, and had at most `most` transactions. A success has read these descriptors and configured the device, and any other
--- end has a cause.
+-- An enumeration began no attempt too many, and had at most `most` transactions. If it succeeded it has read these
+-- descriptors and configured the device, and any other end has a cause.
+abbrev pub EndsWell : DescriptorFile → LimitView → List Fate → Run → Type 0
+EndsWell f limits fates run =
+    (run.attempts ≤ limits.attempts) × (run.transactions ≤ most limits) × IfOk run.outcome (HasReadAll f limits.address run.state)
+    × IfErr run.outcome (λ trouble. HasCause limits (fates_used fates run.transactions) run.attempts trouble.why)
+
+-- Whatever a bus does to a host and a device with accepted descriptors, an enumeration ends well.
 abbrev pub EnumerationsEndWell : Type 0
 EnumerationsEndWell =
     (f : DescriptorFile) (speed : Speed) (limits : LimitView) (fates : List Fate) (run : Run) → Accepted f speed → AreBytes (file_bytes f) →
-    IsInRange limits.address limits.attempts → IsEnumeration f speed limits fates run →
-    (run.attempts ≤ limits.attempts) × (run.transactions ≤ most limits) × IfOk run.outcome (HasReadAll f limits.address run.state)
-    × IfErr run.outcome (λ trouble. HasCause limits (fates_used fates run.transactions) run.attempts trouble.why)
+    IsInRange limits.address limits.attempts → IsEnumeration f speed limits fates run → EndsWell f limits fates run
 
 -- The same of a device whose owner answers beside its table: no owner changes what an enumeration reads, or how it ends.
 abbrev pub OwnersChangeNothing : Type 0
 OwnersChangeNothing =
     (f : DescriptorFile) (table : State → Setup → Outcome) (speed : Speed) (limits : LimitView) (fates : List Fate) (run : Run) →
     IsBeside (answer f) table → Accepted f speed → AreBytes (file_bytes f) → IsInRange limits.address limits.attempts →
-    IsEnumerationAt table f.device.packet speed limits fates run →
-    (run.attempts ≤ limits.attempts) × (run.transactions ≤ most limits) × IfOk run.outcome (HasReadAll f limits.address run.state)
-    × IfErr run.outcome (λ trouble. HasCause limits (fates_used fates run.transactions) run.attempts trouble.why)
+    IsEnumerationAt table f.device.packet speed limits fates run → EndsWell f limits fates run
 
 -- Whatever bytes a responder gives, the device's table with it is such a table.
 abbrev pub RespondersAreBeside : Type 0

@@ -50,5 +50,6 @@ module _ (table : State → SetupPacket → Outcome) (packet : ℕ) where
 abbrev pub IsTransaction : DescriptorFile → Fate → Pair → Pair → Type 0
 IsTransaction f fate x y = IsTransactionAt (answer f) f.device.packet fate x y
 
+-- the same of the device's own table
 abbrev pub Runs : DescriptorFile → List Fate → Pair → List Pair → ℕ → Pair → Type 0
 Runs f fates new earlier n last = RunsAt (answer f) f.device.packet fates new earlier n last

@@ -1,8 +1,10 @@
 -- The words for the steps of an enumeration.
 use Rattle.std.specs.Prelude.{ℕ, ◌/◌, ◌%◌, List, [], ◌∷◌, ◌++◌, false, codes}
 use Rattle.std.specs.Fmt.{decimal, digit_glyph}
+use Rattle.usb_transfer.specs.Why.{why_message}
 use Rattle.usb_host.specs.declared.step.Step.{Step}
 use Rattle.usb_host.specs.declared.step.Step.TheVariants as steps
+use Rattle.usb_host.specs.declared.step.Trouble.{Trouble}
 
 -- a number of one byte in two lower-case hexadecimal digits
 abbrev pub two_digits : ℕ → List ℕ
@@ -26,3 +28,7 @@ step_text (steps.OtherSet index) = codes "other_set " ++ decimal index
 step_text steps.Languages = codes "languages"
 step_text (steps.Text language index) = codes "text " ++ four_digits language ++ codes " " ++ two_digits index
 step_text steps.Configure = codes "configure"
+
+-- why an enumeration ended, and at which step, for people
+abbrev pub trouble_message : Trouble → List ℕ
+trouble_message trouble = why_message trouble.why ++ codes ", at step " ++ step_text trouble.step

@@ -1,8 +1,8 @@
 //! The steps of an enumeration.
 ghost use Rattle.std.specs.Prelude.{Some};
-ghost use Rattle.usb_host.specs.StepText.{step_text, two_digits};
+ghost use Rattle.usb_host.specs.StepText.{step_text, trouble_message, two_digits};
 
-use std::fmt;
+use std::{error, fmt};
 use usb_transfer::Why;
 
 /// What a host does in an enumeration, one control transfer a step (USB 2.0, 9.1.2 and 9.4).
@@ -84,3 +84,15 @@ pub struct Trouble {
     /// The reason.
     pub why: Why,
 }
+
+/// The reason's message, and the step.
+impl fmt::Display for Trouble {
+    ghost output = { λ trouble. Some (trouble_message trouble) };
+
+    fn fmt<W: fmt::Write>(&self, f: &mut fmt::Formatter<W>) -> fmt::Result {
+        let Trouble { step, why } = *self;
+        write!(f, "{why}, at step {step}")
+    }
+}
+
+impl error::Error for Trouble {}
