@@ -1,4 +1,4 @@
-"""Rows: what is asked for and what must come, as examples/README.md says them."""
+"""Rows: what is asked for and what must come, as docs/testing.md says them."""
 
 
 class Fault(Exception):

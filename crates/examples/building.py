@@ -1,7 +1,7 @@
 #!/usr/bin/env python3
 """A separate reading of listings: the bytes of the file that a text lists, or the first line at fault and why.
 
-It was written from the tables of docs/LISTING.md and docs/FORMATS.md, in another language and by no function of
+It was written from the tables of docs/formats.md, in another language and by no function of
 this repository. The gate compares what it writes (.ci/readings).
 
     building.py FILE..     writes what comes of each listing FILE: its bytes to the file of that name that ends in

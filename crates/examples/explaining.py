@@ -1,7 +1,7 @@
 #!/usr/bin/env python3
 """A separate reading of what `usbdesc explain` prints, from which the explanations beside the examples come.
 
-It was written from the tables in words (docs/EXPLAIN.md), in another language and by no function of this repository.
+It was written from the tables in words (docs/formats.md), in another language and by no function of this repository.
 Names of class codes and of descriptors of classes are those of data/explain/classes.txt and descriptors.txt. The gate
 compares what it writes (.ci/readings).
 

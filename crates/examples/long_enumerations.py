@@ -2,7 +2,7 @@
 """Writes data/enumerate/long.txt: rows of enumerations with many transactions and many fates, one of them with its log.
 
 What must come is worked out by the second readings of an enumeration (../player/reading/enumerating.py) and of a listing
-(reading.py); a log is read here from docs/ENUMERATION.md once more. The rows of data/enumerate/log.txt, which were worked
+(reading.py); a log is read here from docs/control-transfers.md once more. The rows of data/enumerate/log.txt, which were worked
 by hand, must come to the same, or nothing is written. It shares no code with the crates. The gate compares what it
 writes (.ci/readings).
 """

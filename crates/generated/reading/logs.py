@@ -1,4 +1,4 @@
-"""The log of an enumeration, by docs/ENUMERATION.md: what each step writes. Both ends are those of the second reading of
+"""The log of an enumeration, by docs/control-transfers.md: what each step writes. Both ends are those of the second reading of
 an enumeration, enumerating.py beside the scripts of `player`."""
 
 import copy

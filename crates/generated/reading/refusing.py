@@ -1,7 +1,7 @@
 """A separate reading of what the program answers to any bytes: the listing, the findings, the bytes of a listing and
 what comes of an enumeration, or the line of the fault.
 
-The faults and their places are those of the tables of docs/FORMATS.md, read here over whole bytes and by no function of
+The faults and their places are those of the tables of docs/formats.md, read here over whole bytes and by no function of
 this repository. What an input that has no fault comes to is told by the readings beside those of `examples`.
 """
 
@@ -25,7 +25,7 @@ LEAST = {4: 9, 5: 7, 11: 8}
 INDEX = {2: 6, 7: 6, 4: 8, 11: 7}
 
 
-# What breaks a set, and what breaks a file, by the numbers of docs/FORMATS.md.
+# What breaks a set, and what breaks a file, by the numbers of docs/formats.md.
 SET_MESSAGES = [
     "the first bLength is below 9",
     "the first descriptor is no configuration",

@@ -1,7 +1,7 @@
 #!/usr/bin/env python3
 """A second reading of an enumeration: a device made of a descriptor file, a host, and a bus that loses packets.
 
-It follows the tables of docs/DEVICE.md, docs/BUS.md and docs/HOST.md, over the bytes of the descriptors, and shares no
+It follows the tables of docs/control-transfers.md, over the bytes of the descriptors, and shares no
 code with the crates. write_hosts.py beside it writes what must come by it.
 """
 

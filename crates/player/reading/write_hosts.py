@@ -44,7 +44,7 @@ class Script:
     """The lines of a script, with what must come of each."""
 
     def __init__(self, title):
-        self.lines = [f"# {title}", "# Written by write_hosts.py, a second reading of docs/HOST.md."]
+        self.lines = [f"# {title}", "# Written by write_hosts.py, a second reading of docs/control-transfers.md."]
 
     def host(self, about, speed="full", address=1, naks=16, attempts=3):
         host = Host(speed, address, naks, attempts)

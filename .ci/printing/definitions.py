@@ -1,0 +1,63 @@
+"""The definitions that a reader must read, in three tables: each file with its lines, its sections and its first sentence."""
+
+import re
+
+from . import sources
+
+# What is read with USB 2.0 beside it, and what is said of both ends of a pipe. All other files are the project's own.
+STANDARD = """
+usb_base/Bytes usb_base/Directions usb_base/Fields usb_fields/Fault usb_fields/Device usb_fields/Qualifier usb_fields/Units
+usb_fields/Setup usb_fields/Packet usb_fields/Packets usb_set/Descriptors usb_set/Parts usb_set/Owners usb_set/Layout
+usb_set/Endpoints usb_file_data/Named usb_file_data/StringPlaces usb_rules/Places usb_rules/Rules usb_description/Descriptors
+usb_description/Described usb_device/States usb_device/Requests usb_device/Step usb_device/Beside usb_device/View
+usb_transfer/Transfer usb_host/Requests usb_host/Read usb_host/Order
+""".split()
+BOTH = ["usb_transfer/Plan"]
+BOTH_CRATES = ["usb_bus", "usb_enumeration"]
+# Cited by contracts, and not to be read: how the code holds a device whose calls say all that is known of it.
+LEFT_OUT = ["usb_device/Stages", "usb_device/EndpointZero"]
+
+
+def short_name(path):
+    return re.sub(r"^crates/(\w+)/specs/(.*)\.antt$", r"\1/\2", path)
+
+
+def table_of(name):
+    if name in LEFT_OUT:
+        return None
+    if name in STANDARD:
+        return "standard"
+    return "both" if name in BOTH or name.split("/")[0] in BOTH_CRATES else "own"
+
+
+def in_reading_order(paths):
+    """A file comes after those of its crate that it imports."""
+    left, done = list(paths), []
+    while left:
+        names = {short_name(path) for path in left}
+        for path in left:
+            crate = path.split("/")[1]
+            imports = re.findall(rf"use Rattle\.{crate}\.specs\.(\w+)", sources.text_of(path))
+            if not any(f"{crate}/{it}" in names - {short_name(path)} for it in imports):
+                break
+        else:
+            path = left[0]
+        left.remove(path)
+        done.append(path)
+    return done
+
+
+def files_of(table):
+    for crate in sources.libraries():
+        paths = [path for path in sources.definitions(crate) if "/inside/" not in path]
+        yield from (path for path in in_reading_order(paths) if table_of(short_name(path)) == table)
+
+
+def printed(table):
+    paths = list(files_of(table))
+    total = sum(sources.lines_of(path) for path in paths)
+    rows = [f"{len(paths)} files, {total:,} lines:", "", "| File | Lines | Sections | What it says |", "|---|---|---|---|"]
+    for path in paths:
+        sections = ", ".join(sources.sections_of(path))
+        rows.append(f"| `{short_name(path)}` | {sources.lines_of(path)} | {sections} | {sources.first_sentence(path)} |")
+    return "\n".join(rows)

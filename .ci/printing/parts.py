@@ -1,0 +1,69 @@
+"""The printed parts of the documents, which stand between two marks: '<!-- printed: KIND WORDS -->' and '<!-- end -->'."""
+
+import glob
+import re
+
+from . import definitions, drawing, files, promises, sources
+
+PART = re.compile(r"(<!-- printed: (\w+)([^>]*?) -->\n)(.*?)(<!-- end -->)", flags=re.S)
+
+
+def documents():
+    return ["README.md", "CONTRIBUTING.md", *sorted(glob.glob("docs/*.md"))]
+
+
+def fenced(lines, language=""):
+    return "\n".join([f"```{language}", *lines, "```"])
+
+
+def of_file(path, most=None):
+    """A file, or its first lines."""
+    lines = sources.text_of(path).splitlines()
+    return fenced(lines[: int(most)] if most else lines, "rust" if path.endswith(".rt") else "")
+
+
+def of_row(path, number, most=None):
+    """What a row wants on standard output, or its first lines: of the rows that want some this is so many-th, from 1."""
+    blocks = re.findall(r"(?:^> .*\n)+", sources.text_of(path), flags=re.M)
+    wanted = [line[2:] for line in blocks[int(number) - 1].splitlines()]
+    return fenced(wanted[: int(most)] if most else wanted)
+
+
+def of_output(name):
+    """What the program writes with options, as `examples/list` says it, with the line that is typed for it."""
+    found = re.search(rf"^output {re.escape(name)} 0 (\S+) (.*)$", sources.text_of("examples/list"), flags=re.M)
+    typed = f"$ (cd crates/usbdesc && rt try -- {found[2]} < ../../examples/{found[1]})"
+    return fenced([typed, *sources.text_of(f"examples/{name}").splitlines()], "console")
+
+
+def of_counts():
+    """How much `examples/list` names, by its kinds."""
+    words = {"rows": "files of rows", "set": "sets", "file": "files", "dump": "dumps", "listing": "listings", "broken": "broken listings"}
+    kinds = re.findall(r"^(\w+) ", sources.text_of("examples/list"), flags=re.M)
+    return ", ".join(f"{kinds.count(kind)} {word}" for kind, word in words.items()) + "."
+
+
+KINDS = {
+    "promises": promises.printed,
+    "definitions": definitions.printed,
+    "files": files.printed,
+    "file": of_file,
+    "row": of_row,
+    "output": of_output,
+    "counts": of_counts,
+    "crates": drawing.printed,
+}
+
+
+def printed(kind, words):
+    return KINDS[kind](*words)
+
+
+def renewed(text):
+    """The text with all of its parts printed anew."""
+    return PART.sub(lambda part: part[1] + printed(part[2], part[3].split()) + "\n" + part[5], text)
+
+
+def by_hand(text):
+    """The text without its printed parts."""
+    return PART.sub("", text)
