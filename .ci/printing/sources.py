@@ -26,6 +26,11 @@ def definitions(crate):
     return sorted(named, key=lambda path: ("/inside/" in path, path))
 
 
+def lemmas(crate):
+    """The files of lemmas of a crate, without what is answered for single functions."""
+    return [path for path in sorted(glob.glob(f"crates/{crate}/proofs/*.antt")) if os.path.basename(path) != "Lib.antt"]
+
+
 def code(crate):
     """The files of code of a crate, the root first."""
     found = glob.glob(f"crates/{crate}/src/**/*.rt", recursive=True)
