@@ -22,6 +22,11 @@ def of_file(path, most=None):
     return fenced(lines[: int(most)] if most else lines, "rust" if path.endswith(".rt") else "")
 
 
+def of_program(name):
+    """One of the three programs over the crate nozzlegorse, which the crate library_tests runs; nothing without that crate."""
+    return of_file(f"crates/library_tests/src/{name}.rt") if "nozzlegorse" in sources.crates() else ""
+
+
 def of_row(path, number, most=None):
     """What a row wants on standard output, or its first lines: of the rows that want some this is so many-th, from 1."""
     blocks = re.findall(r"(?:^> .*\n)+", sources.text_of(path), flags=re.M)
@@ -48,6 +53,7 @@ KINDS = {
     "definitions": definitions.printed,
     "files": files.printed,
     "file": of_file,
+    "program": of_program,
     "row": of_row,
     "output": of_output,
     "counts": of_counts,

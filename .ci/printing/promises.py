@@ -82,8 +82,11 @@ def printed(*crates):
     """A table of each of these libraries, or of all that users call."""
     parts = []
     for crate in crates or (crate for crate in sources.libraries() if crate not in WITHIN):
+        calls = list(calls_of(crate))
+        if not calls:
+            continue
         rows = [f"### {crate}", "", "| Call | What is promised | Definitions |", "|---|---|---|"]
-        for name, said, definitions in calls_of(crate):
+        for name, said, definitions in calls:
             words = said.replace("|", "\\|")
             rows.append(f"| `{name}` | {words} | {', '.join(f'`{it}`' for it in definitions)} |")
         parts.append("\n".join(rows))
