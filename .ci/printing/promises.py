@@ -18,13 +18,15 @@ def comment_of(above):
     said = [part for part in parts[:1] if not part.startswith("#")]
     if "# Errors" in parts:
         below = parts[parts.index("# Errors") + 1 :]
-        said += [f"*Errors:* {part}" for part in below[:1]]
+        end = next((number for number, part in enumerate(below) if part.startswith("#")), len(below))
+        said += ["*Errors:*", *below[:end]]
     return " ".join(said)
 
 
 def cited(contract, imported):
     """The definitions of specs/ that a contract cites, in the order in which it does."""
-    words = re.findall(r"[A-Za-z_]\w*", contract)
+    # The names of clauses are none.
+    words = re.findall(r"[A-Za-z_]\w*", re.sub(r"\b(ensures|requires) \w+ \{", r"\1 {", contract))
     return list(dict.fromkeys(word for word in words if word in imported))
 
 
