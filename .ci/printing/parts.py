@@ -19,7 +19,7 @@ def fenced(lines, language=""):
 def of_file(path, most=None):
     """A file, or its first lines."""
     lines = sources.text_of(path).splitlines()
-    return fenced(lines[: int(most)] if most else lines, "rust" if path.endswith(".rt") else "")
+    return fenced(lines[: int(most)] if most else lines, "rs" if path.endswith(".rt") else "")
 
 
 def of_program(name):

@@ -4,9 +4,9 @@ import re
 
 from . import sources
 
-# Layers of an explanation, which no user calls.
-WITHIN = ["usb_names", "usb_words", "usb_survey", "usb_explained_fields", "usb_explained_lines"]
-ITEM = re.compile(r"^( *)pub fn (\w+)")
+# Layers of an explanation and of the static library, which no user calls.
+WITHIN = ["usb_names", "usb_words", "usb_survey", "usb_explained_fields", "usb_explained_lines", "usb_calls"]
+ITEM = re.compile(r"^( *)pub (extern \"C\" )?fn (\w+)")
 HEAD = re.compile(r"^impl(?:<[^{]*?>)? (?:(\w+)[^{]* for )?(?:&(?:'\w+ )?(?:mut )?)?(\w+)")
 
 
@@ -66,8 +66,8 @@ def calls_of(crate):
                 continue
             item = ITEM.match(line)
             if item is not None:
-                name = item[2] if owner is None else f"{owner}::{item[2]}"
-                within = owner in names if owner else item[2] in names or module in modules
+                name = item[3] if owner is None else f"{owner}::{item[3]}"
+                within = owner in names if owner else item[2] or item[3] in names or module in modules
                 contract = []
                 for further in lines[number + 1 :]:
                     if further.strip() in ("{", "{}") or further == item[1] + "}":
