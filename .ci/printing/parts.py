@@ -1,6 +1,7 @@
 """The printed parts of the documents, which stand between two marks: '<!-- printed: KIND WORDS -->' and '<!-- end -->'."""
 
 import glob
+import os
 import re
 
 from . import definitions, drawing, files, promises, sources
@@ -22,9 +23,13 @@ def of_file(path, most=None):
     return fenced(lines[: int(most)] if most else lines, "rs" if path.endswith(".rt") else "")
 
 
-def of_program(name):
-    """One of the three programs over the crate nozzlegorse, which the crate library_tests runs; nothing without that crate."""
-    return of_file(f"crates/library_tests/src/{name}.rt") if "nozzlegorse" in sources.crates() else ""
+def of_programs(crate, *names):
+    """Programs that a crate of tests has and the gate runs, one file each; nothing where the crate has not all of them."""
+    paths = [f"crates/{crate}/src/{name}.rt" for name in names]
+    if not all(os.path.exists(path) for path in paths):
+        return ""
+    head = f"A driver, a firmware and a test bench, each a file of `crates/{crate}` that the gate proves and runs:"
+    return "\n\n".join([head, *(of_file(path) for path in paths)])
 
 
 def of_row(path, number, most=None):
@@ -53,7 +58,7 @@ KINDS = {
     "definitions": definitions.printed,
     "files": files.printed,
     "file": of_file,
-    "program": of_program,
+    "programs": of_programs,
     "row": of_row,
     "output": of_output,
     "counts": of_counts,
