@@ -1,5 +1,5 @@
 #!/usr/bin/env python3
-"""Writes the scripts of answers beside a device's table (docs/DEVICE.md, "Requests beside the table").
+"""Writes the scripts of answers beside a device's table (docs/control-transfers.md, "Requests beside the table").
 
 What must come of each step is worked out here, over the table of write_scripts.py, and not by the program that plays
 the scripts. Run it in this folder: it writes ../data/scripts/answers-*.script.

@@ -14,7 +14,7 @@ import lists  # noqa: E402
 DEVICES = [("qemu-usb-mouse", "full"), ("with-everything", "high"), ("gadget-webcam", "high")]
 
 with open("../data/hosts/enumerations.script", "w", encoding="ascii") as out:
-    print("# Whole enumerations over a bus that loses packets.\n# Written by write_enumerations.py, a second reading of docs/HOST.md.", file=out)
+    print("# Whole enumerations over a bus that loses packets.\n# Written by write_enumerations.py, a second reading of docs/control-transfers.md.", file=out)
     for name, speed in DEVICES:
         print(f"\nfile {name}.file -> read\nspeed {speed} -> accepted", file=out)
         for naks in (16, 0):

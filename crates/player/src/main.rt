@@ -5,7 +5,7 @@
 //! one file. With the word `-` steps are read from standard input, and what comes of each is written at once, so that
 //! another program can drive what is here.
 //!
-//! The lines stand in `docs/SCRIPTS.md`.
+//! The lines stand in `docs/testing.md`.
 #![tactic(auto)]
 
 mod answer;
@@ -68,7 +68,7 @@ fn run(rt: &HostRuntime) -> Result<u8> {
 
 /// Prints how the program is used, and each step.
 fn help<R: Print + AllocGlobal>(rt: &R) -> Result<u8> {
-    print!(rt; "{USAGE}\nSteps, of which docs/SCRIPTS.md says what each does:\n")?;
+    print!(rt; "{USAGE}\nSteps, of which docs/testing.md says what each does:\n")?;
     for (_, form) in STEPS.iter() {
         println!(rt; "    {form}")?;
     }
