@@ -5,7 +5,7 @@
 //! one file. With the word `-` steps are read from standard input, and what comes of each is written at once, so that
 //! another program can drive what is here.
 //!
-//! The lines stand in `docs/SCRIPTS.md`.
+//! The lines stand in `docs/testing.md`.
 #![tactic(auto)]
 
 mod answer;
