@@ -1,6 +1,6 @@
 //! Goes through what the file `list` of `data/` names, and asks the libraries what can't be asked of the built program
 //! (`.ci/rows`): files of rows, each of which says what is asked for and what must come, and sets and files, which are
-//! written again. It stops at the first that differs. `data/README.md` says how rows are written.
+//! written again. It stops at the first that differs. `docs/testing.md` says how rows are written.
 #![tactic(auto)]
 
 mod answers;

@@ -1,8 +1,8 @@
-//! What all crates on USB descriptors stand on: lists that contracts see as lists, and bytes.
+//! What all crates on USB descriptors use: lists that contracts see as lists, and bytes.
 //!
 //! * [`Sequence`], the list type of public fields. In a contract it is its elements in order, so that
 //!   a whole tree of structs is plain data there, which is compared by one equation.
-//! * [`known_bytes`], which tells a proof that the elements of a slice of bytes are bytes.
+//! * [`known_bytes`], by which a proof knows that the elements of a slice of bytes are bytes.
 //! * [`Marks`], a set of bytes, for walks that look back.
 //! * [`word_at`] and [`word_bytes`], which read and write a 16-bit field (USB 2.0, 8.1).
 //! * [`Direction`], which way data goes.

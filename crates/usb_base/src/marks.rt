@@ -30,7 +30,7 @@ impl Model for Marks {
 }
 
 impl Marks {
-    /// With no byte.
+    /// A set without a byte.
     pub fn new() -> Marks
         ensures { is_marked result ≡ unmarked }
     {

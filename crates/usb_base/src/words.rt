@@ -2,7 +2,7 @@
 ghost use Rattle.std.specs.Prelude.{◌≡◌, ◌+◌, ◌<◌, [], ◌∷◌, length, slice_index};
 ghost use Rattle.usb_base.specs.Bytes.{little_endian, little_endian_at};
 
-/// The 16-bit field whose low byte stands at `at`.
+/// The 16-bit field at `at`, its low byte first (USB 2.0, 8.1).
 ///
 /// ```rust
 /// assert_eq!(rt; word_at(&[18, 1, 0x10, 0x01], 2), 0x0110);
@@ -20,7 +20,7 @@ pub fn word_at(b: &[u8], at: usize) -> u16
     u16::from_le_bytes([b[at], b[at + 1]])
 }
 
-/// The two bytes of a 16-bit field.
+/// The two bytes of a 16-bit field, the low byte first.
 ///
 /// ```rust
 /// assert_eq!(rt; word_bytes(0x0110), [0x10, 0x01]);

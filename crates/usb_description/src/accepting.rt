@@ -10,7 +10,7 @@ use usb_fields::{Speed, USB_2_0};
 use usb_file_data::{DescriptorFile, Strings, WriteFault, are_wrong_strings, write_refusal};
 use usb_rules::check;
 
-/// Refuses a file that is no description of a device of this speed. Its sets have bytes, and it names so many strings.
+/// Rejects a file that is no description of a device of this speed. Its sets have bytes, and it names so many strings.
 pub(crate) fn examine(
     alloc: Global,
     f: &DescriptorFile,
@@ -57,7 +57,7 @@ fn has_wrong_strings(f: &DescriptorFile, count: usize) -> bool
     are_wrong_strings(count, &f.strings) || repeats_language(&f.strings)
 }
 
-/// Whether a language stands twice in the language list.
+/// Whether a language is twice in the language list.
 fn repeats_language(strings: &Option<Strings>) -> bool
     ensures { result ≡ repeats_language strings.now }
 {
@@ -67,7 +67,7 @@ fn repeats_language(strings: &Option<Strings>) -> bool
     }
 }
 
-/// Whether a number stands twice in the list.
+/// Whether a number is twice in the list.
 fn repeats(numbers: &[u16]) -> bool
     ensures { result ≡ repeats numbers.now }
 {

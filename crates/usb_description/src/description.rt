@@ -1,4 +1,4 @@
-//! What a device tells of itself, ready to be sent.
+//! The descriptors of a device, ready to be sent.
 ghost use Rattle.std.specs.Prelude.{◌≡◌, ◌<◌, ◌*◌, ◌==◌, length, position, IfErr, IfOk, IfSome, MatchOption, OnOk, None};
 ghost use Rattle.std.specs.Option.{option_copied};
 ghost use Rattle.usb_base.specs.Bytes.{AreBytes};
@@ -54,11 +54,12 @@ impl Description {
     ghost use Rattle.usb_description.specs.Places.{descriptors, descriptor_at, IsFound};
     ghost use Rattle.usb_file_data.specs.Named.{named_indices};
 
-    /// The description of a device of this speed: each of its descriptors is encoded here, once.
+    /// The description of a device of this speed, exactly where the file is accepted: each of its descriptors is encoded
+    /// here, once.
     ///
     /// # Errors
     ///
-    /// [`DescriptionFault`], the first that holds in its order. The file is dropped then.
+    /// [`DescriptionFault`], the first that applies in its order. The file is dropped then.
     #[tactic(auto, using(crate::proofs::AcceptedLemmas::strings_have_bytes))]
     pub fn new(alloc: Global, f: DescriptorFile, s: Speed) -> Result<Description, DescriptionFault>
         ensures ok { IfOk result (λ d. d ≡ record { file = f; speed = s }) }
@@ -120,12 +121,12 @@ impl Description {
         usize::from(self.file.device.packet)
     }
 
-    /// The bytes of the descriptor at this place, lent from the description: those of a whole set where a set stands
+    /// The bytes of the descriptor at this place, lent from the description: those of a whole set where a set is
     /// there (USB 2.0, 9.4.3). Places count from 0, in the order of the file.
     ///
     /// # Requires
     ///
-    /// A descriptor stands at the place, as at each that [`Description::find`] gives.
+    /// A descriptor is at the place, as at each that [`Description::find`] gives.
     #[tactic(auto, using(crate::proofs::PlaceLemmas::descriptor_found))]
     #[inline(always)]
     pub fn bytes(&self, place: usize) -> &[u8]
@@ -137,7 +138,7 @@ impl Description {
 
     /// The place of the descriptor of this type and index, in this language where it is a string, or `None` where the
     /// device has none such. `kind` and `index` are the high and the low byte of wValue in GET_DESCRIPTOR, and
-    /// `language` is its wIndex (USB 2.0, 9.4.3). [`Description::bytes`] lends what stands there.
+    /// `language` is its wIndex (USB 2.0, 9.4.3). [`Description::bytes`] lends the bytes there.
     #[inline(always)]
     pub fn find(&self, kind: u8, index: u8, language: u16) -> Option<usize>
         ensures { MatchOption result (descriptor self.now.file kind index language ≡ None) (IsFound self.now.file (descriptor self.now.file kind index language)) }

@@ -6,7 +6,7 @@ use thiserror::Error;
 use usb_rules::Finding;
 
 /// Why a descriptor file is no description of a device. They are tested in the order `Unwritable`,
-/// `Finding`, `Texts`, `Speed`, and the first that holds is told; `Memory` only when out of memory.
+/// `Finding`, `Texts`, `Speed`, and the first that applies is reported; `Memory` only when out of memory.
 ///
 /// ```rust
 /// // At high speed endpoint zero has packets of 64 bytes.
@@ -20,7 +20,7 @@ pub enum DescriptionFault {
     /// A rule is broken: what [`usb_rules::check`] finds first.
     #[error("{0}")]
     Finding(Finding),
-    /// The strings are not those that the file names, or a language stands twice in the language list.
+    /// The strings are not those that the file names, or a language is twice in the language list.
     #[error("the strings are not those that the file names, or a language stands twice")]
     Texts,
     /// No device of this speed has such descriptors: at low speed a packet size other than 8 or a second

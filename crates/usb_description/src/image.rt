@@ -12,7 +12,7 @@ use usb_fields::{UnitFault, write_units_onto};
 use usb_set::{Configuration, EncodeFault};
 use usb_set_encoder::encode_onto;
 
-/// Where a byte string stands.
+/// Where a byte string is.
 #[derive(Clone, Copy, Debug)]
 struct Span {
     start: usize,
@@ -39,7 +39,7 @@ impl Model for Image {
 }
 
 impl Image {
-    /// With none.
+    /// An image without any.
     pub(crate) fn new(alloc: Global) -> Image
         ensures { result ≡ [] }
     {

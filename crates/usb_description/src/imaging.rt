@@ -17,7 +17,7 @@ use usb_fields::UnitFault;
 use usb_file_data::{DescriptorFile, Other, Strings, has_undeclared_sets};
 use usb_set::{Configuration, EncodeFault, Sequence};
 
-/// Adds the descriptors of both speeds, and answers how many stand before those of the second.
+/// Adds the descriptors of both speeds, and answers how many are before those of the second.
 pub(crate) fn add_speeds(image: &mut Image, f: &DescriptorFile) -> Result<usize, DescriptionFault>
     ensures descriptors { OnOk result (image.new ≡ image.old ++ main_descriptors f.now ++ other_descriptors f.now.other) }
     ensures others { IfOk result (λ place. place ≡ length (image.old ++ main_descriptors f.now)) }
@@ -42,7 +42,7 @@ fn first_reason(f: &DescriptorFile) -> DescriptionFault
     }
 }
 
-/// The same, or `None` where something stands against the sets or out of memory.
+/// The same, or `None` where the sets have no bytes or out of memory.
 #[tactic(auto, unfolding(crate::specs::Accepted::has_wrong_sets))]
 fn add_declared(image: &mut Image, f: &DescriptorFile) -> Option<usize>
     ensures descriptors { OnSome result (image.new ≡ image.old ++ main_descriptors f.now ++ other_descriptors f.now.other) }

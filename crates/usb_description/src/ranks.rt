@@ -1,13 +1,13 @@
-//! Numbers in order, and where each stands among them.
+//! Numbers in order, and the rank of each among them.
 ghost use Rattle.std.specs.Prelude.{◌≡◌, ◌<◌, ◌≤◌, ◌==◌, length, position, IfSome};
 ghost use Rattle.usb_description.specs.inside.Ranks.{HasRanks};
 
 use std::marker::Model;
 
-/// What stands in a table of ranks for a number that is none of the list.
+/// The entry of a table of ranks for a number that is none of the list.
 const ABSENT: u8 = 255;
 
-/// A list of at most 255 bytes, with a table of where each byte stands in it, so that no look-up goes over the list.
+/// A list of at most 255 bytes, with a table of the rank of each byte, so that no look-up goes over the list.
 #[derive(Debug, Drop)]
 pub(crate) struct Ranks {
     numbers: Vec<u8>,
@@ -44,7 +44,7 @@ impl Ranks {
         self.numbers.len()
     }
 
-    /// Where the number stands first, if it does.
+    /// The first place of the number, if it has one.
     #[inline(always)]
     pub(crate) fn place(&self, number: u8) -> Option<usize>
         ensures place { result ≡ position (λ n. n == number) self.now }

@@ -1,4 +1,4 @@
--- A device's end of control transfers: what it answers to a transaction, and where it stands then (USB 2.0, 8.5.3 and
+-- A device's end of control transfers: what it answers to a transaction, and its stage after it (USB 2.0, 8.5.3 and
 -- 9.2.6). For any answers to requests, and any packet size of endpoint zero.
 use Rattle.std.specs.Prelude.{ℕ, suc, ◌%◌, ◌==◌, ◌||◌, ◌&&◌, Bool, true, false, List, [], ◌∷◌, drop, if◌then◌else◌, Option, Some, None}
 use Rattle.usb_fields.specs.declared.packet.Toggle.{Toggle}

@@ -7,8 +7,8 @@ use usb_fields::{Class, Recipient, Setup, request};
 /// The most bytes of an answer, which a device keeps: [`Device::answer_with`](crate::Device::answer_with).
 pub const ROOM: usize = 512;
 
-/// Whether a device's owner may answer the request, where the device refuses it: class and vendor requests, and
-/// GET_DESCRIPTOR of what the descriptor file doesn't tell. That is any descriptor of an interface or endpoint, and of
+/// Whether a device's owner may answer the request, where the device rejects it: class and vendor requests, and
+/// GET_DESCRIPTOR of what isn't in the descriptor file. That is any descriptor of an interface or endpoint, and of
 /// the device any but those of types 1, 2, 6 and 7, so that a device without a second speed stays one.
 ///
 /// ```rust

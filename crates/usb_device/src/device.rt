@@ -13,9 +13,9 @@ use std::marker::Model;
 use usb_description::Description;
 use usb_fields::{Answer, Setup, Transaction};
 
-/// A device on the bus: it answers each transaction as USB 2.0 says, by its description. It takes no
-/// memory: the bytes of an [`Answer::Data`] are lent from the description, or from a room in the device, which
-/// keeps a status or its owner's answer to a request that the device itself refuses.
+/// A device on the bus: it answers each transaction as USB 2.0 says, by its description. It never
+/// allocates: the bytes of an [`Answer::Data`] are lent from the description, or from a room in the device, which
+/// keeps a status or its owner's answer to a request that the device itself rejects.
 ///
 /// ```rust
 /// // GET_DESCRIPTOR of the first 8 bytes of the device descriptor.
@@ -71,8 +71,8 @@ impl<'d> Device<'d> {
         self.endpoint_zero = EndpointZero::new(self.description);
     }
 
-    /// One transaction. Where `ready` is false the device has no time now: it answers NAK, but to a SETUP,
-    /// which every device has to take (USB 2.0, 8.4.6.1, 8.4.6.3 and 8.4.6.4).
+    /// One transaction, answered as the table of requests and the stages say. Where `ready` is false the device has no
+    /// time now: it answers NAK, but to a SETUP, which every device has to take (USB 2.0, 8.4.6.1, 8.4.6.3 and 8.4.6.4).
     #[inline(always)]
     pub fn serve<'a>(&'a mut self, t: &Transaction, ready: bool) -> Answer<'a>
         ensures answer { reply_of result ≡ (served_by self.entry.now.description.file self.entry.now.device (sent_of t.now) ready).reply }
@@ -102,8 +102,8 @@ impl<'d> Device<'d> {
         self.endpoint_zero.packet(self.description)
     }
 
-    /// The host's ACK of the data packet that [`Device::serve`] answered right before. Anywhere else, and a
-    /// second time, it changes nothing.
+    /// The host's ACK of the data packet that [`Device::serve`] answered right before: the next packet is due, or the
+    /// transfer is over. Anywhere else, and a second time, it changes nothing.
     #[inline(always)]
     pub fn acked(&mut self)
         ensures { self.new ≡ record self.old { device = acked_by self.old.description.file self.old.device } }
@@ -111,10 +111,10 @@ impl<'d> Device<'d> {
         self.endpoint_zero.acked(self.description);
     }
 
-    /// The request that is refused, and whose refusal the host was not told yet. A SETUP is acknowledged whatever it
+    /// The request that is rejected, and of whose rejection the host doesn't know yet. A SETUP is acknowledged whatever it
     /// asks for, and the STALL comes with the IN or OUT after it: in between the device's owner may answer the
     /// request, where it [`is_open`](crate::is_open), by [`Device::answer_with`] or [`Device::accept`]. A SETUP whose
-    /// ACK was lost comes again, and its request is then refused anew.
+    /// ACK was lost comes again, and its request is then rejected anew.
     ///
     /// ```rust
     /// let answer = device.serve(&transaction, true);
@@ -135,8 +135,13 @@ impl<'d> Device<'d> {
         self.endpoint_zero.refused()
     }
 
-    /// Answers the request that is refused by these bytes, cut to wLength. They are sent as a descriptor is, with a
-    /// short or an empty packet last where they are fewer than wLength, and kept for that: nothing is borrowed.
+    /// Answers the request that is rejected by these bytes, cut to wLength, as if the table had answered so. They are sent
+    /// as a descriptor is, with a short or an empty packet last where they are fewer than wLength, and kept for that:
+    /// nothing is borrowed.
+    ///
+    /// # Errors
+    ///
+    /// The first of [`Unanswered`] that applies. Nothing has changed then.
     pub fn answer_with(&mut self, bytes: &[u8]) -> Result<(), Unanswered>
         ensures device { self.new ≡ record self.old { device = answered room_size (Gives bytes.now) self.old.device } }
         ensures ok { OnOk result (unanswered (unfit_bytes room_size bytes.now) (refused_in self.old.device.stage) ≡ None) }
@@ -146,7 +151,11 @@ impl<'d> Device<'d> {
         self.endpoint_zero.answer_with(self.description, bytes)
     }
 
-    /// Answers the request that is refused by the status stage of a request without data.
+    /// Answers the request that is rejected by the status stage of a request without data, as if the table had.
+    ///
+    /// # Errors
+    ///
+    /// The first of [`Unanswered`] that applies. Nothing has changed then.
     pub fn accept(&mut self) -> Result<(), Unanswered>
         ensures device { self.new ≡ record self.old { device = answered room_size Does self.old.device } }
         ensures ok { OnOk result (unanswered unfit_status (refused_in self.old.device.stage) ≡ None) }
@@ -158,7 +167,7 @@ impl<'d> Device<'d> {
 
     /// The request that was carried out, one of the table's own too: from the first empty packet of its status stage to
     /// the ACK of it. An owner to whom twice isn't once acts when this turns Some, since an accepted request may come
-    /// again before. The address of a SET_ADDRESS holds from that ACK on.
+    /// again before. The address of a SET_ADDRESS takes effect at that ACK.
     #[inline]
     pub fn carried_out(&self) -> Option<Setup>
         ensures { result ≡ carried_out_in self.now.device.stage }
@@ -173,7 +182,7 @@ impl<'d> Device<'d> {
         self.endpoint_zero.state()
     }
 
-    /// Where it stands in a transfer.
+    /// Its stage in a transfer.
     pub fn stage(&self) -> Stage
         ensures { result ≡ stage_kind self.now.device.stage }
     {

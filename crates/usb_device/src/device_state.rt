@@ -4,7 +4,7 @@ ghost use Rattle.std.specs.Prelude.{◌≡◌};
 use crate::halts::halt_bit;
 use crate::state::State;
 
-/// Where a device stands on its way to work (USB 2.0, table 9-1): the states that a [`State`] can be of.
+/// The states of a device on its way to work (USB 2.0, table 9-1), of which a [`State`] is one.
 #[derive(Clone, Copy, Debug, PartialEq, Eq, Hash)]
 pub enum DeviceState {
     /// It was reset, and answers at address 0 (USB 2.0, 9.1.1.3).

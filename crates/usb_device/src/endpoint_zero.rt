@@ -28,10 +28,10 @@ pub(crate) enum Reaction {
     Silence,
 }
 
-/// What changes in a device: its state, where it stands in a transfer, and whether its last answer waits for an
+/// What changes in a device: its state, its stage in a transfer, and whether its last answer waits for an
 /// ACK. [`Device`](crate::Device) is a pair of a description and this.
 ///
-/// It borrows nothing, and so it can be kept beside its description where a `Device` can't, as behind one pointer of
+/// It borrows nothing, and so it can be kept beside its description where a `Device` can't, as in one handle of
 /// a program in another language. Its calls are given the description, always the one that it was made for.
 ///
 /// ```rust
@@ -53,7 +53,7 @@ pub struct EndpointZero {
     data_stage: DataStage,
     /// In the stages `Halted` and `StatusIn`: the request.
     request: Setup,
-    /// In the stage `Halted`: whether the host was told of the refusal. In `StatusIn`: whether the request was carried
+    /// In the stage `Halted`: whether the host knows of the rejection. In `StatusIn`: whether the request was carried
     /// out, SET_ADDRESS excepted.
     settled: bool,
     pending: bool,
@@ -91,7 +91,7 @@ impl EndpointZero {
         self.state
     }
 
-    /// Where the device stands in a transfer.
+    /// The stage of the device in a transfer.
     pub fn stage(&self) -> Stage
         ensures { (f : DescriptorFile) → result ≡ stage_kind (device_of f self.now).stage }
     {
@@ -189,7 +189,7 @@ impl EndpointZero {
         }
     }
 
-    /// Stands in a stage of a request that isn't settled yet.
+    /// Enters the stage of a request that isn't settled yet.
     #[inline(always)]
     fn wait(&mut self, stage: Stage, q: Setup)
         ensures { self.new ≡ record self.old { stage = stage; request = q; settled = false } }
@@ -229,7 +229,7 @@ impl EndpointZero {
         self.data_stage.begin(bytes.len(), limit);
     }
 
-    /// The request that is refused, and whose refusal the host was not told yet: as
+    /// The request that is rejected, and of whose rejection the host doesn't know yet: as
     /// [`Device::refused`](crate::Device::refused).
     #[inline]
     pub fn refused(&self) -> Option<Setup>

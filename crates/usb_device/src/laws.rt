@@ -1,6 +1,6 @@
 //! Laws of what a device keeps.
 //!
-//! The functions of these laws do nothing: what they say stands in their contracts.
+//! The functions of these laws do nothing: their contracts are the laws.
 ghost use Rattle.std.specs.Prelude.{◌≡◌, ◌<◌, ◌^◌, ◌||◌, ◌&&◌, ℕ, not, false};
 ghost use Rattle.usb_device.specs.States.{is_halted, is_same_endpoint, with_halt, without_halt};
 

@@ -2,13 +2,13 @@
 //!
 //! A [`Description`] is made of the descriptors and a speed, and encodes each descriptor once. A [`Device`]
 //! borrows it: [`Device::serve`] answers a transaction, and lends what it sends from the description, so that a
-//! device takes no memory and can't fail. [`Device::acked`] tells it that the host acknowledged a data packet,
+//! device never allocates and can't fail. [`Device::acked`] is the host's ACK of a data packet,
 //! [`Device::state`] is what it keeps between requests,
-//! [`State::device_state`] in which [`DeviceState`] it then is, and [`Device::stage`] where it stands in a transfer.
-//! [`EndpointZero`] is what changes in a device, without the description, and [`is_set_address`] tells the request that a
-//! device carries out after its status stage. What a device refuses its owner may answer: [`Device::refused`].
+//! [`State::device_state`] in which [`DeviceState`] it then is, and [`Device::stage`] its stage in a transfer.
+//! [`EndpointZero`] is what changes in a device, without the description, and [`is_set_address`] is the request that
+//! a device carries out after its status stage. What a device rejects its owner may answer: [`Device::refused`].
 //!
-//! - Descriptions, and which descriptors make a device, stand in the crate usb_description; its public types are named
+//! - Descriptions, and which descriptors make a device, are in the crate usb_description; its public types are named
 //!   here too.
 //! - What comes of each request is `specs/Requests.antt`, a definition for each row of the table, over
 //!   `specs/States.antt` and the descriptors of `usb_description/specs/Descriptors.antt`.
@@ -16,7 +16,7 @@
 //! - What may be answered beside the table is `specs/Beside.antt`.
 //! - What the parts of an [`EndpointZero`] mean is `specs/EndpointZero.antt` and `specs/Stages.antt`: the code has an
 //!   offset and a toggle where the definition has a list of packets.
-//! - What no public contract cites stands in `specs/inside/`.
+//! - What no public contract cites is in `specs/inside/`.
 #![tactic(auto)]
 
 mod beside;

@@ -1,4 +1,4 @@
-//! Where a device stands in a transfer.
+//! The stage of a device in a transfer.
 ghost use Rattle.std.specs.Prelude.{◌≡◌, ◌≤◌, length, take, drop};
 ghost use Rattle.usb_device.specs.Stages.{data_bytes, source_bytes, IsData, IsSource};
 
@@ -6,12 +6,12 @@ use crate::beside::ROOM;
 use usb_description::Description;
 use usb_fields::Toggle;
 
-/// Where a device stands in a transfer.
+/// The stage of a device in a transfer.
 #[derive(Clone, Copy, Debug, PartialEq, Eq, Hash)]
 pub enum Stage {
     /// In none.
     Idle,
-    /// In one that it refuses.
+    /// In one that it rejects.
     Halted,
     /// In a data stage.
     Sending,
@@ -23,7 +23,7 @@ pub enum Stage {
     StatusIn,
 }
 
-/// Where the bytes of a data stage stand.
+/// Where the bytes of a data stage are.
 #[derive(Clone, Copy, Debug, PartialEq, Eq, Hash)]
 pub(crate) enum Source {
     /// The descriptor at this place of the description.
@@ -35,9 +35,9 @@ pub(crate) enum Source {
 /// A place in a data stage.
 #[derive(Clone, Copy, Debug, PartialEq, Eq, Hash)]
 pub(crate) struct DataStage {
-    /// Where the bytes stand.
+    /// Where the bytes are.
     pub(crate) source: Source,
-    /// A status or an owner's answer, in the front of this room.
+    /// A status or an owner's answer, in the first bytes of this room.
     pub(crate) kept: [u8; ROOM],
     /// How many bytes there are to send.
     pub(crate) count: usize,
@@ -52,7 +52,7 @@ pub(crate) struct DataStage {
 impl DataStage {
     ghost use Rattle.usb_fields.specs.declared.packet.Toggle.TheVariants.{Data1};
 
-    /// With nothing to send.
+    /// A data stage with nothing to send.
     pub(crate) fn empty() -> DataStage {
         DataStage {
             source: Source::Kept,

@@ -1,18 +1,18 @@
-//! Why an answer to a refused request is not taken.
+//! Why an answer to a rejected request is not taken.
 ghost use Rattle.std.specs.Prelude.{◌≡◌, Some};
 
 use std::{error, fmt};
 
-/// Why an answer is not taken: the first of these that holds. Its `Display` is a message for people.
+/// Why an answer is not taken: the first of these that applies. Its `Display` is a message for people.
 ///
 /// ```rust
-/// // A new device has refused nothing.
+/// // A new device has rejected nothing.
 /// let mut device = Device::new(&description);
 /// assert_eq!(rt; device.accept(), Err(Unanswered::Nothing));
 /// ```
 #[derive(Clone, Copy, Debug, PartialEq, Eq, Hash)]
 pub enum Unanswered {
-    /// No request is refused, or the host was told of it.
+    /// No request is rejected, or the host knows of it.
     Nothing,
     /// The request is not open to an owner's answer: [`is_open`](crate::is_open).
     Closed,

@@ -1,4 +1,4 @@
-//! Why bytes are refused.
+//! Why bytes are rejected.
 ghost use Rattle.std.specs.Prelude.{◌≡◌, Some};
 
 use std::alloc::AllocError;

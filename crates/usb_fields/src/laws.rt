@@ -1,7 +1,7 @@
 //! Laws of the formats and of `==`.
 //!
 //! For each format reading and writing undo each other on exactly the legal bytes. The functions of these laws
-//! do nothing: what they say stands in their contracts.
+//! do nothing: their contracts are the laws.
 ghost use Rattle.std.specs.Prelude.{◌≡◌, ◌<◌, ◌≤◌, ◌↔◌, ℕ, List, length, map, None, IsTrue};
 ghost use Rattle.usb_base.specs.Bytes.{AreBytes};
 ghost use Rattle.usb_base.specs.Fields.{names, widths};
@@ -63,8 +63,8 @@ pub fn units_round_trip()
     ensures written { (b : List ℕ) → AreBytes b → unit_fault b ≡ None → (u : List ℕ) × (length u ≤ 126) × (units_bytes u ≡ b) }
 {}
 
-/// What both ends of a data stage rest on: the packets that a device cuts its answer into are what its host
-/// puts together (USB 2.0, 8.5.3 and 8.6).
+/// The packets of a data stage join to its bytes, where these are at most wLength; and of packets that come once or
+/// more each, in order, a receiver keeps each once (USB 2.0, 8.5.3 and 8.6).
 pub fn packets_of_a_data_stage()
     // The packets join to the bytes that they were cut from.
     ensures join { (bytes : List ℕ) (size limit : ℕ) → 0 < size → length bytes ≤ limit → joined (packets bytes size limit) ≡ bytes }

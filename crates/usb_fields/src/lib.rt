@@ -12,12 +12,12 @@
 //! * [`Transaction`], [`Stage`], [`Toggle`] and [`Answer`], what passes between a host and a device
 //!   (8.4 to 8.6), and [`Speed`].
 //!
-//! Fields of two bytes are little-endian (8.1). Numbers keep the value that stands in the bytes: no field is
+//! Fields of two bytes are little-endian (8.1). Numbers keep the value that the bytes have: no field is
 //! checked for its meaning here.
 //!
 //! Reading and writing undo each other on exactly the legal bytes; [`laws`] says so, a law for each pair. It
 //! also has the law of the packets of a data stage, on which both ends rest.
-//! Only `read_units`, `write_units` and `text_of` take memory.
+//! Only `read_units`, `write_units` and `text_of` allocate.
 #![tactic(auto)]
 
 mod device;

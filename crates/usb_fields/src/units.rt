@@ -12,8 +12,8 @@ use usb_base::{descriptor_type, word_bytes};
 /// 2.0, 9.6.7).
 pub const MOST_UNITS: usize = 126;
 
-/// The units of a string or a language list: the language codes of string 0, and UTF-16 code units of
-/// any other string. They are kept as numbers.
+/// The units of a string or a language list, exactly where the bytes are bLength, type 3 and these units, the low byte
+/// first: language codes of string 0, UTF-16 code units of any other string. They are kept as numbers.
 ///
 /// ```rust
 /// let languages = read_units(alloc, &[4, 3, 0x09, 0x04])?;
@@ -56,7 +56,7 @@ fn units_in(alloc: Global, b: &[u8]) -> Result<Vec<u16>, AllocError>
     Ok(units)
 }
 
-/// The bytes of a string or a language list with these units.
+/// The bytes of a string or a language list with these units, at most 126.
 ///
 /// ```rust
 /// let bytes = write_units(alloc, &[0x0048, 0x0069])?;

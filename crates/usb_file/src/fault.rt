@@ -20,7 +20,7 @@ pub enum FileWhy {
     /// Ten bytes that begin as a qualifier are none.
     #[error("no qualifier")]
     Qualifier,
-    /// Where a language list or a string is due stands another descriptor, or a language list with no
+    /// Where a language list or a string is due there is another descriptor, or a language list with no
     /// language.
     #[error("no string descriptor")]
     Text,
@@ -84,7 +84,7 @@ impl FileFault {
     }
 
     /// The fault, counted from the first byte of the file, where it was counted from its part's, which
-    /// stands at this place.
+    /// is at this place.
     pub(crate) fn moved(self, place: usize) -> FileFault
         requires { place + self.at < 2 ^ 64 }
         ensures { result ≡ record { at = place + self.at; why = self.why } }

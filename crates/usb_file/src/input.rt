@@ -30,8 +30,8 @@ pub enum Input {
     Dump(DescriptorFile),
 }
 
-/// The set, the file or the dump that the bytes are. They are read as one set where the second byte is 2 or 7,
-/// the type of a configuration descriptor or of an other-speed one (USB 2.0, table 9-5).
+/// The set, the file or the dump that the bytes are, exactly where they are one. They are read as one set where the
+/// second byte is 2 or 7, the type of a configuration descriptor or of an other-speed one (USB 2.0, table 9-5).
 ///
 /// ```rust
 /// let input = read_input(alloc, &[9, 2, 9, 0, 0, 1, 0, 0x80, 0x32])?;
@@ -41,7 +41,7 @@ pub enum Input {
 /// # Errors
 ///
 /// `Set` with the fault of the set or `Trailing` where the bytes are read as one, and else `File` with the fault
-/// that [`read_file`](crate::read_file) tells, where they are no dump. Each of the two can be out of memory.
+/// of [`read_file`](crate::read_file), where they are no dump. Each of the two can be out of memory.
 pub fn read_input(alloc: Global, b: &[u8]) -> Result<Input, InputFault>
     ensures ok { IfOk result (λ input. IsInput input b.now) }
     ensures err { IfErr result (InputRefused b.now) }
@@ -56,7 +56,7 @@ pub fn read_input(alloc: Global, b: &[u8]) -> Result<Input, InputFault>
     }
 }
 
-/// Everything in an input that breaks a rule of chapter 9: what [`check_set`] tells of a set, [`check`] of a file and
+/// Everything in an input that breaks a rule of chapter 9: [`check_set`] of a set, [`check`] of a file and
 /// [`check_dump`] of a dump.
 ///
 /// ```rust

@@ -45,7 +45,7 @@ pub fn listings_fit()
     ensures { (f : DescriptorFile) (b : List ℕ) → File f b → length (file_lines f) ≤ LISTING_LIMIT }
 {}
 
-/// Files with one listing have the same bytes: what is listed of a file is read back to the bytes of that file.
+/// Files with one listing have the same bytes: what is listed of a file is parsed to the bytes of that file.
 pub fn listings_go_round()
     ensures { (f g : DescriptorFile) (b d : List ℕ) → File f b → File g d → file_lines f ≡ file_lines g → b ≡ d }
 {

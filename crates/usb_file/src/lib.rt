@@ -1,19 +1,19 @@
-//! Descriptor files: everything that a USB 2.0 device can tell of itself, as one run of bytes.
+//! Descriptor files: all descriptors that a USB 2.0 device can be asked for, as one run of bytes.
 //!
 //! A file begins with the device descriptor and the configuration sets that bNumConfigurations counts. Then
 //! come, where the device has a second speed, its qualifier with the sets of that speed, and where a string is
 //! named, the language list and the strings (USB 2.0, 9.4.3 and 9.6). [`read_file`] reads it into plain data,
-//! [`DescriptorFile`], and [`write_file`] writes it again, each byte as it was. [`named`] tells which
-//! strings a file names, [`check`] which rules of chapter 9 it breaks; [`check_dump`] and [`check_set`] tell that of what
-//! is less than a file, and [`check_input`] of any of the three. [`list`] writes a file as text, a line
+//! [`DescriptorFile`], and [`write_file`] writes it again, each byte as it was. [`named`] has the
+//! strings that a file names, [`check`] the rules of chapter 9 that it breaks; [`check_dump`] and [`check_set`] those of
+//! what is less than a file, and [`check_input`] of any of the three. [`list`] writes a file as text, a line
 //! for each descriptor, and [`list_set`] one set alone. [`assemble`] reads the text of a file back.
 //!
-//! - The data, what its bytes are and which strings it names stand in the crate usb_file_data, the rules in
+//! - The data, what its bytes are and which strings it names are in the crate usb_file_data, the rules in
 //!   usb_rules, the listings in usb_listing, and listings read back in usb_listing_reader. Their public calls and
 //!   types are named here too, but for the laws of usb_file_data and usb_listing_reader and five calls that
 //!   only crates take: `count_named`, `is_other_kind`, `has_undeclared_sets`, `are_wrong_strings` and `write_all`.
 //! - What is wrong with bytes, and where, is `specs/FileFaults.antt`: the fault is that of the part which
-//!   comes next after a front of a file, `specs/Front.antt`.
+//!   comes next after a prefix of a file, `specs/Front.antt`.
 //! - The module [`laws`] states what holds of files and faults, whoever reads them.
 #![tactic(auto)]
 

@@ -18,8 +18,8 @@ use usb_base::known_bytes;
 use usb_file_data::{DescriptorFile, Other, count_named};
 use usb_set::{Sequence, SetKind};
 
-/// The file that the bytes are (USB 2.0, 9.4.3 and 9.6). Each set is read where it stands: the decoder is
-/// handed the bytes from the set's first one on.
+/// The file that the bytes are, exactly where they are one: its parts one after another, each count, kind, layout and
+/// string right, and nothing after them (USB 2.0, 9.4.3 and 9.6).
 ///
 /// ```rust
 /// let file = read_file(alloc, bytes)?;
@@ -29,8 +29,8 @@ use usb_set::{Sequence, SetKind};
 ///
 /// # Errors
 ///
-/// The fault of the first part that is not there whole and right, at its place; or `Memory` where a part
-/// starts.
+/// Exactly where the bytes are no file, the fault of the first part that is not there whole and right, at its place; or
+/// `Memory` where a part starts.
 pub fn read_file(alloc: Global, b: &[u8]) -> Result<DescriptorFile, FileFault>
     ensures ok { IfOk result (λ f. File f b.now) }
     ensures err { IfErr result (λ fault. ReadRefused b.now fault.at fault.why) }

@@ -74,8 +74,8 @@ fn read_one_set(
     }
 }
 
-/// The fault of a set as one of the file, its place counted from the set's start: *out of memory* is told
-/// there.
+/// The fault of a set as one of the file, its place counted from the set's start: *out of memory* is
+/// reported there.
 fn set_refusal(why: SetWhy, at: u32) -> FileFault
     ensures is { result ≡ set_refusal why at }
     ensures small { result.at < 2 ^ 32 }

@@ -24,7 +24,7 @@ use usb_set_encoder::encode_onto;
 ///
 /// # Errors
 ///
-/// `Count`, `Kind`, `Layout` or `Texts`, the first that holds, exactly where the file has no bytes;
+/// `Count`, `Kind`, `Layout` or `Texts`, the first that applies, exactly where the file has no bytes;
 /// `Memory` where it has bytes, when out of memory.
 pub fn write_file(alloc: Global, f: &DescriptorFile) -> Result<Vec<u8>, WriteFault>
     ensures ok { IfOk result (λ b. File f.now b.items) }
@@ -52,7 +52,7 @@ fn first_reason(f: &DescriptorFile) -> WriteFault
     }
 }
 
-/// The bytes of a file, or `None` where something stands against it or out of memory.
+/// The bytes of a file, or `None` where it has none or out of memory.
 fn file_of(alloc: Global, f: &DescriptorFile) -> Option<Vec<u8>>
     ensures bytes { IfSome result (λ b. b.items ≡ file_bytes f.now) }
     ensures allowed { OnSome result (write_refusal f.now ≡ None) }

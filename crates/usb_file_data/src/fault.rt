@@ -4,8 +4,8 @@ ghost use Rattle.usb_file_data.specs.Numbers.{write_number};
 
 use thiserror::Error;
 
-/// Why a file has no bytes. Of several that hold the first is told, and `Memory` only where none of the
-/// others holds.
+/// Why a file has no bytes. Of several that apply the first is reported, and `Memory` only where none of the
+/// others does.
 ///
 /// ```rust
 /// file.device.configurations += 1;
@@ -19,7 +19,7 @@ pub enum WriteFault {
     /// An other-speed set among the sets of the device, or the other way round.
     #[error("a set of the other kind")]
     Kind,
-    /// A set has no bytes: `usb_set_encoder::refusal` tells why.
+    /// A set has no bytes: `usb_set_encoder::refusal` has the reason.
     #[error("a set has no bytes")]
     Layout,
     /// The strings are not those that the file names: strings where no index is named, none where one

@@ -12,7 +12,7 @@ use usb_fields::MOST_UNITS;
 use usb_set::{Configuration, Sequence, SetKind};
 use usb_set_encoder::refusal;
 
-/// Why the file has no bytes, for another cause than memory, if it has none.
+/// The first reason other than memory for which the file has no bytes, if it has none. Allocates nothing.
 pub fn write_refusal(f: &DescriptorFile) -> Option<WriteFault>
     ensures { result ≡ write_refusal f.now }
 {
@@ -31,7 +31,7 @@ pub fn write_refusal(f: &DescriptorFile) -> Option<WriteFault>
     None
 }
 
-/// Whether the sets are not as many as bNumConfigurations says, or not of the kind that stands there. With the layouts
+/// Whether the sets are not as many as bNumConfigurations says, or not of the kind that belongs there. With the layouts
 /// of the sets and the strings that is all that [`write_refusal`] asks, so that a writer judges each set as it writes it.
 ///
 /// ```rust

@@ -1,9 +1,9 @@
-//! What a descriptor file says, as plain data: everything that a USB 2.0 device can tell of itself.
+//! What a descriptor file says, as plain data: all descriptors that a USB 2.0 device can be asked for.
 //!
 //! A file is the device descriptor and the configuration sets that bNumConfigurations counts (USB 2.0, 9.4.3
 //! and 9.6). Where the device has a second speed, its qualifier follows with the sets of that speed, and
 //! where a string is named, the language list and the strings. [`DescriptorFile`] holds all of it, [`named`]
-//! tells which strings it names, and [`write_refusal`] why it has no bytes.
+//! has the indices of the strings that it names, and [`write_refusal`] why it has no bytes.
 //!
 //! What the bytes of a file are is `specs/File.antt`; which strings are named is `specs/Named.antt`. A copy of
 //! a file is that file: the module [`laws`].

@@ -9,10 +9,10 @@ use crate::marking::mark_file;
 use std::alloc::Global;
 use usb_base::Marks;
 
-/// Out of memory, as std tells it.
+/// Out of memory, as std has it.
 pub use std::alloc::AllocError as NoMemory;
 
-/// The indices of the strings that the file names, ascending. They are the numbers 1 to 255 that stand in
+/// The indices of the strings that the file names, ascending. They are the numbers 1 to 255 in
 /// iManufacturer, iProduct or iSerialNumber of the device, or in iConfiguration, iInterface or iFunction
 /// of a set of either speed (USB 2.0, 9.6.1, 9.6.3, 9.6.5, and its ECN on interface associations).
 ///

@@ -12,7 +12,7 @@ use usb_set::{ASSOCIATION_WIDTHS, Association, Extra, Raw};
 /// The word of a line whose descriptor belongs to the one before it.
 #[derive(Clone, Copy, Debug, PartialEq, Eq)]
 pub enum ExtraWord {
-    /// `raw`, of a descriptor that is kept as it stands.
+    /// `raw`, of a descriptor that is kept as it is.
     Raw,
     /// `association`, of an interface association descriptor.
     Association,

@@ -13,7 +13,7 @@ pub fn lines_are_of_descriptors()
     ensures { (c : Configuration) (total : ℕ) → has_typed_raw c ≡ false → set_lines c ≡ flat_map descriptor_line (set_descriptors c total) }
 {}
 
-/// The lines of a set with one more descriptor are those of the set, and the line of this one behind them.
+/// The lines of a set with one more descriptor are those of the set, and the line of this one after them.
 pub fn one_more_line()
     ensures { (c d : Configuration) (item : Descriptor) → has_typed_raw c ≡ false → has_typed_raw d ≡ false
         → configuration_descriptor d 0 ≡ configuration_descriptor c 0 → later_descriptors d ≡ later_descriptors c ++ item ∷ []

@@ -1,4 +1,4 @@
-//! What a listing tells of a value: its lines, put on a page.
+//! The listing of a value: its lines, put on a page.
 ghost use Rattle.std.specs.Prelude.{◌++◌, OnErr, OnOk};
 ghost use Rattle.std.specs.List.{flat_map};
 ghost use Rattle.usb_listing.specs.Output.{AppendsLess};

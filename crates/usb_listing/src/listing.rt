@@ -14,7 +14,7 @@ use std::io::Write;
 use usb_fields::{DEVICE_WIDTHS, DeviceDescriptor, QUALIFIER_WIDTHS, Qualifier};
 use usb_file_data::{DescriptorFile, Other};
 
-/// Writes the listing of the file: a line for each descriptor, in the order of the file. A file that has
+/// Writes exactly the listing of the file: a line for each descriptor, in the order of the file. A file that has
 /// no bytes is listed too, as what it says.
 ///
 /// ```rust
@@ -28,7 +28,7 @@ use usb_file_data::{DescriptorFile, Other};
 ///
 /// # Errors
 ///
-/// `Write` where the writer failed, `Memory` when out of memory. A front of the listing is
+/// `Write` where the writer failed, `Memory` when out of memory. A prefix of the listing is
 /// written then, and not all of it.
 pub fn list<W: Write>(alloc: Global, f: &DescriptorFile, w: &mut W) -> Result<(), OutFault>
     ensures ok { OnOk result (Appends (W.contents w.old) (W.contents w.new) (file_lines f.now)) }

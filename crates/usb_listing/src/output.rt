@@ -12,7 +12,7 @@ use thiserror::Error;
 ///
 /// ```rust
 /// if let Err(OutFault::Write) = list(alloc, &file, &mut writer) {
-///     // The writer holds a front of the listing.
+///     // The writer holds a prefix of the listing.
 /// }
 /// ```
 #[derive(Clone, Copy, Debug, Drop, Error, PartialEq, Eq, Hash)]
@@ -53,7 +53,7 @@ impl From<AllocError> for OutFault {
 ///
 /// # Errors
 ///
-/// `Write` at the first call of the writer that fails or takes nothing. A front of the bytes is
+/// `Write` at the first call of the writer that fails or takes nothing. A prefix of the bytes is
 /// written then, and not all of them.
 pub fn write_all<W: Write>(w: &mut W, bytes: &[u8]) -> Result<(), OutFault>
     ensures ok { OnOk result (Appends (W.contents w.old) (W.contents w.new) bytes.now) }

@@ -47,7 +47,7 @@ impl Page {
         })
     }
 
-    /// Puts a word as it stands: the first one of a line, or a quote.
+    /// Puts a word as it is: the first one of a line, or a quote.
     pub(crate) fn put_word(&mut self, word: &str) -> Result<(), AllocError>
         ensures { OnOk result (self.new ≡ self.old ++ word.now) }
     {

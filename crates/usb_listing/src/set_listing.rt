@@ -26,7 +26,7 @@ use usb_set::{
 ///
 /// # Errors
 ///
-/// `Write` where the writer failed, `Memory` when out of memory. A front of the listing is
+/// `Write` where the writer failed, `Memory` when out of memory. A prefix of the listing is
 /// written then, and not all of it.
 pub fn list_set<W: Write>(alloc: Global, c: &Configuration, w: &mut W) -> Result<(), OutFault>
     ensures ok { OnOk result (Appends (W.contents w.old) (W.contents w.new) (set_lines c.now)) }

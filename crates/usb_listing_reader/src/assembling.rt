@@ -30,7 +30,7 @@ fn are_printable(line: &[u8]) -> bool
     line.iter().all(|c| is_printable(*c))
 }
 
-/// What stands before the first line feed, and behind it.
+/// What is before the first line feed, and after it.
 #[tactic(auto, using(crate::proofs::FeedLemmas::feed_found, crate::proofs::FeedLemmas::feed_nowhere))]
 fn cut_line(text: &[u8]) -> Option<(&[u8], &[u8])>
     ensures some { IfSome result (λ p. Cut 10 text.now p.0.now p.1.now) }
@@ -43,7 +43,7 @@ fn cut_line(text: &[u8]) -> Option<(&[u8], &[u8])>
     }
 }
 
-/// Of a line that was refused for this reason, the first reason. A line is looked through for bytes that no
+/// Of a line that was rejected for this reason, the first reason. A line is looked through for bytes that no
 /// line has only here, since one that says a descriptor has none.
 fn first_reason(line: &[u8], why: ListWhy) -> ListWhy
     ensures { result ≡ (if list_all is_printable line.now then why else ListWhy.Line) }
@@ -55,7 +55,7 @@ fn first_reason(line: &[u8], why: ListWhy) -> ListWhy
     }
 }
 
-/// Reads the first line into the draft, and gives what stands behind it.
+/// Reads the first line into the draft, and gives what is after it.
 fn read_next<'a>(
     alloc: Global,
     draft: &mut Option<Draft>,
@@ -125,7 +125,7 @@ fn has_all_strings(f: &DescriptorFile, strings: &Option<Strings>, total: usize) 
     }
 }
 
-/// Whether nothing is due any more. What else could stand against the file was seen to line by line.
+/// Whether nothing is due any more. All else was checked line by line.
 #[tactic(auto, using(crate::proofs::WholeLemmas::whole_is))]
 fn is_whole(draft: &Draft) -> bool
     requires { Holds draft.now }
@@ -160,7 +160,8 @@ fn finish(draft: Option<Draft>, line: usize) -> Result<DescriptorFile, ListFault
     }
 }
 
-/// The file that the text lists. One pass over the text; no line is copied.
+/// The file that the text lists, exactly where it is the listing of a file that has bytes. One pass over the text; no
+/// line is copied.
 ///
 /// ```rust
 /// let file = assemble(alloc, b"device 0110 00 00 00 40 1234 5678 0100 00 00 00 00\n")?;
@@ -169,8 +170,8 @@ fn finish(draft: Option<Draft>, line: usize) -> Result<DescriptorFile, ListFault
 ///
 /// # Errors
 ///
-/// The first line at fault, and in it the first reason; or `Memory` at the line at which a growth was
-/// refused.
+/// Exactly where the text is no such listing, the first line at fault, and in it the first reason; or `Memory` at a line
+/// before which all are right.
 pub fn assemble(alloc: Global, text: &[u8]) -> Result<DescriptorFile, ListFault>
     ensures ok { IfOk result (λ f. Lists text.now f) }
     ensures only { (f : DescriptorFile) → Lists text.now f → IfErr result (λ fault. fault.why ≡ whys.Memory) }

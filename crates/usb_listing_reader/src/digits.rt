@@ -20,7 +20,7 @@ const VALUES: [u16; 256] = [
     256, 256, 256, 256,
 ];
 
-/// A byte's value in a table. It stands apart, since an index straight into the constant stalls the proof.
+/// A byte's value in a table. It is apart, since an index straight into the constant stalls the proof.
 #[inline(always)]
 fn at(values: &[u16; 256], c: u8) -> u16
     ensures { result ≡ slice_index values.now c }

@@ -4,7 +4,7 @@ ghost use Rattle.usb_listing_reader.specs.Numbers.{why_number};
 
 use thiserror::Error;
 
-/// What is wrong with a line of a listing. Of several that hold of one line the first is told.
+/// What is wrong with a line of a listing. Of several that hold of one line the first is reported.
 ///
 /// ```rust
 /// assert_eq!(rt; ListWhy::TooLong.number(), 5);
@@ -17,7 +17,7 @@ pub enum ListWhy {
     /// The line begins with none of the ten words.
     #[error("no known word")]
     Word,
-    /// The word can't stand here.
+    /// The word isn't allowed here.
     #[error("the word can't stand here")]
     Place,
     /// A field is missing, superfluous or not in its form.
@@ -29,7 +29,7 @@ pub enum ListWhy {
     /// The text ended and something is still due: the line is the one after the last.
     #[error("the text ends before the file does")]
     Missing,
-    /// A growth was refused on this line.
+    /// Out of memory on this line.
     #[error("out of memory")]
     Memory,
 }

@@ -6,7 +6,7 @@ ghost use Rattle.usb_listing_reader.specs.inside.Fields.{PutsCell, PutsCells, be
 use crate::digits::{pair, pair_or};
 use usb_base::Width;
 
-/// What stands behind a space.
+/// What is after a space.
 #[inline(always)]
 pub(crate) fn skip_space(text: &[u8]) -> Option<&[u8]>
     ensures { MatchOption result (behind_space text.now ≡ None) (λ rest. behind_space text.now ≡ Some rest.now) }
@@ -44,7 +44,7 @@ fn take_two(text: &[u8]) -> Option<(u8, u8, &[u8])>
     }
 }
 
-/// Reads a field into the bytes at this place, and gives where they end and what stands behind the field.
+/// Reads a field into the bytes at this place, and gives where they end and what is after the field.
 #[inline(always)]
 #[tactic(auto, using(crate::proofs::PutLemmas::put_one, crate::proofs::PutLemmas::put_two))]
 fn put_field<'a>(
@@ -73,7 +73,7 @@ fn put_field<'a>(
     }
 }
 
-/// Reads fields of these widths into the bytes at this place, and gives where they end and what stands behind the
+/// Reads fields of these widths into the bytes at this place, and gives where they end and what is after the
 /// fields.
 #[inline(always)]
 fn put_fields<'a>(
@@ -96,7 +96,7 @@ fn put_fields<'a>(
     Some((end, rest))
 }
 
-/// Writes the bytes of pairs of digits, and tells whether all are lower-case ones. Whether they are is looked
+/// Writes the bytes of pairs of digits, and answers whether all are lower-case ones. Whether they are is looked
 /// at once, at the end.
 #[tactic(auto, using(crate::proofs::DecodeLemmas::decoding_none, crate::proofs::DecodeLemmas::decoding_next, crate::proofs::DecodeLemmas::decoding_done))]
 fn decode_into(digits: &[u8], bytes: &mut [u8]) -> bool
@@ -155,7 +155,7 @@ fn put_tail(text: &[u8], out: &mut [u8], at: usize) -> Option<usize>
     put_pairs(digits, out, at)
 }
 
-/// Reads fields of these widths into the bytes at this place, and a tail behind them where `tail` says so, to the end of
+/// Reads fields of these widths into the bytes at this place, and a tail after them where `tail` says so, to the end of
 /// the text. Gives where the bytes end.
 #[inline(always)]
 fn put_body(widths: &[Width], tail: bool, text: &[u8], out: &mut [u8], at: usize) -> Option<usize>
@@ -172,7 +172,7 @@ fn put_body(widths: &[Width], tail: bool, text: &[u8], out: &mut [u8], at: usize
     if rest.is_empty() { Some(end) } else { None }
 }
 
-/// Puts bytes at the front of the buffer.
+/// Puts bytes at the start of the buffer.
 #[inline(always)]
 fn put_front(front: &[u8], out: &mut [u8])
     requires { length front.now ≤ length out.old }
@@ -182,8 +182,8 @@ fn put_front(front: &[u8], out: &mut [u8])
     out[..front.len()].copy_from_slice(front);
 }
 
-/// Reads the text behind a line's word as a whole descriptor. Its front are a place for bLength and what the line leaves
-/// out, and behind them come fields of these widths, and a tail where `tail` says so. The bytes are put at the front of
+/// Reads the text after a line's word as a whole descriptor. It begins with a place for bLength and what the line leaves
+/// out, and after them come fields of these widths, and a tail where `tail` says so. The bytes are put at the start of
 /// the buffer; the answer is how many they are.
 #[inline(always)]
 #[tactic(auto, using(crate::proofs::PutLemmas::length_put, crate::proofs::PutLemmas::nothing_put))]

@@ -199,7 +199,7 @@ pub(crate) fn add_languages(alloc: Global, draft: &mut Draft, codes: Sequence<u1
     });
 }
 
-/// Adds a string behind the others.
+/// Adds a string after the others.
 fn push_string(f: &mut DescriptorFile, units: Sequence<u16>) -> Result<(), AllocError>
     requires { is_some f.old.strings ≡ true }
     ensures { OnOk result (f.new ≡ with_string units f.old f.old.strings) }

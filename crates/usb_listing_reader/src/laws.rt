@@ -19,7 +19,7 @@ pub fn one_answer()
     ensures not_both { (text : List ℕ) (f : DescriptorFile) (line : ℕ) (why : ListWhy) → Lists text f → ListFaulty text line why → ⊥ }
 {}
 
-/// No line behind the first one at fault is reached: out of memory is told of it or of one before it.
+/// No line after the first one at fault is reached: out of memory is reported at it or at one before it.
 pub fn none_behind_the_fault()
     ensures { (text : List ℕ) (m n : ℕ) (why : ListWhy) → IsLineStart text m → ListFaulty text n why → m ≤ n }
 {}

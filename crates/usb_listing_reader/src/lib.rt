@@ -1,4 +1,4 @@
-//! Listings read back: the descriptor file that a text lists, or the first line at fault.
+//! Listings parsed: the descriptor file that a text lists, or the first line at fault.
 //!
 //! [`assemble`] reads a text; the module [`laws`] states what holds of texts, files and faults, whoever reads
 //! them. A line becomes the bytes of its descriptor, which usb_set and usb_fields read.

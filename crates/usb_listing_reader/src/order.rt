@@ -1,4 +1,4 @@
-//! Where a line may stand.
+//! Where a line is allowed.
 ghost use Rattle.std.specs.Prelude.{◌≡◌, ◌==◌, None, Some, length, not};
 ghost use Rattle.usb_file_data.specs.Named.{named_indices};
 ghost use Rattle.usb_listing_reader.specs.inside.Growing.{declared, has_interface, is_string, last_of, may_follow, may_follow_sets, may_stand, open_sets};
@@ -9,7 +9,7 @@ use crate::word::Word;
 use usb_file_data::{DescriptorFile, Other, count_named};
 use usb_set::Configuration;
 
-/// Whether a line with this word may stand next.
+/// Whether a line with this word may come next.
 pub(crate) fn may_stand(draft: &Option<Draft>, word: Word) -> bool
     requires { AreHeld draft.now }
     ensures { result ≡ may_stand (so_far draft.now) word }

@@ -11,7 +11,7 @@ use usb_fields::{DEVICE_WIDTHS, QUALIFIER_WIDTHS};
 use usb_listing::with_extra_row;
 use usb_set::{CONFIGURATION_WIDTHS, ENDPOINT_WIDTHS, INTERFACE_WIDTHS};
 
-/// Reads the text behind a word as the bytes of its descriptor, which are put at the front of the buffer. The answer is how
+/// Reads the text after a word as the bytes of its descriptor, which are put at the start of the buffer. The answer is how
 /// many they are. What a line leaves out is bDescriptorType, and for the first descriptor of a set wTotalLength, which is
 /// put as 0.
 #[inline(always)]

@@ -31,7 +31,7 @@ fn is_typed_raw(word: Word, bytes: &[u8]) -> bool
     }
 }
 
-/// Adds a descriptor that may stand next, whose line says its fields.
+/// Adds a descriptor that may come next, whose line says its fields.
 fn add_next(
     alloc: Global,
     draft: &mut Option<Draft>,
@@ -53,7 +53,7 @@ fn add_next(
     }
 }
 
-/// Reads a line whose word may stand next, and says fields.
+/// Reads a line whose word may come next, and says fields.
 #[inline(always)]
 fn read_described(
     alloc: Global,
@@ -78,7 +78,7 @@ fn read_described(
     add_next(alloc, draft, word, bytes)
 }
 
-/// Reads a language list that may stand next.
+/// Reads a language list that may come next.
 fn read_languages_into(alloc: Global, draft: &mut Option<Draft>, text: &[u8]) -> Result<(), ListWhy>
     requires holds { AreHeld draft.old }
     requires may { may_stand (so_far draft.old) words.Languages ≡ true }
@@ -96,7 +96,7 @@ fn read_languages_into(alloc: Global, draft: &mut Option<Draft>, text: &[u8]) ->
     }
 }
 
-/// Reads a string that may stand next.
+/// Reads a string that may come next.
 fn read_string_into(alloc: Global, draft: &mut Option<Draft>, text: &[u8]) -> Result<(), ListWhy>
     requires holds { AreHeld draft.old }
     requires may { may_stand (so_far draft.old) words.String ≡ true }
@@ -114,7 +114,7 @@ fn read_string_into(alloc: Global, draft: &mut Option<Draft>, text: &[u8]) -> Re
     }
 }
 
-/// Reads the text behind a word that may stand next.
+/// Reads the text after a word that may come next.
 fn read_behind(
     alloc: Global,
     draft: &mut Option<Draft>,

@@ -7,7 +7,7 @@ use crate::values::{Written, read_values};
 use std::alloc::{AllocError, Global};
 use usb_set::Sequence;
 
-/// The language codes of the text behind the word.
+/// The language codes of the text after the word.
 #[tactic(auto, unfolding(crate::specs::inside::Rows::languages_in))]
 pub(crate) fn read_languages(
     alloc: Global,
@@ -26,7 +26,7 @@ pub(crate) fn read_languages(
     }
 }
 
-/// The units of the text behind the word.
+/// The units of the text after the word.
 #[tactic(auto, unfolding(crate::specs::inside::Rows::string_in))]
 pub(crate) fn read_string(alloc: Global, text: &[u8]) -> Result<Option<Sequence<u16>>, AllocError>
     ensures { IfOk result (λ found. found ≡ string_in text.now) }
@@ -37,7 +37,7 @@ pub(crate) fn read_string(alloc: Global, text: &[u8]) -> Result<Option<Sequence<
     }
 }
 
-/// The text of a string, behind a space and between quotes.
+/// The text of a string, after a space and between quotes.
 #[tactic(auto, unfolding(crate::specs::inside::Rows::quoted))]
 fn unquote(text: &[u8]) -> Option<&[u8]>
     ensures { MatchOption result (quoted text.now ≡ None) (λ units. quoted text.now ≡ Some units.now) }
@@ -48,7 +48,7 @@ fn unquote(text: &[u8]) -> Option<&[u8]>
     }
 }
 
-/// What stands before a quote that ends the text.
+/// What is before a quote that ends the text.
 #[tactic(auto, using(crate::proofs::QuoteLemmas::quote_last, crate::proofs::QuoteLemmas::no_quote_last, crate::proofs::QuoteLemmas::nothing_quoted))]
 fn before_quote(text: &[u8]) -> Option<&[u8]>
     ensures { MatchOption result (before_quote text.now ≡ None) (λ units. before_quote text.now ≡ Some units.now) }

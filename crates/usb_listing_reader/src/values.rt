@@ -20,7 +20,7 @@ pub(crate) enum Written {
     Field,
 }
 
-/// The number whose four digits stand first, and what stands behind it.
+/// The number whose four digits come first, and what is after it.
 #[tactic(auto, unfolding(crate::specs::inside::Units::number_first))]
 fn take_number(text: &[u8]) -> Option<(u16, &[u8])>
     ensures { MatchOption result (number_first text.now ≡ None) (λ p. number_first text.now ≡ Some (p.0, p.1.now)) }
@@ -42,7 +42,7 @@ fn is_plain(unit: u16) -> bool
     (0x20..=0x7e).contains(&unit) && unit != 0x22 && unit != 0x5c
 }
 
-/// The unit that stands first, and what stands behind it.
+/// The unit that comes first, and what is after it.
 #[tactic(auto, unfolding(crate::specs::inside::Units::unit_first))]
 fn take_unit(text: &[u8]) -> Option<(u16, &[u8])>
     ensures { MatchOption result (unit_first text.now ≡ None) (λ p. unit_first text.now ≡ Some (p.0, p.1.now)) }
@@ -61,7 +61,7 @@ fn take_unit(text: &[u8]) -> Option<(u16, &[u8])>
     }
 }
 
-/// The value that stands first, and what stands behind it.
+/// The value that comes first, and what is after it.
 fn take_value(form: Written, text: &[u8]) -> Option<(u16, &[u8])>
     ensures { MatchOption result (value_first form text.now ≡ None) (λ p. value_first form text.now ≡ Some (p.0, p.1.now)) }
 {

@@ -102,7 +102,7 @@ pub(crate) fn word_of(text: &[u8]) -> Option<Word>
     find_word(&OTHERS, text)
 }
 
-/// The line's first word, and what stands behind it.
+/// The line's first word, and what is after it.
 #[tactic(auto, using(crate::proofs::WordLemmas::space_found, crate::proofs::WordLemmas::space_nowhere))]
 pub(crate) fn split_word(line: &[u8]) -> (&[u8], &[u8])
     ensures first { result.0.now ≡ first_word line.now }

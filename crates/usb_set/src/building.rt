@@ -12,7 +12,7 @@ use crate::tree::Configuration;
 use std::alloc::{AllocError, Global};
 use usb_base::known_bytes;
 
-/// The set that a first descriptor begins. Its wTotalLength is not looked at.
+/// The set that has this first descriptor and no other. Its wTotalLength is ignored.
 ///
 /// ```rust
 /// let set = begin_set(alloc, &[9, 2, 0, 0, 1, 1, 0, 0x80, 50])?;
@@ -50,8 +50,8 @@ pub fn next_fault(set: &Configuration, room: usize, descriptor: &[u8]) -> Option
     fault_in_item(room, is_in_setting(set), descriptor)
 }
 
-/// Adds a descriptor, which belongs to the nearest one before it that can own it. When out of memory, the set may have it
-/// in part.
+/// Adds a descriptor, which belongs to the nearest one before it that can own it: the set has its descriptors and this
+/// one after them. When out of memory, the set may have it in part.
 ///
 /// ```rust
 /// add_descriptor(alloc, &mut set, &[9, 4, 0, 0, 1, 3, 0, 0, 0])?;

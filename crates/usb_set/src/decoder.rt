@@ -22,9 +22,9 @@ pub enum Progress {
 
 /// Reads one configuration set from pieces of any length (USB 2.0, 9.4.3 and 9.6.3).
 ///
-/// It takes exactly the bytes that wTotalLength counts, and refuses a set at the first byte that
+/// It takes exactly the bytes that wTotalLength counts, and rejects a set at the first byte that
 /// shows a fault. What it answers depends on the join of all pieces so far and not on how they were
-/// cut. A decoder that refused answers the same refusal from then on.
+/// cut. A decoder that rejected answers the same fault from then on.
 ///
 /// It holds the tree so far and the descriptor that the end of a piece has cut, and no other byte.
 ///
@@ -66,13 +66,14 @@ impl Decoder {
         }
     }
 
-    /// Takes the next bytes, as far as they belong to the set. After `Done` every call answers
-    /// `Done { used: 0 }`. An empty piece changes nothing.
+    /// Parses the next bytes. Of all bytes so far, `Done { used }` comes exactly where a prefix is the layout of a set,
+    /// which ends after `used` bytes of this piece, and `More` exactly where they are open: no layout and no fault.
+    /// After `Done` every call answers `Done { used: 0 }`. An empty piece changes nothing.
     ///
     /// # Errors
     ///
-    /// The fault that the bytes taken so far and this piece show, or `Memory` at the place of a
-    /// descriptor that ends in this piece.
+    /// The fault that all bytes so far show, at its place, exactly where they show one; from then on the same. `Memory`
+    /// at the place of a whole descriptor whose last byte is in this piece.
     #[inline(always)]
     pub fn feed(&mut self, piece: &[u8]) -> Result<Progress, SetFault>
         ensures answer { Answers self.old piece.now result self.new }
@@ -98,11 +99,11 @@ impl Decoder {
         }
     }
 
-    /// The set, where it was read to its end.
+    /// The set whose layout was read, where it was read to its end. Allocates nothing.
     ///
     /// # Errors
     ///
-    /// The refusal of an earlier [`Decoder::feed`], or `Truncated` at the count of bytes taken.
+    /// The fault of an earlier [`Decoder::feed`], or `Truncated` at the count of bytes taken.
     #[inline(always)]
     pub fn finish(self) -> Result<Configuration, SetFault>
         ensures { Finishes self result }

@@ -10,7 +10,7 @@ use std::alloc::{AllocError, Global};
 use usb_base::Width::{self, One};
 use usb_base::{Sequence, descriptor_length, descriptor_type};
 
-/// A descriptor that is kept as it stands: a class or vendor descriptor, or one of a type that this
+/// A descriptor that is kept as its type and bytes: a class or vendor descriptor, or one of a type that this
 /// crate gives no meaning. In a set its type is none of 2, 4, 5, 7 and 11.
 #[derive(Clone, Debug, Drop, PartialEq, Eq, Hash)]
 pub struct Raw {
@@ -43,7 +43,7 @@ pub struct Association {
 /// A descriptor that belongs to the configuration, the setting or the endpoint before it.
 #[derive(Clone, Debug, Drop, PartialEq, Eq, Hash)]
 pub enum Extra {
-    /// One that is kept as it stands.
+    /// One that is kept as its type and bytes.
     Raw(Raw),
     /// An interface association descriptor, type 11. It owns nothing.
     Association(Association),
@@ -153,7 +153,7 @@ impl Raw {
         self.kind
     }
 
-    /// The bytes of the fields that are known behind bDescriptorType: none.
+    /// The bytes of the fields that are known after bDescriptorType: none.
     #[inline]
     pub fn field_bytes(&self) -> [u8; 0]
         ensures { result ≡ [] }

@@ -14,7 +14,7 @@ pub struct Extras<'a> {
     owner: Owner<'a>,
     /// Its extras that are still to come.
     extras: &'a [Extra],
-    /// The owners behind it.
+    /// The owners after it.
     owners: Owners<'a>,
 }
 

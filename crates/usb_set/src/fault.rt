@@ -7,7 +7,7 @@ use std::alloc::AllocError;
 use std::error::Error;
 use std::fmt;
 
-/// What is wrong with the bytes of a set. Of several cases that hold the first is told. Its `Display` is a
+/// What is wrong with the bytes of a set. Of several cases that apply the first is reported. Its `Display` is a
 /// message for people.
 ///
 /// ```rust
@@ -123,8 +123,8 @@ impl fmt::Display for SetFault {
 
 impl Error for SetFault {}
 
-/// Why a set has no bytes. Of several that hold the first is told, and `Memory` only where none of
-/// the others holds.
+/// Why a set has no bytes. Of several that apply the first is reported, and `Memory` only where none of
+/// the others does.
 ///
 /// ```rust
 /// set.extras.push(Extra::Raw(Raw { kind: 5, body: Sequence::new(alloc) }))?;

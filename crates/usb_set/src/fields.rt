@@ -7,7 +7,7 @@ use crate::tree::{Configuration, Endpoint, Setting};
 use usb_base::Width::{self, One, Two};
 use usb_base::word_bytes;
 
-/// Names of the fields of a set's first descriptor behind wTotalLength (USB 2.0, tables 9-10 and 9-11).
+/// Names of the fields of a set's first descriptor after wTotalLength (USB 2.0, tables 9-10 and 9-11).
 pub const CONFIGURATION_NAMES: [&str; 5] = [
     "bNumInterfaces",
     "bConfigurationValue",
@@ -47,7 +47,7 @@ pub const ENDPOINT_WIDTHS: [Width; 4] = [One, One, Two, One];
 impl Configuration {
     ghost use Rattle.usb_set.specs.Descriptors.{configuration_fields};
 
-    /// The bytes of the first descriptor's fields behind wTotalLength (USB 2.0, 9.6.3).
+    /// The bytes of the first descriptor's fields after wTotalLength (USB 2.0, 9.6.3).
     #[inline]
     pub fn field_bytes(&self) -> [u8; 5]
         ensures { result ≡ fields_bytes configuration_fields self.now }

@@ -8,7 +8,7 @@
 //! - What the bytes of a set are is `specs/Layout.antt`; what is wrong with bytes, and where, is
 //!   `specs/Faults.antt`. The decoder's answers are those of these two, whatever the pieces.
 //! - [`Configuration::endpoints`], [`Configuration::all_extras`] and [`Configuration::associations`] go over a set in the
-//!   order of its bytes, and tell what each part belongs to: `specs/Owners.antt`.
+//!   order of its bytes, with what each part belongs to: `specs/Owners.antt`.
 //! - The module [`laws`] states what holds of layouts and faults, whoever reads them.
 #![tactic(auto)]
 

@@ -12,7 +12,7 @@ pub enum Owner<'a> {
     Configuration(&'a Configuration),
     /// An interface at one of its alternate settings.
     Setting(&'a Setting),
-    /// An endpoint, behind the setting that it belongs to.
+    /// An endpoint, after the setting that it belongs to.
     Endpoint(&'a Setting, &'a Endpoint),
 }
 
@@ -39,7 +39,7 @@ pub(crate) struct Owners<'a> {
     pub(crate) setting: Option<&'a Setting>,
     /// Its endpoints that are still to come.
     pub(crate) endpoints: &'a [Endpoint],
-    /// The settings behind it.
+    /// The settings after it.
     pub(crate) settings: &'a [Setting],
 }
 

@@ -16,7 +16,7 @@ use std::marker::Model;
 /// What the descriptor in work met in the bytes that follow.
 #[derive(Clone, Copy, Debug)]
 pub(crate) enum Step {
-    /// Its end, behind so many of them.
+    /// Its end, after so many of them.
     Took(u32),
     /// The end of the bytes.
     Cut,
@@ -134,7 +134,7 @@ impl Reader {
         }
     }
 
-    /// A descriptor of which no earlier piece had a byte is read where it stands.
+    /// A descriptor of which no earlier piece had a byte is read in place.
     #[inline(always)]
     fn step_in_piece(&mut self, bytes: &[u8]) -> Step
         requires work { InWork self.old }

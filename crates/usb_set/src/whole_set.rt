@@ -1,4 +1,4 @@
-//! A set that stands at the front of some bytes.
+//! A set that is a prefix of some bytes.
 ghost use Rattle.usb_set.specs.Feeding.{ReadsSet};
 
 use crate::decoder::{Decoder, Progress};

@@ -15,8 +15,8 @@ use usb_set::{Configuration, EncodeFault};
 /// twice the time where it was measured.
 const STRETCH: usize = 1984;
 
-/// The bytes of a set, with their count as wTotalLength (USB 2.0, 9.6.3). Its count of interfaces
-/// and those of endpoints are written as declared.
+/// The bytes of a set, exactly where it has a layout, with their count as wTotalLength (USB 2.0, 9.6.3). Its count of
+/// interfaces and those of endpoints are written as declared.
 ///
 /// ```rust
 /// let (set, used) = read_set(alloc, &[9, 2, 9, 0, 0, 1, 0, 0x80, 0x32])?;
@@ -25,7 +25,7 @@ const STRETCH: usize = 1984;
 ///
 /// # Errors
 ///
-/// `Tail`, `RawKind` or `TooLong`, the first that holds, exactly where the set has no bytes;
+/// `Tail`, `RawKind` or `TooLong`, the first that applies, exactly where the set has no bytes;
 /// `Memory` where it has bytes, when out of memory.
 pub fn encode(alloc: Global, c: &Configuration) -> Result<Vec<u8>, EncodeFault>
     ensures ok { IfOk result (λ b. Layout c.now b.items) }
@@ -92,7 +92,7 @@ fn add_zeros(out: &mut Vec<u8>, count: usize) -> Result<(), AllocError>
     Ok(())
 }
 
-/// Why [`encode`] refuses the set for another cause than memory, if it does.
+/// The first reason other than memory for which [`encode`] rejects the set, if there is one. Allocates nothing.
 pub fn refusal(c: &Configuration) -> Option<EncodeFault>
     ensures { result ≡ refusal_of c.now }
 {

@@ -8,7 +8,7 @@ ghost use Rattle.usb_set.specs.inside.Trees.{endpoint_bytes, extra_bytes, is_end
 use usb_base::descriptor_length;
 use usb_set::{Configuration, Endpoint, Extra, Setting, with_extra};
 
-/// One more than wTotalLength can say: what a set comes to that has no bytes.
+/// One more than wTotalLength can say: the count of a set that has no bytes.
 pub(crate) const TOO_LONG: usize = Configuration::MOST_BYTES + 1;
 
 /// A part of a set that the pass goes over. All parts are inlined, since one loop nest is the quicker.
@@ -117,7 +117,7 @@ fn tree_len(c: &Configuration) -> usize
     all_len(all_len(head, &c.extras), &c.settings)
 }
 
-/// How many bytes the set has, or [`TOO_LONG`] where something stands against it.
+/// How many bytes the set has, or [`TOO_LONG`] where it has none.
 pub(crate) fn set_len(c: &Configuration) -> usize
     ensures { result ≡ measured 0 (has_long_descriptor c.now) (has_typed_raw c.now) (length (set_bytes c.now 0)) }
 {

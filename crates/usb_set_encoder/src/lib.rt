@@ -1,6 +1,6 @@
 //! The bytes of configuration sets of USB 2.0: what usb_set reads, written again.
 //!
-//! [`encode`] gives the bytes of a set, [`encode_onto`] adds them at the end of a list, and [`refusal`] tells why a set
+//! [`encode`] gives the bytes of a set, [`encode_onto`] adds them at the end of a list, and [`refusal`] is why a set
 //! has none. One pass over the set judges its descriptors and counts their bytes, and a second one writes them.
 //!
 //! - What the bytes of a set are is `specs/Layout.antt` of usb_set, and which sets have bytes its `specs/Encoding.antt`.

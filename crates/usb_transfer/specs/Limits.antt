@@ -1,4 +1,4 @@
--- What a host bears.
+-- The limits of a host.
 use Rattle.std.specs.Prelude.{ℕ, List, codes, ◌≤◌, ◌==◌, ◌||◌, nat_lt, Option, Some, None, if◌then◌else◌}
 use Rattle.usb_transfer.specs.declared.limits.LimitFault.{LimitFault}
 use Rattle.usb_transfer.specs.declared.limits.LimitFault.TheVariants.{Address, Attempts}

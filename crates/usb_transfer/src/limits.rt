@@ -1,4 +1,4 @@
-//! What a host bears.
+//! The limits of a host.
 ghost use Rattle.std.specs.Prelude.{◌≡◌, ◌<◌, IfOk, IfErr, OnOk, Some, None};
 
 use std::marker::Model;
@@ -10,7 +10,7 @@ const LAST_ADDRESS: u8 = 127;
 /// The most attempts that may be asked for.
 const MOST_ATTEMPTS: u8 = 8;
 
-/// What a host bears, and the address that it gives to the device.
+/// The limits of a host, and the address that it gives to the device.
 #[derive(Clone, Copy, Debug, PartialEq, Eq, Hash)]
 pub struct Limits {
     address: u8,
@@ -33,7 +33,7 @@ impl Model for Limits {
 impl Limits {
     ghost use Rattle.usb_transfer.specs.Limits.{IsInRange, limit_fault};
 
-    /// Limits with the address that the device gets, the number of NAKs without progress that a transfer bears, and
+    /// Limits with the address that the device gets, the number of NAKs without progress that a transfer retries, and
     /// the number of attempts.
     ///
     /// ```rust
@@ -77,7 +77,7 @@ impl Limits {
         self.address
     }
 
-    /// The number of NAKs without progress that a transfer bears.
+    /// The number of NAKs without progress that a transfer retries: one more ends it.
     pub fn naks(&self) -> u16
         ensures { result ≡ self.now.naks }
     {
@@ -93,7 +93,7 @@ impl Limits {
     }
 }
 
-/// Why limits are refused: the first of these that holds.
+/// Why limits are rejected: the first of these that applies.
 #[derive(Clone, Copy, Debug, PartialEq, Eq, Hash)]
 pub enum LimitFault {
     /// The address is not 1 to 127.

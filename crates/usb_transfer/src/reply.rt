@@ -8,6 +8,6 @@ pub enum Reply {
     Bytes(Sequence<u8>),
     /// The request was carried out. It asked for no byte.
     Done,
-    /// The device refused the request by STALL.
+    /// The device rejected the request by STALL.
     Refused,
 }

@@ -1,4 +1,4 @@
-//! Where a control transfer stands.
+//! The stage of a control transfer.
 use crate::why::Why;
 
 /// The stage that a control transfer is in, or its end (USB 2.0, 8.5.3).

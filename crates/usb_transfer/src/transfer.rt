@@ -9,7 +9,7 @@ use crate::why::Why;
 use std::marker::Model;
 use usb_fields::{Answer, Direction, Setup, Stage, Toggle, Transaction};
 
-/// The strikes that a transfer bears with no progress between them: one more ends it.
+/// The strikes that a transfer retries with no progress between them: one more ends it.
 const STRIKES: u8 = 2;
 
 /// One control transfer, as the host drives it.
@@ -58,7 +58,7 @@ impl Transfer {
     ghost use Rattle.usb_transfer.specs.Transfer.{begun, due, sent_by, taken, taken_data, taken_status, moved, completed, failed, struck, delayed, with_packet, is_untried};
     ghost use Rattle.usb_transfer.specs.Bound.{left, most_transactions};
 
-    /// A transfer that begins with this setup packet.
+    /// A transfer that begins with this setup packet, with no byte, no strike and no NAK.
     ///
     /// `packet` is the packet size of the device's endpoint zero, in bytes, and `naks` the number of NAKs without
     /// progress after which one more ends the transfer.
@@ -89,7 +89,7 @@ impl Transfer {
         }
     }
 
-    /// The transaction that is due, or `None` once the transfer has ended.
+    /// The transaction that is due, by the stage, the address and the request; `None` once the transfer has ended.
     ///
     /// ```rust
     /// while let Some(transaction) = transfer.next() {
@@ -148,7 +148,7 @@ impl Transfer {
         self.strikes
     }
 
-    /// The NAKs since the last progress, at most as many as are borne.
+    /// The NAKs since the last progress, at most the limit.
     ///
     /// ```rust
     /// assert_eq!(rt; transfer.nak_count(), 0);
@@ -173,8 +173,9 @@ impl Transfer {
         self.stage == TransferStage::Setup && self.strikes == 0
     }
 
-    /// Takes what the transaction that was due brought. A transfer that has ended answers the same `Complete` or
-    /// `Failed` from then on, and does not change.
+    /// Takes the reply to the transaction that was due, which moves the transfer as the table of stages says. A transfer
+    /// that has ended answers the same `Complete` or `Failed` from then on, and does not change. Whatever is replied, at
+    /// most `(naks + 3) * (wLength / packet size + 3)` transactions are due.
     ///
     /// ```rust
     /// match transfer.take(answer) {

@@ -5,7 +5,7 @@ use std::{error, fmt};
 
 /// Why a transfer or an enumeration ended without success.
 ///
-/// The first two blame the bus, and are worth another attempt. The others blame the device, but for the last.
+/// The first two blame the bus, and are worth a retry. The others blame the device, but for the last.
 #[derive(Clone, Copy, Debug, PartialEq, Eq, Hash)]
 pub enum Why {
     /// Three strikes with no progress between them: transactions that brought no reply, or a packet that came before.
