@@ -64,7 +64,7 @@ impl Due {
 
     /// Whether the enumeration has ended.
     #[inline(always)]
-    pub fn is_end(&self) -> bool
+    pub(crate) fn is_end(&self) -> bool
         ensures { (draft : DraftView) → result ≡ is_end_at (place_of self.now draft) }
     {
         match self {
@@ -74,7 +74,7 @@ impl Due {
     }
 
     /// Whether the enumeration has ended by trouble for which the bus is to blame.
-    pub fn is_bus_trouble(&self) -> bool
+    pub(crate) fn is_bus_trouble(&self) -> bool
         ensures { (draft : DraftView) → result ≡ is_bus_trouble_at (place_of self.now draft) }
     {
         match self {
@@ -88,7 +88,7 @@ impl Due {
     }
 
     /// The step that is in work.
-    pub fn step(&self, draft: &Draft) -> Step
+    pub(crate) fn step(&self, draft: &Draft) -> Step
         requires { IsGood (place_of self.now draft.now) }
         ensures { result ≡ step_of (place_of self.now draft.now) }
     {
@@ -110,7 +110,7 @@ impl Due {
     }
 
     /// The end here, for a reason.
-    pub fn stop(&self, draft: &Draft, why: Why) -> Due
+    pub(crate) fn stop(&self, draft: &Draft, why: Why) -> Due
         requires { IsGood (place_of self.now draft.now) }
         ensures { (after : DraftView) → place_of result after ≡ stopped (place_of self.now draft.now) why }
     {
@@ -123,7 +123,7 @@ impl Due {
     }
 
     /// The transfer that is due, where the device gets this address; after the end there is none.
-    pub fn request(&self, draft: &Draft, address: u8) -> Option<Request>
+    pub(crate) fn request(&self, draft: &Draft, address: u8) -> Option<Request>
         requires { IsGood (place_of self.now draft.now) }
         ensures value { result ≡ requested (asks address (place_of self.now draft.now)) }
         ensures packet { IfSome result (λ r. 0 < r.packet) }

@@ -25,7 +25,7 @@ impl Held {
     ghost use Rattle.usb_host.specs.inside.Places.{kept_of, place_of};
 
     /// What the first read begins with.
-    pub fn new(alloc: Global) -> Held
+    pub(crate) fn new(alloc: Global) -> Held
         ensures { (due : Due) (draft : DraftView) → kept_of due result ≡ nothing_kept (place_of due draft) }
     {
         Held {
@@ -36,7 +36,7 @@ impl Held {
     }
 
     /// Begins anew, for the read that is due.
-    pub fn restart(&mut self, alloc: Global, due: Due)
+    pub(crate) fn restart(&mut self, alloc: Global, due: Due)
         ensures { (draft : DraftView) → kept_of due self.new ≡ nothing_kept (place_of due draft) }
     {
         match due {
@@ -51,7 +51,7 @@ impl Held {
     /// Keeps new bytes: those of a set go to its decoder as they came. A fault of the set waits for the end of the
     /// read. Whether memory was wanting.
     #[inline(always)]
-    pub fn add(&mut self, due: &Due, piece: &[u8]) -> bool
+    pub(crate) fn add(&mut self, due: &Due, piece: &[u8]) -> bool
         requires { HasRoom (kept_of due.now self.old) (length piece.now) }
         ensures { Adds (kept_of due.now self.old) piece.now result (kept_of due.now self.new) }
     {

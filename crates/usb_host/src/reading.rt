@@ -104,7 +104,13 @@ impl Reading {
 
     /// Takes an answer: the read goes on, or the next one begins. Whether the read has ended.
     #[inline(always)]
-    pub fn take(&mut self, alloc: Global, limits: &Limits, speed: Speed, answer: Answer<'_>) -> bool
+    pub(crate) fn take(
+        &mut self,
+        alloc: Global,
+        limits: &Limits,
+        speed: Speed,
+        answer: Answer<'_>,
+    ) -> bool
         requires reading { IsReading (place_in self.old) self.old.transfer (kept_in self.old) }
         requires bytes { BringsBytes (reply_of answer) }
         ensures takes { TakesHeard limits.now speed (place_in self.old) (kept_in self.old) (taken self.old.transfer (reply_of answer.entry)) (stands self.new) }
@@ -135,7 +141,7 @@ fn transfer_at(limits: &Limits, due: &Due, draft: &Draft) -> Transfer
 }
 
 /// The first read.
-pub fn begin(alloc: Global, limits: &Limits) -> Reading
+pub(crate) fn begin(alloc: Global, limits: &Limits) -> Reading
     ensures { stands result ≡ enter limits.now First }
 {
     let draft = Draft::new(alloc);
