@@ -1,13 +1,22 @@
--- Rows and columns of the strings, and outcomes.
-use Rattle.std.proofs.Common.{◌≡◌, ℕ, zero, suc, ◌*◌, ◌/◌, ◌%◌, ◌<◌, refl, arith}
-use Rattle.std.specs.Prelude.{None}
+-- Rows and columns of the strings, and where a read leads to.
+use Rattle.std.proofs.Common.{◌≡◌, ℕ, zero, suc, ◌*◌, ◌/◌, ◌%◌, ◌<◌, inl, inr, refl, ap, sym, ◌∙◌, arith}
+use Rattle.std.specs.Prelude.{List, ◌++◌, false, Result, Ok, Err}
 use Rattle.std.proofs.lemmas.Bool.Decides.{nat_tests}
 use Rattle.std.proofs.Math.Nat.{mod-lt}
-use Rattle.usb_file_data.specs.declared.file.DescriptorFile.{DescriptorFile}
+use Rattle.usb_set.specs.declared.decoder.Progress.TheVariants.{More}
+use Rattle.usb_set.specs.declared.tree.SetKind.{SetKind}
+use Rattle.usb_transfer.specs.declared.why.Why.{Why}
+use Rattle.usb_transfer.specs.Transfer.{Completes}
+use Rattle.usb_host.specs.declared.draft.Draft.{Draft}
+use Rattle.usb_host.specs.declared.due.Due.{Due}
+use Rattle.usb_host.specs.declared.due.Due.TheVariants as dues
+use Rattle.usb_host.specs.declared.held.Held.{Held}
 use Rattle.usb_host.specs.declared.place.Place.{Place}
-use Rattle.usb_host.specs.declared.place.Place.TheVariants.{Reported, Stopped}
-use Rattle.usb_host.specs.declared.step.Trouble.{Trouble}
-use Rattle.usb_host.specs.Steps.{outcome_at}
+use Rattle.usb_host.specs.declared.place.Place.TheVariants.{Stopped}
+use Rattle.usb_host.specs.declared.step.Step.{Step}
+use Rattle.usb_host.specs.Order.{step_of, stopped}
+use Rattle.usb_host.specs.inside.Leading.{Adds, Leads, LeadsTo, Settles}
+use Rattle.usb_host.specs.inside.Places.{kept_of, place_of}
 
 positive : (k rows columns : ℕ) → k < rows * columns → 0 < columns
 positive k rows zero below = grind arith
@@ -19,8 +28,17 @@ row_below k rows columns below = (let some = positive k rows columns below in (s
 pub column_below : (k rows columns : ℕ) → k < rows * columns → (0 < columns) × (k % columns < columns)
 column_below k rows columns below = (let some = positive k rows columns below in (some, mod-lt k some))
 
--- only an end has an outcome
-pub no_outcome : (place : Place) → ((f : DescriptorFile) → place ≡ Reported f → ⊥) → ((trouble : Trouble) → place ≡ Stopped trouble → ⊥) → None ≡ outcome_at place
-no_outcome (Reported f) reported stopped = absurd (reported f refl)
-no_outcome (Stopped trouble) reported stopped = absurd (stopped trouble refl)
-no_outcome place reported stopped = refl
+-- where a read leads to, by what is due after it or why there is an end
+pub settles_there : (here target : Place) (d : Draft) (step : Step) (next : Result Due Why) (new : Due) → step ≡ step_of here → LeadsTo here target d next →
+    Settles step next new → Leads Completes here target (place_of new d)
+settles_there here target d step (Ok due) new is leads settles = inr (ap (λ x. place_of x d) settles ∙ leads)
+settles_there here target d step (Err why) new is (inl (grows, memory)) settles =
+    inl (grows, ap (λ x. place_of x d) settles ∙ (ap (λ s. Stopped (record { step = s; why = why })) is ∙ ap (λ w. stopped here w) memory))
+settles_there here target d step (Err why) new is (inr e) settles =
+    inr (ap (λ x. place_of x d) settles ∙ (ap (λ s. Stopped (record { step = s; why = why })) is ∙ sym e))
+
+-- what any other read than that of a set keeps are its bytes
+pub adds_short : (here : Due) (h : Held) (piece new : List ℕ) → ((kind : SetKind) (total : ℕ) → here ≡ dues.Set kind total → ⊥) → new ≡ h.bytes ++ piece →
+    Adds (kept_of here h) piece false (kept_of here (record h { bytes = new }))
+adds_short (dues.Set kind total) h piece new other e = absurd (other kind total refl)
+adds_short here h piece new other e = (Ok More, e, λ lacks. lacks)

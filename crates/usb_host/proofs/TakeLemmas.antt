@@ -27,7 +27,7 @@ use Rattle.usb_host.specs.Order.{stopped}
 use Rattle.usb_host.specs.Steps.{Reading, Ended, enter, goes_on, Grows, KeepsHeard, LacksMemory, TakesHeard}
 use Rattle.usb_host.specs.inside.Steady.{IsGood, FitsPlace, KeepsBytes}
 use Rattle.usb_host.specs.Cost.{BringsBytes}
-use Rattle.usb_host.specs.inside.Leading.{HasRoom, is_end}
+use Rattle.usb_host.specs.inside.Leading.{Adds, HasRoom, is_end}
 use Rattle.usb_host.specs.inside.Reads.{IsGoing, IsCounted, EndsBy, Hears, LeadsOn, ended_leads, standing}
 use Rattle.usb_host.proofs.LowerLemmas.{hears_bytes, kept_steady, completed_low}
 use Rattle.usb_host.proofs.CostLemmas.{refused_falls}
@@ -252,6 +252,11 @@ pub hears_end : (limits : LimitView) (speed : Speed) (place : Place) (t u : Tran
 hears_end limits speed place t u old k answer ending next going (is, (result, keeps, ends)) leads =
     takes_end limits speed place old (taken t answer) k (taken t answer).heard result ending next refl (heeds t answer going).stage keeps ends
     (subst (λ x. LeadsOn speed place x k ending next) is leads)
+
+-- what is heard where new bytes are kept, and memory was not wanting
+pub hears_brings : (by : Taken) (old new : Kept) (bytes : List ℕ) → Brings bytes ≡ by.heard → Adds old bytes false new →
+    (x : Result Progress SetFault) × KeepsHeard old by.heard x new × EndsBy old by.heard x None
+hears_brings by old new bytes e (x, keeps, fine) = subst (λ h. (x : Result Progress SetFault) × KeepsHeard old h x new × EndsBy old h x None) e (x, keeps, fine)
 
 -- what is heard where no bytes are kept
 pub hears_goes : (by : Taken) (old : Kept) → Goes ≡ by.heard → (x : Result Progress SetFault) × KeepsHeard old by.heard x old × EndsBy old by.heard x None

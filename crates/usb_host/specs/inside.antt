@@ -2,6 +2,7 @@
 pub mod Steady
 pub mod Asking
 pub mod Sound
+pub mod Places
 pub mod Leading
 pub mod Reads
 pub mod Hosts

@@ -1,11 +1,13 @@
 //! The host.
-ghost use Rattle.std.specs.Prelude.{◌≡◌, ◌<◌, ◌≤◌, ◌&&◌, nat_lt, IsSome};
+ghost use Rattle.std.specs.Prelude.{◌≡◌, ◌<◌, ◌≤◌, ◌&&◌, false, nat_lt, IsSome};
 ghost use Rattle.usb_fields.specs.Packet.{Sent, reply_of};
 ghost use Rattle.usb_host.specs.Cost.{BringsBytes};
 ghost use Rattle.usb_host.specs.inside.Leading.{is_bus_trouble};
+ghost use Rattle.usb_host.specs.inside.Reads.{place_in};
 
 use crate::action::Action;
-use crate::place::Place;
+use crate::draft::Draft;
+use crate::due::Due;
 use crate::reading::{Reading, begin};
 use crate::step::{Step, Trouble};
 use std::alloc::Global;
@@ -70,7 +72,7 @@ impl Host {
             speed,
             resets: 0,
             reset_due: true,
-            reading: begin(alloc, &limits, Place::First),
+            reading: begin(alloc, &limits),
         }
     }
 
@@ -87,7 +89,7 @@ impl Host {
         if self.reset_due {
             return Action::Reset;
         }
-        if self.reading.place.is_end() {
+        if self.reading.due.is_end() {
             return Action::Ended;
         }
         match self.reading.transfer.next() {
@@ -108,7 +110,7 @@ impl Host {
         }
         self.reset_due = false;
         self.resets += 1;
-        self.reading = begin(self.alloc, &self.limits, Place::First);
+        self.reading = begin(self.alloc, &self.limits);
     }
 
     /// Takes what the transaction that was due brought: the read in work goes on, or the next one begins, or there is
@@ -120,17 +122,19 @@ impl Host {
     /// ```rust
     /// host.take(Answer::Ack);
     /// ```
+    #[inline(always)]
     pub fn take(&mut self, answer: Answer<'_>)
         ensures taken { Takes self.old (reply_of answer.entry) self.new }
         ensures fewer { (sent : Sent) → wanted self.old.phase ≡ WantsSent sent → left_to_ask self.new < left_to_ask self.old }
     {
-        if self.reset_due || self.reading.place.is_end() {
+        if self.reset_due || self.reading.due.is_end() {
             return;
         }
         known_answer(answer);
-        self.reading
+        let has_ended = self
+            .reading
             .take(self.alloc, &self.limits, self.speed, answer);
-        self.reset_due = may_try_again(&self.reading.place, self.resets, &self.limits);
+        self.reset_due = may_try_again(&self.reading, has_ended, self.resets, &self.limits);
     }
 
     /// How often the bus was reset: the attempts so far, at most the limit.
@@ -152,10 +156,10 @@ impl Host {
     pub fn step(&self) -> Option<Step>
         ensures { result ≡ step_in self.now.phase }
     {
-        if self.reading.place.is_end() || self.reset_due {
+        if self.reading.due.is_end() || self.reset_due {
             return None;
         }
-        Some(self.reading.place.step())
+        Some(self.reading.due.step(&self.reading.draft))
     }
 
     /// The transfer that is in work, if one is: a copy, which is told of no further answer.
@@ -168,7 +172,7 @@ impl Host {
     pub fn transfer(&self) -> Option<Transfer>
         ensures { result ≡ transfer_in self.now.phase }
     {
-        if self.reading.place.is_end() || self.reset_due {
+        if self.reading.due.is_end() || self.reset_due {
             return None;
         }
         Some(self.reading.transfer)
@@ -189,9 +193,9 @@ impl Host {
         if self.reset_due {
             return None;
         }
-        match &self.reading.place {
-            Place::Reported { file } => Some(Ok(file)),
-            Place::Stopped { trouble } => Some(Err(*trouble)),
+        match self.reading.due {
+            Due::Reported => Some(Ok(&self.reading.draft.file)),
+            Due::Stopped { trouble } => Some(Err(trouble)),
             _ => None,
         }
     }
@@ -218,24 +222,34 @@ impl Host {
             reading,
         } = self;
         let Reading {
-            place,
+            due,
             transfer: _,
-            kept: _,
+            draft,
+            held: _,
         } = reading;
+        let Draft {
+            file,
+            strings: _,
+            named: _,
+        } = draft;
         if reset_due {
-            drop(place);
             return None;
         }
-        place.into_outcome()
+        match due {
+            Due::Reported => Some(Ok(file)),
+            Due::Stopped { trouble } => Some(Err(trouble)),
+            _ => None,
+        }
     }
 }
 
-/// Whether the bus is to blame for the end at a place, and attempts are left.
+/// Whether the bus is to blame for the end of a read, and attempts are left.
 #[inline(always)]
-fn may_try_again(place: &Place, resets: u8, limits: &Limits) -> bool
-    ensures { result ≡ (is_bus_trouble place.now && nat_lt resets limits.now.attempts) }
+fn may_try_again(reading: &Reading, has_ended: bool, resets: u8, limits: &Limits) -> bool
+    requires { has_ended ≡ false → is_bus_trouble (place_in reading.now) ≡ false }
+    ensures { result ≡ (is_bus_trouble (place_in reading.now) && nat_lt resets limits.now.attempts) }
 {
-    place.is_bus_trouble() && resets < limits.attempts()
+    has_ended && reading.due.is_bus_trouble() && resets < limits.attempts()
 }
 
 /// For the proof of a caller: the data of an answer are bytes.

@@ -6,6 +6,9 @@
 #![tactic(auto)]
 
 mod action;
+mod draft;
+mod due;
+mod held;
 mod host;
 mod kept;
 mod kept_bytes;

@@ -1,21 +1,24 @@
 //! A read in work.
-ghost use Rattle.std.specs.Prelude.{◌≡◌, ◌<◌};
+ghost use Rattle.std.specs.Prelude.{◌≡◌, ◌<◌, false};
 ghost use Rattle.usb_fields.specs.Packet.{reply_of};
 ghost use Rattle.usb_transfer.specs.Bound.{left};
 ghost use Rattle.usb_transfer.specs.Transfer.{taken};
 ghost use Rattle.usb_host.specs.Keeping.{nothing_kept};
 ghost use Rattle.usb_host.specs.declared.kept.Kept.{Kept};
+ghost use Rattle.usb_host.specs.declared.place.Place.TheVariants.{First};
 ghost use Rattle.usb_host.specs.Cost.{BringsBytes};
 ghost use Rattle.usb_host.specs.inside.Steady.{FitsPlace, IsGood, KeepsBytes};
 ghost use Rattle.usb_host.specs.Steps.{TakesHeard, enter};
-ghost use Rattle.usb_host.specs.inside.Reads.{GoesOn, Hears, IsReading, IsStanding, LeadsOn, standing};
+ghost use Rattle.usb_host.specs.inside.Places.{kept_of, place_of};
+ghost use Rattle.usb_host.specs.inside.Leading.{is_bus_trouble};
+ghost use Rattle.usb_host.specs.inside.Reads.{GoesOn, Hears, IsReading, IsStanding, LeadsOn, kept_in, place_in, standing, stands};
 
-use crate::kept::Kept;
+use crate::draft::Draft;
+use crate::due::Due;
+use crate::held::Held;
 use crate::leading::{lead_completed, lead_refused};
-use crate::place::Place;
 use crate::request::getting;
 use std::alloc::Global;
-use std::mem;
 use usb_fields::{Answer, Speed};
 use usb_transfer::{Heard, Limits, Transfer, Why};
 
@@ -28,12 +31,14 @@ pub enum Ending {
     Failed(Why),
 }
 
-/// The read in work: where the enumeration stands, the transfer, and what is kept of its bytes.
+/// The read in work: what is due, what was read so far, the transfer, and what is held of its bytes. All of it stays
+/// where it is, and is changed there.
 #[derive(Debug, Drop)]
 pub struct Reading {
-    pub place: Place,
+    pub due: Due,
     pub transfer: Transfer,
-    pub kept: Kept,
+    pub draft: Draft,
+    pub held: Held,
 }
 
 impl Reading {
@@ -41,18 +46,18 @@ impl Reading {
     #[inline(always)]
     #[tactic(auto, using(crate::proofs::TakeLemmas::room, crate::proofs::TakeLemmas::hears_steady, crate::proofs::StandLemmas::going_due))]
     fn hear(&mut self, answer: Answer<'_>) -> Option<Ending>
-        requires reading { IsReading self.old.place self.old.transfer self.old.kept }
+        requires reading { IsReading (place_in self.old) self.old.transfer (kept_in self.old) }
         requires bytes { BringsBytes (reply_of answer) }
-        ensures place { self.new.place ≡ self.old.place }
-        ensures fits { FitsPlace self.new.place self.new.kept }
-        ensures bytes { KeepsBytes self.new.kept }
+        ensures place { place_in self.new ≡ place_in self.old }
+        ensures fits { FitsPlace (place_in self.new) (kept_in self.new) }
+        ensures bytes { KeepsBytes (kept_in self.new) }
         ensures fewer { left (taken self.old.transfer (reply_of answer.entry)).transfer < left self.old.transfer }
-        ensures heard { Hears self.old.kept (taken self.old.transfer (reply_of answer.entry)) self.new.transfer self.new.kept result }
+        ensures heard { Hears (kept_in self.old) (taken self.old.transfer (reply_of answer.entry)) self.new.transfer (kept_in self.new) result }
     {
         match self.transfer.take(answer) {
             Heard::Again => None,
             Heard::Bytes(bytes) => {
-                if self.kept.add(bytes) {
+                if self.held.add(&self.due, bytes) {
                     Some(Ending::Failed(Why::Memory))
                 } else {
                     None
@@ -64,76 +69,87 @@ impl Reading {
     }
 
     /// Goes on to where a read leads that has ended.
+    #[inline(never)]
     #[tactic(auto, using(crate::proofs::TakeLemmas::next_good))]
     fn go_on(&mut self, alloc: Global, limits: &Limits, speed: Speed, ending: Ending)
-        requires good { IsGood self.old.place }
-        requires fits { FitsPlace self.old.place self.old.kept }
-        requires bytes { KeepsBytes self.old.kept }
-        ensures { GoesOn limits.now speed self.old.place self.old.transfer self.old.kept ending self.new.place (standing self.new.place self.new.transfer self.new.kept) }
+        requires good { IsGood (place_in self.old) }
+        requires fits { FitsPlace (place_in self.old) (kept_in self.old) }
+        requires bytes { KeepsBytes (kept_in self.old) }
+        ensures { GoesOn limits.now speed (place_in self.old) self.old.transfer (kept_in self.old) ending (place_in self.new) (stands self.new) }
     {
-        let place = mem::replace(&mut self.place, Place::First);
-        let next = lead(alloc, speed, place, &self.transfer, &mut self.kept, ending);
-        self.kept.restart(alloc, &next);
-        self.transfer = transfer_at(limits, &next);
-        drop(mem::replace(&mut self.place, next));
+        let due = self.lead(alloc, speed, ending);
+        self.held.restart(alloc, due);
+        self.transfer = transfer_at(limits, &due, &self.draft);
+        self.due = due;
     }
 
-    /// Takes an answer: the read goes on, or the next one begins.
-    #[inline(always)]
-    pub fn take(&mut self, alloc: Global, limits: &Limits, speed: Speed, answer: Answer<'_>)
-        requires reading { IsReading self.old.place self.old.transfer self.old.kept }
-        requires bytes { BringsBytes (reply_of answer) }
-        ensures takes { TakesHeard limits.now speed self.old.place self.old.kept (taken self.old.transfer (reply_of answer.entry)) (standing self.new.place self.new.transfer self.new.kept) }
-        ensures fewer { left (taken self.old.transfer (reply_of answer.entry)).transfer < left self.old.transfer }
-        ensures stands { IsStanding (standing self.new.place self.new.transfer self.new.kept) }
+    /// What is due after a read that has ended, or the end where memory is wanting.
+    fn lead(&mut self, alloc: Global, speed: Speed, ending: Ending) -> Due
+        requires good { IsGood (place_in self.old) }
+        ensures leads { LeadsOn speed (place_in self.old) self.old.transfer (kept_in self.old) ending (place_of result self.new.draft) }
     {
-        if let Some(ending) = self.hear(answer) {
-            self.go_on(alloc, limits, speed, ending);
+        match ending {
+            Ending::Completed => lead_completed(
+                alloc,
+                speed,
+                self.due,
+                &mut self.draft,
+                &self.transfer,
+                &mut self.held,
+            ),
+            Ending::Failed(Why::Stalled) => lead_refused(alloc, self.due, &mut self.draft),
+            Ending::Failed(why) => self.due.stop(&self.draft, why),
+        }
+    }
+
+    /// Takes an answer: the read goes on, or the next one begins. Whether the read has ended.
+    #[inline(always)]
+    pub(crate) fn take(
+        &mut self,
+        alloc: Global,
+        limits: &Limits,
+        speed: Speed,
+        answer: Answer<'_>,
+    ) -> bool
+        requires reading { IsReading (place_in self.old) self.old.transfer (kept_in self.old) }
+        requires bytes { BringsBytes (reply_of answer) }
+        ensures takes { TakesHeard limits.now speed (place_in self.old) (kept_in self.old) (taken self.old.transfer (reply_of answer.entry)) (stands self.new) }
+        ensures fewer { left (taken self.old.transfer (reply_of answer.entry)).transfer < left self.old.transfer }
+        ensures stands { IsStanding (stands self.new) }
+        ensures quiet { result ≡ false → is_bus_trouble (place_in self.new) ≡ false }
+    {
+        match self.hear(answer) {
+            Some(ending) => {
+                self.go_on(alloc, limits, speed, ending);
+                true
+            }
+            None => false,
         }
     }
 }
 
-/// Where a read leads to that has ended, or the end where memory is wanting.
-fn lead(
-    alloc: Global,
-    speed: Speed,
-    place: Place,
-    transfer: &Transfer,
-    kept: &mut Kept,
-    ending: Ending,
-) -> Place
-    requires good { IsGood place }
-    ensures leads { LeadsOn speed place transfer.now kept.old ending result }
+/// The transfer that begins with what is due; at an end it is one that nobody asks for.
+fn transfer_at(limits: &Limits, due: &Due, draft: &Draft) -> Transfer
+    requires { IsGood (place_of due.now draft.now) }
+    ensures { (k : Kept) → k ≡ nothing_kept (place_of due.now draft.now) → standing (place_of due.now draft.now) result k ≡ enter limits.now (place_of due.now draft.now) }
 {
-    match ending {
-        Ending::Completed => lead_completed(alloc, speed, place, transfer, kept),
-        Ending::Failed(Why::Stalled) => lead_refused(alloc, place),
-        Ending::Failed(why) => place.stop(why),
-    }
-}
-
-/// The transfer that begins at a place; at an end it is one that nobody asks for.
-fn transfer_at(limits: &Limits, place: &Place) -> Transfer
-    requires { IsGood place.now }
-    ensures { (k : Kept) → k ≡ nothing_kept place.now → standing place.now result k ≡ enter limits.now place.now }
-{
-    let (address, packet, setup) = match place.request(limits.address()) {
+    let (address, packet, setup) = match due.request(draft, limits.address()) {
         Some(request) => (request.address, request.packet, request.setup),
         None => (0, 1, getting(0, 0, 0, 0)),
     };
     Transfer::new(address, packet, limits.naks(), setup)
 }
 
-/// The read that begins at a place.
-pub fn begin(alloc: Global, limits: &Limits, place: Place) -> Reading
-    requires { IsGood place }
-    ensures { standing result.place result.transfer result.kept ≡ enter limits.now place }
+/// The first read.
+pub(crate) fn begin(alloc: Global, limits: &Limits) -> Reading
+    ensures { stands result ≡ enter limits.now First }
 {
-    let kept = Kept::nothing(alloc, &place);
-    let transfer = transfer_at(limits, &place);
+    let draft = Draft::new(alloc);
+    let transfer = transfer_at(limits, &Due::First, &draft);
     Reading {
-        place,
+        due: Due::First,
         transfer,
-        kept,
+        draft,
+        held: Held::new(alloc),
     }
 }

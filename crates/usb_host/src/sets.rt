@@ -1,5 +1,5 @@
 //! The sets of a file in the making.
-ghost use Rattle.std.specs.Prelude.{◌≡◌, ◌<◌, IfOk, length};
+ghost use Rattle.std.specs.Prelude.{◌≡◌, ◌<◌, OnOk, length};
 ghost use Rattle.usb_file_data.specs.Front.{with_set};
 ghost use Rattle.usb_host.specs.Order.{declared_sets, first_value, sets_of, is_first_zero as cannot_be_selected};
 
@@ -55,13 +55,9 @@ pub fn is_first_zero(kind: SetKind, file: &DescriptorFile, set: &Configuration) 
     }
 }
 
-/// The file with one more set of this kind.
-pub fn add_set(
-    mut file: DescriptorFile,
-    kind: SetKind,
-    set: Configuration,
-) -> Result<DescriptorFile, NoMemory>
-    ensures { IfOk result (λ f. f ≡ with_set kind set file) }
+/// Adds a set of this kind to the file.
+pub fn add_set(file: &mut DescriptorFile, kind: SetKind, set: Configuration) -> Result<(), NoMemory>
+    ensures { OnOk result (file.new ≡ with_set kind set file.old) }
 {
     let added = match kind {
         SetKind::Configuration => file.sets.push(set).is_ok(),
@@ -70,5 +66,5 @@ pub fn add_set(
             None => true,
         },
     };
-    if added { Ok(file) } else { Err(NoMemory) }
+    if added { Ok(()) } else { Err(NoMemory) }
 }

@@ -5,7 +5,7 @@ use Rattle.usb_host.specs.declared.place.Place.{Place}
 use Rattle.usb_host.specs.declared.kept.Kept.{Kept}
 use Rattle.usb_host.specs.declared.host.Host.TheInside.{Inside}
 use Rattle.usb_host.specs.Steps.{HostPhase, ResetDue, Reading, Ended, HostView}
-use Rattle.usb_host.specs.inside.Reads.{IsReading, standing}
+use Rattle.usb_host.specs.inside.Reads.{IsReading, kept_in, place_in, standing}
 
 -- a reset that is due, or where the read stands
 abbrev pub phase_in : Bool → Place → TransferView → Kept → HostPhase
@@ -18,7 +18,7 @@ view_of h =
       limits = h.limits;
       speed = h.speed;
       resets = h.resets;
-      phase = phase_in h.reset_due h.reading.place h.reading.transfer h.reading.kept;
+      phase = phase_in h.reset_due (place_in h.reading) h.reading.transfer (kept_in h.reading);
     }
 
 -- a reset is due only while attempts are left, and a read in work is sound

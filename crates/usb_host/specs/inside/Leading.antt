@@ -11,16 +11,20 @@ use Rattle.usb_host.specs.declared.kept.Kept.{Kept}
 use Rattle.usb_host.specs.declared.kept.Kept.TheVariants as kept
 use Rattle.usb_host.specs.declared.place.Place.{Place}
 use Rattle.usb_host.specs.declared.place.Place.TheVariants.{Device, Header, Qualifier as SecondSpeed, Languages, Text, Reported, Stopped}
+use Rattle.usb_host.specs.declared.draft.Draft.{Draft}
+use Rattle.usb_host.specs.declared.due.Due.{Due}
+use Rattle.usb_host.specs.declared.due.Due.TheVariants as dues
 use Rattle.usb_host.specs.declared.request.Request.{Request}
 use Rattle.usb_host.specs.declared.step.Step.{Step}
 use Rattle.usb_host.specs.Order.{stopped}
+use Rattle.usb_host.specs.inside.Places.{place_of}
 use Rattle.usb_host.specs.Keeping.{Keeps}
 use Rattle.usb_host.specs.Steps.{blames_bus, LacksMemory, Grows}
 
--- the next place, or why the read of this one is refused; or memory was wanting, where that is asked for
-abbrev pub LeadsTo : Place → Place → Result Place Why → Type 0
-LeadsTo here target (Ok place) = place ≡ target
-LeadsTo here target (Err why) = (Grows Completes here × (why ≡ Memory)) ⊎ (target ≡ stopped here why)
+-- what is due next, beside this draft; or why the read of this place is refused, or memory was wanting where that is asked for
+abbrev pub LeadsTo : Place → Place → Draft → Result Due Why → Type 0
+LeadsTo here target d (Ok due) = place_of due d ≡ target
+LeadsTo here target d (Err why) = (Grows Completes here × (why ≡ Memory)) ⊎ (target ≡ stopped here why)
 
 -- whether an enumeration has ended at a place
 abbrev pub is_end : Place → Bool
@@ -50,15 +54,15 @@ abbrev pub HasRoom : Kept → ℕ → Type 0
 HasRoom (kept.Bytes bytes) count = length bytes + count ≤ 255
 HasRoom (kept.Set d over) count = Unit {0}
 
--- a place, or that memory was wanting
-abbrev pub OrMemory : Result Place AllocError → Result Place Why → Type 0
-OrMemory (Ok place) new = new ≡ Ok place
+-- what is due, or that memory was wanting
+abbrev pub OrMemory : Result Due AllocError → Result Due Why → Type 0
+OrMemory (Ok due) new = new ≡ Ok due
 OrMemory (Err e) new = new ≡ Err Memory
 
--- the place, or the end at this step
-abbrev pub Settles : Step → Result Place Why → Place → Type 0
-Settles step (Ok place) new = new ≡ place
-Settles step (Err why) new = new ≡ Stopped (record { step = step; why = why })
+-- what is due, or the end at this step
+abbrev pub Settles : Step → Result Due Why → Due → Type 0
+Settles step (Ok due) new = new ≡ due
+Settles step (Err why) new = new ≡ dues.Stopped (record { step = step; why = why })
 
 -- whether an enumeration has ended by trouble for which the bus is to blame
 abbrev pub is_bus_trouble : Place → Bool

@@ -13,10 +13,20 @@ use Rattle.usb_host.specs.declared.kept.Kept.{Kept}
 use Rattle.usb_host.specs.declared.kept.Kept.TheVariants as kept
 use Rattle.usb_host.specs.declared.reading.Ending.{Ending}
 use Rattle.usb_host.specs.declared.reading.Ending.TheVariants as endings
+use Rattle.usb_host.specs.declared.reading.Reading.{Reading as Work}
 use Rattle.usb_host.specs.Order.{stopped, refused_leads}
 use Rattle.usb_host.specs.Steps.{HostPhase, ResetDue, Reading, Ended, KeepsHeard, LacksMemory, completed_leads, enter}
 use Rattle.usb_host.specs.inside.Steady.{IsGood, FitsPlace, KeepsBytes}
 use Rattle.usb_host.specs.inside.Leading.{is_end, Leads}
+use Rattle.usb_host.specs.inside.Places.{place_of, kept_of}
+
+-- where the enumeration stands
+abbrev pub place_in : Work → Place
+place_in r = place_of r.due r.draft
+
+-- what is kept of the read in work
+abbrev pub kept_in : Work → Kept
+kept_in r = kept_of r.due r.held
 
 -- a transfer that goes on
 abbrev pub IsGoing : TransferStage → Type 0
@@ -75,6 +85,10 @@ pub record GoesOn (limits : LimitView) (speed : Speed) (place : Place) (t : Tran
 -- a place with its read, or the end there
 abbrev pub standing : Place → TransferView → Kept → HostPhase
 standing place t k = if is_end place then Ended place else Reading place t k
+
+-- the phase of a host with this read
+abbrev pub stands : Work → HostPhase
+stands r = standing (place_in r) r.transfer (kept_in r)
 
 -- what holds of a host's phase: of a read in work this
 abbrev pub IsStanding : HostPhase → Type 0

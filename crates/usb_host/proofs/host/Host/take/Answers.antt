@@ -2,6 +2,7 @@ use Rattle.std.proofs.Common.{◌≡◌, sym, subst}
 use Rattle.usb_fields.specs.Packet.{reply_of}
 use Rattle.usb_host.specs.Steps.{Takes, Reading}
 use Rattle.usb_host.specs.inside.Hosts.{view_of}
+use Rattle.usb_host.specs.inside.Reads.{kept_in, place_in}
 use Rattle.usb_host.specs.contracts.host.Host.{the_view}
 use Rattle.usb_host.proofs.StandLemmas.{reads_here, host_takes, host_asks_less, reads_sound}
 use Rattle.usb_host.proofs.host.Host.take.Goals as goal
@@ -13,19 +14,19 @@ returns-clause-taken c =
     (λ v. Takes v (reply_of c.args.answer)
     (the_view (record c.self.inside {
       reset_due = c.may_try_again-self-inside.result;
-      reading = record { place = c.take.new.self.place; transfer = c.take.new.self.transfer; kept = c.take.new.self.kept };
+      reading = c.take-has_ended.new.self;
     })))
     c.self.view_is
-    (host_takes (view_of c.self.inside) c.self.inside.reading.place c.take.new.self.place c.self.inside.reading.transfer c.take.new.self.transfer
-    c.self.inside.reading.kept c.take.new.self.kept (reply_of c.args.answer) c.may_try_again-self-inside.result
-    (reads_here c.self.inside.reset_due c.self.inside.reading.place c.self.inside.reading.transfer c.self.inside.reading.kept c.if-self.false (sym c.if-is_end.ensures))
-    c.take.ensures.takes c.may_try_again-self-inside.ensures)
+    (host_takes (view_of c.self.inside) (place_in c.self.inside.reading) (place_in c.take-has_ended.new.self) c.self.inside.reading.transfer c.take-has_ended.new.self.transfer
+    (kept_in c.self.inside.reading) (kept_in c.take-has_ended.new.self) (reply_of c.args.answer) c.may_try_again-self-inside.result
+    (reads_here c.self.inside.reset_due (place_in c.self.inside.reading) c.self.inside.reading.transfer (kept_in c.self.inside.reading) c.if-self.false (sym (c.if-is_end.ensures c.self.inside.reading.draft)))
+    c.take-has_ended.ensures.takes c.may_try_again-self-inside.ensures)
 
 pub returns-clause-fewer : goal.returns-clause-fewer
 returns-clause-fewer c sent due =
-    host_asks_less c.args.self.now _ c.self.inside.reading.place c.self.inside.reading.transfer c.self.inside.reading.kept (reply_of c.args.answer)
-    (subst (λ v. v.phase ≡ Reading c.self.inside.reading.place c.self.inside.reading.transfer c.self.inside.reading.kept) c.self.view_is
-    (reads_here c.self.inside.reset_due c.self.inside.reading.place c.self.inside.reading.transfer c.self.inside.reading.kept c.if-self.false (sym c.if-is_end.ensures)))
-    (reads_sound c.self.inside.limits.attempts c.self.inside.resets c.self.inside.reset_due c.self.inside.reading.place c.self.inside.reading.transfer
-    c.self.inside.reading.kept c.if-self.false (sym c.if-is_end.ensures) c.self.invariant)
-    c.known_answer.ensures c.take.ensures.fewer (returns-clause-taken c)
+    host_asks_less c.args.self.now _ (place_in c.self.inside.reading) c.self.inside.reading.transfer (kept_in c.self.inside.reading) (reply_of c.args.answer)
+    (subst (λ v. v.phase ≡ Reading (place_in c.self.inside.reading) c.self.inside.reading.transfer (kept_in c.self.inside.reading)) c.self.view_is
+    (reads_here c.self.inside.reset_due (place_in c.self.inside.reading) c.self.inside.reading.transfer (kept_in c.self.inside.reading) c.if-self.false (sym (c.if-is_end.ensures c.self.inside.reading.draft))))
+    (reads_sound c.self.inside.limits.attempts c.self.inside.resets c.self.inside.reset_due (place_in c.self.inside.reading) c.self.inside.reading.transfer
+    (kept_in c.self.inside.reading) c.if-self.false (sym (c.if-is_end.ensures c.self.inside.reading.draft)) c.self.invariant)
+    c.known_answer.ensures c.take-has_ended.ensures.fewer (returns-clause-taken c)

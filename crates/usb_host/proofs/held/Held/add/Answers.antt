@@ -1,0 +1,6 @@
+use Rattle.usb_host.proofs.PlaceLemmas.{adds_short}
+use Rattle.usb_host.proofs.held.Held.add.Goals as goal
+
+-- src/held.rt: the bytes of a short read have no decoder that answers
+pub returns-in_default : goal.returns-in_default
+returns-in_default c = adds_short c.args.due.now c.args.self.now c.args.piece.now c.add.new.self c.in_default.not-Set c.add.ensures

@@ -1,0 +1,95 @@
+//! A file in the making.
+ghost use Rattle.std.specs.Prelude.{◌≡◌, ◌<◌, ◌*◌, [], None, length};
+ghost use Rattle.usb_host.specs.Order.{declared_sets, index_due as index_after, language_due as language_after, sets_of};
+
+use crate::sets::{count_declared, count_sets};
+use std::alloc::Global;
+use usb_base::Sequence;
+use usb_fields::DeviceDescriptor;
+use usb_file_data::{DescriptorFile, Strings};
+use usb_set::SetKind;
+
+/// What stands in a draft while no device descriptor was read.
+const NO_DEVICE: DeviceDescriptor = DeviceDescriptor {
+    usb: 0,
+    class: 0,
+    subclass: 0,
+    protocol: 0,
+    packet: 0,
+    vendor: 0,
+    product: 0,
+    release: 0,
+    maker_text: 0,
+    product_text: 0,
+    serial_text: 0,
+    configurations: 0,
+};
+
+/// What was read so far. It is changed where it lies: what is due says which of it counts.
+#[derive(Debug, Drop)]
+pub struct Draft {
+    /// The file, as far as it is read.
+    pub file: DescriptorFile,
+    /// The languages, and the strings so far. Once all are there they belong to the file.
+    pub strings: Strings,
+    /// The indices of strings that are named.
+    pub named: Sequence<u8>,
+}
+
+impl Draft {
+    /// With nothing read.
+    pub fn new(alloc: Global) -> Draft {
+        Draft {
+            file: new_file(alloc, NO_DEVICE),
+            strings: no_strings(alloc),
+            named: Sequence::new(alloc),
+        }
+    }
+}
+
+/// The file of which the device descriptor alone was read.
+pub fn new_file(alloc: Global, device: DeviceDescriptor) -> DescriptorFile
+    ensures { result ≡ record { device = device; sets = []; other = None; strings = None } }
+{
+    DescriptorFile {
+        device,
+        sets: Sequence::new(alloc),
+        other: None,
+        strings: None,
+    }
+}
+
+/// Without languages.
+pub fn no_strings(alloc: Global) -> Strings {
+    Strings {
+        languages: Sequence::new(alloc),
+        texts: Sequence::new(alloc),
+    }
+}
+
+/// The index of the next set of this kind, of those that the device declares.
+pub fn index_of(kind: SetKind, file: &DescriptorFile) -> u8
+    requires { length (sets_of kind file.now) < declared_sets kind file.now }
+    ensures { result ≡ length (sets_of kind file.now) }
+{
+    let _declared = count_declared(kind, file);
+    count_sets(kind, file) as u8
+}
+
+/// The index of the next string, of those that are due.
+#[tactic(auto, using(crate::proofs::PlaceLemmas::column_below))]
+pub fn index_due(strings: &Strings, named: &[u8]) -> u8
+    requires { length strings.now.texts < length strings.now.languages * length named.now }
+    ensures { result ≡ index_after named.now (length strings.now.texts) }
+{
+    named[strings.texts.len() % named.len()]
+}
+
+/// The language of the next string, of those that are due.
+#[tactic(auto, using(crate::proofs::PlaceLemmas::row_below))]
+pub fn language_due(strings: &Strings, named: &[u8]) -> u16
+    requires { length strings.now.texts < length strings.now.languages * length named.now }
+    ensures { result ≡ language_after strings.now.languages named.now (length strings.now.texts) }
+{
+    strings.languages[strings.texts.len() / named.len()]
+}
