@@ -7,7 +7,7 @@ pub(crate) const ABOUT: &str = "Lists, checks, builds, explains and enumerates U
 pub(crate) const SHOW_ABOUT: &str =
     "Lists the configuration set, descriptor file or dump on standard input, a line for each descriptor";
 
-/// What stands below the help of `show`.
+/// The text after the help of `show`.
 pub(crate) const SHOW_HELP: &str = "\
 Input:
   One configuration set where the second byte is 2 or 7: what a device answers when it is
@@ -17,26 +17,26 @@ Input:
   configuration sets alone, as Linux gives them in /sys/bus/usb/devices/*/descriptors.
 
 Dumps:
-  Linux lowers bNumConfigurations where it could not read a set, and gives only the front of
-  a set that it could walk, while the set keeps its own wTotalLength. So the dump of a broken
+  Linux lowers bNumConfigurations where it could not read a set, and gives only the prefix of
+  a set that it could parse, while the set keeps its own wTotalLength. So the dump of a broken
   device ends early (file fault 6 at its end), or runs into the next set (file fault 2).
   'build' takes the listing of a dump once its languages and strings are added.
 
 Exit status:
   0  the listing is written
-  2  the command line is no command
+  2  the command line is invalid
   3  reading, the input or writing is at fault; standard error says how";
 
 /// What `check` does.
 pub(crate) const CHECK_ABOUT: &str =
     "Checks the set, descriptor file or dump on standard input by the rules of chapter 9, a line for each finding";
 
-/// What stands below the help of `check`.
+/// The text after the help of `check`.
 pub(crate) const CHECK_HELP: &str = "\
 Input:
   A configuration set, a descriptor file or a dump, as of 'show'. A set alone is the main
-  part, or the other part where it is an other-speed configuration; V11 does not ask it.
-  In a dump with bcdUSB 0300 or above V11 asks for a bMaxPacketSize0 of 9.
+  part, or the other part where it is an other-speed configuration. V11 does not apply to it.
+  In a dump with bcdUSB 0300 or above V11 requires a bMaxPacketSize0 of 9.
 
 Rules:
   V1   bNumInterfaces is not the count of distinct interface numbers
@@ -56,14 +56,14 @@ Rules:
 Exit status:
   0  no rule is broken; the line 'no findings' is written
   1  a rule is broken; a line is written for each finding
-  2  the command line is no command
+  2  the command line is invalid
   3  reading, the input or writing is at fault; standard error says how";
 
 /// What `build` does.
 pub(crate) const BUILD_ABOUT: &str =
     "Builds the bytes of the descriptor file whose listing is on standard input";
 
-/// What stands below the help of `build`.
+/// The text after the help of `build`.
 pub(crate) const BUILD_HELP: &str = "\
 Input:
   The listing of a descriptor file, as 'show' writes it: a line for each descriptor, in the
@@ -71,7 +71,7 @@ Input:
 
 Exit status:
   0  the bytes of the file are written
-  2  the command line is no command
+  2  the command line is invalid
   3  reading, the listing or writing is at fault; standard error says how, and of a listing
      the number of the fault and the first line at fault";
 
@@ -79,7 +79,7 @@ Exit status:
 pub(crate) const EXPLAIN_ABOUT: &str =
     "Explains the set, descriptor file or dump on standard input in words, a heading for each descriptor";
 
-/// What stands below the help of `explain`.
+/// The text after the help of `explain`.
 pub(crate) const EXPLAIN_HELP: &str = "\
 Input:
   A configuration set, a descriptor file or a dump, as of 'show'. One that is broken is
@@ -87,13 +87,13 @@ Input:
 
 Text:
   Each descriptor has a heading, with the place of its first byte and its length. Below it
-  stand what breaks a rule of chapter 9 there, behind a '!', and its fields. Units of
-  intervals and of bMaxPower hang on the speed, which stands in the heading of each set:
-  that of '--speed', or what the descriptors say of it.
+  are the broken rules of chapter 9, a line with a '!' for each finding, and its fields.
+  Units of intervals and of bMaxPower depend on the speed, which is in the heading of each
+  set: that of '--speed', or what the descriptors say of it.
 
 Exit status:
   0  the text is written, with findings too
-  2  the command line is no command, or '--speed' names no speed
+  2  the command line is invalid, or '--speed' names no speed
   3  reading, the input or writing is at fault; standard error says how";
 
 /// What `--brief` says.
@@ -110,7 +110,7 @@ pub(crate) const RAN_AT_HELP: &str =
 pub(crate) const ENUMERATE_ABOUT: &str =
     "Enumerates a device of the descriptor file on standard input, over a bus that may lose packets";
 
-/// What stands below the help of `enumerate`.
+/// The text after the help of `enumerate`.
 pub(crate) const ENUMERATE_HELP: &str = "\
 Input:
   A descriptor file: the device descriptor, its configuration sets, a qualifier and its
@@ -118,12 +118,12 @@ Input:
   and the strings.
 
 Log:
-  With --log a line for each transaction goes before the result: its number, its fate, what
-  the host sends, what the device answers, the host's ACK, what the host and what the device
-  have then, and the data. A line begins each bus reset and each transfer.
+  With --log a line for each transaction is written before the result: its number, its fate,
+  what the host sends, what the device answers, the host's ACK, what the host and what the
+  device have then, and the data. A line begins each bus reset and each transfer.
 
 Fates:
-  A letter for each transaction of the bus, in order. After the last one all arrives.
+  A letter for each transaction of the bus, in order. After the last one all packets arrive.
   .  all packets arrive
   n  the device is not ready: it answers NAK to all but a SETUP
   d  what the host sends is lost
@@ -133,7 +133,7 @@ Fates:
 Exit status:
   0  the host has read the device; the result is written, and the listing of what was read
   1  the file is no device of that speed, or the host gave up; a line is written that says why
-  2  the command line is no command, or an option has a value that it cannot have
+  2  the command line is invalid, or the value of an option is
   3  reading, the input or writing is at fault; standard error says how";
 
 /// What `--speed` says.
@@ -144,11 +144,11 @@ pub(crate) const ADDRESS_HELP: &str = "Address that the device gets, 1 to 127 [d
 
 /// What `--naks` says.
 pub(crate) const NAKS_HELP: &str =
-    "NAKs without progress that a transfer bears, 0 to 65535 [default: 16]";
+    "NAKs without progress that a transfer retries, 0 to 65535 [default: 16]";
 
 /// What `--attempts` says.
 pub(crate) const ATTEMPTS_HELP: &str =
-    "How often the host begins anew at most, 1 to 8 [default: 3]";
+    "Attempts of the host at most, each from a bus reset, 1 to 8 [default: 3]";
 
 /// What `--fates` says.
 pub(crate) const FATES_HELP: &str = "What the bus does to each transaction [default: none]";

@@ -11,7 +11,7 @@ use crate::quoted::put_quoted;
 use std::alloc::AllocError;
 use usb_words::Text;
 
-/// Puts the index of a string that stands at a place: `0 (none)`, or the number and the string that it names.
+/// Puts the index of a string at a place: `0 (none)`, or the number and the string that it names.
 ///
 /// # Errors
 ///

@@ -13,7 +13,7 @@ use std::alloc::AllocError;
 use usb_names::{ClassCodes, ClassDescriptor, ClassField, Form, class_descriptor};
 use usb_words::{Text, put_byte_code, put_word_code};
 
-/// Puts the name of a descriptor behind an interface of these codes, or its type where it has no name.
+/// Puts the name of a descriptor after an interface of these codes, or its type where it has no name.
 ///
 /// # Errors
 ///
@@ -57,7 +57,7 @@ fn put_unnamed(text: &mut Text, descriptor_type: u8) -> Result<(), AllocError>
     put_byte_code(text, descriptor_type)
 }
 
-/// Puts the fields of a descriptor behind an interface of these codes.
+/// Puts the fields of a descriptor after an interface of these codes.
 ///
 /// # Errors
 ///
@@ -152,7 +152,7 @@ fn put_all_groups(
     )
 }
 
-/// Puts so many groups, and what is left behind them.
+/// Puts so many groups, and the bytes that are left after them.
 #[tactic(auto, unfolding(crate::specs::Raws::groups_lines))]
 fn put_groups(
     text: &mut Text,

@@ -148,7 +148,7 @@ pub fn put_class_field(
     end_line(text)
 }
 
-/// Puts the subclass behind the class at a place.
+/// Puts the subclass that follows the class at a place.
 ///
 /// # Errors
 ///
@@ -169,7 +169,7 @@ pub fn put_subclass_field(
     end_line(text)
 }
 
-/// Puts the protocol behind the class and the subclass at a place.
+/// Puts the protocol that follows the class and the subclass at a place.
 ///
 /// # Errors
 ///

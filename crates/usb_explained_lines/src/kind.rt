@@ -2,7 +2,7 @@
 use usb_names::ClassCodes;
 use usb_words::Speed;
 
-/// Where a string stands among those of a file.
+/// The place of a string among those of a file.
 #[derive(Clone, Copy, Debug, PartialEq, Eq, Hash)]
 pub struct StringPlace {
     /// The index that names it.
@@ -45,16 +45,16 @@ pub enum Kind {
     },
     /// A descriptor that a class defines, or that nothing does.
     Raw {
-        /// The codes of the interface that it stands behind.
+        /// The codes of the interface that it follows.
         interface: Option<ClassCodes>,
     },
     /// The language list (9.6.7).
     Languages,
     /// A string (9.6.7).
     Text {
-        /// Where it stands among the strings of a file.
+        /// Its place among the strings of a file.
         place: Option<StringPlace>,
     },
-    /// The bytes that are left behind the descriptors.
+    /// The bytes that are left after the descriptors.
     Rest,
 }

@@ -1,10 +1,10 @@
-//! What a finding tells.
+//! What a finding says.
 ghost use Rattle.std.specs.Prelude.{◌≡◌};
 ghost use Rattle.usb_explained_lines.specs.Findings.{rule_of};
 
 use usb_rules::Rule;
 
-/// What a finding tells, with the numbers that stand in its words.
+/// What a finding says, with the numbers in its words.
 #[derive(Clone, Copy, Debug, PartialEq, Eq, Hash)]
 pub enum Told {
     /// V1 of a set.

@@ -9,7 +9,7 @@ use usb_fields::DeviceDescriptor;
 use usb_file_data::{DescriptorFile, Strings};
 use usb_set::SetKind;
 
-/// What stands in a draft while no device descriptor was read.
+/// What a draft has while no device descriptor was read.
 const NO_DEVICE: DeviceDescriptor = DeviceDescriptor {
     usb: 0,
     class: 0,

@@ -29,7 +29,7 @@ const QUALIFIER: u16 = descriptor_length::DEVICE_QUALIFIER as u16;
 /// The most bytes that a string descriptor can have.
 const LONGEST_STRING: u16 = descriptor_length::LONGEST as u16;
 
-/// What is read next, or the end. What was read so far stands beside it, in a [`Draft`].
+/// What is read next, or the end. What was read so far is beside it, in a [`Draft`].
 #[derive(Clone, Copy, Debug)]
 pub enum Due {
     /// The first eight bytes of the device descriptor.
@@ -194,7 +194,7 @@ fn getting_text(strings: &Strings, named: &[u8]) -> Setup
     getting(descriptor_type::STRING, index, language, LONGEST_STRING)
 }
 
-/// The step of the front of a set.
+/// The step of the first descriptor of a set.
 fn header_step(kind: SetKind, index: u8) -> Step
     ensures { result ≡ step_of_header kind index }
 {

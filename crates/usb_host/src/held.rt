@@ -8,14 +8,14 @@ use std::alloc::Global;
 use std::mem;
 use usb_set::{Configuration, Decoder, Progress, SetWhy};
 
-/// What is kept of the bytes of the read in work. Which of it counts hangs on what is due.
+/// What is kept of the bytes of the read in work. Which of it counts depends on what is due.
 #[derive(Debug, Drop)]
 pub struct Held {
     /// The bytes of a short read.
     pub bytes: KeptBytes,
     /// Of a set its decoder.
     pub decoder: Decoder,
-    /// Whether bytes came behind the set's last.
+    /// Whether bytes came after the set's last.
     pub over: bool,
 }
 
@@ -71,7 +71,7 @@ impl Held {
         }
     }
 
-    /// The set that was read, behind whose end no byte came.
+    /// The set that was read, where no byte came after its end.
     pub fn take_set(&mut self, alloc: Global) -> Option<Configuration>
         ensures { result ≡ set_kept self.old.decoder self.old.over }
     {

@@ -19,7 +19,7 @@ use usb_transfer::{Limits, Transfer};
 
 /// A host that reads all descriptors of one device, and configures it (USB 2.0, 9.1.2 and 9.4).
 ///
-/// The caller does what [`Host::next`] says. It tells of a bus reset by [`Host::reset_done`], and hands what a
+/// The caller does what [`Host::next`] says. It reports a bus reset by [`Host::reset_done`], and hands what a
 /// transaction brought to [`Host::take`]. Once the action is `Ended`, there is an outcome, and nothing changes any more.
 ///
 /// ```rust
@@ -61,7 +61,7 @@ impl Host {
     ghost use Rattle.usb_host.specs.Steps.{Takes, WantsNothing, WantsReset, WantsSent, lent_outcome, new_host, outcome_of, reset, step_in, transfer_in, wanted, wanted_by};
     ghost use Rattle.usb_host.specs.Cost.{left_to_ask};
 
-    /// A host that has done nothing. What it bears and the address that it gives are in `limits`.
+    /// A host that has done nothing. The limits of its retries, and the address that it gives, are in `limits`.
     pub fn new(alloc: Global, limits: Limits, speed: Speed) -> Host
         ensures { result ≡ new_host limits speed }
     {
@@ -164,7 +164,7 @@ impl Host {
         Some(self.reading.due.step(&self.reading.draft))
     }
 
-    /// The transfer that is in work, if one is: a copy, which is told of no further answer.
+    /// The transfer that is in work, if one is: a copy, which no further answer changes.
     ///
     /// ```rust
     /// if let Some(transfer) = host.transfer() {
@@ -202,7 +202,7 @@ impl Host {
         }
     }
 
-    /// The outcome, as [`Host::outcome`] tells it, with the file handed over.
+    /// The outcome, as [`Host::outcome`] has it, with the file handed over.
     ///
     /// ```rust
     /// match host.into_outcome() {

@@ -8,6 +8,6 @@ use usb_set::Decoder;
 pub enum Kept {
     /// The bytes.
     Bytes { bytes: KeptBytes },
-    /// Of a set its decoder, and whether bytes came behind the set's last.
+    /// Of a set its decoder, and whether bytes came after the set's last.
     Set { decoder: Decoder, over: bool },
 }

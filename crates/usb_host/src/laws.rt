@@ -1,5 +1,4 @@
-//! What holds of every enumeration, whatever is answered. The functions do nothing: what they say stands in their
-//! contracts.
+//! What holds of every enumeration, whatever is answered. The functions do nothing: their contracts are the laws.
 ghost use Rattle.usb_host.specs.Laws.{HostsEnd, HostsReportWhatCame, ReportsWhatWasRead};
 
 /// Whatever a device answers, a success reports the file whose bytes were read.

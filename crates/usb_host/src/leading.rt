@@ -126,7 +126,7 @@ fn read_device(
     or_memory(sets_due(alloc, speed, SetKind::Configuration, draft))
 }
 
-/// After the front of a set.
+/// After the first descriptor of a set.
 fn read_header(speed: Speed, kind: SetKind, bytes: &[u8]) -> Result<Due, Why>
     ensures { (draft : DraftView) → LeadsTo (Header kind draft.file) (bytes_lead speed (Header kind draft.file) bytes.now) draft result }
 {
@@ -136,7 +136,8 @@ fn read_header(speed: Speed, kind: SetKind, bytes: &[u8]) -> Result<Due, Why>
     }
 }
 
-/// After a set of so many bytes: just those that its front announced, of its kind, and the first one can be selected.
+/// After a set of so many bytes: as many as the wTotalLength that was read before, of its kind, and the first set can be
+/// selected.
 fn read_set(
     alloc: Global,
     speed: Speed,
@@ -224,7 +225,7 @@ fn settle(step: Step, next: Result<Due, Why>) -> Due
     }
 }
 
-/// What is due after a read of so many bytes, or why it is refused.
+/// What is due after a read of so many bytes, or why it is rejected.
 fn read_on(
     alloc: Global,
     speed: Speed,

@@ -1,4 +1,4 @@
-//! Where an enumeration stands, as contracts see it.
+//! How far an enumeration is, as contracts see it.
 use crate::step::Trouble;
 use usb_base::Sequence;
 use usb_file_data::{DescriptorFile, Strings};

@@ -71,7 +71,7 @@ pub fn may_have_second(speed: Speed, device: &DeviceDescriptor) -> bool
     }
 }
 
-/// wTotalLength of the front of a set of this kind.
+/// wTotalLength of the first descriptor of a set of this kind.
 pub fn total_in(kind: SetKind, bytes: &[u8]) -> Option<u16>
     ensures { result ≡ total_of (type_number kind) bytes.now }
 {

@@ -17,13 +17,13 @@ pub struct ClassDescriptor {
     pub protocol: Option<u8>,
     /// bDescriptorType.
     pub descriptor_type: u8,
-    /// The first byte behind bDescriptorType; none is any.
+    /// The first byte after bDescriptorType; none is any.
     pub first: Option<u8>,
     /// The name.
     pub name: &'static str,
-    /// The fields behind bDescriptorType, in order.
+    /// The fields after bDescriptorType, in order.
     pub fields: &'static [ClassField],
-    /// The fields that repeat behind those.
+    /// The fields that repeat after those.
     pub group: &'static [ClassField],
 }
 
@@ -74,7 +74,7 @@ fn first_row(
     find_row(rows, interface, descriptor_type, first)
 }
 
-/// The descriptor of this type and this first byte of its body, behind an interface of these codes; before any
+/// The descriptor of this type and this first byte of its body, after an interface of these codes; before any
 /// interface there are none. It is the first row of the table that holds.
 ///
 /// ```rust

@@ -6,7 +6,7 @@ ghost use Rattle.usb_survey.specs.Counts.{endpoints_before_interface};
 use crate::cut::{behind, descriptor_length, front};
 use crate::kinds::{is_endpoint, is_interface};
 
-/// How many endpoints stand before the next interface, where these are the bytes of a set behind an interface.
+/// The count of endpoints before the next interface, where these are the bytes of a set after an interface.
 ///
 /// ```rust
 /// assert_eq!(rt; endpoint_count(&[7, 5, 0x81, 2, 64, 0, 0, 9, 4, 1, 0, 0, 255, 0, 0, 0]), 1);

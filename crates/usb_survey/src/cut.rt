@@ -34,7 +34,7 @@ pub fn front(b: &[u8], count: usize) -> &[u8]
     if count < b.len() { &b[..count] } else { b }
 }
 
-/// The bytes behind so many.
+/// The bytes after so many.
 pub fn behind(b: &[u8], count: usize) -> &[u8]
     ensures { result.now ≡ drop count b.now }
 {

@@ -1,7 +1,7 @@
 //! What the bytes of a configuration set say as a whole, before its descriptors are gone over one by one.
 //!
 //! A set is cut into descriptors by their first bytes, so that bytes which are no whole set are surveyed as far as they
-//! go. [`Survey::of`] tells for which speed the endpoints speak, how many interfaces there are, and which association
+//! go. [`Survey::of`] has the speed for which the endpoints speak, the count of interfaces, and the association that
 //! binds each; [`endpoint_count`] counts the endpoints of a setting. The rules for the speed of a set are [`speed_at`],
 //! [`other_speed_at`], [`speed_of_release`] and [`speed_by`].
 //!

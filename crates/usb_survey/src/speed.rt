@@ -40,7 +40,7 @@ pub fn other_speed_at(running: RunningSpeed) -> Option<Speed>
     }
 }
 
-/// The speed that bcdUSB tells of a device's own sets (9.6.1; USB 3.2, 9.6.1).
+/// The speed of a device's own sets by its bcdUSB, where that leaves no choice (9.6.1; USB 3.2, 9.6.1).
 pub fn speed_of_release(usb: u16) -> Option<Speed>
     ensures { result ≡ speed_of_release usb }
 {

@@ -12,7 +12,7 @@ pub enum Speed {
     LowOrFull,
     /// High speed, where intervals are in microframes.
     High,
-    /// Full or high speed, where nothing tells them apart.
+    /// Full or high speed, where nothing distinguishes the two.
     FullOrHigh,
     /// SuperSpeed, where bMaxPower is in units of 8 mA.
     Super,

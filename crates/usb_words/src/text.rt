@@ -67,11 +67,11 @@ impl Text {
         self.bytes.clear();
     }
 
-    /// Puts words as they stand.
+    /// Puts words as they are.
     ///
     /// # Errors
     ///
-    /// A growth was refused, here as in all that puts something.
+    /// Out of memory, here as in all that puts something.
     #[inline]
     pub fn put(&mut self, words: &str) -> Result<(), AllocError>
         ensures { OnOk result (self.new ≡ self.old ++ words.now) }
@@ -79,7 +79,7 @@ impl Text {
         self.put_bytes(words.as_bytes())
     }
 
-    /// Puts characters as they stand, each of which is one byte.
+    /// Puts characters as they are, each of which is one byte.
     #[inline]
     pub fn put_bytes(&mut self, characters: &[u8]) -> Result<(), AllocError>
         ensures { OnOk result (self.new ≡ self.old ++ characters.now) }
@@ -192,7 +192,7 @@ fn spaces_for(indent: usize, used: usize, width: usize) -> Option<usize>
     indent.checked_add(width.max(used.checked_add(1)?))
 }
 
-/// Writes characters over those that stand from `start` on.
+/// Writes characters over those from `start` on.
 fn overwrite(bytes: &mut Vec<u8>, start: usize, characters: &[u8])
     requires { start + length characters.now ≤ length bytes.old.items }
     ensures { bytes.new.items ≡ take start bytes.old.items ++ characters.now ++ drop (start + length characters.now) bytes.old.items }
