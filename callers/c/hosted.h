@@ -14,7 +14,7 @@ int memcmp(const void *a, const void *b, size_t length);
 void *memset(void *to, int byte, size_t length);
 
 /* The bytes of a file, at most `room` of them; -1 where it isn't there. */
-static long read_all(const char *name, uint8_t *to, size_t room) {
+static inline long read_all(const char *name, uint8_t *to, size_t room) {
     FILE *file = fopen(name, "rb");
     if (!file) return -1;
     size_t length = fread(to, 1, room, file);

@@ -92,7 +92,7 @@ fn make(
     Ok(came)
 }
 
-/// A transaction under its fate.
+/// A transaction under its fate. Where a packet is lost, the transfer hears nothing.
 fn exchange(
     device: &mut Device<'_>,
     transfer: &mut Transfer,
@@ -100,16 +100,18 @@ fn exchange(
     fate: Fate,
     came: &mut Came,
 ) -> Result<()> {
-    let answer = match fate {
-        Fate::LostDown => Answer::Silence,
-        _ => device.serve(transaction, fate != Fate::Busy),
-    };
-    let is_acked = matches!(answer, Answer::Data(_, _)) && matches!(fate, Fate::Pass | Fate::Busy);
-    let heard = match fate {
-        Fate::LostUp => Answer::Silence,
-        _ => answer,
-    };
-    match transfer.take(heard) {
+    if matches!(fate, Fate::LostDown | Fate::LostUp) {
+        if fate == Fate::LostUp {
+            let _ = device.serve(transaction, true);
+        }
+        if let Heard::Failed(why) = transfer.take(Answer::Silence) {
+            came.failure = Some(why);
+        }
+        return Ok(());
+    }
+    let answer = device.serve(transaction, fate != Fate::Busy);
+    let is_acked = matches!(&answer, Answer::Data(_, _)) && fate != Fate::LostAck;
+    match transfer.take(answer) {
         Heard::Again | Heard::Complete => {}
         Heard::Bytes(more) => came.bytes.extend_from_slice(more)?,
         Heard::Failed(why) => came.failure = Some(why),
