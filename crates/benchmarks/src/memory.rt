@@ -29,6 +29,9 @@ const INDICES: [u16; 3] = [0, 0x0081, 0x0409];
 /// wLength.
 const LENGTHS: [u16; 3] = [0, 2, 255];
 
+/// What the owner answers where bytes are asked for: more than a packet.
+const ANSWER: [u8; 100] = [0x5a; 100];
+
 /// bRequest is below this (USB 2.0, table 9-4).
 const CODES: u32 = 13;
 
@@ -105,7 +108,8 @@ fn make_requests(description: &Description, state: u8) {
         }
         let request = request_of(number);
         make(&mut device, request.to_bytes());
-        transfer(&mut device, request);
+        transfer(&mut device, request, false);
+        transfer(&mut device, request, true);
     }
 }
 
@@ -134,8 +138,9 @@ fn make(device: &mut Device<'_>, setup: [u8; 8]) {
     send(device, address, Stage::Out(Toggle::Data1, &[]));
 }
 
-/// The same request by a host that acknowledges each packet, to its end.
-fn transfer(device: &mut Device<'_>, request: Setup) {
+/// The same request by a host that acknowledges each packet, to its end. The device's owner answers what is refused, or
+/// doesn't.
+fn transfer(device: &mut Device<'_>, request: Setup, is_answered: bool) {
     let mut transfer = Transfer::new(device.state().address, PACKET, 0, request);
     for _ in 0..TRANSACTIONS {
         let Some(transaction) = transfer.next() else {
@@ -143,6 +148,20 @@ fn transfer(device: &mut Device<'_>, request: Setup) {
         };
         let _ = transfer.take(device.serve(&transaction, true));
         device.acked();
+        if is_answered {
+            respond(device);
+        }
+    }
+}
+
+/// The owner answers the request that is refused, if there is one, by bytes or by its status stage.
+fn respond(device: &mut Device<'_>) {
+    if let Some(request) = device.refused() {
+        let _ = if request.length == 0 {
+            device.accept()
+        } else {
+            device.answer_with(&ANSWER)
+        };
     }
 }
 

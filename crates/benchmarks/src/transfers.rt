@@ -11,6 +11,21 @@ const SETUP: Transaction<'static> = Transaction {
     stage: Stage::Setup([0x80, 6, 0, 2, 0, 0, 0xff, 0xff]),
 };
 
+/// A vendor request for 63 bytes, which the device refuses.
+const READ: Transaction<'static> = Transaction {
+    address: 0,
+    stage: Stage::Setup([0xc0, 1, 0, 0, 0, 0, 63, 0]),
+};
+
+/// What the device's owner answers.
+const ANSWER: [u8; 63] = [0x5a; 63];
+
+/// The status stage after a read.
+const OUT: Transaction<'static> = Transaction {
+    address: 0,
+    stage: Stage::Out(Toggle::Data1, &[]),
+};
+
 /// What asks for the next packet.
 const IN: Transaction<'static> = Transaction {
     address: 0,
@@ -28,17 +43,13 @@ pub(crate) fn transfer_again(
 ) -> Result<usize> {
     let description = Description::new(alloc, file_of(alloc, set, 1)?, Speed::Full)?;
     let mut device = Device::new(&description);
-    let out = Transaction {
-        address: 0,
-        stage: Stage::Out(Toggle::Data1, &[]),
-    };
     let mut count = 0usize;
     for _ in 0..rounds {
         let setup = sent(&mut device, &SETUP, true);
         let data = read_packets(&mut device, packets);
         count = count.saturating_add(setup).saturating_add(data);
         if status {
-            count = count.saturating_add(sent(&mut device, &out, true));
+            count = count.saturating_add(sent(&mut device, &OUT, true));
         }
     }
     Ok(count)
@@ -59,6 +70,33 @@ fn sent(device: &mut Device<'_>, t: &Transaction<'_>, ready: bool) -> usize {
     match device.serve(t, ready) {
         Answer::Data(_, bytes) => bytes.len(),
         _ => 0,
+    }
+}
+
+/// So many times over, a read that the device refuses and its owner answers, in packets of 8 bytes, to its end; answers
+/// how many bytes the device sent.
+pub(crate) fn answer_again(alloc: Global, set: &[u8], rounds: u32) -> Result<usize> {
+    let mut file = file_of(alloc, set, 1)?;
+    file.device.packet = 8;
+    let description = Description::new(alloc, file, Speed::Full)?;
+    let mut device = Device::new(&description);
+    let mut count = 0usize;
+    for _ in 0..rounds {
+        count = count.saturating_add(sent(&mut device, &READ, true));
+        respond(&mut device);
+        let data = read_packets(&mut device, 8);
+        count = count
+            .saturating_add(data)
+            .saturating_add(sent(&mut device, &OUT, true));
+    }
+    Ok(count)
+}
+
+/// The owner answers what is refused.
+#[inline(never)]
+fn respond(device: &mut Device<'_>) {
+    if device.refused().is_some() {
+        let _ = device.answer_with(&ANSWER);
     }
 }
 

@@ -5,16 +5,18 @@ use crate::files::{describe_again, file_of, find_last, list_given, write_given};
 use crate::host::{Until, drive_again, take_naks, take_packets, talk_again};
 use crate::listings::assemble_again;
 use crate::rules::{check_file, check_sets};
-use crate::transfers::{refuse_again, transfer_again};
+use crate::transfers::{answer_again, refuse_again, transfer_again};
 use anyhow::{Result, bail};
 use std::alloc::Global;
+use std::mem::size_of;
 use std::result;
+use usb_device::EndpointZero;
 use usb_file::{list_set, read_file, write_file};
 use usb_set::{Configuration, Decoder, SetFault};
 use usb_set_encoder::encode;
 
 /// The words that ask for each kind of work.
-pub(crate) const WORKS: [&str; 30] = [
+pub(crate) const WORKS: [&str; 31] = [
     "decode-whole",
     "decode-pieces",
     "decode-bytes",
@@ -45,11 +47,12 @@ pub(crate) const WORKS: [&str; 30] = [
     "ten-packets",
     "status",
     "nak",
+    "answered",
 ];
 
 /// Does the work that this word asks for so many times over; making and freeing of what it makes are part of it. Answers
 /// how many bytes it is of: those of the set, those of a file with so many copies of it, those of a listing, or those
-/// that a device sent; of `enumerate`, how many transactions there are.
+/// that a device sent; of `enumerate`, how many transactions there are, and of `endpoint-zero` those that one takes.
 pub(crate) fn run(
     name: &str,
     alloc: Global,
@@ -88,6 +91,8 @@ pub(crate) fn run(
         "ten-packets" => transfer_again(alloc, set, 10, false, rounds),
         "status" => transfer_again(alloc, set, 1, true, rounds),
         "nak" => refuse_again(alloc, set, rounds),
+        "answered" => answer_again(alloc, set, rounds),
+        "endpoint-zero" => Ok(size_of::<EndpointZero>()),
         _ => bail!("no work is named {name}"),
     }
 }

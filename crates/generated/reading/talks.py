@@ -125,7 +125,31 @@ def talk(packet, requests, naks, fates):
     return "ended", transactions, results, device
 
 
-TROUBLES = {"ended": 0, "no answer": 1, "busy": 2}
+TROUBLES = {"ended": 0, "no answer": 1, "busy": 2, "stall": 3}
+
+# Vendor requests, which the device refuses and its owner answers: reads of so many bytes, and one without data.
+ANSWERED = ["c001000000000100", "c001000000000800", "c001000000000900", "c001000000003f00", "4001000000000000"]
+OWNERS = b"The owner of a device answers what its table of requests refuses"
+
+
+class AnsweredDevice(Device):
+    """The mouse with an owner who answers vendor requests."""
+
+    def begin(self, setup):
+        super().begin(setup)
+        if self.stage == "halted" and setup[6]:
+            self.data, self.sent, self.one, self.limit, self.stage = OWNERS[: setup[6]], 0, True, setup[6], "sending"
+        elif self.stage == "halted":
+            self.code, self.stage = setup[1], "status_in"
+
+
+def answered(b, fates, naks):
+    """What comes of each of these requests to a new device, and the kind of that."""
+    for text in ANSWERED:
+        count, result = transfer(AnsweredDevice(b[7]), 0, bytes.fromhex(text), naks, iter(fates))
+        trouble = TROUBLES[result] if isinstance(result, str) else 0
+        kind = f"answered, trouble {trouble}"
+        yield f"{kind} transactions {count} bytes {'' if trouble else result.hex()}\n", kind
 
 
 def case(b, fates, naks):

@@ -54,7 +54,7 @@ EXPLAINED = ["mouse", "over", "goes-on", "cut-short"]
 
 
 # What is done with each device: a talk or an enumeration names its lists, the limit of NAKs and the attempts.
-TALKS = ["talk-six-0-1", "talk-long-0-1", "talk-six-2-1", "talk-long-2-1"]
+TALKS = ["talk-six-0-1", "talk-long-0-1", "talk-six-2-1", "talk-long-2-1", "answered-six-1-1"]
 SHORT = ["enumerate-losses-16-3", "enumerate-busy-16-3", "enumerate-five-0-2", "enumerate-five-2-1", "enumerate-long-0-8", "enumerate-long-2-3"]
 DEVICES = {
     "board": ["asked"],
@@ -125,8 +125,10 @@ def told(*answers, title=""):
 def runs(word, rest, b):
     """Talks, or enumerations by the command of this word."""
     name, naks, attempts = rest.split("-")
-    for fates in lists.named(name, 3 if word == "talk" else 4):
-        if word == "talk":
+    for fates in lists.named(name, 4 if word in ("enumerate", "log") else 3):
+        if word == "answered":
+            yield from ((line.encode(), [kind]) for line, kind in talks.answered(b, fates, int(naks)))
+        elif word == "talk":
             line, kind = talks.case(b, fates, int(naks))
             yield line.encode(), [kind]
         else:

@@ -5,7 +5,7 @@ use crate::numbers::Numbers;
 use crate::tally::Tally;
 use anyhow::Result;
 use std::alloc::{AllocError, Global};
-use usb_device::{Description, Device};
+use usb_device::Device;
 use usb_fields::{Answer, Speed, Toggle, Transaction};
 use usb_file::write_file;
 use usb_host::{Action, Host};
@@ -33,20 +33,11 @@ pub(crate) fn lied_to(example: &Example, tally: &mut Tally) -> Result<()> {
     let description = example.description()?;
     let mut numbers = Numbers(2);
     for _ in 0..HOSTS {
-        lie_to_one(&description, &example.bytes, &mut numbers, tally)?;
+        let mut answered = Answered::new(tally.alloc, &mut numbers)?;
+        answered.ask(&mut Device::new(&description), &mut numbers)?;
+        answered.settle(&mut numbers, &example.bytes, tally)?;
     }
     Ok(())
-}
-
-fn lie_to_one(
-    description: &Description,
-    bytes: &[u8],
-    numbers: &mut Numbers,
-    tally: &mut Tally,
-) -> Result<()> {
-    let mut answered = Answered::new(tally.alloc, numbers)?;
-    answered.ask(&mut Device::new(description), numbers)?;
-    answered.settle(numbers, bytes, tally)
 }
 
 /// Which lies a host is told, and how often: once in so many times.

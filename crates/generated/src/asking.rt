@@ -3,7 +3,7 @@ use crate::example::Example;
 use crate::numbers::Numbers;
 use crate::tally::Tally;
 use anyhow::Result;
-use usb_device::{Description, Device};
+use usb_device::Device;
 use usb_fields::{Answer, Stage, Toggle, Transaction};
 
 /// How many hosts there are.
@@ -23,23 +23,14 @@ pub(crate) fn asked(example: &Example, tally: &mut Tally) -> Result<()> {
     let description = example.description()?;
     let mut numbers = Numbers(example.number);
     for _ in 0..HOSTS {
-        ask_once(&description, &packets, &mut numbers, tally)?;
+        let mut asker = Asker {
+            device: Device::new(&description),
+            address: 0,
+        };
+        asker.go_on(&packets, &mut numbers, tally)?;
+        tally.begin(asker.line(tally)?.as_str())?;
     }
     Ok(())
-}
-
-fn ask_once(
-    description: &Description,
-    packets: &[u8],
-    numbers: &mut Numbers,
-    tally: &mut Tally,
-) -> Result<()> {
-    let mut asker = Asker {
-        device: Device::new(description),
-        address: 0,
-    };
-    asker.go_on(packets, numbers, tally)?;
-    tally.begin(asker.line(tally)?.as_str())
 }
 
 /// A host that keeps no rule, and its device.

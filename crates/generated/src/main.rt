@@ -19,6 +19,7 @@ mod form;
 mod inputs;
 mod lists;
 mod numbers;
+mod owners;
 mod pieces;
 mod plan;
 mod runs;
@@ -98,11 +99,7 @@ fn take(example: &Example, way: &str, tally: &mut Tally) -> Result<()> {
         ("lies", _) => answering::lied_to(example, tally),
         (_, Some((word, "readers"))) => take_failing(example, word, End::Reader, tally),
         (_, Some((word, "writers"))) => take_failing(example, word, End::Writer, tally),
-        (_, Some(("talk", words))) => Runs::of(words)?.talks(example, tally),
-        (_, Some(("enumerate", words))) => {
-            Runs::of(words)?.enumerations(example, Command::Enumerate, tally)
-        }
-        (_, Some(("log", words))) => Runs::of(words)?.enumerations(example, Command::Log, tally),
+        (_, Some((word, words))) => Runs::of(words)?.all(example, word, tally),
         _ => bail!("{way} is no way"),
     }
 }

@@ -1,10 +1,12 @@
-//! A device over a bus that loses packets: talks, and enumerations with their log and without it.
+//! A device over a bus that loses packets: talks, transfers that its owner answers, and enumerations with their log and
+//! without it.
 use crate::command::{Bus, Command};
 use crate::example::Example;
 use crate::lists::Lists;
 use crate::numbers::Numbers;
+use crate::owners::make_all;
 use crate::tally::Tally;
-use anyhow::{Context, Result};
+use anyhow::{Context, Result, bail};
 use usb_bus::{Fate, NoMemory, Talk, converse};
 use usb_device::Description;
 use usb_fields::Setup;
@@ -37,31 +39,25 @@ impl Runs {
         })
     }
 
-    /// Talks with the device of the example, each of three requests.
-    pub(crate) fn talks(&self, example: &Example, tally: &mut Tally) -> Result<()> {
+    /// Runs with the device of the example, as this word says: talks of three requests, transfers that its owner answers,
+    /// or enumerations by a command.
+    pub(crate) fn all(&self, example: &Example, word: &str, tally: &mut Tally) -> Result<()> {
         let description = example.description()?;
-        let mut numbers = Numbers(3);
-        for number in 0..self.lists.count(example) {
-            if let Some(fates) = self.lists.list(example, number, &mut numbers)? {
-                self.talk(&description, &fates, tally)?;
-            }
-        }
-        Ok(())
-    }
-
-    /// Enumerations of the device of the example, by this command.
-    pub(crate) fn enumerations(
-        &self,
-        example: &Example,
-        command: Command,
-        tally: &mut Tally,
-    ) -> Result<()> {
         let limits = self.limits;
-        let mut numbers = Numbers(4);
+        let command = Command::of(word);
+        let mut numbers = Numbers(if command.is_none() { 3 } else { 4 });
         for number in 0..self.lists.count(example) {
-            if let Some(fates) = self.lists.list(example, number, &mut numbers)? {
-                tally.begin("")?;
-                let _ = command.answer(&example.bytes, &Bus { limits, fates }, tally)?;
+            let Some(fates) = self.lists.list(example, number, &mut numbers)? else {
+                continue;
+            };
+            match (word, command) {
+                (_, Some(command)) => {
+                    tally.begin("")?;
+                    let _ = command.answer(&example.bytes, &Bus { limits, fates }, tally)?;
+                }
+                ("talk", _) => self.talk(&description, &fates, tally)?,
+                ("answered", _) => make_all(&description, limits.naks(), &fates, tally)?,
+                _ => bail!("{word} is no run"),
             }
         }
         Ok(())

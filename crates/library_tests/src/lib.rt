@@ -4,7 +4,15 @@
 #![tactic(auto)]
 
 #[cfg(test)]
+mod bench;
+#[cfg(test)]
+mod driver;
+#[cfg(test)]
+mod firmware;
+#[cfg(test)]
 mod packets;
+#[cfg(test)]
+mod programs;
 #[cfg(test)]
 mod sequence;
 #[cfg(test)]

@@ -1,5 +1,5 @@
 //! Answers of a device, in words.
-use crate::words::{packet_text, read_packet, read_toggle};
+use crate::words::{packet_text, read_bytes, read_toggle};
 use std::alloc::{AllocError, Global};
 use usb_fields::{Answer, Toggle};
 
@@ -32,7 +32,7 @@ impl Said {
             },
             [toggle, packet] => {
                 let toggle = read_toggle(toggle)?;
-                Some(Said::Data(toggle, read_packet(alloc, packet)?))
+                Some(Said::Data(toggle, read_bytes(alloc, packet)?))
             }
             _ => None,
         }

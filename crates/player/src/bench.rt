@@ -1,99 +1,167 @@
 //! All that steps are played with. Each part knows its own steps: a further one is a file of its own, and a line here.
+use crate::answer::Said;
 use crate::driven::Driven;
-use crate::host::HostInWork;
+use crate::host::{HostInWork, read_host};
 use crate::outcome::Outcome;
+use crate::steps::form_of;
 use crate::talk::TalkInWork;
-use crate::transfer::TransferInWork;
+use crate::transfer::{due, read_transfer, take};
 use anyhow::Result;
 use std::alloc::Global;
 use usb_device::Description;
+use usb_transfer::Transfer;
 
 /// What steps are played with, but for a device.
 #[derive(Drop)]
 pub struct Bench {
     pub(crate) talk: TalkInWork,
-    transfer: TransferInWork,
-    host: HostInWork,
-    traces: bool,
+    pub(crate) work: Work,
+    /// Whether it is told after each step what the ends hold.
+    pub(crate) traces: bool,
+}
+
+/// Whom answers go to: a host or a transfer, whichever was begun last.
+#[derive(Drop)]
+pub(crate) enum Work {
+    Nothing,
+    Transfer(Transfer),
+    Host(HostInWork),
 }
 
 /// A device that was made, and what it was made of.
 #[derive(Drop)]
 pub struct Target<'d> {
-    description: &'d Description,
-    driven: Driven<'d>,
-}
-
-impl<'d> Target<'d> {
-    /// A new device.
-    pub fn new(description: &'d Description) -> Target<'d> {
-        Target {
-            description,
-            driven: Driven::new(description),
-        }
-    }
+    pub(crate) description: &'d Description,
+    pub(crate) driven: Driven<'d>,
 }
 
 impl Bench {
-    /// With no transfer and no host, and with a talk of no requests.
-    pub fn new(alloc: Global) -> Bench {
-        Bench {
-            talk: TalkInWork::new(alloc),
-            transfer: TransferInWork::new(),
-            host: HostInWork::new(),
-            traces: false,
-        }
+    /// What comes of a step, with the device if there is one. Where the words are no step, nothing changes.
+    pub fn act(
+        &mut self,
+        alloc: Global,
+        target: &mut Option<Target<'_>>,
+        words: &[&str],
+    ) -> Result<Outcome> {
+        let verb = words.first().map_or("", |verb| *verb);
+        let Some(form) = form_of(verb) else {
+            return Ok(Outcome::NoStep("no such step"));
+        };
+        let outcome = if is_hosts(words) {
+            self.act_as_host(alloc, words)?
+        } else {
+            let Some(target) = target else {
+                return Ok(Outcome::NoStep("no device"));
+            };
+            if verb == "reset" && words.len() == 1 {
+                self.talk.reset();
+            }
+            match target.driven.act(alloc, words)? {
+                Some(outcome) => Some(outcome),
+                None => self.talk.act(alloc, target.description, words)?,
+            }
+        };
+        Ok(outcome.unwrap_or(Outcome::NoStep(form)))
     }
 
     /// What comes of a step that needs no device, if it is one.
-    pub fn act(&mut self, alloc: Global, words: &[&str]) -> Result<Option<Outcome>> {
+    fn act_as_host(&mut self, alloc: Global, words: &[&str]) -> Result<Option<Outcome>> {
         match words {
-            [verb, word] if *verb == "trace" && matches!(*word, "on" | "off") => {
+            [verb, word] if *verb == "trace" => {
+                if !matches!(*word, "on" | "off") {
+                    return Ok(None);
+                }
                 self.traces = *word == "on";
-                Ok(Outcome::done(alloc)?)
+                Ok(Some(Outcome::Word("done")))
             }
-            [verb, ..] if *verb == "transfer" => {
-                self.host.clear();
-                self.transfer.act(alloc, words)
-            }
-            _ => match self.host.act(alloc, words)? {
-                Some(outcome) => Ok(Some(outcome)),
-                None => self.transfer.act(alloc, words),
+            [verb, rest @ ..] if *verb == "transfer" => self.begin_transfer(alloc, rest),
+            [verb, rest @ ..] if *verb == "host" => self.begin_host(alloc, rest),
+            _ => match &mut self.work {
+                Work::Nothing => Ok(None),
+                Work::Host(host) => host.act(alloc, words),
+                Work::Transfer(transfer) => match Said::read(alloc, words) {
+                    Some(said) => Ok(Some(take(alloc, transfer, &said)?)),
+                    None => Ok(None),
+                },
             },
         }
     }
 
-    /// What comes of a step with a device, if it is one.
-    pub fn act_with(
-        &mut self,
-        alloc: Global,
-        target: &mut Target<'_>,
-        words: &[&str],
-    ) -> Result<Option<Outcome>> {
-        if matches!(words, [verb] if *verb == "reset") {
-            self.talk.reset();
-        }
-        if let Some(outcome) = target.driven.act(alloc, words)? {
-            return Ok(Some(outcome));
-        }
-        self.talk.act(alloc, target.description, words)
+    /// A new transfer in place of what was in work, if the words say one.
+    fn begin_transfer(&mut self, alloc: Global, words: &[&str]) -> Result<Option<Outcome>> {
+        let Some(transfer) = read_transfer(words) else {
+            return Ok(None);
+        };
+        let due = due(alloc, &transfer)?;
+        self.work = Work::Transfer(transfer);
+        Ok(Some(Outcome::Text(due)))
     }
 
-    /// After a transaction with the device, where traces are asked for: what it holds.
+    /// A new host in place of what was in work, if the words say one and its limits are in their ranges.
+    fn begin_host(&mut self, alloc: Global, words: &[&str]) -> Result<Option<Outcome>> {
+        let Some((speed, limits)) = read_host(words) else {
+            return Ok(None);
+        };
+        match limits {
+            Ok(limits) => {
+                self.work = Work::Host(HostInWork::new(alloc, limits, speed));
+                Ok(Some(Outcome::Word("reset")))
+            }
+            Err(fault) => {
+                let number = fault.number();
+                Ok(Some(Outcome::Text(format!(in alloc; "refused {number}")?)))
+            }
+        }
+    }
+
+    /// After a transaction, where traces are asked for: what the device or the host holds.
     pub fn traced(
         &self,
         alloc: Global,
-        target: &Target<'_>,
+        target: &Option<Target<'_>>,
         words: &[&str],
     ) -> Result<Option<String>> {
-        let is_transaction = match words {
-            [verb, ..] => matches!(*verb, "setup" | "in" | "out" | "acked"),
-            [] => false,
-        };
-        if self.traces && is_transaction {
-            Ok(Some(target.driven.trace(alloc)?))
-        } else {
-            Ok(None)
+        let verb = words.first().map_or("", |verb| *verb);
+        if !self.traces || matches!(verb, "trace" | "state" | "listing") {
+            return Ok(None);
         }
+        if verb == "enumerate" {
+            return Ok(Some(String::from_str(alloc, self.talk.log.as_str())?));
+        }
+        if is_hosts(words) {
+            return match &self.work {
+                Work::Host(host) => Ok(Some(host.state(alloc)?)),
+                _ => Ok(None),
+            };
+        }
+        if !matches!(verb, "setup" | "in" | "out" | "acked") {
+            return Ok(None);
+        }
+        match target {
+            Some(target) => Ok(Some(target.driven.trace(alloc)?)),
+            None => Ok(None),
+        }
+    }
+}
+
+/// Whether words are of a step that needs no device.
+fn is_hosts(words: &[&str]) -> bool {
+    match words {
+        [verb, _] if *verb == "state" => true,
+        [verb, ..] => matches!(
+            *verb,
+            "trace"
+                | "transfer"
+                | "host"
+                | "reset_done"
+                | "listing"
+                | "ack"
+                | "nak"
+                | "stall"
+                | "silence"
+                | "data0"
+                | "data1"
+        ),
+        [] => false,
     }
 }

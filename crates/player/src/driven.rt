@@ -1,23 +1,27 @@
 //! A device that is driven transaction by transaction.
 use crate::answer::answer_text;
+use crate::answers::Answers;
 use crate::outcome::Outcome;
 use crate::sent::Sent;
 use crate::state::state_text;
+use crate::words::read_bytes;
 use anyhow::Result;
 use std::alloc::Global;
-use usb_device::{Description, Device, DeviceStage};
-use usb_fields::Transaction;
+use usb_device::{Description, Device, DeviceStage, Unanswered};
+use usb_fields::{Answer, Setup, Transaction};
 
 /// An address that no device has: a transaction to another endpoint than zero reaches this one no more than one to
 /// another device, since it has no other.
 const NOBODY: u8 = 128;
 
-/// A device, and where transactions go.
+/// A device, where transactions go, and what is answered beside its table.
 #[derive(Drop)]
 pub struct Driven<'d> {
     device: Device<'d>,
     address: u8,
     endpoint: u8,
+    /// The answers to what it refuses, if a file of them was read.
+    pub answers: Option<Answers>,
 }
 
 impl<'d> Driven<'d> {
@@ -27,44 +31,45 @@ impl<'d> Driven<'d> {
             device: Device::new(description),
             address: 0,
             endpoint: 0,
+            answers: None,
         }
     }
 
     /// What comes of a step with the device, if it is one.
     pub fn act(&mut self, alloc: Global, words: &[&str]) -> Result<Option<Outcome>> {
         match words {
-            [verb] if *verb == "reset" => {
-                self.device.reset();
-                Ok(Outcome::done(alloc)?)
-            }
-            [verb] if *verb == "acked" => {
-                self.device.acked();
-                Ok(Outcome::done(alloc)?)
-            }
-            [verb] if *verb == "state" => {
-                let state = state_text(alloc, &self.device.state())?;
-                Ok(Some(Outcome::of(state)))
-            }
-            [verb, number] if *verb == "address" => match number.parse::<u8>() {
-                Ok(address) => {
-                    self.address = address;
-                    Ok(Outcome::done(alloc)?)
-                }
-                Err(_) => Ok(None),
-            },
-            [verb, number] if *verb == "endpoint" => match number.parse::<u8>() {
-                Ok(endpoint) => {
-                    self.endpoint = endpoint;
-                    Ok(Outcome::done(alloc)?)
-                }
-                Err(_) => Ok(None),
+            [verb] => self.act_alone(alloc, verb),
+            [verb, word] if *verb == "address" => Ok(set(&mut self.address, word)),
+            [verb, word] if *verb == "endpoint" => Ok(set(&mut self.endpoint, word)),
+            [verb, word] if *verb == "answer" => match read_bytes(alloc, word) {
+                Some(bytes) => Ok(Some(taken(alloc, self.device.answer_with(&bytes))?)),
+                None => Ok(None),
             },
             [front @ .., last] if *last == "busy" => self.send(alloc, front, false),
             _ => self.send(alloc, words, true),
         }
     }
 
-    /// A transaction with the device, which is ready or not.
+    /// What comes of a step of one word.
+    fn act_alone(&mut self, alloc: Global, verb: &str) -> Result<Option<Outcome>> {
+        Ok(Some(match verb {
+            "reset" => {
+                self.device.reset();
+                Outcome::Word("done")
+            }
+            "acked" => {
+                self.device.acked();
+                Outcome::Word("done")
+            }
+            "state" => Outcome::Text(state_text(alloc, &self.device.state())?),
+            "refused" => told(alloc, self.device.refused())?,
+            "carried" => told(alloc, self.device.carried_out())?,
+            "accept" => taken(alloc, self.device.accept())?,
+            _ => return self.send(alloc, &[verb], true),
+        }))
+    }
+
+    /// A transaction with the device, which is ready or not. After a SETUP that it took, the answers are asked.
     fn send(&mut self, alloc: Global, words: &[&str], ready: bool) -> Result<Option<Outcome>> {
         let Some(sent) = Sent::read(alloc, words) else {
             return Ok(None);
@@ -78,8 +83,16 @@ impl<'d> Driven<'d> {
             address,
             stage: sent.stage(),
         };
-        let text = answer_text(alloc, &self.device.serve(&transaction, ready))?;
-        Ok(Some(Outcome::of(text)))
+        let answer = self.device.serve(&transaction, ready);
+        let was_taken = matches!((&sent, &answer), (Sent::Setup(_), Answer::Ack));
+        let text = answer_text(alloc, &answer)?;
+        if was_taken {
+            if let Some(answers) = &self.answers {
+                // An answer that isn't taken leaves the request refused.
+                let _ = answers.answer(&mut self.device);
+            }
+        }
+        Ok(Some(Outcome::Text(text)))
     }
 
     /// What the device holds: its state and its stage.
@@ -88,6 +101,28 @@ impl<'d> Driven<'d> {
         let stage = stage_word(self.device.stage());
         Ok(format!(in alloc; "{state} stage={stage}")?)
     }
+}
+
+/// Takes the number that the word is, if it is one.
+fn set(number: &mut u8, word: &str) -> Option<Outcome> {
+    *number = word.parse::<u8>().ok()?;
+    Some(Outcome::Word("done"))
+}
+
+/// A request by its eight bytes, or `none`.
+fn told(alloc: Global, request: Option<Setup>) -> Result<Outcome> {
+    Ok(match request {
+        Some(request) => Outcome::Text(hex::encode(alloc, request.to_bytes())?),
+        None => Outcome::Word("none"),
+    })
+}
+
+/// Whether an answer was taken, and if not the number of the reason.
+fn taken(alloc: Global, answered: Result<(), Unanswered>) -> Result<Outcome> {
+    Ok(match answered {
+        Ok(()) => Outcome::Word("done"),
+        Err(why) => Outcome::Text(format!(in alloc; "unanswered {}", why.number())?),
+    })
 }
 
 fn stage_word(stage: DeviceStage) -> &'static str {

@@ -5,149 +5,146 @@ use crate::sent::due_text;
 use crate::words::read_speed;
 use anyhow::Result;
 use std::alloc::{AllocError, Global};
-use std::mem;
 use usb_fields::Speed;
 use usb_file::{DescriptorFile, list};
-use usb_host::{Action, Host};
+use usb_host::{Action, Host, Trouble};
 use usb_transfer::{LimitFault, Limits};
 
-/// The host in work, if there is one.
+/// A host.
 #[derive(Drop)]
 pub struct HostInWork {
-    host: Option<Host>,
+    host: Host,
     transactions: u64,
+    /// The lines of the listing of what it read, once one was asked for.
+    listing: Option<Vec<String>>,
 }
 
 impl HostInWork {
-    /// None.
-    pub fn new() -> HostInWork {
+    /// A new host, which reads a device of this speed.
+    pub fn new(alloc: Global, limits: Limits, speed: Speed) -> HostInWork {
         HostInWork {
-            host: None,
+            host: Host::new(alloc, limits, speed),
             transactions: 0,
+            listing: None,
         }
-    }
-
-    /// Lets the host go.
-    pub fn clear(&mut self) {
-        drop(self.host.take());
-        self.transactions = 0;
     }
 
     /// What comes of a step of the host, if it is one.
     pub fn act(&mut self, alloc: Global, words: &[&str]) -> Result<Option<Outcome>> {
         match words {
-            [verb, limits @ ..] if *verb == "host" => self.begin(alloc, limits),
-            [verb] if *verb == "reset_done" => {
-                if let Some(host) = &mut self.host {
-                    host.reset_done();
+            [verb] if *verb == "reset_done" => self.host.reset_done(),
+            [verb, number] if *verb == "listing" => return self.line(alloc, number),
+            [verb, word] if *verb == "state" && *word == "host" => {
+                return Ok(Some(Outcome::Text(self.state(alloc)?)));
+            }
+            _ => {
+                let Some(said) = Said::read(alloc, words) else {
+                    return Ok(None);
+                };
+                // An answer is counted where it answers a transaction that was due.
+                if matches!(self.host.next(), Action::Send(_)) {
+                    self.transactions = self.transactions.saturating_add(1);
                 }
-                self.due(alloc)
-            }
-            [verb, number] if *verb == "listing" => self.line(alloc, number),
-            _ => self.answered(alloc, words),
-        }
-    }
-
-    /// A new host in place of the one before, if the words say one. Where its limits are refused there is none.
-    fn begin(&mut self, alloc: Global, words: &[&str]) -> Result<Option<Outcome>> {
-        let Some((speed, limits)) = read_host(words) else {
-            return Ok(None);
-        };
-        self.transactions = 0;
-        match limits {
-            Ok(limits) => {
-                drop(mem::replace(&mut self.host, Some(Host::new(alloc, limits, speed))));
-                self.due(alloc)
-            }
-            Err(fault) => {
-                drop(self.host.take());
-                let number = fault.number();
-                let text = format!(in alloc; "refused {number}")?;
-                Ok(Some(Outcome::of(text)))
+                self.host.take(said.answer());
             }
         }
-    }
-
-    /// What an answer means to the host. It is counted where it answers a transaction that was due.
-    fn answered(&mut self, alloc: Global, words: &[&str]) -> Result<Option<Outcome>> {
-        let (Some(host), Some(said)) = (&mut self.host, Said::read(alloc, words)) else {
-            return Ok(None);
-        };
-        if matches!(host.next(), Action::Send(_)) {
-            self.transactions = self.transactions.saturating_add(1);
-        }
-        host.take(said.answer());
-        self.due(alloc)
+        Ok(Some(self.due(alloc)?))
     }
 
     /// What is due, or how the host ended.
-    fn due(&self, alloc: Global) -> Result<Option<Outcome>> {
-        let Some(host) = &self.host else {
-            return Ok(None);
+    pub fn due(&self, alloc: Global) -> Result<Outcome> {
+        let (attempts, transactions) = (self.host.attempts(), self.transactions);
+        Ok(match self.host.next() {
+            Action::Reset => Outcome::Word("reset"),
+            Action::Send(transaction) => Outcome::Text(due_text(alloc, &transaction)?),
+            Action::Ended => match self.host.outcome() {
+                Some(outcome) => {
+                    let trouble = outcome.err();
+                    Outcome::Text(end_text(alloc, trouble, attempts, transactions)?)
+                }
+                None => Outcome::Word("none"),
+            },
+        })
+    }
+
+    /// What the host holds: its attempts, and of the transfer in work the losses and the NAKs in a row, the bytes that
+    /// came, and the step; the last is `-` where none is in work.
+    pub fn state(&self, alloc: Global) -> Result<String, AllocError> {
+        let attempts = self.host.attempts();
+        let (Some(transfer), Some(step)) = (self.host.transfer(), self.host.step()) else {
+            return format!(in alloc; "attempts={attempts} strikes=0 naks=0 kept=0 step=-");
         };
-        let text = match host.next() {
-            Action::Reset => String::from_str(alloc, "reset")?,
-            Action::Send(transaction) => due_text(alloc, &transaction)?,
-            Action::Ended => end_text(alloc, host, self.transactions)?,
-        };
-        Ok(Some(Outcome::of(text)))
+        let (strikes, naks, kept) = (transfer.strikes(), transfer.nak_count(), transfer.kept());
+        format!(in alloc;
+            "attempts={attempts} strikes={strikes} naks={naks} kept={kept} step={step}"
+        )
     }
 
     /// A line of the listing of what was read, counted from 1, or `none` where there is no such line.
-    fn line(&self, alloc: Global, number: &str) -> Result<Option<Outcome>> {
-        let (Some(host), Ok(number)) = (&self.host, number.parse::<usize>()) else {
+    fn line(&mut self, alloc: Global, number: &str) -> Result<Option<Outcome>> {
+        let Ok(number) = number.parse::<usize>() else {
             return Ok(None);
         };
-        let text = match host.outcome() {
-            Some(Ok(file)) => line_text(alloc, file, number)?,
-            _ => String::from_str(alloc, "none")?,
+        if self.listing.is_none() {
+            if let Some(Ok(file)) = self.host.outcome() {
+                self.listing = Some(listing_of(alloc, file)?);
+            }
+        }
+        let line = match (&self.listing, number.checked_sub(1)) {
+            (Some(lines), Some(place)) => lines.get(place),
+            _ => None,
         };
-        Ok(Some(Outcome::of(text)))
+        Ok(Some(match line {
+            Some(line) => Outcome::Text(String::from_str(alloc, line.as_str())?),
+            None => Outcome::Word("none"),
+        }))
     }
 }
 
 /// The speed and the limits of a host, as in `full address 1 naks 16 attempts 3`.
-fn read_host(words: &[&str]) -> Option<(Speed, Result<Limits, LimitFault>)> {
-    match words {
-        [speed, first, address, second, naks, third, attempts]
-            if *first == "address" && *second == "naks" && *third == "attempts" => {
-            let limits = read_limits(address, naks, attempts)?;
-            Some((read_speed(speed)?, limits))
-        }
-        _ => None,
+pub fn read_host(words: &[&str]) -> Option<(Speed, Result<Limits, LimitFault>)> {
+    let [speed, first, address, second, naks, third, attempts] = words else {
+        return None;
+    };
+    if *first != "address" || *second != "naks" || *third != "attempts" {
+        return None;
     }
+    let naks = naks.parse::<u16>().ok()?;
+    let limits = Limits::new(read_limit(address)?, naks, read_limit(attempts)?);
+    Some((read_speed(speed)?, limits))
 }
 
-/// The limits with these numbers, where they are numbers.
-fn read_limits(address: &str, naks: &str, attempts: &str) -> Option<Result<Limits, LimitFault>> {
-    let address = address.parse::<u8>().ok()?;
-    let naks = naks.parse::<u16>().ok()?;
-    let attempts = attempts.parse::<u8>().ok()?;
-    Some(Limits::new(address, naks, attempts))
+/// An address or a number of attempts. One past a byte is as far out of range as the greatest byte.
+fn read_limit(word: &str) -> Option<u8> {
+    let number = word.parse::<u64>().ok()?;
+    Some(u8::try_from(number).unwrap_or(u8::MAX))
 }
 
 /// How a host ended, with its attempts and its transactions.
-fn end_text(alloc: Global, host: &Host, transactions: u64) -> Result<String, AllocError> {
-    let attempts = host.attempts();
+pub fn end_text(
+    alloc: Global,
+    trouble: Option<Trouble>,
+    attempts: u8,
+    transactions: u64,
+) -> Result<String, AllocError> {
     let counts = format!(in alloc; "attempts {attempts} transactions {transactions}")?;
-    match host.outcome() {
-        Some(Ok(_)) => format!(in alloc; "success {counts}"),
-        Some(Err(trouble)) => {
+    match trouble {
+        None => format!(in alloc; "success {counts}"),
+        Some(trouble) => {
             let (why, step) = (trouble.why.number(), trouble.step);
             format!(in alloc; "trouble {why} {step} {counts}")
         }
-        None => String::from_str(alloc, "none"),
     }
 }
 
-/// A line of a file's listing, counted from 1, or `none`.
-fn line_text(alloc: Global, file: &DescriptorFile, number: usize) -> Result<String> {
+/// The lines of a file's listing.
+fn listing_of(alloc: Global, file: &DescriptorFile) -> Result<Vec<String>> {
     let mut listing = Vec::new(alloc);
     list(alloc, file, &mut listing)?;
     let text = String::from_utf8(listing)?;
-    let line = match number.checked_sub(1) {
-        Some(before) => text.as_str().lines().nth(before),
-        None => None,
-    };
-    Ok(String::from_str(alloc, line.unwrap_or("none"))?)
+    let mut lines = Vec::new(alloc);
+    for line in text.as_str().lines() {
+        lines.push(String::from_str(alloc, line)?)?;
+    }
+    Ok(lines)
 }

@@ -9,6 +9,7 @@
 #![tactic(auto)]
 
 mod answer;
+mod answers;
 mod bench;
 mod descriptors;
 mod driven;
@@ -19,32 +20,64 @@ mod play;
 mod score;
 mod sent;
 mod state;
+mod steps;
 mod talk;
 mod transfer;
 mod words;
 
-use anyhow::Result;
+use anyhow::{Context, Result, bail};
 use play::play;
 use std::io::BufReader;
 use std::process::ExitCode;
 use std::rt::{Env, Files};
 use std::{env, fs};
+use steps::STEPS;
 
-fn main(rt: HostRuntime) -> Result<ExitCode> {
-    let words = env::args(&rt)?.collect::<Vec<String>>(rt.alloc())?;
-    let status = match words.get(1) {
-        None => play_all(&rt)?,
-        Some(word) => match word.as_str() {
-            "-" => play_input(&rt)?,
-            name => play_file(&rt, name)?,
-        },
+/// The words that the program takes.
+const USAGE: &str =
+    "Usage: player [NAME | - | --help]\n\nPlays all files that `list` names, the file NAME, or the steps of standard input.\n";
+
+/// What the program is used wrongly by: an unknown word, a file that isn't there, text that is none.
+const WRONG: u8 = 2;
+
+fn main(rt: HostRuntime) -> ExitCode {
+    let status = match run(&rt) {
+        Ok(status) => status,
+        Err(error) => {
+            let _ = eprintln!(&rt; "player: {error:#}");
+            WRONG
+        }
     };
-    Ok(ExitCode::from(status))
+    ExitCode::from(status)
+}
+
+/// Does what the words of the command line say.
+fn run(rt: &HostRuntime) -> Result<u8> {
+    let words = env::args(rt)?.collect::<Vec<String>>(rt.alloc())?;
+    match words.as_slice() {
+        [] | [_] => play_all(rt),
+        [_, word] => match word.as_str() {
+            "-" => play(rt, &mut BufReader::new(rt.alloc(), rt.reader())?, None),
+            "--help" | "-h" => help(rt),
+            name if name.starts_with('-') => bail!("no option {name}: player --help"),
+            name => play_file(rt, name),
+        },
+        _ => bail!("more than one word: player --help"),
+    }
+}
+
+/// Prints how the program is used, and each step.
+fn help<R: Print + AllocGlobal>(rt: &R) -> Result<u8> {
+    print!(rt; "{USAGE}\nSteps, of which docs/testing.md says what each does:\n")?;
+    for (_, form) in STEPS.iter() {
+        println!(rt; "    {form}")?;
+    }
+    Ok(0)
 }
 
 /// Plays all files of the list. The status is the worst of theirs.
 fn play_all<R: Files + Print + AllocGlobal>(rt: &R) -> Result<u8> {
-    let names = fs::read_to_string(rt, "list")?;
+    let names = fs::read_to_string(rt, "list").context("list")?;
     let mut worst = 0;
     for name in names.as_str().lines() {
         let status = play_file(rt, name)?;
@@ -55,12 +88,6 @@ fn play_all<R: Files + Print + AllocGlobal>(rt: &R) -> Result<u8> {
 
 /// Plays a file, and tells how many steps it has, and each line that comes out differently.
 fn play_file<R: Files + Print + AllocGlobal>(rt: &R, name: &str) -> Result<u8> {
-    let text = fs::read(rt, name)?;
-    play(rt, &mut text.as_slice(), Some(name))
-}
-
-/// Plays the steps of standard input, and writes what comes of each.
-fn play_input<R: Files + Input + Print + AllocGlobal>(rt: &R) -> Result<u8> {
-    let mut lines = BufReader::new(rt.alloc(), rt.reader())?;
-    play(rt, &mut lines, None)
+    let text = fs::read(rt, name).context(format_args!("{name}"))?;
+    play(rt, &mut text.as_slice(), Some(name)).context(format_args!("{name}"))
 }

@@ -3,37 +3,35 @@ use std::alloc::{AllocError, Global};
 
 /// What comes of a step.
 #[derive(Drop)]
-pub struct Outcome {
+pub enum Outcome {
+    /// A word that many steps come to.
+    Word(&'static str),
     /// In the words of a line.
-    pub text: String,
-    /// How many bytes a request brought, if it brought some: a line may want these in place of the bytes.
-    pub count: Option<usize>,
+    Text(String),
+    /// The bytes of a reply. A line may want how many there are in place of them.
+    Bytes(Vec<u8>),
+    /// The line is no step, or none that can stand there: why.
+    NoStep(&'static str),
 }
 
 impl Outcome {
-    /// An outcome in these words.
-    pub fn of(text: String) -> Outcome {
-        Outcome { text, count: None }
+    /// In the words of a line.
+    pub fn text(&self, alloc: Global) -> Result<String, AllocError> {
+        match self {
+            Outcome::Word(word) => String::from_str(alloc, word),
+            Outcome::Text(text) => String::from_str(alloc, text),
+            Outcome::Bytes(bytes) => hex::encode(alloc, bytes),
+            Outcome::NoStep(why) => format!(in alloc; "no step: {why}"),
+        }
     }
 
-    /// An outcome in these words.
-    pub fn word(alloc: Global, text: &str) -> Result<Outcome, AllocError> {
-        Ok(Outcome::of(String::from_str(alloc, text)?))
-    }
-
-    /// That the step was done.
-    pub fn done(alloc: Global) -> Result<Option<Outcome>, AllocError> {
-        Ok(Some(Outcome::word(alloc, "done")?))
-    }
-
-    /// Whether it is the one that is wanted: the words, or how many bytes, as in `18 bytes`.
+    /// Whether it is the one that is wanted: its words, how many bytes, as in `18 bytes`, or `no step` with no reason.
     pub fn is(&self, alloc: Global, wanted: &str) -> Result<bool, AllocError> {
-        if wanted == self.text.as_str() {
-            return Ok(true);
-        }
-        match self.count {
-            Some(count) => Ok(wanted == format!(in alloc; "{count} bytes")?.as_str()),
-            None => Ok(false),
-        }
+        let other = match self {
+            Outcome::Bytes(bytes) => format!(in alloc; "{} bytes", bytes.len())?,
+            _ => String::from_str(alloc, "no step")?,
+        };
+        let may_be_other = matches!(self, Outcome::Bytes(_) | Outcome::NoStep(_));
+        Ok(wanted == self.text(alloc)?.as_str() || may_be_other && wanted == other.as_str())
     }
 }

@@ -1,9 +1,12 @@
 //! Playing lines.
-use crate::bench::{Bench, Target};
-use crate::descriptors::{Descriptors, Made};
+use crate::answers::Answers;
+use crate::bench::{Bench, Target, Work};
+use crate::descriptors::{Descriptors, Made, read_named};
+use crate::driven::Driven;
 use crate::line::{Line, next_line};
 use crate::outcome::Outcome;
 use crate::score::Score;
+use crate::talk::TalkInWork;
 use anyhow::Result;
 use std::io::BufRead;
 use std::rt::Files;
@@ -25,8 +28,12 @@ pub fn play<H: Files + Print + AllocGlobal, R: BufRead>(
 ) -> Result<u8> {
     let mut game = Game {
         score: Score::new(name),
-        descriptors: Descriptors::new(),
-        bench: Bench::new(rt.alloc()),
+        descriptors: Descriptors { file: None },
+        bench: Bench {
+            talk: TalkInWork::new(rt.alloc()),
+            work: Work::Nothing,
+            traces: false,
+        },
     };
     let status = play_game(rt, lines, name, &mut game);
     drop(game);
@@ -45,12 +52,16 @@ fn play_game<H: Files + Print + AllocGlobal, R: BufRead>(
         let Some(description) = made else {
             break;
         };
-        made = play_with(rt, lines, game, Some(Target::new(&description)))?;
+        let target = Target {
+            description: &description,
+            driven: Driven::new(&description),
+        };
+        made = play_with(rt, lines, game, Some(target))?;
     }
     if name.is_some() {
         game.score.close(rt)?;
     }
-    Ok(game.score.status())
+    Ok(game.score.status)
 }
 
 /// Plays lines with a device, or with none, until another device is made.
@@ -84,66 +95,60 @@ fn take_line<H: Files + Print + AllocGlobal>(
         .as_str()
         .split_whitespace()
         .collect::<Vec<&str>>(rt.alloc())?;
-    match words.as_slice() {
-        [verb, word] if *verb == "file" => {
-            let outcome = game.descriptors.load(rt, word)?;
-            game.score.settle(rt, line, &outcome)?;
-            Ok(None)
-        }
-        [verb, word] if *verb == "speed" => make(rt, game, line, word),
-        words => {
-            act(rt, game, target, line, words)?;
-            Ok(None)
-        }
-    }
-}
-
-/// Makes a device at this speed, where nothing stands against it.
-fn make<H: Print + AllocGlobal>(
-    rt: &H,
-    game: &mut Game<'_>,
-    line: &Line,
-    word: &str,
-) -> Result<Option<Description>> {
-    match game.descriptors.describe(rt.alloc(), word)? {
-        Made::Accepted(description) => {
-            game.bench.talk.reset();
-            let outcome = Outcome::word(rt.alloc(), "accepted")?;
-            game.score.settle(rt, line, &outcome)?;
-            Ok(Some(description))
-        }
-        Made::Refused(outcome) => {
-            game.score.settle(rt, line, &outcome)?;
-            Ok(None)
-        }
-        Made::NoStep => {
-            game.score.refuse(rt, line)?;
-            Ok(None)
-        }
-    }
-}
-
-/// Plays any other step.
-fn act<H: Print + AllocGlobal>(
-    rt: &H,
-    game: &mut Game<'_>,
-    target: &mut Option<Target<'_>>,
-    line: &Line,
-    words: &[&str],
-) -> Result<()> {
-    let alloc = rt.alloc();
-    if let Some(outcome) = game.bench.act(alloc, words)? {
-        return game.score.settle(rt, line, &outcome);
-    }
-    let Some(target) = target else {
-        return game.score.refuse(rt, line);
-    };
-    let Some(outcome) = game.bench.act_with(alloc, target, words)? else {
-        return game.score.refuse(rt, line);
+    let outcome = match words.as_slice() {
+        [verb, word] if *verb == "file" => game.descriptors.load(rt, word)?,
+        [verb, word] if *verb == "speed" => match game.descriptors.describe(rt.alloc(), word)? {
+            Made::Accepted(description) => {
+                game.bench.talk.reset();
+                game.score.settle(rt, line, &Outcome::Word("accepted"))?;
+                return Ok(Some(description));
+            }
+            Made::Refused(outcome) => outcome,
+        },
+        [verb, name] if *verb == "answers" => load_answers(rt, target, name)?,
+        words => game.bench.act(rt.alloc(), target, words)?,
     };
     game.score.settle(rt, line, &outcome)?;
-    if let Some(trace) = game.bench.traced(alloc, target, words)? {
-        println!(rt; "# {trace}")?;
+    tell_traces(rt, game, target, &outcome, &words)?;
+    Ok(None)
+}
+
+/// `answers`: from then on the device's owner answers what the file of this name says.
+fn load_answers<H: Files + AllocGlobal>(
+    rt: &H,
+    target: &mut Option<Target<'_>>,
+    name: &str,
+) -> Result<Outcome> {
+    let Some(target) = target else {
+        return Ok(Outcome::NoStep("no device"));
+    };
+    let Some(bytes) = read_named(rt, "answers", name)? else {
+        return Ok(Outcome::Word("no such answers"));
+    };
+    match Answers::read(rt.alloc(), &bytes)? {
+        Ok(answers) => {
+            target.driven.answers = Some(answers);
+            Ok(Outcome::Word("done"))
+        }
+        Err(number) => Ok(Outcome::Text(format!(in rt.alloc(); "bad answers at line {number}")?)),
+    }
+}
+
+/// Tells what the ends hold after a step, where that is asked for.
+fn tell_traces<H: Print + AllocGlobal>(
+    rt: &H,
+    game: &Game<'_>,
+    target: &Option<Target<'_>>,
+    outcome: &Outcome,
+    words: &[&str],
+) -> Result<()> {
+    if matches!(outcome, Outcome::NoStep(_)) {
+        return Ok(());
+    }
+    if let Some(trace) = game.bench.traced(rt.alloc(), target, words)? {
+        for line in trace.as_str().lines() {
+            println!(rt; "# {line}")?;
+        }
     }
     Ok(())
 }

@@ -10,6 +10,9 @@ pub struct Score<'n> {
     name: Option<&'n str>,
     /// The number of the last line.
     pub line: u64,
+    /// The exit status: 0 where all came as it is wanted, 1 where something came differently, and 2 where a line is
+    /// no step.
+    pub status: u8,
     steps: u64,
     differing: u64,
     not_steps: u64,
@@ -21,64 +24,48 @@ impl<'n> Score<'n> {
         Score {
             name,
             line: 0,
+            status: 0,
             steps: 0,
             differing: 0,
             not_steps: 0,
         }
     }
 
-    /// The exit status: 0 where all came as it is wanted, 1 where something came differently, and 2 where a line is
-    /// no step.
-    pub fn status(&self) -> u8 {
-        if self.not_steps > 0 {
-            2
-        } else if self.differing > 0 {
-            1
-        } else {
-            0
-        }
-    }
-
-    /// Takes what came of the step in a line, and tells of it: on standard input each outcome, in a file each that is
-    /// another than the one that is wanted.
+    /// Takes what came of a line, and tells of it: on standard input each outcome, in a file each that is another than
+    /// the one that is wanted, and each line that is no step, unless just that is wanted.
     pub fn settle<H: Print + AllocGlobal>(
         &mut self,
         rt: &H,
         line: &Line,
         outcome: &Outcome,
     ) -> Result<()> {
-        self.steps = self.steps.saturating_add(1);
-        let came = outcome.text.as_str();
-        if let Some(wanted) = &line.wanted {
-            if !outcome.is(rt.alloc(), wanted.as_str())? {
-                self.differing = self.differing.saturating_add(1);
-                let number = line.number;
-                return self.tell(
-                    rt,
-                    format!(in rt.alloc(); "line {number}: {came}, not {wanted}")?.as_str(),
-                );
+        let alloc = rt.alloc();
+        let (came, number) = (outcome.text(alloc)?, line.number);
+        let is_wanted = match &line.wanted {
+            Some(wanted) => outcome.is(alloc, wanted)?,
+            None => !matches!(outcome, Outcome::NoStep(_)),
+        };
+        match (outcome, &line.wanted) {
+            _ if is_wanted => {}
+            (Outcome::NoStep(_), _) => {
+                self.not_steps = self.not_steps.saturating_add(1);
+                self.status = 2;
+                return self.tell(rt, format!(in alloc; "line {number}: {came}")?.as_str());
             }
+            (_, Some(wanted)) => {
+                self.steps = self.steps.saturating_add(1);
+                self.differing = self.differing.saturating_add(1);
+                self.status = self.status.max(1);
+                let told = format!(in alloc; "line {number}: {came}, not {wanted}")?;
+                return self.tell(rt, told.as_str());
+            }
+            (_, None) => {}
         }
+        self.steps = self.steps.saturating_add(1);
         if self.name.is_none() {
             println!(rt; "{came}")?;
         }
         Ok(())
-    }
-
-    /// Tells that a line is no step, or none that can stand there, unless just that is wanted of it.
-    pub fn refuse<H: Print + AllocGlobal>(&mut self, rt: &H, line: &Line) -> Result<()> {
-        if let Some(wanted) = &line.wanted {
-            if wanted.as_str() == "no step" {
-                let outcome = Outcome::word(rt.alloc(), "no step")?;
-                return self.settle(rt, line, &outcome);
-            }
-        }
-        self.not_steps = self.not_steps.saturating_add(1);
-        let number = line.number;
-        self.tell(
-            rt,
-            format!(in rt.alloc(); "line {number}: no step")?.as_str(),
-        )
     }
 
     /// Tells how many steps there were, and how many lines came out differently or were none.

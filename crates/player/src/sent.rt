@@ -1,5 +1,5 @@
 //! What a host sends, in words.
-use crate::words::{packet_text, read_packet, read_toggle};
+use crate::words::{packet_text, read_bytes, read_toggle};
 use hex::FromHex;
 use std::alloc::{AllocError, Global};
 use usb_fields::{Stage, Toggle, Transaction};
@@ -25,7 +25,7 @@ impl Sent {
             }
             [verb, toggle, packet] if *verb == "out" => {
                 let toggle = read_toggle(toggle)?;
-                Some(Sent::Out(toggle, read_packet(alloc, packet)?))
+                Some(Sent::Out(toggle, read_bytes(alloc, packet)?))
             }
             _ => None,
         }

@@ -15,41 +15,34 @@ pub fn state_text(alloc: Global, state: &State) -> Result<String, AllocError> {
 }
 
 fn alternates_text(alloc: Global, alternates: &[u8; 256]) -> Result<String, AllocError> {
-    let mut text = String::new(alloc);
+    let mut text = String::from_str(alloc, "-")?;
     for (number, alternate) in alternates.iter().enumerate() {
         if *alternate != 0 {
-            add_word(
-                &mut text,
+            text = with_word(
+                alloc,
+                text,
                 format!(in alloc; "{number}:{alternate}")?.as_str(),
             )?;
         }
     }
-    or_dash(alloc, text)
+    Ok(text)
 }
 
 fn halts_text(alloc: Global, halts: u32) -> Result<String, AllocError> {
-    let mut text = String::new(alloc);
+    let mut text = String::from_str(alloc, "-")?;
     for place in 0..32u32 {
         if halts >> place & 1 == 1 {
             let address = (place % 16 + place / 16 * 128) as u8;
-            add_word(&mut text, hex::encode(alloc, [address])?.as_str())?;
+            text = with_word(alloc, text, hex::encode(alloc, [address])?.as_str())?;
         }
     }
-    or_dash(alloc, text)
+    Ok(text)
 }
 
-/// Adds a word, after a comma where others stand before it.
-fn add_word(text: &mut String, word: &str) -> Result<(), AllocError> {
-    if !text.is_empty() {
-        text.push_str(",")?;
+/// A list of words with one more: after a comma, or in the place of the `-` of none.
+fn with_word(alloc: Global, text: String, word: &str) -> Result<String, AllocError> {
+    if text.as_str() == "-" {
+        return String::from_str(alloc, word);
     }
-    text.push_str(word)
-}
-
-fn or_dash(alloc: Global, text: String) -> Result<String, AllocError> {
-    if text.is_empty() {
-        String::from_str(alloc, "-")
-    } else {
-        Ok(text)
-    }
+    format!(in alloc; "{text},{word}")
 }

@@ -1,11 +1,15 @@
-//! Talks over a bus that loses packets.
+//! Talks and enumerations over a bus that loses packets.
+use crate::host::end_text;
 use crate::outcome::Outcome;
+use crate::words::read_fates;
 use anyhow::Result;
 use hex::FromHex;
 use std::alloc::{AllocError, Global};
-use usb_bus::{Fate, Reply, Talk, converse};
+use usb_bus::{Fate, Reply, converse};
 use usb_device::Description;
 use usb_fields::Setup;
+use usb_log::enumerate_logged;
+use usb_transfer::Limits;
 
 /// The talk in work: its requests are made of a new device at address 0.
 #[derive(Drop)]
@@ -13,6 +17,8 @@ pub struct TalkInWork {
     naks: u16,
     fates: Vec<Fate>,
     requests: Vec<Setup>,
+    /// The log of the enumeration that was made last.
+    pub(crate) log: String,
 }
 
 impl TalkInWork {
@@ -22,6 +28,7 @@ impl TalkInWork {
             naks: 16,
             fates: Vec::new(alloc),
             requests: Vec::new(alloc),
+            log: String::new(alloc),
         }
     }
 
@@ -39,27 +46,34 @@ impl TalkInWork {
         words: &[&str],
     ) -> Result<Option<Outcome>> {
         match words {
-            [verb, number] if *verb == "naks" => match number.parse::<u16>() {
-                Ok(naks) => {
-                    self.naks = naks;
-                    Ok(Outcome::done(alloc)?)
-                }
-                Err(_) => Ok(None),
-            },
-            [verb, letters] if *verb == "fates" => match read_fates(alloc, letters)? {
-                Some(fates) => {
-                    self.fates = fates;
-                    Ok(Outcome::done(alloc)?)
-                }
-                None => Ok(None),
-            },
-            [verb, packet] if *verb == "request" => match <[u8; 8] as FromHex>::from_hex(*packet) {
-                Ok(packet) => self.request(alloc, description, Setup::from_bytes(&packet)),
-                Err(_) => Ok(None),
-            },
-            [verb] if *verb == "end" => self.end(alloc, description),
-            _ => Ok(None),
+            [verb, number] if *verb == "naks" => {
+                let Ok(naks) = number.parse::<u16>() else {
+                    return Ok(None);
+                };
+                self.naks = naks;
+            }
+            [verb, letters] if *verb == "fates" => {
+                let Some(fates) = read_fates(alloc, letters)? else {
+                    return Ok(None);
+                };
+                self.fates = fates;
+            }
+            [verb, packet] if *verb == "request" => {
+                let Ok(packet) = <[u8; 8] as FromHex>::from_hex(*packet) else {
+                    return Ok(None);
+                };
+                return self.request(alloc, description, Setup::from_bytes(&packet));
+            }
+            [verb] if *verb == "end" => return self.end(alloc, description),
+            [verb, letters] if *verb == "enumerate" => {
+                let Some(fates) = read_fates(alloc, letters)? else {
+                    return Ok(None);
+                };
+                return self.enumerate(alloc, description, &fates);
+            }
+            _ => return Ok(None),
         }
+        Ok(Some(Outcome::Word("done")))
     }
 
     /// One more request. The talk is made from its beginning, since the fates are those of its transactions: what
@@ -76,60 +90,43 @@ impl TalkInWork {
         Ok(Some(reply_outcome(alloc, talk.replies.get(place))?))
     }
 
-    /// The end of the talk.
+    /// The end of the talk, as in `5 transactions, address 0, configuration 0`; the reason goes first where it stopped.
     fn end(&mut self, alloc: Global, description: &Description) -> Result<Option<Outcome>> {
         let talk = converse(alloc, description, self.naks, &self.requests, &self.fates)?;
         self.reset();
-        Ok(Some(Outcome::of(end_text(alloc, &talk)?)))
+        let transactions = talk.transactions;
+        let (address, selected) = (talk.state.address, talk.state.selected);
+        let text = format!(in alloc;
+            "{transactions} transactions, address {address}, configuration {selected}"
+        )?;
+        Ok(Some(Outcome::Text(match talk.stopped {
+            None => text,
+            Some(why) => format!(in alloc; "{why}, {text}")?,
+        })))
     }
-}
 
-/// The fates that the letters stand for: `.` Pass, `n` Busy, `d` LostDown, `u` LostUp, `a` LostAck.
-fn read_fates(alloc: Global, letters: &str) -> Result<Option<Vec<Fate>>, AllocError> {
-    let mut fates = Vec::new(alloc);
-    for letter in letters.chars() {
-        let Some(fate) = read_fate(letter) else {
-            return Ok(None);
-        };
-        fates.push(fate)?;
-    }
-    Ok(Some(fates))
-}
-
-fn read_fate(letter: char) -> Option<Fate> {
-    match letter {
-        '.' => Some(Fate::Pass),
-        'n' => Some(Fate::Busy),
-        'd' => Some(Fate::LostDown),
-        'u' => Some(Fate::LostUp),
-        'a' => Some(Fate::LostAck),
-        _ => None,
+    /// A whole enumeration of a new device under these fates, and how it ended: address 1, at most three attempts.
+    fn enumerate(
+        &mut self,
+        alloc: Global,
+        description: &Description,
+        fates: &[Fate],
+    ) -> Result<Option<Outcome>> {
+        let limits = Limits::new(1, self.naks, 3)?;
+        let mut log = Vec::new(alloc);
+        let run = enumerate_logged(alloc, description, limits, fates, &mut log)?;
+        self.log = String::from_utf8(log)?;
+        let text = end_text(alloc, run.outcome.err(), run.attempts, run.transactions)?;
+        Ok(Some(Outcome::Text(text)))
     }
 }
 
 /// What came of a request: the bytes in hexadecimal, `done`, `stall`, or `none` where the talk had stopped.
 fn reply_outcome(alloc: Global, reply: Option<&Reply>) -> Result<Outcome, AllocError> {
-    match reply {
-        None => Outcome::word(alloc, "none"),
-        Some(Reply::Done) => Outcome::word(alloc, "done"),
-        Some(Reply::Refused) => Outcome::word(alloc, "stall"),
-        Some(Reply::Bytes(bytes)) => Ok(Outcome {
-            text: hex::encode(alloc, &bytes)?,
-            count: Some(bytes.len()),
-        }),
-    }
-}
-
-/// How a talk ended, as in `5 transactions, address 0, configuration 0`; the reason goes first where it stopped.
-fn end_text(alloc: Global, talk: &Talk) -> Result<String, AllocError> {
-    let transactions = talk.transactions;
-    let address = talk.state.address;
-    let selected = talk.state.selected;
-    let text = format!(in alloc;
-        "{transactions} transactions, address {address}, configuration {selected}"
-    )?;
-    match talk.stopped {
-        None => Ok(text),
-        Some(why) => format!(in alloc; "{why}, {text}"),
-    }
+    Ok(match reply {
+        None => Outcome::Word("none"),
+        Some(Reply::Done) => Outcome::Word("done"),
+        Some(Reply::Refused) => Outcome::Word("stall"),
+        Some(Reply::Bytes(bytes)) => Outcome::Bytes(Vec::from_slice(alloc, &bytes)?),
+    })
 }

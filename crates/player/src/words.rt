@@ -1,5 +1,6 @@
 //! The words that steps of all kinds share.
 use std::alloc::{AllocError, Global};
+use usb_bus::Fate;
 use usb_fields::{Speed, Toggle};
 
 /// `low`, `full` or `high`.
@@ -21,8 +22,8 @@ pub fn read_toggle(word: &str) -> Option<Toggle> {
     }
 }
 
-/// The bytes of a packet in hexadecimal, or `-` for an empty one.
-pub fn read_packet(alloc: Global, word: &str) -> Option<Vec<u8>> {
+/// Bytes in hexadecimal, or `-` for none.
+pub fn read_bytes(alloc: Global, word: &str) -> Option<Vec<u8>> {
     if word == "-" {
         return Some(Vec::new(alloc));
     }
@@ -45,4 +46,23 @@ pub fn packet_text(alloc: Global, toggle: Toggle, bytes: &[u8]) -> Result<String
         Toggle::Data0 => format!(in alloc; "data0 {bytes}"),
         Toggle::Data1 => format!(in alloc; "data1 {bytes}"),
     }
+}
+
+/// The fates that the letters stand for: `.` Pass, `n` Busy, `d` LostDown, `u` LostUp, `a` LostAck; `-` alone is none.
+pub fn read_fates(alloc: Global, letters: &str) -> Result<Option<Vec<Fate>>, AllocError> {
+    let mut fates = Vec::new(alloc);
+    if letters == "-" {
+        return Ok(Some(fates));
+    }
+    for letter in letters.chars() {
+        fates.push(match letter {
+            '.' => Fate::Pass,
+            'n' => Fate::Busy,
+            'd' => Fate::LostDown,
+            'u' => Fate::LostUp,
+            'a' => Fate::LostAck,
+            _ => return Ok(None),
+        })?;
+    }
+    Ok(Some(fates))
 }

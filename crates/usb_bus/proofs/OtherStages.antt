@@ -19,7 +19,7 @@ use Rattle.usb_device.specs.Step as device
 use Rattle.usb_bus.specs.declared.fate.Fate.{Fate}
 use Rattle.usb_bus.specs.declared.fate.Fate.TheVariants.{Pass, Busy, LostDown, LostUp, LostAck}
 use Rattle.usb_bus.specs.Fates.{lost, busy, ack_lost}
-use Rattle.usb_bus.specs.Bus.{Ends, HostEnd, step, hears, with_ack}
+use Rattle.usb_bus.specs.Bus.{Ends, HostEnd, step, hears, acknowledged}
 use Rattle.usb_bus.specs.inside.Coupled.{Stages, IsReading, Coupled, IsCut}
 use Rattle.usb_bus.specs.Answering.{IsAnswering}
 
@@ -103,8 +103,8 @@ module _ (answer : State → SetupPacket → Outcome) (cut : ℕ) (s : State) (q
       if s.address == s.address then replies AckReply s (begun x (answer s x)) false else replies NoReply s at false
 
   abbrev carried_setup : SetupPacket → DeviceStage → Bool → Fate → Served
-  carried_setup x at pending Pass = with_ack answer cut (served_setup x at)
-  carried_setup x at pending Busy = with_ack answer cut (served_setup x at)
+  carried_setup x at pending Pass = acknowledged answer cut Pass (served_setup x at)
+  carried_setup x at pending Busy = acknowledged answer cut Pass (served_setup x at)
   carried_setup x at pending LostDown = record { reply = NoReply; device = record { state = s; stage = at; pending = pending } }
   carried_setup x at pending LostUp = record { reply = NoReply; device = (served_setup x at).device }
   carried_setup x at pending LostAck = served_setup x at

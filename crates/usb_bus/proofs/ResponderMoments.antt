@@ -13,7 +13,7 @@ use Rattle.usb_device.specs.Beside.{Response, beside}
 use Rattle.usb_bus.specs.declared.fate.Fate.{Fate}
 use Rattle.usb_bus.specs.declared.fate.Fate.TheVariants.{Pass, Busy, LostDown, LostUp, LostAck}
 use Rattle.usb_bus.specs.Fates.{lost, busy, ack_lost, losses, busies, acks_lost}
-use Rattle.usb_bus.specs.Bus.{HostEnd, Ends, is_data, hears, with_ack, carried, exchanged, step}
+use Rattle.usb_bus.specs.Bus.{HostEnd, Ends, is_data, hears, acknowledged, carried, exchanged, step}
 use Rattle.usb_bus.specs.Answering.{IsTable}
 use Rattle.usb_bus.specs.Attempt.{begins}
 use Rattle.usb_bus.specs.inside.Coupled.{Stages, Coupled}
@@ -34,13 +34,13 @@ module _ (room : ℕ) (table : State → SetupPacket → Outcome) (packet : ℕ)
   acked_alike : (r r' : Responds) (d : DeviceView) → acked (both r') packet d ≡ acked (both r) packet d
   acked_alike r r' d = sym ((one_device room table r' packet).acks d) ∙ (one_device room table r packet).acks d
 
-  acks_alike : (r r' : Responds) (x : Served) → with_ack (both r') packet x ≡ with_ack (both r) packet x
+  acks_alike : (r r' : Responds) (x : Served) → acknowledged (both r') packet Pass x ≡ acknowledged (both r) packet Pass x
   acks_alike r r' x = ap (λ y. record { reply = x.reply; device = if is_data x.reply then y else x.device }) (acked_alike r r' x.device)
 
   carries_alike : (r r' : Responds) (d : DeviceView) (sent : Sent) → ((ready : Bool) → served (both r') packet d sent ready ≡ served (both r) packet d sent ready) →
       (fate : Fate) → carried (both r') packet d sent fate ≡ carried (both r) packet d sent fate
-  carries_alike r r' d sent same Pass = ap (with_ack (both r') packet) (same true) ∙ acks_alike r r' (served (both r) packet d sent true)
-  carries_alike r r' d sent same Busy = ap (with_ack (both r') packet) (same false) ∙ acks_alike r r' (served (both r) packet d sent false)
+  carries_alike r r' d sent same Pass = ap (acknowledged (both r') packet Pass) (same true) ∙ acks_alike r r' (served (both r) packet d sent true)
+  carries_alike r r' d sent same Busy = ap (acknowledged (both r') packet Pass) (same false) ∙ acks_alike r r' (served (both r) packet d sent false)
   carries_alike r r' d sent same LostDown = refl
   carries_alike r r' d sent same LostUp = ap (λ x. record { reply = NoReply; device = x.device }) (same true)
   carries_alike r r' d sent same LostAck = same true

@@ -7,7 +7,7 @@ use Rattle.usb_device.specs.declared.state.State.{State}
 use Rattle.usb_device.specs.Requests.{Outcome}
 use Rattle.usb_device.specs.Step.{DeviceView, Served, served, acked}
 use Rattle.usb_bus.specs.declared.fate.Fate.{Fate}
-use Rattle.usb_bus.specs.declared.fate.Fate.TheVariants.{Pass, Busy, LostDown, LostUp, LostAck}
+use Rattle.usb_bus.specs.declared.fate.Fate.TheVariants.{Busy, LostDown, LostUp, LostAck}
 
 -- the host's end: its transfer, and the bytes that the transfer brought
 pub record HostEnd : Type 0 where
@@ -24,6 +24,23 @@ abbrev pub is_data : Reply → Bool
 is_data (DataReply toggle bytes) = true
 is_data reply = false
 
+-- The table of fates, column by column: whether a device hears what is sent, and is ready then,
+abbrev pub readiness : Fate → Option Bool
+readiness LostDown = None
+readiness Busy = Some false
+readiness fate = Some true
+
+-- what of its answer reaches the host,
+abbrev pub brought : Fate → Reply → Reply
+brought LostUp reply = NoReply
+brought fate reply = reply
+
+-- and whether the host's ACK of it reaches the device.
+abbrev pub acknowledges : Fate → Reply → Bool
+acknowledges LostUp reply = false
+acknowledges LostAck reply = false
+acknowledges fate reply = is_data reply
+
 -- the bytes, and those that came
 abbrev pub with_heard : List ℕ → Hearing → List ℕ
 with_heard got (Brings bytes) = got ++ bytes
@@ -39,17 +56,19 @@ hears h reply = host_after h.got (taken h.transfer reply)
 
 -- for any answers to requests, and any packet size of the device
 module _ (answer : State → Setup → Outcome) (packet : ℕ) where
-  -- the host's ACK arrives, where the reply is data
-  abbrev pub with_ack : Served → Served
-  with_ack r = record { reply = r.reply; device = if is_data r.reply then acked answer packet r.device else r.device }
+  -- an answer under a fate, and the device once the host's ACK has reached it or not
+  abbrev pub acknowledged : Fate → Served → Served
+  acknowledged fate r = record { reply = r.reply; device = if acknowledges fate r.reply then acked answer packet r.device else r.device }
+
+  -- a device that hears nothing, or that hears and is ready or not
+  abbrev pub carried_to : DeviceView → Sent → Fate → Option Bool → Served
+  carried_to d sent fate None = record { reply = NoReply; device = d }
+  carried_to d sent fate (Some ready) =
+      let r = acknowledged fate (served answer packet d sent ready) in record { reply = brought fate r.reply; device = r.device }
 
   -- What comes back of a transaction under a fate, and the device after it.
   abbrev pub carried : DeviceView → Sent → Fate → Served
-  carried d sent Pass = with_ack (served answer packet d sent true)
-  carried d sent Busy = with_ack (served answer packet d sent false)
-  carried d sent LostDown = record { reply = NoReply; device = d }
-  carried d sent LostUp = record { reply = NoReply; device = (served answer packet d sent true).device }
-  carried d sent LostAck = served answer packet d sent true
+  carried d sent fate = carried_to d sent fate (readiness fate)
 
   -- a transaction, if one is due
   abbrev pub exchanged : HostEnd → DeviceView → Option Sent → Fate → Ends

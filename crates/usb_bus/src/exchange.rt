@@ -50,26 +50,16 @@ fn exchange(
     ensures failure { IfOk result (λ failure. failure ≡ failure_of transfer.new.stage) }
     ensures fewer { IsSome (due transfer.old) → left transfer.new < left transfer.old }
 {
-    match fate {
-        Fate::Pass | Fate::Busy => {
-            let answer = device.serve(t, fate == Fate::Pass);
-            let is_data = matches!(answer, Answer::Data(_, _));
-            let failure = hear(transfer, answer, bytes)?;
-            if is_data {
-                device.acked();
-            }
-            Ok(failure)
-        }
-        Fate::LostDown => hear(transfer, Answer::Silence, bytes),
-        Fate::LostUp => {
-            let _answer = device.serve(t, true);
-            hear(transfer, Answer::Silence, bytes)
-        }
-        Fate::LostAck => {
-            let answer = device.serve(t, true);
-            hear(transfer, answer, bytes)
-        }
+    let Some(ready) = fate.readiness() else {
+        return hear(transfer, Answer::Silence, bytes);
+    };
+    let answer = device.serve(t, ready);
+    let is_acked = fate.acknowledges(answer);
+    let failure = hear(transfer, fate.brought(answer), bytes)?;
+    if is_acked {
+        device.acked();
     }
+    Ok(failure)
 }
 
 /// What came of a transfer.

@@ -1,5 +1,8 @@
 //! What happens to one transaction.
 ghost use Rattle.std.specs.Prelude.{◌≡◌};
+ghost use Rattle.usb_fields.specs.Packet.{reply_of};
+
+use usb_fields::Answer;
 
 /// What a bus does to one transaction.
 ///
@@ -24,6 +27,7 @@ pub enum Fate {
 }
 
 impl Fate {
+    ghost use Rattle.usb_bus.specs.Bus.{acknowledges, brought, readiness};
     ghost use Rattle.usb_bus.specs.Run.{fate_at};
 
     /// The fate of a transaction by its number, counted from 0. After the list's end all pass.
@@ -39,6 +43,55 @@ impl Fate {
             fates[number as usize]
         } else {
             Fate::Pass
+        }
+    }
+
+    /// Whether a device is ready, where it hears what the host sends: the argument of
+    /// [`Device::serve`](usb_device::Device::serve).
+    ///
+    /// ```rust
+    /// assert_eq!(rt; Fate::Busy.readiness(), Some(false));
+    /// assert_eq!(rt; Fate::LostDown.readiness(), None);
+    /// ```
+    #[inline(always)]
+    pub fn readiness(self) -> Option<bool>
+        ensures { result ≡ readiness self }
+    {
+        match self {
+            Fate::LostDown => None,
+            Fate::Busy => Some(false),
+            Fate::LostUp | Fate::LostAck | Fate::Pass => Some(true),
+        }
+    }
+
+    /// What of the device's answer reaches the host.
+    ///
+    /// ```rust
+    /// assert_eq!(rt; Fate::LostUp.brought(Answer::Ack), Answer::Silence);
+    /// ```
+    #[inline(always)]
+    pub fn brought<'a>(self, answer: Answer<'a>) -> Answer<'a>
+        ensures { reply_of result ≡ brought self (reply_of answer.entry) }
+    {
+        match self {
+            Fate::LostUp => Answer::Silence,
+            Fate::LostDown | Fate::LostAck | Fate::Busy | Fate::Pass => answer,
+        }
+    }
+
+    /// Whether the host's ACK of the device's answer reaches the device:
+    /// [`Device::acked`](usb_device::Device::acked) is then the next call.
+    ///
+    /// ```rust
+    /// assert!(rt; !Fate::Pass.acknowledges(Answer::Nak));
+    /// ```
+    #[inline(always)]
+    pub fn acknowledges(self, answer: Answer<'_>) -> bool
+        ensures { result ≡ acknowledges self (reply_of answer.entry) }
+    {
+        match self {
+            Fate::LostUp | Fate::LostAck => false,
+            Fate::LostDown | Fate::Busy | Fate::Pass => matches!(answer, Answer::Data(_, _)),
         }
     }
 }

@@ -39,7 +39,7 @@ use Rattle.usb_device.specs.Step.{DeviceStage, Idle, Halted, Sending, StatusOut,
 use Rattle.usb_bus.specs.declared.fate.Fate.{Fate}
 use Rattle.usb_bus.specs.declared.fate.Fate.TheVariants as fates
 use Rattle.usb_bus.specs.Run.{fate_at}
-use Rattle.usb_bus.specs.Bus.{is_data, with_ack, carried}
+use Rattle.usb_bus.specs.Bus.{is_data, acknowledged, carried}
 use Rattle.usb_host.specs.Cost.{most, BringsBytes}
 use Rattle.usb_host.specs.Gathered.{Came, no_bytes, came_in}
 use Rattle.usb_host.specs.Laws.{Asks, HostsEnd}
@@ -400,7 +400,7 @@ module _ (f : DescriptorFile) (bytes : AreBytes (file_bytes f)) (table : State �
       by_pending true = record { state = acked_state_fits d.state d.stage h.state; stage = acked_stage_fits d.stage h.stage }
       by_pending false = h
 
-  with_ack_fits : (r : Served) → ServedFits r → ServedFits (with_ack table n r)
+  with_ack_fits : (r : Served) → ServedFits r → ServedFits (acknowledged table n fates.Pass r)
   with_ack_fits r h = by_data (is_data r.reply)
     where
       by_data : (b : Bool) → ServedFits (record { reply = r.reply; device = if b then acked table n r.device else r.device })

@@ -17,23 +17,14 @@ pub(crate) fn exchange(host: &mut Host, device: &mut Device<'_>, t: &Transaction
     ensures device { device.new ≡ record device.old { device = (carried (answer device.old.description.file) device.old.description.file.device.packet device.old.device (sent_of t.now) fate).device } }
     ensures fewer { (sent : Sent) → wanted host.old.phase ≡ WantsSent sent → left_to_ask host.new < left_to_ask host.old }
 {
-    match fate {
-        Fate::Pass | Fate::Busy => {
-            let answer = device.serve(t, fate == Fate::Pass);
-            let is_data = matches!(answer, Answer::Data(_, _));
-            host.take(answer);
-            if is_data {
-                device.acked();
-            }
-        }
-        Fate::LostDown => host.take(Answer::Silence),
-        Fate::LostUp => {
-            let _answer = device.serve(t, true);
-            host.take(Answer::Silence);
-        }
-        Fate::LostAck => {
-            let answer = device.serve(t, true);
-            host.take(answer);
-        }
+    let Some(ready) = fate.readiness() else {
+        host.take(Answer::Silence);
+        return;
+    };
+    let answer = device.serve(t, ready);
+    let is_acked = fate.acknowledges(answer);
+    host.take(fate.brought(answer));
+    if is_acked {
+        device.acked();
     }
 }

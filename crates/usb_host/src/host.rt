@@ -1,5 +1,5 @@
 //! The host.
-ghost use Rattle.std.specs.Prelude.{◌≡◌, ◌<◌, ◌≤◌, ◌&&◌, false, nat_lt, IsSome};
+ghost use Rattle.std.specs.Prelude.{◌≡◌, ◌<◌, ◌≤◌, ◌&&◌, nat_lt, IsSome};
 ghost use Rattle.usb_fields.specs.Packet.{Sent, reply_of};
 ghost use Rattle.usb_host.specs.Cost.{BringsBytes};
 ghost use Rattle.usb_host.specs.inside.Leading.{is_bus_trouble};
@@ -116,8 +116,8 @@ impl Host {
     /// Takes what the transaction that was due brought: the read in work goes on, or the next one begins, or there is
     /// an outcome. Where no transaction is due, nothing changes.
     ///
-    /// After `NoAnswer` or `Busy` a bus reset is due while attempts are left, and what was read is dropped. This is the
-    /// one call that takes memory; where that is wanting, the outcome is `Memory`.
+    /// After `NoAnswer` or `Busy` a bus reset is due while attempts are left, and what was read counts no more: it is
+    /// dropped with the reset. This is the one call that takes memory; where that is wanting, the outcome is `Memory`.
     ///
     /// ```rust
     /// host.take(Answer::Ack);
@@ -134,7 +134,9 @@ impl Host {
         let has_ended = self
             .reading
             .take(self.alloc, &self.limits, self.speed, answer);
-        self.reset_due = may_try_again(&self.reading, has_ended, self.resets, &self.limits);
+        if has_ended {
+            self.reset_due = may_try_again(&self.reading, self.resets, &self.limits);
+        }
     }
 
     /// How often the bus was reset: the attempts so far, at most the limit.
@@ -245,11 +247,10 @@ impl Host {
 
 /// Whether the bus is to blame for the end of a read, and attempts are left.
 #[inline(always)]
-fn may_try_again(reading: &Reading, has_ended: bool, resets: u8, limits: &Limits) -> bool
-    requires { has_ended ≡ false → is_bus_trouble (place_in reading.now) ≡ false }
+fn may_try_again(reading: &Reading, resets: u8, limits: &Limits) -> bool
     ensures { result ≡ (is_bus_trouble (place_in reading.now) && nat_lt resets limits.now.attempts) }
 {
-    has_ended && reading.due.is_bus_trouble() && resets < limits.attempts()
+    reading.due.is_bus_trouble() && resets < limits.attempts()
 }
 
 /// For the proof of a caller: the data of an answer are bytes.

@@ -1,26 +1,29 @@
--- The findings of a walk, rule by rule.
-use Rattle.std.proofs.Common.{◌≡◌, ℕ, ◌+◌, ◌<◌, ◌==◌, Bool, true, false, List, [], ◌∷◌, ◌++◌, refl, ap, sym, ◌∙◌, length, map, take, get_or, drop, arith}
+-- The findings in the order of the bytes, rule by rule.
+use Rattle.std.proofs.Common.{◌≡◌, ℕ, suc, ◌+◌, ◌<◌, ◌==◌, Bool, true, false, List, [], ◌∷◌, ◌++◌, refl, ap, sym, ◌∙◌, length, take, get_or, drop, arith, length-append}
 use Rattle.std.specs.Prelude.{Option, Some, None, fold, if◌then◌else◌}
+use Rattle.std.specs.List.{flat_map}
 use Rattle.std.proofs.lemmas.List.{append-nil}
 use Rattle.std.proofs.lemmas.List.Elements.{filter-append}
-use Rattle.std.proofs.lemmas.Grind.{common_steps}
+use Rattle.std.proofs.lemmas.Grind.{common_steps, flat_map-append}
+use Rattle.usb_set.specs.declared.extra.Association.{Association}
+use Rattle.usb_set.specs.declared.extra.Extra.{Extra}
 use Rattle.usb_set.specs.declared.tree.Configuration.{Configuration}
 use Rattle.usb_set.specs.declared.tree.Endpoint.{Endpoint}
 use Rattle.usb_set.specs.declared.tree.Setting.{Setting}
-use Rattle.usb_set.specs.Parts.{associations_of}
+use Rattle.usb_set.specs.Parts.{association_in, setting_extras}
 use Rattle.usb_file_data.specs.declared.file.DescriptorFile.{DescriptorFile}
 use Rattle.usb_file_data.specs.declared.file.Other.{Other}
 use Rattle.usb_rules.specs.declared.finding.Finding.{Finding}
 use Rattle.usb_rules.specs.declared.finding.Part.{Part}
 use Rattle.usb_rules.specs.declared.finding.Part.TheVariants as parts
-use Rattle.usb_rules.specs.declared.place.Place.{Place}
 use Rattle.usb_rules.specs.declared.rule.Rule.{Rule}
 use Rattle.usb_rules.specs.declared.rule.Rule.TheVariants as rules
 use Rattle.usb_rules.specs.FindingLine.{rule_number}
-use Rattle.usb_rules.specs.Places.{at_each, finding, in_other, in_parts, in_sets, stands_in, when}
+use Rattle.usb_rules.specs.Places.{at_each, at_each_counted, finding, in_other, in_parts, in_sets, when}
 use Rattle.usb_rules.specs.Findings.{addresses, associations, attributes, descriptors, endpoint_counts, findings_where, part_findings, interface_counts, missing_default_settings, number_gaps, of_qualifier, packet_sizes, repeated_addresses, repeated_settings, shared_addresses, values}
-use Rattle.usb_rules.specs.Rules.{address_of, binds_missing_interface, has_number_gap, lacks_default_setting, wrong_address, wrong_attributes, wrong_endpoint_count, wrong_interface_count, wrong_packet_size, wrong_qualifier, wrong_value}
-use Rattle.usb_rules.specs.inside.Walk.{by_rule, broken, endpoint_at, in_endpoint, in_file, in_other_part, in_part, in_set, in_setting, of_rule, place, set_at, setting_at, shared_with, stood}
+use Rattle.usb_rules.specs.InOrder.{association_count, at_associations, at_configuration, at_endpoint, at_interface, by_rule, endpoint_associations, endpoint_in_order, file_in_order, of_rule, other_in_order, part_in_order, set_in_order, setting_associations, setting_in_order, without_sets}
+use Rattle.usb_rules.specs.Rules.{binds_missing_interface, has_number_gap, lacks_default_setting, repeats_address, repeats_setting, shares_address, wrong_address, wrong_attributes, wrong_endpoint_count, wrong_interface_count, wrong_packet_size, wrong_qualifier, wrong_value}
+use Rattle.usb_rules.proofs.Walking.{each_append}
 
 -- a loop's next place
 pub fold_next : {A B : Type 0} (f : B → A → B) (xs : List A) (i : ℕ) (x : A) (old new whole : B) → i < length xs → x ≡ get_or xs i x
@@ -33,343 +36,365 @@ pub each_along : {A B : Type 0} (f g : ℕ → A → List B) → ((i : ℕ) (x :
 each_along f g h i [] = refl
 each_along f g h i (x ∷ xs) = let here = h i x in let rest = each_along f g h (i + 1) xs in cc
 
-pub each_none : {A B : Type 0} (f : ℕ → A → List B) → ((i : ℕ) (x : A) → f i x ≡ []) → (i : ℕ) (xs : List A) → at_each f i xs ≡ []
+each_none : {A B : Type 0} (f : ℕ → A → List B) → ((i : ℕ) (x : A) → f i x ≡ []) → (i : ℕ) (xs : List A) → at_each f i xs ≡ []
 each_none f h i [] = refl
 each_none f h i (x ∷ xs) = ap (λ ys. ys ++ at_each f (i + 1) xs) (h i x) ∙ each_none f h (i + 1) xs
 
-pub of_each : {A : Type 0} (r : Rule) (f : ℕ → A → List Finding) (i : ℕ) (xs : List A) → of_rule r (at_each f i xs) ≡ at_each (λ j x. of_rule r (f j x)) i xs
-of_each r f i [] = refl
-of_each r f i (x ∷ xs) = filter-append _ (f i x) (at_each f (i + 1) xs) ∙ ap (λ ys. of_rule r (f i x) ++ ys) (of_each r f (i + 1) xs)
+of_each : {A : Type 0} (r : Rule) (f g : ℕ → A → List Finding) → ((i : ℕ) (x : A) → of_rule r (f i x) ≡ g i x) → (i : ℕ) (xs : List A)
+    → of_rule r (at_each f i xs) ≡ at_each g i xs
+of_each r f g h i [] = refl
+of_each r f g h i (x ∷ xs) =
+    filter-append _ (f i x) (at_each f (i + 1) xs) ∙ ap (λ ys. ys ++ of_rule r (at_each f (i + 1) xs)) (h i x) ∙ ap (λ ys. g i x ++ ys) (of_each r f g h (i + 1) xs)
+
+-- where what is found doesn't depend on the count
+of_counted : {A : Type 0} (r : Rule) (size : A → ℕ) (f : ℕ → ℕ → A → List Finding) (g : ℕ → A → List Finding)
+    → ((i n : ℕ) (x : A) → of_rule r (f i n x) ≡ g i x) → (i n : ℕ) (xs : List A) → of_rule r (at_each_counted size f i n xs) ≡ at_each g i xs
+of_counted r size f g h i n [] = refl
+of_counted r size f g h i n (x ∷ xs) =
+    filter-append _ (f i n x) (at_each_counted size f (i + 1) (n + size x) xs)
+    ∙ ap (λ ys. ys ++ of_rule r (at_each_counted size f (i + 1) (n + size x) xs)) (h i n x)
+    ∙ ap (λ ys. g i x ++ ys) (of_counted r size f g h (i + 1) (n + size x) xs)
+
+-- where it is what the elements have, numbered by the count
+of_numbered : {A B : Type 0} (r : Rule) (size : A → ℕ) (f : ℕ → ℕ → A → List Finding) (g : ℕ → B → List Finding) (has : A → List B)
+    → ((x : A) → size x ≡ length (has x)) → ((i n : ℕ) (x : A) → of_rule r (f i n x) ≡ at_each g n (has x)) → (i n : ℕ) (xs : List A)
+    → of_rule r (at_each_counted size f i n xs) ≡ at_each g n (flat_map has xs)
+of_numbered r size f g has long h i n [] = refl
+of_numbered r size f g has long h i n (x ∷ xs) =
+    filter-append _ (f i n x) (at_each_counted size f (i + 1) (n + size x) xs)
+    ∙ ap (λ ys. ys ++ of_rule r (at_each_counted size f (i + 1) (n + size x) xs)) (h i n x)
+    ∙ ap (λ ys. at_each g n (has x) ++ ys) (of_numbered r size f g has long h (i + 1) (n + size x) xs)
+    ∙ ap (λ k. at_each g n (has x) ++ at_each g (n + k) (flat_map has xs)) (long x)
+    ∙ sym (each_append g n (has x) (flat_map has xs))
+
+-- of lists one after another
+of_two : (r : Rule) (a b a' b' : List Finding) → of_rule r a ≡ a' → of_rule r b ≡ b' → of_rule r (a ++ b) ≡ a' ++ b'
+of_two r a b a' b' one two = filter-append _ a b ∙ ap (λ zs. zs ++ of_rule r b) one ∙ ap (λ zs. a' ++ zs) two
+
+of_three : (r : Rule) (a b c a' b' c' : List Finding) → of_rule r a ≡ a' → of_rule r b ≡ b' → of_rule r c ≡ c' → of_rule r (a ++ b ++ c) ≡ a' ++ b' ++ c'
+of_three r a b c a' b' c' one two three = of_two r (a ++ b) c (a' ++ b') c' (of_two r a b a' b' one two) three
+
+of_four : (r : Rule) (a b c d a' b' c' d' : List Finding) → of_rule r a ≡ a' → of_rule r b ≡ b' → of_rule r c ≡ c' → of_rule r d ≡ d'
+    → of_rule r (a ++ b ++ c ++ d) ≡ a' ++ b' ++ c' ++ d'
+of_four r a b c d a' b' c' d' one two three four = of_two r (a ++ b ++ c) d (a' ++ b' ++ c') d' (of_three r a b c a' b' c' one two three) four
 
 -- the findings of another rule are left out, and those of the rule stay
-abbrev pub pick : Rule → Rule → List Finding → List Finding
+abbrev pick : Rule → Rule → List Finding → List Finding
 pick r q xs = if rule_number q == rule_number r then xs else []
 
 none_picked : (b : Bool) → ◌≡◌ {A = List Finding} [] (if b then [] else [])
 none_picked true = refl
 none_picked false = refl
 
-pub of_when : (r : Rule) (b : Bool) (x : Finding) → of_rule r (when b x) ≡ pick r x.rule (when b x)
+of_when : (r : Rule) (b : Bool) (x : Finding) → of_rule r (when b x) ≡ pick r x.rule (when b x)
 of_when r true x = refl
 of_when r false x = none_picked (rule_number x.rule == rule_number r)
 
--- ---- each rule's findings of the walk
+-- ---- at each descriptor
 
-abbrev endpoint_of : Rule → Place → (ℕ → Bool) → (ℕ → Bool) → Endpoint → List Finding
-endpoint_of r at here elsewhere e =
-    pick r rules.V6 (when (wrong_address e.address) (broken rules.V6 at))
-    ++ pick r rules.V7 (when (here e.address) (broken rules.V7 at))
-    ++ pick r rules.V8 (when (elsewhere e.address) (broken rules.V8 at))
-    ++ pick r rules.V12 (when (wrong_packet_size e.max_packet) (broken rules.V12 at))
+abbrev configuration_of : Rule → Part → List Configuration → ℕ → Configuration → List Finding
+configuration_of r part before i c =
+    pick r rules.V1 (when (wrong_interface_count c) (finding rules.V1 part i 0 0))
+    ++ pick r rules.V2 (when (has_number_gap c) (finding rules.V2 part i 0 0))
+    ++ pick r rules.V9 (when (wrong_attributes c) (finding rules.V9 part i 0 0))
+    ++ pick r rules.V10 (when (wrong_value before c) (finding rules.V10 part i 0 0))
 
--- of two lists
-of_both : (r : Rule) (xs ys xs' ys' : List Finding) → of_rule r xs ≡ xs' → of_rule r ys ≡ ys' → of_rule r (xs ++ ys) ≡ xs' ++ ys'
-of_both r xs ys xs' ys' one two = filter-append _ xs ys ∙ ap (λ zs. zs ++ of_rule r ys) one ∙ ap (λ zs. xs' ++ zs) two
+of_configuration : (r : Rule) (part : Part) (before : List Configuration) (i : ℕ) (c : Configuration) → of_rule r (at_configuration part before i c) ≡ configuration_of r part before i c
+of_configuration r part before i c =
+    of_four r _ _ _ _ _ _ _ _ (of_when r (wrong_interface_count c) (finding rules.V1 part i 0 0)) (of_when r (has_number_gap c) (finding rules.V2 part i 0 0))
+    (of_when r (wrong_attributes c) (finding rules.V9 part i 0 0)) (of_when r (wrong_value before c) (finding rules.V10 part i 0 0))
 
-of_endpoint : (r : Rule) (at : Place) (here elsewhere : ℕ → Bool) (e : Endpoint) → of_rule r (in_endpoint at here elsewhere e) ≡ endpoint_of r at here elsewhere e
-of_endpoint r at here elsewhere e =
-    of_both r _ _ _ _
-    (of_both r _ _ _ _ (of_both r _ _ _ _ (of_when r (wrong_address e.address) (broken rules.V6 at)) (of_when r (here e.address) (broken rules.V7 at)))
-    (of_when r (elsewhere e.address) (broken rules.V8 at)))
-    (of_when r (wrong_packet_size e.max_packet) (broken rules.V12 at))
+abbrev interface_of : Rule → Part → ℕ → List Setting → ℕ → Setting → List Finding
+interface_of r part i settings j s =
+    pick r rules.V3 (when (repeats_setting (take j settings) s) (finding rules.V3 part i j 0))
+    ++ pick r rules.V4 (when (lacks_default_setting settings (take j settings) s) (finding rules.V4 part i j 0))
+    ++ pick r rules.V5 (when (wrong_endpoint_count s) (finding rules.V5 part i j 0))
 
-abbrev endpoints_of : Rule → Place → (ℕ → ℕ → Bool) → Setting → ℕ → Endpoint → List Finding
-endpoints_of r at elsewhere s k e =
-    endpoint_of r (place at.part at.set at.setting k) (stands_in (map address_of (take k s.endpoints))) (λ b. elsewhere b s.number) e
+of_interface : (r : Rule) (part : Part) (i : ℕ) (settings : List Setting) (j : ℕ) (s : Setting) → of_rule r (at_interface part i settings j s) ≡ interface_of r part i settings j s
+of_interface r part i settings j s =
+    of_three r _ _ _ _ _ _ (of_when r (repeats_setting (take j settings) s) (finding rules.V3 part i j 0))
+    (of_when r (lacks_default_setting settings (take j settings) s) (finding rules.V4 part i j 0)) (of_when r (wrong_endpoint_count s) (finding rules.V5 part i j 0))
 
-abbrev setting_of : Rule → Place → (ℕ → ℕ → Bool) → (ℕ → ℕ → Bool) → Setting → List Finding
-setting_of r at alternates elsewhere s =
-    pick r rules.V3 (when (alternates s.number s.alternate) (broken rules.V3 at))
-    ++ pick r rules.V5 (when (wrong_endpoint_count s) (broken rules.V5 at))
-    ++ at_each (endpoints_of r at elsewhere s) 0 s.endpoints
+abbrev endpoint_of : Rule → Part → ℕ → List Setting → ℕ → Setting → ℕ → Endpoint → List Finding
+endpoint_of r part i before j s k e =
+    pick r rules.V6 (when (wrong_address e.address) (finding rules.V6 part i j k))
+    ++ pick r rules.V7 (when (repeats_address (take k s.endpoints) e) (finding rules.V7 part i j k))
+    ++ pick r rules.V8 (when (shares_address before s e) (finding rules.V8 part i j k))
+    ++ pick r rules.V12 (when (wrong_packet_size e.max_packet) (finding rules.V12 part i j k))
 
-of_setting : (r : Rule) (at : Place) (alternates elsewhere : ℕ → ℕ → Bool) (s : Setting) → of_rule r (in_setting at alternates elsewhere s) ≡ setting_of r at alternates elsewhere s
-of_setting r at alternates elsewhere s =
-    of_both r _ _ _ _
-    (of_both r _ _ _ _ (of_when r (alternates s.number s.alternate) (broken rules.V3 at)) (of_when r (wrong_endpoint_count s) (broken rules.V5 at)))
-    (of_each r (endpoint_at at elsewhere s) 0 s.endpoints
-    ∙ each_along _ _ (λ k e. of_endpoint r (place at.part at.set at.setting k) (stands_in (map address_of (take k s.endpoints))) (λ b. elsewhere b s.number) e) 0 s.endpoints)
+of_endpoint : (r : Rule) (part : Part) (i : ℕ) (before : List Setting) (j : ℕ) (s : Setting) (k : ℕ) (e : Endpoint) → of_rule r (at_endpoint part i before j s k e) ≡ endpoint_of r part i before j s k e
+of_endpoint r part i before j s k e =
+    of_four r _ _ _ _ _ _ _ _ (of_when r (wrong_address e.address) (finding rules.V6 part i j k)) (of_when r (repeats_address (take k s.endpoints) e) (finding rules.V7 part i j k))
+    (of_when r (shares_address before s e) (finding rules.V8 part i j k)) (of_when r (wrong_packet_size e.max_packet) (finding rules.V12 part i j k))
 
-abbrev settings_of : Rule → Place → List Setting → ℕ → Setting → List Finding
-settings_of r at settings j s = setting_of r (place at.part at.set j 0) (stood (take j settings)) (shared_with (take j settings)) s
+-- V13 in a set, by the number of the association
+abbrev binds : Part → ℕ → List Setting → ℕ → Association → List Finding
+binds part i settings k a = when (binds_missing_interface settings a) (finding rules.V13 part i k 0)
 
-abbrev set_of : Rule → Place → Configuration → List Finding
-set_of r at c =
-    at_each (settings_of r at c.settings) 0 c.settings
-    ++ pick r rules.V1 (when (wrong_interface_count c) (broken rules.V1 at))
-    ++ pick r rules.V2 (when (has_number_gap c) (broken rules.V2 at))
-    ++ at_each (λ j s. pick r rules.V4 (when (lacks_default_setting c.settings (take j c.settings) s) (finding rules.V4 at.part at.set j 0))) 0 c.settings
-    ++ pick r rules.V9 (when (wrong_attributes c) (broken rules.V9 at))
-    ++ at_each (λ k a. pick r rules.V13 (when (binds_missing_interface c.settings a) (finding rules.V13 at.part at.set k 0))) 0 (associations_of c)
+-- ---- in a set, of each rule but V13
 
-of_set : (r : Rule) (at : Place) (c : Configuration) → of_rule r (in_set at c) ≡ set_of r at c
-of_set r at c =
-    of_both r _ _ _ _
-    (of_both r _ _ _ _
-    (of_both r _ _ _ _
-    (of_both r _ _ _ _
-    (of_both r _ _ _ _
-    (of_each r (setting_at at c.settings) 0 c.settings
-    ∙ each_along _ _ (λ j s. of_setting r (place at.part at.set j 0) (stood (take j c.settings)) (shared_with (take j c.settings)) s) 0 c.settings)
-    (of_when r (wrong_interface_count c) (broken rules.V1 at)))
-    (of_when r (has_number_gap c) (broken rules.V2 at)))
-    (of_each r _ 0 c.settings
-    ∙ each_along _ _ (λ j s. of_when r (lacks_default_setting c.settings (take j c.settings) s) (finding rules.V4 at.part at.set j 0)) 0 c.settings))
-    (of_when r (wrong_attributes c) (broken rules.V9 at)))
-    (of_each r _ 0 (associations_of c)
-    ∙ each_along _ _ (λ k a. of_when r (binds_missing_interface c.settings a) (finding rules.V13 at.part at.set k 0)) 0 (associations_of c))
+-- a rule that isn't V13
+abbrev IsOther : Rule → Type 0
+IsOther r = (xs : List Finding) → pick r rules.V13 xs ≡ []
 
-abbrev sets_of : Rule → Part → List Configuration → ℕ → Configuration → List Finding
-sets_of r part sets i c = pick r rules.V10 (when (wrong_value (take i sets) c) (finding rules.V10 part i 0 0)) ++ set_of r (place part i 0 0) c
+of_associations : (r : Rule) → IsOther r → (part : Part) (i : ℕ) (settings : List Setting) (n : ℕ) (extras : List Extra) → of_rule r (at_associations part i settings n extras) ≡ []
+of_associations r other part i settings n extras =
+    of_each r (binds part i settings) (λ k a. []) (λ k a. of_when r (binds_missing_interface settings a) (finding rules.V13 part i k 0) ∙ other _) n (flat_map association_in extras)
+    ∙ each_none (λ k a. []) (λ k a. refl) n (flat_map association_in extras)
 
-abbrev pub part_of : Rule → Part → List Configuration → List Finding
-part_of r part sets = pick r rules.V10 (when (length sets == 0) (finding rules.V10 part 0 0 0)) ++ at_each (sets_of r part sets) 0 sets
+-- in a setting, without extras
+abbrev setting_of : Rule → Part → ℕ → List Setting → ℕ → Setting → List Finding
+setting_of r part i settings j s = interface_of r part i settings j s ++ at_each (endpoint_of r part i (take j settings) j s) 0 s.endpoints
 
-of_part : (r : Rule) (part : Part) (sets : List Configuration) → of_rule r (in_part part sets) ≡ part_of r part sets
-of_part r part sets =
-    of_both r _ _ _ _ (of_when r (length sets == 0) (finding rules.V10 part 0 0 0))
-    (of_each r (set_at part sets) 0 sets
-    ∙ each_along _ _ (λ i c. of_both r _ _ _ _ (of_when r (wrong_value (take i sets) c) (finding rules.V10 part i 0 0)) (of_set r (place part i 0 0) c)) 0 sets)
+of_setting : (r : Rule) → IsOther r → (part : Part) (i : ℕ) (settings : List Setting) (j n : ℕ) (s : Setting) → of_rule r (setting_in_order part i settings j n s) ≡ setting_of r part i settings j s
+of_setting r other part i settings j n s =
+    of_three r (at_interface part i settings j s) _ _ _ [] _ (of_interface r part i settings j s) (of_associations r other part i settings n s.extras)
+    (of_counted r endpoint_associations (endpoint_in_order part i settings j s) (endpoint_of r part i (take j settings) j s)
+    (λ k m e. of_two r (at_endpoint part i (take j settings) j s k e) _ _ [] (of_endpoint r part i (take j settings) j s k e) (of_associations r other part i settings m e.extras) ∙ append-nil _)
+    0 (n + association_count s.extras) s.endpoints)
+    ∙ ap (λ l. l ++ at_each (endpoint_of r part i (take j settings) j s) 0 s.endpoints) (append-nil (interface_of r part i settings j s))
 
-abbrev other_of : Rule → Option Other → List Finding
-other_of r None = []
-other_of r (Some other) = pick r rules.V11 (when (wrong_qualifier other.qualifier) (finding rules.V11 parts.Other 0 0 0)) ++ part_of r parts.Other other.sets
+abbrev set_of : Rule → Part → List Configuration → ℕ → Configuration → List Finding
+set_of r part before i c = configuration_of r part before i c ++ at_each (setting_of r part i c.settings) 0 c.settings
 
-of_other : (r : Rule) (other : Option Other) → of_rule r (in_other_part other) ≡ other_of r other
-of_other r None = refl
-of_other r (Some other) =
-    of_both r _ _ _ _ (of_when r (wrong_qualifier other.qualifier) (finding rules.V11 parts.Other 0 0 0)) (of_part r parts.Other other.sets)
+of_set : (r : Rule) → IsOther r → (part : Part) (before : List Configuration) (i : ℕ) (c : Configuration) → of_rule r (set_in_order part before i c) ≡ set_of r part before i c
+of_set r other part before i c =
+    of_three r (at_configuration part before i c) _ _ _ [] _ (of_configuration r part before i c) (of_associations r other part i c.settings 0 c.extras)
+    (of_counted r setting_associations (setting_in_order part i c.settings) (setting_of r part i c.settings) (λ j n s. of_setting r other part i c.settings j n s) 0 (association_count c.extras) c.settings)
+    ∙ ap (λ l. l ++ at_each (setting_of r part i c.settings) 0 c.settings) (append-nil (configuration_of r part before i c))
 
-pub file_of : Rule → Bool → DescriptorFile → List Finding
-file_of r wrong f = pick r rules.V11 (when wrong (finding rules.V11 parts.Device 0 0 0)) ++ part_of r parts.Main f.sets ++ other_of r f.other
+-- where neither interfaces nor endpoints break the rule
+no_settings : (r : Rule) → ((part : Part) (i : ℕ) (settings : List Setting) (j : ℕ) (s : Setting) → setting_of r part i settings j s ≡ [])
+    → (part : Part) (i : ℕ) (c : Configuration) → at_each (setting_of r part i c.settings) 0 c.settings ≡ []
+no_settings r none part i c = each_none (setting_of r part i c.settings) (λ j s. none part i c.settings j s) 0 c.settings
 
-pub of_file : (r : Rule) (wrong : Bool) (f : DescriptorFile) → of_rule r (in_file wrong f) ≡ file_of r wrong f
-unfolding file_of
-of_file r wrong f =
-    of_both r _ _ _ _ (of_both r _ _ _ _ (of_when r wrong (finding rules.V11 parts.Device 0 0 0)) (of_part r parts.Main f.sets)) (of_other r f.other)
+set_1 : (part : Part) (before : List Configuration) (i : ℕ) (c : Configuration) → set_of rules.V1 part before i c ≡ interface_counts part i c
+set_1 part before i c =
+    ap (λ l. configuration_of rules.V1 part before i c ++ l) (no_settings rules.V1 (λ part i settings j s. each_none _ (λ k e. refl) 0 s.endpoints) part i c)
+    ∙ append-nil _ ∙ append-nil _ ∙ append-nil _ ∙ append-nil _
 
--- ---- rule by rule
+set_2 : (part : Part) (before : List Configuration) (i : ℕ) (c : Configuration) → set_of rules.V2 part before i c ≡ number_gaps part i c
+set_2 part before i c =
+    ap (λ l. configuration_of rules.V2 part before i c ++ l) (no_settings rules.V2 (λ part i settings j s. each_none _ (λ k e. refl) 0 s.endpoints) part i c)
+    ∙ append-nil _ ∙ append-nil _ ∙ append-nil _
 
--- where none of the rules on settings is asked for
-abbrev IsQuiet : Rule → Type 0
-IsQuiet r = (at : Place) (alternates elsewhere : ℕ → ℕ → Bool) (s : Setting) → setting_of r at alternates elsewhere s ≡ []
+set_9 : (part : Part) (before : List Configuration) (i : ℕ) (c : Configuration) → set_of rules.V9 part before i c ≡ attributes part i c
+set_9 part before i c =
+    ap (λ l. configuration_of rules.V9 part before i c ++ l) (no_settings rules.V9 (λ part i settings j s. each_none _ (λ k e. refl) 0 s.endpoints) part i c)
+    ∙ append-nil _ ∙ append-nil _
 
-quiet : (r : Rule) → IsQuiet r → (at : Place) (all settings : List Setting) (j : ℕ) → at_each (settings_of r at all) j settings ≡ []
-quiet r none at all settings j = each_none (settings_of r at all) (λ i s. none (place at.part at.set i 0) (stood (take i all)) (shared_with (take i all)) s) j settings
+set_10 : (part : Part) (before : List Configuration) (i : ℕ) (c : Configuration) → set_of rules.V10 part before i c ≡ when (wrong_value before c) (finding rules.V10 part i 0 0)
+set_10 part before i c =
+    ap (λ l. configuration_of rules.V10 part before i c ++ l) (no_settings rules.V10 (λ part i settings j s. each_none _ (λ k e. refl) 0 s.endpoints) part i c)
+    ∙ append-nil _
 
-quiet_1 : IsQuiet rules.V1
-quiet_1 at alternates elsewhere s = each_none (endpoints_of rules.V1 at elsewhere s) (λ k e. refl) 0 s.endpoints
+set_11 : (part : Part) (before : List Configuration) (i : ℕ) (c : Configuration) → set_of rules.V11 part before i c ≡ []
+set_11 part before i c = no_settings rules.V11 (λ part i settings j s. each_none _ (λ k e. refl) 0 s.endpoints) part i c
 
-quiet_2 : IsQuiet rules.V2
-quiet_2 at alternates elsewhere s = each_none (endpoints_of rules.V2 at elsewhere s) (λ k e. refl) 0 s.endpoints
+set_3 : (part : Part) (before : List Configuration) (i : ℕ) (c : Configuration) → set_of rules.V3 part before i c ≡ repeated_settings part i c
+set_3 part before i c =
+    each_along (setting_of rules.V3 part i c.settings) _
+    (λ j s. ap (λ l. interface_of rules.V3 part i c.settings j s ++ l) (each_none _ (λ k e. refl) 0 s.endpoints) ∙ append-nil _ ∙ append-nil _ ∙ append-nil _) 0 c.settings
 
-quiet_4 : IsQuiet rules.V4
-quiet_4 at alternates elsewhere s = each_none (endpoints_of rules.V4 at elsewhere s) (λ k e. refl) 0 s.endpoints
+set_4 : (part : Part) (before : List Configuration) (i : ℕ) (c : Configuration) → set_of rules.V4 part before i c ≡ missing_default_settings part i c
+set_4 part before i c =
+    each_along (setting_of rules.V4 part i c.settings) _
+    (λ j s. ap (λ l. interface_of rules.V4 part i c.settings j s ++ l) (each_none _ (λ k e. refl) 0 s.endpoints) ∙ append-nil _ ∙ append-nil _) 0 c.settings
 
-quiet_9 : IsQuiet rules.V9
-quiet_9 at alternates elsewhere s = each_none (endpoints_of rules.V9 at elsewhere s) (λ k e. refl) 0 s.endpoints
+set_5 : (part : Part) (before : List Configuration) (i : ℕ) (c : Configuration) → set_of rules.V5 part before i c ≡ endpoint_counts part i c
+set_5 part before i c =
+    each_along (setting_of rules.V5 part i c.settings) _
+    (λ j s. ap (λ l. interface_of rules.V5 part i c.settings j s ++ l) (each_none _ (λ k e. refl) 0 s.endpoints) ∙ append-nil _) 0 c.settings
 
-quiet_10 : IsQuiet rules.V10
-quiet_10 at alternates elsewhere s = each_none (endpoints_of rules.V10 at elsewhere s) (λ k e. refl) 0 s.endpoints
+set_6 : (part : Part) (before : List Configuration) (i : ℕ) (c : Configuration) → set_of rules.V6 part before i c ≡ addresses part i c
+set_6 part before i c =
+    each_along (setting_of rules.V6 part i c.settings) _
+    (λ j s. each_along _ _ (λ k e. append-nil _ ∙ append-nil _ ∙ append-nil _) 0 s.endpoints) 0 c.settings
 
-quiet_11 : IsQuiet rules.V11
-quiet_11 at alternates elsewhere s = each_none (endpoints_of rules.V11 at elsewhere s) (λ k e. refl) 0 s.endpoints
+set_7 : (part : Part) (before : List Configuration) (i : ℕ) (c : Configuration) → set_of rules.V7 part before i c ≡ repeated_addresses part i c
+set_7 part before i c =
+    each_along (setting_of rules.V7 part i c.settings) _
+    (λ j s. each_along _ _ (λ k e. append-nil _ ∙ append-nil _) 0 s.endpoints) 0 c.settings
 
-quiet_13 : IsQuiet rules.V13
-quiet_13 at alternates elsewhere s = each_none (endpoints_of rules.V13 at elsewhere s) (λ k e. refl) 0 s.endpoints
+set_8 : (part : Part) (before : List Configuration) (i : ℕ) (c : Configuration) → set_of rules.V8 part before i c ≡ shared_addresses part i c
+set_8 part before i c =
+    each_along (setting_of rules.V8 part i c.settings) _
+    (λ j s. each_along _ _ (λ k e. append-nil _) 0 s.endpoints) 0 c.settings
 
-set_1 : (at : Place) (c : Configuration) → set_of rules.V1 at c ≡ when (wrong_interface_count c) (broken rules.V1 at)
-set_1 at c =
-    let w = when (wrong_interface_count c) (broken rules.V1 at) in
-    let s = ap (λ x. x ++ w) (quiet rules.V1 quiet_1 at c.settings c.settings 0) in
-    let t = ap (λ x. x ++ []) (quiet rules.V1 quiet_1 at c.settings c.settings 0) in
-    let m = each_none (λ j s. pick rules.V1 rules.V4 (when (lacks_default_setting c.settings (take j c.settings) s) (finding rules.V4 at.part at.set j 0))) (λ j s. refl) 0 c.settings in
-    let a = each_none (λ k a. pick rules.V1 rules.V13 (when (binds_missing_interface c.settings a) (finding rules.V13 at.part at.set k 0))) (λ k a. refl) 0 (associations_of c) in
-    let n = append-nil w in
-    cc
+set_12 : (part : Part) (before : List Configuration) (i : ℕ) (c : Configuration) → set_of rules.V12 part before i c ≡ packet_sizes part i c
+set_12 part before i c = each_along (setting_of rules.V12 part i c.settings) _ (λ j s. each_along _ _ (λ k e. refl) 0 s.endpoints) 0 c.settings
 
-set_2 : (at : Place) (c : Configuration) → set_of rules.V2 at c ≡ when (has_number_gap c) (broken rules.V2 at)
-set_2 at c =
-    let w = when (has_number_gap c) (broken rules.V2 at) in
-    let s = ap (λ x. x ++ w) (quiet rules.V2 quiet_2 at c.settings c.settings 0) in
-    let t = ap (λ x. x ++ []) (quiet rules.V2 quiet_2 at c.settings c.settings 0) in
-    let m = each_none (λ j s. pick rules.V2 rules.V4 (when (lacks_default_setting c.settings (take j c.settings) s) (finding rules.V4 at.part at.set j 0))) (λ j s. refl) 0 c.settings in
-    let a = each_none (λ k a. pick rules.V2 rules.V13 (when (binds_missing_interface c.settings a) (finding rules.V13 at.part at.set k 0))) (λ k a. refl) 0 (associations_of c) in
-    let n = append-nil w in
-    cc
+-- ---- V13 in a set
 
-set_9 : (at : Place) (c : Configuration) → set_of rules.V9 at c ≡ when (wrong_attributes c) (broken rules.V9 at)
-set_9 at c =
-    let w = when (wrong_attributes c) (broken rules.V9 at) in
-    let s = ap (λ x. x ++ w) (quiet rules.V9 quiet_9 at c.settings c.settings 0) in
-    let t = ap (λ x. x ++ []) (quiet rules.V9 quiet_9 at c.settings c.settings 0) in
-    let m = each_none (λ j s. pick rules.V9 rules.V4 (when (lacks_default_setting c.settings (take j c.settings) s) (finding rules.V4 at.part at.set j 0))) (λ j s. refl) 0 c.settings in
-    let a = each_none (λ k a. pick rules.V9 rules.V13 (when (binds_missing_interface c.settings a) (finding rules.V13 at.part at.set k 0))) (λ k a. refl) 0 (associations_of c) in
-    let n = append-nil w in
-    cc
+binds_here : (part : Part) (i : ℕ) (settings : List Setting) (n : ℕ) (extras : List Extra)
+    → of_rule rules.V13 (at_associations part i settings n extras) ≡ at_each (binds part i settings) n (flat_map association_in extras)
+binds_here part i settings n extras =
+    of_each rules.V13 (binds part i settings) (binds part i settings) (λ k a. of_when rules.V13 (binds_missing_interface settings a) (finding rules.V13 part i k 0)) n (flat_map association_in extras)
 
-set_4 : (at : Place) (c : Configuration) → set_of rules.V4 at c ≡ missing_default_settings at.part at.set c
-set_4 at c =
-    let t = ap (λ x. x ++ []) (quiet rules.V4 quiet_4 at c.settings c.settings 0) in
-    let m = missing_default_settings at.part at.set c in
-    let a = each_none (λ k a. pick rules.V4 rules.V13 (when (binds_missing_interface c.settings a) (finding rules.V13 at.part at.set k 0))) (λ k a. refl) 0 (associations_of c) in
-    let n = append-nil m in
-    cc
+-- the associations of the parts of a list
+parts_have : {A : Type 0} (extras : A → List Extra) (xs : List A) → flat_map (λ x. flat_map association_in (extras x)) xs ≡ flat_map association_in (flat_map extras xs)
+parts_have extras [] = refl
+parts_have extras (x ∷ xs) = ap (λ l. flat_map association_in (extras x) ++ l) (parts_have extras xs) ∙ sym (flat_map-append association_in (extras x) (flat_map extras xs))
 
-set_13 : (at : Place) (c : Configuration) → set_of rules.V13 at c ≡ associations at.part at.set c
-set_13 at c =
-    let t = ap (λ x. x ++ []) (quiet rules.V13 quiet_13 at c.settings c.settings 0) in
-    let m = each_none (λ j s. pick rules.V13 rules.V4 (when (lacks_default_setting c.settings (take j c.settings) s) (finding rules.V4 at.part at.set j 0))) (λ j s. refl) 0 c.settings in
-    cc
+-- behind extras come those of the parts
+binds_on : {A : Type 0} (part : Part) (i : ℕ) (settings : List Setting) (n : ℕ) (first : List Extra) (extras : A → List Extra) (xs : List A)
+    → at_each (binds part i settings) n (flat_map association_in first) ++ at_each (binds part i settings) (n + association_count first) (flat_map (λ x. flat_map association_in (extras x)) xs)
+    ≡ at_each (binds part i settings) n (flat_map association_in (first ++ flat_map extras xs))
+binds_on part i settings n first extras xs =
+    ap (λ l. at_each (binds part i settings) n (flat_map association_in first) ++ at_each (binds part i settings) (n + association_count first) l) (parts_have extras xs)
+    ∙ sym (each_append (binds part i settings) n (flat_map association_in first) (flat_map association_in (flat_map extras xs)))
+    ∙ ap (at_each (binds part i settings) n) (sym (flat_map-append association_in first (flat_map extras xs)))
 
-set_10 : (at : Place) (c : Configuration) → set_of rules.V10 at c ≡ []
-set_10 at c =
-    let t = ap (λ x. x ++ []) (quiet rules.V10 quiet_10 at c.settings c.settings 0) in
-    let m = each_none (λ j s. pick rules.V10 rules.V4 (when (lacks_default_setting c.settings (take j c.settings) s) (finding rules.V4 at.part at.set j 0))) (λ j s. refl) 0 c.settings in
-    let a = each_none (λ k a. pick rules.V10 rules.V13 (when (binds_missing_interface c.settings a) (finding rules.V13 at.part at.set k 0))) (λ k a. refl) 0 (associations_of c) in
-    cc
+binds_in_setting : (part : Part) (i : ℕ) (settings : List Setting) (j n : ℕ) (s : Setting)
+    → of_rule rules.V13 (setting_in_order part i settings j n s) ≡ at_each (binds part i settings) n (flat_map association_in (setting_extras s))
+binds_in_setting part i settings j n s =
+    of_three rules.V13 (at_interface part i settings j s) _ _ [] _ _ (of_interface rules.V13 part i settings j s) (binds_here part i settings n s.extras)
+    (of_numbered rules.V13 endpoint_associations (endpoint_in_order part i settings j s) (binds part i settings) (λ e. flat_map association_in e.extras) (λ e. refl)
+    (λ k m e. of_two rules.V13 (at_endpoint part i (take j settings) j s k e) _ [] _ (of_endpoint rules.V13 part i (take j settings) j s k e) (binds_here part i settings m e.extras))
+    0 (n + association_count s.extras) s.endpoints)
+    ∙ binds_on part i settings n s.extras (λ e. e.extras) s.endpoints
 
-set_11 : (at : Place) (c : Configuration) → set_of rules.V11 at c ≡ []
-set_11 at c =
-    let t = ap (λ x. x ++ []) (quiet rules.V11 quiet_11 at c.settings c.settings 0) in
-    let m = each_none (λ j s. pick rules.V11 rules.V4 (when (lacks_default_setting c.settings (take j c.settings) s) (finding rules.V4 at.part at.set j 0))) (λ j s. refl) 0 c.settings in
-    let a = each_none (λ k a. pick rules.V11 rules.V13 (when (binds_missing_interface c.settings a) (finding rules.V13 at.part at.set k 0))) (λ k a. refl) 0 (associations_of c) in
-    cc
+set_13 : (part : Part) (before : List Configuration) (i : ℕ) (c : Configuration) → of_rule rules.V13 (set_in_order part before i c) ≡ associations part i c
+set_13 part before i c =
+    of_three rules.V13 (at_configuration part before i c) _ _ [] _ _ (of_configuration rules.V13 part before i c) (binds_here part i c.settings 0 c.extras)
+    (of_numbered rules.V13 setting_associations (setting_in_order part i c.settings) (binds part i c.settings) (λ s. flat_map association_in (setting_extras s)) (λ s. refl)
+    (λ j n s. binds_in_setting part i c.settings j n s) 0 (association_count c.extras) c.settings)
+    ∙ ap (λ k. at_each (binds part i c.settings) 0 (flat_map association_in c.extras) ++ at_each (binds part i c.settings) k (flat_map (λ s. flat_map association_in (setting_extras s)) c.settings))
+    (let e : association_count c.extras ≡ 0 + association_count c.extras = omega arith in e)
+    ∙ binds_on part i c.settings 0 c.extras setting_extras c.settings
 
-set_3 : (at : Place) (c : Configuration) → set_of rules.V3 at c ≡ repeated_settings at.part at.set c
-set_3 at c =
-    let e = each_along (settings_of rules.V3 at c.settings) _ (λ j s. ap (λ xs. when (stood (take j c.settings) s.number s.alternate) (finding rules.V3 at.part at.set j 0) ++ [] ++ xs) (each_none (endpoints_of rules.V3 (place at.part at.set j 0) (shared_with (take j c.settings)) s) (λ k e. refl) 0 s.endpoints) ∙ append-nil _ ∙ append-nil _) 0 c.settings in
-    let m = each_none (λ j s. pick rules.V3 rules.V4 (when (lacks_default_setting c.settings (take j c.settings) s) (finding rules.V4 at.part at.set j 0))) (λ j s. refl) 0 c.settings in
-    let a = each_none (λ k a. pick rules.V3 rules.V13 (when (binds_missing_interface c.settings a) (finding rules.V13 at.part at.set k 0))) (λ k a. refl) 0 (associations_of c) in
-    let n = append-nil (repeated_settings at.part at.set c) in
-    cc
+-- ---- in a part
 
-set_5 : (at : Place) (c : Configuration) → set_of rules.V5 at c ≡ endpoint_counts at.part at.set c
-set_5 at c =
-    let e = each_along (settings_of rules.V5 at c.settings) _ (λ j s. ap (λ xs. when (wrong_endpoint_count s) (finding rules.V5 at.part at.set j 0) ++ xs) (each_none (endpoints_of rules.V5 (place at.part at.set j 0) (shared_with (take j c.settings)) s) (λ k e. refl) 0 s.endpoints) ∙ append-nil _) 0 c.settings in
-    let m = each_none (λ j s. pick rules.V5 rules.V4 (when (lacks_default_setting c.settings (take j c.settings) s) (finding rules.V4 at.part at.set j 0))) (λ j s. refl) 0 c.settings in
-    let a = each_none (λ k a. pick rules.V5 rules.V13 (when (binds_missing_interface c.settings a) (finding rules.V13 at.part at.set k 0))) (λ k a. refl) 0 (associations_of c) in
-    let n = append-nil (endpoint_counts at.part at.set c) in
-    cc
+of_part : (r : Rule) (found : Part → ℕ → Configuration → List Finding)
+    → ((part : Part) (before : List Configuration) (i : ℕ) (c : Configuration) → of_rule r (set_in_order part before i c) ≡ found part i c)
+    → (part : Part) (sets : List Configuration) → of_rule r (part_in_order part sets) ≡ in_sets found part sets
+of_part r found is part sets = of_each r (λ i c. set_in_order part (take i sets) i c) (found part) (λ i c. is part (take i sets) i c) 0 sets
 
-set_6 : (at : Place) (c : Configuration) → set_of rules.V6 at c ≡ addresses at.part at.set c
-set_6 at c =
-    let e = each_along (settings_of rules.V6 at c.settings) _ (λ j s. each_along (endpoints_of rules.V6 (place at.part at.set j 0) (shared_with (take j c.settings)) s) _ (λ k e. append-nil _ ∙ append-nil _ ∙ append-nil _) 0 s.endpoints) 0 c.settings in
-    let m = each_none (λ j s. pick rules.V6 rules.V4 (when (lacks_default_setting c.settings (take j c.settings) s) (finding rules.V4 at.part at.set j 0))) (λ j s. refl) 0 c.settings in
-    let a = each_none (λ k a. pick rules.V6 rules.V13 (when (binds_missing_interface c.settings a) (finding rules.V13 at.part at.set k 0))) (λ k a. refl) 0 (associations_of c) in
-    let n = append-nil (addresses at.part at.set c) in
-    cc
+part_1 : (part : Part) (sets : List Configuration) → of_rule rules.V1 (part_in_order part sets) ≡ in_sets interface_counts part sets
+part_1 = of_part rules.V1 interface_counts (λ part before i c. of_set rules.V1 (λ xs. refl) part before i c ∙ set_1 part before i c)
 
-set_7 : (at : Place) (c : Configuration) → set_of rules.V7 at c ≡ repeated_addresses at.part at.set c
-set_7 at c =
-    let e = each_along (settings_of rules.V7 at c.settings) _ (λ j s. each_along (endpoints_of rules.V7 (place at.part at.set j 0) (shared_with (take j c.settings)) s) _ (λ k e. append-nil _ ∙ append-nil _) 0 s.endpoints) 0 c.settings in
-    let m = each_none (λ j s. pick rules.V7 rules.V4 (when (lacks_default_setting c.settings (take j c.settings) s) (finding rules.V4 at.part at.set j 0))) (λ j s. refl) 0 c.settings in
-    let a = each_none (λ k a. pick rules.V7 rules.V13 (when (binds_missing_interface c.settings a) (finding rules.V13 at.part at.set k 0))) (λ k a. refl) 0 (associations_of c) in
-    let n = append-nil (repeated_addresses at.part at.set c) in
-    cc
+part_2 : (part : Part) (sets : List Configuration) → of_rule rules.V2 (part_in_order part sets) ≡ in_sets number_gaps part sets
+part_2 = of_part rules.V2 number_gaps (λ part before i c. of_set rules.V2 (λ xs. refl) part before i c ∙ set_2 part before i c)
 
-set_8 : (at : Place) (c : Configuration) → set_of rules.V8 at c ≡ shared_addresses at.part at.set c
-set_8 at c =
-    let e = each_along (settings_of rules.V8 at c.settings) _ (λ j s. each_along (endpoints_of rules.V8 (place at.part at.set j 0) (shared_with (take j c.settings)) s) _ (λ k e. append-nil _) 0 s.endpoints) 0 c.settings in
-    let m = each_none (λ j s. pick rules.V8 rules.V4 (when (lacks_default_setting c.settings (take j c.settings) s) (finding rules.V4 at.part at.set j 0))) (λ j s. refl) 0 c.settings in
-    let a = each_none (λ k a. pick rules.V8 rules.V13 (when (binds_missing_interface c.settings a) (finding rules.V13 at.part at.set k 0))) (λ k a. refl) 0 (associations_of c) in
-    let n = append-nil (shared_addresses at.part at.set c) in
-    cc
+part_3 : (part : Part) (sets : List Configuration) → of_rule rules.V3 (part_in_order part sets) ≡ in_sets repeated_settings part sets
+part_3 = of_part rules.V3 repeated_settings (λ part before i c. of_set rules.V3 (λ xs. refl) part before i c ∙ set_3 part before i c)
 
-set_12 : (at : Place) (c : Configuration) → set_of rules.V12 at c ≡ packet_sizes at.part at.set c
-set_12 at c =
-    let e = each_along (settings_of rules.V12 at c.settings) _ (λ j s. each_along (endpoints_of rules.V12 (place at.part at.set j 0) (shared_with (take j c.settings)) s) _ (λ k e. refl) 0 s.endpoints) 0 c.settings in
-    let m = each_none (λ j s. pick rules.V12 rules.V4 (when (lacks_default_setting c.settings (take j c.settings) s) (finding rules.V4 at.part at.set j 0))) (λ j s. refl) 0 c.settings in
-    let a = each_none (λ k a. pick rules.V12 rules.V13 (when (binds_missing_interface c.settings a) (finding rules.V13 at.part at.set k 0))) (λ k a. refl) 0 (associations_of c) in
-    let n = append-nil (packet_sizes at.part at.set c) in
-    cc
+part_4 : (part : Part) (sets : List Configuration) → of_rule rules.V4 (part_in_order part sets) ≡ in_sets missing_default_settings part sets
+part_4 = of_part rules.V4 missing_default_settings (λ part before i c. of_set rules.V4 (λ xs. refl) part before i c ∙ set_4 part before i c)
 
-in_part_is : (r : Rule) (found : Part → ℕ → Configuration → List Finding) → ((xs : List Finding) → pick r rules.V10 xs ≡ [])
-    → ((part : Part) (i : ℕ) (c : Configuration) → set_of r (place part i 0 0) c ≡ found part i c)
-    → (part : Part) (sets : List Configuration) → part_of r part sets ≡ in_sets found part sets
-in_part_is r found none is part sets =
-    ap (λ xs. xs ++ at_each (sets_of r part sets) 0 sets) (none _)
-    ∙ each_along (sets_of r part sets) (found part) (λ i c. ap (λ xs. xs ++ set_of r (place part i 0 0) c) (none _) ∙ is part i c) 0 sets
+part_5 : (part : Part) (sets : List Configuration) → of_rule rules.V5 (part_in_order part sets) ≡ in_sets endpoint_counts part sets
+part_5 = of_part rules.V5 endpoint_counts (λ part before i c. of_set rules.V5 (λ xs. refl) part before i c ∙ set_5 part before i c)
 
-other_is : (r : Rule) (found : Part → ℕ → Configuration → List Finding) → ((xs : List Finding) → pick r rules.V10 xs ≡ []) → ((xs : List Finding) → pick r rules.V11 xs ≡ [])
-    → ((part : Part) (i : ℕ) (c : Configuration) → set_of r (place part i 0 0) c ≡ found part i c)
-    → (other : Option Other) → other_of r other ≡ in_other (in_sets found) other
-other_is r found none quiet is None = refl
-other_is r found none quiet is (Some other) =
-    ap (λ xs. xs ++ part_of r parts.Other other.sets) (quiet _) ∙ in_part_is r found none is parts.Other other.sets
+part_6 : (part : Part) (sets : List Configuration) → of_rule rules.V6 (part_in_order part sets) ≡ in_sets addresses part sets
+part_6 = of_part rules.V6 addresses (λ part before i c. of_set rules.V6 (λ xs. refl) part before i c ∙ set_6 part before i c)
 
-in_file_is : (r : Rule) (found : Part → ℕ → Configuration → List Finding) → ((xs : List Finding) → pick r rules.V10 xs ≡ []) → ((xs : List Finding) → pick r rules.V11 xs ≡ [])
-    → ((part : Part) (i : ℕ) (c : Configuration) → set_of r (place part i 0 0) c ≡ found part i c)
-    → (wrong : Bool) (f : DescriptorFile) → file_of r wrong f ≡ in_parts (in_sets found) f
-unfolding file_of
-in_file_is r found none quiet is wrong f =
-    ap (λ xs. xs ++ part_of r parts.Main f.sets ++ other_of r f.other) (quiet _)
-    ∙ ap (λ xs. xs ++ other_of r f.other) (in_part_is r found none is parts.Main f.sets)
-    ∙ ap (λ xs. in_sets found parts.Main f.sets ++ xs) (other_is r found none quiet is f.other)
+part_7 : (part : Part) (sets : List Configuration) → of_rule rules.V7 (part_in_order part sets) ≡ in_sets repeated_addresses part sets
+part_7 = of_part rules.V7 repeated_addresses (λ part before i c. of_set rules.V7 (λ xs. refl) part before i c ∙ set_7 part before i c)
 
-values_are : (part : Part) (sets : List Configuration) → part_of rules.V10 part sets ≡ values part sets
+part_8 : (part : Part) (sets : List Configuration) → of_rule rules.V8 (part_in_order part sets) ≡ in_sets shared_addresses part sets
+part_8 = of_part rules.V8 shared_addresses (λ part before i c. of_set rules.V8 (λ xs. refl) part before i c ∙ set_8 part before i c)
+
+part_9 : (part : Part) (sets : List Configuration) → of_rule rules.V9 (part_in_order part sets) ≡ in_sets attributes part sets
+part_9 = of_part rules.V9 attributes (λ part before i c. of_set rules.V9 (λ xs. refl) part before i c ∙ set_9 part before i c)
+
+part_10 : (part : Part) (sets : List Configuration) → of_rule rules.V10 (part_in_order part sets) ≡ at_each (λ i c. when (wrong_value (take i sets) c) (finding rules.V10 part i 0 0)) 0 sets
+part_10 part sets =
+    of_each rules.V10 (λ i c. set_in_order part (take i sets) i c) _ (λ i c. of_set rules.V10 (λ xs. refl) part (take i sets) i c ∙ set_10 part (take i sets) i c) 0 sets
+
+part_11 : (part : Part) (sets : List Configuration) → of_rule rules.V11 (part_in_order part sets) ≡ []
+part_11 part sets =
+    of_part rules.V11 (λ part i c. []) (λ part before i c. of_set rules.V11 (λ xs. refl) part before i c ∙ set_11 part before i c) part sets
+    ∙ each_none (λ i c. []) (λ i c. refl) 0 sets
+
+part_12 : (part : Part) (sets : List Configuration) → of_rule rules.V12 (part_in_order part sets) ≡ in_sets packet_sizes part sets
+part_12 = of_part rules.V12 packet_sizes (λ part before i c. of_set rules.V12 (λ xs. refl) part before i c ∙ set_12 part before i c)
+
+part_13 : (part : Part) (sets : List Configuration) → of_rule rules.V13 (part_in_order part sets) ≡ in_sets associations part sets
+part_13 = of_part rules.V13 associations set_13
+
+-- ---- in a file
+
+-- a rule of sets alone
+of_other : (r : Rule) (found : Part → List Configuration → List Finding) → ((xs : List Finding) → pick r rules.V10 xs ≡ []) → ((xs : List Finding) → pick r rules.V11 xs ≡ [])
+    → ((part : Part) (sets : List Configuration) → of_rule r (part_in_order part sets) ≡ found part sets)
+    → (other : Option Other) → of_rule r (other_in_order other) ≡ in_other found other
+of_other r found no_value no_descriptor is None = refl
+of_other r found no_value no_descriptor is (Some o) =
+    of_three r (without_sets parts.Other o.sets) _ _ [] [] _ (of_when r (length o.sets == 0) (finding rules.V10 parts.Other 0 0 0) ∙ no_value _)
+    (of_when r (wrong_qualifier o.qualifier) (finding rules.V11 parts.Other 0 0 0) ∙ no_descriptor _) (is parts.Other o.sets)
+
+of_file : (r : Rule) (found : Part → List Configuration → List Finding) → ((xs : List Finding) → pick r rules.V10 xs ≡ []) → ((xs : List Finding) → pick r rules.V11 xs ≡ [])
+    → ((part : Part) (sets : List Configuration) → of_rule r (part_in_order part sets) ≡ found part sets)
+    → (wrong : Bool) (f : DescriptorFile) → of_rule r (file_in_order wrong f) ≡ in_parts found f
+of_file r found no_value no_descriptor is wrong f =
+    of_four r (without_sets parts.Main f.sets) _ _ _ [] [] _ _ (of_when r (length f.sets == 0) (finding rules.V10 parts.Main 0 0 0) ∙ no_value _)
+    (of_when r wrong (finding rules.V11 parts.Device 0 0 0) ∙ no_descriptor _) (is parts.Main f.sets) (of_other r found no_value no_descriptor is f.other)
+
+values_are : (part : Part) (sets : List Configuration) → of_rule rules.V10 (without_sets part sets) ++ of_rule rules.V10 (part_in_order part sets) ≡ values part sets
 values_are part sets =
-    ap (λ xs. when (length sets == 0) (finding rules.V10 part 0 0 0) ++ xs)
-    (each_along (sets_of rules.V10 part sets) _ (λ i c. ap (λ xs. when (wrong_value (take i sets) c) (finding rules.V10 part i 0 0) ++ xs) (set_10 (place part i 0 0) c) ∙ append-nil _) 0 sets)
+    ap (λ l. l ++ of_rule rules.V10 (part_in_order part sets)) (of_when rules.V10 (length sets == 0) (finding rules.V10 part 0 0 0))
+    ∙ ap (λ l. without_sets part sets ++ l) (part_10 part sets)
 
-other_values : (other : Option Other) → other_of rules.V10 other ≡ in_other values other
+other_values : (other : Option Other) → of_rule rules.V10 (other_in_order other) ≡ in_other values other
 other_values None = refl
-other_values (Some other) = values_are parts.Other other.sets
+other_values (Some o) =
+    of_three rules.V10 (without_sets parts.Other o.sets) _ _ _ [] _ refl (of_when rules.V10 (wrong_qualifier o.qualifier) (finding rules.V11 parts.Other 0 0 0)) refl
+    ∙ ap (λ l. l ++ of_rule rules.V10 (part_in_order parts.Other o.sets)) (append-nil _) ∙ values_are parts.Other o.sets
 
-file_values : (wrong : Bool) (f : DescriptorFile) → file_of rules.V10 wrong f ≡ in_parts values f
-unfolding file_of
+file_values : (wrong : Bool) (f : DescriptorFile) → of_rule rules.V10 (file_in_order wrong f) ≡ in_parts values f
 file_values wrong f =
-    ap (λ xs. xs ++ other_of rules.V10 f.other) (values_are parts.Main f.sets) ∙ ap (λ xs. values parts.Main f.sets ++ xs) (other_values f.other)
+    of_four rules.V10 (without_sets parts.Main f.sets) _ _ _ _ [] _ _ refl (of_when rules.V10 wrong (finding rules.V11 parts.Device 0 0 0)) refl (other_values f.other)
+    ∙ ap (λ l. l ++ of_rule rules.V10 (part_in_order parts.Main f.sets) ++ in_other values f.other) (append-nil _)
+    ∙ ap (λ l. l ++ in_other values f.other) (values_are parts.Main f.sets)
 
-no_part : (part : Part) (sets : List Configuration) → part_of rules.V11 part sets ≡ []
-no_part part sets = each_none (sets_of rules.V11 part sets) (λ i c. set_11 (place part i 0 0) c) 0 sets
-
-other_descriptors : (other : Option Other) → other_of rules.V11 other ≡ of_qualifier other
+other_descriptors : (other : Option Other) → of_rule rules.V11 (other_in_order other) ≡ of_qualifier other
 other_descriptors None = refl
-other_descriptors (Some other) =
-    ap (λ xs. when (wrong_qualifier other.qualifier) (finding rules.V11 parts.Other 0 0 0) ++ xs) (no_part parts.Other other.sets) ∙ append-nil _
+other_descriptors (Some o) =
+    of_three rules.V11 (without_sets parts.Other o.sets) _ _ [] _ [] (of_when rules.V11 (length o.sets == 0) (finding rules.V10 parts.Other 0 0 0))
+    (of_when rules.V11 (wrong_qualifier o.qualifier) (finding rules.V11 parts.Other 0 0 0)) (part_11 parts.Other o.sets)
+    ∙ append-nil _
 
-file_descriptors : (wrong : Bool) (f : DescriptorFile) → file_of rules.V11 wrong f ≡ descriptors wrong f
-unfolding file_of
+file_descriptors : (wrong : Bool) (f : DescriptorFile) → of_rule rules.V11 (file_in_order wrong f) ≡ descriptors wrong f
 file_descriptors wrong f =
-    let d = when wrong (finding rules.V11 parts.Device 0 0 0) in
-    ap (λ xs. d ++ xs ++ other_of rules.V11 f.other) (no_part parts.Main f.sets) ∙ ap (λ xs. xs ++ other_of rules.V11 f.other) (append-nil d)
-    ∙ ap (λ xs. d ++ xs) (other_descriptors f.other)
+    of_four rules.V11 (without_sets parts.Main f.sets) _ _ _ [] _ [] _ (of_when rules.V11 (length f.sets == 0) (finding rules.V10 parts.Main 0 0 0))
+    (of_when rules.V11 wrong (finding rules.V11 parts.Device 0 0 0)) (part_11 parts.Main f.sets) (other_descriptors f.other)
+    ∙ ap (λ l. l ++ of_qualifier f.other) (append-nil _)
 
--- the findings of the walk, rule by rule, are the findings of the file
-pub sorted : (wrong : Bool) (f : DescriptorFile) → by_rule (in_file wrong f) ≡ findings_where wrong f
+-- what is found in a file in the order of its bytes, rule by rule, are its findings
+pub sorted : (wrong : Bool) (f : DescriptorFile) → by_rule (file_in_order wrong f) ≡ findings_where wrong f
 sorted wrong f =
-    let r1 = of_file rules.V1 wrong f ∙ in_file_is rules.V1 interface_counts (λ xs. refl) (λ xs. refl) (λ part i c. set_1 (place part i 0 0) c) wrong f in
-    let r2 = of_file rules.V2 wrong f ∙ in_file_is rules.V2 number_gaps (λ xs. refl) (λ xs. refl) (λ part i c. set_2 (place part i 0 0) c) wrong f in
-    let r3 = of_file rules.V3 wrong f ∙ in_file_is rules.V3 repeated_settings (λ xs. refl) (λ xs. refl) (λ part i c. set_3 (place part i 0 0) c) wrong f in
-    let r4 = of_file rules.V4 wrong f ∙ in_file_is rules.V4 missing_default_settings (λ xs. refl) (λ xs. refl) (λ part i c. set_4 (place part i 0 0) c) wrong f in
-    let r5 = of_file rules.V5 wrong f ∙ in_file_is rules.V5 endpoint_counts (λ xs. refl) (λ xs. refl) (λ part i c. set_5 (place part i 0 0) c) wrong f in
-    let r6 = of_file rules.V6 wrong f ∙ in_file_is rules.V6 addresses (λ xs. refl) (λ xs. refl) (λ part i c. set_6 (place part i 0 0) c) wrong f in
-    let r7 = of_file rules.V7 wrong f ∙ in_file_is rules.V7 repeated_addresses (λ xs. refl) (λ xs. refl) (λ part i c. set_7 (place part i 0 0) c) wrong f in
-    let r8 = of_file rules.V8 wrong f ∙ in_file_is rules.V8 shared_addresses (λ xs. refl) (λ xs. refl) (λ part i c. set_8 (place part i 0 0) c) wrong f in
-    let r9 = of_file rules.V9 wrong f ∙ in_file_is rules.V9 attributes (λ xs. refl) (λ xs. refl) (λ part i c. set_9 (place part i 0 0) c) wrong f in
-    let r10 = of_file rules.V10 wrong f ∙ file_values wrong f in
-    let r11 = of_file rules.V11 wrong f ∙ file_descriptors wrong f in
-    let r12 = of_file rules.V12 wrong f ∙ in_file_is rules.V12 packet_sizes (λ xs. refl) (λ xs. refl) (λ part i c. set_12 (place part i 0 0) c) wrong f in
-    let r13 = of_file rules.V13 wrong f ∙ in_file_is rules.V13 associations (λ xs. refl) (λ xs. refl) (λ part i c. set_13 (place part i 0 0) c) wrong f in
+    let r1 = of_file rules.V1 (in_sets interface_counts) (λ xs. refl) (λ xs. refl) part_1 wrong f in
+    let r2 = of_file rules.V2 (in_sets number_gaps) (λ xs. refl) (λ xs. refl) part_2 wrong f in
+    let r3 = of_file rules.V3 (in_sets repeated_settings) (λ xs. refl) (λ xs. refl) part_3 wrong f in
+    let r4 = of_file rules.V4 (in_sets missing_default_settings) (λ xs. refl) (λ xs. refl) part_4 wrong f in
+    let r5 = of_file rules.V5 (in_sets endpoint_counts) (λ xs. refl) (λ xs. refl) part_5 wrong f in
+    let r6 = of_file rules.V6 (in_sets addresses) (λ xs. refl) (λ xs. refl) part_6 wrong f in
+    let r7 = of_file rules.V7 (in_sets repeated_addresses) (λ xs. refl) (λ xs. refl) part_7 wrong f in
+    let r8 = of_file rules.V8 (in_sets shared_addresses) (λ xs. refl) (λ xs. refl) part_8 wrong f in
+    let r9 = of_file rules.V9 (in_sets attributes) (λ xs. refl) (λ xs. refl) part_9 wrong f in
+    let r10 = file_values wrong f in
+    let r11 = file_descriptors wrong f in
+    let r12 = of_file rules.V12 (in_sets packet_sizes) (λ xs. refl) (λ xs. refl) part_12 wrong f in
+    let r13 = of_file rules.V13 (in_sets associations) (λ xs. refl) (λ xs. refl) part_13 wrong f in
     cc
 
--- those of a part, rule by rule, are the findings of the part
-pub sorted_part : (part : Part) (sets : List Configuration) → by_rule (in_part part sets) ≡ part_findings part sets
-sorted_part part sets =
-    let r1 = of_part rules.V1 part sets ∙ in_part_is rules.V1 interface_counts (λ xs. refl) (λ part i c. set_1 (place part i 0 0) c) part sets in
-    let r2 = of_part rules.V2 part sets ∙ in_part_is rules.V2 number_gaps (λ xs. refl) (λ part i c. set_2 (place part i 0 0) c) part sets in
-    let r3 = of_part rules.V3 part sets ∙ in_part_is rules.V3 repeated_settings (λ xs. refl) (λ part i c. set_3 (place part i 0 0) c) part sets in
-    let r4 = of_part rules.V4 part sets ∙ in_part_is rules.V4 missing_default_settings (λ xs. refl) (λ part i c. set_4 (place part i 0 0) c) part sets in
-    let r5 = of_part rules.V5 part sets ∙ in_part_is rules.V5 endpoint_counts (λ xs. refl) (λ part i c. set_5 (place part i 0 0) c) part sets in
-    let r6 = of_part rules.V6 part sets ∙ in_part_is rules.V6 addresses (λ xs. refl) (λ part i c. set_6 (place part i 0 0) c) part sets in
-    let r7 = of_part rules.V7 part sets ∙ in_part_is rules.V7 repeated_addresses (λ xs. refl) (λ part i c. set_7 (place part i 0 0) c) part sets in
-    let r8 = of_part rules.V8 part sets ∙ in_part_is rules.V8 shared_addresses (λ xs. refl) (λ part i c. set_8 (place part i 0 0) c) part sets in
-    let r9 = of_part rules.V9 part sets ∙ in_part_is rules.V9 attributes (λ xs. refl) (λ part i c. set_9 (place part i 0 0) c) part sets in
-    let r10 = of_part rules.V10 part sets ∙ values_are part sets in
-    let r11 = of_part rules.V11 part sets ∙ no_part part sets in
-    let r12 = of_part rules.V12 part sets ∙ in_part_is rules.V12 packet_sizes (λ xs. refl) (λ part i c. set_12 (place part i 0 0) c) part sets in
-    let r13 = of_part rules.V13 part sets ∙ in_part_is rules.V13 associations (λ xs. refl) (λ part i c. set_13 (place part i 0 0) c) part sets in
+-- what is found in a set alone
+pub sorted_set : (part : Part) (c : Configuration) → by_rule (part_in_order part (c ∷ [])) ≡ part_findings part (c ∷ [])
+sorted_set part c =
+    let sets = c ∷ [] in
+    let r1 = part_1 part sets in
+    let r2 = part_2 part sets in
+    let r3 = part_3 part sets in
+    let r4 = part_4 part sets in
+    let r5 = part_5 part sets in
+    let r6 = part_6 part sets in
+    let r7 = part_7 part sets in
+    let r8 = part_8 part sets in
+    let r9 = part_9 part sets in
+    let r10 = part_10 part sets in
+    let r11 = part_11 part sets in
+    let r12 = part_12 part sets in
+    let r13 = part_13 part sets in
     let before =
     in_sets interface_counts part sets
     ++ in_sets number_gaps part sets
@@ -383,3 +408,26 @@ sorted_part part sets =
     ++ values part sets in
     let none = append-nil before in
     cc
+
+-- ---- as many
+
+-- one finding more is one more of its rule
+one_more : (r : Rule) (part : Part) (i j k : ℕ) (found : List Finding) → length (by_rule (finding r part i j k ∷ found)) ≡ suc (length (by_rule found))
+one_more rules.V1 part i j k found = simp length-append (omega arith)
+one_more rules.V2 part i j k found = simp length-append (omega arith)
+one_more rules.V3 part i j k found = simp length-append (omega arith)
+one_more rules.V4 part i j k found = simp length-append (omega arith)
+one_more rules.V5 part i j k found = simp length-append (omega arith)
+one_more rules.V6 part i j k found = simp length-append (omega arith)
+one_more rules.V7 part i j k found = simp length-append (omega arith)
+one_more rules.V8 part i j k found = simp length-append (omega arith)
+one_more rules.V9 part i j k found = simp length-append (omega arith)
+one_more rules.V10 part i j k found = simp length-append (omega arith)
+one_more rules.V11 part i j k found = simp length-append (omega arith)
+one_more rules.V12 part i j k found = simp length-append (omega arith)
+one_more rules.V13 part i j k found = simp length-append (omega arith)
+
+-- no finding is lost, and none comes twice
+pub as_many : (found : List Finding) → length (by_rule found) ≡ length found
+as_many [] = refl
+as_many (x ∷ found) = one_more x.rule x.part x.set x.setting x.endpoint found ∙ ap suc (as_many found)

@@ -1,28 +1,29 @@
 -- Going over lists, and what stands before a place.
-use Rattle.std.proofs.Common.{◌≡◌, ℕ, zero, suc, inl, inr, ◌+◌, ◌<◌, ◌≤◌, ◌==◌, ◌&&◌, ◌||◌, not, nat_lt, Bool, true, false, List, [], ◌∷◌, ◌++◌, refl, ap, sym, ◌∙◌, length, map, get_or, take, drop, arith, append_assoc}
+use Rattle.std.proofs.Common.{◌≡◌, ℕ, zero, suc, inl, inr, ◌+◌, ◌<◌, ◌≤◌, ◌==◌, ◌&&◌, ◌||◌, not, nat_lt, Bool, true, false, List, [], ◌∷◌, ◌++◌, refl, ap, sym, ◌∙◌, length, map, get_or, take, drop, arith, append_assoc, length-append}
 use Rattle.std.specs.Prelude.{filter}
-use Rattle.std.specs.List.{list_any, range_with_len}
+use Rattle.std.specs.List.{flat_map, list_any, range_with_len}
 use Rattle.std.proofs.lemmas.Bool.{cases_lt}
 use Rattle.std.proofs.lemmas.Bool.Decides.{nat_tests}
 use Rattle.std.proofs.lemmas.List.{append-nil, length-map, map-append}
 use Rattle.std.proofs.lemmas.List.Elements.{filter-append}
-use Rattle.std.proofs.lemmas.Grind.{common_steps}
+use Rattle.std.proofs.lemmas.Grind.{common_steps, flat_map-append}
 use Rattle.usb_base.specs.Marks.{IsNextAbsent, marked}
 use Rattle.usb_base.proofs.Cells.{funext}
 use Rattle.usb_set.specs.declared.extra.Association.{Association}
 use Rattle.usb_set.specs.declared.tree.Endpoint.{Endpoint}
 use Rattle.usb_set.specs.declared.tree.Setting.{Setting}
-use Rattle.usb_set.specs.declared.tree.Configuration.{Configuration}
-use Rattle.usb_rules.specs.declared.finding.Part.{Part}
 use Rattle.usb_rules.specs.declared.finding.Finding.{Finding}
 use Rattle.usb_rules.specs.declared.rule.Rule.TheVariants as rules
-use Rattle.usb_rules.specs.Places.{at_each, finding, stands_in, when}
-use Rattle.usb_rules.specs.Rules.{address_of, has_elsewhere, is_first, interface_numbers, lacks_default_setting}
-use Rattle.usb_rules.specs.Findings.{missing_default_settings}
+use Rattle.usb_rules.specs.Places.{at_each, at_each_counted, finding, stands_in, when}
+use Rattle.usb_rules.specs.InOrder.{association_count, endpoint_associations, setting_associations}
+use Rattle.usb_set.specs.declared.extra.Extra.{Extra}
+use Rattle.usb_set.specs.Parts.{association_in}
+use Rattle.usb_rules.specs.declared.place.Place.{Place}
+use Rattle.usb_rules.specs.Rules.{address_of, has_elsewhere, is_first, interface_numbers}
 use Rattle.usb_rules.specs.inside.Addresses.{owned, owned_at}
-use Rattle.usb_rules.specs.inside.Interfaces.{AreEntered, Entered, first_at, first_of, misses_some, pair_too}
+use Rattle.usb_rules.specs.inside.Interfaces.{AreEntered, Entered, first_at, first_of, misses_some, pair_too, stood}
 use Rattle.usb_rules.specs.declared.interfaces.Interface.{Interface}
-use Rattle.usb_rules.specs.inside.Walk.{shared_with, stood}
+use Rattle.usb_rules.specs.inside.Walk.{in_extras, shared_with}
 
 pub append_again : {A : Type 0} (out xs ys : List A) → (out ++ xs) ++ ys ≡ out ++ (xs ++ ys)
 append_again out xs ys = append_assoc out xs ys
@@ -49,6 +50,83 @@ at_each_end f xs i out whole h e =
     let rest : drop i xs ≡ [] = grind (arith, common_steps) in
     let same = append-nil out in
     cc
+
+-- the same with a count
+pub counted_next : {A B : Type 0} (size : A → ℕ) (f : ℕ → ℕ → A → List B) (xs : List A) (i n m : ℕ) (x : A) (old new whole : List B)
+    → i < length xs → x ≡ get_or xs i x → old ++ at_each_counted size f i n (drop i xs) ≡ whole → new ≡ old ++ f i n x → m ≡ n + size x
+    → new ++ at_each_counted size f (i + 1) m (drop (i + 1) xs) ≡ whole
+counted_next size f xs i n m x old new whole below is whole_is new_is m_is =
+    let here : drop i xs ≡ x ∷ drop (i + 1) xs = grind (arith, common_steps) in
+    let step : at_each_counted size f i n (drop i xs) ≡ f i n x ++ at_each_counted size f (i + 1) (n + size x) (drop (i + 1) xs) = ap (at_each_counted size f i n) here in
+    let joined = append_assoc old (f i n x) (at_each_counted size f (i + 1) (n + size x) (drop (i + 1) xs)) in
+    ap (λ k. new ++ at_each_counted size f (i + 1) k (drop (i + 1) xs)) m_is
+    ∙ ap (λ l. l ++ at_each_counted size f (i + 1) (n + size x) (drop (i + 1) xs)) new_is
+    ∙ joined ∙ ap (λ l. old ++ l) (sym step) ∙ whole_is
+
+pub counted_end : {A B : Type 0} (size : A → ℕ) (f : ℕ → ℕ → A → List B) (xs : List A) (i n : ℕ) (out whole : List B) → length xs ≤ i
+    → out ++ at_each_counted size f i n (drop i xs) ≡ whole → out ≡ whole
+counted_end size f xs i n out whole h e =
+    let rest : drop i xs ≡ [] = grind (arith, common_steps) in
+    sym (append-nil out) ∙ ap (λ l. out ++ at_each_counted size f i n l) (sym rest) ∙ e
+
+-- of two lists one after the other
+pub each_append : {A B : Type 0} (f : ℕ → A → List B) (n : ℕ) (xs ys : List A) → at_each f n (xs ++ ys) ≡ at_each f n xs ++ at_each f (n + length xs) ys
+each_append f n [] ys = ap (λ k. at_each f k ys) (let e : n ≡ n + 0 = omega arith in e)
+each_append f n (x ∷ xs) ys =
+    ap (λ l. f n x ++ l) (each_append f (n + 1) xs ys)
+    ∙ ap (λ k. f n x ++ (at_each f (n + 1) xs ++ at_each f k ys)) (let e : n + 1 + length xs ≡ n + suc (length xs) = omega arith in e)
+    ∙ sym (append_assoc (f n x) (at_each f (n + 1) xs) (at_each f (n + suc (length xs)) ys))
+
+-- V13 at an extra, and at those behind it
+pub extras_next : (at : Place) (stands : ℕ → Bool) (xs : List Extra) (i n m : ℕ) (x : Extra) (old new whole : List Finding)
+    → i < length xs → x ≡ get_or xs i x → old ++ in_extras at stands n (drop i xs) ≡ whole → new ≡ old ++ in_extras at stands n (x ∷ [])
+    → m ≡ n + length (association_in x) → new ++ in_extras at stands m (drop (i + 1) xs) ≡ whole
+extras_next at stands xs i n m x old new whole below is whole_is new_is m_is =
+    let here : drop i xs ≡ x ∷ drop (i + 1) xs = grind (arith, common_steps) in
+    let told : ℕ → Association → List Finding = λ k a. when (misses_some stands a) (finding rules.V13 at.part at.set k 0) in
+    let rest = flat_map association_in (drop (i + 1) xs) in
+    let step : in_extras at stands n (drop i xs) ≡ at_each told n (association_in x) ++ at_each told m rest =
+    ap (in_extras at stands n) here ∙ each_append told n (association_in x) rest ∙ ap (λ k. at_each told n (association_in x) ++ at_each told k rest) (sym m_is) in
+    let one : new ≡ old ++ at_each told n (association_in x) = new_is ∙ ap (λ l. old ++ at_each told n l) (append-nil (association_in x)) in
+    ap (λ l. l ++ at_each told m rest) one ∙ append_assoc old (at_each told n (association_in x)) (at_each told m rest) ∙ ap (λ l. old ++ l) (sym step) ∙ whole_is
+
+pub extras_end : (at : Place) (stands : ℕ → Bool) (xs : List Extra) (i n : ℕ) (out whole : List Finding) → length xs ≤ i
+    → out ++ in_extras at stands n (drop i xs) ≡ whole → out ≡ whole
+extras_end at stands xs i n out whole h e =
+    let rest : drop i xs ≡ [] = grind (arith, common_steps) in
+    sym (append-nil out) ∙ ap (λ l. out ++ in_extras at stands n l) (sym rest) ∙ e
+
+-- how many associations are left
+pub count_next : (xs : List Extra) (i n m total : ℕ) (x : Extra) → i < length xs → x ≡ get_or xs i x → n + association_count (drop i xs) ≡ total
+    → m ≡ n + length (association_in x) → m + association_count (drop (i + 1) xs) ≡ total
+count_next xs i n m total x below is total_is m_is =
+    let here : drop i xs ≡ x ∷ drop (i + 1) xs = grind (arith, common_steps) in
+    let sum : association_count (drop i xs) ≡ length (association_in x) + association_count (drop (i + 1) xs) =
+    ap association_count here ∙ length-append (association_in x) (flat_map association_in (drop (i + 1) xs)) in
+    omega (arith, sum, total_is, m_is)
+
+pub count_end : (xs : List Extra) (i n total : ℕ) → length xs ≤ i → n + association_count (drop i xs) ≡ total → n ≡ total
+count_end xs i n total h e =
+    let rest : drop i xs ≡ [] = grind (arith, common_steps) in
+    let none : association_count (drop i xs) ≡ 0 = ap association_count rest in
+    omega (arith, none, e)
+
+count_append : (xs ys : List Extra) → association_count (xs ++ ys) ≡ association_count xs + association_count ys
+count_append xs ys = ap length (flat_map-append association_in xs ys) ∙ length-append (flat_map association_in xs) (flat_map association_in ys)
+
+-- those of a setting's endpoints come behind its own
+pub count_behind : (s : Setting) (n m : ℕ) → m ≡ n + association_count s.extras
+    → m + association_count (flat_map (λ e. e.extras) s.endpoints) ≡ n + setting_associations s
+count_behind s n m is = omega (arith, is, count_append s.extras (flat_map (λ e. e.extras) s.endpoints))
+
+pub ends_next : (xs : List Endpoint) (i n m total : ℕ) (x : Endpoint) → i < length xs → x ≡ get_or xs i x
+    → n + association_count (flat_map (λ e. e.extras) (drop i xs)) ≡ total → m ≡ n + endpoint_associations x
+    → m + association_count (flat_map (λ e. e.extras) (drop (i + 1) xs)) ≡ total
+ends_next xs i n m total x below is total_is m_is =
+    let here : drop i xs ≡ x ∷ drop (i + 1) xs = grind (arith, common_steps) in
+    let sum : association_count (flat_map (λ e. e.extras) (drop i xs)) ≡ association_count x.extras + association_count (flat_map (λ e. e.extras) (drop (i + 1) xs)) =
+    ap (λ l. association_count (flat_map (λ (e : Endpoint). e.extras) l)) here ∙ count_append x.extras (flat_map (λ e. e.extras) (drop (i + 1) xs)) in
+    omega (arith, sum, total_is, m_is)
 
 -- ---- what stands before
 
@@ -124,40 +202,7 @@ pub owned_same : (n : ℕ) (t : ℕ → ℕ → Bool) (endpoints : List Endpoint
 unfolding owned
 owned_same n t endpoints b = grind (arith, nat_tests)
 
--- ---- what is told of the interfaces
-
--- V4 by an interface
-abbrev pub lacking : Part → ℕ → (ℕ → ℕ → Bool) → ℕ → Interface → List Finding
-lacking part set alternates k i = when (not (alternates i.number 0)) (finding rules.V4 part set i.first 0)
-
-abbrev pub lacking_first : Part → ℕ → (ℕ → ℕ → Bool) → ℕ → ℕ × ℕ → List Finding
-lacking_first part set alternates k x = when (not (alternates x.0 0)) (finding rules.V4 part set x.1 0)
-
-by_firsts : (part : Part) (set : ℕ) (alternates : ℕ → ℕ → Bool) (k n : ℕ) (list : List Interface)
-    → at_each (lacking part set alternates) k list ≡ at_each (lacking_first part set alternates) n (map first_of list)
-by_firsts part set alternates k n [] = refl
-by_firsts part set alternates k n (i ∷ list) = ap (λ xs. lacking part set alternates k i ++ xs) (by_firsts part set alternates (k + 1) (n + 1) list)
-
-lacks_first : (part : Part) (set j n : ℕ) (s : Setting) (alternates : ℕ → ℕ → Bool) (first : Bool) (rest : List (ℕ × ℕ)) (all : List Finding)
-    → ((k : ℕ) → at_each (lacking_first part set alternates) k rest ≡ all)
-    → at_each (lacking_first part set alternates) n (when first (s.number, j) ++ rest) ≡ when (first && not (alternates s.number 0)) (finding rules.V4 part set j 0) ++ all
-lacks_first part set j n s alternates true rest all is = ap (λ xs. when (not (alternates s.number 0)) (finding rules.V4 part set j 0) ++ xs) (is (n + 1))
-lacks_first part set j n s alternates false rest all is = is n
-
-lacks_firsts : (part : Part) (set : ℕ) (all : List Setting) (j : ℕ) (settings : List Setting) (n : ℕ)
-    → at_each (lacking_first part set (stood all)) n (at_each (first_at all) j settings)
-    ≡ at_each (λ i s. when (lacks_default_setting all (take i all) s) (finding rules.V4 part set i 0)) j settings
-lacks_firsts part set all j [] n = refl
-lacks_firsts part set all j (s ∷ settings) n =
-    lacks_first part set j n s (stood all) (is_first (take j all) s) (at_each (first_at all) (j + 1) settings) _ (lacks_firsts part set all (j + 1) settings)
-
-pub lacking_are : (part : Part) (set : ℕ) (c : Configuration) (e : Entered) (list : List Interface) → AreEntered c.settings e → map first_of list ≡ e.firsts
-    → at_each (lacking part set e.alternates) 0 list ≡ missing_default_settings part set c
-lacking_are part set c e list entered are =
-    ap (λ f. at_each (lacking part set f) 0 list) entered.alternates
-    ∙ by_firsts part set (stood c.settings) 0 0 list
-    ∙ ap (at_each (lacking_first part set (stood c.settings)) 0) (are ∙ entered.firsts)
-    ∙ lacks_firsts part set c.settings 0 c.settings 0
+-- ---- how many interfaces there are
 
 count_first : (b : Bool) (n j : ℕ) (ns : List ℕ) (xs : List (ℕ × ℕ)) → length xs ≡ length ns → length (when b (n, j) ++ xs) ≡ length (when b n ++ ns)
 count_first true n j ns xs is = omega (arith, is)

@@ -30,6 +30,11 @@ at_each f place (x ∷ xs) = f place x ++ at_each f (place + 1) xs
 abbrev pub at_each_after : {A B : Type 0} → (List A → ℕ → A → List B) → List A → List B
 at_each_after f xs = at_each (λ i x. f (take i xs) i x) 0 xs
 
+-- as at_each, where f is also given a count, which grows by the size of each element
+abbrev pub at_each_counted : {A B : Type 0} → (A → ℕ) → (ℕ → ℕ → A → List B) → ℕ → ℕ → List A → List B
+at_each_counted size f place n [] = []
+at_each_counted size f place n (x ∷ xs) = f place n x ++ at_each_counted size f (place + 1) (n + size x) xs
+
 -- what is found in each set of a part
 abbrev pub in_sets : (Part → ℕ → Configuration → List Finding) → Part → List Configuration → List Finding
 in_sets found part sets = at_each (found part) 0 sets

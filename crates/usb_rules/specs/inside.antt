@@ -1,4 +1,4 @@
 -- What no public contract cites.
-pub mod Walk
 pub mod Interfaces
+pub mod Walk
 pub mod Addresses

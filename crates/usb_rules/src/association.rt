@@ -1,36 +1,55 @@
 //! V13: an association binds interfaces that are there.
-ghost use Rattle.std.specs.Prelude.{◌≡◌, ◌++◌, OnOk};
-ghost use Rattle.usb_rules.specs.Findings.{associations};
-ghost use Rattle.usb_rules.specs.inside.Interfaces.{AreEntered, kept, misses_some};
+ghost use Rattle.std.specs.Prelude.{◌≡◌, ◌+◌, ◌∷◌, ◌++◌, [], IfOk, OnOk, length};
+ghost use Rattle.usb_set.specs.Parts.{association_in};
+ghost use Rattle.usb_rules.specs.InOrder.{association_count};
+ghost use Rattle.usb_rules.specs.inside.Interfaces.{kept, misses_some};
+ghost use Rattle.usb_rules.specs.inside.Walk.{in_extras};
 
 use crate::found::Found;
 use crate::interfaces::Interfaces;
 use crate::place::Place;
 use crate::rule::Rule;
 use std::alloc::AllocError;
-use usb_set::{Association, Configuration};
+use usb_set::{Association, Extra};
 
-pub(crate) fn check_associations(
+/// Of the associations among these extras, of which the first has this number in its set. Answers the number of the next.
+pub(crate) fn check_extras(
     found: &mut Found,
     interfaces: &Interfaces,
     place: Place,
-    c: &Configuration,
-) -> Result<(), AllocError>
-    requires { AreEntered c.now.settings (kept interfaces.now) }
-    ensures { OnOk result (found.new ≡ found.old ++ associations place.part place.set c.now) }
+    number: usize,
+    extras: &[Extra],
+) -> Result<usize, AllocError>
+    ensures told { OnOk result (found.new ≡ found.old ++ in_extras place (kept interfaces.now).numbers number extras.now) }
+    ensures next { IfOk result (λ next. next ≡ number + association_count extras.now) }
 {
-    let mut associations = c.associations();
-    let mut number = 0usize;
-    while let Some((_, a)) = associations.next() {
-        found.tell(
-            Rule::V13,
-            binds_missing_interface(interfaces, a),
-            place.at_setting(number),
-        )?;
-        // No memory holds so many associations that this is refused.
-        number = number.checked_add(1).ok_or(AllocError)?;
+    let mut next = number;
+    for extra in extras {
+        next = check_extra(found, interfaces, place, next, extra)?;
     }
-    Ok(())
+    Ok(next)
+}
+
+/// Of an extra, if it is an association.
+fn check_extra(
+    found: &mut Found,
+    interfaces: &Interfaces,
+    place: Place,
+    number: usize,
+    extra: &Extra,
+) -> Result<usize, AllocError>
+    ensures told { OnOk result (found.new ≡ found.old ++ in_extras place (kept interfaces.now).numbers number (extra.now ∷ [])) }
+    ensures next { IfOk result (λ next. next ≡ number + length (association_in extra.now)) }
+{
+    match extra {
+        Extra::Association(a) => {
+            let misses = binds_missing_interface(interfaces, a);
+            found.tell(Rule::V13, misses, place.at_setting(number))?;
+            // No memory holds so many associations that this is refused.
+            number.checked_add(1).ok_or(AllocError)
+        }
+        _ => Ok(number),
+    }
 }
 
 /// Whether it binds no interface, or one that isn't there.

@@ -1,14 +1,14 @@
 //! All findings of a file, of a dump, and of a set alone.
 ghost use Rattle.std.specs.Prelude.{◌≡◌, ◌++◌, IfOk, OnOk};
-ghost use Rattle.usb_rules.specs.Findings.{dump_findings, findings, findings_where, part_of_kind, set_findings};
-ghost use Rattle.usb_rules.specs.inside.Walk.{in_file, in_part};
+ghost use Rattle.usb_rules.specs.Findings.{dump_findings, findings, part_of_kind, set_findings};
+ghost use Rattle.usb_rules.specs.InOrder.{dump_findings_in_order, file_in_order, findings_in_order, part_in_order, set_findings_in_order};
 
 use crate::device::{check_device, check_qualifier, is_wrong_device, is_wrong_dumped_device};
 use crate::finding::{Finding, Part};
 use crate::found::Found;
 use crate::place::Place;
-use crate::set::{Passed, check_set_at};
-use crate::value::{check_any_set, check_value};
+use crate::set::{Known, check_set_at};
+use crate::value::check_any_set;
 use std::alloc::{AllocError, Global};
 use std::slice;
 use usb_base::Marks;
@@ -30,10 +30,11 @@ pub use std::alloc::AllocError as NoMemory;
 /// # Errors
 ///
 /// Out of memory.
+#[tactic(auto, using(crate::proofs::Sorting::sorted))]
 pub fn check(alloc: Global, f: &DescriptorFile) -> Result<Vec<Finding>, NoMemory>
     ensures { IfOk result (λ v. v.items ≡ findings f.now) }
 {
-    check_where(alloc, is_wrong_device(&f.device), f)
+    walk_file(alloc, is_wrong_device(&f.device), f)?.by_rule(alloc)
 }
 
 /// Everything in a dump that breaks a rule, in the order of [`check`]. From bcdUSB 0300 on it is of a SuperSpeed
@@ -48,10 +49,11 @@ pub fn check(alloc: Global, f: &DescriptorFile) -> Result<Vec<Finding>, NoMemory
 /// # Errors
 ///
 /// Out of memory.
+#[tactic(auto, using(crate::proofs::Sorting::sorted))]
 pub fn check_dump(alloc: Global, f: &DescriptorFile) -> Result<Vec<Finding>, NoMemory>
     ensures { IfOk result (λ v. v.items ≡ dump_findings f.now) }
 {
-    check_where(alloc, is_wrong_dumped_device(&f.device), f)
+    walk_file(alloc, is_wrong_dumped_device(&f.device), f)?.by_rule(alloc)
 }
 
 /// Everything in a set alone that breaks a rule, in the order of [`check`]: it is the only set of its part, the main one
@@ -67,13 +69,50 @@ pub fn check_dump(alloc: Global, f: &DescriptorFile) -> Result<Vec<Finding>, NoM
 /// # Errors
 ///
 /// Out of memory.
+#[tactic(auto, using(crate::proofs::Sorting::sorted_set))]
 pub fn check_set(alloc: Global, c: &Configuration) -> Result<Vec<Finding>, NoMemory>
     ensures { IfOk result (λ v. v.items ≡ set_findings c.now) }
 {
-    let mut found = Found::new(alloc);
-    let mut passed = Passed::new(alloc);
-    check_part(&mut found, &mut passed, part_of(c.kind), slice::from_ref(c))?;
-    found.by_rule(alloc)
+    walk_set(alloc, c)?.by_rule(alloc)
+}
+
+/// What [`check`] tells of a file, in the order of its bytes: at each descriptor what it breaks.
+///
+/// ```rust
+/// for finding in findings_in_order(rt.alloc(), &file)?.iter() {
+///     println!(rt; "{finding}")?;
+/// }
+/// ```
+///
+/// # Errors
+///
+/// Out of memory.
+pub fn findings_in_order(alloc: Global, f: &DescriptorFile) -> Result<Vec<Finding>, NoMemory>
+    ensures { IfOk result (λ v. v.items ≡ findings_in_order f.now) }
+{
+    Ok(walk_file(alloc, is_wrong_device(&f.device), f)?.in_order())
+}
+
+/// What [`check_dump`] tells of a dump, in the order of its bytes.
+///
+/// # Errors
+///
+/// Out of memory.
+pub fn dump_findings_in_order(alloc: Global, f: &DescriptorFile) -> Result<Vec<Finding>, NoMemory>
+    ensures { IfOk result (λ v. v.items ≡ dump_findings_in_order f.now) }
+{
+    Ok(walk_file(alloc, is_wrong_dumped_device(&f.device), f)?.in_order())
+}
+
+/// What [`check_set`] tells of a set alone, in the order of its bytes.
+///
+/// # Errors
+///
+/// Out of memory.
+pub fn set_findings_in_order(alloc: Global, c: &Configuration) -> Result<Vec<Finding>, NoMemory>
+    ensures { IfOk result (λ v. v.items ≡ set_findings_in_order c.now) }
+{
+    Ok(walk_set(alloc, c)?.in_order())
 }
 
 /// The part that a set alone is of.
@@ -86,49 +125,59 @@ fn part_of(kind: SetKind) -> Part
     }
 }
 
-/// All findings, where it is known whether the device descriptor breaks V11.
-fn check_where(alloc: Global, wrong: bool, f: &DescriptorFile) -> Result<Vec<Finding>, AllocError>
-    ensures { IfOk result (λ v. v.items ≡ findings_where wrong f.now) }
+/// Goes over a set alone.
+fn walk_set(alloc: Global, c: &Configuration) -> Result<Found, AllocError>
+    ensures { IfOk result (λ found. found ≡ set_findings_in_order c.now) }
 {
     let mut found = Found::new(alloc);
-    let mut passed = Passed::new(alloc);
-    check_parts(&mut found, &mut passed, wrong, f)?;
-    found.by_rule(alloc)
+    let mut known = Known::new(alloc);
+    check_part(&mut found, &mut known, part_of(c.kind), slice::from_ref(c))?;
+    Ok(found)
+}
+
+/// Goes over a file, where it is known whether the device descriptor breaks V11.
+fn walk_file(alloc: Global, wrong: bool, f: &DescriptorFile) -> Result<Found, AllocError>
+    ensures { IfOk result (λ found. found ≡ file_in_order wrong f.now) }
+{
+    let mut found = Found::new(alloc);
+    let mut known = Known::new(alloc);
+    check_parts(&mut found, &mut known, wrong, f)?;
+    Ok(found)
 }
 
 /// The device descriptor, the main part and the other part.
 #[tactic(auto, using(crate::proofs::Walking::append_again))]
 fn check_parts(
     found: &mut Found,
-    passed: &mut Passed,
+    known: &mut Known,
     wrong: bool,
     f: &DescriptorFile,
 ) -> Result<(), AllocError>
-    ensures { OnOk result (found.new ≡ found.old ++ in_file wrong f.now) }
+    ensures { OnOk result (found.new ≡ found.old ++ file_in_order wrong f.now) }
 {
+    check_any_set(found, Place::of(Part::Main, 0), &f.sets)?;
     check_device(found, wrong)?;
-    check_part(found, passed, Part::Main, &f.sets)?;
+    check_part(found, known, Part::Main, &f.sets)?;
     if let Some(other) = &f.other {
+        check_any_set(found, Place::of(Part::Other, 0), &other.sets)?;
         check_qualifier(found, &other.qualifier)?;
-        check_part(found, passed, Part::Other, &other.sets)?;
+        check_part(found, known, Part::Other, &other.sets)?;
     }
     Ok(())
 }
 
+/// The sets of a part.
 fn check_part(
     found: &mut Found,
-    passed: &mut Passed,
+    known: &mut Known,
     part: Part,
     sets: &[Configuration],
 ) -> Result<(), AllocError>
-    ensures { OnOk result (found.new ≡ found.old ++ in_part part sets.now) }
+    ensures { OnOk result (found.new ≡ found.old ++ part_in_order part sets.now) }
 {
-    check_any_set(found, Place::of(part, 0), sets)?;
     let mut values = Marks::new();
     for (set, c) in sets.iter().enumerate() {
-        let place = Place::of(part, set);
-        check_value(found, &mut values, place, c)?;
-        check_set_at(found, passed, place, c)?;
+        check_set_at(found, known, &mut values, Place::of(part, set), c)?;
     }
     Ok(())
 }

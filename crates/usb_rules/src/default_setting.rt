@@ -1,30 +1,14 @@
 //! V4: each interface has an alternate setting 0.
-ghost use Rattle.std.specs.Prelude.{◌≡◌, ◌++◌, OnOk};
-ghost use Rattle.usb_rules.specs.Findings.{missing_default_settings};
-ghost use Rattle.usb_rules.specs.inside.Interfaces.{AreEntered, kept};
+ghost use Rattle.std.specs.Prelude.{◌≡◌, ◌&&◌, not};
+ghost use Rattle.usb_rules.specs.inside.Interfaces.{kept};
 
-use crate::found::Found;
 use crate::interfaces::Interfaces;
-use crate::place::Place;
-use crate::rule::Rule;
-use std::alloc::AllocError;
-use usb_set::Configuration;
+use usb_set::Setting;
 
-pub(crate) fn check_default_settings(
-    found: &mut Found,
-    interfaces: &Interfaces,
-    place: Place,
-    c: &Configuration,
-) -> Result<(), AllocError>
-    requires { AreEntered c.now.settings (kept interfaces.now) }
-    ensures { OnOk result (found.new ≡ found.old ++ missing_default_settings place.part place.set c.now) }
+/// Whether the setting is the first of an interface that has no alternate setting 0, by the interfaces of the whole set
+/// and those of the settings before.
+pub(crate) fn lacks_default_setting(whole: &Interfaces, before: &Interfaces, s: &Setting) -> bool
+    ensures { result ≡ (not ((kept before.now).numbers s.now.number) && not ((kept whole.now).alternates s.now.number 0)) }
 {
-    for interface in interfaces.list() {
-        found.tell(
-            Rule::V4,
-            !interfaces.has(interface.number, 0),
-            place.at_setting(interface.first),
-        )?;
-    }
-    Ok(())
+    !before.has_any(s.number) && !whole.has(s.number, 0)
 }

@@ -24,7 +24,8 @@ impl Model for Found {
 
 impl Found {
     ghost use Rattle.usb_rules.specs.Places.{when};
-    ghost use Rattle.usb_rules.specs.inside.Walk.{broken, by_rule, of_rule};
+    ghost use Rattle.usb_rules.specs.InOrder.{by_rule, of_rule};
+    ghost use Rattle.usb_rules.specs.inside.Walk.{broken};
 
     /// Nothing yet.
     pub(crate) fn new(alloc: Global) -> Found
@@ -43,6 +44,13 @@ impl Found {
             self.findings.push(place.breaks(rule))?;
         }
         Ok(())
+    }
+
+    /// All findings, in the order of the walk.
+    pub(crate) fn in_order(self) -> Vec<Finding>
+        ensures { result.items ≡ self }
+    {
+        self.findings
     }
 
     /// All findings, rule by rule.

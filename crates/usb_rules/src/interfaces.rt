@@ -70,6 +70,14 @@ impl Interfaces {
         self.numbers.next_absent(number)
     }
 
+    /// Whether a setting of this number was entered.
+    #[tactic(auto, unfolding(crate::specs::inside::Interfaces::kept))]
+    pub(crate) fn has_any(&self, number: u8) -> bool
+        ensures { result ≡ (kept self.now).numbers number }
+    {
+        self.numbers.has(number)
+    }
+
     /// Whether a setting of this number and alternate was entered.
     pub(crate) fn has(&self, number: u8, alternate: u8) -> bool
         ensures { result ≡ (kept self.now).alternates number alternate }

@@ -4,7 +4,10 @@
 //! that two interfaces claim. [`check`] tells all of that at once, each [`Finding`] at its place. [`check_dump`] and
 //! [`check_set`] do so of what is less than a file.
 //!
-//! - What breaks each rule is `specs/Rules.antt`; in which order findings come is `specs/Findings.antt`.
+//! They come rule by rule, or from [`findings_in_order`] and its like in the order of the bytes.
+//!
+//! - What breaks each rule is `specs/Rules.antt`; what is found, rule by rule, is `specs/Findings.antt`, and in the order of
+//!   the bytes `specs/InOrder.antt`.
 #![tactic(auto)]
 
 mod addresses;
@@ -27,6 +30,9 @@ mod set;
 mod shared_address;
 mod value;
 
-pub use checking::{NoMemory, check, check_dump, check_set};
+pub use checking::{
+    NoMemory, check, check_dump, check_set, dump_findings_in_order, findings_in_order,
+    set_findings_in_order,
+};
 pub use finding::{Finding, Part};
 pub use rule::{MESSAGES, Rule};

@@ -1,13 +1,15 @@
 //! All rules that a set keeps or breaks by itself.
-ghost use Rattle.std.specs.Prelude.{◌≡◌, ◌++◌, OnOk};
+ghost use Rattle.std.specs.Prelude.{◌≡◌, ◌+◌, ◌++◌, IfOk, OnOk};
+ghost use Rattle.usb_base.specs.Marks.{is_marked, marked};
+ghost use Rattle.usb_rules.specs.InOrder.{setting_associations};
 ghost use Rattle.usb_rules.specs.inside.Addresses.{claimed, owned, kept as claims};
-ghost use Rattle.usb_rules.specs.inside.Interfaces.{entered, kept as entries};
-ghost use Rattle.usb_rules.specs.inside.Walk.{in_endpoint, in_set, in_setting};
+ghost use Rattle.usb_rules.specs.inside.Interfaces.{AreEntered, entered, kept as entries};
+ghost use Rattle.usb_rules.specs.inside.Walk.{in_configuration, in_endpoint, in_interface, in_set, in_setting};
 
 use crate::addresses::Addresses;
-use crate::association::check_associations;
+use crate::association::check_extras;
 use crate::attributes::check_attributes;
-use crate::default_setting::check_default_settings;
+use crate::default_setting::lacks_default_setting;
 use crate::endpoint::{check_address, check_packet_size};
 use crate::endpoint_count::check_endpoint_count;
 use crate::found::Found;
@@ -16,68 +18,135 @@ use crate::interfaces::Interfaces;
 use crate::place::Place;
 use crate::repeated_address::check_repeated_address;
 use crate::repeated_setting::check_repeated_setting;
+use crate::rule::Rule;
 use crate::shared_address::check_shared_address;
+use crate::value::check_value;
 use std::alloc::{AllocError, Global};
+use usb_base::Marks;
 use usb_set::{Configuration, Endpoint, Setting};
 
-/// What is kept of the descriptors of a set that the walk has passed.
+/// What is kept of a set while the walk goes over it.
 #[derive(Drop)]
-pub(crate) struct Passed {
-    interfaces: Interfaces,
-    addresses: Addresses,
+pub(crate) struct Known {
+    /// The interfaces of the whole set.
+    whole: Interfaces,
+    passed: Passed,
 }
 
-impl Passed {
-    pub(crate) fn new(alloc: Global) -> Passed {
-        Passed {
-            interfaces: Interfaces::new(alloc),
-            addresses: Addresses::new(),
+impl Known {
+    pub(crate) fn new(alloc: Global) -> Known {
+        Known {
+            whole: Interfaces::new(alloc),
+            passed: Passed {
+                interfaces: Interfaces::new(alloc),
+                addresses: Addresses::new(),
+            },
         }
     }
 }
 
-/// Of a set at its place.
+/// What is kept of the settings that the walk has passed.
+#[derive(Drop)]
+struct Passed {
+    interfaces: Interfaces,
+    addresses: Addresses,
+}
+
+/// Of a set at its place, among the values of those before it in its part.
 pub(crate) fn check_set_at(
     found: &mut Found,
-    passed: &mut Passed,
+    known: &mut Known,
+    values: &mut Marks,
     place: Place,
     c: &Configuration,
 ) -> Result<(), AllocError>
-    ensures { OnOk result (found.new ≡ found.old ++ in_set place c.now) }
+    ensures told { OnOk result (found.new ≡ found.old ++ in_set place (is_marked values.old) c.now) }
+    ensures marked { OnOk result (is_marked values.new ≡ marked (is_marked values.old) c.now.value) }
 {
+    enter_all(&mut known.whole, &c.settings)?;
+    let whole = &known.whole;
+    check_configuration(found, whole, values, place, c)?;
+    let passed = &mut known.passed;
     passed.interfaces.clear();
     passed.addresses.clear();
+    let mut number = check_extras(found, whole, place, 0, &c.extras)?;
     for (setting, s) in c.settings.iter().enumerate() {
-        check_setting(found, passed, place.at_setting(setting), s)?;
+        number = check_setting(found, whole, passed, place.at_setting(setting), number, s)?;
     }
-    let interfaces = &passed.interfaces;
-    check_interface_count(found, interfaces, place, c)?;
-    check_number_gap(found, interfaces, place, c)?;
-    check_default_settings(found, interfaces, place, c)?;
-    check_attributes(found, place, c)?;
-    check_associations(found, interfaces, place, c)?;
     Ok(())
 }
 
+/// Enters these settings and no others.
+fn enter_all(interfaces: &mut Interfaces, settings: &[Setting]) -> Result<(), AllocError>
+    ensures { OnOk result (AreEntered settings.now (entries interfaces.new)) }
+{
+    interfaces.clear();
+    for (setting, s) in settings.iter().enumerate() {
+        interfaces.add(setting, s)?;
+    }
+    Ok(())
+}
+
+/// Of the first descriptor of a set.
+fn check_configuration(
+    found: &mut Found,
+    whole: &Interfaces,
+    values: &mut Marks,
+    place: Place,
+    c: &Configuration,
+) -> Result<(), AllocError>
+    requires { AreEntered c.now.settings (entries whole.now) }
+    ensures told { OnOk result (found.new ≡ found.old ++ in_configuration place (is_marked values.old) c.now) }
+    ensures marked { OnOk result (is_marked values.new ≡ marked (is_marked values.old) c.now.value) }
+{
+    check_interface_count(found, whole, place, c)?;
+    check_number_gap(found, whole, place, c)?;
+    check_attributes(found, place, c)?;
+    check_value(found, values, place, c)
+}
+
+/// Of a setting, before which so many associations stand in the set. Answers how many stand before the next one.
 fn check_setting(
     found: &mut Found,
+    whole: &Interfaces,
     passed: &mut Passed,
     place: Place,
+    number: usize,
     s: &Setting,
-) -> Result<(), AllocError>
-    ensures told { OnOk result (found.new ≡ found.old ++ in_setting place (entries passed.old.interfaces).alternates (claims passed.old.addresses).elsewhere s.now) }
+) -> Result<usize, AllocError>
+    ensures told { OnOk result (found.new ≡ found.old ++ in_setting place (entries whole.now).numbers (entries whole.now).alternates (entries passed.old.interfaces).numbers (entries passed.old.interfaces).alternates (claims passed.old.addresses).elsewhere number s.now) }
     ensures interfaces { OnOk result (entries passed.new.interfaces ≡ entered place.setting s.now (entries passed.old.interfaces)) }
     ensures addresses { OnOk result ((claims passed.new.addresses).elsewhere ≡ owned s.now.number s.now.endpoints (claims passed.old.addresses).elsewhere) }
+    ensures next { IfOk result (λ next. next ≡ number + setting_associations s.now) }
 {
-    check_repeated_setting(found, &mut passed.interfaces, place, s)?;
-    check_endpoint_count(found, place, s)?;
+    check_interface(found, whole, &mut passed.interfaces, place, s)?;
+    let mut next = check_extras(found, whole, place, number, &s.extras)?;
     passed.addresses.begin(s.number);
     for (endpoint, e) in s.endpoints.iter().enumerate() {
         check_endpoint(found, &mut passed.addresses, place.at_endpoint(endpoint), e)?;
+        next = check_extras(found, whole, place, next, &e.extras)?;
     }
-    Ok(())
+    Ok(next)
 }
 
+/// Of an interface descriptor.
+fn check_interface(
+    found: &mut Found,
+    whole: &Interfaces,
+    interfaces: &mut Interfaces,
+    place: Place,
+    s: &Setting,
+) -> Result<(), AllocError>
+    ensures told { OnOk result (found.new ≡ found.old ++ in_interface place (entries whole.now).alternates (entries interfaces.old).numbers (entries interfaces.old).alternates s.now) }
+    ensures interfaces { OnOk result (entries interfaces.new ≡ entered place.setting s.now (entries interfaces.old)) }
+{
+    let lacks = lacks_default_setting(whole, interfaces, s);
+    check_repeated_setting(found, interfaces, place, s)?;
+    found.tell(Rule::V4, lacks, place)?;
+    check_endpoint_count(found, place, s)
+}
+
+/// Of the descriptor of an endpoint.
 fn check_endpoint(
     found: &mut Found,
     addresses: &mut Addresses,

@@ -7,7 +7,6 @@ use Rattle.usb_set.specs.declared.tree.Setting.{Setting}
 use Rattle.usb_rules.specs.declared.interfaces.Interface.{Interface}
 use Rattle.usb_rules.specs.Places.{at_each, stands_in, when}
 use Rattle.usb_rules.specs.Rules.{is_first, number_of}
-use Rattle.usb_rules.specs.inside.Walk.{stood}
 
 -- which interface numbers stood, with which alternates, and where each first stood
 pub record Entered : Type 0 where
@@ -46,6 +45,10 @@ first_at settings j s = when (is_first (take j settings) s) (s.number, j)
 -- each interface number with the place of its first setting, in the order of these
 abbrev pub firsts_of : List Setting → List (ℕ × ℕ)
 firsts_of settings = at_each (first_at settings) 0 settings
+
+-- whether a setting of this number and alternate stands in the list
+abbrev pub stood : List Setting → ℕ → ℕ → Bool
+stood settings n a = list_any (λ t. (t.number == n) && (t.alternate == a)) settings
 
 -- just these settings were entered
 pub record AreEntered (settings : List Setting) (e : Entered) : Type 0 where

@@ -1,36 +1,45 @@
-use Rattle.std.proofs.Common.{◌≡◌, ◌<◌, ◌++◌, ◌∙◌, not, length, get_or, take, ap, sym, arith}
+use Rattle.std.proofs.Common.{◌≡◌, ◌<◌, ◌++◌, ◌∙◌, length, map, get_or, take, ap, sym, subst, arith}
 use Rattle.usb_base.specs.Marks.{marked}
-use Rattle.usb_rules.specs.Places.{when}
+use Rattle.usb_rules.specs.Places.{stands_in}
 use Rattle.usb_rules.specs.Rules.{number_of}
+use Rattle.usb_rules.specs.InOrder.{setting_associations}
 use Rattle.usb_rules.specs.inside.Addresses.{owned, kept as claims}
-use Rattle.usb_rules.specs.inside.Interfaces.{entered, first_at, pair_too, kept as entries}
-use Rattle.usb_rules.specs.inside.Walk.{in_setting, place, setting_at, stood}
-use Rattle.usb_rules.proofs.Walking.{at_each_next, shared_more, stands_more, stood_more}
+use Rattle.usb_rules.specs.inside.Interfaces.{AreEntered, entered, pair_too, kept as entries, stood}
+use Rattle.usb_rules.specs.inside.Walk.{in_setting, place, setting_at}
+use Rattle.usb_rules.proofs.Walking.{counted_next, shared_more, stands_more, stood_more}
 use Rattle.usb_rules.proofs.set.check_set_at.Goals as goal
 
 pub loop-setting-preserved : goal.loop-setting-preserved
 loop-setting-preserved c =
     let settings = c.args.c.now.settings in
     let j = c.loop-setting.setting in
+    let n = c.loop-setting.number in
     let s = c.s-item.result in
     let p = place c.args.place.part c.args.place.set j 0 in
+    let old = c.loop-setting.found in
+    let whole = entries c.enter_all.new.interfaces in
+    let all : AreEntered settings whole = subst (λ xs. AreEntered xs whole) c.deref.ensures c.in_ok-enter_all.ensures in
+    let stands = stands_in (map number_of settings) in
+    let before = stands_in (map number_of (take j settings)) in
     let now = entries c.loop-setting.passed.interfaces in
     let other = (claims c.loop-setting.passed.addresses).elsewhere in
     let inv = c.loop-setting.invariant in
-    let done = c.in_ok-check_setting.ensures in
+    let done = c.in_ok-number-2.ensures in
     let same = c.deref-s-items.ensures in
     let long = ap length same in
     let below : j < length settings = omega (arith, long, c.loop-setting-test.true) in
     let is : s ≡ get_or settings j s = c.s-item.is ∙ ap (λ xs. get_or xs j s) same in
     let more = done.interfaces ∙ ap (λ q. entered q.setting s now) c.at_setting.ensures in
-    let told = done.told ∙ ap (λ q. c.loop-setting.found ++ in_setting q now.alternates other s) c.at_setting.ensures
-    ∙ ap (λ f. c.loop-setting.found ++ in_setting p f other s) inv.alternates
-    ∙ ap (λ f. c.loop-setting.found ++ in_setting p (stood (take j settings)) f s) inv.elsewhere in
+    let told = done.told
+    ∙ ap (λ q. old ++ in_setting q whole.numbers whole.alternates now.numbers now.alternates other n s) c.at_setting.ensures
+    ∙ ap (λ f. old ++ in_setting p f whole.alternates now.numbers now.alternates other n s) all.numbers
+    ∙ ap (λ f. old ++ in_setting p stands f now.numbers now.alternates other n s) all.alternates
+    ∙ ap (λ f. old ++ in_setting p stands (stood settings) f now.alternates other n s) inv.numbers
+    ∙ ap (λ f. old ++ in_setting p stands (stood settings) before f other n s) inv.alternates
+    ∙ ap (λ f. old ++ in_setting p stands (stood settings) before (stood (take j settings)) f n s) inv.elsewhere in
     record {
-      found = at_each_next (setting_at c.args.place settings) settings j s _ _ _ below is inv.found told;
+      found = counted_next setting_associations (setting_at c.args.place settings) settings j n _ s old _ _ below is inv.found told done.next;
       numbers = ap (λ t. t.numbers) more ∙ ap (λ f. marked f s.number) inv.numbers ∙ sym (stands_more number_of settings j s below is);
       alternates = ap (λ t. t.alternates) more ∙ ap (pair_too s.number s.alternate) inv.alternates ∙ sym (stood_more settings j s below is);
-      firsts = at_each_next (first_at settings) settings j s now.firsts _ _ below is inv.firsts
-          (ap (λ t. t.firsts) more ∙ ap (λ f. now.firsts ++ when (not (f s.number)) (s.number, j)) inv.numbers);
       elsewhere = done.addresses ∙ ap (owned s.number s.endpoints) inv.elsewhere ∙ sym (shared_more settings j s below is);
     }

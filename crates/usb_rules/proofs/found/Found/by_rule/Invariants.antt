@@ -1,6 +1,6 @@
 use Rattle.std.proofs.Common.{◌≡◌, ◌++◌, drop}
 use Rattle.std.specs.Prelude.{fold}
-use Rattle.usb_rules.specs.inside.Walk.{by_rule, every_rule, of_rule}
+use Rattle.usb_rules.specs.InOrder.{by_rule, every_rule, of_rule}
 use Rattle.usb_rules.proofs.found.Found.by_rule.Given as goal
 
 abbrev pub invariant-loop-rule : goal.invariant-loop-rule

@@ -1,5 +1,5 @@
 use Rattle.std.proofs.Common.{◌≡◌, ◌++◌, drop}
-use Rattle.usb_rules.specs.inside.Walk.{of_rule}
+use Rattle.usb_rules.specs.InOrder.{of_rule}
 use Rattle.usb_rules.proofs.found.Found.copy_of.Given as goal
 
 abbrev pub invariant-loop-finding : goal.invariant-loop-finding

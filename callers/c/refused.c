@@ -1,0 +1,113 @@
+/* refused FILE..: each request for memory refused in turn, for each call on each FILE. A call answers USB_NO_MEMORY or what
+ * it does with all memory; no block is left; and a handle that was open is as it was, or closed, as the header says. Ends in
+ * 0 where all of that holds. */
+#define POOL (1 << 22)
+#include "pool.h"
+#include "hosted.h"
+
+static uint8_t bytes[1 << 16], text[1 << 20], again[1 << 20];
+static size_t length;
+static long calls, refusals;
+
+enum { SHOW, CHECK, EXPLAIN, BUILD, ENUMERATE, DEVICE, HOST, DECODER, KINDS };
+
+static struct usb_answer in_pieces(uint8_t *out) {
+    struct usb_decoder decoder = {0};
+    struct usb_answer answer = usb_decoder_open(&decoder);
+    for (size_t at = 0; answer.status <= USB_OPEN && at < length; at += 7)
+        answer = usb_decoder_feed(&decoder, bytes + at, length - at < 7 ? length - at : 7);
+    if (answer.status == USB_DONE || answer.status == USB_OPEN) answer = usb_decoder_list(&decoder, out, sizeof text);
+    usb_decoder_close(&decoder);
+    usb_decoder_close(&decoder);
+    return answer;
+}
+
+/* The file, read by a host of a device. */
+static struct usb_answer by_host(uint8_t *out) {
+    struct usb_device device = {0};
+    struct usb_host host = {0};
+    struct usb_transaction due;
+    struct usb_packet packet;
+    struct usb_trouble trouble;
+    struct usb_answer answer = usb_device_open(&device, bytes, length, USB_FULL);
+    if (answer.status == USB_DONE) answer = usb_host_open(&host, 1, 16, 3, USB_FULL);
+    uint8_t action = answer.status == USB_DONE ? usb_host_next(&host, &due) : USB_NONE;
+    for (; action < USB_ENDED; action = usb_host_next(&host, &due)) {
+        if (action == USB_RESET) {
+            usb_device_reset(&device);
+            usb_host_reset_done(&host);
+            continue;
+        }
+        usb_device_serve(&device, &due, bytes, 0, true, &packet);
+        if (packet.reply == USB_DATA) usb_device_acked(&device);
+        usb_host_take(&host, packet.reply, packet.toggle, packet.data, packet.length);
+    }
+    if (action == USB_ENDED) answer = usb_host_outcome(&host, &trouble, out, sizeof text);
+    usb_host_close(&host);
+    usb_device_close(&device);
+    return answer;
+}
+
+static struct usb_answer opened_twice(void) {
+    struct usb_device device = {0};
+    usb_device_open(&device, bytes, length, USB_FULL);
+    struct usb_answer answer = usb_device_open(&device, bytes, length, USB_FULL);
+    struct usb_state state;
+    /* after any fault nothing is held */
+    if (answer.status != USB_DONE && usb_device_state(&device, &state)) answer.status = 99;
+    usb_device_close(&device);
+    return answer;
+}
+
+static struct usb_answer call(int kind, uint8_t *out) {
+    struct usb_outcome outcome;
+    switch (kind) {
+    case SHOW: return usb_show(bytes, length, out, sizeof text);
+    case CHECK: return usb_check(bytes, length, out, sizeof text);
+    case EXPLAIN: return usb_explain(bytes, length, USB_PLACES, 0, out, sizeof text);
+    case BUILD: return usb_build(bytes, length, out, sizeof text);
+    case ENUMERATE: return usb_enumerate(bytes, length, USB_FULL, 16, 3, (const uint8_t *)"....a", 5, &outcome, out, sizeof text);
+    case DEVICE: return opened_twice();
+    case HOST: return by_host(out);
+    default: return in_pieces(out);
+    }
+}
+
+static bool same(struct usb_answer a, struct usb_answer b) {
+    return a.status == b.status && a.number == b.number && a.place == b.place && a.length == b.length;
+}
+
+/* Out of memory; of an enumeration the host's is trouble 7. */
+static bool is_refusal(struct usb_answer a) {
+    return a.status == USB_NO_MEMORY || (a.status == USB_TROUBLE && a.number == 7);
+}
+
+/* One call with the request of this number refused. True once it makes none of that number. */
+static int refuse(const char *name, int kind, struct usb_answer want, long place, bool *is_last) {
+    memset(again, 0xa5, sizeof again);
+    pool_allowed = place;
+    struct usb_answer got = call(kind, again);
+    *is_last = pool_allowed > 0;
+    pool_allowed = -1;
+    calls++;
+    if (pool_live) return printf("%s: call %d leaves %ld blocks at request %ld\n", name, kind, pool_live, place), 1;
+    if (is_refusal(got)) return refusals++, 0;
+    if (same(got, want) && !memcmp(text, again, got.length)) return 0;
+    return printf("%s: call %d answers otherwise at request %ld: %u %u %zu\n", name, kind, place, got.status, got.number, got.place), 1;
+}
+
+int main(int argc, char **argv) {
+    for (int i = 1; i < argc; i++) {
+        long read = read_all(argv[i], bytes, sizeof bytes);
+        if (read < 0) return 2;
+        length = (size_t)read;
+        for (int kind = 0; kind < KINDS; kind++) {
+            struct usb_answer want = call(kind, text);
+            bool is_last = false;
+            for (long place = 0; !is_last; place++)
+                if (refuse(argv[i], kind, want, place, &is_last)) return 1;
+        }
+    }
+    printf("%ld calls, %ld refusals, at most %zu bytes held\n", calls, refusals, pool_peak);
+    return 0;
+}

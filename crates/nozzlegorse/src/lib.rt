@@ -1,0 +1,67 @@
+//! USB 2.0 descriptors, both ends of a control pipe, and enumeration: what a program names, in one crate.
+//!
+//! - A driver reads what a device tells of itself: [`descriptors`], and [`rules`] says what breaks one of chapter 9.
+//! - A tool keeps that in files, and lists and explains it for people: [`files`].
+//! - A firmware answers transactions: [`device`].
+//! - A host asks: [`host`].
+//! - A test bench joins both ends over a bus that loses packets and handshakes: [`bus`], which also has what passes
+//!   between the ends.
+//!
+//! Nothing is defined here. Each name stands in the crate that its line names, with its contract, and what the contracts
+//! cite is passed on by `specs/Lib.antt`: a caller that proves something needs no other crate in its own line.
+#![tactic(auto)]
+
+/// Single descriptors, string descriptors and configuration sets, read and written (USB 2.0, 9.6).
+pub mod descriptors {
+    pub use usb_base::{Direction, Sequence, descriptor_length, descriptor_type};
+    pub use usb_fields::{
+        DeviceDescriptor, FieldFault, MOST_UNITS, Qualifier, Speed, USB_2_0, UnitFault, read_units,
+        text_of, write_units, write_units_onto,
+    };
+    pub use usb_set::{
+        Association, Associations, Configuration, Decoder, EncodeFault, Endpoint, Endpoints, Extra,
+        Extras, Owner, Progress, Raw, SetFault, SetKind, SetWhy, Setting, TransferType,
+        add_descriptor, begin_set, next_fault, read_set,
+    };
+    pub use usb_set_encoder::{encode, encode_onto, refusal};
+}
+
+/// All descriptors of a device in a file; their listing for people, which is read back to the same file; and what they
+/// mean, in words.
+pub mod files {
+    pub use usb_explain::{Look, Manner, RunningSpeed, explain, explain_broken};
+    pub use usb_file::{
+        DescriptorFile, FILE_LIMIT, FileFault, FileWhy, Input, InputFault, LISTING_LIMIT,
+        ListFault, ListWhy, NoMemory, Other, OutFault, Strings, WriteFault, assemble, list,
+        list_set, named, read_file, read_input, write_file, write_refusal,
+    };
+}
+
+/// What breaks a rule of chapter 9.
+pub mod rules {
+    pub use usb_file::check_input;
+    pub use usb_rules::{Finding, Part, Rule, check, check_dump, check_set};
+}
+
+/// The device's end of a control pipe (USB 2.0, 8.5.3 and 9.4).
+pub mod device {
+    pub use usb_device::{
+        Description, DescriptionFault, Device, DeviceStage, DeviceState, EndpointZero, ROOM, State,
+        Unanswered, is_open, is_set_address,
+    };
+}
+
+/// The host's end of a control pipe, and a host that enumerates (USB 2.0, 9.1.2).
+pub mod host {
+    pub use usb_host::{Action, Host, Step, Trouble};
+    pub use usb_transfer::{Heard, LimitFault, Limits, Reply, Transfer, Why};
+}
+
+/// What passes between both ends (USB 2.0, 8.4 and 9.3), and both ends joined over a bus that loses it.
+pub mod bus {
+    pub use usb_bus::{Fate, Talk, converse};
+    pub use usb_enumeration::{Run, enumerate, step};
+    pub use usb_fields::{
+        Answer, Class, Recipient, Setup, Stage, Toggle, Transaction, feature, request, request_type,
+    };
+}

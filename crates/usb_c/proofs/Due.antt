@@ -1,0 +1,44 @@
+-- What a host wants sent has no bytes but those of a SETUP: its numbers are all of it.
+use Rattle.std.proofs.Common.{◌≡◌, ℕ, [], Option, Some, None, refl, sym, subst}
+use Rattle.std.specs.Option.{option_map}
+use Rattle.usb_fields.specs.Packet.{Sent}
+use Rattle.usb_fields.specs.declared.setup.Setup.{Setup as SetupPacket}
+use Rattle.usb_transfer.specs.declared.stage.TransferStage.{TransferStage}
+use Rattle.usb_transfer.specs.declared.stage.TransferStage.TheVariants as stages
+use Rattle.usb_transfer.specs.Transfer.{addressed, token_due}
+use Rattle.usb_host.specs.Steps.{HostPhase, HostView, ResetDue, Reading, Ended, Wanted, WantsNothing, WantsReset, WantsSent, sends, wanted}
+use Rattle.usb_calls.specs.declared.transaction.UsbTransaction.{UsbTransaction}
+use Rattle.usb_c.specs.Hosts.{transaction_due}
+use Rattle.usb_calls.specs.Transactions.{sent_told, transaction_of}
+
+abbrev IsWhole : Option Wanted → Type 0
+IsWhole None = Unit {0}
+IsWhole (Some WantsReset) = Unit {0}
+IsWhole (Some WantsNothing) = Unit {0}
+IsWhole (Some (WantsSent sent)) = sent_told (transaction_of sent) [] ≡ Some sent
+
+token_whole : (address : ℕ) (q : SetupPacket) (stage : TransferStage)
+    → IsWhole (Some (sends (addressed address (token_due q stage))))
+token_whole address q stages.Setup = refl
+token_whole address q stages.DataIn = refl
+token_whole address q stages.DataOut = refl
+token_whole address q stages.StatusOut = refl
+token_whole address q stages.StatusIn = refl
+token_whole address q stages.Completed = tt
+token_whole address q (stages.Failed why) = tt
+
+phase_whole : (phase : HostPhase) → IsWhole (Some (wanted phase))
+phase_whole ResetDue = tt
+phase_whole (Reading place t kept) = token_whole t.address t.request t.stage
+phase_whole (Ended place) = tt
+
+held_whole : (held : Option HostView) → IsWhole (option_map (λ v. wanted v.phase) held)
+held_whole None = tt
+held_whole (Some v) = phase_whole v.phase
+
+-- what is told of a transaction that is due is the whole of it
+pub told_whole : (held : Option HostView) (old new : UsbTransaction) (sent : Sent) → new ≡ transaction_due (option_map (λ v. wanted v.phase) held) old
+    → option_map (λ v. wanted v.phase) held ≡ Some (WantsSent sent) → sent_told new [] ≡ Some sent
+told_whole held old new sent told is =
+    let now : new ≡ transaction_of sent = subst (λ (w : Option Wanted). new ≡ transaction_due w old) is told in
+    subst (λ (t : UsbTransaction). sent_told t [] ≡ Some sent) (sym now) (subst IsWhole is (held_whole held))

@@ -1,0 +1,6 @@
+mod DecoderValues
+mod DeviceValues
+mod Due
+mod Faults
+mod HostValues
+mod LooseValues

@@ -1,0 +1,79 @@
+-- What calls do to a device that C holds, or to none.
+use Rattle.std.specs.Prelude.{◌≡◌, ℕ, Bool, true, false, List, Option, Some, None}
+use Rattle.usb_fields.specs.Packet.{Sent}
+use Rattle.usb_fields.specs.Setup.{setup_bytes}
+use Rattle.usb_fields.specs.declared.setup.Setup.{Setup}
+use Rattle.usb_fields.specs.declared.speed.Speed.{Speed}
+use Rattle.usb_file_data.specs.File.{File}
+use Rattle.usb_file_data.specs.declared.file.DescriptorFile.{DescriptorFile}
+use Rattle.usb_file.specs.declared.input_fault.InputFault.TheVariants as inputs
+use Rattle.usb_file.specs.FileFaults.{FileFaulty}
+use Rattle.usb_description.specs.Accepted.{Accepted}
+use Rattle.usb_device.specs.Beside.{Response, answered, refused_in, room_size, unanswered}
+use Rattle.usb_device.specs.Step.{new_device}
+use Rattle.usb_device.specs.View.{View, served_by}
+use Rattle.usb_device.specs.declared.state.State.{State}
+use Rattle.usb_device.specs.declared.unanswered.Unanswered.{Unanswered}
+use Rattle.usb_calls.specs.declared.answer.Verdict.{Verdict}
+use Rattle.usb_calls.specs.declared.answer.Verdict.TheVariants as verdicts
+use Rattle.usb_c.specs.declared.device.UsbState.{UsbState}
+use Rattle.usb_c.specs.declared.device.UsbSetup.{UsbSetup}
+use Rattle.usb_calls.specs.declared.transaction.UsbPacket.{UsbPacket}
+use Rattle.usb_calls.specs.Ends.{after}
+use Rattle.usb_calls.specs.Refusals.{RefusesFile}
+use Rattle.usb_calls.specs.Transactions.{packet_of}
+
+-- a new device of the file that these bytes are is held
+pub record OpensFile (b : List ℕ) (speed : Speed) (new : Option View) : Type 0 where
+  pub file : DescriptorFile
+  pub layout : File file b
+  pub accepted : Accepted file speed
+  pub held : new ≡ Some (record { description = record { file = file; speed = speed }; device = new_device })
+
+-- of bytes that are no file, or of which no device is made, none is held
+abbrev pub OpensAt : List ℕ → Speed → Option View → Verdict → Type 0
+OpensAt b speed new (verdicts.Done length) = (length ≡ 0) × OpensFile b speed new
+OpensAt b speed new (verdicts.Broken (inputs.File fault) length) = (length ≡ 0) × FileFaulty b fault.at fault.why × (new ≡ None)
+OpensAt b speed new (verdicts.Description fault) = RefusesFile b speed fault × (new ≡ None)
+OpensAt b speed new verdicts.NoMemory = new ≡ None
+OpensAt b speed new verdict = ⊥
+
+abbrev pub Opens : List ℕ → Option Speed → Option View → Verdict → Type 0
+Opens b None new verdict = (verdict ≡ verdicts.BadArgument 3) × (new ≡ None)
+Opens b (Some speed) new verdict = OpensAt b speed new verdict
+
+-- a transaction that has a meaning, with a device that is held; else nothing changes
+abbrev pub Serves : Option View → Option Sent → Bool → UsbPacket → Option View → UsbPacket → Bool → Type 0
+Serves (Some v) (Some sent) ready old new packet done =
+    let served = served_by v.description.file v.device sent ready in
+    (done ≡ true) × (new ≡ Some (after v served.device)) × (packet ≡ packet_of served.reply old)
+Serves (Some v) None ready old new packet done = (done ≡ false) × (new ≡ Some v) × (packet ≡ old)
+Serves None sent ready old new packet done = (done ≡ false) × (new ≡ None) × (packet ≡ old)
+
+-- the state as numbers
+abbrev pub state_numbers : State → UsbState
+state_numbers s =
+    record { halts = s.halts; address = s.address; selected = s.selected; wakeup = s.wakeup; alternates = s.alternates }
+
+-- that of the device that is held, or what stood there
+abbrev pub state_told : Option View → UsbState → UsbState
+state_told None old = old
+state_told (Some v) old = state_numbers v.device.state
+
+-- the bytes of a request, if there is one, or what stood there
+abbrev pub setup_told : Option Setup → UsbSetup → UsbSetup
+setup_told None old = old
+setup_told (Some q) old = record { bytes = setup_bytes q }
+
+-- what is told of an answer to the request that is refused
+abbrev pub taken_or : Option Unanswered → Verdict
+taken_or None = verdicts.Done 0
+taken_or (Some why) = verdicts.Unanswered why
+
+abbrev pub answer_told : (Setup → Option Unanswered) → Option View → Verdict
+answer_told unfit None = verdicts.Closed
+answer_told unfit (Some v) = taken_or (unanswered unfit (refused_in v.device.stage))
+
+-- the device once it was answered for
+abbrev pub answered_for : Response → View → View
+answered_for response v = after v (answered room_size response v.device)

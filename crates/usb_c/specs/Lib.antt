@@ -1,0 +1,4 @@
+pub mod Decoders
+pub mod Devices
+pub mod Hosts
+pub mod inside

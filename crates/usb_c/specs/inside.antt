@@ -1,0 +1,3 @@
+pub mod OwningDecoder
+pub mod OwningDevice
+pub mod OwningHost

@@ -1,0 +1,82 @@
+//! A decoder that C holds by a pointer.
+ghost use Rattle.std.specs.Prelude.{◌≡◌, Option, Some, None};
+ghost use Rattle.usb_c.specs.inside.OwningDecoder.{held_by, loosely_held, owned};
+ghost use Rattle.usb_set.specs.Decoding.{Decoding};
+
+use crate::loose::Loose;
+use std::alloc::Global;
+use std::marker::Model;
+use std::ptr::null_mut;
+use usb_set::Decoder;
+
+/// A decoder on the heap, or none, which is null. C sees a struct with one pointer in it, since a
+/// `Global` takes no bytes, and neither reads nor changes what it points to.
+#[repr(C)]
+pub struct UsbDecoder {
+    at: *mut u8,
+    alloc: Global,
+    pub ghost held: { Option Decoding },
+}
+
+impl Model for UsbDecoder {
+    ghost also_owns = { λ h. owned h.alloc h.at h.held };
+}
+
+impl UsbDecoder {
+    /// None.
+    pub(crate) fn empty(alloc: Global) -> UsbDecoder
+        ensures { result.held ≡ None }
+    {
+        UsbDecoder {
+            at: null_mut(),
+            alloc,
+        }
+    }
+
+    /// That of a box.
+    pub(crate) fn of(value: Box<Decoder>) -> UsbDecoder
+        ensures { result.held ≡ Some value.value }
+    {
+        UsbDecoder::full(Loose::of(value))
+    }
+
+    /// The box again, if there is one.
+    pub(crate) fn into_box(self) -> Option<Box<Decoder>>
+        ensures { held_by result ≡ self.held }
+    {
+        match self.split() {
+            Some(loose) => Some(loose.into_box()),
+            None => None,
+        }
+    }
+
+    fn full(loose: Loose<Decoder, Global>) -> UsbDecoder
+        ensures { result.held ≡ Some loose.value }
+    {
+        let Loose { at, alloc } = loose;
+        UsbDecoder {
+            at: at as *mut u8,
+            alloc,
+        }
+    }
+
+    fn split(self) -> Option<Loose<Decoder, Global>>
+        ensures { loosely_held result ≡ self.held }
+    {
+        let UsbDecoder { at, alloc } = self;
+        if at.is_null() {
+            None
+        } else {
+            Some(Loose {
+                at: at as *mut Decoder,
+                alloc,
+            })
+        }
+    }
+}
+
+impl Drop for UsbDecoder {
+    fn drop(self) {
+        let _held = self.into_box();
+    }
+}

@@ -1,0 +1,262 @@
+//! A device, by a handle.
+ghost use Rattle.std.specs.Prelude.{◌≡◌, None, is_some};
+ghost use Rattle.std.specs.Option.{option_and_then, option_map};
+ghost use Rattle.usb_device.specs.Beside.{carried_out_in, refused_in, room_size, unfit_bytes, unfit_status, Gives, Does};
+ghost use Rattle.usb_device.specs.Step.{new_device};
+ghost use Rattle.usb_device.specs.View.{acked_by};
+ghost use Rattle.usb_calls.specs.Answers.{AnswersOn, answer_of};
+ghost use Rattle.usb_c.specs.Devices.{Opens, OpensAt, Serves, answer_told, answered_for, setup_told, state_numbers, state_told};
+ghost use Rattle.usb_calls.specs.Ends.{after};
+ghost use Rattle.usb_calls.specs.Transactions.{sent_told, speed_told};
+
+use crate::device_handle::UsbDevice;
+use std::alloc::Global;
+use std::mem::replace;
+use usb_calls::{
+    Answer, OwnedDevice, UsbPacket, UsbTransaction, Verdict, refused_description, refused_file,
+    sent, speed_of,
+};
+use usb_device::{Description, State};
+use usb_fields::{Setup, Speed};
+use usb_file::read_file;
+
+/// What a device keeps from one request to the next (USB 2.0, 9.1.1).
+#[repr(C)]
+pub struct UsbState {
+    /// The halted endpoints: bit n for endpoint n OUT, bit 16 + n for endpoint n IN.
+    pub halts: u32,
+    /// The address that the device answers at, 0 to 127.
+    pub address: u8,
+    /// bConfigurationValue of the selected configuration, or 0 for none.
+    pub selected: u8,
+    /// Whether remote wakeup is enabled.
+    pub wakeup: bool,
+    /// The chosen alternate setting of each interface, by interface number.
+    pub alternates: [u8; 256],
+}
+
+/// The bytes of a request (USB 2.0, 9.3).
+#[repr(C)]
+pub struct UsbSetup {
+    /// bmRequestType, bRequest, wValue, wIndex and wLength.
+    pub bytes: [u8; 8],
+}
+
+/// Makes a device of a descriptor file. One that is held already is freed.
+#[unsafe(no_mangle)]
+pub extern "C" fn usb_device_open(
+    alloc: Global,
+    device: &mut UsbDevice,
+    file: &[u8],
+    speed: u8,
+) -> Answer
+    ensures { AnswersOn (Opens file.now (speed_told speed) device.new.held) result }
+{
+    *device = UsbDevice::empty(alloc);
+    match speed_of(speed) {
+        Some(speed) => open_at(alloc, device, file, speed).answer(),
+        None => Verdict::BadArgument(3).answer(),
+    }
+}
+
+#[tactic(auto, using(crate::proofs::Faults::no_file_opens, crate::proofs::Faults::no_description_opens))]
+fn open_at(alloc: Global, device: &mut UsbDevice, bytes: &[u8], speed: Speed) -> Verdict
+    requires { device.old.held ≡ None }
+    ensures { OpensAt bytes.now speed device.new.held result }
+{
+    let file = match read_file(alloc, bytes) {
+        Ok(file) => file,
+        Err(fault) => return refused_file(fault),
+    };
+    let description = match Description::new(alloc, file, speed) {
+        Ok(description) => description,
+        Err(fault) => return refused_description(fault),
+    };
+    match Box::new(alloc, OwnedDevice::new(description)) {
+        Ok(held) => {
+            *device = UsbDevice::of(held);
+            Verdict::Done(0)
+        }
+        Err(_) => Verdict::NoMemory,
+    }
+}
+
+/// A bus reset. False where none is held.
+#[unsafe(no_mangle)]
+pub extern "C" fn usb_device_reset(alloc: Global, device: &mut UsbDevice) -> bool
+    ensures held { device.new.held ≡ option_map (λ v. after v new_device) device.old.held }
+    ensures done { result ≡ is_some device.old.held }
+{
+    let Some(mut held) = replace(device, UsbDevice::empty(alloc)).into_box() else {
+        return false;
+    };
+    held.reset();
+    *device = UsbDevice::of(held);
+    true
+}
+
+/// One transaction. False where none is held, or where the stage or the toggle has no meaning: the packet is then as
+/// it was.
+#[unsafe(no_mangle)]
+pub extern "C" fn usb_device_serve(
+    alloc: Global,
+    device: &mut UsbDevice,
+    transaction: &UsbTransaction,
+    bytes: &[u8],
+    ready: bool,
+    packet: &mut UsbPacket,
+) -> bool
+    ensures { Serves device.old.held (sent_told transaction.now bytes.now) ready packet.old device.new.held packet.new result }
+{
+    let Some(transaction) = sent(transaction, bytes) else {
+        return false;
+    };
+    let Some(mut held) = replace(device, UsbDevice::empty(alloc)).into_box() else {
+        return false;
+    };
+    held.serve(&transaction, ready, packet);
+    *device = UsbDevice::of(held);
+    true
+}
+
+/// The host's ACK of the data packet that was answered right before. False where none is held.
+#[unsafe(no_mangle)]
+pub extern "C" fn usb_device_acked(alloc: Global, device: &mut UsbDevice) -> bool
+    ensures held { device.new.held ≡ option_map (λ v. after v (acked_by v.description.file v.device)) device.old.held }
+    ensures done { result ≡ is_some device.old.held }
+{
+    let Some(mut held) = replace(device, UsbDevice::empty(alloc)).into_box() else {
+        return false;
+    };
+    held.acked();
+    *device = UsbDevice::of(held);
+    true
+}
+
+/// The request that is refused, and whose refusal the host was not told yet. False where there is none.
+#[unsafe(no_mangle)]
+pub extern "C" fn usb_device_refused(
+    alloc: Global,
+    device: &mut UsbDevice,
+    setup: &mut UsbSetup,
+) -> bool
+    ensures held { device.new.held ≡ device.old.held }
+    ensures setup { setup.new ≡ setup_told (option_and_then (λ v. refused_in v.device.stage) device.old.held) setup.old }
+    ensures found { result ≡ is_some (option_and_then (λ v. refused_in v.device.stage) device.old.held) }
+{
+    let Some(held) = replace(device, UsbDevice::empty(alloc)).into_box() else {
+        return false;
+    };
+    let request = held.refused();
+    *device = UsbDevice::of(held);
+    tell_request(request, setup)
+}
+
+/// Answers that request by these bytes, cut to wLength.
+#[unsafe(no_mangle)]
+pub extern "C" fn usb_device_answer_with(
+    alloc: Global,
+    device: &mut UsbDevice,
+    bytes: &[u8],
+) -> Answer
+    ensures held { device.new.held ≡ option_map (answered_for (Gives bytes.now)) device.old.held }
+    ensures answer { result ≡ answer_of (answer_told (unfit_bytes room_size bytes.now) device.old.held) }
+{
+    let Some(mut held) = replace(device, UsbDevice::empty(alloc)).into_box() else {
+        return Verdict::Closed.answer();
+    };
+    let taken = held.answer_with(bytes);
+    *device = UsbDevice::of(held);
+    match taken {
+        Ok(()) => Verdict::Done(0).answer(),
+        Err(why) => Verdict::Unanswered(why).answer(),
+    }
+}
+
+/// Answers that request by the status stage of a request without data.
+#[unsafe(no_mangle)]
+pub extern "C" fn usb_device_accept(alloc: Global, device: &mut UsbDevice) -> Answer
+    ensures held { device.new.held ≡ option_map (answered_for Does) device.old.held }
+    ensures answer { result ≡ answer_of (answer_told unfit_status device.old.held) }
+{
+    let Some(mut held) = replace(device, UsbDevice::empty(alloc)).into_box() else {
+        return Verdict::Closed.answer();
+    };
+    let taken = held.accept();
+    *device = UsbDevice::of(held);
+    match taken {
+        Ok(()) => Verdict::Done(0).answer(),
+        Err(why) => Verdict::Unanswered(why).answer(),
+    }
+}
+
+/// The request that was carried out, in its status stage. False where there is none.
+#[unsafe(no_mangle)]
+pub extern "C" fn usb_device_carried_out(
+    alloc: Global,
+    device: &mut UsbDevice,
+    setup: &mut UsbSetup,
+) -> bool
+    ensures held { device.new.held ≡ device.old.held }
+    ensures setup { setup.new ≡ setup_told (option_and_then (λ v. carried_out_in v.device.stage) device.old.held) setup.old }
+    ensures found { result ≡ is_some (option_and_then (λ v. carried_out_in v.device.stage) device.old.held) }
+{
+    let Some(held) = replace(device, UsbDevice::empty(alloc)).into_box() else {
+        return false;
+    };
+    let request = held.carried_out();
+    *device = UsbDevice::of(held);
+    tell_request(request, setup)
+}
+
+/// The state. False where none is held.
+#[unsafe(no_mangle)]
+pub extern "C" fn usb_device_state(
+    alloc: Global,
+    device: &mut UsbDevice,
+    state: &mut UsbState,
+) -> bool
+    ensures held { device.new.held ≡ device.old.held }
+    ensures state { state.new ≡ state_told device.old.held state.old }
+    ensures done { result ≡ is_some device.old.held }
+{
+    let Some(held) = replace(device, UsbDevice::empty(alloc)).into_box() else {
+        return false;
+    };
+    tell_state(held.state(), state);
+    *device = UsbDevice::of(held);
+    true
+}
+
+/// Frees the device, if one is held.
+#[unsafe(no_mangle)]
+pub extern "C" fn usb_device_close(alloc: Global, device: &mut UsbDevice)
+    ensures { device.new.held ≡ None }
+{
+    let _old = replace(device, UsbDevice::empty(alloc));
+}
+
+fn tell_request(request: Option<Setup>, setup: &mut UsbSetup) -> bool
+    ensures setup { setup.new ≡ setup_told request setup.old }
+    ensures found { result ≡ is_some request }
+{
+    match request {
+        Some(request) => {
+            setup.bytes = request.to_bytes();
+            true
+        }
+        None => false,
+    }
+}
+
+fn tell_state(now: State, state: &mut UsbState)
+    ensures { state.new ≡ state_numbers now }
+{
+    state.halts = now.halts;
+    state.address = now.address;
+    state.selected = now.selected;
+    state.wakeup = now.wakeup;
+    // A field that is an array is stored by way of a variable.
+    let alternates = now.alternates;
+    state.alternates = alternates;
+}

@@ -1,0 +1,82 @@
+//! A device that C holds by a pointer.
+ghost use Rattle.std.specs.Prelude.{◌≡◌, Option, Some, None};
+ghost use Rattle.usb_c.specs.inside.OwningDevice.{held_by, loosely_held, owned};
+ghost use Rattle.usb_device.specs.View.{View};
+
+use crate::loose::Loose;
+use std::alloc::Global;
+use std::marker::Model;
+use std::ptr::null_mut;
+use usb_calls::OwnedDevice;
+
+/// A device on the heap, or none, which is null. C sees a struct with one pointer in it, since a
+/// `Global` takes no bytes, and neither reads nor changes what it points to.
+#[repr(C)]
+pub struct UsbDevice {
+    at: *mut u8,
+    alloc: Global,
+    pub ghost held: { Option View },
+}
+
+impl Model for UsbDevice {
+    ghost also_owns = { λ h. owned h.alloc h.at h.held };
+}
+
+impl UsbDevice {
+    /// None.
+    pub(crate) fn empty(alloc: Global) -> UsbDevice
+        ensures { result.held ≡ None }
+    {
+        UsbDevice {
+            at: null_mut(),
+            alloc,
+        }
+    }
+
+    /// That of a box.
+    pub(crate) fn of(value: Box<OwnedDevice>) -> UsbDevice
+        ensures { result.held ≡ Some value.value }
+    {
+        UsbDevice::full(Loose::of(value))
+    }
+
+    /// The box again, if there is one.
+    pub(crate) fn into_box(self) -> Option<Box<OwnedDevice>>
+        ensures { held_by result ≡ self.held }
+    {
+        match self.split() {
+            Some(loose) => Some(loose.into_box()),
+            None => None,
+        }
+    }
+
+    fn full(loose: Loose<OwnedDevice, Global>) -> UsbDevice
+        ensures { result.held ≡ Some loose.value }
+    {
+        let Loose { at, alloc } = loose;
+        UsbDevice {
+            at: at as *mut u8,
+            alloc,
+        }
+    }
+
+    fn split(self) -> Option<Loose<OwnedDevice, Global>>
+        ensures { loosely_held result ≡ self.held }
+    {
+        let UsbDevice { at, alloc } = self;
+        if at.is_null() {
+            None
+        } else {
+            Some(Loose {
+                at: at as *mut OwnedDevice,
+                alloc,
+            })
+        }
+    }
+}
+
+impl Drop for UsbDevice {
+    fn drop(self) {
+        let _held = self.into_box();
+    }
+}

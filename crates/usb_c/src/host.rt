@@ -1,0 +1,169 @@
+//! A host that enumerates, by a handle.
+ghost use Rattle.std.specs.Prelude.{◌≡◌, None, Some, is_some, []};
+ghost use Rattle.std.specs.Option.{option_map};
+ghost use Rattle.usb_fields.specs.Packet.{Sent};
+ghost use Rattle.usb_host.specs.Steps.{WantsSent, reset, wanted};
+ghost use Rattle.usb_calls.specs.Answers.{AnswersOn};
+ghost use Rattle.usb_c.specs.Hosts.{Ends, Opens, OpensAt, TakesOne, action_number, resets_of, transaction_due};
+ghost use Rattle.usb_calls.specs.Transactions.{reply_told, sent_told, speed_told};
+
+use crate::host_handle::UsbHost;
+use std::alloc::Global;
+use std::mem::replace;
+use usb_calls::{
+    Answer, UsbTransaction, UsbTrouble, Verdict, answer_of, speed_of, tell_outcome, told,
+};
+use usb_fields::Speed;
+use usb_host::{Action, Host};
+use usb_transfer::Limits;
+
+/// Opens a host that has done nothing. One that is held already is freed.
+#[unsafe(no_mangle)]
+pub extern "C" fn usb_host_open(
+    alloc: Global,
+    host: &mut UsbHost,
+    address: u8,
+    naks: u16,
+    attempts: u8,
+    speed: u8,
+) -> Answer
+    ensures { AnswersOn (Opens address naks attempts (speed_told speed) host.new.held) result }
+{
+    *host = UsbHost::empty(alloc);
+    match speed_of(speed) {
+        Some(speed) => open_at(alloc, host, address, naks, attempts, speed).answer(),
+        None => Verdict::BadArgument(3).answer(),
+    }
+}
+
+fn open_at(
+    alloc: Global,
+    host: &mut UsbHost,
+    address: u8,
+    naks: u16,
+    attempts: u8,
+    speed: Speed,
+) -> Verdict
+    requires { host.old.held ≡ None }
+    ensures { OpensAt address naks attempts speed host.new.held result }
+{
+    let limits = match Limits::new(address, naks, attempts) {
+        Ok(limits) => limits,
+        Err(fault) => return Verdict::BadArgument(fault.number()),
+    };
+    match Box::new(alloc, Host::new(alloc, limits, speed)) {
+        Ok(held) => {
+            *host = UsbHost::of(held);
+            Verdict::Done(0)
+        }
+        Err(_) => Verdict::NoMemory,
+    }
+}
+
+/// What is due: 0 a bus reset, 1 the transaction, 2 nothing, since there is an outcome; 3 where none is held. An OUT has no
+/// bytes. But for 1 the transaction is as it was.
+#[tactic(auto, using(crate::proofs::Due::told_whole))]
+#[unsafe(no_mangle)]
+pub extern "C" fn usb_host_next(
+    alloc: Global,
+    host: &mut UsbHost,
+    transaction: &mut UsbTransaction,
+) -> u8
+    ensures held { host.new.held ≡ host.old.held }
+    ensures action { result ≡ action_number (option_map (λ v. wanted v.phase) host.old.held) }
+    ensures due { transaction.new ≡ transaction_due (option_map (λ v. wanted v.phase) host.old.held) transaction.old }
+    // With no bytes what is told is the whole transaction.
+    ensures whole { (sent : Sent) → option_map (λ v. wanted v.phase) host.old.held ≡ Some (WantsSent sent) → sent_told transaction.new [] ≡ Some sent }
+{
+    let Some(held) = replace(host, UsbHost::empty(alloc)).into_box() else {
+        return 3;
+    };
+    let action = held.next();
+    *host = UsbHost::of(held);
+    match action {
+        Action::Reset => 0,
+        Action::Send(due) => {
+            *transaction = told(&due);
+            1
+        }
+        Action::Ended => 2,
+    }
+}
+
+/// The bus was reset. False where none is held.
+#[unsafe(no_mangle)]
+pub extern "C" fn usb_host_reset_done(alloc: Global, host: &mut UsbHost) -> bool
+    ensures held { host.new.held ≡ option_map reset host.old.held }
+    ensures done { result ≡ is_some host.old.held }
+{
+    let Some(mut held) = replace(host, UsbHost::empty(alloc)).into_box() else {
+        return false;
+    };
+    held.reset_done();
+    *host = UsbHost::of(held);
+    true
+}
+
+/// What the transaction brought. False where none is held, or where the reply or the toggle of a data packet has no
+/// meaning: nothing changes then.
+#[unsafe(no_mangle)]
+pub extern "C" fn usb_host_take(
+    alloc: Global,
+    host: &mut UsbHost,
+    reply: u8,
+    toggle: u8,
+    bytes: &[u8],
+) -> bool
+    ensures { TakesOne host.old.held (reply_told reply toggle bytes.now) host.new.held result }
+{
+    let Some(answer) = answer_of(reply, toggle, bytes) else {
+        return false;
+    };
+    let Some(mut held) = replace(host, UsbHost::empty(alloc)).into_box() else {
+        return false;
+    };
+    held.take(answer);
+    *host = UsbHost::of(held);
+    true
+}
+
+/// How often the bus was reset; 0 where none is held.
+#[unsafe(no_mangle)]
+pub extern "C" fn usb_host_attempts(alloc: Global, host: &mut UsbHost) -> u8
+    ensures held { host.new.held ≡ host.old.held }
+    ensures attempts { result ≡ resets_of host.old.held }
+{
+    let Some(held) = replace(host, UsbHost::empty(alloc)).into_box() else {
+        return 0;
+    };
+    let attempts = held.attempts();
+    *host = UsbHost::of(held);
+    attempts
+}
+
+/// The outcome: the bytes of the file that was read, or the trouble.
+#[unsafe(no_mangle)]
+pub extern "C" fn usb_host_outcome(
+    alloc: Global,
+    host: &mut UsbHost,
+    trouble: &mut UsbTrouble,
+    file: &mut [u8],
+) -> Answer
+    ensures held { host.new.held ≡ host.old.held }
+    ensures answer { AnswersOn (Ends host.old.held trouble.old trouble.new file.old file.new) result }
+{
+    let Some(held) = replace(host, UsbHost::empty(alloc)).into_box() else {
+        return Verdict::Closed.answer();
+    };
+    let verdict = tell_outcome(alloc, &held, trouble, file);
+    *host = UsbHost::of(held);
+    verdict.answer()
+}
+
+/// Frees the host, if one is held.
+#[unsafe(no_mangle)]
+pub extern "C" fn usb_host_close(alloc: Global, host: &mut UsbHost)
+    ensures { host.new.held ≡ None }
+{
+    let _old = replace(host, UsbHost::empty(alloc));
+}

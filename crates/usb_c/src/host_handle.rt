@@ -1,0 +1,82 @@
+//! A host that C holds by a pointer.
+ghost use Rattle.std.specs.Prelude.{◌≡◌, Option, Some, None};
+ghost use Rattle.usb_c.specs.inside.OwningHost.{held_by, loosely_held, owned};
+ghost use Rattle.usb_host.specs.Steps.{HostView};
+
+use crate::loose::Loose;
+use std::alloc::Global;
+use std::marker::Model;
+use std::ptr::null_mut;
+use usb_host::Host;
+
+/// A host on the heap, or none, which is null. C sees a struct with one pointer in it, since a
+/// `Global` takes no bytes, and neither reads nor changes what it points to.
+#[repr(C)]
+pub struct UsbHost {
+    at: *mut u8,
+    alloc: Global,
+    pub ghost held: { Option HostView },
+}
+
+impl Model for UsbHost {
+    ghost also_owns = { λ h. owned h.alloc h.at h.held };
+}
+
+impl UsbHost {
+    /// None.
+    pub(crate) fn empty(alloc: Global) -> UsbHost
+        ensures { result.held ≡ None }
+    {
+        UsbHost {
+            at: null_mut(),
+            alloc,
+        }
+    }
+
+    /// That of a box.
+    pub(crate) fn of(value: Box<Host>) -> UsbHost
+        ensures { result.held ≡ Some value.value }
+    {
+        UsbHost::full(Loose::of(value))
+    }
+
+    /// The box again, if there is one.
+    pub(crate) fn into_box(self) -> Option<Box<Host>>
+        ensures { held_by result ≡ self.held }
+    {
+        match self.split() {
+            Some(loose) => Some(loose.into_box()),
+            None => None,
+        }
+    }
+
+    fn full(loose: Loose<Host, Global>) -> UsbHost
+        ensures { result.held ≡ Some loose.value }
+    {
+        let Loose { at, alloc } = loose;
+        UsbHost {
+            at: at as *mut u8,
+            alloc,
+        }
+    }
+
+    fn split(self) -> Option<Loose<Host, Global>>
+        ensures { loosely_held result ≡ self.held }
+    {
+        let UsbHost { at, alloc } = self;
+        if at.is_null() {
+            None
+        } else {
+            Some(Loose {
+                at: at as *mut Host,
+                alloc,
+            })
+        }
+    }
+}
+
+impl Drop for UsbHost {
+    fn drop(self) {
+        let _held = self.into_box();
+    }
+}

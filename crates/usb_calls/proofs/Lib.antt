@@ -1,0 +1,3 @@
+mod InputFaults
+mod Reasons
+mod Replies

@@ -1,0 +1,224 @@
+//! Texts, from a buffer into a buffer: what `usbdesc` writes.
+ghost use Rattle.std.specs.Prelude.{◌≡◌, ◌++◌, List, ℕ, IfOk, OnOk};
+ghost use Rattle.usb_explain.specs.Explanations.{explanation};
+ghost use Rattle.usb_file.specs.Inputs.{input_findings};
+ghost use Rattle.usb_file_data.specs.File.{File};
+ghost use Rattle.usb_listing.specs.SetListing.{set_lines};
+ghost use Rattle.usb_calls.specs.Buffers.{Fills};
+ghost use Rattle.usb_calls.specs.Outcomes.{PutsFile};
+ghost use Rattle.usb_calls.specs.Texts.{ExplainsFault};
+ghost use Rattle.usb_calls.specs.Texts.{Builds, Checks, Explains, Shows, check_text, finding_line_end, finding_lines, input_lines, manner_told, running_speed_told};
+ghost use Rattle.usb_calls.specs.declared.answer.Verdict.TheVariants as verdicts;
+
+use crate::answer::Verdict;
+use crate::buffer::{fill_broken, fill_done};
+use crate::refusal::{refused_input, refused_list, wants_memory};
+use std::alloc::{AllocError, Global};
+use usb_explain::{Look, Manner, RunningSpeed, explain, explain_broken};
+use usb_file::{
+    DescriptorFile, Finding, Input, InputFault, OutFault, WriteFault, assemble, check_input, list,
+    list_set, read_input, write_file,
+};
+use usb_set::Configuration;
+
+/// Puts the listing of an input into the buffer: a line for each descriptor.
+#[tactic(auto, using(crate::proofs::InputFaults::input_refuses))]
+pub fn show(alloc: Global, bytes: &[u8], out: &mut [u8]) -> Verdict
+    ensures { Shows bytes.now out.old out.new result }
+{
+    match read_input(alloc, bytes) {
+        Ok(input) => show_input(alloc, &input, out),
+        Err(fault) => refused_input(fault),
+    }
+}
+
+/// Puts the listing of a set into the buffer.
+pub fn fill_set(alloc: Global, set: &Configuration, out: &mut [u8]) -> Verdict
+    ensures { Fills verdicts.Done (set_lines set.now) out.old out.new result }
+{
+    let mut text = Vec::new(alloc);
+    match list_set(alloc, set, &mut text) {
+        Ok(()) => fill_done(text.as_slice(), out),
+        Err(_) => Verdict::NoMemory,
+    }
+}
+
+fn show_input(alloc: Global, input: &Input, out: &mut [u8]) -> Verdict
+    ensures { Fills verdicts.Done (input_lines input.now) out.old out.new result }
+{
+    match lines_of_input(alloc, input) {
+        Ok(text) => fill_done(text.as_slice(), out),
+        Err(_) => Verdict::NoMemory,
+    }
+}
+
+fn lines_of_input(alloc: Global, input: &Input) -> Result<Vec<u8>, OutFault>
+    ensures { IfOk result (λ text. text.items ≡ input_lines input.now) }
+{
+    let mut text = Vec::new(alloc);
+    match input {
+        Input::Set(set) => list_set(alloc, set, &mut text)?,
+        Input::File(file) | Input::Dump(file) => list(alloc, file, &mut text)?,
+    }
+    Ok(text)
+}
+
+/// Puts a line for each finding in an input into the buffer, or `no findings`.
+#[tactic(auto, using(crate::proofs::InputFaults::input_refuses))]
+pub fn check(alloc: Global, bytes: &[u8], out: &mut [u8]) -> Verdict
+    ensures { Checks bytes.now out.old out.new result }
+{
+    match read_input(alloc, bytes) {
+        Ok(input) => check_whole(alloc, &input, out),
+        Err(fault) => refused_input(fault),
+    }
+}
+
+fn check_whole(alloc: Global, input: &Input, out: &mut [u8]) -> Verdict
+    ensures { Fills verdicts.Done (check_text (input_findings input.now)) out.old out.new result }
+{
+    match findings_text(alloc, input) {
+        Ok(text) => fill_done(text.as_slice(), out),
+        Err(_) => Verdict::NoMemory,
+    }
+}
+
+fn findings_text(alloc: Global, input: &Input) -> Result<Vec<u8>, AllocError>
+    ensures { IfOk result (λ text. text.items ≡ check_text (input_findings input.now)) }
+{
+    let found = check_input(alloc, input)?;
+    text_of(alloc, &found)
+}
+
+fn text_of(alloc: Global, found: &[Finding]) -> Result<Vec<u8>, AllocError>
+    ensures { IfOk result (λ text. text.items ≡ check_text found.now) }
+{
+    if found.is_empty() {
+        return Vec::from_slice(alloc, b"no findings\n");
+    }
+    lines_of(alloc, found)
+}
+
+fn lines_of(alloc: Global, found: &[Finding]) -> Result<Vec<u8>, AllocError>
+    ensures { IfOk result (λ text. text.items ≡ finding_lines found.now) }
+{
+    let mut text = Vec::new(alloc);
+    for finding in found {
+        put_line(alloc, &mut text, finding)?;
+    }
+    Ok(text)
+}
+
+fn put_line(alloc: Global, text: &mut Vec<u8>, finding: &Finding) -> Result<(), AllocError>
+    ensures { OnOk result (text.new.items ≡ text.old.items ++ finding_line_end finding.now) }
+{
+    let line = format!(in alloc; "{finding}")?;
+    text.extend_from_slice(line.as_bytes())?;
+    text.push(b'\n')?;
+    Ok(())
+}
+
+/// How an explanation is written.
+pub fn manner(options: u32, speed: u8) -> Manner
+    ensures { result ≡ manner_told options speed }
+{
+    Manner {
+        look: Look {
+            brief: options % 2 == 1,
+            places: options / 2 % 2 == 1,
+        },
+        speed: running_speed(speed),
+    }
+}
+
+fn running_speed(number: u8) -> Option<RunningSpeed>
+    ensures { result ≡ running_speed_told number }
+{
+    match number {
+        1 => Some(RunningSpeed::Low),
+        2 => Some(RunningSpeed::Full),
+        3 => Some(RunningSpeed::High),
+        4 => Some(RunningSpeed::Super),
+        _ => None,
+    }
+}
+
+/// Puts the explanation of bytes into the buffer: of an input all of it, else what stands before the fault, the fault and
+/// the rest. Options: bit 0 leaves out the fields, bit 1 gives each field its place. A speed: 1 low, 2 full, 3 high,
+/// 4 super; any other says nothing of it.
+#[tactic(auto, using(crate::proofs::InputFaults::fault_explained))]
+pub fn explain_bytes(alloc: Global, bytes: &[u8], manner: Manner, out: &mut [u8]) -> Verdict
+    ensures { Explains manner bytes.now out.old out.new result }
+{
+    match read_input(alloc, bytes) {
+        Ok(input) => explain_input(alloc, bytes, &input, manner, out),
+        Err(fault) => explain_fault(alloc, bytes, fault, manner, out),
+    }
+}
+
+fn explain_input(
+    alloc: Global,
+    bytes: &[u8],
+    input: &Input,
+    manner: Manner,
+    out: &mut [u8],
+) -> Verdict
+    ensures { Fills verdicts.Done (explanation manner input.now bytes.now) out.old out.new result }
+{
+    let mut text = Vec::new(alloc);
+    match explain(alloc, bytes, input, manner, &mut text) {
+        Ok(()) => fill_done(text.as_slice(), out),
+        Err(_) => Verdict::NoMemory,
+    }
+}
+
+fn explain_fault(
+    alloc: Global,
+    bytes: &[u8],
+    fault: InputFault,
+    manner: Manner,
+    out: &mut [u8],
+) -> Verdict
+    ensures { ExplainsFault manner fault bytes.now out.old out.new result }
+{
+    if wants_memory(fault) {
+        return Verdict::NoMemory;
+    }
+    let mut text = Vec::new(alloc);
+    match explain_broken(alloc, bytes, fault, manner, &mut text) {
+        Ok(()) => fill_broken(fault, text.as_slice(), out),
+        Err(_) => Verdict::NoMemory,
+    }
+}
+
+/// Puts the bytes of the file that a text lists into the buffer.
+#[tactic(auto, using(crate::proofs::InputFaults::list_refuses))]
+pub fn build(alloc: Global, text: &[u8], out: &mut [u8]) -> Verdict
+    ensures { Builds text.now out.old out.new result }
+{
+    match assemble(alloc, text) {
+        Ok(file) => build_file(alloc, &file, out),
+        Err(fault) => refused_list(fault),
+    }
+}
+
+fn build_file(alloc: Global, file: &DescriptorFile, out: &mut [u8]) -> Verdict
+    requires { (b : List ℕ) × File file.now b }
+    ensures { PutsFile file.now out.old out.new result }
+{
+    match bytes_of(alloc, file) {
+        Ok(bytes) => fill_done(bytes.as_slice(), out),
+        Err(_) => Verdict::NoMemory,
+    }
+}
+
+fn bytes_of(alloc: Global, file: &DescriptorFile) -> Result<Vec<u8>, AllocError>
+    requires { (b : List ℕ) × File file.now b }
+    ensures { IfOk result (λ b. File file.now b.items) }
+{
+    match write_file(alloc, file) {
+        Ok(bytes) => Ok(bytes),
+        Err(WriteFault::Memory) => Err(AllocError),
+        Err(_) => unreachable!(),
+    }
+}

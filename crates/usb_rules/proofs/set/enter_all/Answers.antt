@@ -1,0 +1,24 @@
+use Rattle.std.proofs.Common.{◌<◌, ◌++◌, ◌∙◌, not, length, ap, sym, arith}
+use Rattle.usb_base.specs.Marks.{marked}
+use Rattle.usb_rules.specs.Places.{when}
+use Rattle.usb_rules.specs.Rules.{number_of}
+use Rattle.usb_rules.specs.inside.Interfaces.{first_at, pair_too, kept as entries}
+use Rattle.usb_rules.proofs.Walking.{at_each_next, stands_more, stood_more}
+use Rattle.usb_rules.proofs.set.enter_all.Goals as goal
+
+pub loop-setting-preserved : goal.loop-setting-preserved
+loop-setting-preserved c =
+    let settings = c.args.settings.now in
+    let j = c.loop-setting.setting in
+    let s = c.index-settings-setting.result in
+    let now = entries c.loop-setting.interfaces in
+    let inv = c.loop-setting.invariant in
+    let below : j < length settings = omega (arith, c.loop-setting-test.true) in
+    let is = c.index-settings-setting.is in
+    let more = c.in_ok-add.ensures.entered in
+    record {
+      numbers = ap (λ t. t.numbers) more ∙ ap (λ f. marked f s.number) inv.numbers ∙ sym (stands_more number_of settings j s below is);
+      alternates = ap (λ t. t.alternates) more ∙ ap (pair_too s.number s.alternate) inv.alternates ∙ sym (stood_more settings j s below is);
+      firsts = at_each_next (first_at settings) settings j s now.firsts _ _ below is inv.firsts
+          (ap (λ t. t.firsts) more ∙ ap (λ f. now.firsts ++ when (not (f s.number)) (s.number, j)) inv.numbers);
+    }
