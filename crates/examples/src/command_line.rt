@@ -88,7 +88,7 @@ pub(crate) fn running_speed(alloc: Global, words: &[String]) -> Result<String> {
     }
 }
 
-/// What the options of `explain` come to, or the exit status and the line of the fault.
+/// What the options of `explain` mean, or the exit status and the line of the fault.
 pub(crate) fn manner(alloc: Global, words: &[String]) -> Result<String> {
     let words = line_of(alloc, words)?;
     let Ok(Line::Explain(options)) = read_line(alloc, &words) else {
@@ -126,7 +126,7 @@ fn listed(alloc: Global, fates: &[Fate]) -> Result<String> {
     Ok(text)
 }
 
-/// What the options of a line come to, limits, speed, fates and whether a log is asked for, or the exit status and the
+/// What the options of a line mean, limits, speed, fates and whether a log is asked for, or the exit status and the
 /// line of the fault.
 pub(crate) fn settings(alloc: Global, words: &[String]) -> Result<String> {
     let words = line_of(alloc, words)?;

@@ -31,7 +31,7 @@ fn told<R: Read, W: Write>(alloc: Global, word: &str, r: &mut R, w: &mut W) -> R
 }
 
 /// The run that a row asks for, which succeeds, and the row's number, which a flush doesn't have. Its input is the bytes
-/// of the row's lines, once the words behind the command and the number have changed them.
+/// of the row's lines, once the words after the command and the number have changed them.
 fn case_of(alloc: Global, row: &Row) -> Result<(Case, usize)> {
     let (word, number, words) = match row.words.as_slice() {
         [word, words @ ..] if row.call.as_str() == "failing_flush" => (word, usize::MAX, words),
@@ -135,7 +135,7 @@ fn sheet_of(alloc: Global, step: usize, calls: usize, end: End) -> Sheet {
     }
 }
 
-/// How a run with this writer ends, which then holds a front of the output.
+/// How a run with this writer ends, which then holds a prefix of the output.
 fn write_to(alloc: Global, case: &Case, sheet: &mut Sheet) -> Result<String> {
     let told = told(alloc, case.word.as_str(), &mut case.input.as_slice(), sheet)?;
     ensure!(

@@ -13,9 +13,9 @@ pub(crate) struct Row {
     pub(crate) call: String,
     /// What is given to it.
     pub(crate) words: Vec<String>,
-    /// The lines that are given to it, which stand behind `|`.
+    /// The lines that are given to it, which are after `|`.
     pub(crate) lines: String,
-    /// What must come: the words behind the arrow, and the lines behind `>` and `!`.
+    /// What must come: the words after the arrow, and the lines after `>` and `!`.
     pub(crate) wanted: String,
 }
 

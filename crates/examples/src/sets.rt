@@ -13,7 +13,7 @@ const LENGTHS: [usize; 8] = [1, 2, 3, 64, 254, 255, 256, 65_535];
 /// A set of at most this many bytes is also cut in two at each place.
 const SHORT: usize = 1000;
 
-/// What the pieces of a set come to: the set and its length, or a fault.
+/// What is read of the pieces of a set: the set and its length, or a fault.
 type Read = std::result::Result<(Configuration, usize), SetFault>;
 
 /// How many bytes the set has that the bytes begin with, or their fault; whichever way they are cut. The set is encoded
@@ -54,7 +54,7 @@ fn cut_everywhere(alloc: Global, bytes: &[u8], whole: &Read) -> Result<()> {
     Ok(())
 }
 
-/// What the bytes come to in a first piece of so many, and the rest in pieces of this length.
+/// What is read of the bytes in a first piece of so many, and the rest in pieces of this length.
 fn read(alloc: Global, bytes: &[u8], first: usize, length: usize) -> Result<Read> {
     let (front, rest) = bytes.split_at(first.min(bytes.len()));
     let mut reading = Reading {
@@ -81,7 +81,7 @@ fn decoded(alloc: Global, bytes: &[u8]) -> Result<Configuration> {
     Ok(set)
 }
 
-/// The bytes of the set, or why it has none, which `refusal` tells as well.
+/// The bytes of the set, or why it has none, which `refusal` has as well.
 fn encoded(
     alloc: Global,
     set: &Configuration,

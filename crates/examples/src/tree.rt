@@ -46,7 +46,7 @@ fn words_of<'a>(alloc: Global, line: &'a str) -> Result<Vec<&'a str>> {
     Ok(line.split_whitespace().collect::<Vec<&'a str>>(alloc)?)
 }
 
-/// Bytes, and behind them those of fields: two digits are one byte, and four a number of two, the low one first.
+/// Bytes, and after them those of fields: two digits are one byte, and four a number of two, the low one first.
 fn fields(alloc: Global, front: &str, words: &[&str]) -> Result<Vec<u8>> {
     let mut bytes = hex::decode(alloc, front)?;
     for word in words {
@@ -57,7 +57,7 @@ fn fields(alloc: Global, front: &str, words: &[&str]) -> Result<Vec<u8>> {
     Ok(bytes)
 }
 
-/// The bytes of the fields of a descriptor, and its tail or body behind them.
+/// The bytes of the fields of a descriptor, and its tail or body after them.
 fn with_tail(alloc: Global, rest: &str) -> Result<(Vec<u8>, Sequence<u8>)> {
     let mut words = words_of(alloc, rest)?;
     let last = words.pop().context("no tail")?;

@@ -42,7 +42,7 @@ pub(crate) fn expand_line(alloc: Global, names: &Names, line: &str) -> Result<St
     Ok(text.repeat(alloc, count)?)
 }
 
-/// How often a part stands there, and what it is: `253*00` is 253 times `00`.
+/// How often a part is there, and what it is: `253*00` is 253 times `00`.
 fn counted(part: &str) -> (usize, &str) {
     if let Some((count, atom)) = part.split_once('*')
         && let Ok(count) = count.parse::<usize>()
@@ -66,7 +66,7 @@ pub(crate) fn changed(alloc: Global, lines: &str, words: &[String]) -> Result<Ve
     Ok(bytes)
 }
 
-/// Does with the bytes what one word says: digits put more bytes behind, `2=21` puts others from place 2 on, `..20`
+/// Does with the bytes what one word says: digits add more bytes, `2=21` puts others from place 2 on, `..20`
 /// leaves the first 20, and `-` says nothing.
 fn put(bytes: &mut Vec<u8>, alloc: Global, word: &str) -> Result<()> {
     if word == "-" {

@@ -33,7 +33,7 @@ impl Answer {
         })
     }
 
-    /// What it is counted as, behind the command: its status, of a fault its line up to the place, and of status 1 the
+    /// What it is counted as, after the command: its status, of a fault its line up to the place, and of status 1 the
     /// first word that is written.
     pub(crate) fn kind(&self, alloc: Global) -> Result<String> {
         let status = self.status;

@@ -40,7 +40,7 @@ pub(crate) fn lied_to(example: &Example, tally: &mut Tally) -> Result<()> {
     Ok(())
 }
 
-/// Which lies a host is told, and how often: once in so many times.
+/// Which lies a host is given, and how often: once in so many times.
 #[derive(Clone, Copy)]
 struct Lies {
     kind: usize,
@@ -107,7 +107,7 @@ impl Answered {
         Ok(())
     }
 
-    /// A transaction: the host is told the device's answer, or a lie. The device hears the ACK of a data packet whose
+    /// A transaction: the host gets the device's answer, or a lie. The device hears the ACK of a data packet whose
     /// toggle is its own.
     fn exchange(
         &mut self,
@@ -131,7 +131,7 @@ impl Answered {
         Ok(())
     }
 
-    /// Tells the host a lie of this kind: no data, or the packet with the other toggle, without its last byte, with one
+    /// Gives the host a lie of this kind: no data, or the packet with the other toggle, without its last byte, with one
     /// byte more or with one changed. Where there is no packet it is an empty one.
     fn lie(
         &mut self,

@@ -17,7 +17,7 @@ const ADDRESS: [u8; SETUP] = [0, 5, 5, 0, 0, 0, 0, 0];
 
 const CONFIGURATION: [u8; SETUP] = [0, 9, 1, 0, 0, 0, 0, 0];
 
-/// Hosts that ask the device of the example, each in up to 64 steps. What more stands in the example are setup packets.
+/// Hosts that ask the device of the example, each in up to 64 steps. What more the example has are setup packets.
 pub(crate) fn asked(example: &Example, tally: &mut Tally) -> Result<()> {
     let packets = hex::decode(example.alloc, example.more.as_str())?;
     let description = example.description()?;
@@ -66,7 +66,7 @@ impl Asker<'_> {
         Ok(())
     }
 
-    /// Does anything: sends a setup packet, an IN or an OUT, tells an ACK, makes a request, resets the bus, or turns to
+    /// Does anything: sends a setup packet, an IN or an OUT, acknowledges, makes a request, resets the bus, or turns to
     /// any address or to that of the device.
     fn step(&mut self, packets: &[u8], numbers: &mut Numbers, tally: &mut Tally) -> Result<()> {
         match numbers.below(16) {

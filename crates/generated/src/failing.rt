@@ -60,7 +60,7 @@ impl Failing {
         Ok(())
     }
 
-    /// One reader, and whether its fault came. What it holds then and how often it was called behind the fault is told.
+    /// One reader, and whether its fault came. What it holds then and how often it was called after the fault counts.
     fn read(&self, bytes: &[u8], plan: Plan, tally: &mut Tally) -> Result<bool> {
         let alloc = tally.alloc;
         let mut reader = Stream::new(alloc, bytes, plan);
@@ -72,7 +72,7 @@ impl Failing {
         Ok(reader.has_failed)
     }
 
-    /// One writer, and whether its fault came. What it holds then and how often it was called behind the fault is told.
+    /// One writer, and whether its fault came. What it holds then and how often it was called after the fault counts.
     fn write(&self, bytes: &[u8], plan: Plan, tally: &mut Tally) -> Result<bool> {
         let alloc = tally.alloc;
         let mut rest = bytes;

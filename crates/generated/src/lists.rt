@@ -26,7 +26,7 @@ const PLACES: usize = 24;
 /// How many losses of one transaction there are: of three kinds at each of the places.
 const LOSSES: usize = 3 * PLACES;
 
-/// How many transactions in a row are busy: as many as are borne.
+/// How many transactions in a row are busy: as many as are retried.
 const BUSY: usize = 16;
 
 /// Of so many fates one passes, in the list that is longer than 100,000.
@@ -43,7 +43,7 @@ pub(crate) enum Lists {
     Losses,
     /// Sixteen NAKs in a row from each of the first places on.
     Busy,
-    /// One list, in which three pass and behind each the device is busy 40,000 times.
+    /// One list, in which three pass and after each the device is busy 40,000 times.
     Far,
     /// Lists whose letters the example gives, parted by commas.
     Given,

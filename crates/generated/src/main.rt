@@ -1,5 +1,5 @@
 //! Gives the commands of `usbdesc` inputs that a fixed generator makes of examples: changed, cut, with descriptors or
-//! lines that stand twice, in another place or nowhere, and with each byte set to each of five values. And examples
+//! lines that occur twice, in another place or nowhere, and with each byte set to each of five values. And examples
 //! over readers and writers that fail at each of their calls in turn; devices that are asked by hosts that keep no
 //! rule, and hosts that are answered by anything; talks and enumerations over a bus that loses packets. For each example
 //! and way it prints how many cases there were and the MD5 of all answers in them, and at the end how many answers there
@@ -59,7 +59,7 @@ fn main(rt: HostRuntime) -> Result<()> {
     Ok(())
 }
 
-/// The words of the command line behind the program's name, parted by spaces: the title of a line, or nothing.
+/// The words of the command line after the program's name, parted by spaces: the title of a line, or nothing.
 fn wanted<R: Env + AllocGlobal>(rt: &R) -> Result<String> {
     let mut wanted = String::new(rt.alloc());
     for word in env::args(rt)?.skip(1) {

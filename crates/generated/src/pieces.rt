@@ -36,7 +36,7 @@ impl Pieces {
         Ok(bytes)
     }
 
-    /// One change: a byte is changed, the input is cut, a piece stands twice, two are swapped, or one is dropped.
+    /// One change: a byte is changed, the input is cut, a piece occurs twice, two are swapped, or one is dropped.
     pub(crate) fn change(
         &mut self,
         numbers: &mut Numbers,

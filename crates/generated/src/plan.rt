@@ -18,7 +18,7 @@ pub(crate) enum Fault {
 }
 
 impl Fault {
-    /// What the call comes to.
+    /// What the call answers.
     pub(crate) fn result(self) -> Result<usize>
         ensures { IfOk result (λ count. count ≡ 0) }
     {

@@ -19,7 +19,7 @@ const REQUESTS: [[u8; 8]; 3] = [
     [0x00, 0x09, 0x01, 0x00, 0x00, 0x00, 0x00, 0x00],
 ];
 
-/// Runs under lists of fates. The words are the lists, how many NAKs are borne, and how many attempts there are.
+/// Runs under lists of fates. The words are the lists, how many NAKs are retried, and how many attempts there are.
 #[derive(Clone, Copy)]
 pub(crate) struct Runs {
     lists: Lists,

@@ -3,7 +3,7 @@ use crate::plan::{Fault, Plan};
 use std::alloc::Global;
 use std::io::{Error, ErrorKind, Read, Result, Write};
 
-/// A reader or writer with one fault, that would go on behind it.
+/// A reader or writer with one fault, that would go on after it.
 #[derive(Drop)]
 pub(crate) struct Stream<'a> {
     /// What it has not given yet.

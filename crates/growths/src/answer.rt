@@ -5,7 +5,7 @@
 pub(crate) enum Answer {
     /// What it answers where memory is there.
     Right,
-    /// That memory is wanting, as it must, and what must stand then stands.
+    /// That memory is wanting, as it must, and what must hold then holds.
     Memory,
     /// Anything else.
     Wrong,

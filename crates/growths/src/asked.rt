@@ -15,7 +15,7 @@ pub(crate) struct Asked<'a> {
     pub group: &'a str,
     /// The place.
     pub place: u32,
-    /// The words behind these two.
+    /// The words after these two.
     pub words: &'a str,
 }
 

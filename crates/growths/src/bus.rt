@@ -6,7 +6,7 @@ use usb_bus::{Fate, Talk, converse};
 use usb_device::Description;
 use usb_fields::Setup;
 
-/// How many NAKs the host bears.
+/// How many NAKs the host retries.
 const NAKS: u16 = 16;
 
 /// The fates of a bus that is busy once, and then loses two packets: each costs a transaction.

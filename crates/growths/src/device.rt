@@ -21,7 +21,7 @@ pub(crate) const REQUESTS: [[u8; 8]; 9] = [
     [0x82, 0, 0, 0, 0x81, 0, 2, 0],
 ];
 
-/// What a request comes to.
+/// The outcome of a request.
 #[derive(Clone, Copy)]
 pub(crate) enum Wanted {
     /// It is carried out.
@@ -43,7 +43,7 @@ impl Wanted {
     }
 }
 
-/// What these requests come to.
+/// The outcomes of these requests.
 pub(crate) const WANTED: [Wanted; 9] = [
     Wanted::Done,
     Wanted::Done,
@@ -122,7 +122,7 @@ pub(crate) fn look_up(description: &Description) -> Answer {
     )
 }
 
-/// Makes the requests of a device by hand, transaction by transaction. What they come to.
+/// Makes the requests of a device by hand, transaction by transaction. Whether their outcomes are right.
 pub(crate) fn drive(description: &Description) -> Answer {
     let mut device = Device::new(description);
     let mut transactions = 0u32;

@@ -90,7 +90,7 @@ fn go_on(host: &mut Host, device: &mut Device<'_>, is_lost: bool) -> bool {
     true
 }
 
-/// Whether the host stays as it ended, whatever it is told.
+/// Whether the host stays as it ended, whatever it is given.
 fn has_ended(host: &mut Host, trouble: Trouble) -> bool {
     let attempts = host.attempts();
     host.take(Reply::Ack);
@@ -102,7 +102,7 @@ fn has_ended(host: &mut Host, trouble: Trouble) -> bool {
     }
 }
 
-/// Enumerates over a bus. Where memory is wanting, the trouble is told with the attempts and the transactions so far.
+/// Enumerates over a bus. Where memory is wanting, the trouble has the attempts and the transactions so far.
 pub(crate) fn enumerate_under(alloc: Global, description: &Description, end: End) -> Answer {
     let Some(limits) = limits() else {
         return Answer::Wrong;

@@ -18,7 +18,7 @@ const PAGE: usize = 512;
 /// How many bytes of the second sample a dump has: the device descriptor and its set.
 const DUMP_LENGTH: usize = 52;
 
-/// A file, and what its calls must come to.
+/// A file, and what its calls must answer.
 #[derive(Clone, Copy)]
 pub(crate) struct Sample {
     bytes: &'static [u8],
@@ -94,7 +94,7 @@ fn read_input_to(alloc: Global, file: &DescriptorFile, sample: &Sample) -> Answe
     }
 }
 
-/// The calls on the dump that is the front of the second file.
+/// The calls on the dump that is a prefix of the second file.
 pub(crate) fn dump_calls(alloc: Global) -> [Call; 2] {
     let (read, mut dump) = read_dump(alloc);
     if read == Answer::Memory {
@@ -150,7 +150,7 @@ pub(crate) fn write_to(alloc: Global, file: &DescriptorFile, bytes: &[u8]) -> An
     }
 }
 
-/// Lists the file; where memory is wanting, what was written is a front of the listing.
+/// Lists the file; where memory is wanting, what was written is a prefix of the listing.
 fn list_to(alloc: Global, file: &DescriptorFile, wanted: &[u8]) -> Answer {
     let mut page = [0u8; PAGE];
     let mut writer = Cursor::new(page.as_mut_slice());

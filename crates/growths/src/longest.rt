@@ -39,7 +39,7 @@ const SET_LINE: &[u8; 31] = b"configuration 00 01 00 80 32 -\n";
 /// What each other line begins with.
 const RAW_WORDS: &[u8; 7] = b"raw 21 ";
 
-/// Whether a text is a front of the listing of the longest set.
+/// Whether a text is a prefix of the listing of the longest set.
 pub(crate) fn is_front_of_set_text(text: &[u8]) -> bool {
     for (place, byte) in text.iter().enumerate() {
         let wanted = if place < 31 {

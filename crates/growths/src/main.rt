@@ -5,7 +5,7 @@
 //! group makes, as `sets 12`. [`begin`] makes as many requests first as are wanted so that this one is the [`REFUSED`]th
 //! of the program. [`tell`] prints the name of each call that answers *out of memory* or something wrong; where no call
 //! met the refusal, the group's name and `end` are printed. The line `usbdesc 12 check` runs that program
-//! with the words behind the place, on the input behind the line.
+//! with the words after the place, on the input after the line.
 //!
 //! Without input nothing is refused, all answers are printed, and the calls on inputs past every round number are made
 //! too.
@@ -82,7 +82,7 @@ fn main(rt: HostRuntime) -> io::Result<ExitCode> {
     Ok(ExitCode::SUCCESS)
 }
 
-/// Makes the calls of a group, and tells what came of them.
+/// Makes the calls of a group, and prints what came of them.
 fn go_through<R: Print + AllocGlobal>(rt: &R, group: &str, all: bool) -> io::Result<()> {
     let alloc = rt.alloc();
     match group {

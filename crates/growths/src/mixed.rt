@@ -61,7 +61,7 @@ fn build_to(alloc: Global, wanted: &Configuration) -> Answer {
     }
 }
 
-/// The set, built descriptor by descriptor, or `None` where one is not whole or can't stand there.
+/// The set, built descriptor by descriptor, or `None` where one is not whole or can't be there.
 fn build(alloc: Global) -> Result<Option<Configuration>, AllocError> {
     let (header, mut rest) = MIXED.split_at(MIXED.len().min(usize::from(MIXED[0])));
     if header.len() < 9 || header[1] != 2 || !is_whole(header) {
@@ -79,7 +79,7 @@ fn build(alloc: Global) -> Result<Option<Configuration>, AllocError> {
     Ok(if rest.is_empty() { Some(set) } else { None })
 }
 
-/// Adds the descriptor, where it is whole and can stand there. Whether it can.
+/// Adds the descriptor, where it is whole and can be there. Whether it can.
 fn add(alloc: Global, set: &mut Configuration, descriptor: &[u8]) -> Result<bool, AllocError> {
     if !is_whole(descriptor) {
         return Ok(false);

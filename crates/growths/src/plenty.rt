@@ -53,7 +53,7 @@ pub(crate) fn calls(alloc: Global) -> [Call; 12] {
 }
 
 /// Reads a file with sets of these shapes, looks what breaks a rule, writes it, lists it, and reads the listing. Whether
-/// each comes to what it must.
+/// each answers what it must.
 fn go_round(alloc: Global, shapes: &[Shape]) -> Result<bool, AllocError> {
     let mut bytes = Vec::from_slice(alloc, &MOUSE[..17])?;
     bytes.push(shapes.len().min(255) as u8)?;
@@ -94,7 +94,7 @@ fn units(alloc: Global) -> bool {
     true
 }
 
-/// A set of 65,529 bytes and 4,471 bytes behind it, in one piece.
+/// A set of 65,529 bytes and 4,471 bytes after it, in one piece.
 fn piece(alloc: Global) -> Result<bool, AllocError> {
     let mut bytes = Vec::new(alloc);
     push_set(&mut bytes, SETTINGS)?;

@@ -49,7 +49,7 @@ string \"Mouse\"
 /// and where the file ends.
 pub(crate) const EVERYTHING_PARTS: [usize; 6] = [0, 18, 52, 62, 96, 100];
 
-/// A set with a descriptor of each kind, of which two have bytes behind their fields: a configuration, an association, an
+/// A set with a descriptor of each kind, of which two have a tail: a configuration, an association, an
 /// interface with a class descriptor, and an endpoint with one.
 pub(crate) const MIXED: [u8; 44] = [
     0x0a, 0x02, 0x2c, 0x00, 0x01, 0x01, 0x00, 0x80, 0x32, 0xaa, 0x08, 0x0b, 0x00, 0x01, 0x02, 0x02,

@@ -91,7 +91,7 @@ fn list(alloc: Global, set: &Configuration) -> Answer {
     listed(outcome, is_front, written == SET_TEXT_LENGTH)
 }
 
-/// What a listing answered that has written a front of the right text or not, and as many bytes or not. Where memory is
+/// What a listing answered that wrote a prefix of the right text or not, and as many bytes or not. Where memory is
 /// wanting, these are fewer.
 pub(crate) fn listed(outcome: Result<(), OutFault>, is_front: bool, is_whole: bool) -> Answer {
     match outcome {

@@ -59,7 +59,7 @@ pub(crate) const CLASS_DESCRIPTORS: Shape = Shape {
     findings: 1,
 };
 
-/// Puts a set of this shape behind the bytes.
+/// Puts a set of this shape after the bytes.
 ///
 /// # Errors
 ///

@@ -1,4 +1,4 @@
-//! Devices with much to tell: they are described, asked over a bus, and enumerated. Nothing is refused.
+//! Devices with many descriptors: they are described, asked over a bus, and enumerated. Nothing is refused.
 use crate::device::describe;
 use crate::plenty::is_round;
 use crate::samples::MOUSE;

@@ -67,7 +67,7 @@ pub(crate) fn calls(alloc: Global) -> [Call; 17] {
     PUTS.map(|(name, putting, words)| (name, put_again(alloc, putting, words.as_bytes())))
 }
 
-/// Puts the words at the end of an empty text; where memory is wanting, the text has a front of them, and they are put
+/// Puts the words at the end of an empty text; where memory is wanting, the text has a prefix of them, and they are put
 /// into another.
 fn put_again(alloc: Global, putting: Putting, words: &[u8]) -> Answer {
     let mut text = Text::new(alloc);

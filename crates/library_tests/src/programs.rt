@@ -1,4 +1,4 @@
-//! What the three programs come to: a driver, a firmware and a test bench, each of which uses one crate.
+//! The outcomes of the three programs: a driver, a firmware and a test bench, each of which uses one crate.
 use crate::{bench, driver, firmware};
 use anyhow::Result;
 use nozzlegorse::bus::{Fate, Stage, Transaction};
@@ -20,7 +20,7 @@ const MOUSE: [u8; 202] = [
     0x3a, 0, 0x30, 0, 0x34, 0, 0x2e, 0, 0x30, 0, 0x2d, 0, 0x32, 0,
 ];
 
-/// What people are told of a failure, or nothing.
+/// The message of a failure for people, or nothing.
 fn message<T>(alloc: Global, outcome: &Result<T>) -> std::result::Result<String, AllocError> {
     match outcome {
         Ok(_) => Ok(String::new(alloc)),

@@ -1,13 +1,13 @@
 //! USB 2.0 descriptors, both ends of a control pipe, and enumeration: what a program names, in one crate.
 //!
-//! - A driver reads what a device tells of itself: [`descriptors`], and [`rules`] says what breaks one of chapter 9.
-//! - A tool keeps that in files, and lists and explains it for people: [`files`].
+//! - A driver parses a device's [`descriptors`], and [`rules`] has those of chapter 9 that they break.
+//! - A tool keeps them in files, and lists and explains them for people: [`files`].
 //! - A firmware answers transactions: [`device`].
 //! - A host asks: [`host`].
 //! - A test bench joins both ends over a bus that loses packets and handshakes: [`bus`], which also has what passes
 //!   between the ends.
 //!
-//! Nothing is defined here. Each name stands in the crate that its line names, with its contract, and what the contracts
+//! Nothing is defined here. Each name is in the crate that its line names, with its contract, and what the contracts
 //! cite is passed on by `specs/Lib.antt`: a caller that proves something needs no other crate in its own line.
 #![tactic(auto)]
 

@@ -24,7 +24,7 @@ struct AnswerLine {
 }
 
 impl Answers {
-    /// Reads the lines, or tells the number of the first that is none, from 1.
+    /// Reads the lines, or answers the number of the first that is none, from 1.
     pub fn read(alloc: Global, bytes: &[u8]) -> Result<Result<Answers, usize>> {
         let mut lines = Vec::new(alloc);
         for (before, line) in bytes.split(|byte| *byte == b'\n').enumerate() {

@@ -16,7 +16,7 @@ use usb_transfer::Transfer;
 pub struct Bench {
     pub(crate) talk: TalkInWork,
     pub(crate) work: Work,
-    /// Whether it is told after each step what the ends hold.
+    /// Whether what the ends hold is printed after each step.
     pub(crate) traces: bool,
 }
 

@@ -52,8 +52,8 @@ impl Descriptors {
         }
     }
 
-    /// `speed`: the description of a device at this speed, where nothing stands against it; else the number of what
-    /// does, and of a finding its line.
+    /// `speed`: the description of a device at this speed, where it has no fault; else the number of the
+    /// fault, and of a finding its line.
     pub fn describe(&self, alloc: Global, word: &str) -> Result<Made> {
         let (Some(file), Some(speed)) = (&self.file, read_speed(word)) else {
             return Ok(Made::Refused(Outcome::NoStep("speed low, full or high, after a file")));

@@ -30,7 +30,7 @@ pub fn next_line<R: BufRead>(alloc: Global, lines: &mut R, before: u64) -> Resul
     Ok(None)
 }
 
-/// The line with this text, if it has a step. What stands behind a `#` is a comment.
+/// The line with this text, if it has a step. What follows a `#` is a comment.
 fn line_of(alloc: Global, number: u64, text: &str) -> Result<Option<Line>, AllocError> {
     let text = text
         .split_once("#")

@@ -5,7 +5,7 @@
 //! one file. With the word `-` steps are read from standard input, and what comes of each is written at once, so that
 //! another program can drive what is here.
 //!
-//! The lines stand in `docs/testing.md`.
+//! The lines are in `docs/testing.md`.
 #![tactic(auto)]
 
 mod answer;
@@ -86,7 +86,7 @@ fn play_all<R: Files + Print + AllocGlobal>(rt: &R) -> Result<u8> {
     Ok(worst)
 }
 
-/// Plays a file, and tells how many steps it has, and each line that comes out differently.
+/// Plays a file, and prints how many steps it has, and each line that comes out differently.
 fn play_file<R: Files + Print + AllocGlobal>(rt: &R, name: &str) -> Result<u8> {
     let text = fs::read(rt, name).context(format_args!("{name}"))?;
     play(rt, &mut text.as_slice(), Some(name)).context(format_args!("{name}"))

@@ -4,13 +4,13 @@ use std::alloc::{AllocError, Global};
 /// What comes of a step.
 #[derive(Drop)]
 pub enum Outcome {
-    /// A word that many steps come to.
+    /// A word that many steps answer.
     Word(&'static str),
     /// In the words of a line.
     Text(String),
     /// The bytes of a reply. A line may want how many there are in place of them.
     Bytes(Vec<u8>),
-    /// The line is no step, or none that can stand there: why.
+    /// The line is no step, or none that can be there: why.
     NoStep(&'static str),
 }
 

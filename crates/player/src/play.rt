@@ -20,7 +20,7 @@ struct Game<'n> {
     bench: Bench,
 }
 
-/// Plays lines to their end, and tells how they came out. `name` is that of their file.
+/// Plays lines to their end, and prints how they came out. `name` is that of their file.
 pub fn play<H: Files + Print + AllocGlobal, R: BufRead>(
     rt: &H,
     lines: &mut R,
@@ -134,7 +134,7 @@ fn load_answers<H: Files + AllocGlobal>(
     }
 }
 
-/// Tells what the ends hold after a step, where that is asked for.
+/// Prints what the ends hold after a step, where that is asked for.
 fn tell_traces<H: Print + AllocGlobal>(
     rt: &H,
     game: &Game<'_>,

@@ -31,7 +31,7 @@ impl<'n> Score<'n> {
         }
     }
 
-    /// Takes what came of a line, and tells of it: on standard input each outcome, in a file each that is another than
+    /// Takes what came of a line, and prints it: on standard input each outcome, in a file each that is another than
     /// the one that is wanted, and each line that is no step, unless just that is wanted.
     pub fn settle<H: Print + AllocGlobal>(
         &mut self,
@@ -68,7 +68,7 @@ impl<'n> Score<'n> {
         Ok(())
     }
 
-    /// Tells how many steps there were, and how many lines came out differently or were none.
+    /// Prints how many steps there were, and how many lines came out differently or were none.
     pub fn close<H: Print + AllocGlobal>(&self, rt: &H) -> Result<()> {
         let (steps, differing, not_steps) = (self.steps, self.differing, self.not_steps);
         self.tell(rt, format!(in rt.alloc(); "{steps} steps")?.as_str())?;

@@ -22,7 +22,7 @@ pub struct TalkInWork {
 }
 
 impl TalkInWork {
-    /// A talk without requests or losses, in which 16 NAKs are borne.
+    /// A talk without requests or losses, in which 16 NAKs are retried.
     pub fn new(alloc: Global) -> TalkInWork {
         TalkInWork {
             naks: 16,

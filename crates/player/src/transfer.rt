@@ -9,7 +9,7 @@ use std::alloc::{AllocError, Global};
 use usb_fields::Setup;
 use usb_transfer::{Heard, Transfer};
 
-/// A transfer by its address, packet size, NAKs that are borne, and setup packet.
+/// A transfer by its address, packet size, NAKs that are retried, and setup packet.
 pub fn read_transfer(words: &[&str]) -> Option<Transfer> {
     let [address, packet, naks, setup] = words else {
         return None;

@@ -48,7 +48,7 @@ pub fn packet_text(alloc: Global, toggle: Toggle, bytes: &[u8]) -> Result<String
     }
 }
 
-/// The fates that the letters stand for: `.` Pass, `n` Busy, `d` LostDown, `u` LostUp, `a` LostAck; `-` alone is none.
+/// The fates that the letters mean: `.` Pass, `n` Busy, `d` LostDown, `u` LostUp, `a` LostAck; `-` alone is none.
 pub fn read_fates(alloc: Global, letters: &str) -> Result<Option<Vec<Fate>>, AllocError> {
     let mut fates = Vec::new(alloc);
     if letters == "-" {

@@ -52,7 +52,7 @@ fn follow(request: Setup, reply: &Reply, address: u8) -> u8
 
 /// Makes these requests, one after another, of a device with this description, over a bus with these fates.
 ///
-/// The device is a new one at address 0. The host sends packets of its size, bears `naks` NAKs without progress, and
+/// The device is a new one at address 0. The host sends packets of its size, retries `naks` NAKs without progress, and
 /// follows a SET_ADDRESS that was done. The talk stops at the first transfer that fails; a STALL completes a transfer
 /// with [`Reply::Refused`]. The k-th transaction has the k-th fate, and after the list's end all pass.
 ///

@@ -1,6 +1,6 @@
-//! What holds of two ends over a bus that loses packets and handshakes, once they have come to an end.
+//! What holds of two ends over a bus that loses packets and handshakes, once they have ended.
 //!
-//! The functions of these laws do nothing: what they say stands in their contracts.
+//! The functions of these laws do nothing: their contracts are the laws.
 ghost use Rattle.usb_device.specs.Requests.{answer};
 ghost use Rattle.usb_file_data.specs.declared.file.DescriptorFile.{DescriptorFile};
 ghost use Rattle.usb_bus.specs.Answering.{IsTable};
@@ -8,7 +8,7 @@ ghost use Rattle.usb_bus.specs.Laws.{AttemptsHaveCauses, RespondersAreOneDevice,
 
 /// A transfer begun at the device's address. Completed, it brought the device's answer, and the device is in the state that
 /// the answer gives, or the ACK of a SET_ADDRESS was lost. Failed, it was refused, or had three losses, or more busy
-/// transactions than NAKs are borne.
+/// transactions than the NAK limit.
 pub fn a_transfer_has_causes()
     ensures { TransfersHaveCauses }
 {}

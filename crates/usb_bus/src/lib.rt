@@ -7,8 +7,8 @@
 //!   the table gives.
 //! - One loss is excepted: where the ACK of a SET_ADDRESS's status stage is lost, the host goes to the new address while
 //!   the device stays at the old one, and nothing answers the host any more.
-//! - A transfer that fails does so for a cause: three losses, that lost ACK, or more busy transactions than NAKs are
-//!   borne.
+//! - A transfer that fails does so for a cause: three losses, that lost ACK, or more busy transactions than the
+//!   NAK limit.
 #![tactic(auto)]
 
 mod conversation;

@@ -133,7 +133,7 @@ pub extern "C" fn usb_device_acked(alloc: Global, device: &mut UsbDevice) -> boo
     true
 }
 
-/// The request that is refused, and whose refusal the host was not told yet. False where there is none.
+/// The request that is rejected, and of whose rejection the host doesn't know yet. False where there is none.
 #[unsafe(no_mangle)]
 pub extern "C" fn usb_device_refused(
     alloc: Global,

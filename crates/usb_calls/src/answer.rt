@@ -8,10 +8,10 @@ use usb_file::{InputFault, ListFault, WriteFault};
 use usb_host::Trouble;
 
 /// What a call answers, as C sees it. Four numbers, so that of broken bytes both the fault and the length of their
-/// explanation are told.
+/// explanation are reported.
 #[repr(C)]
 pub struct Answer {
-    /// 0 done, 1 open, 2 a fault of a set, 3 of a file, 4 of a listing, 5 of a description, 6 bytes behind the set, 7 no
+    /// 0 done, 1 open, 2 a fault of a set, 3 of a file, 4 of a listing, 5 of a description, 6 bytes after the set, 7 no
     /// room, 8 no memory, 9 closed, 10 a bad argument, 11 trouble, 12 an answer that isn't taken, 13 no bytes.
     pub status: u32,
     /// The number of the fault.
@@ -27,7 +27,7 @@ pub struct Answer {
 pub enum Verdict {
     /// All went well, and this many bytes were taken or written.
     Done(usize),
-    /// The bytes so far, this many of them new, are a front of a set; or a host has not ended.
+    /// The bytes so far, this many of them new, are a prefix of a set; or a host has not ended.
     Open(usize),
     /// The bytes are no input. This many bytes of an explanation were written.
     Broken(InputFault, usize),

@@ -6,7 +6,7 @@ ghost use Rattle.usb_calls.specs.declared.answer.Verdict.TheVariants as verdicts
 use crate::answer::Verdict;
 use usb_file::InputFault;
 
-/// Puts a text at the front of the buffer, where it has room.
+/// Puts a text into the first bytes of the buffer, where it has room.
 pub fn fill(text: &[u8], out: &mut [u8]) -> bool
     ensures whole { result ≡ true → out.new ≡ text.now ++ drop (length text.now) out.old }
     ensures short { result ≡ false → (length out.old < length text.now) × (out.new ≡ out.old) }
@@ -19,7 +19,7 @@ pub fn fill(text: &[u8], out: &mut [u8]) -> bool
     true
 }
 
-/// Puts a text into the buffer, and tells its length.
+/// Puts a text into the buffer, and answers its length.
 pub fn fill_done(text: &[u8], out: &mut [u8]) -> Verdict
     ensures { Fills verdicts.Done text.now out.old out.new result }
 {
@@ -30,7 +30,7 @@ pub fn fill_done(text: &[u8], out: &mut [u8]) -> Verdict
     }
 }
 
-/// Puts the explanation of broken bytes into the buffer, and tells its length and the fault.
+/// Puts the explanation of broken bytes into the buffer, and answers its length and the fault.
 pub fn fill_broken(fault: InputFault, text: &[u8], out: &mut [u8]) -> Verdict
     ensures { Fills (verdicts.Broken fault) text.now out.old out.new result }
 {

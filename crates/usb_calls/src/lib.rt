@@ -1,9 +1,9 @@
 //! What the calls of the static library usb_c do: each from bytes and buffers to a [`Verdict`], which [`Verdict::answer`]
-//! tells as numbers. The exports themselves, and the handles, are in usb_c.
+//! gives as numbers. The exports themselves, and the handles, are in usb_c.
 //!
 //! - [`show`], [`check`], [`explain_bytes`], [`build`] and [`enumerate_bytes`] put a text into the caller's buffer whole, or
 //!   leave it as it was: `specs/Texts.antt`, `specs/Enumerations.antt`.
-//! - [`OwnedDevice`] is a device that owns its description, and so lies behind one pointer.
+//! - [`OwnedDevice`] is a device that owns its description, and so can be one handle.
 //! - [`UsbTransaction`], [`UsbPacket`], [`UsbOutcome`] and [`UsbTrouble`] are transactions and outcomes as numbers.
 #![tactic(auto)]
 

@@ -23,7 +23,7 @@ pub struct UsbTrouble {
     pub language: u16,
 }
 
-/// Tells the outcome of a host, if there is one.
+/// Reports the outcome of a host, if there is one.
 pub fn tell_outcome(alloc: Global, host: &Host, trouble: &mut UsbTrouble, out: &mut [u8]) -> Verdict
     ensures { EndsWith (outcome_of host.now.phase) trouble.old trouble.new out.old out.new result }
 {

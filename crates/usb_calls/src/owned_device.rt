@@ -12,7 +12,7 @@ use std::marker::Model;
 use usb_device::{Description, EndpointZero, State, Unanswered};
 use usb_fields::{Setup, Transaction};
 
-/// A device as `usb_device::Device` is one, which owns its description and so lies behind one pointer.
+/// A device as `usb_device::Device` is one, which owns its description and so can be one handle.
 #[derive(Drop)]
 pub struct OwnedDevice {
     description: Description,
@@ -70,7 +70,7 @@ impl OwnedDevice {
         self.endpoint_zero.acked(&self.description);
     }
 
-    /// The request that is refused, and whose refusal the host was not told yet.
+    /// The request that is rejected, and of whose rejection the host doesn't know yet.
     pub fn refused(&self) -> Option<Setup>
         ensures { result ≡ refused_in self.now.device.stage }
     {

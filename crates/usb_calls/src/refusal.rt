@@ -1,4 +1,4 @@
-//! How faults are told.
+//! How faults are reported.
 ghost use Rattle.std.specs.Prelude.{◌≡◌};
 ghost use Rattle.usb_calls.specs.Refusals.{refused_description, refused_file, refused_input, refused_list, refused_set, wants_memory};
 
@@ -7,7 +7,7 @@ use usb_description::DescriptionFault;
 use usb_file::{FileFault, FileWhy, InputFault, ListFault, ListWhy};
 use usb_set::{SetFault, SetWhy};
 
-/// How the fault of a set is told: want of memory is no fault of the bytes.
+/// How the fault of a set is reported: want of memory is no fault of the bytes.
 pub fn refused_set(fault: SetFault) -> Verdict
     ensures { result ≡ refused_set fault }
 {

@@ -143,7 +143,7 @@ fn running_speed(number: u8) -> Option<RunningSpeed>
     }
 }
 
-/// Puts the explanation of bytes into the buffer: of an input all of it, else what stands before the fault, the fault and
+/// Puts the explanation of bytes into the buffer: of an input all of it, else what is before the fault, the fault and
 /// the rest. Options: bit 0 leaves out the fields, bit 1 gives each field its place. A speed: 1 low, 2 full, 3 high,
 /// 4 super; any other says nothing of it.
 #[tactic(auto, using(crate::proofs::InputFaults::fault_explained))]

@@ -29,7 +29,7 @@ pub struct UsbPacket {
     pub toggle: u8,
     /// Of a data packet: how many of `bytes` it has. Of the others 0.
     pub length: u8,
-    /// The bytes, and behind them what stood there.
+    /// The bytes, and after them what was there before.
     pub bytes: [u8; 64],
 }
 
@@ -111,7 +111,7 @@ pub fn told(transaction: &Transaction<'_>) -> UsbTransaction
     }
 }
 
-/// Tells an answer of at most 64 bytes.
+/// Writes an answer of at most 64 bytes as a packet.
 pub fn tell(answer: Answer<'_>, packet: &mut UsbPacket)
     requires { HasRoom (reply_of answer) }
     ensures { packet.new ≡ packet_of (reply_of answer.entry) packet.old }

@@ -1,4 +1,4 @@
-//! The command `usbdesc`, as `clap` is told of it.
+//! The command `usbdesc`, as `clap` has it.
 ghost use Rattle.std.specs.Prelude.{◌≡◌, IfOk, false};
 ghost use Rattle.clap.specs.Words.{app_of, new_app, rule_of, with_rule, with_subcommand};
 ghost use Rattle.clap.specs.declared.builder.Command.TheViews.{out-Command};

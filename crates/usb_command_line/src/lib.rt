@@ -1,18 +1,18 @@
 //! The command line of `usbdesc`: what its words say.
 //!
 //! [`read_line`] asks `clap` what the words ask for. Its [`Line`] is a command, and of `enumerate` it has the
-//! [`Options`], which are the texts that stand behind them, and of `explain` [`Explaining`]. Its contract is exact both ways: the line is that of
-//! `clap`'s function of the words, and each fault is `clap`'s own (`specs/Lines.antt`).
+//! [`Options`], which are the texts of its options, and of `explain` [`Explaining`]. Its contract is exact both ways:
+//! the line is that of `clap`'s function of the words, and each fault is `clap`'s own (`specs/Lines.antt`).
 //!
 //! [`settings_of`] makes the [`Settings`] of an enumeration of these texts, with what holds where an option is
 //! absent (`specs/Settings.antt`). It reads the numbers, and [`read_speed`] and [`read_fates`] the other two
 //! (`specs/Values.antt`).
 //!
-//! [`manner_of`] says what the options of `explain` come to (`specs/Manners.antt`).
+//! [`manner_of`] says what the options of `explain` mean (`specs/Manners.antt`).
 //!
-//! [`refuse_words`] says what is told where the words could not be taken from the system.
+//! [`refuse_words`] says what is reported where the words could not be taken from the system.
 //!
-//! Nothing here reads an input or writes an output: the commands stand in the crate `usb_tool`.
+//! Nothing here reads an input or writes an output: the commands are in the crate `usb_tool`.
 #![tactic(auto)]
 
 mod command;

@@ -8,7 +8,7 @@ use crate::explaining::Explaining;
 use crate::settings::SettingsFault;
 use usb_explain::{Look, Manner, RunningSpeed};
 
-/// What the options of `explain` come to. Fields and places are written unless they are left out, and without a speed the
+/// What the options of `explain` mean. Fields and places are written unless they are left out, and without a speed the
 /// descriptors say it.
 ///
 /// ```rust

@@ -7,7 +7,7 @@ pub struct Options<'a> {
     pub speed: Option<&'a str>,
     /// The address that the device gets.
     pub address: Option<&'a str>,
-    /// The number of NAKs without progress that a transfer bears.
+    /// The number of NAKs without progress that a transfer retries.
     pub naks: Option<&'a str>,
     /// The number of attempts.
     pub attempts: Option<&'a str>,

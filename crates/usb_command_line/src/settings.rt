@@ -1,4 +1,4 @@
-//! What the options of `enumerate` come to.
+//! What the options of `enumerate` mean.
 ghost use Rattle.std.specs.Prelude.{◌≡◌, IfErr, IfOk, IsSomeAnd, Some};
 ghost use Rattle.usb_command_line.specs.Settings.{IsSettled, RefusesOptions, byte_said, fates_said, limits_said, settings_fault_of, speed_said, word_said};
 ghost use Rattle.usb_command_line.specs.Numbers.{settings_fault_number, settings_line, settings_status};
@@ -16,7 +16,7 @@ use usb_transfer::Limits;
 /// What an enumeration is given beside its file.
 #[derive(Debug, Drop)]
 pub struct Settings {
-    /// What the host bears, and the address that it gives.
+    /// The limits of the host's retries, and the address that it gives.
     pub limits: Limits,
     /// The speed of the device.
     pub speed: Speed,
@@ -26,7 +26,7 @@ pub struct Settings {
     pub log: bool,
 }
 
-/// What the options come to. An absent one is address 1, 16 NAKs, 3 attempts, full speed, or no fates.
+/// The settings that the options give. An absent one is address 1, 16 NAKs, 3 attempts, full speed, or no fates.
 ///
 /// ```rust
 /// let options = Options { speed: Some("high"), address: None, naks: Some("2"), attempts: None, fates: None, log: false };
@@ -110,7 +110,7 @@ fn fates_of(alloc: Global, options: &Options<'_>) -> Result<Vec<Fate>, FatesFaul
     }
 }
 
-/// Why the options come to no settings.
+/// Why the options give no settings.
 #[derive(Clone, Copy, Debug, PartialEq, Eq, Hash)]
 pub enum SettingsFault {
     /// A number is none that `parse` reads, or is out of its range.

@@ -47,7 +47,7 @@ pub(crate) fn has_wrong_sets(f: &DescriptorFile) -> bool
     }
 }
 
-/// Whether the strings are not those of so many named indices, or could not be told apart.
+/// Whether the strings are not those of so many named indices, or are not distinct.
 #[tactic(auto, unfolding(crate::specs::Accepted::has_wrong_strings))]
 fn has_wrong_strings(f: &DescriptorFile, count: usize) -> bool
     requires count { count ≡ length (named_indices f.now) }

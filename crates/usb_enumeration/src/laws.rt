@@ -1,6 +1,6 @@
 //! What holds of an enumeration over a bus that loses packets and handshakes, once it has ended.
 //!
-//! The functions do nothing: what they say stands in their contracts.
+//! The functions do nothing: their contracts are the laws.
 ghost use Rattle.usb_enumeration.specs.Laws.{EnumerationsEndWell, OwnersChangeNothing, RespondersAreBeside, UsesFates};
 
 use crate::lemmas::a_run_ends_well;

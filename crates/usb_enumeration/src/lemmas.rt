@@ -1,13 +1,13 @@
 //! What holds of attempts and of runs, for the proof of the law alone.
 //!
-//! The functions do nothing: what they say stands in their contracts.
+//! The functions do nothing: their contracts are the laws.
 ghost use Rattle.usb_enumeration.specs.inside.Laws.{AttemptsHaveCauses, EnumerationsHaveCauses, ReadsTheDescription, KeepsTheImage, RunsEndWell, RunsKeepLimits, SetsAreRead};
 
 use usb_host::laws::a_host_ends;
 use usb_set::laws::{more_bytes, one_judgement, one_layout};
 
 /// Transfers by a plan, with a bus reset before each attempt: in a failure each attempt had a loss of its own, or a busy
-/// transaction more than NAKs are borne.
+/// transaction more than the NAK limit.
 pub(crate) fn attempts_have_causes()
     ensures { AttemptsHaveCauses }
 {}

@@ -4,13 +4,13 @@
 //! address and configures it, under any list of fates of its transactions. Its answer is a [`Run`].
 //!
 //! - A success has read just the descriptors of the device, whatever was lost on the way.
-//! - Any other end has a cause: for each attempt a loss of its own, or a busy transaction more than NAKs are borne; or
-//!   want of memory.
+//! - Any other end has a cause: for each attempt a loss of its own, or one busy transaction more than the NAK limit;
+//!   or want of memory.
 //! - There are at most as many attempts and transactions as the limits allow.
 //!
 //! [`step`] is one step of it, for a caller that looks at both ends on the way.
 //!
-//! What a run of both ends is stands in `specs/Run.antt`, what a step is in `specs/Stepping.antt`, and [`laws`] says what
+//! A run of both ends is defined in `specs/Run.antt`, a step in `specs/Stepping.antt`, and [`laws`] says what
 //! holds of every such run.
 #![tactic(auto)]
 

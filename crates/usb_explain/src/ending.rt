@@ -1,4 +1,4 @@
-//! What is left behind the descriptors.
+//! What is left after the descriptors.
 ghost use Rattle.std.specs.Prelude.{◌≡◌, ◌++◌, OnOk};
 ghost use Rattle.usb_explain.specs.Walks.{rest_text};
 

@@ -26,7 +26,7 @@ use usb_words::{Text, put_count};
 ///
 /// # Errors
 ///
-/// `Write` where the writer failed, `Memory` when out of memory. A front of the explanation is written then, and not all
+/// `Write` where the writer failed, `Memory` when out of memory. A prefix of the explanation is written then, not all
 /// of it.
 pub fn explain<W: Write>(
     alloc: Global,
@@ -85,7 +85,7 @@ fn put_whole_end(
 ///
 /// # Errors
 ///
-/// `Write` where the writer failed, `Memory` when out of memory. A front of the explanation is written then, and not all
+/// `Write` where the writer failed, `Memory` when out of memory. A prefix of the explanation is written then, not all
 /// of it.
 pub fn explain_broken<W: Write>(
     alloc: Global,

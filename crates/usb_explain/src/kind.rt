@@ -1,4 +1,4 @@
-//! What the words of a descriptor depend on where it stands.
+//! What the words of a descriptor depend on at its place.
 ghost use Rattle.std.specs.Prelude.{◌≡◌};
 ghost use Rattle.usb_explain.specs.Kinds.{below, codes_of, depth_of, is_audio, is_super, kind_of};
 
@@ -76,7 +76,7 @@ pub(crate) fn below(owner: Owner) -> u8
     }
 }
 
-/// What the interface is, behind which a descriptor stands.
+/// The class codes of the interface that a descriptor follows.
 fn codes_of(setting: Option<SettingStanding>) -> Option<ClassCodes>
     ensures { result ≡ codes_of setting }
 {

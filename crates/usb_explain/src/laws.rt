@@ -1,10 +1,10 @@
-//! What holds of each explanation. The functions of these laws do nothing: what they say stands in their contracts.
+//! What holds of each explanation. The functions of these laws do nothing: their contracts are the laws.
 ghost use Rattle.usb_explain.specs.Laws.{BrokenEachByteOnce, BrokenIsPlainText, BrokenLeavesOutFields, WholeEachByteOnce, WholeHasNoRest, WholeIsPlainText, WholeLeavesOutFields};
 
 /// Each byte once: the places and lengths in the headings follow each other from 0 to the number of bytes, and each heading
-/// begins the lines of the descriptor that stands there, as long as its bLength. The last one is that of the rest, if bytes
+/// begins the lines of the descriptor there, as long as its bLength. The last one is that of the rest, if bytes
 /// are left. In bytes that are no input the rest begins at the place of the fault or before it. Of a set, a file or a dump
-/// no bytes are left: each of them stands under the heading of a descriptor.
+/// no bytes are left: each of them is under the heading of a descriptor.
 pub fn each_byte_has_one_heading()
     ensures whole { WholeEachByteOnce }
     ensures broken { BrokenEachByteOnce }

@@ -1,12 +1,12 @@
-//! The explanation of an input: a text that tells what each of its descriptors says, in the order of the bytes.
+//! The explanation of an input: a text of what each of its descriptors says, in the order of the bytes.
 //!
 //! [`explain`] writes that of a set, a file or a dump, and [`explain_broken`] that of bytes which are none of them, as far
 //! as they go. Both go over the bytes descriptor by descriptor, each as long as its first byte says.
 //!
-//! What the whole text is is `specs/Explanations.antt`, and the walk over the bytes `specs/Walks.antt`. Where a descriptor
-//! stands is `specs/Standings.antt`, what it is there `specs/Roles.antt`, and what is told of it `specs/Findings.antt`.
+//! What the whole text is is `specs/Explanations.antt`, and the walk over the bytes `specs/Walks.antt`. The place of a
+//! descriptor is `specs/Standings.antt`, its role there `specs/Roles.antt`, and what it breaks `specs/Findings.antt`.
 //!
-//! [`laws`] says what holds of each explanation: every byte of the input stands under one heading, a brief text leaves out
+//! [`laws`] says what holds of each explanation: every byte of the input is under one heading, a brief text leaves out
 //! fields alone, and every byte of the text is a line feed or printable.
 #![tactic(auto)]
 

@@ -14,7 +14,7 @@ use usb_survey::{
 use usb_words::Speed;
 
 impl Standing {
-    /// At the first descriptor of a set, of whose bytes and those behind it these are there.
+    /// At the first descriptor of a set, of whose bytes and those after it these are there.
     #[tactic(auto, unfolding(crate::specs::Opening::opened))]
     pub(crate) fn open_set(&mut self, running: Option<RunningSpeed>, ahead: &[u8])
         ensures { self.new ≡ opened running ahead.now self.old }
@@ -59,7 +59,7 @@ fn part_of(kind: u8) -> Part
     }
 }
 
-/// The speed of a set of the part, as far as the running speed and bcdUSB tell it.
+/// The speed of a set of the part, as far as the running speed and bcdUSB determine it.
 fn known_speed(
     device: Option<DeviceFacts>,
     running: Option<RunningSpeed>,

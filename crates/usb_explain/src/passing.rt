@@ -1,4 +1,4 @@
-//! How it stands behind a descriptor.
+//! What is kept from one descriptor to the next.
 ghost use Rattle.std.specs.Prelude.{◌≡◌, ◌+◌, ◌<◌, ◌^◌, length};
 ghost use Rattle.usb_explain.specs.Passing.{moved, noted, passed, setting_of, with_endpoint, with_set};
 ghost use Rattle.usb_explain.specs.inside.Walking.{Counted, endpoints_of};
@@ -10,7 +10,7 @@ use usb_rules::Part;
 use usb_survey::{byte_at, word_at};
 
 impl Standing {
-    /// Goes behind a descriptor of this role.
+    /// Moves past a descriptor of this role.
     pub(crate) fn pass(&mut self, role: Role, d: &[u8])
         requires counted { Counted self.old }
         requires room { self.old.at + length d.now < 2 ^ 63 }
@@ -28,7 +28,7 @@ impl Standing {
         self.left = self.left.saturating_sub(count);
     }
 
-    /// Keeps what the descriptors behind depend on.
+    /// Keeps what the descriptors after it depend on.
     #[tactic(auto, unfolding(crate::specs::Passing::noted))]
     fn note(&mut self, role: Role, d: &[u8])
         requires counted { Counted self.old }

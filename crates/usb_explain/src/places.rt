@@ -5,7 +5,7 @@ ghost use Rattle.usb_explain.specs.Subjects.{place_among, place_by};
 use usb_explained_lines::StringPlace;
 use usb_file_data::Strings;
 
-/// The place of the string of this number, in a file that names these indices: the strings stand language by language, one
+/// The place of the string of this number, in a file that names these indices: strings are language by language, one
 /// for each index in ascending order.
 pub(crate) fn string_place(strings: &Strings, named: &[u8], number: usize) -> Option<StringPlace>
     ensures { result ≡ place_among (length named.now) named.now strings.now number }

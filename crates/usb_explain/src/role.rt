@@ -1,4 +1,4 @@
-//! What a descriptor is where it stands.
+//! What a descriptor is at its place.
 ghost use Rattle.std.specs.Prelude.{◌≡◌, length};
 ghost use Rattle.usb_explain.specs.Roles.{inner_role, outer_role, role_if, role_of, string_role, typed_role};
 
@@ -6,7 +6,7 @@ use crate::standing::Standing;
 use usb_base::{descriptor_length, descriptor_type};
 use usb_survey::{byte_at, word_at};
 
-/// What a descriptor is where it stands.
+/// What a descriptor is at its place.
 #[derive(Clone, Copy)]
 pub(crate) enum Role {
     Device,
@@ -21,7 +21,7 @@ pub(crate) enum Role {
 }
 
 impl Standing {
-    /// What the descriptor is, where it can stand here.
+    /// What the descriptor is, where one can be here.
     #[tactic(auto, unfolding(crate::specs::Roles::role_of))]
     pub(crate) fn role(&self, d: &[u8]) -> Option<Role>
         ensures { result ≡ role_of self.now d.now }

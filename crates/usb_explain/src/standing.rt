@@ -1,4 +1,4 @@
-//! Where a descriptor stands in the input.
+//! The place of a descriptor in the input.
 ghost use Rattle.std.specs.Prelude.{◌≡◌};
 ghost use Rattle.usb_explain.specs.Standings.{before_sets, start};
 ghost use Rattle.usb_explain.specs.inside.Walking.{Counted};
@@ -36,7 +36,7 @@ pub(crate) struct Standing {
     pub(crate) other_sets: usize,
     /// How many bytes of the set are left from here on; none outside of sets.
     pub(crate) left: usize,
-    /// The set in which it stands, or the last one before it.
+    /// The set that it is in, or the last one before it.
     pub(crate) set: SetStanding,
 }
 
@@ -63,7 +63,7 @@ pub(crate) struct SetStanding {
     pub(crate) owner: Owner,
 }
 
-/// The setting behind whose interface descriptor a descriptor stands.
+/// The setting whose interface descriptor a descriptor follows.
 #[derive(Clone, Copy)]
 pub(crate) struct SettingStanding {
     /// The number of the setting in its set.

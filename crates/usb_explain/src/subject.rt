@@ -124,7 +124,7 @@ impl<'i> Subject<'i> {
         self.found.has(finding)
     }
 
-    /// Where the string of this number stands among those of a file.
+    /// The place of the string of this number among those of a file.
     pub(crate) fn place(&self, number: usize) -> Option<StringPlace>
         ensures { result ≡ place_of self.now number }
     {

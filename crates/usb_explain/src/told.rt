@@ -1,4 +1,4 @@
-//! What is told of a descriptor that breaks a rule.
+//! What is reported of a descriptor that breaks a rule.
 ghost use Rattle.std.specs.Prelude.{◌≡◌, ◌-◌, ◌++◌, length, slice_index, take, OnOk};
 ghost use Rattle.usb_rules.specs.Places.{finding};
 ghost use Rattle.usb_survey.specs.Counts.{endpoints_before_interface};
@@ -60,7 +60,7 @@ impl Standing {
         }
     }
 
-    /// The bytes of its set behind a descriptor.
+    /// The bytes of its set after a descriptor.
     fn behind_in_set<'b>(&self, d: &[u8], behind: &'b [u8]) -> &'b [u8]
         ensures { result.now ≡ take (self.now.left - length d.now) behind.now }
     {
@@ -68,7 +68,7 @@ impl Standing {
     }
 }
 
-/// Puts V5 of an interface with these bytes behind it. The endpoints are counted where it is found alone.
+/// Puts V5 of an interface with these bytes after it. The endpoints are counted where it is found alone.
 #[tactic(auto, unfolding(crate::specs::Findings::told_line))]
 fn put_endpoint_count(
     text: &mut Text,

@@ -20,7 +20,7 @@ use usb_words::Text;
 /// A text of so many bytes is passed on to the writer.
 const FULL: usize = 32 * 1024;
 
-/// Writes the lines of the descriptors that stand in these bytes, from the first on. Answers how many bytes they are.
+/// Writes the lines of the descriptors in these bytes, from the first on. Answers how many bytes they are.
 pub(crate) fn write_blocks<W: Write>(
     text: &mut Text,
     subject: &Subject,
@@ -44,7 +44,7 @@ pub(crate) fn write_blocks<W: Write>(
 }
 
 impl Standing {
-    /// What the descriptor is with which the bytes begin, and how long it is, where it can stand here.
+    /// What the descriptor is with which the bytes begin, and how long it is, where one can be here.
     #[tactic(auto, unfolding(crate::specs::Roles::next_role))]
     fn next_role(&self, ahead: &[u8]) -> Option<(Role, usize)>
         ensures next { result ≡ next_role self.now ahead.now }

@@ -130,7 +130,7 @@ fn put_failure(text: &mut Text, transfer: &Transfer, why: Why) -> Result<(), All
     }
 }
 
-/// Puts what the device has, and behind it the data packet that it has answered, if it has.
+/// Puts what the device has, and after it the data packet that it has answered, if it has.
 pub(crate) fn put_device(
     text: &mut Text,
     device: &Device<'_>,

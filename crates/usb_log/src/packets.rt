@@ -92,7 +92,7 @@ fn put_ack(text: &mut Text, came: Answer<'_>, is_lost: bool) -> Result<(), Alloc
     }
 }
 
-/// Puts words in a column of this width, and that what they tell of was lost, where it was.
+/// Puts words in a column of this width, and that what they name was lost, where it was.
 fn put_marked(text: &mut Text, words: &str, is_lost: bool, width: usize) -> Result<(), AllocError>
     ensures { OnOk result (text.new ≡ text.old ++ column width (marked words.now is_lost)) }
 {

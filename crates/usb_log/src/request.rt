@@ -6,7 +6,7 @@ use std::alloc::AllocError;
 use usb_fields::{Setup, descriptor_type, request};
 use usb_words::{Text, put_byte_code, put_count, put_word_code};
 
-/// Puts words, and a number behind them.
+/// Puts words, and a number after them.
 #[tactic(auto, unfolding(crate::specs::Requests::numbered))]
 pub(crate) fn put_numbered(text: &mut Text, words: &str, number: u64) -> Result<(), AllocError>
     ensures { OnOk result (text.new ≡ text.old ++ numbered words.now number) }

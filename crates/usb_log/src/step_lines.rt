@@ -18,7 +18,7 @@ use usb_host::{Host, Step};
 use usb_transfer::Transfer;
 use usb_words::Text;
 
-/// Both ends before a step, as far as its lines tell of them.
+/// Both ends before a step, as far as its lines show them.
 #[derive(Drop)]
 pub(crate) struct Before<'d> {
     pub(crate) step: Option<Step>,

@@ -106,7 +106,7 @@ impl<'d> Walk<'d> {
 /// # Errors
 ///
 /// `Write` where the writer failed, and `Memory` where the lines of a step took more memory than there is. The
-/// enumeration goes no further then. Its log was written up to that step, and of the step's lines a front, which lacks at
+/// enumeration ends then. Its log was written up to that step, and of the step's lines a prefix, which lacks at
 /// least their last byte; of those that memory was wanting for, nothing. Want of memory of the host is no error: it ends
 /// the enumeration.
 pub fn enumerate_logged<W: Write>(

@@ -5,7 +5,7 @@ ghost use Rattle.usb_rules.specs.inside.Addresses.{claimed, cleared, is_other, j
 use std::marker::Model;
 use usb_base::Marks;
 
-/// The interface numbers under which an address stands.
+/// The numbers of the interfaces that claim an address.
 #[derive(Clone, Copy)]
 pub(crate) enum Owner {
     One(u8),
@@ -96,7 +96,7 @@ impl Addresses {
         self.in_set.has(address) && self.owners[usize::from(address)].is_other(self.number)
     }
 
-    /// The address stands in the setting in work.
+    /// The setting in work claims the address.
     pub(crate) fn add(&mut self, address: u8)
         ensures { kept self.new ≡ claimed address (kept self.old) }
     {

@@ -15,7 +15,7 @@ use usb_base::Marks;
 use usb_file_data::DescriptorFile;
 use usb_set::{Configuration, SetKind};
 
-/// Want of memory, as std tells it.
+/// Out of memory, as std has it.
 pub use std::alloc::AllocError as NoMemory;
 
 /// Everything in the file that breaks a rule of chapter 9: rule by rule, in each rule the device, the main
@@ -76,7 +76,7 @@ pub fn check_set(alloc: Global, c: &Configuration) -> Result<Vec<Finding>, NoMem
     walk_set(alloc, c)?.by_rule(alloc)
 }
 
-/// What [`check`] tells of a file, in the order of its bytes: at each descriptor what it breaks.
+/// What [`check`] finds in a file, in the order of its bytes: at each descriptor the rules that it breaks.
 ///
 /// ```rust
 /// for finding in findings_in_order(rt.alloc(), &file)?.iter() {
@@ -93,7 +93,7 @@ pub fn findings_in_order(alloc: Global, f: &DescriptorFile) -> Result<Vec<Findin
     Ok(walk_file(alloc, is_wrong_device(&f.device), f)?.in_order())
 }
 
-/// What [`check_dump`] tells of a dump, in the order of its bytes.
+/// What [`check_dump`] finds in a dump, in the order of its bytes.
 ///
 /// # Errors
 ///
@@ -104,7 +104,7 @@ pub fn dump_findings_in_order(alloc: Global, f: &DescriptorFile) -> Result<Vec<F
     Ok(walk_file(alloc, is_wrong_dumped_device(&f.device), f)?.in_order())
 }
 
-/// What [`check_set`] tells of a set alone, in the order of its bytes.
+/// What [`check_set`] finds in a set alone, in the order of its bytes.
 ///
 /// # Errors
 ///

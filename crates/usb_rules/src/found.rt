@@ -36,7 +36,7 @@ impl Found {
         }
     }
 
-    /// Tells that the rule is broken at the place, where the test holds.
+    /// Reports that the rule is broken at the place, where the test holds.
     pub(crate) fn tell(&mut self, rule: Rule, holds: bool, place: Place) -> Result<(), AllocError>
         ensures { OnOk result (self.new ≡ self.old ++ when holds (broken rule place)) }
     {

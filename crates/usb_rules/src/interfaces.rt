@@ -23,7 +23,7 @@ pub(crate) struct Interface {
 pub(crate) struct Interfaces {
     /// In the order of their first settings.
     list: Vec<Interface>,
-    /// Where the interface of a number stands in the list, if it has one, and else anything.
+    /// The index in the list of the interface of a number, if it has one, and else anything.
     places: [u8; 256],
     numbers: Marks,
 }
@@ -89,7 +89,7 @@ impl Interfaces {
         self.list[place].alternates.has(alternate)
     }
 
-    /// Enters the setting, and tells whether one of its number and alternate was entered before.
+    /// Enters the setting, and answers whether one of its number and alternate was entered before.
     pub(crate) fn add(&mut self, setting: usize, s: &Setting) -> Result<bool, AllocError>
         ensures again { IfOk result (λ again. again ≡ (kept self.old).alternates s.now.number s.now.alternate) }
         ensures entered { OnOk result (kept self.new ≡ entered setting s.now (kept self.old)) }
@@ -119,7 +119,7 @@ impl Interfaces {
         Ok(())
     }
 
-    /// The alternate stands too. Tells whether it stood before.
+    /// Enters the alternate. Answers whether it was entered before.
     fn mark(&mut self, number: u8, alternate: u8) -> bool
         requires { (kept self.old).numbers number ≡ true }
         ensures again { result ≡ (kept self.old).alternates number alternate }

@@ -1,7 +1,7 @@
 //! The rules of chapter 9 of USB 2.0 that the descriptors of a device keep among themselves.
 //!
-//! A file can be read and yet be wrong: counts that do not count, settings that stand twice, addresses
-//! that two interfaces claim. [`check`] tells all of that at once, each [`Finding`] at its place. [`check_dump`] and
+//! A file can be parsed and yet be wrong: counts that do not match, settings that occur twice, addresses
+//! that two interfaces claim. [`check`] reports all of that at once, each [`Finding`] at its place. [`check_dump`] and
 //! [`check_set`] do so of what is less than a file.
 //!
 //! They come rule by rule, or from [`findings_in_order`] and its like in the order of the bytes.

@@ -16,7 +16,7 @@ pub enum Rule {
     V1,
     /// Interface numbers without a gap (9.6.5).
     V2,
-    /// Alternate settings that can be told apart (9.6.5).
+    /// Distinct alternate settings of an interface (9.6.5).
     V3,
     /// An alternate setting 0 of each interface (9.6.5).
     V4,

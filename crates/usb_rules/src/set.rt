@@ -105,7 +105,7 @@ fn check_configuration(
     check_value(found, values, place, c)
 }
 
-/// Of a setting, before which so many associations stand in the set. Answers how many stand before the next one.
+/// Of a setting, before which the set has so many associations. Answers how many it has before the next one.
 fn check_setting(
     found: &mut Found,
     whole: &Interfaces,

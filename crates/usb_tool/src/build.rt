@@ -23,7 +23,7 @@ use usb_file::{DescriptorFile, LISTING_LIMIT, WriteFault, assemble, write_file};
 ///
 /// `Read` where the reader failed, `TooLarge` at the first byte over [`LISTING_LIMIT`], and `List` with the
 /// first line at fault and the first reason in it. Nothing is written then. `Write` where the writer or its
-/// flush failed; a front of the bytes is written then. `Memory` when out of memory, and nothing is
+/// flush failed; a prefix of the bytes is written then. `Memory` when out of memory, and nothing is
 /// written.
 pub fn run_build<R: Read, W: Write>(alloc: Global, r: &mut R, w: &mut W) -> Result<u8, ToolFault>
     ensures number { IfOk result (λ number. number ≡ 0) }

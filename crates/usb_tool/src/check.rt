@@ -24,7 +24,7 @@ use usb_file::{FILE_LIMIT, Finding, check_input, read_input};
 ///
 /// `Read` where the reader failed, and `TooLarge` at the first byte over [`FILE_LIMIT`]. Of a set `Set` with the fault of
 /// the whole input, and `Trailing` where it goes on after the set; else `File` with the fault of a file. `Memory` when
-/// out of memory. Nothing is written then. `Write` where the writer or its flush failed; a front of the text is
+/// out of memory. Nothing is written then. `Write` where the writer or its flush failed; a prefix of the text is
 /// written then.
 pub fn run_check<R: Read, W: Write>(alloc: Global, r: &mut R, w: &mut W) -> Result<u8, ToolFault>
     ensures checked { IfOk result (Checked (R.remaining r.old) (R.remaining r.new) (W.contents w.old) (W.contents w.new)) }

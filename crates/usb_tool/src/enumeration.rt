@@ -38,7 +38,7 @@ use usb_transfer::Limits;
 /// # Errors
 ///
 /// `Read` where the reader failed, `TooLarge` at the first byte over [`FILE_LIMIT`], and `File` with the fault of
-/// the whole input. Nothing is written then. `Write` where the writer or its flush failed; a front of the text is
+/// the whole input. Nothing is written then. `Write` where the writer or its flush failed; a prefix of the text is
 /// written then, and may be all of it. `Memory` when out of memory, but for one of the host, which is a trouble
 /// of the enumeration; at least the last byte of the text is not written then.
 pub fn run_enumerate<R: Read, W: Write>(
@@ -74,7 +74,7 @@ pub fn run_enumerate<R: Read, W: Write>(
 /// # Errors
 ///
 /// Those of `run_enumerate`. Where `Write` or `Memory` comes within the log, the enumeration goes no further: the log was
-/// written up to a step, and of that step's lines a front, or nothing out of memory.
+/// written up to a step, and of that step's lines a prefix, or nothing out of memory.
 pub fn run_enumerate_logged<R: Read, W: Write>(
     alloc: Global,
     r: &mut R,
@@ -199,7 +199,7 @@ fn tell_trouble<W: Write>(
     tell_line(line.as_bytes(), w)
 }
 
-/// Writes a line that is all that there is to tell, and flushes the writer.
+/// Writes a line that is the whole output, and flushes the writer.
 fn tell_line<W: Write>(line: &[u8], w: &mut W) -> Result<u8, ToolFault>
     ensures ok { IfOk result (EndsWith line.now 1 (W.contents w.old) (W.contents w.new)) }
     ensures err { IfErr result (IsCutShort line.now (W.contents w.old) (W.contents w.new)) }

@@ -32,7 +32,7 @@ use usb_file::{FILE_LIMIT, Input, InputFault, OutFault, read_input};
 ///
 /// `Read` where the reader failed, and `TooLarge` at the first byte over [`FILE_LIMIT`]. Nothing is written then. Of a set
 /// `Set` with the fault of the whole input, and `Trailing` where it goes on after the set; else `File` with the
-/// fault of a file. What stands before the fault is explained then. `Write` where the writer or its flush failed; a front
+/// fault of a file. What is before the fault is explained then. `Write` where the writer or its flush failed; a prefix
 /// of the text is written then, and may be all of it. `Memory` when out of memory; at least the last byte of the text is
 /// not written then.
 pub fn run_explain<R: Read, W: Write>(

@@ -51,7 +51,7 @@ pub(crate) fn read_intake<R: io::Read>(
     }
 }
 
-/// The first two bytes, which tell what the input is; fewer only where it has no more.
+/// The first two bytes, which decide what the input is; fewer only where it has no more.
 fn read_front<R: io::Read>(alloc: Global, r: &mut R) -> Result<(Intake, usize), ToolFault>
     ensures ok { IfOk result (λ front. ReadsFront (R.remaining r.old) (R.remaining r.new) front.0 front.1) }
     ensures err { IfErr result (StopsEarly 2 (R.remaining r.old) (R.remaining r.new)) }

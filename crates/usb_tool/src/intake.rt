@@ -20,7 +20,7 @@ pub(crate) enum Intake {
 impl Intake {
     ghost use Rattle.usb_tool.specs.inside.Intake.{IsIntake};
 
-    /// The input that begins with these bytes, of which two are enough to tell what it is.
+    /// The input that begins with these bytes, of which two are enough to know what it is.
     ///
     /// # Errors
     ///

@@ -2,23 +2,23 @@
 //!
 //! [`run_show`] reads a configuration set, a descriptor file or a dump to the end of its input and writes its
 //! listing, a line for each descriptor. Its contract speaks of the bytes that the reader has and of
-//! those that the writer gains, where the two tell them: `specs/Shows.antt` says what it does, fault by
-//! fault. What each line says stands in the crate `usb_listing`. [`run_check`] writes what breaks a rule of
+//! those that the writer gains, where the two state them: `specs/Shows.antt` says what it does, fault by
+//! fault. What each line says is in the crate `usb_listing`. [`run_check`] writes what breaks a rule of
 //! chapter 9 in such an input (`specs/Checks.antt`), and [`run_build`] reads a listing and writes the bytes of its file
 //! (`specs/Builds.antt`). [`run_explain`] writes what the descriptors of an input mean, in words (`specs/Explains.antt`).
 //! [`run_enumerate`] enumerates a device that has the descriptors of a file, over a bus that loses
 //! packets and handshakes, and writes what came of that (`specs/Enumerations.antt`). [`run_enumerate_logged`] writes a log
-//! of it too, whose lines stand in the crate `usb_log`.
+//! of it too, whose lines are in the crate `usb_log`.
 //!
 //! [`run`] is the whole program over any standard streams: [`read_line`] reads its command line,
 //! [`ToolFault`] says why a command failed, and [`verdict`] gives the exit status. What a run does is
 //! `specs/Runs.antt`. Where its words could not be taken, [`refuse_words`] gives the line for standard error and
-//! the status. What the words say stands in the crate `usb_command_line`.
+//! the status. What the words say is in the crate `usb_command_line`.
 //!
 //! [`converse`] makes control transfers between a host and a device over a bus that loses packets and handshakes.
-//! It takes the description of the device (crate `usb_description`), how many NAKs the host bears, the requests
+//! It takes the description of the device (crate `usb_description`), how many NAKs the host retries, the requests
 //! (`Setup` of `usb_fields`) and a [`Fate`] for each transaction. Its answer is a [`Talk`], with a [`Reply`] for
-//! each request that was completed. It and its [`laws`] stand in the crate `usb_bus`.
+//! each request that was completed. It and its [`laws`] are in the crate `usb_bus`.
 #![tactic(auto)]
 
 mod build;

@@ -10,7 +10,7 @@ use usb_listing::{OutFault, write_all};
 ///
 /// # Errors
 ///
-/// `Write` where the writer or its flush failed. A front of the bytes is written then.
+/// `Write` where the writer or its flush failed. A prefix of the bytes is written then.
 pub(crate) fn write_flushed<W: Write>(w: &mut W, bytes: &[u8]) -> Result<(), OutFault>
     ensures ok { OnOk result (Appends (W.contents w.old) (W.contents w.new) bytes.now) }
     ensures err { OnErr result (AppendsFront (W.contents w.old) (W.contents w.new) bytes.now) }

@@ -53,7 +53,7 @@ pub fn run<R: Read, W: Write, E: Write>(
     }
 }
 
-/// Explains as the options say. A speed that is none is told before anything is read.
+/// Explains as the options say. A speed that is none is reported before anything is read.
 fn explain_with<R: Read, W: Write, E: Write>(
     alloc: Global,
     options: &Explaining<'_>,
@@ -69,7 +69,7 @@ fn explain_with<R: Read, W: Write, E: Write>(
     }
 }
 
-/// Enumerates as the options say. What is wrong with them is told before anything is read.
+/// Enumerates as the options say. What is wrong with them is reported before anything is read.
 fn enumerate_with<R: Read, W: Write, E: Write>(
     alloc: Global,
     options: &Options<'_>,

@@ -1,4 +1,4 @@
-//! The lines that tell what came of an enumeration.
+//! The lines that report the outcome of an enumeration.
 ghost use Rattle.std.specs.Prelude.{Some};
 ghost use Rattle.usb_tool.specs.ResultLines.{refused_line, success_line, trouble_line};
 

@@ -30,7 +30,7 @@ use usb_file::{FILE_LIMIT, Input, OutFault, list, list_set, read_input};
 ///
 /// `Read` where the reader failed and `TooLarge` at the first byte over [`FILE_LIMIT`]. Of a set `Set` with
 /// the fault of the whole input, and `Trailing` where it goes on after the set; else `File` with the
-/// fault of a file. Nothing is written then. `Write` where the writer or its flush failed; a front
+/// fault of a file. Nothing is written then. `Write` where the writer or its flush failed; a prefix
 /// of the listing is written then, and may be all of it. `Memory` when out of memory; at least the
 /// last byte of the listing is not written then.
 pub fn run_show<R: Read, W: Write>(alloc: Global, r: &mut R, w: &mut W) -> Result<u8, ToolFault>
