@@ -1,6 +1,6 @@
 /* texts COMMAND FILE [LENGTH]: what a call makes of the first LENGTH bytes of FILE. The commands are show, check, build, and
- * explain as plain, brief, noplaces or high. Writes the text, and behind it a line with the status, the number and the
- * place. Ends in 9 where a buffer that is too short is written to. */
+ * explain as plain, brief, noplaces or high. Writes what it makes, and behind it, on a line of its own, the status, the
+ * number and the place. Ends in 9 where a buffer that is too short is written to. */
 #include "usb.h"
 #include "hosted.h"
 
@@ -41,6 +41,6 @@ int main(int argc, char **argv) {
     struct usb_answer a = call(argv[1], length, room);
     if (a.length != room) return 9;
     for (size_t i = 0; i < room; i++) printf("%c", text[i]);
-    printf("%u %u %zu\n", a.status, a.number, a.place);
+    printf("\n%u %u %zu\n", a.status, a.number, a.place);
     return 0;
 }
