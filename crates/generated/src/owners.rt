@@ -14,7 +14,7 @@ const OWNERS: &[u8] = b"The owner of a device answers what its table of requests
 const READS: [u8; 5] = [1, 8, 9, 63, 0];
 
 /// More transactions than a transfer takes under a list of six fates.
-const MOST: u128 = 64;
+const MOST: usize = 64;
 
 /// What came of a transfer.
 #[derive(Drop)]
@@ -73,12 +73,12 @@ fn make(
         let Some(transaction) = transfer.next() else {
             break;
         };
-        came.transactions = number.saturating_add(1);
+        came.transactions = came.transactions.saturating_add(1);
         exchange(
             device,
             transfer,
             &transaction,
-            Fate::at(fates, number),
+            Fate::at(fates, number as u128),
             &mut came,
         )?;
         if let Some(request) = device.refused() {
