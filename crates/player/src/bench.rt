@@ -4,17 +4,18 @@ use crate::driven::Driven;
 use crate::host::{HostInWork, read_host};
 use crate::outcome::Outcome;
 use crate::steps::form_of;
-use crate::talk::TalkInWork;
+use crate::talk::Bus;
 use crate::transfer::{due, read_transfer, take};
 use anyhow::Result;
 use std::alloc::Global;
+use usb_bus::Conversation;
 use usb_device::Description;
 use usb_transfer::Transfer;
 
 /// What steps are played with, but for a device.
 #[derive(Drop)]
 pub struct Bench {
-    pub(crate) talk: TalkInWork,
+    pub(crate) bus: Bus,
     pub(crate) work: Work,
     /// Whether what the ends hold is printed after each step.
     pub(crate) traces: bool,
@@ -33,6 +34,8 @@ pub(crate) enum Work {
 pub struct Target<'d> {
     pub(crate) description: &'d Description,
     pub(crate) driven: Driven<'d>,
+    /// The talk with another device of that kind, once a request was made.
+    pub(crate) conversation: Option<Conversation<'d>>,
 }
 
 impl Bench {
@@ -54,11 +57,12 @@ impl Bench {
                 return Ok(Outcome::NoStep("no device"));
             };
             if verb == "reset" && words.len() == 1 {
-                self.talk.reset();
+                self.bus.reset();
+                target.conversation = None;
             }
             match target.driven.act(alloc, words)? {
                 Some(outcome) => Some(outcome),
-                None => self.talk.act(alloc, target.description, words)?,
+                None => self.bus.act(alloc, target, words)?,
             }
         };
         Ok(outcome.unwrap_or(Outcome::NoStep(form)))
@@ -126,7 +130,7 @@ impl Bench {
             return Ok(None);
         }
         if verb == "enumerate" {
-            return Ok(Some(String::from_str(alloc, self.talk.log.as_str())?));
+            return Ok(Some(String::from_str(alloc, self.bus.log.as_str())?));
         }
         if is_hosts(words) {
             return match &self.work {

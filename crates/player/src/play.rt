@@ -6,7 +6,7 @@ use crate::driven::Driven;
 use crate::line::{Line, next_line};
 use crate::outcome::Outcome;
 use crate::score::Score;
-use crate::talk::TalkInWork;
+use crate::talk::Bus;
 use anyhow::Result;
 use std::io::BufRead;
 use std::rt::Files;
@@ -30,7 +30,7 @@ pub fn play<H: Files + Print + AllocGlobal, R: BufRead>(
         score: Score::new(name),
         descriptors: Descriptors { file: None },
         bench: Bench {
-            talk: TalkInWork::new(rt.alloc()),
+            bus: Bus::new(rt.alloc()),
             work: Work::Nothing,
             traces: false,
         },
@@ -55,6 +55,7 @@ fn play_game<H: Files + Print + AllocGlobal, R: BufRead>(
         let target = Target {
             description: &description,
             driven: Driven::new(&description),
+            conversation: None,
         };
         made = play_with(rt, lines, game, Some(target))?;
     }
@@ -99,7 +100,7 @@ fn take_line<H: Files + Print + AllocGlobal>(
         [verb, word] if *verb == "file" => game.descriptors.load(rt, word)?,
         [verb, word] if *verb == "speed" => match game.descriptors.describe(rt.alloc(), word)? {
             Made::Accepted(description) => {
-                game.bench.talk.reset();
+                game.bench.bus.reset();
                 game.score.settle(rt, line, &Outcome::Word("accepted"))?;
                 return Ok(Some(description));
             }

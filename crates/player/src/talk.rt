@@ -1,48 +1,46 @@
 //! Talks and enumerations over a bus that loses packets.
+use crate::bench::Target;
 use crate::host::end_text;
 use crate::outcome::Outcome;
 use crate::words::read_fates;
 use anyhow::Result;
 use hex::FromHex;
 use std::alloc::{AllocError, Global};
-use usb_bus::{Fate, Reply, converse};
+use usb_bus::{Conversation, Fate, Reply};
 use usb_device::Description;
+use usb_enumeration::enumerate_logged;
 use usb_fields::Setup;
-use usb_log::enumerate_logged;
 use usb_transfer::Limits;
 
-/// The talk in work: its requests are made of a new device at address 0.
+/// What a bus does to the talks that are made over it.
 #[derive(Drop)]
-pub struct TalkInWork {
+pub struct Bus {
     naks: u16,
     fates: Vec<Fate>,
-    requests: Vec<Setup>,
     /// The log of the enumeration that was made last.
     pub(crate) log: String,
 }
 
-impl TalkInWork {
-    /// A talk without requests or losses, in which 16 NAKs are retried.
-    pub fn new(alloc: Global) -> TalkInWork {
-        TalkInWork {
+impl Bus {
+    /// A bus that loses nothing, on which 16 NAKs are retried.
+    pub fn new(alloc: Global) -> Bus {
+        Bus {
             naks: 16,
             fates: Vec::new(alloc),
-            requests: Vec::new(alloc),
             log: String::new(alloc),
         }
     }
 
-    /// Forgets the requests and the fates.
+    /// Forgets the fates.
     pub fn reset(&mut self) {
-        self.requests.clear();
         self.fates.clear();
     }
 
-    /// What comes of a step of the talk, if it is one.
+    /// What comes of a step of a talk, if it is one.
     pub fn act(
         &mut self,
         alloc: Global,
-        description: &Description,
+        target: &mut Target<'_>,
         words: &[&str],
     ) -> Result<Option<Outcome>> {
         match words {
@@ -62,37 +60,46 @@ impl TalkInWork {
                 let Ok(packet) = <[u8; 8] as FromHex>::from_hex(*packet) else {
                     return Ok(None);
                 };
-                return self.request(alloc, description, Setup::from_bytes(&packet));
+                return self.request(alloc, target, Setup::from_bytes(&packet));
             }
-            [verb] if *verb == "end" => return self.end(alloc, description),
+            [verb] if *verb == "end" => return self.end(alloc, target),
             [verb, letters] if *verb == "enumerate" => {
                 let Some(fates) = read_fates(alloc, letters)? else {
                     return Ok(None);
                 };
-                return self.enumerate(alloc, description, &fates);
+                return self.enumerate(alloc, target.description, &fates);
             }
             _ => return Ok(None),
         }
         Ok(Some(Outcome::Word("done")))
     }
 
-    /// One more request. The talk is made from its beginning, since the fates are those of its transactions: what
-    /// came of the requests before is the same again.
+    /// The talk in work, or a new one.
+    fn talk_in_work<'d>(&self, alloc: Global, target: &mut Target<'d>) -> Conversation<'d> {
+        match target.conversation.take() {
+            Some(conversation) => conversation,
+            None => Conversation::new(alloc, target.description, self.naks),
+        }
+    }
+
+    /// One more request.
     fn request(
-        &mut self,
+        &self,
         alloc: Global,
-        description: &Description,
+        target: &mut Target<'_>,
         request: Setup,
     ) -> Result<Option<Outcome>> {
-        let place = self.requests.len();
-        self.requests.push(request)?;
-        let talk = converse(alloc, description, self.naks, &self.requests, &self.fates)?;
-        Ok(Some(reply_outcome(alloc, talk.replies.get(place))?))
+        let mut conversation = self.talk_in_work(alloc, target);
+        let place = conversation.talk().replies.len();
+        conversation.request(alloc, request, &self.fates)?;
+        let outcome = reply_outcome(alloc, conversation.talk().replies.get(place))?;
+        target.conversation = Some(conversation);
+        Ok(Some(outcome))
     }
 
     /// The end of the talk, as in `5 transactions, address 0, configuration 0`; the reason goes first where it stopped.
-    fn end(&mut self, alloc: Global, description: &Description) -> Result<Option<Outcome>> {
-        let talk = converse(alloc, description, self.naks, &self.requests, &self.fates)?;
+    fn end(&mut self, alloc: Global, target: &mut Target<'_>) -> Result<Option<Outcome>> {
+        let talk = self.talk_in_work(alloc, target).into_talk();
         self.reset();
         let transactions = talk.transactions;
         let (address, selected) = (talk.state.address, talk.state.selected);

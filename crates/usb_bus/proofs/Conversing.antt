@@ -1,32 +1,34 @@
 -- A talk: what its loop keeps, and what holds where it ends.
-use Rattle.std.proofs.Common.{◌≡◌, ℕ, suc, ◌+◌, ◌<◌, ◌≤◌, List, [], ◌∷◌, ◌++◌, length, take, drop, Option, Some, None, Result, Ok, Err, refl, sym, ap, ◌∙◌, arith, subst, zero-add}
-use Rattle.std.specs.Prelude.{IfSome}
-use Rattle.std.proofs.lemmas.List.{take_all, nil_from_length, length-drop}
+use Rattle.std.proofs.Common.{◌≡◌, ℕ, ◌+◌, ◌<◌, ◌≤◌, List, [], ◌∷◌, ◌++◌, length, take, Option, Some, None, Result, Ok, Err, refl, sym, ap, ◌∙◌, arith, subst, append_assoc, length-append}
+use Rattle.std.specs.Option.{is_some}
+use Rattle.std.specs.Prelude.{IfSome, true, false}
+use Rattle.std.proofs.lemmas.List.{append-nil, take_all}
 use Rattle.usb_fields.specs.declared.setup.Setup.{Setup as SetupPacket}
 use Rattle.usb_file_data.specs.declared.file.DescriptorFile.{DescriptorFile}
 use Rattle.usb_transfer.specs.declared.why.Why.{Why}
 use Rattle.usb_transfer.specs.declared.why.Why.TheVariants.{NoAnswer, Busy, Stalled, TooLong, Unexpected, Malformed, Memory}
 use Rattle.usb_transfer.specs.declared.stage.TransferStage.{TransferStage}
 use Rattle.usb_transfer.specs.declared.stage.TransferStage.TheVariants.{Setup, DataIn, DataOut, StatusOut, StatusIn, Completed, Failed}
-use Rattle.usb_transfer.specs.Transfer.{TransferView, begun, due, addressed, token_due}
+use Rattle.usb_transfer.specs.Transfer.{due, addressed, token_due}
 use Rattle.usb_device.specs.Requests.{answer}
 use Rattle.usb_device.specs.States.{zero as zero_state}
-use Rattle.usb_device.specs.Step.{DeviceView}
+use Rattle.usb_device.specs.declared.state.State.{State}
+use Rattle.usb_device.specs.Step.{DeviceView, new_device}
 use Rattle.usb_bus.specs.declared.fate.Fate.{Fate}
 use Rattle.usb_transfer.specs.declared.reply.Reply.{Reply}
 use Rattle.usb_bus.specs.declared.talk.Talk.{Talk}
 use Rattle.usb_bus.specs.Fates.{losses, busies, acks_lost}
 use Rattle.usb_bus.specs.Bus.{HostEnd}
 use Rattle.usb_transfer.specs.Plan.{Plan}
-use Rattle.usb_bus.specs.Attempt.{Phase, Attempt, Running, Succeeded, Broken, proceed, advance, begins}
+use Rattle.usb_bus.specs.Attempt.{Phase, Attempt, Running, Succeeded, Broken, proceed, advance, attempt_run, begins, phase_of}
 use Rattle.usb_bus.specs.Talk.{Place, ends_with_address, talk_plan, reached, onward, followed, asked_at, replies_to, state_after}
 use Rattle.usb_bus.specs.Run.{fates_used, due_in, Steps}
-use Rattle.usb_bus.specs.Converse.{first_place, talk_start, end_of, IsTalkRun, HasFirstReplies, HasLastState}
-use Rattle.usb_bus.specs.inside.Running.{failure_of, point, AreDue, Leads, settled}
-use Rattle.usb_bus.specs.Ending.{AttemptEnds, IsCause, IsLast}
+use Rattle.usb_bus.specs.Converse.{first_place, talk_start, end_of, standing, IsTalk, IsTalkRun, IsTalkTo, HasFirstReplies, HasLastState, TalkView}
+use Rattle.usb_bus.specs.inside.Running.{failure_of, point, Leads, settled}
+use Rattle.usb_bus.specs.Ending.{AttemptEnds, IsCause}
 use Rattle.usb_bus.proofs.Talks.{talk_ends, reached_append}
 use Rattle.usb_bus.proofs.TableLemmas.{table_kept}
-use Rattle.usb_bus.proofs.Runs.{losses-fates_used, busies-fates_used, acks_lost-fates_used, point-run, points, length-points, AreDue-append, Steps-points, Steps-same}
+use Rattle.usb_bus.proofs.Runs.{losses-fates_used, busies-fates_used, acks_lost-fates_used, points, length-points, Steps-append, Steps-points, Steps-run, Steps-same}
 
 -- a transfer that has nothing due was settled
 abbrev pub settles : (List Reply → Plan) → ℕ → List Reply → DeviceView → Result Reply Why → Attempt
@@ -54,157 +56,229 @@ module _ (f : DescriptorFile) (naks : ℕ) (qs : List SetupPacket) (fates : List
   abbrev plan : List Reply → Plan
   plan = talk_plan f.device.packet (first_place qs)
 
-  -- the talk stands at x after so many transactions, each of which was due, and goes on from there
+  -- so many transactions lead from the start to x
   abbrev pub StandsAt : ℕ → Attempt → Type 0
   StandsAt now x =
-      AreDue plan naks (answer f) f.device.packet fates 0 now (talk_start f.device.packet naks qs)
-      × ((m : ℕ) → point plan naks (answer f) f.device.packet fates 0 (now + m) (talk_start f.device.packet naks qs)
-      ≡ point plan naks (answer f) f.device.packet fates now m x)
-
-  pub stands_first : StandsAt 0 (talk_start f.device.packet naks qs)
-  stands_first = (λ i less. absurd (omega arith), λ m. rw (zero-add m) refl)
+      (ps : List Attempt) × (length ps ≡ now) × Steps plan naks (answer f) f.device.packet fates 0 (talk_start f.device.packet naks qs) ps x
 
   -- one transfer more
-  pub stands_on : (before address : ℕ) (replies : List Reply) (q : SetupPacket) (rest : List SetupPacket) (d : DeviceView) (now : ℕ) (h : HostEnd) (here : DeviceView) →
-      StandsAt before (proceed plan naks replies d) → reached (first_place qs) replies ≡ record { left = q ∷ rest; address = address } →
-      Leads (answer f) f.device.packet fates before (begins address f.device.packet naks q) d now h here →
-      due h.transfer ≡ None →
+  pub stands_on : (before address : ℕ) (replies : List Reply) (q : SetupPacket) (d : DeviceView) (now : ℕ) (h : HostEnd) (here : DeviceView) →
+      StandsAt before (record { replies = replies; phase = Running (begins address f.device.packet naks q); device = d }) →
+      Leads (answer f) f.device.packet fates before (begins address f.device.packet naks q) d now h here → due h.transfer ≡ None →
       StandsAt now (settles plan naks replies here (settled h.transfer.request.length h.got (failure_of h.transfer.stage)))
-  stands_on before address replies q rest d now h here stands place (n, at, leads) over =
-      let start = talk_start f.device.packet naks qs in
+  stands_on before address replies q d now h here (ps, count, steps) (n, at, leads) over =
       let begin : Attempt = record { replies = replies; phase = Running (begins address f.device.packet naks q); device = d } in
-      let running : proceed plan naks replies d ≡ begin =
-      ap (λ p. (let x : Attempt = proceed (λ r. asked_at f.device.packet p.address p.left) naks replies d in x)) place in
+      let end = settles plan naks replies here (settled h.transfer.request.length h.got (failure_of h.transfer.stage)) in
       let led = leads plan naks replies in
-      let from : (j : ℕ) → point plan naks (answer f) f.device.packet fates 0 (before + j) start ≡ point plan naks (answer f) f.device.packet fates before j begin =
-      λ j. stands.1 j ∙ ap (λ x. point plan naks (answer f) f.device.packet fates before j x) running in
-      let due_all = AreDue-append plan naks (answer f) f.device.packet fates 0 before before n start begin stands.0 from led.0 in (
-        subst (λ x. AreDue plan naks (answer f) f.device.packet fates 0 x start) (sym at) due_all,
-        λ m.
-            (let number : now + m ≡ before + (n + m) = omega arith in
-            ap (λ x. point plan naks (answer f) f.device.packet fates 0 x start) number
-            ∙ from (n + m)
-            ∙ led.1 m
-            ∙ ap (λ x. point plan naks (answer f) f.device.packet fates now m x)
-            (advance-settled plan naks replies h h.transfer.stage here h.transfer.address h.transfer.request over)),
+      let none : n ≡ n + 0 = omega arith in
+      let comes : point plan naks (answer f) f.device.packet fates before n begin ≡ end =
+      ap (λ x. point plan naks (answer f) f.device.packet fates before x begin) none
+      ∙ led.1 0
+      ∙ advance-settled plan naks replies h h.transfer.stage here h.transfer.address h.transfer.request over in
+      let more = points plan naks (answer f) f.device.packet fates before n begin in
+      let on = subst (λ x. Steps plan naks (answer f) f.device.packet fates before begin more x) comes (Steps-points plan naks (answer f) f.device.packet fates before n begin led.0) in
+      let first : before ≡ 0 + length ps = omega arith in
+      let long = length-points plan naks (answer f) f.device.packet fates before n begin in (
+        ps ++ more,
+        length-append ps more ∙ omega arith,
+        Steps-append plan naks (answer f) f.device.packet fates 0 before (talk_start f.device.packet naks qs) ps begin more end first steps on,
       )
 
-  -- the same, as the loop has it
-  pub stands_after : (g : DescriptorFile) (size i before address : ℕ) (replies : List Reply) (q : SetupPacket) (d : DeviceView) (now : ℕ) (t : TransferView) (h : HostEnd) (here : DeviceView)
-      (failure : Option Why) → g ≡ f → size ≡ f.device.packet → StandsAt before (proceed plan naks replies d) →
-      reached (first_place qs) replies ≡ record { left = drop i qs; address = address } → drop i qs ≡ q ∷ drop (suc i) qs →
-      t ≡ begun address size naks q →
-      Leads (answer g) g.device.packet fates before (record { transfer = t; got = [] }) d now h here →
-      due h.transfer ≡ None → failure ≡ failure_of h.transfer.stage → h.transfer.request ≡ q →
-      StandsAt now (settles plan naks replies here (settled q.length h.got failure))
-  stands_after g size i before address replies q d now t h here failure file packet stands place first is leads over why request =
-      let at : reached (first_place qs) replies ≡ record { left = q ∷ drop (suc i) qs; address = address } =
-      place ∙ ap (λ x. (let p : Place = record { left = x; address = address } in p)) first in
-      let is_new : t ≡ begun address f.device.packet naks q = is ∙ ap (λ x. begun address x naks q) packet in
-      let led =
-      subst (λ x. Leads (answer f) f.device.packet fates before (record { transfer = x; got = [] }) d now h here) is_new
-      (subst (λ x. Leads (answer x) x.device.packet fates before (record { transfer = t; got = [] }) d now h here) file leads) in
-      let done = stands_on before address replies q (drop (suc i) qs) d now h here stands at led over in
-      subst (λ x. StandsAt now (settles plan naks replies here (settled x.length h.got failure))) request
-      (subst (λ x. StandsAt now (settles plan naks replies here (settled h.transfer.request.length h.got x))) (sym why) done)
-
-  -- and the next request stands first
-  pub place_on : (replies : List Reply) (q : SetupPacket) (rest : List SetupPacket) (address : ℕ) (reply : Reply) →
-      reached (first_place qs) replies ≡ record { left = q ∷ rest; address = address } →
-      reached (first_place qs) (replies ++ reply ∷ []) ≡ record { left = rest; address = followed q reply address }
-  place_on replies q rest address reply place =
-      reached_append (first_place qs) replies reply ∙ ap (λ p. onward p.left p.address reply) place
-
-  -- after the last request the talk has ended
-  pub stands_last : (now address : ℕ) (replies : List Reply) (d : DeviceView) →
-      StandsAt now (proceed plan naks replies d) → reached (first_place qs) replies ≡ record { left = []; address = address } →
-      StandsAt now (record { replies = replies; phase = Succeeded; device = d })
-  stands_last now address replies d stands place =
-      let done : proceed plan naks replies d ≡ record { replies = replies; phase = Succeeded; device = d } =
-      ap (λ p. (let x : Attempt = proceed (λ r. asked_at f.device.packet p.address p.left) naks replies d in x)) place in
-      (stands.0, λ m. stands.1 m ∙ ap (λ x. point plan naks (answer f) f.device.packet fates now m x) done)
-
-  -- the same, as the loop has it
-  pub stands_ended : (i now address : ℕ) (replies : List Reply) (d : DeviceView) → StandsAt now (proceed plan naks replies d) →
-      reached (first_place qs) replies ≡ record { left = drop i qs; address = address } → length qs ≤ i →
-      StandsAt now (record { replies = replies; phase = Succeeded; device = d })
-  stands_ended i now address replies d stands place past =
-      let none : drop i qs ≡ [] = nil_from_length (drop i qs) (simp length-drop (omega arith)) in
-      stands_last now address replies d stands (place ∙ ap (λ x. (let p : Place = record { left = x; address = address } in p)) none)
-
   -- What holds where the talk has ended.
-  module _ (talk : Talk) (d : DeviceView) (state : d.state ≡ talk.state) (pos : 0 < f.device.packet)
-      (stands : StandsAt talk.transactions (record { replies = talk.replies; phase = end_of talk.stopped; device = d })) where
-    abbrev last : Attempt
-    last = record { replies = talk.replies; phase = end_of talk.stopped; device = d }
-
-    at_end : point plan naks (answer f) f.device.packet fates 0 talk.transactions (talk_start f.device.packet naks qs) ≡ last
-    at_end =
-        let number : talk.transactions ≡ talk.transactions + 0 = omega arith in
-        ap (λ x. point plan naks (answer f) f.device.packet fates 0 x (talk_start f.device.packet naks qs)) number ∙ stands.1 0
-
-    pub is_run : IsTalkRun f naks qs fates talk
-    is_run =
-        let start = talk_start f.device.packet naks qs in
-        let steps = Steps-points plan naks (answer f) f.device.packet fates 0 talk.transactions start stands.0 in (
-          points plan naks (answer f) f.device.packet fates 0 talk.transactions start,
-          last,
-          length-points plan naks (answer f) f.device.packet fates 0 talk.transactions start,
-          subst (λ x. Steps plan naks (answer f) f.device.packet fates 0 start
-              (points plan naks (answer f) f.device.packet fates 0 talk.transactions start) x) at_end steps,
-          refl,
-          refl,
-          state,
-        )
-
+  module _ (talk : Talk) where
     abbrev used : List Fate
     used = fates_used fates talk.transactions
 
-    abbrev HasEnded : Attempt → Type 0
-    HasEnded x = AttemptEnds naks used (ends_with_address qs) (replies_to (answer f) zero_state qs) (state_after (answer f) zero_state qs) x.replies x.phase x.device.state
+    abbrev HasEnded : List Reply → Phase → State → Type 0
+    HasEnded replies phase s = AttemptEnds naks used (ends_with_address qs) (replies_to (answer f) zero_state qs) (state_after (answer f) zero_state qs) replies phase s
 
-    has_ended : HasEnded last
-    has_ended =
-        let run = point-run plan naks (answer f) f.device.packet fates 0 talk.transactions (talk_start f.device.packet naks qs) in
-        subst HasEnded (sym run ∙ at_end) (talk_ends (answer f) f.device.packet naks qs used pos (table_kept f))
+    has_ended : 0 < f.device.packet → IsTalkRun f naks qs fates talk → HasEnded talk.replies (end_of talk.stopped) talk.state
+    has_ended pos (ps, last, count, steps, replies, phase, state) =
+        let start = talk_start f.device.packet naks qs in
+        let run = Steps-run plan naks (answer f) f.device.packet fates 0 start ps last steps in
+        let at : last ≡ attempt_run plan naks (answer f) f.device.packet used start =
+        run ∙ ap (λ n. attempt_run plan naks (answer f) f.device.packet (fates_used fates n) start) count in
+        let ends = subst (λ x. HasEnded x.replies x.phase x.device.state) (sym at) (talk_ends (answer f) f.device.packet naks qs used pos (table_kept f)) in
+        subst (λ r. HasEnded r (end_of talk.stopped) talk.state) replies
+        (subst (λ p. HasEnded last.replies p talk.state) phase (subst (λ s. HasEnded last.replies last.phase s) state ends))
 
-    -- the same by how the talk ended
-    ended_at : (stopped : Option Why) → talk.stopped ≡ stopped → HasEnded (record { replies = talk.replies; phase = end_of stopped; device = d })
-    ended_at stopped e = subst (λ x. HasEnded (record { replies = talk.replies; phase = end_of x; device = d })) e has_ended
+    module _ (pos : 0 < f.device.packet) (run : IsTalkRun f naks qs fates talk) where
+      -- the same by how the talk ended
+      ended_at : (stopped : Option Why) → talk.stopped ≡ stopped → HasEnded talk.replies (end_of stopped) talk.state
+      ended_at stopped e = subst (λ x. HasEnded talk.replies (end_of x) talk.state) e (has_ended pos run)
 
-    pub has_first_replies : HasFirstReplies f qs talk
-    has_first_replies = by talk.stopped has_ended
-      where
-        by : (stopped : Option Why) → HasEnded (record { replies = talk.replies; phase = end_of stopped; device = d }) → HasFirstReplies f qs talk
-        by None h = h.0 ∙ sym (take_all (length (replies_to (answer f) zero_state qs)) (replies_to (answer f) zero_state qs) (omega arith)) ∙ ap (λ rs. take (length rs) (replies_to (answer f) zero_state qs)) (sym h.0)
-        by (Some why) h = h.0
+      pub has_first_replies : HasFirstReplies f qs talk
+      has_first_replies = by talk.stopped (has_ended pos run)
+        where
+          by : (stopped : Option Why) → HasEnded talk.replies (end_of stopped) talk.state → HasFirstReplies f qs talk
+          by None h = h.0 ∙ sym (take_all (length (replies_to (answer f) zero_state qs)) (replies_to (answer f) zero_state qs) (omega arith)) ∙ ap (λ rs. take (length rs) (replies_to (answer f) zero_state qs)) (sym h.0)
+          by (Some why) h = h.0
 
-    pub has_cause : IfSome talk.stopped (IsCause naks used)
-    has_cause = by talk.stopped has_ended
-      where
-        by : (stopped : Option Why) → HasEnded (record { replies = talk.replies; phase = end_of stopped; device = d }) → IfSome stopped (IsCause naks used)
-        by None h = tt
-        by (Some why) h = h.1
+      pub has_cause : IfSome talk.stopped (IsCause naks used)
+      has_cause = by talk.stopped (has_ended pos run)
+        where
+          by : (stopped : Option Why) → HasEnded talk.replies (end_of stopped) talk.state → IfSome stopped (IsCause naks used)
+          by None h = tt
+          by (Some why) h = h.1
 
-    pub has_last_state : talk.stopped ≡ None → HasLastState f qs fates talk
-    has_last_state e = subst (λ s. IsLast used (ends_with_address qs) (state_after (answer f) zero_state qs) s) state (ended_at None e).1
+      pub has_last_state : talk.stopped ≡ None → HasLastState f qs fates talk
+      has_last_state e = (ended_at None e).1
 
-    goes_on_by : (stopped : Option Why) → IfSome stopped (IsCause naks used) → losses used < 3 → acks_lost used ≡ 0 → busies used ≤ naks → stopped ≡ None
-    goes_on_by None h few none patient = refl
-    goes_on_by (Some NoAnswer) h few none patient = absurd (grind arith)
-    goes_on_by (Some Busy) h few none patient = absurd (omega arith)
-    goes_on_by (Some Stalled) h few none patient = absurd h
-    goes_on_by (Some TooLong) h few none patient = absurd h
-    goes_on_by (Some Unexpected) h few none patient = absurd h
-    goes_on_by (Some Malformed) h few none patient = absurd h
-    goes_on_by (Some Memory) h few none patient = absurd h
+      goes_on_by : (stopped : Option Why) → IfSome stopped (IsCause naks used) → losses used < 3 → acks_lost used ≡ 0 → busies used ≤ naks → stopped ≡ None
+      goes_on_by None h few none patient = refl
+      goes_on_by (Some NoAnswer) h few none patient = absurd (grind arith)
+      goes_on_by (Some Busy) h few none patient = absurd (omega arith)
+      goes_on_by (Some Stalled) h few none patient = absurd h
+      goes_on_by (Some TooLong) h few none patient = absurd h
+      goes_on_by (Some Unexpected) h few none patient = absurd h
+      goes_on_by (Some Malformed) h few none patient = absurd h
+      goes_on_by (Some Memory) h few none patient = absurd h
 
-    pub ends : losses fates < 3 → acks_lost fates ≡ 0 → busies fates ≤ naks → talk.stopped ≡ None
-    ends few none patient =
-        let l = losses-fates_used fates talk.transactions in
-        let a = acks_lost-fates_used fates talk.transactions in
-        let b = busies-fates_used fates talk.transactions in
-        goes_on_by talk.stopped has_cause (omega arith) (omega arith) (omega arith)
+      pub ends : losses fates < 3 → acks_lost fates ≡ 0 → busies fates ≤ naks → talk.stopped ≡ None
+      ends few none patient =
+          let l = losses-fates_used fates talk.transactions in
+          let a = acks_lost-fates_used fates talk.transactions in
+          let b = busies-fates_used fates talk.transactions in
+          goes_on_by talk.stopped has_cause (omega arith) (omega arith) (omega arith)
+
+-- a talk with no request more is over
+standing_ended : (v : TalkView) (stopped : Option Why) → standing v stopped [] ≡ end_of stopped
+standing_ended v None = refl
+standing_ended v (Some why) = refl
+
+pub talk_run : (requests : List SetupPacket) (fates : List Fate) (v : TalkView) → IsTalk requests fates v → IsTalkRun v.file v.naks requests fates v.talk
+talk_run requests fates v t =
+    let all = subst (λ qs. IsTalkTo fates v qs []) (append-nil requests) (t.goes_on []) in
+    (all.points, _, all.count, all.steps, refl, standing_ended v v.talk.stopped, t.state)
+
+-- before the first request
+pub talk_new : (fates : List Fate) (v : TalkView) → v.address ≡ 0 → v.talk ≡ record { replies = []; stopped = None; transactions = 0; state = v.device.state } →
+    v.device ≡ new_device → IsTalk [] fates v
+talk_new fates v address talk device =
+    record {
+      goes_on = λ more. record {
+        points = [];
+        count = rw talk refl;
+        steps = rw (talk, address, device) refl;
+        place = λ on. rw (talk, address) refl;
+      };
+      state = rw talk refl;
+      most = rw talk (omega arith);
+      all = rw talk (λ on. refl, λ on. refl);
+    }
+
+-- where it stopped, what is to come makes no difference
+stands_still : (v : TalkView) (stopped : Option Why) (why : Why) (a b : List SetupPacket) → stopped ≡ Some why → standing v stopped a ≡ standing v stopped b
+stands_still v None why a b e = absurd (cc)
+stands_still v (Some other) why a b e = refl
+
+-- a talk that has stopped stays as it is
+pub talk_stays : (requests : List SetupPacket) (fates : List Fate) (v : TalkView) (q : SetupPacket) (why : Why) → v.talk.stopped ≡ Some why →
+    IsTalk requests fates v → IsTalk (requests ++ q ∷ []) fates v
+talk_stays requests fates v q why e t =
+    let long = length-append requests (q ∷ []) in
+    let most = t.most in
+    record {
+      goes_on = λ more.
+          (let all = (requests ++ q ∷ []) ++ more in
+          let to = subst (λ qs. IsTalkTo fates v qs (q ∷ more)) (sym (append_assoc requests (q ∷ []) more)) (t.goes_on (q ∷ more)) in
+          record {
+            points = to.points;
+            count = to.count;
+            steps = subst (λ p. Steps (talk_plan v.file.device.packet (first_place all)) v.naks (answer v.file) v.file.device.packet fates 0
+                (talk_start v.file.device.packet v.naks all) to.points (record { replies = v.talk.replies; phase = p; device = v.device }))
+                (stands_still v v.talk.stopped why (q ∷ more) more e) to.steps;
+            place = λ on. absurd (let clash = sym on ∙ e in cc);
+          });
+      state = t.state;
+      most = omega arith;
+      all = (λ on. absurd (let clash = sym on ∙ e in cc), λ same. absurd (let less = same in omega arith));
+    }
+
+-- One request more, to which a transfer leads that has ended.
+module _ (requests : List SetupPacket) (fates : List Fate) (v : TalkView) (q : SetupPacket) (on : v.talk.stopped ≡ None) (t : IsTalk requests fates v)
+    (now : ℕ) (h : HostEnd) (here : DeviceView)
+    (leads : Leads (answer v.file) v.file.device.packet fates v.talk.transactions (begins v.address v.file.device.packet v.naks q) v.device now h here)
+    (over : due h.transfer ≡ None) (asked : h.transfer.request ≡ q) where
+  abbrev outcome : Result Reply Why
+  outcome = settled q.length h.got (failure_of h.transfer.stage)
+
+  abbrev Stands : List SetupPacket → Attempt → Type 0
+  Stands more x = StandsAt v.file v.naks (requests ++ q ∷ more) fates now x
+
+  -- where the transfer leads to
+  stands_to : (more : List SetupPacket) (r : Result Reply Why) → outcome ≡ r →
+      Stands more (settles (talk_plan v.file.device.packet (first_place (requests ++ q ∷ more))) v.naks v.talk.replies here r)
+  stands_to more r is =
+      let all = requests ++ q ∷ more in
+      let plan = talk_plan v.file.device.packet (first_place all) in
+      let to = t.goes_on (q ∷ more) in
+      let running = subst (λ x. StandsAt v.file v.naks all fates v.talk.transactions (record { replies = v.talk.replies; phase = standing v x (q ∷ more); device = v.device })) on
+      (to.points, to.count, to.steps) in
+      subst (λ o. Stands more (settles plan v.naks v.talk.replies here o)) is
+      (subst (λ x. Stands more (settles plan v.naks v.talk.replies here (settled x.length h.got (failure_of h.transfer.stage)))) asked
+      (stands_on v.file v.naks all fates v.talk.transactions v.address v.talk.replies q v.device now h here running leads over))
+
+  -- the talk after it
+  abbrev pub after : Result Reply Why → TalkView
+  after (Ok reply) = record {
+    file = v.file;
+    naks = v.naks;
+    address = followed q reply v.address;
+    talk = record { replies = v.talk.replies ++ reply ∷ []; stopped = v.talk.stopped; transactions = now; state = here.state };
+    device = here;
+  }
+  after (Err why) = record {
+    file = v.file;
+    naks = v.naks;
+    address = v.address;
+    talk = record { replies = v.talk.replies; stopped = Some why; transactions = now; state = here.state };
+    device = here;
+  }
+
+  pub talk_on : (r : Result Reply Why) → outcome ≡ r → IsTalk (requests ++ q ∷ []) fates (after r)
+  talk_on (Ok reply) is =
+      let w = after (Ok reply) in
+      let long = length-append requests (q ∷ []) in
+      let longer = length-append v.talk.replies (reply ∷ []) in
+      let same = t.all.0 on in
+      record {
+        goes_on = λ more.
+            (let start = first_place (requests ++ q ∷ more) in
+            let place : reached start (v.talk.replies ++ reply ∷ []) ≡ record { left = more; address = followed q reply v.address } =
+            reached_append start v.talk.replies reply ∙ ap (λ p. onward p.left p.address reply) ((t.goes_on (q ∷ more)).place on) in
+            let stood = subst (λ (p : Place). Stands more
+            (record { replies = v.talk.replies ++ reply ∷ []; phase = phase_of v.naks (asked_at v.file.device.packet p.address p.left); device = here })) place
+            (stands_to more (Ok reply) is) in
+            let still = subst (λ x. Stands more (record { replies = v.talk.replies ++ reply ∷ []; phase = standing w x more; device = here })) (sym on) stood in
+            subst (λ qs. IsTalkTo fates w qs more) (sym (append_assoc requests (q ∷ []) more))
+            (record { points = still.0; count = still.1; steps = still.2; place = λ goes. place }));
+        state = refl;
+        most = omega arith;
+        all = (λ goes. omega arith, λ equal. on);
+      }
+  talk_on (Err why) is =
+      let long = length-append requests (q ∷ []) in
+      let same = t.all.0 on in
+      record {
+        goes_on = λ more.
+            (let stands = stands_to more (Err why) is in
+            subst (λ qs. IsTalkTo fates (after (Err why)) qs more) (sym (append_assoc requests (q ∷ []) more))
+            (record { points = stands.0; count = stands.1; steps = stands.2; place = λ goes. absurd (cc) }));
+        state = refl;
+        most = omega arith;
+        all = (λ goes. absurd (cc), λ equal. absurd (omega arith));
+      }
+
+-- a talk of which no reason to stop is told goes on
+pub none_told : (stopped : Option Why) → is_some stopped ≡ false → stopped ≡ None
+none_told None e = refl
+none_told (Some why) e = absurd (cc)
+
+pub some_told : (requests : List SetupPacket) (fates : List Fate) (v : TalkView) (q : SetupPacket) (stopped : Option Why) → v.talk.stopped ≡ stopped → is_some stopped ≡ true →
+    IsTalk requests fates v → IsTalk (requests ++ q ∷ []) fates v
+some_told requests fates v q None e told t = absurd (cc)
+some_told requests fates v q (Some why) e told t = talk_stays requests fates v q why e t
 
 -- where a talk has ended nothing is due
 none_due : (stopped : Option Why) → due_in (end_of stopped) ≡ None

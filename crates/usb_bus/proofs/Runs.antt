@@ -1,5 +1,5 @@
 -- Runs of a talk: their points, and the fates that they use.
-use Rattle.std.proofs.Common.{◌≡◌, ℕ, zero, suc, ◌+◌, ◌-◌, ◌≤◌, List, [], ◌∷◌, length, drop, Some, None, refl, sym, ap, ◌∙◌, arith, inl, inr, subst}
+use Rattle.std.proofs.Common.{◌≡◌, ℕ, zero, suc, ◌+◌, ◌≤◌, List, [], ◌∷◌, ◌++◌, length, drop, Some, None, refl, sym, ap, ◌∙◌, arith, inl, inr, subst}
 use Rattle.std.proofs.lemmas.Bool.{cases_lt}
 use Rattle.usb_fields.specs.Packet.{Sent}
 use Rattle.usb_fields.specs.declared.setup.Setup.{Setup as SetupPacket}
@@ -40,13 +40,6 @@ module _ (plan : List Reply → Plan) (naks : ℕ) (answer : State → SetupPack
   abbrev next : ℕ → Attempt → Attempt
   next k x = attempt_step plan naks answer cut (fate_at fates k) x.replies x.phase x.device
 
-  -- a point is that of a run under the fates that were used
-  pub point-run : (k n : ℕ) (x : Attempt) → point plan naks answer cut fates k n x ≡ attempt_run plan naks answer cut (fates_used (drop k fates) n) x
-  point-run k zero x = refl
-  point-run k (suc n) x =
-      point-run (suc k) n (next k x)
-      ∙ sym (ap (λ fs. attempt_run plan naks answer cut fs x) (fates_used-drop k fates n))
-
   -- the points on the way
   pub points : ℕ → ℕ → Attempt → List Attempt
   points k zero x = []
@@ -69,19 +62,6 @@ module _ (plan : List Reply → Plan) (naks : ℕ) (answer : State → SetupPack
         | inr from ↦ (let same : n ≡ i = omega arith in subst (λ j. IsDue k x j) same last)
       ]
 
-  -- and some more, from where the first ones lead to
-  pub AreDue-append : (k n at m : ℕ) (x y : Attempt) → AreDue plan naks answer cut fates k n x →
-      ((j : ℕ) → point plan naks answer cut fates k (n + j) x ≡ point plan naks answer cut fates at j y) →
-      AreDue plan naks answer cut fates at m y → AreDue plan naks answer cut fates k (n + m) x
-  AreDue-append k n at m x y due leads more i less =
-      elim (cases_lt i n) [
-        | inl before ↦ due i before
-        | inr from ↦
-            let number : n + (i - n) ≡ i = omega arith in
-            let then = more (i - n) (omega arith) in
-            subst (λ j. IsDue k x j) number (then.0, ap (λ z. due_in z.phase) (leads (i - n)) ∙ then.1)
-      ]
-
   -- the points are steps, where a transaction is due at each
   pub Steps-points : (k n : ℕ) (x : Attempt) → AreDue plan naks answer cut fates k n x →
       Steps plan naks answer cut fates k x (points k n x) (point plan naks answer cut fates k n x)
@@ -92,6 +72,23 @@ module _ (plan : List Reply → Plan) (naks : ℕ) (answer : State → SetupPack
         record { sent = first.0; is_due = first.1; next = refl },
         Steps-points (suc k) n (next k x) (λ i less. due (suc i) (omega arith)),
       )
+
+  -- steps, and those that go on from where they end
+  pub Steps-append : (k m : ℕ) (start : Attempt) (ps : List Attempt) (middle : Attempt) (qs : List Attempt) (end : Attempt) → m ≡ k + length ps →
+      Steps plan naks answer cut fates k start ps middle → Steps plan naks answer cut fates m middle qs end → Steps plan naks answer cut fates k start (ps ++ qs) end
+  Steps-append k m start [] middle qs end at a b =
+      let same : m ≡ k = omega arith in
+      subst (λ x. Steps plan naks answer cut fates k x qs end) a (subst (λ j. Steps plan naks answer cut fates j middle qs end) same b)
+  Steps-append k m start (p ∷ ps) middle qs end at a b = (a.0, Steps-append (suc k) m p ps middle qs end (omega arith) a.1 b)
+
+  -- steps are a run under the fates that were used
+  pub Steps-run : (k : ℕ) (start : Attempt) (ps : List Attempt) (end : Attempt) → Steps plan naks answer cut fates k start ps end →
+      end ≡ attempt_run plan naks answer cut (fates_used (drop k fates) (length ps)) start
+  Steps-run k start [] end a = a
+  Steps-run k start (p ∷ ps) end a =
+      Steps-run (suc k) p ps end a.1
+      ∙ ap (λ x. attempt_run plan naks answer cut (fates_used (drop (suc k) fates) (length ps)) x) a.0.next
+      ∙ sym (ap (λ fs. attempt_run plan naks answer cut fs start) (fates_used-drop k fates (length ps)))
 
   -- two runs from one point that both end where nothing is due are as long as each other, and end alike
   pub Steps-same : (k : ℕ) (start : Attempt) (ps qs : List Attempt) (x y : Attempt) → Steps plan naks answer cut fates k start ps x →

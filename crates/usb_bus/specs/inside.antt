@@ -2,3 +2,4 @@
 pub mod Coupled
 pub mod Sound
 pub mod Running
+pub mod Conversations

@@ -1,5 +1,5 @@
 //! Requests one after another.
-ghost use Rattle.std.specs.Prelude.{◌≡◌, ◌↔◌, ◌<◌, ◌≤◌, IfOk, IfSome, None, length};
+ghost use Rattle.std.specs.Prelude.{◌≡◌, ◌↔◌, ◌<◌, ◌≤◌, ◌++◌, ◌∷◌, [], List, IfOk, IfSome, None, OnOk, length};
 ghost use Rattle.usb_bus.specs.Fates.{losses, busies, acks_lost};
 ghost use Rattle.usb_bus.specs.Talk.{followed};
 ghost use Rattle.usb_bus.specs.Run.{fates_used};
@@ -11,6 +11,7 @@ use crate::exchange::{Ended, transfer_over};
 use crate::fate::Fate;
 use crate::talk::Talk;
 use std::alloc::Global;
+use std::marker::Model;
 use usb_base::Sequence;
 use usb_device::{Description, Device, is_set_address};
 use usb_fields::Setup;
@@ -50,6 +51,114 @@ fn follow(request: Setup, reply: &Reply, address: u8) -> u8
     }
 }
 
+/// A talk that goes on: requests that are made of one device, one after another.
+///
+/// [`converse`] is such a talk from its first request to its last. Here a caller sees what came of each request before it
+/// makes the next.
+///
+/// ```rust
+/// let mut conversation = Conversation::new(alloc, &description, 16);
+/// // SET_ADDRESS 5, and then GET_DESCRIPTOR of the device, which goes to address 5.
+/// conversation.request(alloc, Setup::from_bytes(&[0, 5, 5, 0, 0, 0, 0, 0]), &[])?;
+/// assert_eq!(rt; conversation.talk().state.address, 5);
+/// conversation.request(alloc, Setup::from_bytes(&[0x80, 6, 0, 1, 0, 0, 18, 0]), &[])?;
+/// assert_eq!(rt; conversation.talk().transactions, 5);
+/// ```
+#[derive(Drop)]
+pub struct Conversation<'d> {
+    device: Device<'d>,
+    packet: u8,
+    naks: u16,
+    address: u8,
+    talk: Talk,
+}
+
+impl<'d> Model for Conversation<'d> {
+    ghost use Rattle.usb_bus.specs.Converse.{TalkView};
+
+    ghost Value = { TalkView };
+
+    ghost use Rattle.usb_bus.specs.inside.Conversations.{view_of, IsConversation};
+
+    ghost view = { view_of };
+
+    ghost invariant = { IsConversation };
+}
+
+impl<'d> Conversation<'d> {
+    ghost use Rattle.usb_bus.specs.Converse.{IsTalk};
+
+    /// Before the first request, with a new device at address 0. A transfer retries so many NAKs without progress.
+    pub fn new(alloc: Global, d: &'d Description, naks: u16) -> Conversation<'d>
+        ensures begins { (fates : List Fate) → IsTalk [] fates result }
+        ensures file { result.file ≡ d.now.file }
+        ensures naks { result.naks ≡ naks }
+    {
+        let device = Device::new(d);
+        let state = device.state();
+        Conversation {
+            device,
+            packet: d.file().device.packet,
+            naks,
+            address: 0,
+            talk: Talk {
+                replies: Sequence::new(alloc),
+                stopped: None,
+                transactions: 0,
+                state,
+            },
+        }
+    }
+
+    /// Makes one more request: where the requests so far had this talk, these and the new one have the talk after it. One
+    /// that has stopped stays as it is. The k-th transaction of all requests has the k-th of these fates.
+    ///
+    /// # Errors
+    ///
+    /// Only when out of memory. Nothing is promised of the talk then.
+    pub fn request(&mut self, alloc: Global, request: Setup, fates: &[Fate]) -> Result<(), NoMemory>
+        ensures goes_on { OnOk result ((requests : List Setup) → IsTalk requests fates.now self.old → IsTalk (requests ++ request ∷ []) fates.now self.new) }
+        ensures file { self.new.file ≡ self.old.file }
+        ensures naks { self.new.naks ≡ self.old.naks }
+    {
+        if self.talk.stopped.is_some() {
+            return Ok(());
+        }
+        // For the proof alone: there are fewer than 2^64 replies.
+        let _replies = self.talk.replies.len();
+        let before = self.talk.transactions;
+        let mut transfer = Transfer::new(self.address, self.packet, self.naks, request);
+        let ended = transfer_over(alloc, &mut self.device, &mut transfer, before, fates)?;
+        let transactions = ended.transactions;
+        match settle(request, ended) {
+            Ok(reply) => {
+                let address = follow(request, &reply, self.address);
+                self.talk.replies.push(reply)?;
+                self.address = address;
+            }
+            Err(why) => self.talk.stopped = Some(why),
+        }
+        self.talk.transactions = transactions;
+        self.talk.state = self.device.state();
+        Ok(())
+    }
+
+    /// What came of the requests so far.
+    pub fn talk(&self) -> &Talk
+        ensures { result.now ≡ self.now.talk }
+    {
+        &self.talk
+    }
+
+    /// What came of all requests.
+    pub fn into_talk(self) -> Talk
+        ensures { result ≡ self.entry.talk }
+    {
+        let Conversation { talk, .. } = self;
+        talk
+    }
+}
+
 /// Makes these requests, one after another, of a device with this description, over a bus with these fates.
 ///
 /// The device is a new one at address 0. The host sends packets of its size, retries `naks` NAKs without progress, and
@@ -85,34 +194,11 @@ pub fn converse(
     ensures cause { IfOk result (λ talk. IfSome talk.stopped (IsCause naks (fates_used fates.now talk.transactions))) }
     ensures goes_on { IfOk result (λ talk. losses fates.now < 3 → acks_lost fates.now ≡ 0 → busies fates.now ≤ naks → talk.stopped ≡ None) }
 {
-    let packet = d.file().device.packet;
-    let mut device = Device::new(d);
-    let mut replies = Sequence::new(alloc);
-    let mut address = 0u8;
-    let mut transactions = 0u128;
+    // For the proof alone: what holds of a description.
+    let _file = d.file();
+    let mut conversation = Conversation::new(alloc, d, naks);
     for request in requests {
-        let mut transfer = Transfer::new(address, packet, naks, *request);
-        let ended = transfer_over(alloc, &mut device, &mut transfer, transactions, fates)?;
-        transactions = ended.transactions;
-        match settle(*request, ended) {
-            Ok(reply) => {
-                address = follow(*request, &reply, address);
-                replies.push(reply)?;
-            }
-            Err(why) => {
-                return Ok(Talk {
-                    replies,
-                    stopped: Some(why),
-                    transactions,
-                    state: device.state(),
-                });
-            }
-        }
+        conversation.request(alloc, *request, fates)?;
     }
-    Ok(Talk {
-        replies,
-        stopped: None,
-        transactions,
-        state: device.state(),
-    })
+    Ok(conversation.into_talk())
 }

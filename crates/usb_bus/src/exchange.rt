@@ -45,7 +45,7 @@ fn exchange(
     bytes: &mut Vec<u8>,
 ) -> Result<Option<Why>, AllocError>
     ensures ends { OnOk result (exchanged (answer device.old.description.file) device.old.description.file.device.packet (record { transfer = transfer.old; got = bytes.old.items }) device.old.device (Some (sent_of t.now)) fate ≡ record { host = record { transfer = transfer.new; got = bytes.new.items }; device = device.new.device }) }
-    ensures description { OnOk result (device.new.description ≡ device.old.description) }
+    ensures description { device.new.description ≡ device.old.description }
     ensures request { OnOk result (transfer.new.request ≡ transfer.old.request) }
     ensures failure { IfOk result (λ failure. failure ≡ failure_of transfer.new.stage) }
     ensures fewer { IsSome (due transfer.old) → left transfer.new < left transfer.old }
@@ -84,7 +84,7 @@ pub(crate) fn transfer_over(
     requires setup { transfer.old.stage ≡ Setup }
     requires few { before + left transfer.old < 2 ^ 128 }
     ensures leads { IfOk result (λ ended. Leads (answer device.old.description.file) device.old.description.file.device.packet fates.now before (record { transfer = transfer.old; got = [] }) device.old.device ended.transactions (record { transfer = transfer.new; got = ended.bytes.items }) device.new.device) }
-    ensures description { OnOk result (device.new.description ≡ device.old.description) }
+    ensures description { device.new.description ≡ device.old.description }
     ensures request { OnOk result (transfer.new.request ≡ transfer.old.request) }
     ensures over { OnOk result (due transfer.new ≡ None) }
     ensures failure { IfOk result (λ ended. ended.failure ≡ failure_of transfer.new.stage) }

@@ -17,7 +17,7 @@ mod fate;
 pub mod laws;
 mod talk;
 
-pub use conversation::converse;
+pub use conversation::{Conversation, converse};
 pub use fate::Fate;
 pub use talk::Talk;
 pub use usb_file_data::NoMemory;

@@ -26,11 +26,14 @@ use Rattle.usb_enumeration.specs.Stepping.{Moves, LeadsTo, measure}
 use Rattle.usb_host.proofs.AskingLemmas.{wants_reset, reset_is}
 
 -- one step more
+pub runs_on : (f : DescriptorFile) (fates : List Fate) (new : Pair) (earlier : List Pair) (x y : Pair) (n now : ℕ) → Runs f fates new earlier n x →
+    Moves f fates x n y now → Runs f fates new (x ∷ earlier) now y
+runs_on f fates new earlier x y n now runs (inl (r, e)) = inl (r, subst (λ m. Runs f fates new earlier m x) (sym e) runs)
+runs_on f fates new earlier x y n now runs (inr (t, e)) = inr (n, e, t, runs)
+
 pub leads_on : (f : DescriptorFile) (speed : Speed) (limits : LimitView) (fates : List Fate) (x y : Pair) (n now : ℕ) →
     LeadsTo f speed limits fates n x → Moves f fates x n y now → LeadsTo f speed limits fates now y
-leads_on f speed limits fates x y n now (earlier, runs) (inl (r, e)) =
-    (x ∷ earlier, inl (r, subst (λ m. Runs f fates (new_pair limits speed) earlier m x) (sym e) runs))
-leads_on f speed limits fates x y n now (earlier, runs) (inr (t, e)) = (x ∷ earlier, inr (n, e, t, runs))
+leads_on f speed limits fates x y n now (earlier, runs) moves = (x ∷ earlier, runs_on f fates (new_pair limits speed) earlier x y n now runs moves)
 
 -- an answer adds no reset
 takes_resets : (v w : HostView) (p : HostPhase) (answer : Answer) → TakesIn v p answer w → w.resets ≡ v.resets

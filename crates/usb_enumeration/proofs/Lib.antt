@@ -16,3 +16,6 @@ mod HeardLemmas
 mod RunLemmas
 mod ByteLemmas
 pub mod EnumerateLemmas
+mod JoinLemmas
+mod ColumnLemmas
+mod LogLemmas

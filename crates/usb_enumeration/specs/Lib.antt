@@ -2,5 +2,9 @@ pub mod Run
 pub mod Beside
 pub mod Stepping
 pub mod Enumerate
+pub mod Requests
+pub mod Exchanges
+pub mod Lines
+pub mod Log
 pub mod Laws
 pub mod inside

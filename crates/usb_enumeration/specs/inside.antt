@@ -7,3 +7,4 @@ pub mod Ends
 pub mod Following
 pub mod Described
 pub mod Laws
+pub mod Walking

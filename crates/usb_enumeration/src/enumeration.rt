@@ -2,14 +2,16 @@
 ghost use Rattle.std.specs.Prelude.{◌≡◌, ◌<◌, ◌≤◌, ◌+◌, ◌/◌, ◌^◌, suc, true, IfErr, IfOk, IfSome, IsNone, IsSome};
 ghost use Rattle.usb_transfer.specs.declared.why.Why.TheVariants.{Memory};
 ghost use Rattle.usb_bus.specs.Fates.{busies, losses};
-ghost use Rattle.usb_bus.specs.Run.{fates_used};
+ghost use Rattle.usb_fields.specs.Packet.{Sent};
+ghost use Rattle.usb_bus.specs.Run.{fate_at, fates_used};
 ghost use Rattle.usb_host.specs.Cost.{left_to_ask, most};
-ghost use Rattle.usb_host.specs.Steps.{blames_bus, outcome_of};
+ghost use Rattle.usb_host.specs.Steps.{WantsSent, blames_bus, outcome_of, wanted};
 ghost use Rattle.usb_enumeration.specs.Enumerate.{HasReadAll, IsEnumeration, HasCause};
-ghost use Rattle.usb_enumeration.specs.Stepping.{Moves, both, measure};
+ghost use Rattle.usb_enumeration.specs.Stepping.{Moves, answered, both, measure};
 
 use crate::exchange::exchange;
 use crate::laws::an_enumeration_ends_well;
+use crate::observer::{Nobody, Observer};
 use crate::run::Run;
 use std::alloc::Global;
 use usb_bus::Fate;
@@ -35,7 +37,6 @@ use usb_transfer::Limits;
 ///
 /// The transactions so far and those that the host may still ask for are fewer than 2^64. For a new host, with none so
 /// far, they are.
-#[tactic(auto, using(crate::proofs::EnumerateLemmas::take_falls, crate::proofs::EnumerateLemmas::reset_falls))]
 pub fn step(
     host: &mut Host,
     device: &mut Device<'_>,
@@ -49,6 +50,26 @@ pub fn step(
     ensures ended { IsNone result → IsSome (outcome_of host.new.phase) × (both host.new device.new.device ≡ both host.old device.old.device) }
     ensures description { device.new.description ≡ device.old.description }
 {
+    step_seen(host, device, fates, transactions, &mut Nobody)
+}
+
+/// The same [`step`], with an observer, who sees what the device answers where the step is a transaction.
+#[tactic(auto, using(crate::proofs::EnumerateLemmas::take_falls, crate::proofs::EnumerateLemmas::reset_falls))]
+pub fn step_seen<O: Observer>(
+    host: &mut Host,
+    device: &mut Device<'_>,
+    fates: &[Fate],
+    transactions: u64,
+    observer: &mut O,
+) -> Option<u64>
+    requires few { transactions + left_to_ask host.old < 2 ^ 64 }
+    ensures moves { IfSome result (λ now. Moves device.old.description.file fates.now (both host.old device.old.device) transactions (both host.new device.new.device) now) }
+    ensures fewer { IfSome result (λ now. now + left_to_ask host.new ≤ transactions + left_to_ask host.old) }
+    ensures falls { IfSome result (λ now. measure host.new < measure host.old) }
+    ensures ended { IsNone result → IsSome (outcome_of host.new.phase) × (both host.new device.new.device ≡ both host.old device.old.device) }
+    ensures description { device.new.description ≡ device.old.description }
+    ensures seen { (sent : Sent) → wanted host.old.phase ≡ WantsSent sent → O.sees observer.old (answered device.old.description.file device.old.device sent (fate_at fates.now transactions)) observer.new }
+{
     match host.next() {
         Action::Reset => {
             device.reset();
@@ -56,7 +77,8 @@ pub fn step(
             Some(transactions)
         }
         Action::Send(t) => {
-            exchange(host, device, &t, Fate::at(fates, u128::from(transactions)));
+            let fate = Fate::at(fates, u128::from(transactions));
+            exchange(host, device, &t, fate, observer);
             Some(transactions + 1)
         }
         Action::Ended => None,

@@ -8,17 +8,29 @@
 //!   or want of memory.
 //! - There are at most as many attempts and transactions as the limits allow.
 //!
-//! [`step`] is one step of it, for a caller that looks at both ends on the way.
+//! [`step`] is one step of it, for a caller that looks at both ends on the way, and [`step_seen`] shows an [`Observer`]
+//! what the device has answered. [`enumerate_logged`] writes a log of the run on the way: what passes over the bus and
+//! what each end makes of it, a line for each bus reset, each transfer and each transaction.
 //!
 //! A run of both ends is defined in `specs/Run.antt`, a step in `specs/Stepping.antt`, and [`laws`] says what
-//! holds of every such run.
+//! holds of every such run. Which lines a log has is `specs/Log.antt`, and what a line says `specs/Lines.antt`, with the
+//! words for requests in `specs/Requests.antt`.
 #![tactic(auto)]
 
+mod ends;
 mod enumeration;
 mod exchange;
 pub mod laws;
 mod lemmas;
+mod observer;
+mod packets;
+mod request;
 mod run;
+mod seen;
+mod step_lines;
+mod walk;
 
-pub use enumeration::{enumerate, step};
+pub use enumeration::{enumerate, step, step_seen};
+pub use observer::Observer;
 pub use run::Run;
+pub use walk::enumerate_logged;

@@ -3,7 +3,6 @@ use Rattle.std.proofs.Common.{◌≡◌, ℕ, List, [], ◌∷◌, ◌++◌, Boo
 use Rattle.usb_file.specs.declared.input.Input.{Input}
 use Rattle.usb_file.specs.declared.input.Input.TheVariants as inputs
 use Rattle.usb_rules.specs.declared.finding.Finding.{Finding}
-use Rattle.usb_file.specs.Inputs.{input_findings}
 use Rattle.usb_explained_lines.specs.declared.kind.Kind.{Kind}
 use Rattle.usb_explained_lines.specs.declared.kind.Kind.TheVariants as kinds
 use Rattle.usb_explained_fields.specs.declared.look.Look.{Look}
@@ -15,11 +14,11 @@ use Rattle.usb_explain.specs.declared.role.Role.TheVariants.{Device, Qualifier, 
 use Rattle.usb_explain.specs.declared.standing.Standing.{Standing}
 use Rattle.usb_explain.specs.Explanations.{broken_end, broken_explanation, broken_name, explanation, first_line, input_name, last_line, whole_end, whole_text}
 use Rattle.usb_explain.specs.Faults.{fault_text, place_of_fault}
-use Rattle.usb_explain.specs.Findings.{association_findings, device_findings, interface_findings, qualifier_findings, role_findings, set_findings_text, setting_findings, told_line}
+use Rattle.usb_explain.specs.Findings.{found_at, role_findings}
 use Rattle.usb_explain.specs.Kinds.{depth_of, kind_of}
 use Rattle.usb_explain.specs.Laws.{BrokenLeavesOutFields, LeavesOutFields, Shown, WholeLeavesOutFields, fields_of, head_of, lines_of, rest_fields, rest_head, with_fields, without_fields}
 use Rattle.usb_explain.specs.Standings.{start}
-use Rattle.usb_explain.specs.Subjects.{Subject, broken_subject, subject_with}
+use Rattle.usb_explain.specs.Subjects.{Subject, broken_subject, findings_in, subject_with}
 use Rattle.usb_explain.specs.Walks.{rest_text, walked}
 use Rattle.usb_explain.proofs.Spans.{broken_ends, broken_is, end_by, walk_shows, whole_is, with_look}
 
@@ -55,16 +54,8 @@ kind_same look subject s Text d = refl
 
 -- neither do findings
 findings_same : (look : Look) (subject : Subject) (s : Standing) (role : Role) (d behind : List ℕ) → role_findings (with_look look subject) s role d behind ≡ role_findings subject s role d behind
-unfolding role_findings device_findings qualifier_findings set_findings_text association_findings interface_findings setting_findings told_line
-findings_same look subject s Device d behind = refl
-findings_same look subject s Qualifier d behind = refl
-findings_same look subject s Configuration d behind = refl
-findings_same look subject s Association d behind = refl
-findings_same look subject s Interface d behind = refl
-findings_same look subject s Endpoint d behind = refl
-findings_same look subject s Raw d behind = refl
-findings_same look subject s Languages d behind = refl
-findings_same look subject s Text d behind = refl
+unfolding role_findings found_at
+findings_same look subject s role d behind = refl
 
 -- the lines of a descriptor are its heading and findings, and then its fields
 head_same : (brief : Bool) (subject : Subject) (d : Shown)
@@ -152,23 +143,23 @@ manner_of manner (inputs.Dump file) all = refl
 
 -- the explanation of an input with fields or without
 whole_looks : (brief : Bool) (manner : Manner) (input : Input) (b : List ℕ)
-    → (let subject = subject_with manner input (input_findings input) in
+    → (let subject = subject_with manner input (findings_in input) in
     let looks = with_look (brief_if brief subject.manner.look) subject in
     explanation (record manner { look = brief_if brief manner.look }) input b
-    ≡ first_line (input_name input) (length b) ++ walked (length b) looks (whole_end looks (length (input_findings input)) b) start b)
+    ≡ first_line (input_name input) (length b) ++ walked (length b) looks (whole_end looks (length (findings_in input)) b) start b)
 whole_looks brief manner input b =
-    ap (λ s. whole_text s (input_name input) (length (input_findings input)) b)
-    (subject_looks brief manner input (input_findings input)
-    ∙ ap (λ m. with_look (brief_if brief m.look) (subject_with manner input (input_findings input))) (sym (manner_of manner input (input_findings input))))
-    ∙ whole_is (with_look (brief_if brief (subject_with manner input (input_findings input)).manner.look) (subject_with manner input (input_findings input)))
-    (input_name input) (length (input_findings input)) b
+    ap (λ s. whole_text s (input_name input) (length (findings_in input)) b)
+    (subject_looks brief manner input (findings_in input)
+    ∙ ap (λ m. with_look (brief_if brief m.look) (subject_with manner input (findings_in input))) (sym (manner_of manner input (findings_in input))))
+    ∙ whole_is (with_look (brief_if brief (subject_with manner input (findings_in input)).manner.look) (subject_with manner input (findings_in input)))
+    (input_name input) (length (findings_in input)) b
 
 pub whole_leaves_out : WholeLeavesOutFields
 whole_leaves_out manner input b =
-    leaves_out (subject_with manner input (input_findings input)) b b (first_line (input_name input) (length b)) [] (last_line (length (input_findings input)))
+    leaves_out (subject_with manner input (findings_in input)) b b (first_line (input_name input) (length b)) [] (last_line (length (findings_in input)))
     (explanation (with_fields manner) input b) (explanation (without_fields manner) input b) (length b)
-    (whole_end (with_look (brief_if false (subject_with manner input (input_findings input)).manner.look) (subject_with manner input (input_findings input))) (length (input_findings input)) b)
-    (whole_end (with_look (brief_if true (subject_with manner input (input_findings input)).manner.look) (subject_with manner input (input_findings input))) (length (input_findings input)) b)
+    (whole_end (with_look (brief_if false (subject_with manner input (findings_in input)).manner.look) (subject_with manner input (findings_in input))) (length (findings_in input)) b)
+    (whole_end (with_look (brief_if true (subject_with manner input (findings_in input)).manner.look) (subject_with manner input (findings_in input))) (length (findings_in input)) b)
     (λ at. refl) (λ at. refl)
     (whole_looks false manner input b) (whole_looks true manner input b)
 

@@ -1,7 +1,7 @@
 pub mod Standings
 pub mod Walking
+pub mod Telling
 pub mod Endings
-pub mod Keys
 pub mod Spans
 pub mod Brief
 pub mod plain

@@ -7,18 +7,21 @@ use Rattle.std.proofs.lemmas.List.{length-take-le, take-append-drop}
 use Rattle.std.proofs.Math.Seq.{drop-append_seam}
 use Rattle.usb_survey.specs.Cut.{descriptor_length}
 use Rattle.usb_file.specs.declared.input_fault.InputFault.{InputFault}
-use Rattle.usb_file.specs.Inputs.{input_findings}
 use Rattle.usb_explained_fields.specs.declared.look.Look.{Look}
 use Rattle.usb_explain.specs.declared.role.Role.{Role}
 use Rattle.usb_explain.specs.declared.standing.Standing.{Standing}
 use Rattle.usb_explain.specs.Explanations.{broken_end, broken_explanation, broken_name, broken_text, explanation, first_line, input_name, last_line, whole_end, whole_text}
 use Rattle.usb_explain.specs.Faults.{fault_text, place_of_fault}
-use Rattle.usb_explain.specs.Laws.{BrokenEachByteOnce, Cut, EachByteOnce, Follow, Shown, Span, WholeEachByteOnce, lines_of, rest_span, span_of}
+use Rattle.usb_explain.specs.Findings.{found_at}
+use Rattle.usb_explain.specs.Laws.{BrokenEachByteOnce, Cut, EachByteOnce, Follow, Shown, Span, WholeEachByteOnce, counts_at, entry_of, findings_of, lines_of, rest_span, span_of}
+use Rattle.usb_explain.specs.Trees.{OutlineEntry}
+use Rattle.usb_explained_lines.specs.declared.told.Told.{Told}
 use Rattle.usb_explain.specs.Roles.{next_role, role_of}
 use Rattle.usb_explain.specs.Standings.{start}
-use Rattle.usb_explain.specs.Subjects.{Subject, broken_subject, subject_with}
-use Rattle.usb_explain.specs.Walks.{behind_next, block, here, next_block, rest_text, walked}
-use Rattle.usb_explain.proofs.Standings.{entered_at, noted_at, start_at}
+use Rattle.usb_explain.specs.Subjects.{Subject, broken_subject, findings_in, subject_with}
+use Rattle.usb_explain.specs.Walks.{behind_next, block, here, next_block, rest_text, told_next, walked}
+use Rattle.usb_explain.proofs.Standings.{entered_at, noted_at, start_at, told_entered, told_noted}
+use Rattle.usb_explain.proofs.Telling.{found_front}
 use Rattle.usb_explain.proofs.Walking.{walk_end, walk_next}
 
 -- a descriptor has two bytes at least, and no more than there are
@@ -74,23 +77,26 @@ pub record Walk (subject : Subject) (n : ℕ) (s : Standing) (ahead : List ℕ) 
   pub lines : (look : Look) (ending : ℕ → List ℕ) → walked n (with_look look subject) ending s ahead ≡ flat_map (lines_of (with_look look subject)) shown ++ ending end
   pub cut : Cut ahead shown rest
   pub spans : Follow s.at (map span_of shown) end
+  pub told : ℕ
+  pub tells : flat_map (findings_of subject) shown ++ drop told subject.found ≡ drop s.told subject.found
 
 -- the descriptor with which these bytes begin
 abbrev pub shown_next : Subject → Standing → List ℕ → Role × ℕ → Shown
 shown_next subject s ahead next = record { standing = here subject s ahead next; role = next.0; bytes = take next.1 ahead; behind = drop next.1 ahead }
 
 walk_none : (subject : Subject) (n : ℕ) (s : Standing) (ahead : List ℕ) → ((look : Look) (ending : ℕ → List ℕ) → walked n (with_look look subject) ending s ahead ≡ ending s.at) → Walk subject n s ahead
-walk_none subject n s ahead e = record { shown = []; rest = ahead; end = s.at; lines = e; cut = refl; spans = refl }
+walk_none subject n s ahead e = record { shown = []; rest = ahead; end = s.at; lines = e; cut = refl; spans = refl; told = s.told; tells = refl }
 
 walk_more : (subject : Subject) (n : ℕ) (s : Standing) (ahead : List ℕ) (next : Role × ℕ) → next_role s ahead ≡ Some next
     → Walk subject n (behind_next subject s ahead next) (drop next.1 ahead) → Walk subject (suc n) s ahead
-unfolding block
+unfolding block found_at
 walk_more subject n s ahead next e w =
     let bounds = next_bounds s ahead next e in
     let taken : length (take next.1 ahead) ≡ next.1 = length-take-le next.1 ahead bounds.1 in
     let at_here : (here subject s ahead next).at ≡ s.at = entered_at next.0 subject.manner.speed ahead s in
+    let found = found_at subject (here subject s ahead next) next.0 (take next.1 ahead) (drop next.1 ahead) in
     let at_behind : (behind_next subject s ahead next).at ≡ s.at + length (take next.1 ahead) =
-    ap (λ k. k + length (take next.1 ahead)) (noted_at next.0 (take next.1 ahead) (here subject s ahead next) ∙ at_here) in
+    ap (λ k. k + length (take next.1 ahead)) (noted_at next.0 (take next.1 ahead) (told_next subject s ahead next) ∙ at_here) in
     record {
       shown = shown_next subject s ahead next ∷ w.shown;
       rest = w.rest;
@@ -100,6 +106,11 @@ walk_more subject n s ahead next e w =
           ∙ sym (append_assoc (next_block (with_look look subject) s ahead next) (flat_map (lines_of (with_look look subject)) w.shown) (ending w.end));
       cut = (sym (take-append-drop next.1 ahead), next_first s ahead next e ∙ sym taken, w.cut);
       spans = (at_here, omega (arith, taken, bounds.0), subst (λ k. Follow k (map span_of w.shown) w.end) at_behind w.spans);
+      told = w.told;
+      tells = append_assoc found (flat_map (findings_of subject) w.shown) (drop w.told subject.found)
+          ∙ ap (λ l. found ++ l) (w.tells ∙ ap (λ k. drop k subject.found) (told_noted next.0 (take next.1 ahead) (told_next subject s ahead next)))
+          ∙ found_front subject (here subject s ahead next) next.0 (take next.1 ahead) (drop next.1 ahead)
+          ∙ ap (λ k. drop k subject.found) (told_entered next.0 subject.manner.speed ahead s);
     }
 
 walk_by : (subject : Subject) (n : ℕ) (s : Standing) (ahead : List ℕ) (next : Option (Role × ℕ)) → next_role s ahead ≡ next
@@ -116,25 +127,35 @@ pub walk_shows : (subject : Subject) (n : ℕ) (s : Standing) (ahead : List ℕ)
 walk_shows subject zero s ahead = walk_none subject zero s ahead (λ look ending. walk_zero (with_look look subject) s ahead ending)
 walk_shows subject (suc n) s ahead = walk_by subject n s ahead (next_role s ahead) refl (walk_shows subject n)
 
--- a walk that comes to the end of the bytes
-pub record Ended (subject : Subject) (n : ℕ) (s : Standing) (ahead : List ℕ) : Type 0 where
+-- what is said of a walk: of the bytes that are left, of the entries of its descriptors, and of their counts
+abbrev pub Aim : Type 1
+Aim = List ℕ → List OutlineEntry → List Told → Type 0
+
+-- the same of a walk behind descriptors of these entries and counts
+abbrev pub adding : Aim → List OutlineEntry → List Told → Aim
+adding E entries counts = λ rest c t. E rest (entries ++ c) (counts ++ t)
+
+-- a walk of which this holds, and which comes to the end of the findings
+pub record Ended (E : Aim) (subject : Subject) (n : ℕ) (s : Standing) (ahead : List ℕ) : Type 0 where
   pub walk : Walk subject n s ahead
-  pub no_rest : walk.rest ≡ []
+  pub aimed : E walk.rest (map entry_of walk.shown) (flat_map (counts_at subject) walk.shown)
+  pub all_told : drop walk.told subject.found ≡ []
 
 -- where no bytes are, no descriptor can stand
 none_of_nothing : (s : Standing) → next_role s [] ≡ None
 unfolding next_role
 none_of_nothing s = refl
 
-pub ended_none : (subject : Subject) (n : ℕ) (s : Standing) → Ended subject n s []
+pub ended_none : (E : Aim) (subject : Subject) (n : ℕ) (s : Standing) → drop s.told subject.found ≡ [] → E [] [] [] → Ended E subject n s []
 unfolding walk_none
-ended_none subject n s =
-    record { walk = walk_none subject n s [] (λ look ending. walk_end n (with_look look subject) ending s [] (none_of_nothing s)); no_rest = refl }
+ended_none E subject n s none aimed =
+    record { walk = walk_none subject n s [] (λ look ending. walk_end n (with_look look subject) ending s [] (none_of_nothing s)); aimed = aimed; all_told = none }
 
-pub ended_more : (subject : Subject) (n : ℕ) (s : Standing) (ahead : List ℕ) (next : Role × ℕ) → next_role s ahead ≡ Some next
-    → Ended subject n (behind_next subject s ahead next) (drop next.1 ahead) → Ended subject (suc n) s ahead
+pub ended_more : (E : Aim) (subject : Subject) (n : ℕ) (s : Standing) (ahead : List ℕ) (next : Role × ℕ) → next_role s ahead ≡ Some next
+    → Ended (adding E (entry_of (shown_next subject s ahead next) ∷ []) (counts_at subject (shown_next subject s ahead next))) subject n (behind_next subject s ahead next) (drop next.1 ahead)
+    → Ended E subject (suc n) s ahead
 unfolding walk_more
-ended_more subject n s ahead next e ended = record { walk = walk_more subject n s ahead next e ended.walk; no_rest = ended.no_rest }
+ended_more E subject n s ahead next e ended = record { walk = walk_more subject n s ahead next e ended.walk; aimed = ended.aimed; all_told = ended.all_told }
 
 -- spans end where the lengths add up to
 spans_end : (shown : List Shown) (from to : ℕ) → Follow from (map span_of shown) to → from + length (flat_map (λ d. d.bytes) shown) ≡ to
@@ -206,10 +227,10 @@ broken_is subject fault b = refl
 
 pub whole_once : WholeEachByteOnce
 whole_once manner input b =
-    let subject = subject_with manner input (input_findings input) in
-    once_by subject b b [] (first_line (input_name input) (length b)) [] (last_line (length (input_findings input))) (explanation manner input b) (length b)
-    (whole_end subject (length (input_findings input)) b) (sym (append-nil b)) (λ at. refl)
-    (whole_is subject (input_name input) (length (input_findings input)) b)
+    let subject = subject_with manner input (findings_in input) in
+    once_by subject b b [] (first_line (input_name input) (length b)) [] (last_line (length (findings_in input))) (explanation manner input b) (length b)
+    (whole_end subject (length (findings_in input)) b) (sym (append-nil b)) (λ at. refl)
+    (whole_is subject (input_name input) (length (findings_in input)) b)
 
 pub broken_once : BrokenEachByteOnce
 broken_once manner fault b =

@@ -15,9 +15,9 @@ use Rattle.usb_explain.specs.declared.standing.Standing.{Standing}
 use Rattle.usb_explain.specs.Roles.{next_role}
 use Rattle.usb_explain.specs.Standings.{start}
 use Rattle.usb_explain.specs.Subjects.{Subject}
-use Rattle.usb_explain.specs.Walks.{behind_next, block, here, next_block, walked}
+use Rattle.usb_explain.specs.Walks.{behind_next, block, here, next_block, told_next, walked}
 use Rattle.usb_explain.specs.inside.Walking.{Counted, PutsWalk}
-use Rattle.usb_explain.proofs.Standings.{counted_entered, counted_noted, entered_at, noted_at}
+use Rattle.usb_explain.proofs.Standings.{counted_entered, counted_noted, counted_told, entered_at, noted_at}
 
 -- where a descriptor can stand, its lines come first
 pub walk_next : (n : ℕ) (subject : Subject) (ending : ℕ → List ℕ) (s : Standing) (ahead : List ℕ) (next : Role × ℕ) → next_role s ahead ≡ Some next
@@ -80,14 +80,15 @@ walks_next subject bytes s ahead old mid new page text more rest next w e least 
     let left : length (drop next.1 ahead) ≡ length ahead - next.1 = length-drop next.1 ahead in
     let taken : length (take next.1 ahead) ≡ next.1 = length-take-le next.1 ahead most in
     let at_here : (here subject s ahead next).at ≡ s.at = entered_at next.0 subject.manner.speed ahead s in
-    let at_noted = noted_at next.0 (take next.1 ahead) (here subject s ahead next) in
+    let at_noted = noted_at next.0 (take next.1 ahead) (told_next subject s ahead next) in
     record {
       done = w.done ++ next_block subject s ahead next;
       fuel = onward.0;
       enough = onward.1;
       whole = onward.2;
       puts = puts_more old mid new page text rest w.done (next_block subject s ahead next) w.puts here_puts;
-      counted = counted_noted next.0 (take next.1 ahead) (length (take next.1 ahead)) (here subject s ahead next) (omega arith) (counted_entered next.0 subject.manner.speed ahead s w.counted);
+      counted = counted_noted next.0 (take next.1 ahead) (length (take next.1 ahead)) (told_next subject s ahead next) (omega arith)
+          (counted_told _ (here subject s ahead next) (counted_entered next.0 subject.manner.speed ahead s w.counted));
       room = omega (arith, at_here, at_noted, left, taken, w.room, most);
     }
 

@@ -3,6 +3,8 @@ pub mod Parts
 pub mod Names
 pub mod Words
 pub mod Fields
+pub mod Forms
+pub mod Layouts
 pub mod Raws
 pub mod Lines
 pub mod Findings

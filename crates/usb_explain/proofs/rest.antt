@@ -1,4 +1,9 @@
 pub mod Walks
 pub mod Steps
+pub mod Counts
+pub mod Seen
+pub mod Extras
+pub mod Endpoints
+pub mod Settings
 pub mod Sets
 pub mod Inputs

@@ -4,11 +4,10 @@ use Rattle.usb_words.specs.Numbers.{count}
 use Rattle.usb_file.specs.declared.input.Input.{Input}
 use Rattle.usb_file.specs.declared.input.Input.TheVariants as inputs
 use Rattle.usb_file.specs.declared.input_fault.InputFault.{InputFault}
-use Rattle.usb_file.specs.Inputs.{input_findings}
 use Rattle.usb_explain.specs.declared.manner.Manner.{Manner}
 use Rattle.usb_explain.specs.Faults.{fault_text, place_of_fault}
 use Rattle.usb_explain.specs.Standings.{start}
-use Rattle.usb_explain.specs.Subjects.{Subject, broken_subject, subject_with}
+use Rattle.usb_explain.specs.Subjects.{Subject, broken_subject, findings_in, subject_with}
 use Rattle.usb_explain.specs.Walks.{rest_text, walked}
 
 -- the name of an input
@@ -44,7 +43,7 @@ whole_text subject name findings b = first_line name (length b) ++ walked (lengt
 -- the explanation of an input, of which these are the bytes
 abbrev pub explanation : Manner → Input → List ℕ → List ℕ
 explanation manner input b =
-    whole_text (subject_with manner input (input_findings input)) (input_name input) (length (input_findings input)) b
+    whole_text (subject_with manner input (findings_in input)) (input_name input) (length (findings_in input)) b
 
 -- the explanation of bytes that are no input
 unfoldable pub broken_text : Subject → InputFault → List ℕ → List ℕ

@@ -1,7 +1,10 @@
 -- What is told of a descriptor that breaks a rule, right under its heading.
-use Rattle.std.specs.Prelude.{ℕ, ◌-◌, List, [], ◌++◌, length, slice_index, take, Bool, nat_le, ◌==◌, ◌&&◌, Option, Some, None, if◌then◌else◌}
+use Rattle.std.specs.Prelude.{ℕ, ◌-◌, List, length, slice_index, take, drop, flat_map, Bool, nat_le, ◌==◌, ◌&&◌, Option, Some, None, is_some, unwrap_or, [], if◌then◌else◌}
+use Rattle.std.specs.List.{take_while}
+use Rattle.std.specs.Option.{option_map}
 use Rattle.usb_base.specs.Bytes.{little_endian_at}
 use Rattle.usb_rules.specs.declared.finding.Finding.{Finding}
+use Rattle.usb_rules.specs.declared.finding.Part.{Part}
 use Rattle.usb_rules.specs.declared.finding.Part.TheVariants as parts
 use Rattle.usb_rules.specs.declared.rule.Rule.{Rule}
 use Rattle.usb_rules.specs.declared.rule.Rule.TheVariants as rules
@@ -16,72 +19,118 @@ use Rattle.usb_explain.specs.declared.role.Role.TheVariants.{Device, Qualifier, 
 use Rattle.usb_explain.specs.declared.standing.SetStanding.{SetStanding}
 use Rattle.usb_explain.specs.declared.standing.SettingStanding.{SettingStanding}
 use Rattle.usb_explain.specs.declared.standing.Standing.{Standing}
-use Rattle.usb_explain.specs.Kinds.{below}
-use Rattle.usb_explain.specs.Subjects.{Subject, is_among}
-
--- the line of a finding, where the input has it
-unfoldable pub told_line : Subject → ℕ → Finding → Told → List ℕ
-told_line subject depth f what = if is_among subject.found f then finding_line depth what else []
+use Rattle.usb_explain.specs.Kinds.{depth_of}
+use Rattle.usb_explain.specs.Subjects.{Subject}
 
 -- what is wrong with a device descriptor; that of a dump may be one of SuperSpeed
 abbrev pub wrong_device_told : Bool → ℕ → Told
 wrong_device_told is_dump usb = if is_dump && nat_le 0x0300 usb then told.DumpedDevice else told.Device
 
+-- V10 at the descriptor that says how many sets its part has, where it says none
+abbrev pub none_told : ℕ → Option Told
+none_told count = if count == 0 then Some told.NoConfiguration else None
+
 -- at the device: V10 of a part without a set, and V11
-unfoldable pub device_findings : Subject → List ℕ → List ℕ
-device_findings subject d =
-    (if slice_index d 17 == 0 then told_line subject 0 (finding rules.V10 parts.Main 0 0 0) told.NoConfiguration else [])
-    ++ told_line subject 0 (finding rules.V11 parts.Device 0 0 0) (wrong_device_told subject.is_dump (little_endian_at d 2))
+abbrev pub device_told : Bool → List ℕ → Rule → Option Told
+device_told is_dump d rules.V10 = none_told (slice_index d 17)
+device_told is_dump d rules.V11 = Some (wrong_device_told is_dump (little_endian_at d 2))
+device_told is_dump d _ = None
 
 -- at the qualifier: the same
-unfoldable pub qualifier_findings : Subject → List ℕ → List ℕ
-qualifier_findings subject d =
-    (if slice_index d 8 == 0 then told_line subject 0 (finding rules.V10 parts.Other 0 0 0) told.NoConfiguration else [])
-    ++ told_line subject 0 (finding rules.V11 parts.Other 0 0 0) told.Qualifier
+abbrev pub qualifier_told : List ℕ → Rule → Option Told
+qualifier_told d rules.V10 = none_told (slice_index d 8)
+qualifier_told d rules.V11 = Some told.Qualifier
+qualifier_told d _ = None
+
+-- at a set: V1, V2, V9 and V10
+abbrev pub set_told : SetStanding → List ℕ → Rule → Option Told
+set_told set d rules.V1 = Some (told.InterfaceCount (slice_index d 4) set.interfaces)
+set_told set d rules.V2 = Some told.NumberGap
+set_told set d rules.V9 = Some told.Attributes
+set_told set d rules.V10 = Some told.Value
+set_told set d _ = None
+
+-- at an association: V13
+abbrev pub association_told : Rule → Option Told
+association_told rules.V13 = Some told.Interfaces
+association_told _ = None
+
+-- at an interface, with the bytes of its set behind it: V3, V4 and V5
+abbrev pub interface_told : List ℕ → List ℕ → Rule → Option Told
+interface_told d behind rules.V3 = Some told.RepeatedSetting
+interface_told d behind rules.V4 = Some told.NoDefaultSetting
+interface_told d behind rules.V5 = Some (told.EndpointCount (slice_index d 4) (endpoints_before_interface (descriptors behind)))
+interface_told d behind _ = None
+
+-- at an endpoint: V6, V7, V8 and V12
+abbrev pub endpoint_told : Rule → Option Told
+endpoint_told rules.V6 = Some told.Address
+endpoint_told rules.V7 = Some told.RepeatedAddress
+endpoint_told rules.V8 = Some told.SharedAddress
+endpoint_told rules.V12 = Some told.PacketSize
+endpoint_told _ = None
+
+-- what is told at a descriptor of this role, with the bytes behind it, that breaks a rule which one of this role can
+unfoldable pub told_at : Bool → Standing → Role → List ℕ → List ℕ → Rule → Option Told
+told_at is_dump s Device d behind rule = device_told is_dump d rule
+told_at is_dump s Qualifier d behind rule = qualifier_told d rule
+told_at is_dump s Configuration d behind rule = set_told s.set d rule
+told_at is_dump s Association d behind rule = association_told rule
+told_at is_dump s Interface d behind rule = interface_told d (take (s.left - length d) behind) rule
+told_at is_dump s Endpoint d behind rule = endpoint_told rule
+told_at is_dump s _ d behind rule = None
+
+-- the part in which a device descriptor breaks a rule: it stands for the main one, where that has no set
+abbrev pub device_part : Rule → Part
+device_part rules.V10 = parts.Main
+device_part _ = parts.Device
 
 -- a finding in a set
 abbrev pub in_set : SetStanding → Rule → ℕ → ℕ → Finding
 in_set set rule setting endpoint = finding rule set.part set.number setting endpoint
 
--- at a set: V1, V2, V9 and V10
-unfoldable pub set_findings_text : Subject → SetStanding → List ℕ → List ℕ
-set_findings_text subject set d =
-    told_line subject 1 (in_set set rules.V1 0 0) (told.InterfaceCount (slice_index d 4) set.interfaces)
-    ++ told_line subject 1 (in_set set rules.V2 0 0) told.NumberGap
-    ++ told_line subject 1 (in_set set rules.V9 0 0) told.Attributes
-    ++ told_line subject 1 (in_set set rules.V10 0 0) told.Value
+-- that of the next endpoint of a setting
+abbrev pub in_setting : SetStanding → Rule → Option SettingStanding → Finding
+in_setting set rule None = in_set set rule 0 0
+in_setting set rule (Some setting) = in_set set rule setting.number setting.endpoints
 
--- at an association: V13, whose place has the number of the association
-unfoldable pub association_findings : Subject → SetStanding → List ℕ
-association_findings subject set = told_line subject (below set.owner) (in_set set rules.V13 set.associations 0) told.Interfaces
+-- the finding that a descriptor of this role has where it breaks a rule; an association counts among those of its set
+unfoldable pub finding_at : Standing → Role → Rule → Finding
+finding_at s Device rule = finding rule (device_part rule) 0 0 0
+finding_at s Qualifier rule = finding rule parts.Other 0 0 0
+finding_at s Association rule = in_set s.set rule s.set.associations 0
+finding_at s Interface rule = in_set s.set rule s.set.settings 0
+finding_at s Endpoint rule = in_setting s.set rule s.set.setting
+finding_at s _ rule = in_set s.set rule 0 0
 
--- at an interface: V3, V4 and V5
-unfoldable pub interface_findings : Subject → SetStanding → List ℕ → List ℕ → List ℕ
-interface_findings subject set d behind =
-    told_line subject 2 (in_set set rules.V3 set.settings 0) told.RepeatedSetting
-    ++ told_line subject 2 (in_set set rules.V4 set.settings 0) told.NoDefaultSetting
-    ++ told_line subject 2 (in_set set rules.V5 set.settings 0)
-    (told.EndpointCount (slice_index d 4) (endpoints_before_interface (descriptors behind)))
+-- the number of a part
+abbrev pub part_number : Part → ℕ
+part_number parts.Device = 0
+part_number parts.Main = 1
+part_number parts.Other = 2
 
--- at an endpoint of a setting: V6, V7, V8 and V12
-unfoldable pub setting_findings : Subject → SetStanding → SettingStanding → List ℕ
-setting_findings subject set setting =
-    told_line subject 3 (in_set set rules.V6 setting.number setting.endpoints) told.Address
-    ++ told_line subject 3 (in_set set rules.V7 setting.number setting.endpoints) told.RepeatedAddress
-    ++ told_line subject 3 (in_set set rules.V8 setting.number setting.endpoints) told.SharedAddress
-    ++ told_line subject 3 (in_set set rules.V12 setting.number setting.endpoints) told.PacketSize
+-- whether two findings are at one place
+abbrev pub is_same_place : Finding → Finding → Bool
+is_same_place f g =
+    (part_number f.part == part_number g.part) && ((f.set == g.set) && ((f.setting == g.setting) && (f.endpoint == g.endpoint)))
 
--- at an endpoint
-abbrev pub endpoint_findings : Subject → SetStanding → Option SettingStanding → List ℕ
-endpoint_findings subject set None = []
-endpoint_findings subject set (Some setting) = setting_findings subject set setting
+-- what is told of a finding at a descriptor of this role, if it is one of this descriptor
+unfoldable pub told_of : Bool → Standing → Role → List ℕ → List ℕ → Finding → Option Told
+told_of is_dump s role d behind f =
+    if is_same_place f (finding_at s role f.rule) then told_at is_dump s role d behind f.rule else None
 
--- at a descriptor of this role, with the bytes behind it
+-- whether it is one of this descriptor
+abbrev pub is_here : Bool → Standing → Role → List ℕ → List ℕ → Finding → Bool
+is_here is_dump s role d behind f = is_some (told_of is_dump s role d behind f)
+
+-- the findings of a descriptor: those of it with which the ones that aren't told yet begin
+unfoldable pub found_at : Subject → Standing → Role → List ℕ → List ℕ → List Finding
+found_at subject s role d behind = take_while (is_here subject.is_dump s role d behind) (drop s.told subject.found)
+
+-- the line of one of them
+abbrev pub line_of : Bool → Standing → Role → List ℕ → List ℕ → Finding → List ℕ
+line_of is_dump s role d behind f = unwrap_or (option_map (finding_line (depth_of s role)) (told_of is_dump s role d behind f)) []
+
+-- their lines
 unfoldable pub role_findings : Subject → Standing → Role → List ℕ → List ℕ → List ℕ
-role_findings subject s Device d behind = device_findings subject d
-role_findings subject s Qualifier d behind = qualifier_findings subject d
-role_findings subject s Configuration d behind = set_findings_text subject s.set d
-role_findings subject s Association d behind = association_findings subject s.set
-role_findings subject s Interface d behind = interface_findings subject s.set d (take (s.left - length d) behind)
-role_findings subject s Endpoint d behind = endpoint_findings subject s.set s.set.setting
-role_findings subject s _ d behind = []
+role_findings subject s role d behind = flat_map (line_of subject.is_dump s role d behind) (found_at subject s role d behind)

@@ -1,10 +1,18 @@
--- What holds of each explanation: its headings stand for each byte once, and of an input no bytes are left for the rest. A
--- brief one leaves out the fields alone, and each byte of it is a line feed or printable.
-use Rattle.std.specs.Prelude.{◌≡◌, ◌<◌, ℕ, true, false, ◌+◌, List, [], ◌∷◌, ◌++◌, length, map, take, drop, flat_map, slice_index}
+-- What holds of each explanation: its headings stand for each byte once, and of an input no bytes are left for the rest. Each
+-- finding is told once, with the counts of its set, and the descriptors are those of the input's tree. A brief one leaves out
+-- the fields alone, and each byte of it is a line feed or printable.
+use Rattle.std.specs.Prelude.{◌≡◌, ◌<◌, ℕ, true, false, ◌+◌, List, [], ◌∷◌, ◌++◌, length, map, take, drop, flat_map, slice_index, unwrap_or}
+use Rattle.std.specs.List.{AllByRecursion}
+use Rattle.std.specs.Option.{option_map}
 use Rattle.usb_base.specs.Bytes.{AreBytes}
 use Rattle.usb_file.specs.declared.input.Input.{Input}
 use Rattle.usb_file.specs.declared.input_fault.InputFault.{InputFault}
 use Rattle.usb_file.specs.Inputs.{IsInput, input_findings}
+use Rattle.usb_rules.specs.declared.finding.Finding.{Finding}
+use Rattle.usb_rules.specs.declared.rule.Rule.{Rule}
+use Rattle.usb_rules.specs.declared.rule.Rule.TheVariants as rules
+use Rattle.usb_rules.specs.InOrder.{by_rule}
+use Rattle.usb_explained_lines.specs.declared.told.Told.{Told}
 use Rattle.usb_explained_lines.specs.declared.kind.Kind.TheVariants as kinds
 use Rattle.usb_explained_lines.specs.Kinds.{fields, heading, kind_lines}
 use Rattle.usb_explain.specs.declared.manner.Manner.{Manner}
@@ -12,10 +20,11 @@ use Rattle.usb_explain.specs.declared.role.Role.{Role}
 use Rattle.usb_explain.specs.declared.standing.Standing.{Standing}
 use Rattle.usb_explain.specs.Explanations.{broken_explanation, broken_name, explanation, first_line, input_name, last_line}
 use Rattle.usb_explain.specs.Faults.{fault_text, place_of_fault}
-use Rattle.usb_explain.specs.Findings.{role_findings}
+use Rattle.usb_explain.specs.Findings.{found_at, is_here, role_findings, told_at}
 use Rattle.usb_explain.specs.Kinds.{depth_of, kind_of}
 use Rattle.usb_explain.specs.PlainText.{IsPlainText}
-use Rattle.usb_explain.specs.Subjects.{Subject, broken_subject, subject_with}
+use Rattle.usb_explain.specs.Subjects.{Subject, broken_subject, findings_in, subject_with}
+use Rattle.usb_explain.specs.Trees.{OutlineEntry, counts_in, entry, outline}
 use Rattle.usb_explain.specs.Walks.{rest_text}
 
 -- a descriptor of an explanation: where it stands, what it is there, its bytes, and those behind it
@@ -36,6 +45,10 @@ abbrev pub lines_of : Subject → Shown → List ℕ
 lines_of subject d =
     head_of subject d
     ++ fields subject.manner.look (depth_of d.standing d.role) subject.names (kind_of subject d.standing d.role d.bytes) d.bytes
+
+-- the findings that are told under its heading: those of which each line of its findings is one
+abbrev pub findings_of : Subject → Shown → List Finding
+findings_of subject d = found_at subject d.standing d.role d.bytes d.behind
 
 -- a place and a length
 pub record Span : Type 0 where
@@ -84,7 +97,7 @@ pub record NothingLeft (subject : Subject) (bytes first last text : List ℕ) : 
 abbrev pub WholeEachByteOnce : Type 0
 WholeEachByteOnce =
     (manner : Manner) (input : Input) (b : List ℕ) →
-    EachByteOnce (subject_with manner input (input_findings input)) b b (first_line (input_name input) (length b)) [] (last_line (length (input_findings input)))
+    EachByteOnce (subject_with manner input (findings_in input)) b b (first_line (input_name input) (length b)) [] (last_line (length (findings_in input)))
     (explanation manner input b)
 
 -- so does that of bytes that are no input: its descriptors end at the place of the fault or before it
@@ -98,8 +111,60 @@ BrokenEachByteOnce =
 abbrev pub WholeHasNoRest : Type 0
 WholeHasNoRest =
     (manner : Manner) (input : Input) (b : List ℕ) → IsInput input b →
-    NothingLeft (subject_with manner input (input_findings input)) b (first_line (input_name input) (length b)) (last_line (length (input_findings input)))
+    NothingLeft (subject_with manner input (findings_in input)) b (first_line (input_name input) (length b)) (last_line (length (findings_in input)))
     (explanation manner input b)
+
+-- under the heading of a descriptor stand findings of its own alone, so that each of them has a line
+abbrev pub TellsItsOwn : Subject → Shown → Type 0
+TellsItsOwn subject d = AllByRecursion (λ f. is_here subject.is_dump d.standing d.role d.bytes d.behind f ≡ true) (findings_of subject d)
+
+-- A text that tells each of these findings once, which are sorted rule by rule: those under the headings of its descriptors
+-- are, in their order, all of them. The last line says how many they are.
+pub record EachFindingOnce (subject : Subject) (bytes first : List ℕ) (findings : List Finding) (text : List ℕ) : Type 0 where
+  pub shown : List Shown
+  pub lines : text ≡ first ++ (flat_map (lines_of subject) shown ++ last_line (length findings))
+  pub cut : Cut bytes shown []
+  pub told : by_rule (flat_map (findings_of subject) shown) ≡ findings
+  pub own : AllByRecursion (TellsItsOwn subject) shown
+
+-- each explanation of an input tells once what `check` finds in it, each finding under the heading of its descriptor
+abbrev pub WholeTellsFindings : Type 0
+WholeTellsFindings =
+    (manner : Manner) (input : Input) (b : List ℕ) → IsInput input b →
+    EachFindingOnce (subject_with manner input (findings_in input)) b (first_line (input_name input) (length b)) (input_findings input)
+    (explanation manner input b)
+
+-- what the lines of a rule's findings say at a descriptor, if one of its role can break it
+abbrev pub told_there : Subject → Shown → Rule → List Told
+told_there subject d rule = unwrap_or (option_map (λ t. t ∷ []) (told_at subject.is_dump d.standing d.role d.bytes d.behind rule)) []
+
+-- the counts in the lines of its findings: that of interfaces at a set, and that of endpoints at a setting
+abbrev pub counts_at : Subject → Shown → List Told
+counts_at subject d = told_there subject d rules.V1 ++ told_there subject d rules.V5
+
+-- each explanation of an input tells its findings with the counts that its sets have
+pub record TellsCounts (subject : Subject) (input : Input) (bytes first text : List ℕ) : Type 0 where
+  pub tells : EachFindingOnce subject bytes first (input_findings input) text
+  pub counts : flat_map (counts_at subject) tells.shown ≡ counts_in input
+
+abbrev pub WholeTellsCounts : Type 0
+WholeTellsCounts =
+    (manner : Manner) (input : Input) (b : List ℕ) → IsInput input b →
+    TellsCounts (subject_with manner input (findings_in input)) input b (first_line (input_name input) (length b)) (explanation manner input b)
+
+-- a descriptor as it is shown
+abbrev pub entry_of : Shown → OutlineEntry
+entry_of d = entry d.role (depth_of d.standing d.role) d.bytes
+
+-- each explanation of an input shows the descriptors of its tree, in their order and as deep as there
+pub record ShowsTree (subject : Subject) (input : Input) (bytes first text : List ℕ) : Type 0 where
+  pub tells : EachFindingOnce subject bytes first (input_findings input) text
+  pub entries : map entry_of tells.shown ≡ outline input
+
+abbrev pub WholeShowsTree : Type 0
+WholeShowsTree =
+    (manner : Manner) (input : Input) (b : List ℕ) → IsInput input b →
+    ShowsTree (subject_with manner input (findings_in input)) input b (first_line (input_name input) (length b)) (explanation manner input b)
 
 -- the same manner, with the lines of fields or without them
 abbrev pub with_fields : Manner → Manner
@@ -135,7 +200,7 @@ pub record LeavesOutFields (subject : Subject) (bytes first before_rest last one
 abbrev pub WholeLeavesOutFields : Type 0
 WholeLeavesOutFields =
     (manner : Manner) (input : Input) (b : List ℕ) →
-    LeavesOutFields (subject_with manner input (input_findings input)) b (first_line (input_name input) (length b)) [] (last_line (length (input_findings input)))
+    LeavesOutFields (subject_with manner input (findings_in input)) b (first_line (input_name input) (length b)) [] (last_line (length (findings_in input)))
     (explanation (with_fields manner) input b) (explanation (without_fields manner) input b)
 
 -- so is that of bytes that are no input

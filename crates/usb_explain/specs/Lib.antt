@@ -9,5 +9,6 @@ pub mod Walks
 pub mod Faults
 pub mod Explanations
 pub mod PlainText
+pub mod Trees
 pub mod Laws
 pub mod inside

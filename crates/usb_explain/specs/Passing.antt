@@ -40,6 +40,10 @@ noted Raw d s = s
 noted Languages d s = record s { has_languages = true }
 noted Text d s = record s { strings = s.strings + 1 }
 
+-- so many findings are told
+abbrev pub with_told : ℕ → Standing → Standing
+with_told n s = record s { told = n }
+
 -- so many bytes further on
 abbrev pub moved : ℕ → Standing → Standing
 moved n s = record s { at = s.at + n; left = s.left - n }

@@ -31,5 +31,6 @@ start = record {
   main_sets = 0;
   other_sets = 0;
   left = 0;
+  told = 0;
   set = before_sets;
 }

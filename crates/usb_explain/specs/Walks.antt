@@ -1,14 +1,14 @@
 -- The lines of all descriptors of an input, one after another.
-use Rattle.std.specs.Prelude.{ℕ, zero, suc, List, [], ◌∷◌, ◌++◌, take, drop, unwrap_or}
+use Rattle.std.specs.Prelude.{ℕ, zero, suc, List, [], ◌∷◌, ◌+◌, ◌++◌, length, take, drop, unwrap_or}
 use Rattle.std.specs.Option.{option_map}
 use Rattle.usb_explained_lines.specs.declared.kind.Kind.TheVariants as kinds
 use Rattle.usb_explained_lines.specs.Kinds.{fields, heading}
 use Rattle.usb_explain.specs.declared.role.Role.{Role}
 use Rattle.usb_explain.specs.declared.standing.Standing.{Standing}
-use Rattle.usb_explain.specs.Findings.{role_findings}
+use Rattle.usb_explain.specs.Findings.{found_at, role_findings}
 use Rattle.usb_explain.specs.Kinds.{depth_of, kind_of}
 use Rattle.usb_explain.specs.Opening.{entered}
-use Rattle.usb_explain.specs.Passing.{passed}
+use Rattle.usb_explain.specs.Passing.{passed, with_told}
 use Rattle.usb_explain.specs.Roles.{next_role}
 use Rattle.usb_explain.specs.Subjects.{Subject}
 
@@ -27,9 +27,17 @@ here subject s ahead next = entered next.0 subject.manner.speed ahead s
 abbrev pub next_block : Subject → Standing → List ℕ → Role × ℕ → List ℕ
 next_block subject s ahead next = block subject (here subject s ahead next) next.0 (take next.1 ahead) (drop next.1 ahead)
 
+-- the same with the findings of a descriptor told, behind which these bytes stand
+abbrev pub telling : Subject → Role → List ℕ → List ℕ → Standing → Standing
+telling subject role d behind s = with_told (s.told + length (found_at subject s role d behind)) s
+
+-- where it stands when its findings are told
+abbrev pub told_next : Subject → Standing → List ℕ → Role × ℕ → Standing
+told_next subject s ahead next = telling subject next.0 (take next.1 ahead) (drop next.1 ahead) (here subject s ahead next)
+
 -- where it stands behind that descriptor
 abbrev pub behind_next : Subject → Standing → List ℕ → Role × ℕ → Standing
-behind_next subject s ahead next = passed next.0 (take next.1 ahead) (here subject s ahead next)
+behind_next subject s ahead next = passed next.0 (take next.1 ahead) (told_next subject s ahead next)
 
 -- The lines of the descriptors that stand in these bytes, at most so many, and then what ends the text, given the place
 -- where they end.

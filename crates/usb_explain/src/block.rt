@@ -1,5 +1,6 @@
 //! The lines of one descriptor.
-ghost use Rattle.std.specs.Prelude.{◌≡◌, ◌++◌, OnOk};
+ghost use Rattle.std.specs.Prelude.{◌≡◌, ◌+◌, ◌++◌, length, IfOk, OnOk};
+ghost use Rattle.usb_explain.specs.Findings.{found_at};
 ghost use Rattle.usb_explain.specs.Walks.{block};
 
 use crate::role::Role;
@@ -10,7 +11,8 @@ use usb_explained_lines::{put_fields, put_heading};
 use usb_words::Text;
 
 impl Standing {
-    /// Puts the lines of a descriptor of this role: its heading, its findings and its fields.
+    /// Puts the lines of a descriptor of this role: its heading, its findings and its fields. Answers how many findings
+    /// are told then.
     #[tactic(auto, unfolding(crate::specs::Walks::block))]
     pub(crate) fn put_block(
         &self,
@@ -19,14 +21,16 @@ impl Standing {
         role: Role,
         d: &[u8],
         behind: &[u8],
-    ) -> Result<(), AllocError>
-        ensures { OnOk result (text.new ≡ text.old ++ block subject.now self.now role d.now behind.now) }
+    ) -> Result<usize, AllocError>
+        ensures lines { OnOk result (text.new ≡ text.old ++ block subject.now self.now role d.now behind.now) }
+        ensures told { IfOk result (λ told. told ≡ self.now.told + length (found_at subject.now self.now role d.now behind.now)) }
     {
         let kind = self.kind(subject, role, d);
         let depth = self.depth(role);
         let look = subject.manner().look;
         put_heading(text, look, depth, kind, d, self.at)?;
-        self.put_findings(text, subject, role, d, behind)?;
-        put_fields(text, look, depth, subject.names(), kind, d)
+        let told = self.put_findings(text, subject, role, d, behind)?;
+        put_fields(text, look, depth, subject.names(), kind, d)?;
+        Ok(told)
     }
 }

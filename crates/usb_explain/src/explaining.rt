@@ -6,13 +6,14 @@ ghost use Rattle.usb_explain.specs.Explanations.{broken_end, broken_explanation,
 
 use crate::ending::put_rest;
 use crate::fault_line::{fault_place, put_fault};
+use crate::found::findings_in;
 use crate::manner::Manner;
 use crate::subject::Subject;
 use crate::walk::write_blocks;
 use std::alloc::{AllocError, Global};
 use std::io::Write;
 use usb_base::descriptor_type;
-use usb_file::{Input, InputFault, check_input};
+use usb_file::{Input, InputFault};
 use usb_listing::{OutFault, write_all};
 use usb_survey::{behind, byte_at, front};
 use usb_words::{Text, put_count};
@@ -38,7 +39,7 @@ pub fn explain<W: Write>(
     ensures ok { OnOk result (Appends (W.contents w.old) (W.contents w.new) (explanation manner input.now bytes.now)) }
     ensures err { OnErr result (AppendsLess (W.contents w.old) (W.contents w.new) (explanation manner input.now bytes.now)) }
 {
-    let findings = check_input(alloc, input)?;
+    let findings = findings_in(alloc, input)?;
     let subject = Subject::of(alloc, manner, input, &findings)?;
     write_whole(alloc, bytes, &subject, input_name(input), findings.len(), w)
 }
@@ -97,7 +98,7 @@ pub fn explain_broken<W: Write>(
     ensures ok { OnOk result (Appends (W.contents w.old) (W.contents w.new) (broken_explanation manner fault bytes.now)) }
     ensures err { OnErr result (AppendsLess (W.contents w.old) (W.contents w.new) (broken_explanation manner fault bytes.now)) }
 {
-    let subject = Subject::broken(alloc, manner)?;
+    let subject = Subject::broken(alloc, manner);
     write_broken(alloc, bytes, &subject, fault, w)
 }
 

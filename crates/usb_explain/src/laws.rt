@@ -1,5 +1,5 @@
 //! What holds of each explanation. The functions of these laws do nothing: their contracts are the laws.
-ghost use Rattle.usb_explain.specs.Laws.{BrokenEachByteOnce, BrokenIsPlainText, BrokenLeavesOutFields, WholeEachByteOnce, WholeHasNoRest, WholeIsPlainText, WholeLeavesOutFields};
+ghost use Rattle.usb_explain.specs.Laws.{BrokenEachByteOnce, BrokenIsPlainText, BrokenLeavesOutFields, WholeEachByteOnce, WholeHasNoRest, WholeIsPlainText, WholeLeavesOutFields, WholeShowsTree, WholeTellsCounts, WholeTellsFindings};
 
 /// Each byte once: the places and lengths in the headings follow each other from 0 to the number of bytes, and each heading
 /// begins the lines of the descriptor there, as long as its bLength. The last one is that of the rest, if bytes
@@ -9,6 +9,24 @@ pub fn each_byte_has_one_heading()
     ensures whole { WholeEachByteOnce }
     ensures broken { BrokenEachByteOnce }
     ensures inputs { WholeHasNoRest }
+{}
+
+/// Each finding once: the findings under the headings are, in their order, just those that `check` tells of the input, each
+/// under the heading of the descriptor that breaks the rule. The last line says how many they are.
+pub fn each_finding_is_told_once()
+    ensures { WholeTellsFindings }
+{}
+
+/// Counts are those that are judged: where the line of a finding says how many interfaces a set has, or how many endpoints
+/// a setting has, it is the count by which rules V1 and V5 judge it.
+pub fn each_count_is_as_judged()
+    ensures { WholeTellsCounts }
+{}
+
+/// Each descriptor has its owner: the headings are those of the descriptors that were read, in their order. Each says what
+/// the descriptor is, and its depth which one before it the descriptor belongs to.
+pub fn each_descriptor_has_its_owner()
+    ensures { WholeShowsTree }
 {}
 
 /// A brief explanation is the other one without the lines of fields: it has the same headings at the same places, and the

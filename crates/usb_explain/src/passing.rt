@@ -1,6 +1,6 @@
 //! What is kept from one descriptor to the next.
 ghost use Rattle.std.specs.Prelude.{◌≡◌, ◌+◌, ◌<◌, ◌^◌, length};
-ghost use Rattle.usb_explain.specs.Passing.{moved, noted, passed, setting_of, with_endpoint, with_set};
+ghost use Rattle.usb_explain.specs.Passing.{moved, noted, passed, setting_of, with_endpoint, with_set, with_told};
 ghost use Rattle.usb_explain.specs.inside.Walking.{Counted, endpoints_of};
 
 use crate::role::Role;
@@ -10,6 +10,13 @@ use usb_rules::Part;
 use usb_survey::{byte_at, word_at};
 
 impl Standing {
+    /// Keeps how many findings are told.
+    pub(crate) fn tell(&mut self, told: usize)
+        ensures { self.new ≡ with_told told self.old }
+    {
+        self.told = told;
+    }
+
     /// Moves past a descriptor of this role.
     pub(crate) fn pass(&mut self, role: Role, d: &[u8])
         requires counted { Counted self.old }

@@ -36,6 +36,8 @@ pub(crate) struct Standing {
     pub(crate) other_sets: usize,
     /// How many bytes of the set are left from here on; none outside of sets.
     pub(crate) left: usize,
+    /// How many findings were told.
+    pub(crate) told: usize,
     /// The set that it is in, or the last one before it.
     pub(crate) set: SetStanding,
 }
@@ -98,6 +100,7 @@ impl Standing {
             main_sets: 0,
             other_sets: 0,
             left: 0,
+            told: 0,
             set: SetStanding {
                 part: Part::Main,
                 number: 0,

@@ -1,11 +1,10 @@
 //! What is explained.
-ghost use Rattle.std.specs.Prelude.{◌≡◌, false, IfOk};
+ghost use Rattle.std.specs.Prelude.{◌≡◌, ◌<◌, ◌^◌, drop, false, length, IfOk};
 ghost use Rattle.usb_explained_fields.specs.Names.{names_of, no_names};
 ghost use Rattle.usb_explained_fields.specs.declared.names.Missing.TheVariants.{NotInInput};
 ghost use Rattle.usb_explain.specs.Kinds.{place_of};
-ghost use Rattle.usb_explain.specs.Subjects.{broken_subject, is_among, subject_with};
+ghost use Rattle.usb_explain.specs.Subjects.{broken_subject, subject_with};
 
-use crate::found::Found;
 use crate::manner::Manner;
 use crate::places::string_place;
 use std::alloc::{AllocError, Global};
@@ -24,8 +23,8 @@ pub(crate) struct Subject<'i> {
     is_dump: bool,
     /// The strings that indices name.
     names: Names<'i>,
-    /// What breaks a rule.
-    found: Found<'i>,
+    /// What breaks a rule, in the order of the bytes.
+    found: &'i [Finding],
 }
 
 impl<'i> Model for Subject<'i> {
@@ -33,7 +32,7 @@ impl<'i> Model for Subject<'i> {
 
     ghost Value = { Seen };
 
-    ghost view = { λ s. record { manner = s.manner; is_dump = s.is_dump; names = s.names; found = s.found } };
+    ghost view = { λ s. record { manner = s.manner; is_dump = s.is_dump; names = s.names; found = s.found.now } };
 }
 
 impl<'i> Subject<'i> {
@@ -42,11 +41,10 @@ impl<'i> Subject<'i> {
         alloc: Global,
         manner: Manner,
         input: &'i Input,
-        findings: &'i [Finding],
+        found: &'i [Finding],
     ) -> Result<Subject<'i>, AllocError>
-        ensures { IfOk result (λ subject. subject ≡ subject_with manner input.now findings.now) }
+        ensures { IfOk result (λ subject. subject ≡ subject_with manner input.now found.now) }
     {
-        let found = Found::of(alloc, findings)?;
         match input {
             Input::Set(_) => Ok(Subject::without_strings(alloc, manner, false, found)),
             Input::File(file) => Subject::of_file(alloc, manner, file, found),
@@ -59,9 +57,9 @@ impl<'i> Subject<'i> {
         alloc: Global,
         manner: Manner,
         is_dump: bool,
-        found: Found<'i>,
+        found: &'i [Finding],
     ) -> Subject<'i>
-        ensures { result ≡ record { manner = manner; is_dump = is_dump; names = no_names NotInInput; found = found.entry } }
+        ensures { result ≡ record { manner = manner; is_dump = is_dump; names = no_names NotInInput; found = found.now } }
     {
         Subject {
             manner,
@@ -75,9 +73,9 @@ impl<'i> Subject<'i> {
         alloc: Global,
         manner: Manner,
         file: &'i DescriptorFile,
-        found: Found<'i>,
+        found: &'i [Finding],
     ) -> Result<Subject<'i>, AllocError>
-        ensures { IfOk result (λ subject. subject ≡ record { manner = manner; is_dump = false; names = names_of file.now; found = found.entry }) }
+        ensures { IfOk result (λ subject. subject ≡ record { manner = manner; is_dump = false; names = names_of file.now; found = found.now }) }
     {
         Ok(Subject {
             manner,
@@ -88,15 +86,15 @@ impl<'i> Subject<'i> {
     }
 
     /// Bytes that are no input.
-    pub(crate) fn broken(alloc: Global, manner: Manner) -> Result<Subject<'i>, AllocError>
-        ensures { IfOk result (λ subject. subject ≡ broken_subject manner) }
+    pub(crate) fn broken(alloc: Global, manner: Manner) -> Subject<'i>
+        ensures { result ≡ broken_subject manner }
     {
-        Ok(Subject {
+        Subject {
             manner,
             is_dump: false,
             names: Names::none(alloc, Missing::NotRead),
-            found: Found::of(alloc, &[])?,
-        })
+            found: &[],
+        }
     }
 
     pub(crate) fn manner(&self) -> Manner
@@ -117,11 +115,16 @@ impl<'i> Subject<'i> {
         &self.names
     }
 
-    /// Whether this finding is among those of the input.
-    pub(crate) fn has(&self, finding: Finding) -> bool
-        ensures { result ≡ is_among self.now.found finding }
+    /// What breaks a rule, without so many findings from the front on.
+    pub(crate) fn found_from(&self, told: usize) -> &[Finding]
+        ensures found { result.now ≡ drop told self.now.found }
+        ensures room { length self.now.found < 2 ^ 63 }
     {
-        self.found.has(finding)
+        if told < self.found.len() {
+            &self.found[told..]
+        } else {
+            &[]
+        }
     }
 
     /// The place of the string of this number among those of a file.

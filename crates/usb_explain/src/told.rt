@@ -1,14 +1,10 @@
 //! What is reported of a descriptor that breaks a rule.
-ghost use Rattle.std.specs.Prelude.{◌≡◌, ◌-◌, ◌++◌, length, slice_index, take, OnOk};
+ghost use Rattle.std.specs.Prelude.{◌≡◌, ◌+◌, ◌-◌, ◌++◌, length, take, IfOk, OnOk};
 ghost use Rattle.usb_rules.specs.Places.{finding};
-ghost use Rattle.usb_survey.specs.Counts.{endpoints_before_interface};
-ghost use Rattle.usb_survey.specs.Cut.{descriptors};
-ghost use Rattle.usb_explained_lines.specs.declared.told.Told.TheVariants as told;
-ghost use Rattle.usb_explain.specs.Findings.{association_findings, device_findings, endpoint_findings, in_set, interface_findings, qualifier_findings, role_findings, set_findings_text, setting_findings, told_line, wrong_device_told};
+ghost use Rattle.usb_explain.specs.Findings.{association_told, device_part, device_told, endpoint_told, finding_at, found_at, in_set, in_setting, interface_told, is_same_place, none_told, part_number, qualifier_told, role_findings, set_told, told_at, told_of, wrong_device_told};
 
-use crate::kind::below;
 use crate::role::Role;
-use crate::standing::{SetStanding, SettingStanding, Standing};
+use crate::standing::{SetStanding, Standing};
 use crate::subject::Subject;
 use std::alloc::AllocError;
 use usb_explained_lines::{Told, put_finding};
@@ -16,27 +12,10 @@ use usb_rules::{Finding, Part, Rule};
 use usb_survey::{byte_at, endpoint_count, front, word_at};
 use usb_words::Text;
 
-/// Puts a line where this is found.
-#[tactic(auto, unfolding(crate::specs::Findings::told_line))]
-fn put_told(
-    text: &mut Text,
-    subject: &Subject,
-    depth: u8,
-    finding: Finding,
-    told: Told,
-) -> Result<(), AllocError>
-    ensures { OnOk result (text.new ≡ text.old ++ told_line subject.now depth finding told) }
-{
-    if subject.has(finding) {
-        put_finding(text, depth, told)
-    } else {
-        Ok(())
-    }
-}
-
 impl Standing {
-    /// Puts what is found at a descriptor of this role, which begins these bytes of its set.
-    #[tactic(auto, unfolding(crate::specs::Findings::role_findings))]
+    /// Puts a line for each finding of a descriptor of this role, with which those that aren't told yet begin. Answers how
+    /// many are told then.
+    #[tactic(auto, unfolding(crate::specs::Findings::role_findings, crate::specs::Findings::found_at))]
     pub(crate) fn put_findings(
         &self,
         text: &mut Text,
@@ -44,19 +23,77 @@ impl Standing {
         role: Role,
         d: &[u8],
         behind: &[u8],
-    ) -> Result<(), AllocError>
-        ensures { OnOk result (text.new ≡ text.old ++ role_findings subject.now self.now role d.now behind.now) }
+    ) -> Result<usize, AllocError>
+        ensures lines { OnOk result (text.new ≡ text.old ++ role_findings subject.now self.now role d.now behind.now) }
+        ensures count { IfOk result (λ told. told ≡ self.now.told + length (found_at subject.now self.now role d.now behind.now)) }
+    {
+        let depth = self.depth(role);
+        let mut told = self.told;
+        let left = subject.found_from(self.told);
+        for finding in left {
+            match self.told(subject.is_dump(), role, d, behind, *finding) {
+                None => return Ok(told),
+                Some(what) => put_finding(text, depth, what)?,
+            }
+            told += 1;
+        }
+        Ok(told)
+    }
+
+    /// What is told of a finding, if it is one of this descriptor.
+    #[tactic(auto, unfolding(crate::specs::Findings::told_of))]
+    fn told(
+        &self,
+        is_dump: bool,
+        role: Role,
+        d: &[u8],
+        behind: &[u8],
+        finding: Finding,
+    ) -> Option<Told>
+        ensures { result ≡ told_of is_dump self.now role d.now behind.now finding }
+    {
+        if is_same_place(finding, self.finding(role, finding.rule)) {
+            self.told_at(is_dump, role, d, behind, finding.rule)
+        } else {
+            None
+        }
+    }
+
+    /// What is told of a descriptor that breaks this rule, if one of its role can.
+    #[tactic(auto, unfolding(crate::specs::Findings::told_at))]
+    fn told_at(
+        &self,
+        is_dump: bool,
+        role: Role,
+        d: &[u8],
+        behind: &[u8],
+        rule: Rule,
+    ) -> Option<Told>
+        ensures { result ≡ told_at is_dump self.now role d.now behind.now rule }
     {
         match role {
-            Role::Device => put_device_findings(text, subject, d),
-            Role::Qualifier => put_qualifier_findings(text, subject, d),
-            Role::Configuration => self.set.put_set_findings(text, subject, d),
-            Role::Association => self.set.put_association_findings(text, subject),
-            Role::Interface => self
-                .set
-                .put_interface_findings(text, subject, d, self.behind_in_set(d, behind)),
-            Role::Endpoint => self.set.put_endpoint_findings(text, subject),
-            _ => Ok(()),
+            Role::Device => device_told(is_dump, d, rule),
+            Role::Qualifier => qualifier_told(d, rule),
+            Role::Configuration => self.set.told(d, rule),
+            Role::Association => association_told(rule),
+            Role::Interface => interface_told(d, self.behind_in_set(d, behind), rule),
+            Role::Endpoint => endpoint_told(rule),
+            _ => None,
+        }
+    }
+
+    /// The finding of a descriptor of this role that breaks this rule.
+    #[tactic(auto, unfolding(crate::specs::Findings::finding_at))]
+    fn finding(&self, role: Role, rule: Rule) -> Finding
+        ensures { result ≡ finding_at self.now role rule }
+    {
+        match role {
+            Role::Device => part_finding(rule, device_part(rule)),
+            Role::Qualifier => part_finding(rule, Part::Other),
+            Role::Association => self.set.finding(rule, self.set.associations, 0),
+            Role::Interface => self.set.finding(rule, self.set.settings, 0),
+            Role::Endpoint => self.set.endpoint_finding(rule),
+            _ => self.set.finding(rule, 0, 0),
         }
     }
 
@@ -66,95 +103,6 @@ impl Standing {
     {
         front(behind, self.left.saturating_sub(d.len()))
     }
-}
-
-/// Puts V5 of an interface with these bytes after it. The endpoints are counted where it is found alone.
-#[tactic(auto, unfolding(crate::specs::Findings::told_line))]
-fn put_endpoint_count(
-    text: &mut Text,
-    subject: &Subject,
-    finding: Finding,
-    d: &[u8],
-    behind: &[u8],
-) -> Result<(), AllocError>
-    ensures { OnOk result (text.new ≡ text.old ++ told_line subject.now 2 finding (told.EndpointCount (slice_index d.now 4) (endpoints_before_interface (descriptors behind.now)))) }
-{
-    if subject.has(finding) {
-        let counted = Told::EndpointCount {
-            declared: byte_at(d, 4),
-            found: endpoint_count(behind),
-        };
-        put_finding(text, 2, counted)
-    } else {
-        Ok(())
-    }
-}
-
-fn part_finding(rule: Rule, part: Part) -> Finding
-    ensures { result ≡ finding rule part 0 0 0 }
-{
-    Finding {
-        rule,
-        part,
-        set: 0,
-        setting: 0,
-        endpoint: 0,
-    }
-}
-
-#[tactic(auto, unfolding(crate::specs::Findings::device_findings))]
-fn put_device_findings(text: &mut Text, subject: &Subject, d: &[u8]) -> Result<(), AllocError>
-    ensures { OnOk result (text.new ≡ text.old ++ device_findings subject.now d.now) }
-{
-    if byte_at(d, 17) == 0 {
-        put_told(
-            text,
-            subject,
-            0,
-            part_finding(Rule::V10, Part::Main),
-            Told::NoConfiguration,
-        )?;
-    }
-    let told = wrong_device(subject.is_dump(), word_at(d, 2));
-    put_told(
-        text,
-        subject,
-        0,
-        part_finding(Rule::V11, Part::Device),
-        told,
-    )
-}
-
-fn wrong_device(is_dump: bool, usb: u16) -> Told
-    ensures { result ≡ wrong_device_told is_dump usb }
-{
-    if is_dump && usb >= 0x0300 {
-        Told::DumpedDevice
-    } else {
-        Told::Device
-    }
-}
-
-#[tactic(auto, unfolding(crate::specs::Findings::qualifier_findings))]
-fn put_qualifier_findings(text: &mut Text, subject: &Subject, d: &[u8]) -> Result<(), AllocError>
-    ensures { OnOk result (text.new ≡ text.old ++ qualifier_findings subject.now d.now) }
-{
-    if byte_at(d, 8) == 0 {
-        put_told(
-            text,
-            subject,
-            0,
-            part_finding(Rule::V10, Part::Other),
-            Told::NoConfiguration,
-        )?;
-    }
-    put_told(
-        text,
-        subject,
-        0,
-        part_finding(Rule::V11, Part::Other),
-        Told::Qualifier,
-    )
 }
 
 impl SetStanding {
@@ -170,125 +118,146 @@ impl SetStanding {
         }
     }
 
-    #[tactic(auto, unfolding(crate::specs::Findings::set_findings_text))]
-    fn put_set_findings(
-        &self,
-        text: &mut Text,
-        subject: &Subject,
-        d: &[u8],
-    ) -> Result<(), AllocError>
-        ensures { OnOk result (text.new ≡ text.old ++ set_findings_text subject.now self.now d.now) }
-    {
-        let counted = Told::InterfaceCount {
-            declared: byte_at(d, 4),
-            found: self.interfaces,
-        };
-        put_told(text, subject, 1, self.finding(Rule::V1, 0, 0), counted)?;
-        put_told(
-            text,
-            subject,
-            1,
-            self.finding(Rule::V2, 0, 0),
-            Told::NumberGap,
-        )?;
-        put_told(
-            text,
-            subject,
-            1,
-            self.finding(Rule::V9, 0, 0),
-            Told::Attributes,
-        )?;
-        put_told(text, subject, 1, self.finding(Rule::V10, 0, 0), Told::Value)
-    }
-
-    #[tactic(auto, unfolding(crate::specs::Findings::association_findings))]
-    fn put_association_findings(&self, text: &mut Text, subject: &Subject) -> Result<(), AllocError>
-        ensures { OnOk result (text.new ≡ text.old ++ association_findings subject.now self.now) }
-    {
-        let depth = below(self.owner);
-        put_told(
-            text,
-            subject,
-            depth,
-            self.finding(Rule::V13, self.associations, 0),
-            Told::Interfaces,
-        )
-    }
-
-    #[tactic(auto, unfolding(crate::specs::Findings::interface_findings))]
-    fn put_interface_findings(
-        &self,
-        text: &mut Text,
-        subject: &Subject,
-        d: &[u8],
-        behind: &[u8],
-    ) -> Result<(), AllocError>
-        ensures { OnOk result (text.new ≡ text.old ++ interface_findings subject.now self.now d.now behind.now) }
-    {
-        let number = self.settings;
-        put_told(
-            text,
-            subject,
-            2,
-            self.finding(Rule::V3, number, 0),
-            Told::RepeatedSetting,
-        )?;
-        put_told(
-            text,
-            subject,
-            2,
-            self.finding(Rule::V4, number, 0),
-            Told::NoDefaultSetting,
-        )?;
-        put_endpoint_count(text, subject, self.finding(Rule::V5, number, 0), d, behind)
-    }
-
-    fn put_endpoint_findings(&self, text: &mut Text, subject: &Subject) -> Result<(), AllocError>
-        ensures { OnOk result (text.new ≡ text.old ++ endpoint_findings subject.now self.now self.now.setting) }
+    /// That of the next endpoint of the setting.
+    fn endpoint_finding(&self, rule: Rule) -> Finding
+        ensures { result ≡ in_setting self.now rule self.now.setting }
     {
         match self.setting {
-            None => Ok(()),
-            Some(setting) => self.put_findings_in(text, subject, setting),
+            None => self.finding(rule, 0, 0),
+            Some(setting) => self.finding(rule, setting.number, setting.endpoints),
         }
     }
 
-    #[tactic(auto, unfolding(crate::specs::Findings::setting_findings))]
-    fn put_findings_in(
-        &self,
-        text: &mut Text,
-        subject: &Subject,
-        setting: SettingStanding,
-    ) -> Result<(), AllocError>
-        ensures { OnOk result (text.new ≡ text.old ++ setting_findings subject.now self.now setting) }
+    fn told(&self, d: &[u8], rule: Rule) -> Option<Told>
+        ensures { result ≡ set_told self.now d.now rule }
     {
-        let (number, endpoint) = (setting.number, setting.endpoints);
-        put_told(
-            text,
-            subject,
-            3,
-            self.finding(Rule::V6, number, endpoint),
-            Told::Address,
-        )?;
-        put_told(
-            text,
-            subject,
-            3,
-            self.finding(Rule::V7, number, endpoint),
-            Told::RepeatedAddress,
-        )?;
-        put_told(
-            text,
-            subject,
-            3,
-            self.finding(Rule::V8, number, endpoint),
-            Told::SharedAddress,
-        )?;
-        put_told(
-            text,
-            subject,
-            3,
-            self.finding(Rule::V12, number, endpoint),
-            Told::PacketSize,
-        )
+        match rule {
+            Rule::V1 => Some(Told::InterfaceCount {
+                declared: byte_at(d, 4),
+                found: self.interfaces,
+            }),
+            Rule::V2 => Some(Told::NumberGap),
+            Rule::V9 => Some(Told::Attributes),
+            Rule::V10 => Some(Told::Value),
+            _ => None,
+        }
+    }
+}
+
+fn is_same_place(f: Finding, g: Finding) -> bool
+    ensures { result ≡ is_same_place f g }
+{
+    part_number(f.part) == part_number(g.part)
+        && f.set == g.set
+        && f.setting == g.setting
+        && f.endpoint == g.endpoint
+}
+
+fn part_number(part: Part) -> u8
+    ensures { result ≡ part_number part }
+{
+    match part {
+        Part::Device => 0,
+        Part::Main => 1,
+        Part::Other => 2,
+    }
+}
+
+fn part_finding(rule: Rule, part: Part) -> Finding
+    ensures { result ≡ finding rule part 0 0 0 }
+{
+    Finding {
+        rule,
+        part,
+        set: 0,
+        setting: 0,
+        endpoint: 0,
+    }
+}
+
+/// The part in which a device descriptor breaks a rule.
+fn device_part(rule: Rule) -> Part
+    ensures { result ≡ device_part rule }
+{
+    match rule {
+        Rule::V10 => Part::Main,
+        _ => Part::Device,
+    }
+}
+
+fn device_told(is_dump: bool, d: &[u8], rule: Rule) -> Option<Told>
+    ensures { result ≡ device_told is_dump d.now rule }
+{
+    match rule {
+        Rule::V10 => none_told(byte_at(d, 17)),
+        Rule::V11 => Some(wrong_device(is_dump, word_at(d, 2))),
+        _ => None,
+    }
+}
+
+fn qualifier_told(d: &[u8], rule: Rule) -> Option<Told>
+    ensures { result ≡ qualifier_told d.now rule }
+{
+    match rule {
+        Rule::V10 => none_told(byte_at(d, 8)),
+        Rule::V11 => Some(Told::Qualifier),
+        _ => None,
+    }
+}
+
+/// V10 of a part of so many sets, told before them.
+fn none_told(count: u8) -> Option<Told>
+    ensures { result ≡ none_told count }
+{
+    if count == 0 {
+        Some(Told::NoConfiguration)
+    } else {
+        None
+    }
+}
+
+fn wrong_device(is_dump: bool, usb: u16) -> Told
+    ensures { result ≡ wrong_device_told is_dump usb }
+{
+    if is_dump && usb >= 0x0300 {
+        Told::DumpedDevice
+    } else {
+        Told::Device
+    }
+}
+
+fn association_told(rule: Rule) -> Option<Told>
+    ensures { result ≡ association_told rule }
+{
+    match rule {
+        Rule::V13 => Some(Told::Interfaces),
+        _ => None,
+    }
+}
+
+/// What is told of an interface with these bytes of its set after it.
+fn interface_told(d: &[u8], behind: &[u8], rule: Rule) -> Option<Told>
+    ensures { result ≡ interface_told d.now behind.now rule }
+{
+    match rule {
+        Rule::V3 => Some(Told::RepeatedSetting),
+        Rule::V4 => Some(Told::NoDefaultSetting),
+        Rule::V5 => Some(Told::EndpointCount {
+            declared: byte_at(d, 4),
+            found: endpoint_count(behind),
+        }),
+        _ => None,
+    }
+}
+
+fn endpoint_told(rule: Rule) -> Option<Told>
+    ensures { result ≡ endpoint_told rule }
+{
+    match rule {
+        Rule::V6 => Some(Told::Address),
+        Rule::V7 => Some(Told::RepeatedAddress),
+        Rule::V8 => Some(Told::SharedAddress),
+        Rule::V12 => Some(Told::PacketSize),
+        _ => None,
     }
 }

@@ -35,8 +35,9 @@ pub(crate) fn write_blocks<W: Write>(
     while let Some((role, length)) = standing.next_role(ahead) {
         standing.enter(role, subject, ahead);
         let d = front(ahead, length);
-        standing.put_block(text, subject, role, d, behind(ahead, length))?;
+        let told = standing.put_block(text, subject, role, d, behind(ahead, length))?;
         pass_on(text, w)?;
+        standing.tell(told);
         standing.pass(role, d);
         ahead = behind(ahead, length);
     }

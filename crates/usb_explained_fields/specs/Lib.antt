@@ -1,4 +1,6 @@
 pub mod Lines
 pub mod Values
 pub mod Names
+pub mod Forms
+pub mod Layouts
 pub mod Raws

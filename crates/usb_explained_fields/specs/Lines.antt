@@ -24,11 +24,6 @@ field_start depth name = spaces (2 * depth + 4) ++ name ++ spaces (22 - length n
 unfoldable pub field_line : ℕ → List ℕ → List ℕ → List ℕ
 field_line depth name value = field_start depth name ++ value ++ codes "\n"
 
--- the lines of fields of these names and these values, and those behind them
-abbrev pub field_lines : ℕ → List (List ℕ) → List (List ℕ) → List ℕ → List ℕ
-field_lines depth (name ∷ names) (value ∷ values) behind = field_line depth name value ++ field_lines depth names values behind
-field_lines depth names values behind = behind
-
 -- bytes as hexadecimal digits, if there are any
 unfoldable pub digits_line : ℕ → List ℕ → List ℕ → List ℕ
 digits_line depth name [] = []

@@ -1,39 +1,16 @@
 //! Indices of strings.
-ghost use Rattle.std.specs.Prelude.{◌≡◌, ◌++◌, slice_index, OnOk};
+ghost use Rattle.std.specs.Prelude.{◌≡◌, ◌++◌, OnOk};
 ghost use Rattle.std.specs.Option.{option_copied};
-ghost use Rattle.usb_explained_fields.specs.Lines.{field_line};
 ghost use Rattle.usb_explained_fields.specs.Names.{index_words, missing_words, name_words};
 
-use crate::bytes::byte_at;
-use crate::line::{begin_field, end_line};
 use crate::names::{Missing, Names};
 use crate::quoted::put_quoted;
 use std::alloc::AllocError;
 use usb_words::Text;
 
-/// Puts the index of a string at a place: `0 (none)`, or the number and the string that it names.
-///
-/// # Errors
-///
-/// Out of memory.
-#[tactic(auto, unfolding(crate::specs::Lines::field_line))]
-pub fn put_index(
-    text: &mut Text,
-    depth: u8,
-    name: &str,
-    names: &Names,
-    b: &[u8],
-    place: u8,
-) -> Result<(), AllocError>
-    ensures { OnOk result (text.new ≡ text.old ++ field_line depth name.now (index_words names.now (slice_index b.now place))) }
-{
-    begin_field(text, depth, name)?;
-    put_index_words(text, names, byte_at(b, usize::from(place)))?;
-    end_line(text)
-}
-
+/// Puts the index of a string: `0 (none)`, or the number and the string that it names.
 #[tactic(auto, unfolding(crate::specs::Names::index_words))]
-fn put_index_words(text: &mut Text, names: &Names, index: u8) -> Result<(), AllocError>
+pub(crate) fn put_index(text: &mut Text, names: &Names, index: u8) -> Result<(), AllocError>
     ensures { OnOk result (text.new ≡ text.old ++ index_words names.now index) }
 {
     if index == 0 {

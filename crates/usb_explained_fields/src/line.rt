@@ -1,6 +1,6 @@
 //! The parts of lines.
 ghost use Rattle.std.specs.Prelude.{◌≡◌, ◌++◌, codes, length, OnOk};
-ghost use Rattle.usb_explained_fields.specs.Lines.{field_start, place_words};
+ghost use Rattle.usb_explained_fields.specs.Lines.{digits_line, field_start, place_words};
 
 use crate::look::Look;
 use std::alloc::AllocError;
@@ -45,4 +45,24 @@ pub fn end_line(text: &mut Text) -> Result<(), AllocError>
     ensures { OnOk result (text.new ≡ text.old ++ codes "\n") }
 {
     text.put_character(b'\n')
+}
+
+/// Puts bytes as hexadecimal digits, if there are any.
+#[tactic(auto, unfolding(crate::specs::Lines::digits_line, crate::specs::Lines::field_line))]
+pub(crate) fn put_digits(
+    text: &mut Text,
+    depth: u8,
+    name: &str,
+    bytes: &[u8],
+) -> Result<(), AllocError>
+    ensures { OnOk result (text.new ≡ text.old ++ digits_line depth name.now bytes.now) }
+{
+    match bytes {
+        [] => Ok(()),
+        _ => {
+            begin_field(text, depth, name)?;
+            text.put_digits(bytes)?;
+            end_line(text)
+        }
+    }
 }

@@ -1,4 +1,7 @@
 //! What the words of a descriptor depend on beside its bytes.
+ghost use Rattle.std.specs.Prelude.{◌≡◌};
+ghost use Rattle.usb_explained_lines.specs.Kinds.{speed_of};
+
 use usb_names::ClassCodes;
 use usb_words::Speed;
 
@@ -57,4 +60,19 @@ pub enum Kind {
     },
     /// The bytes that are left after the descriptors.
     Rest,
+}
+
+impl Kind {
+    /// The speed that its fields depend on. bMaxPacketSize0 is an exponent at SuperSpeed; of the other kinds no field
+    /// depends on it.
+    pub(crate) fn speed(self) -> Speed
+        ensures { result ≡ speed_of self }
+    {
+        match self {
+            Kind::Device { exponent: true } => Speed::Super,
+            Kind::Configuration { speed } => speed,
+            Kind::Endpoint { speed, .. } => speed,
+            _ => Speed::FullOrHigh,
+        }
+    }
 }

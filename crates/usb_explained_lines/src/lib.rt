@@ -12,6 +12,7 @@ mod device;
 mod endpoint;
 mod finding;
 mod kind;
+mod layouts;
 mod line;
 mod rest;
 mod set;

@@ -3,19 +3,20 @@ ghost use Rattle.std.specs.Prelude.{◌≡◌, ◌++◌, codes, length, OnOk};
 ghost use Rattle.usb_explained_lines.specs.Kinds.{fields, heading, kind_lines, kind_words};
 ghost use Rattle.usb_explained_fields.specs.Lines.{heading_line};
 
-use crate::device::{
-    put_device_fields, put_device_words, put_qualifier_fields, put_qualifier_words,
-};
-use crate::endpoint::{put_endpoint_fields, put_endpoint_words};
+use crate::device::{put_device_words, put_qualifier_words};
+use crate::endpoint::put_endpoint_words;
 use crate::kind::Kind;
-use crate::rest::put_rest_fields;
-use crate::set::{
-    put_association_fields, put_association_words, put_configuration_fields,
-    put_configuration_words, put_interface_fields, put_interface_words,
+use crate::layouts::{
+    association_layout, configuration_layout, device_layout, endpoint_layout, interface_layout,
+    qualifier_layout,
 };
+use crate::rest::put_rest_fields;
+use crate::set::{put_association_words, put_configuration_words, put_interface_words};
 use crate::string::{put_languages_words, put_string_words};
 use std::alloc::AllocError;
-use usb_explained_fields::{Look, Names, end_line, put_place, put_raw_fields, put_raw_words};
+use usb_explained_fields::{
+    Look, Names, Scope, end_line, put_layout, put_place, put_raw_fields, put_raw_words,
+};
 use usb_words::Text;
 
 /// Puts the heading of a descriptor of these bytes, which starts at this place of the input.
@@ -105,16 +106,21 @@ fn put_lines(
 ) -> Result<(), AllocError>
     ensures { OnOk result (text.new ≡ text.old ++ kind_lines depth names.now kind bytes.now) }
 {
+    let scope = Scope {
+        depth,
+        speed: kind.speed(),
+    };
     match kind {
-        Kind::Device { exponent } => put_device_fields(text, depth, exponent, names, bytes),
-        Kind::Qualifier => put_qualifier_fields(text, depth, bytes),
-        Kind::Configuration { speed } => {
-            put_configuration_fields(text, depth, speed, names, bytes)
+        Kind::Device { .. } => put_layout(text, scope, names, device_layout(), bytes),
+        Kind::Qualifier => put_layout(text, scope, names, qualifier_layout(), bytes),
+        Kind::Configuration { .. } => put_layout(text, scope, names, configuration_layout(), bytes),
+        Kind::Association { .. } => put_layout(text, scope, names, association_layout(), bytes),
+        Kind::Interface { .. } => put_layout(text, scope, names, interface_layout(), bytes),
+        Kind::Endpoint { audio, .. } => {
+            let layout = endpoint_layout(audio, bytes.len());
+            put_layout(text, scope, names, layout, bytes)
         }
-        Kind::Association { .. } => put_association_fields(text, depth, names, bytes),
-        Kind::Interface { .. } => put_interface_fields(text, depth, names, bytes),
-        Kind::Endpoint { speed, audio } => put_endpoint_fields(text, depth, speed, audio, bytes),
-        Kind::Raw { interface } => put_raw_fields(text, depth, interface, bytes),
+        Kind::Raw { interface } => put_raw_fields(text, scope, names, interface, bytes),
         Kind::Languages => Ok(()),
         Kind::Text { .. } => Ok(()),
         Kind::Rest => put_rest_fields(text, depth, bytes),

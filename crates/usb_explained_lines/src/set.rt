@@ -1,14 +1,10 @@
 //! The configuration, interface association and interface descriptors.
-ghost use Rattle.std.specs.Prelude.{◌≡◌, ◌++◌, slice_index, OnOk};
-ghost use Rattle.usb_explained_fields.specs.Lines.{field_line};
-ghost use Rattle.usb_explained_lines.specs.Sets.{association_lines, association_words, binding_words, bound_words, configuration_lines, configuration_words, function_words, interface_lines, interface_words, power_value, range_words, set_attributes, set_words, source_words, supply_words, wakeup_words};
+ghost use Rattle.std.specs.Prelude.{◌≡◌, ◌++◌, OnOk};
+ghost use Rattle.usb_explained_lines.specs.Sets.{association_words, binding_words, bound_words, configuration_words, function_words, interface_words, range_words, set_words, supply_words};
 
 use std::alloc::AllocError;
-use usb_explained_fields::{
-    Names, begin_field, byte_at, end_line, put_class_field, put_decimal, put_decimal_word,
-    put_index, put_protocol_field, put_subclass_field, put_tail,
-};
-use usb_words::{Speed, Text, put_byte_code, put_class_words, put_count, put_power, put_speed};
+use usb_explained_fields::{byte_at, source_words};
+use usb_words::{Speed, Text, put_class_words, put_count, put_power, put_speed};
 
 /// Puts the words of the heading of a set's first descriptor (USB 2.0, 9.6.3 and 9.6.4).
 #[tactic(auto, unfolding(crate::specs::Sets::configuration_words))]
@@ -47,93 +43,6 @@ fn set_words(descriptor_type: u8) -> &'static str
     } else {
         "configuration "
     }
-}
-
-#[tactic(auto, unfolding(crate::specs::Sets::source_words))]
-fn source_words(attributes: u8) -> &'static str
-    ensures { result.now ≡ source_words attributes }
-{
-    if attributes / 64 % 2 == 1 {
-        "self-powered"
-    } else {
-        "bus-powered"
-    }
-}
-
-#[tactic(auto, unfolding(crate::specs::Sets::wakeup_words))]
-fn wakeup_words(attributes: u8) -> &'static str
-    ensures { result.now ≡ wakeup_words attributes }
-{
-    if attributes / 32 % 2 == 1 {
-        ", remote wakeup"
-    } else {
-        ""
-    }
-}
-
-/// Puts the fields of a set's first descriptor.
-#[tactic(auto, unfolding(crate::specs::Sets::configuration_lines))]
-pub(crate) fn put_configuration_fields(
-    text: &mut Text,
-    depth: u8,
-    speed: Speed,
-    names: &Names,
-    b: &[u8],
-) -> Result<(), AllocError>
-    ensures { OnOk result (text.new ≡ text.old ++ configuration_lines depth speed names.now b.now) }
-{
-    put_decimal_word(text, depth, "wTotalLength", b, 2)?;
-    put_decimal(text, depth, "bNumInterfaces", b, 4)?;
-    put_decimal(text, depth, "bConfigurationValue", b, 5)?;
-    put_index(text, depth, "iConfiguration", names, b, 6)?;
-    put_attributes(text, depth, "bmAttributes", b)?;
-    put_max_power(text, depth, "bMaxPower", speed, b)?;
-    put_tail(text, depth, b, 9)
-}
-
-#[tactic(auto, unfolding(usb_explained_fields::specs::Lines::field_line))]
-fn put_attributes(text: &mut Text, depth: u8, name: &str, b: &[u8]) -> Result<(), AllocError>
-    ensures { OnOk result (text.new ≡ text.old ++ field_line depth name.now (set_attributes (slice_index b.now 7))) }
-{
-    begin_field(text, depth, name)?;
-    put_attributes_value(text, byte_at(b, 7))?;
-    end_line(text)
-}
-
-#[tactic(auto, unfolding(crate::specs::Sets::set_attributes))]
-fn put_attributes_value(text: &mut Text, attributes: u8) -> Result<(), AllocError>
-    ensures { OnOk result (text.new ≡ text.old ++ set_attributes attributes) }
-{
-    put_byte_code(text, attributes)?;
-    text.put(" (")?;
-    text.put(source_words(attributes))?;
-    text.put(wakeup_words(attributes))?;
-    text.put(")")
-}
-
-#[tactic(auto, unfolding(usb_explained_fields::specs::Lines::field_line))]
-fn put_max_power(
-    text: &mut Text,
-    depth: u8,
-    name: &str,
-    speed: Speed,
-    b: &[u8],
-) -> Result<(), AllocError>
-    ensures { OnOk result (text.new ≡ text.old ++ field_line depth name.now (power_value speed (slice_index b.now 8))) }
-{
-    begin_field(text, depth, name)?;
-    put_power_value(text, speed, byte_at(b, 8))?;
-    end_line(text)
-}
-
-#[tactic(auto, unfolding(crate::specs::Sets::power_value))]
-fn put_power_value(text: &mut Text, speed: Speed, power: u8) -> Result<(), AllocError>
-    ensures { OnOk result (text.new ≡ text.old ++ power_value speed power) }
-{
-    text.put_decimal(u64::from(power))?;
-    text.put(" (")?;
-    put_power(text, speed, power)?;
-    text.put(")")
 }
 
 /// Puts the words of an interface association's heading (its ECN, 9.X.Y).
@@ -189,25 +98,6 @@ fn put_range(text: &mut Text, first: u64, last: u64) -> Result<(), AllocError>
     text.put_decimal(last)
 }
 
-/// Puts the fields of an interface association.
-#[tactic(auto, unfolding(crate::specs::Sets::association_lines))]
-pub(crate) fn put_association_fields(
-    text: &mut Text,
-    depth: u8,
-    names: &Names,
-    b: &[u8],
-) -> Result<(), AllocError>
-    ensures { OnOk result (text.new ≡ text.old ++ association_lines depth names.now b.now) }
-{
-    put_decimal(text, depth, "bFirstInterface", b, 2)?;
-    put_decimal(text, depth, "bInterfaceCount", b, 3)?;
-    put_class_field(text, depth, "bFunctionClass", b, 4)?;
-    put_subclass_field(text, depth, "bFunctionSubClass", b, 4)?;
-    put_protocol_field(text, depth, "bFunctionProtocol", b, 4)?;
-    put_index(text, depth, "iFunction", names, b, 7)?;
-    put_tail(text, depth, b, 8)
-}
-
 /// Puts the words of an interface descriptor's heading (9.6.5).
 #[tactic(auto, unfolding(crate::specs::Sets::interface_words))]
 pub(crate) fn put_interface_words(
@@ -239,24 +129,4 @@ fn put_binding(text: &mut Text, association: Option<u64>) -> Result<(), AllocErr
             text.put_decimal(number)
         }
     }
-}
-
-/// Puts the fields of an interface descriptor.
-#[tactic(auto, unfolding(crate::specs::Sets::interface_lines))]
-pub(crate) fn put_interface_fields(
-    text: &mut Text,
-    depth: u8,
-    names: &Names,
-    b: &[u8],
-) -> Result<(), AllocError>
-    ensures { OnOk result (text.new ≡ text.old ++ interface_lines depth names.now b.now) }
-{
-    put_decimal(text, depth, "bInterfaceNumber", b, 2)?;
-    put_decimal(text, depth, "bAlternateSetting", b, 3)?;
-    put_decimal(text, depth, "bNumEndpoints", b, 4)?;
-    put_class_field(text, depth, "bInterfaceClass", b, 5)?;
-    put_subclass_field(text, depth, "bInterfaceSubClass", b, 5)?;
-    put_protocol_field(text, depth, "bInterfaceProtocol", b, 5)?;
-    put_index(text, depth, "iInterface", names, b, 8)?;
-    put_tail(text, depth, b, 9)
 }

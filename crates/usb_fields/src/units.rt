@@ -1,16 +1,20 @@
 //! Strings and language lists: descriptors that hold 16-bit units (USB 2.0, 9.6.7).
-ghost use Rattle.std.specs.Prelude.{◌≡◌, ◌≤◌, ◌<◌, ◌*◌, ◌/◌, ◌%◌, ◌++◌, length, vec_capacity, IfOk, IfErr, OnErr, OnOk};
+ghost use Rattle.std.specs.Prelude.{◌≡◌, ◌≤◌, ◌<◌, ◌+◌, ◌*◌, ◌/◌, ◌%◌, ◌++◌, length, vec_capacity, vec_len, IfOk, IfErr, OnErr, OnOk};
 ghost use Rattle.std.specs.List.{flat_map};
 ghost use Rattle.usb_base.specs.Bytes.{little_endian};
 ghost use Rattle.usb_fields.specs.Units.{units_bytes, ReadUnitsFails, WriteUnitsFails};
 
 use crate::fault::UnitFault;
 use std::alloc::{AllocError, Global};
+use std::mem;
 use usb_base::{descriptor_type, word_bytes};
 
 /// The most units that a string can have, and the most languages that a language list can: bLength counts no more (USB
 /// 2.0, 9.6.7).
 pub const MOST_UNITS: usize = 126;
+
+/// From so many units on the list that they are added to is moved to a local, and back.
+const MANY_UNITS: usize = 8;
 
 /// The units of a string or a language list, exactly where the bytes are bLength, type 3 and these units, the low byte
 /// first: language codes of string 0, UTF-16 code units of any other string. They are kept as numbers.
@@ -100,10 +104,34 @@ pub fn write_units_onto(u: &[u16], out: &mut Vec<u8>) -> Result<(), UnitFault>
     out.reserve(size)?;
     out.push_reserved(size as u8);
     out.push_reserved(descriptor_type::STRING);
+    if u.len() < MANY_UNITS {
+        put_units(u, out);
+    } else {
+        put_many_units(u, out);
+    }
+    Ok(())
+}
+
+/// Adds the bytes of the units at the end of a list that has room for them.
+#[inline(always)]
+fn put_units(u: &[u16], out: &mut Vec<u8>)
+    requires { vec_len out.old + 2 * length u.now ≤ vec_capacity out.old }
+    ensures { out.new.items ≡ out.old.items ++ flat_map little_endian u.now }
+{
     for unit in u {
         let [low, high] = word_bytes(*unit);
         out.push_reserved(low);
         out.push_reserved(high);
     }
-    Ok(())
+}
+
+/// The same, with the list in a local meanwhile: so its length is stored once, and many units are written at a time.
+fn put_many_units(u: &[u16], out: &mut Vec<u8>)
+    requires { vec_len out.old + 2 * length u.now ≤ vec_capacity out.old }
+    ensures { out.new.items ≡ out.old.items ++ flat_map little_endian u.now }
+{
+    let none = Vec::new(*out.allocator());
+    let mut bytes = mem::replace(out, none);
+    put_units(u, &mut bytes);
+    *out = bytes;
 }

@@ -21,7 +21,8 @@ pub(crate) trait Listed {
         ensures err { OnErr result (AppendsLess (W.contents w.old) (W.contents w.new) (page.old ++ lines self.now)) };
 }
 
-/// Puts the lines of several values, one value after another.
+/// Puts the lines of several values, one value after another. Most lists are empty, so no call is made for one.
+#[inline(always)]
 pub(crate) fn list_all<T: Listed, W: Write>(
     page: &mut Page,
     items: &[T],

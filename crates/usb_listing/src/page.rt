@@ -1,5 +1,5 @@
 //! Lines on their way to a writer, some thirty kilobytes at a time.
-ghost use Rattle.std.specs.Prelude.{◌≡◌, ◌+◌, ◌*◌, [], ◌∷◌, ◌++◌, codes, false, IfErr, IfOk, IfSome, OnErr, OnOk};
+ghost use Rattle.std.specs.Prelude.{◌≡◌, ◌+◌, ◌*◌, [], ◌∷◌, ◌++◌, codes, ◌<◌, false, length, IfErr, IfOk, IfSome, OnErr, OnOk};
 ghost use Rattle.hex.specs.Hex.{encode_lower};
 ghost use Rattle.std.specs.List.{flat_map};
 ghost use Rattle.usb_base.specs.Widths.{cells};
@@ -129,12 +129,21 @@ impl Page {
     }
 
     /// Puts a field of any number of bytes.
-    pub(crate) fn put_bytes(&mut self, value: &[u8]) -> Result<(), AllocError>
+    #[inline(always)]
+    fn put_bytes(&mut self, value: &[u8]) -> Result<(), AllocError>
         ensures { OnOk result (self.new ≡ self.old ++ written_field value.now) }
     {
         if value.is_empty() {
             return self.bytes.extend_from_slice(b" -");
         }
+        self.put_digits(value)
+    }
+
+    /// Puts a field of some bytes.
+    fn put_digits(&mut self, value: &[u8]) -> Result<(), AllocError>
+        requires { 0 < length value.now }
+        ensures { OnOk result (self.new ≡ self.old ++ written_field value.now) }
+    {
         self.bytes.push(b' ')?;
         let start = self.bytes.len();
         let Some(end) = with_digits(start, value.len()) else {

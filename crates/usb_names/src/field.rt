@@ -1,4 +1,4 @@
-//! A field of a class descriptor.
+//! A field of a descriptor.
 
 /// How the number of a field is written.
 #[derive(Clone, Copy, Debug, PartialEq, Eq, Hash)]
@@ -11,9 +11,31 @@ pub enum Form {
     Release,
     /// As the type of a HID class descriptor.
     ReportType,
+    /// As the index of a string (USB 2.0, 9.6.7).
+    Index,
+    /// As a class code.
+    Class,
+    /// As a subclass of the class that stands before it.
+    Subclass,
+    /// As a protocol of the class and the subclass that stand before it.
+    Protocol,
+    /// As bMaxPacketSize0 of a device (9.6.1).
+    DevicePacket,
+    /// As bmAttributes of a configuration (9.6.3).
+    Supply,
+    /// As bMaxPower (9.6.3).
+    Power,
+    /// As bEndpointAddress (9.6.6).
+    Address,
+    /// As bmAttributes of an endpoint.
+    Transfer,
+    /// As wMaxPacketSize.
+    PacketSize,
+    /// As bInterval.
+    Interval,
 }
 
-/// A field of a class descriptor, by its standard name.
+/// A field of a descriptor, by its standard name.
 #[derive(Clone, Copy, Debug)]
 pub struct ClassField {
     /// The standard name.

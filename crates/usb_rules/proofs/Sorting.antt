@@ -1,6 +1,6 @@
 -- The findings in the order of the bytes, rule by rule.
-use Rattle.std.proofs.Common.{◌≡◌, ℕ, suc, ◌+◌, ◌<◌, ◌==◌, Bool, true, false, List, [], ◌∷◌, ◌++◌, refl, ap, sym, ◌∙◌, length, take, get_or, drop, arith, length-append}
-use Rattle.std.specs.Prelude.{Option, Some, None, fold, if◌then◌else◌}
+use Rattle.std.proofs.Common.{◌≡◌, ℕ, suc, ◌+◌, ◌<◌, ◌==◌, Bool, true, false, List, [], ◌∷◌, ◌++◌, refl, ap, sym, ◌∙◌, length, map, take, get_or, drop, arith, length-append}
+use Rattle.std.specs.Prelude.{Option, Some, None, ◌||◌, filter, fold, if◌then◌else◌}
 use Rattle.std.specs.List.{flat_map}
 use Rattle.std.proofs.lemmas.List.{append-nil}
 use Rattle.std.proofs.lemmas.List.Elements.{filter-append}
@@ -19,7 +19,7 @@ use Rattle.usb_rules.specs.declared.finding.Part.TheVariants as parts
 use Rattle.usb_rules.specs.declared.rule.Rule.{Rule}
 use Rattle.usb_rules.specs.declared.rule.Rule.TheVariants as rules
 use Rattle.usb_rules.specs.FindingLine.{rule_number}
-use Rattle.usb_rules.specs.Places.{at_each, at_each_counted, finding, in_other, in_parts, in_sets, when}
+use Rattle.usb_rules.specs.Places.{at_each, at_each_counted, finding, in_other, in_parts, in_sets, stands_in, when}
 use Rattle.usb_rules.specs.Findings.{addresses, associations, attributes, descriptors, endpoint_counts, findings_where, part_findings, interface_counts, missing_default_settings, number_gaps, of_qualifier, packet_sizes, repeated_addresses, repeated_settings, shared_addresses, values}
 use Rattle.usb_rules.specs.InOrder.{association_count, at_associations, at_configuration, at_endpoint, at_interface, by_rule, endpoint_associations, endpoint_in_order, file_in_order, of_rule, other_in_order, part_in_order, set_in_order, setting_associations, setting_in_order, without_sets}
 use Rattle.usb_rules.specs.Rules.{binds_missing_interface, has_number_gap, lacks_default_setting, repeats_address, repeats_setting, shares_address, wrong_address, wrong_attributes, wrong_endpoint_count, wrong_interface_count, wrong_packet_size, wrong_qualifier, wrong_value}
@@ -31,6 +31,15 @@ pub fold_next : {A B : Type 0} (f : B → A → B) (xs : List A) (i : ℕ) (x : 
 fold_next f xs i x old new whole below is whole_is new_is =
     let here : drop i xs ≡ x ∷ drop (i + 1) xs = grind (arith, common_steps) in
     ap (λ b. fold f b (drop (i + 1) xs)) new_is ∙ sym (ap (fold f old) here) ∙ whole_is
+
+-- where no element has the key, none is left
+none_left : {A : Type 0} (here later : Bool) (x : A) (rest : List A) → (here || later) ≡ false → (later ≡ false → rest ≡ []) → (if here then x ∷ rest else rest) ≡ []
+none_left true later x rest h none = grind arith
+none_left false later x rest h none = none h
+
+pub none_of : {A : Type 0} (key : A → ℕ) (n : ℕ) (xs : List A) → stands_in (map key xs) n ≡ false → filter (λ x. key x == n) xs ≡ []
+none_of key n [] h = refl
+none_of key n (x ∷ xs) h = none_left (key x == n) (stands_in (map key xs) n) x (filter (λ x. key x == n) xs) h (none_of key n xs)
 
 pub each_along : {A B : Type 0} (f g : ℕ → A → List B) → ((i : ℕ) (x : A) → f i x ≡ g i x) → (i : ℕ) (xs : List A) → at_each f i xs ≡ at_each g i xs
 each_along f g h i [] = refl

@@ -4,7 +4,7 @@ use Rattle.std.specs.Prelude.{filter}
 use Rattle.std.specs.List.{flat_map, list_any, range_with_len}
 use Rattle.std.proofs.lemmas.Bool.{cases_lt}
 use Rattle.std.proofs.lemmas.Bool.Decides.{nat_tests}
-use Rattle.std.proofs.lemmas.List.{append-nil, length-map, map-append}
+use Rattle.std.proofs.lemmas.List.{append-nil, get_or_default, length-map, map-append}
 use Rattle.std.proofs.lemmas.List.Elements.{filter-append}
 use Rattle.std.proofs.lemmas.Grind.{common_steps, flat_map-append}
 use Rattle.usb_base.specs.Marks.{IsNextAbsent, marked}
@@ -153,6 +153,13 @@ stands_more key xs i x below is =
     ap (λ ys. stands_in (map key ys)) (take_more xs i x below is)
     ∙ ap stands_in (map-append key (take i xs) (x ∷ []))
     ∙ funext _ _ (λ n. any_more (λ k. k == n) (map key (take i xs)) (key x))
+
+-- the same where an element is looked up and its key is marked
+pub stands_next : {A : Type 0} (key : A → ℕ) (xs : List A) (i n : ℕ) (x : A) (old new : ℕ → Bool) → i < length xs → n ≡ key (get_or xs i x)
+    → old ≡ stands_in (map key (take i xs)) → new ≡ marked old n → new ≡ stands_in (map key (take (i + 1) xs))
+stands_next key xs i n x old new below is stood more =
+    more ∙ ap (marked old) is ∙ ap (λ marks. marked marks (key (get_or xs i x))) stood
+    ∙ sym (stands_more key xs i (get_or xs i x) below (get_or_default xs i _ _ below))
 
 -- one setting more stood
 pub stood_more : (settings : List Setting) (j : ℕ) (s : Setting) → j < length settings → s ≡ get_or settings j s

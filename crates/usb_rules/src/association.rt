@@ -10,10 +10,30 @@ use crate::interfaces::Interfaces;
 use crate::place::Place;
 use crate::rule::Rule;
 use std::alloc::AllocError;
-use usb_set::{Association, Extra};
+use usb_set::{Association, Extra, Sequence};
 
 /// Of the associations among these extras, of which the first has this number in its set. Answers the number of the next.
+///
+/// Most descriptors own no extras, and for them nothing is called.
+#[inline(always)]
 pub(crate) fn check_extras(
+    found: &mut Found,
+    interfaces: &Interfaces,
+    place: &Place,
+    number: usize,
+    extras: &Sequence<Extra>,
+) -> Result<usize, AllocError>
+    ensures told { OnOk result (found.new ≡ found.old ++ in_extras place.now (kept interfaces.now).numbers number extras.now) }
+    ensures next { IfOk result (λ next. next ≡ number + association_count extras.now) }
+{
+    if extras.is_empty() {
+        return Ok(number);
+    }
+    check_each(found, interfaces, *place, number, extras)
+}
+
+/// The same, extra by extra.
+fn check_each(
     found: &mut Found,
     interfaces: &Interfaces,
     place: Place,

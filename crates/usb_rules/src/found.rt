@@ -1,11 +1,15 @@
 //! What a walk over a file finds.
-ghost use Rattle.std.specs.Prelude.{◌≡◌, ◌++◌, [], IfOk, OnOk};
+ghost use Rattle.std.specs.Prelude.{◌≡◌, ◌++◌, [], map, IfOk, OnOk};
+ghost use Rattle.usb_base.specs.Marks.{is_marked};
+ghost use Rattle.usb_rules.specs.FindingLine.{rule_number};
+ghost use Rattle.usb_rules.specs.Places.{stands_in};
 
 use crate::finding::Finding;
 use crate::place::Place;
 use crate::rule::Rule;
 use std::alloc::{AllocError, Global};
 use std::marker::Model;
+use usb_base::Marks;
 
 /// The findings of a walk, in its order.
 #[derive(Drop)]
@@ -57,17 +61,22 @@ impl Found {
     pub(crate) fn by_rule(&self, alloc: Global) -> Result<Vec<Finding>, AllocError>
         ensures { IfOk result (λ v. v.items ≡ by_rule self.now) }
     {
+        let broken = broken_rules(&self.findings);
         let mut out = Vec::with_capacity(alloc, self.findings.len())?;
         for rule in Rule::ALL {
-            self.copy_of(rule, &mut out)?;
+            self.copy_of(rule, &broken, &mut out)?;
         }
         Ok(out)
     }
 
-    /// Copies the findings of a rule.
-    fn copy_of(&self, rule: Rule, out: &mut Vec<Finding>) -> Result<(), AllocError>
+    /// Copies the findings of a rule, if it is one of the broken.
+    fn copy_of(&self, rule: Rule, numbers: &Marks, out: &mut Vec<Finding>) -> Result<(), AllocError>
+        requires { is_marked numbers.now ≡ stands_in (map (λ f. rule_number f.rule) self.now) }
         ensures { OnOk result (out.new.items ≡ out.old.items ++ of_rule rule self.now) }
     {
+        if !numbers.has(rule.number()) {
+            return Ok(());
+        }
         for finding in &self.findings {
             if finding.rule.number() == rule.number() {
                 out.push(*finding)?;
@@ -75,4 +84,15 @@ impl Found {
         }
         Ok(())
     }
+}
+
+/// The numbers of the rules that are broken.
+fn broken_rules(findings: &[Finding]) -> Marks
+    ensures { is_marked result ≡ stands_in (map (λ f. rule_number f.rule) findings.now) }
+{
+    let mut numbers = Marks::new();
+    for finding in findings {
+        numbers.add(finding.rule.number());
+    }
+    numbers
 }

@@ -90,6 +90,7 @@ impl Interfaces {
     }
 
     /// Enters the setting, and answers whether one of its number and alternate was entered before.
+    #[inline(always)]
     pub(crate) fn add(&mut self, setting: usize, s: &Setting) -> Result<bool, AllocError>
         ensures again { IfOk result (λ again. again ≡ (kept self.old).alternates s.now.number s.now.alternate) }
         ensures entered { OnOk result (kept self.new ≡ entered setting s.now (kept self.old)) }

@@ -69,7 +69,7 @@ pub(crate) fn check_set_at(
     let passed = &mut known.passed;
     passed.interfaces.clear();
     passed.addresses.clear();
-    let mut number = check_extras(found, whole, place, 0, &c.extras)?;
+    let mut number = check_extras(found, whole, &place, 0, &c.extras)?;
     for (setting, s) in c.settings.iter().enumerate() {
         number = check_setting(found, whole, passed, place.at_setting(setting), number, s)?;
     }
@@ -120,11 +120,11 @@ fn check_setting(
     ensures next { IfOk result (λ next. next ≡ number + setting_associations s.now) }
 {
     check_interface(found, whole, &mut passed.interfaces, place, s)?;
-    let mut next = check_extras(found, whole, place, number, &s.extras)?;
+    let mut next = check_extras(found, whole, &place, number, &s.extras)?;
     passed.addresses.begin(s.number);
     for (endpoint, e) in s.endpoints.iter().enumerate() {
         check_endpoint(found, &mut passed.addresses, place.at_endpoint(endpoint), e)?;
-        next = check_extras(found, whole, place, next, &e.extras)?;
+        next = check_extras(found, whole, &place, next, &e.extras)?;
     }
     Ok(next)
 }

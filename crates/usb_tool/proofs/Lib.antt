@@ -1,4 +1,8 @@
-pub mod Showing
+pub mod Reading
+pub mod Refusals
 pub mod Running
-pub mod Intakes
 pub mod Telling
+pub mod Written
+pub mod FateLemmas
+pub mod LineLemmas
+pub mod NumberLemmas

@@ -17,8 +17,8 @@ use Rattle.usb_bus.specs.declared.fate.Fate.{Fate}
 use Rattle.usb_host.specs.declared.step.Trouble.{Trouble}
 use Rattle.usb_enumeration.specs.Enumerate.{IsEnumeration}
 use Rattle.usb_enumeration.specs.declared.run.Run.{Run}
-use Rattle.usb_log.specs.Log.{IsLogOf, WritesLogLess}
-use Rattle.usb_tool.specs.Failing.{Fails, Succeeds}
+use Rattle.usb_enumeration.specs.Log.{IsLogOf, WritesLogLess}
+use Rattle.usb_tool.specs.Endings.{Fails, Succeeds}
 use Rattle.usb_tool.specs.Input.{Left}
 use Rattle.usb_tool.specs.ResultLines.{refused_line, success_line, trouble_line}
 use Rattle.usb_tool.specs.declared.fault.ToolFault.{ToolFault}

@@ -1,3 +1,3 @@
 -- What no public contract cites.
-pub mod Intake
+pub mod Choosing
 pub mod Telling

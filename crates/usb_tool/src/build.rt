@@ -1,11 +1,13 @@
 //! The command `build`.
-ghost use Rattle.std.specs.Prelude.{◌≡◌, List, ℕ, IfErr, IfOk, OnOk};
+ghost use Rattle.std.specs.Prelude.{List, ℕ, IfErr, IfOk};
+ghost use Rattle.std.specs.Io.KnownBytes.{Appends};
 ghost use Rattle.usb_file_data.specs.File.{File};
-ghost use Rattle.usb_tool.specs.Builds.{BuildFails, Built, RefusesToBuild, WritesBytes};
+ghost use Rattle.usb_tool.specs.Builds.{BuildFails, Built, RefusesToBuild, TellsBytes};
+ghost use Rattle.usb_tool.specs.Endings.{Writes};
 
 use crate::fault::ToolFault;
+use crate::input::read_all;
 use crate::output::write_flushed;
-use crate::whole::read_all;
 use std::alloc::{AllocError, Global};
 use std::io::{Read, Write};
 use usb_file::{DescriptorFile, LISTING_LIMIT, WriteFault, assemble, write_file};
@@ -26,26 +28,22 @@ use usb_file::{DescriptorFile, LISTING_LIMIT, WriteFault, assemble, write_file};
 /// flush failed; a prefix of the bytes is written then. `Memory` when out of memory, and nothing is
 /// written.
 pub fn run_build<R: Read, W: Write>(alloc: Global, r: &mut R, w: &mut W) -> Result<u8, ToolFault>
-    ensures number { IfOk result (λ number. number ≡ 0) }
-    ensures built { OnOk result (Built (R.remaining r.old) (R.remaining r.new) (W.contents w.old) (W.contents w.new)) }
+    ensures built { IfOk result (Built (R.remaining r.old) (R.remaining r.new) (W.contents w.old) (W.contents w.new)) }
     ensures err { IfErr result (BuildFails (R.remaining r.old) (R.remaining r.new) (W.contents w.old) (W.contents w.new)) }
 {
     let text = read_all(alloc, r, LISTING_LIMIT)?;
-    build_text(alloc, &text, w)?;
-    Ok(0)
+    build_text(alloc, &text, w)
 }
 
 /// Writes the bytes of the file that the text lists, and flushes the writer.
-fn build_text<W: Write>(alloc: Global, text: &[u8], w: &mut W) -> Result<(), ToolFault>
-    ensures ok { OnOk result (WritesBytes text.now (W.contents w.old) (W.contents w.new)) }
+fn build_text<W: Write>(alloc: Global, text: &[u8], w: &mut W) -> Result<u8, ToolFault>
+    ensures ok { IfOk result (Writes Appends TellsBytes text.now (W.contents w.old) (W.contents w.new)) }
     ensures err { IfErr result (RefusesToBuild text.now (W.contents w.old) (W.contents w.new)) }
 {
     let file = assemble(alloc, text)?;
     let bytes = bytes_of(alloc, &file)?;
-    match write_flushed(w, &bytes) {
-        Ok(()) => Ok(()),
-        Err(_) => Err(ToolFault::Write),
-    }
+    write_flushed(w, &bytes)?;
+    Ok(0)
 }
 
 /// The bytes of a file that has some.

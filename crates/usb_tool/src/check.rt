@@ -1,10 +1,12 @@
 //! The command `check`.
 ghost use Rattle.std.specs.Prelude.{◌≡◌, ◌++◌, IfErr, IfOk, OnOk};
-ghost use Rattle.usb_tool.specs.Checks.{CheckFails, Checked, RefusesToCheck, WritesChecked, check_status, check_text, finding_line_end, finding_lines};
+ghost use Rattle.std.specs.Io.KnownBytes.{Appends};
+ghost use Rattle.usb_tool.specs.Endings.{Writes};
+ghost use Rattle.usb_tool.specs.Checks.{CheckFails, Checked, RefusesToCheck, TellsFindings, check_status, check_text, finding_line_end, finding_lines};
 
 use crate::fault::ToolFault;
+use crate::input::read_all;
 use crate::output::write_flushed;
-use crate::whole::read_all;
 use std::alloc::{AllocError, Global};
 use std::io::{Read, Write};
 use usb_file::{FILE_LIMIT, Finding, check_input, read_input};
@@ -36,16 +38,14 @@ pub fn run_check<R: Read, W: Write>(alloc: Global, r: &mut R, w: &mut W) -> Resu
 
 /// Writes what is found in the input that the bytes are, and flushes the writer.
 fn check_bytes<W: Write>(alloc: Global, bytes: &[u8], w: &mut W) -> Result<u8, ToolFault>
-    ensures ok { IfOk result (WritesChecked bytes.now (W.contents w.old) (W.contents w.new)) }
+    ensures ok { IfOk result (Writes Appends TellsFindings bytes.now (W.contents w.old) (W.contents w.new)) }
     ensures err { IfErr result (RefusesToCheck bytes.now (W.contents w.old) (W.contents w.new)) }
 {
     let input = read_input(alloc, bytes)?;
     let found = check_input(alloc, &input)?;
     let text = text_of(alloc, &found)?;
-    match write_flushed(w, &text) {
-        Ok(()) => Ok(check_status(&found)),
-        Err(_) => Err(ToolFault::Write),
-    }
+    write_flushed(w, &text)?;
+    Ok(check_status(&found))
 }
 
 /// 1 where something was found.

@@ -6,19 +6,18 @@ ghost use Rattle.usb_tool.specs.ResultLines.{refused_line, success_line, trouble
 ghost use Rattle.usb_tool.specs.inside.Telling.{BreaksRun, EndsWith, IsCutShort, MakesRun};
 
 use crate::fault::ToolFault;
+use crate::input::read_all;
 use crate::output::write_flushed;
 use crate::result_line::{RefusedLine, SuccessLine, TroubleLine};
-use crate::whole::read_all;
 use std::alloc::Global;
 use std::io::{Read, Write};
 use usb_bus::Fate;
 use usb_description::{Description, DescriptionFault};
-use usb_enumeration::{Run, enumerate};
+use usb_enumeration::{Run, enumerate, enumerate_logged};
 use usb_fields::Speed;
 use usb_file::{DescriptorFile, FILE_LIMIT, list, read_file};
 use usb_host::Trouble;
 use usb_listing::write_all;
-use usb_log::enumerate_logged;
 use usb_transfer::Limits;
 
 /// Reads a descriptor file to its end, and enumerates a device of this speed that has these descriptors, over a bus with

@@ -1,18 +1,19 @@
 //! The command `explain`.
-ghost use Rattle.std.specs.Prelude.{◌≡◌, IfErr, IfOk, OnErr, OnOk};
+ghost use Rattle.std.specs.Prelude.{IfErr, IfOk, OnOk};
 ghost use Rattle.std.specs.Io.KnownBytes.{Appends};
 ghost use Rattle.usb_explain.specs.Explanations.{broken_explanation, explanation};
 ghost use Rattle.usb_file.specs.Inputs.{InputRefused, IsInput};
-ghost use Rattle.usb_tool.specs.Explains.{ExplainFails, Explained, RefusesToExplain, WritesExplanation};
-ghost use Rattle.usb_tool.specs.Faults.{fault_of_output};
+ghost use Rattle.usb_tool.specs.Endings.{Writes};
+ghost use Rattle.usb_tool.specs.Explains.{ExplainFails, Explained, RefusesToExplain, TellsExplanation};
 ghost use Rattle.usb_tool.specs.inside.Telling.{IsCutShort};
 
 use crate::fault::ToolFault;
-use crate::whole::read_all;
+use crate::input::read_all;
+use crate::output::finish;
 use std::alloc::Global;
 use std::io::{Read, Write};
 use usb_explain::{Manner, explain, explain_broken};
-use usb_file::{FILE_LIMIT, Input, InputFault, OutFault, read_input};
+use usb_file::{FILE_LIMIT, Input, InputFault, read_input};
 
 /// Reads the input to its end, and writes what its descriptors mean, in words. The input is one configuration set, a
 /// descriptor file or a dump, as that of [`run_show`](crate::run_show) is. The number in `Ok` is 0, whatever is found.
@@ -41,32 +42,34 @@ pub fn run_explain<R: Read, W: Write>(
     w: &mut W,
     manner: Manner,
 ) -> Result<u8, ToolFault>
-    ensures number { IfOk result (λ number. number ≡ 0) }
-    ensures explained { OnOk result (Explained manner (R.remaining r.old) (R.remaining r.new) (W.contents w.old) (W.contents w.new)) }
+    ensures explained { IfOk result (Explained manner (R.remaining r.old) (R.remaining r.new) (W.contents w.old) (W.contents w.new)) }
     ensures err { IfErr result (ExplainFails manner (R.remaining r.old) (R.remaining r.new) (W.contents w.old) (W.contents w.new)) }
 {
     let bytes = read_all(alloc, r, FILE_LIMIT)?;
-    explain_bytes(alloc, &bytes, w, manner)?;
-    Ok(0)
+    explain_bytes(alloc, &bytes, w, manner)
 }
 
-/// Writes the explanation of the bytes, and flushes the writer.
+/// Writes the explanation of the bytes.
 fn explain_bytes<W: Write>(
     alloc: Global,
     bytes: &[u8],
     w: &mut W,
     manner: Manner,
-) -> Result<(), ToolFault>
-    ensures explained { OnOk result (WritesExplanation manner bytes.now (W.contents w.old) (W.contents w.new)) }
+) -> Result<u8, ToolFault>
+    ensures explained { IfOk result (Writes Appends (TellsExplanation manner) bytes.now (W.contents w.old) (W.contents w.new)) }
     ensures err { IfErr result (RefusesToExplain manner bytes.now (W.contents w.old) (W.contents w.new)) }
 {
     match read_input(alloc, bytes) {
-        Ok(input) => explain_input(alloc, bytes, &input, w, manner),
+        Ok(input) => {
+            explain_input(alloc, bytes, &input, w, manner)?;
+            Ok(0)
+        }
         Err(fault) => Err(explain_fault(alloc, bytes, fault, w, manner)),
     }
 }
 
-/// Writes the explanation of the input that the bytes are.
+/// Writes the explanation of the input that the bytes are, and flushes the writer.
+#[tactic(auto, using(crate::proofs::Written::flushed, crate::proofs::Written::not_flushed))]
 fn explain_input<W: Write>(
     alloc: Global,
     bytes: &[u8],
@@ -78,10 +81,7 @@ fn explain_input<W: Write>(
     ensures err { IfErr result (IsCutShort (explanation manner input.now bytes.now) (W.contents w.old) (W.contents w.new)) }
 {
     explain(alloc, bytes, input, manner, w)?;
-    match w.flush() {
-        Ok(()) => Ok(()),
-        Err(_) => Err(ToolFault::Write),
-    }
+    finish(w)
 }
 
 /// Writes the explanation of bytes that are no input, as far as they go, and answers the fault. Out of memory nothing is
@@ -101,24 +101,22 @@ fn explain_fault<W: Write>(
     }
     match explain_front(alloc, bytes, fault, w, manner) {
         Ok(()) => told,
-        Err(out) => ToolFault::from(out),
+        Err(cut) => cut,
     }
 }
 
-/// Writes the explanation of bytes with this fault, as far as they go.
+/// Writes the explanation of bytes with this fault, as far as they go, and flushes the writer.
+#[tactic(auto, using(crate::proofs::Written::flushed, crate::proofs::Written::not_flushed))]
 fn explain_front<W: Write>(
     alloc: Global,
     bytes: &[u8],
     fault: InputFault,
     w: &mut W,
     manner: Manner,
-) -> Result<(), OutFault>
+) -> Result<(), ToolFault>
     ensures explained { OnOk result (Appends (W.contents w.old) (W.contents w.new) (broken_explanation manner fault bytes.now)) }
-    ensures err { IfErr result (λ out. IsCutShort (broken_explanation manner fault bytes.now) (W.contents w.old) (W.contents w.new) (fault_of_output out)) }
+    ensures err { IfErr result (IsCutShort (broken_explanation manner fault bytes.now) (W.contents w.old) (W.contents w.new)) }
 {
     explain_broken(alloc, bytes, fault, manner, w)?;
-    match w.flush() {
-        Ok(()) => Ok(()),
-        Err(_) => Err(OutFault::Write),
-    }
+    finish(w)
 }

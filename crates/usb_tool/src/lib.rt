@@ -8,12 +8,19 @@
 //! (`specs/Builds.antt`). [`run_explain`] writes what the descriptors of an input mean, in words (`specs/Explains.antt`).
 //! [`run_enumerate`] enumerates a device that has the descriptors of a file, over a bus that loses
 //! packets and handshakes, and writes what came of that (`specs/Enumerations.antt`). [`run_enumerate_logged`] writes a log
-//! of it too, whose lines are in the crate `usb_log`.
+//! of it too, whose lines are in the crate `usb_enumeration`.
 //!
 //! [`run`] is the whole program over any standard streams: [`read_line`] reads its command line,
 //! [`ToolFault`] says why a command failed, and [`verdict`] gives the exit status. What a run does is
 //! `specs/Runs.antt`. Where its words could not be taken, [`refuse_words`] gives the line for standard error and
-//! the status. What the words say is in the crate `usb_command_line`.
+//! the status.
+//!
+//! [`read_line`] asks `clap` what the words ask for. Its [`Line`] is a command, and of `enumerate` it has the
+//! [`Options`], which are the texts of its options, and of `explain` [`Explaining`]. Its contract is exact both ways:
+//! the line is that of `clap`'s function of the words, and each fault is `clap`'s own (`specs/CommandLine.antt`).
+//! [`settings_of`] makes the [`Settings`] of an enumeration of these texts, with what holds where an option is
+//! absent (`specs/Settings.antt`). It reads the numbers, and [`read_speed`] and [`read_fates`] the other two
+//! (`specs/OptionValues.antt`). [`manner_of`] says what the options of `explain` mean (`specs/Manners.antt`).
 //!
 //! [`converse`] makes control transfers between a host and a device over a bus that loses packets and handshakes.
 //! It takes the description of the device (crate `usb_description`), how many NAKs the host retries, the requests
@@ -23,30 +30,41 @@
 
 mod build;
 mod check;
+mod clap_command;
+mod command_line;
+mod enumerate_options;
 mod enumeration;
+mod explain_options;
 mod explanation;
+mod fates;
 mod fault;
+mod help;
 mod input;
-mod intake;
+mod manner;
 mod output;
 mod program;
+mod refused_words;
 mod result_line;
-mod set_intake;
+mod settings;
 mod show;
-mod whole;
+mod speed;
 
 pub use build::run_build;
 pub use check::run_check;
+pub use command_line::{Line, read_line};
+pub use enumerate_options::Options;
 pub use enumeration::{run_enumerate, run_enumerate_logged};
+pub use explain_options::Explaining;
 pub use explanation::run_explain;
+pub use fates::{FatesFault, read_fates};
 pub use fault::{ToolFault, verdict};
+pub use manner::{manner_of, read_running_speed};
 pub use program::run;
+pub use refused_words::refuse_words;
+pub use settings::{Settings, SettingsFault, settings_of};
 pub use show::run_show;
+pub use speed::read_speed;
 pub use usb_bus::{Fate, Reply, Talk, converse, laws};
-pub use usb_command_line::{
-    Explaining, FatesFault, Line, Options, Settings, SettingsFault, manner_of, read_fates,
-    read_line, read_running_speed, read_speed, refuse_words, settings_of,
-};
 pub use usb_enumeration;
 pub use usb_enumeration::{Run, enumerate};
 pub use usb_explain::{Look, Manner, RunningSpeed};

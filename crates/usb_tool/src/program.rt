@@ -3,21 +3,23 @@ ghost use Rattle.std.specs.Prelude.{◌≡◌, IfErr, IfOk};
 ghost use Rattle.clap.specs.Values.{kind_of};
 ghost use Rattle.usb_tool.specs.Enumerations.{EnumerateFails, Enumerated};
 ghost use Rattle.usb_tool.specs.Faults.{status_of};
-ghost use Rattle.usb_tool.specs.Runs.{EndsEnumeration, EndsExplanation, KeepsUnlessHelp, Runs, conditions, line_status};
-ghost use Rattle.usb_command_line.specs.Numbers.{settings_status};
+ghost use Rattle.usb_tool.specs.Runs.{EndsEnumeration, EndsExplanation, EndsLine, KeepsUnlessHelp, Runs, conditions, line_status};
+ghost use Rattle.usb_tool.specs.OptionFaults.{settings_status};
 
 use crate::build::run_build;
 use crate::check::run_check;
+use crate::command_line::{Line, read_line};
+use crate::enumerate_options::Options;
 use crate::enumeration::{run_enumerate, run_enumerate_logged};
+use crate::explain_options::Explaining;
 use crate::explanation::run_explain;
 use crate::fault::{ToolFault, verdict};
+use crate::manner::manner_of;
+use crate::settings::{Settings, SettingsFault, settings_of};
 use crate::show::run_show;
 use clap::Error;
 use std::alloc::Global;
 use std::io::{Read, Write};
-use usb_command_line::{
-    Explaining, Line, Options, Settings, SettingsFault, manner_of, read_line, settings_of,
-};
 
 /// The exit status of a command line that asks for nothing that the program does.
 const USAGE: u8 = 2;
@@ -44,16 +46,33 @@ pub fn run<R: Read, W: Write, E: Write>(
     ensures { Runs words.now (R.remaining r.old) (R.remaining r.new) (W.contents w.old) (W.contents w.new) result }
 {
     match read_line(alloc, words) {
-        Ok(Line::Show) => finish(&run_show(alloc, r, w), e),
-        Ok(Line::Check) => finish(&run_check(alloc, r, w), e),
-        Ok(Line::Build) => finish(&run_build(alloc, r, w), e),
-        Ok(Line::Explain(options)) => explain_with(alloc, &options, r, w, e),
-        Ok(Line::Enumerate(options)) => enumerate_with(alloc, &options, r, w, e),
+        Ok(line) => carry_out(alloc, &line, r, w, e),
         Err(error) => tell_refusal(&error, w, e),
     }
 }
 
+/// Carries out what a line asks for.
+#[tactic(auto, using(crate::proofs::Running::command_ends))]
+fn carry_out<R: Read, W: Write, E: Write>(
+    alloc: Global,
+    line: &Line<'_>,
+    r: &mut R,
+    w: &mut W,
+    e: &mut E,
+) -> u8
+    ensures { EndsLine line.now (R.remaining r.old) (R.remaining r.new) (W.contents w.old) (W.contents w.new) result }
+{
+    match line {
+        Line::Show => report(&run_show(alloc, r, w), e),
+        Line::Check => report(&run_check(alloc, r, w), e),
+        Line::Build => report(&run_build(alloc, r, w), e),
+        Line::Explain(options) => explain_with(alloc, options, r, w, e),
+        Line::Enumerate(options) => enumerate_with(alloc, options, r, w, e),
+    }
+}
+
 /// Explains as the options say. A speed that is none is reported before anything is read.
+#[tactic(auto, using(crate::proofs::Running::command_ends))]
 fn explain_with<R: Read, W: Write, E: Write>(
     alloc: Global,
     options: &Explaining<'_>,
@@ -64,7 +83,7 @@ fn explain_with<R: Read, W: Write, E: Write>(
     ensures { EndsExplanation options.now (R.remaining r.old) (R.remaining r.new) (W.contents w.old) (W.contents w.new) result }
 {
     match manner_of(options) {
-        Ok(manner) => finish(&run_explain(alloc, r, w, manner), e),
+        Ok(manner) => report(&run_explain(alloc, r, w, manner), e),
         Err(fault) => refuse(fault, e),
     }
 }
@@ -80,7 +99,7 @@ fn enumerate_with<R: Read, W: Write, E: Write>(
     ensures { EndsEnumeration options.now (R.remaining r.old) (R.remaining r.new) (W.contents w.old) (W.contents w.new) result }
 {
     match settings_of(alloc, options) {
-        Ok(settings) => { finish(&enumerate_as(alloc, &settings, r, w), e) }
+        Ok(settings) => report(&enumerate_as(alloc, &settings, r, w), e),
         Err(fault) => refuse(fault, e),
     }
 }
@@ -112,7 +131,7 @@ fn refuse<E: Write>(fault: SettingsFault, e: &mut E) -> u8
 }
 
 /// The exit status of a command, after the line of its fault.
-fn finish<E: Write>(outcome: &Result<u8, ToolFault>, e: &mut E) -> u8
+fn report<E: Write>(outcome: &Result<u8, ToolFault>, e: &mut E) -> u8
     ensures { result ≡ status_of outcome.now }
 {
     if let Err(fault) = outcome {

@@ -1,15 +1,14 @@
 //! The command `show`.
-ghost use Rattle.std.specs.Prelude.{◌≡◌, ℕ, List, length, true, IfErr, IfOk, OnErr, OnOk};
-ghost use Rattle.usb_tool.specs.inside.Intake.{IsFed, IsIntake};
-ghost use Rattle.usb_tool.specs.Shows.{RefusesToShow, ShowFails, Shown, WritesListing, input_lines};
-ghost use Rattle.usb_file.specs.Inputs.{is_one_set};
+ghost use Rattle.std.specs.Prelude.{IfErr, IfOk, OnErr, OnOk};
+ghost use Rattle.usb_tool.specs.Endings.{Writes};
+ghost use Rattle.usb_tool.specs.Shows.{RefusesToShow, ShowFails, Shown, TellsListing, input_lines};
+ghost use Rattle.usb_tool.specs.inside.Telling.{IsCutShort};
 ghost use Rattle.usb_listing.specs.Output.{AppendsLess};
 ghost use Rattle.std.specs.Io.KnownBytes.{Appends};
 
 use crate::fault::ToolFault;
-use crate::input::read_intake;
-use crate::intake::Intake;
-use crate::set_intake::SetIntake;
+use crate::input::read_all;
+use crate::output::finish;
 use std::alloc::Global;
 use std::io::{Read, Write};
 use usb_file::{FILE_LIMIT, Input, OutFault, list, list_set, read_input};
@@ -34,68 +33,31 @@ use usb_file::{FILE_LIMIT, Input, OutFault, list, list_set, read_input};
 /// of the listing is written then, and may be all of it. `Memory` when out of memory; at least the
 /// last byte of the listing is not written then.
 pub fn run_show<R: Read, W: Write>(alloc: Global, r: &mut R, w: &mut W) -> Result<u8, ToolFault>
-    ensures number { IfOk result (λ number. number ≡ 0) }
-    ensures shown { OnOk result (Shown (R.remaining r.old) (R.remaining r.new) (W.contents w.old) (W.contents w.new)) }
+    ensures shown { IfOk result (Shown (R.remaining r.old) (R.remaining r.new) (W.contents w.old) (W.contents w.new)) }
     ensures err { IfErr result (ShowFails (R.remaining r.old) (R.remaining r.new) (W.contents w.old) (W.contents w.new)) }
 {
-    let (intake, count) = read_intake(alloc, r, FILE_LIMIT)?;
-    show_input(alloc, intake, count, w)?;
-    Ok(0)
+    let bytes = read_all(alloc, r, FILE_LIMIT)?;
+    show_bytes(alloc, &bytes, w)
 }
 
-/// Writes the listing of an input of so many bytes, and flushes the writer.
-fn show_input<W: Write>(
-    alloc: Global,
-    intake: Intake,
-    count: usize,
-    w: &mut W,
-) -> Result<(), ToolFault>
-    ensures shown { OnOk result ((b : List ℕ) → count ≡ length b → IsIntake intake b → WritesListing b (W.contents w.old) (W.contents w.new)) }
-    ensures err { IfErr result (λ fault. (b : List ℕ) → count ≡ length b → IsIntake intake b → RefusesToShow b (W.contents w.old) (W.contents w.new) fault) }
-{
-    list_input(alloc, intake, count, w)?;
-    match w.flush() {
-        Ok(()) => Ok(()),
-        Err(_) => Err(ToolFault::Write),
-    }
-}
-
-fn list_input<W: Write>(
-    alloc: Global,
-    intake: Intake,
-    count: usize,
-    w: &mut W,
-) -> Result<(), ToolFault>
-    ensures shown { OnOk result ((b : List ℕ) → count ≡ length b → IsIntake intake b → WritesListing b (W.contents w.old) (W.contents w.new)) }
-    ensures err { IfErr result (λ fault. (b : List ℕ) → count ≡ length b → IsIntake intake b → RefusesToShow b (W.contents w.old) (W.contents w.new) fault) }
-{
-    match intake {
-        Intake::Set(set) => list_as_set(alloc, set, count, w),
-        Intake::Device(bytes) => list_bytes(alloc, &bytes, w),
-    }
-}
-
-fn list_as_set<W: Write>(
-    alloc: Global,
-    set: SetIntake,
-    count: usize,
-    w: &mut W,
-) -> Result<(), ToolFault>
-    ensures shown { OnOk result ((b : List ℕ) → count ≡ length b → IsFed set b → is_one_set b ≡ true → WritesListing b (W.contents w.old) (W.contents w.new)) }
-    ensures err { IfErr result (λ fault. (b : List ℕ) → count ≡ length b → IsFed set b → is_one_set b ≡ true → RefusesToShow b (W.contents w.old) (W.contents w.new) fault) }
-{
-    let set = set.finish(count)?;
-    list_set(alloc, &set, w)?;
-    Ok(())
-}
-
-fn list_bytes<W: Write>(alloc: Global, bytes: &[u8], w: &mut W) -> Result<(), ToolFault>
-    ensures shown { OnOk result (WritesListing bytes.now (W.contents w.old) (W.contents w.new)) }
+/// Writes the listing of the input that the bytes are.
+fn show_bytes<W: Write>(alloc: Global, bytes: &[u8], w: &mut W) -> Result<u8, ToolFault>
+    ensures ok { IfOk result (Writes Appends TellsListing bytes.now (W.contents w.old) (W.contents w.new)) }
     ensures err { IfErr result (RefusesToShow bytes.now (W.contents w.old) (W.contents w.new)) }
 {
     let input = read_input(alloc, bytes)?;
-    put_lines(alloc, &input, w)?;
-    Ok(())
+    show_input(alloc, &input, w)?;
+    Ok(0)
+}
+
+/// Writes the lines of an input, and flushes the writer.
+#[tactic(auto, using(crate::proofs::Written::flushed, crate::proofs::Written::not_flushed))]
+fn show_input<W: Write>(alloc: Global, input: &Input, w: &mut W) -> Result<(), ToolFault>
+    ensures ok { OnOk result (Appends (W.contents w.old) (W.contents w.new) (input_lines input.now)) }
+    ensures err { IfErr result (IsCutShort (input_lines input.now) (W.contents w.old) (W.contents w.new)) }
+{
+    put_lines(alloc, input, w)?;
+    finish(w)
 }
 
 /// Writes the lines of an input.

@@ -30,3 +30,9 @@ column_within old words indent width =
       left,
     )
     (append_assoc (old ++ replicate indent space) words (replicate (max (width - length words) 1) space))
+
+-- fewer spaces of those behind a text
+pub fewer_spaces : (old : List ℕ) (count : ℕ) → count ≤ 48 → take (length old + count) (old ++ replicate {A = ℕ} 48 32) ≡ old ++ replicate count 32
+fewer_spaces old count some =
+    let space : ℕ = 32 in
+    rw (take-append-add old (replicate 48 space) count, take-replicate count 48 space some) refl

@@ -46,7 +46,7 @@ pub fn put_release(text: &mut Text, number: u16) -> Result<(), AllocError>
     let [high, low] = number.to_be_bytes();
     put_short_byte(text, high)?;
     text.put(".")?;
-    text.put_digits(&[low])
+    text.put_pair(low)
 }
 
 /// Puts a byte in hexadecimal digits, without a leading zero.

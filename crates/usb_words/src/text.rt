@@ -1,5 +1,5 @@
 //! A text that grows at its end.
-ghost use Rattle.std.specs.Prelude.{◌≡◌, ◌≤◌, ◌+◌, ◌-◌, ◌*◌, [], ◌∷◌, ◌++◌, drop, length, max, replicate, take, ◌==◌, IfSome, OnOk};
+ghost use Rattle.std.specs.Prelude.{◌≡◌, ◌≤◌, ◌+◌, ◌-◌, ◌*◌, ◌<◌, [], ◌∷◌, ◌++◌, drop, length, max, replicate, take, ◌==◌, IfSome, OnOk};
 ghost use Rattle.std.specs.Fmt.{decimal};
 ghost use Rattle.usb_words.specs.Columns.{column, filling};
 ghost use Rattle.hex.specs.Hex.{encode_lower};
@@ -7,6 +7,9 @@ ghost use Rattle.hex.specs.Hex.{encode_lower};
 use itoa::Buffer;
 use std::alloc::{AllocError, Global};
 use std::marker::Model;
+
+/// As many spaces as the start of a line has.
+const SPACES: [u8; 48] = [b' '; 48];
 
 /// A text of printable ASCII that grows at its end. In a contract it is its bytes.
 ///
@@ -99,22 +102,51 @@ impl Text {
     }
 
     /// Puts so many spaces.
+    #[inline]
+    #[tactic(auto, using(crate::proofs::Columns::fewer_spaces))]
     pub fn put_spaces(&mut self, count: usize) -> Result<(), AllocError>
         ensures { OnOk result (self.new ≡ self.old ++ replicate count 32) }
     {
         let Some(end) = self.bytes.len().checked_add(count) else {
             return Err(AllocError);
         };
-        self.bytes.resize(end, b' ')
+        if count > SPACES.len() {
+            return self.bytes.resize(end, b' ');
+        }
+        // So many that their number is known costs less than as many as are wanted.
+        self.bytes.extend_from_slice(&SPACES)?;
+        self.bytes.truncate(end);
+        Ok(())
     }
 
     /// Puts a number in decimal digits.
+    #[inline]
     #[tactic(auto, using(std::proofs::lemmas::Fmt::decimal_digit))]
     pub fn put_decimal(&mut self, number: u64) -> Result<(), AllocError>
         ensures { OnOk result (self.new ≡ self.old ++ decimal number) }
     {
         if number < 10 {
-            return self.put_character(b'0' + number as u8);
+            return self.put_character(digit(number));
+        }
+        self.put_long_decimal(number)
+    }
+
+    /// The same of a number of more than one digit.
+    #[tactic(auto, using(crate::proofs::Decimals::two_digits, crate::proofs::Decimals::three_digits))]
+    fn put_long_decimal(&mut self, number: u64) -> Result<(), AllocError>
+        requires { 10 ≤ number }
+        ensures { OnOk result (self.new ≡ self.old ++ decimal number) }
+    {
+        if number < 100 {
+            return self.put_bytes(&[digit(number / 10), digit(number % 10)]);
+        }
+        if number < 1000 {
+            let digits = [
+                digit(number / 100),
+                digit(number / 10 % 10),
+                digit(number % 10),
+            ];
+            return self.put_bytes(&digits);
         }
         self.put(Buffer::new().format(number))
     }
@@ -130,6 +162,17 @@ impl Text {
         self.bytes.resize(end, 0)?;
         let _ = hex::encode_to_slice(bytes, &mut self.bytes.as_mut_slice()[start..]);
         Ok(())
+    }
+
+    /// Puts two lower-case hexadecimal digits.
+    #[inline]
+    pub fn put_pair(&mut self, byte: u8) -> Result<(), AllocError>
+        ensures { OnOk result (self.new ≡ self.old ++ encode_lower (byte ∷ [])) }
+    {
+        let mut digits = [0; 2];
+        // Two digits are room for one byte.
+        let _ = hex::encode_to_slice([byte], &mut digits);
+        self.put_bytes(&digits)
     }
 
     /// Puts words in a column of this width.
@@ -175,6 +218,14 @@ impl Text {
         let used = self.bytes.len().saturating_sub(start);
         self.put_spaces(width.saturating_sub(used).max(1))
     }
+}
+
+/// The digit of a number below ten.
+fn digit(number: u64) -> u8
+    requires { number < 10 }
+    ensures { result ≡ 48 + number }
+{
+    b'0' + number as u8
 }
 
 /// A length and two digits more for each of so many bytes, if there is such a length. There is for all

@@ -1,9 +1,8 @@
 -- The lines of headings and fields are plain, and so are the strings that indices name.
-use Rattle.std.proofs.Common.{◌≡◌, ℕ, zero, suc, ◌<◌, ◌==◌, ◌++◌, true, List, [], ◌∷◌, Option, Some, None, codes, option_and_then, refl}
+use Rattle.std.proofs.Common.{ℕ, zero, suc, ◌==◌, ◌++◌, List, [], ◌∷◌, Option, Some, None, codes, option_and_then, refl}
 use Rattle.std.specs.Prelude.{slice_get}
 use Rattle.std.specs.Fmt.{decimal}
-use Rattle.std.specs.List.{AllByRecursion, flat_map, list_all}
-use Rattle.std.proofs.lemmas.Bool.{and_parts}
+use Rattle.std.specs.List.{AllByRecursion, flat_map}
 use Rattle.hex.specs.Hex.{encode_lower}
 use Rattle.usb_base.specs.Bytes.{AreBytes}
 use Rattle.usb_file_data.specs.declared.file.Strings.{Strings}
@@ -12,12 +11,10 @@ use Rattle.usb_listing.specs.StringListing.{written_unit}
 use Rattle.usb_explained_fields.specs.declared.look.Look.{Look}
 use Rattle.usb_explained_fields.specs.declared.names.Missing.{Missing}
 use Rattle.usb_explained_fields.specs.declared.names.Missing.TheVariants.{NotInInput, NotRead}
-use Rattle.usb_explained_fields.specs.Lines.{digits_line, field_line, field_lines, field_start, heading_line}
+use Rattle.usb_explained_fields.specs.Lines.{digits_line, field_line, field_start, heading_line}
 use Rattle.usb_explained_fields.specs.Names.{StringNames, index_words, missing_words, name_words, named_units, quoted, units_in_first_language}
-use Rattle.usb_explained_fields.specs.Values.{release_value}
-use Rattle.usb_explain.specs.PlainText.{IsPlainText, is_of_text}
+use Rattle.usb_explain.specs.PlainText.{IsPlainText}
 use Rattle.usb_explain.proofs.plain.Texts.{AreWords, decimal_plain, digits_plain, each_plain, either_plain, parts, spaces_plain, unit_plain}
-use Rattle.usb_explain.proofs.plain.Words.{release_plain, word_code_plain}
 
 -- ---- lines
 
@@ -33,26 +30,10 @@ pub field_line_plain : (depth : ℕ) (name value : List ℕ) → IsPlainText nam
 unfolding field_line
 field_line_plain depth name value h k = simp (parts, start_plain depth name h, k) refl
 
--- names of fields
-abbrev pub ArePlain : List (List ℕ) → Type 0
-ArePlain names = list_all (λ name. list_all is_of_text name) names ≡ true
-
-pub field_lines_plain : (depth : ℕ) (names values : List (List ℕ)) (behind : List ℕ)
-    → ArePlain names → AllByRecursion IsPlainText values → IsPlainText behind → IsPlainText (field_lines depth names values behind)
-field_lines_plain depth [] values behind h k l = l
-field_lines_plain depth (name ∷ names) [] behind h k l = l
-field_lines_plain depth (name ∷ names) (value ∷ values) behind h k l =
-    let p = and_parts (list_all is_of_text name) (list_all (λ name. list_all is_of_text name) names) h in
-    simp (parts, field_line_plain depth name value p.0 k.0, field_lines_plain depth names values behind p.1 k.1 l) refl
-
 pub digits_line_plain : (depth : ℕ) (name b : List ℕ) → IsPlainText name → AreBytes b → IsPlainText (digits_line depth name b)
 unfolding digits_line
 digits_line_plain depth name [] h k = refl
 digits_line_plain depth name (x ∷ b) h k = field_line_plain depth name (encode_lower (x ∷ b)) h (digits_plain (x ∷ b) k)
-
-pub release_value_plain : (n : ℕ) → n < 65536 → IsPlainText (release_value n)
-unfolding release_value
-release_value_plain n lt = simp (parts, word_code_plain n lt, release_plain n lt) refl
 
 -- ---- strings
 

@@ -1,5 +1,6 @@
 -- The lines of findings and of faults are plain.
-use Rattle.std.proofs.Common.{ℕ, ◌-◌, List, ◌++◌, Option, Some, None, codes, length, take, refl}
+use Rattle.std.proofs.Common.{ℕ, Bool, List, [], ◌∷◌, ◌++◌, flat_map, Option, Some, None, unwrap_or, codes, refl}
+use Rattle.std.specs.Option.{option_map}
 use Rattle.usb_set.specs.declared.fault.SetWhy.{SetWhy}
 use Rattle.usb_set.specs.declared.fault.SetWhy.TheVariants as whys
 use Rattle.usb_set.specs.Numbers.{why_message as set_message, why_number as set_why_number}
@@ -13,12 +14,10 @@ use Rattle.usb_explained_lines.specs.declared.told.Told.{Told}
 use Rattle.usb_explained_lines.specs.declared.told.Told.TheVariants as told
 use Rattle.usb_explained_lines.specs.Findings.{counts_words, finding_line, told_words}
 use Rattle.usb_explain.specs.declared.role.Role.{Role}
-use Rattle.usb_explain.specs.declared.role.Role.TheVariants.{Device, Qualifier, Configuration, Association, Interface, Endpoint, Raw, Languages, Text}
-use Rattle.usb_explain.specs.declared.standing.SetStanding.{SetStanding}
-use Rattle.usb_explain.specs.declared.standing.SettingStanding.{SettingStanding}
 use Rattle.usb_explain.specs.declared.standing.Standing.{Standing}
 use Rattle.usb_explain.specs.Faults.{fault_text, fault_words, file_message, numbered, trailing_words}
-use Rattle.usb_explain.specs.Findings.{association_findings, device_findings, endpoint_findings, interface_findings, qualifier_findings, role_findings, set_findings_text, setting_findings, told_line}
+use Rattle.usb_explain.specs.Findings.{found_at, line_of, role_findings, told_of}
+use Rattle.usb_explain.specs.Kinds.{depth_of}
 use Rattle.usb_explain.specs.Subjects.{Subject}
 use Rattle.usb_explain.specs.PlainText.{IsPlainText}
 use Rattle.usb_explain.proofs.plain.Texts.{both_plain, decimal_plain, parts, spaces_plain}
@@ -54,49 +53,19 @@ line_plain : (depth : ℕ) (what : Told) → IsPlainText (finding_line depth wha
 unfolding finding_line
 line_plain depth what = simp (parts, spaces_plain, decimal_plain, words_plain what) refl
 
-told_plain : (subject : Subject) (depth : ℕ) (f : Finding) (what : Told) → IsPlainText (told_line subject depth f what)
-unfolding told_line
-told_plain subject depth f what = simp (parts, line_plain depth what) refl
+maybe_line_plain : (depth : ℕ) (what : Option Told) → IsPlainText (unwrap_or (option_map (finding_line depth) what) [])
+maybe_line_plain depth None = refl
+maybe_line_plain depth (Some what) = line_plain depth what
 
-device_findings_plain : (subject : Subject) (d : List ℕ) → IsPlainText (device_findings subject d)
-unfolding device_findings
-device_findings_plain subject d = simp (parts, told_plain) refl
-
-qualifier_findings_plain : (subject : Subject) (d : List ℕ) → IsPlainText (qualifier_findings subject d)
-unfolding qualifier_findings
-qualifier_findings_plain subject d = simp (parts, told_plain) refl
-
-set_findings_plain : (subject : Subject) (set : SetStanding) (d : List ℕ) → IsPlainText (set_findings_text subject set d)
-unfolding set_findings_text
-set_findings_plain subject set d = simp (parts, told_plain) refl
-
-association_findings_plain : (subject : Subject) (set : SetStanding) → IsPlainText (association_findings subject set)
-unfolding association_findings
-association_findings_plain subject set = simp told_plain refl
-
-interface_findings_plain : (subject : Subject) (set : SetStanding) (d behind : List ℕ) → IsPlainText (interface_findings subject set d behind)
-unfolding interface_findings
-interface_findings_plain subject set d behind = simp (parts, told_plain) refl
-
-setting_findings_plain : (subject : Subject) (set : SetStanding) (setting : SettingStanding) → IsPlainText (setting_findings subject set setting)
-unfolding setting_findings
-setting_findings_plain subject set setting = simp (parts, told_plain) refl
-
-endpoint_findings_plain : (subject : Subject) (set : SetStanding) (setting : Option SettingStanding) → IsPlainText (endpoint_findings subject set setting)
-endpoint_findings_plain subject set None = refl
-endpoint_findings_plain subject set (Some setting) = setting_findings_plain subject set setting
+lines_plain : (is_dump : Bool) (s : Standing) (role : Role) (d behind : List ℕ) (found : List Finding) → IsPlainText (flat_map (line_of is_dump s role d behind) found)
+lines_plain is_dump s role d behind [] = refl
+lines_plain is_dump s role d behind (f ∷ found) =
+    both_plain (line_of is_dump s role d behind f) (flat_map (line_of is_dump s role d behind) found)
+    (maybe_line_plain (depth_of s role) (told_of is_dump s role d behind f)) (lines_plain is_dump s role d behind found)
 
 pub findings_plain : (subject : Subject) (s : Standing) (role : Role) (d behind : List ℕ) → IsPlainText (role_findings subject s role d behind)
 unfolding role_findings
-findings_plain subject s Device d behind = device_findings_plain subject d
-findings_plain subject s Qualifier d behind = qualifier_findings_plain subject d
-findings_plain subject s Configuration d behind = set_findings_plain subject s.set d
-findings_plain subject s Association d behind = association_findings_plain subject s.set
-findings_plain subject s Interface d behind = interface_findings_plain subject s.set d (take (s.left - length d) behind)
-findings_plain subject s Endpoint d behind = endpoint_findings_plain subject s.set s.set.setting
-findings_plain subject s Raw d behind = refl
-findings_plain subject s Languages d behind = refl
-findings_plain subject s Text d behind = refl
+findings_plain subject s role d behind = lines_plain subject.is_dump s role d behind (found_at subject s role d behind)
 
 -- ---- faults
 

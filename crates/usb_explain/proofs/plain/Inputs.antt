@@ -10,10 +10,10 @@ use Rattle.usb_file_data.specs.File.{each_string_bytes, file_bytes, other_bytes,
 use Rattle.usb_file_data.proofs.Lists.{bytes_before, bytes_behind}
 use Rattle.usb_file.specs.declared.input.Input.{Input}
 use Rattle.usb_file.specs.declared.input.Input.TheVariants as inputs
-use Rattle.usb_file.specs.Inputs.{IsInput, input_findings}
+use Rattle.usb_file.specs.Inputs.{IsInput}
 use Rattle.usb_explain.specs.declared.manner.Manner.{Manner}
 use Rattle.usb_explain.specs.Explanations.{input_name}
-use Rattle.usb_explain.specs.Subjects.{broken_subject, subject_with}
+use Rattle.usb_explain.specs.Subjects.{broken_subject, findings_in, subject_with}
 use Rattle.usb_explain.specs.Laws.{BrokenIsPlainText, WholeIsPlainText}
 use Rattle.usb_explain.specs.PlainText.{IsPlainText}
 use Rattle.usb_explain.proofs.plain.Texts.{AreWords}
@@ -45,7 +45,7 @@ are_bytes (inputs.Set set) b is = is.fits
 are_bytes (inputs.File file) b is = is.fits
 are_bytes (inputs.Dump file) b is = is.fits
 
-subject_fits : (manner : Manner) (input : Input) (b : List ℕ) → IsInput input b → SubjectFits (subject_with manner input (input_findings input))
+subject_fits : (manner : Manner) (input : Input) (b : List ℕ) → IsInput input b → SubjectFits (subject_with manner input (findings_in input))
 subject_fits manner (inputs.Set set) b is = tt
 subject_fits manner (inputs.File file) b is =
     file_strings_fit file (subst AreBytes is.bytes is.fits)
@@ -58,7 +58,7 @@ name_plain (inputs.Dump file) = refl
 
 pub whole_is_plain : WholeIsPlainText
 whole_is_plain manner input b is =
-    whole_text_plain (subject_with manner input (input_findings input)) (input_name input) (length (input_findings input)) b
+    whole_text_plain (subject_with manner input (findings_in input)) (input_name input) (length (findings_in input)) b
     (subject_fits manner input b is) (name_plain input) (are_bytes input b is)
 
 pub broken_is_plain : BrokenIsPlainText

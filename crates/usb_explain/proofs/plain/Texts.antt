@@ -92,11 +92,6 @@ pub each_plain : (f : ℕ → List ℕ) → ((u : ℕ) → IsWord u → IsPlainT
 each_plain f h [] words = refl
 each_plain f h (u ∷ us) words = simp (parts, h u words.0, each_plain f h us words.1) refl
 
--- a proof and those behind it, as of all texts of a list
-infixr 5 ◌&◌
-pub ◌&◌ : {A B : Type 0} → A → B → A × B
-a & b = (a, b)
-
 -- a text that there may be
 abbrev pub MaybePlain : Option (List ℕ) → Type 0
 MaybePlain None = Unit {0}

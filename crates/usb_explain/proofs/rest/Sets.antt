@@ -1,32 +1,53 @@
--- A walk goes through whole sets.
-use Rattle.std.proofs.Common.{◌≡◌, ◌≤◌, ℕ, ◌+◌, ◌-◌, ◌==◌, ◌&&◌, Bool, true, false, List, [], ◌∷◌, ◌++◌, flat_map, length, Option, Some, refl, sym, ap, subst, ◌∙◌, arith, append_assoc, length-append}
+-- A walk goes through whole sets, and tells their findings.
+use Rattle.std.proofs.Common.{◌≡◌, ◌≤◌, ℕ, ◌+◌, ◌-◌, ◌==◌, ◌&&◌, Bool, true, false, List, [], ◌∷◌, ◌++◌, flat_map, length, map, take, not, Option, Some, None, is_some, unwrap_or, refl, sym, ap, subst, ◌∙◌, arith, append_assoc, length-append}
 use Rattle.std.specs.List.{list_any}
+use Rattle.std.specs.Option.{option_map}
 use Rattle.std.proofs.lemmas.Bool.{cond-true, le-leb, eq-eqb, or_parts}
 use Rattle.usb_base.specs.Bytes.{little_endian_at}
-use Rattle.usb_rules.specs.declared.finding.Part.{Part}
+use Rattle.usb_rules.specs.declared.finding.Finding.{Finding}
 use Rattle.usb_rules.specs.declared.finding.Part.TheVariants as parts
+use Rattle.usb_rules.specs.declared.rule.Rule.{Rule}
+use Rattle.usb_rules.specs.declared.rule.Rule.TheVariants as rules
+use Rattle.usb_rules.specs.Findings.{part_of_kind}
+use Rattle.usb_rules.specs.InOrder.{association_count, at_associations, at_configuration, set_in_order, setting_associations, setting_in_order}
+use Rattle.usb_rules.specs.Places.{at_each, at_each_counted, finding}
+use Rattle.usb_rules.specs.Rules.{has_number_gap, interface_numbers, wrong_attributes, wrong_interface_count, wrong_value}
 use Rattle.usb_set.specs.declared.fault.EncodeFault.TheVariants as encoding
 use Rattle.usb_set.specs.declared.tree.Configuration.{Configuration}
 use Rattle.usb_set.specs.declared.tree.SetKind.{SetKind}
 use Rattle.usb_set.specs.declared.tree.SetKind.TheVariants as kinds
 use Rattle.usb_set.specs.Descriptors.{configuration_descriptor, descriptor_bytes, type_number}
 use Rattle.usb_set.specs.Encoding.{set_length}
-use Rattle.usb_set.specs.Layout.{has_long_descriptor, has_typed_raw, later_descriptors, set_bytes}
+use Rattle.usb_set.specs.Layout.{has_long_descriptor, has_typed_raw, set_bytes}
+use Rattle.usb_set.specs.inside.Trees.{extra_bytes, setting_bytes}
 use Rattle.usb_set.proofs.Items.{two_bytes}
-use Rattle.usb_set.proofs.Layouts.{fine_items}
 use Rattle.usb_set.proofs.Sets.{length-set_bytes}
-use Rattle.usb_file_data.specs.File.{has_no_layout, sets_bytes, whole_set}
+use Rattle.usb_set.proofs.Trees.{set_bytes_is, typed_parts}
+use Rattle.usb_file_data.specs.File.{has_no_layout, is_other_kind, sets_bytes, whole_set}
 use Rattle.usb_file_data.proofs.WholeSets.{no_some}
 use Rattle.usb_survey.specs.declared.speed.RunningSpeed.{RunningSpeed}
+use Rattle.usb_survey.specs.Surveys.{survey_of}
+use Rattle.usb_explained_lines.specs.declared.told.Told.{Told}
+use Rattle.usb_explained_lines.specs.declared.told.Told.TheVariants as told
 use Rattle.usb_explain.specs.declared.role.Role.{Role}
 use Rattle.usb_explain.specs.declared.role.Role.TheVariants as roles
+use Rattle.usb_explain.specs.declared.standing.Owner.TheVariants as owners
+use Rattle.usb_explain.specs.declared.standing.SetStanding.{SetStanding}
 use Rattle.usb_explain.specs.declared.standing.Standing.{Standing}
+use Rattle.usb_explain.specs.Findings.{finding_at, is_here, set_told, told_at}
+use Rattle.usb_explain.specs.Kinds.{depth_of}
 use Rattle.usb_explain.specs.Opening.{entered, opened}
-use Rattle.usb_explain.specs.Passing.{moved, noted, passed, with_set}
+use Rattle.usb_explain.specs.Passing.{noted, passed, with_told}
 use Rattle.usb_explain.specs.Roles.{outer_role, role_if, role_of}
 use Rattle.usb_explain.specs.Subjects.{Subject}
-use Rattle.usb_explain.proofs.rest.Walks.{LeavesNothing}
-use Rattle.usb_explain.proofs.rest.Steps.{Goes, Stands, goes_on, items_go, length_is}
+use Rattle.usb_explain.specs.Trees.{entry, extra_entry, set_counts, set_entries, set_entries_by, setting_count, setting_entries}
+use Rattle.usb_explain.proofs.Spans.{Aim, adding}
+use Rattle.usb_explain.proofs.rest.Steps.{length_is}
+use Rattle.usb_explain.proofs.rest.Counts.{four_parts, interfaces_are}
+use Rattle.usb_explain.proofs.rest.Seen.{Goes, Seen, Step, goes_as, goes_for, goes_twice, seen}
+use Rattle.usb_explain.proofs.rest.Extras.{extras_go, here_is, same_place, seen_goes, taken}
+use Rattle.usb_explain.proofs.rest.Endpoints.{here_four}
+use Rattle.usb_explain.proofs.rest.Settings.{Out, out, out_at, settings_go}
 
 -- outside of sets
 pub outer_at : (s : Standing) (d : List ℕ) → s.left ≡ 0 → role_of s d ≡ outer_role s d
@@ -39,26 +60,53 @@ both_hold a b role h k = rw (h, k) refl
 
 -- ---- the first descriptor of a set
 
-moved_stands : (m n : ℕ) (s : Standing) (known spoken : Bool) → Stands s n known spoken → Stands (moved m s) (n - m) known spoken
-moved_stands m n s known spoken at = record { inside = ap (λ k. k - m) at.inside; device = at.device; languages = at.languages }
+-- how many sets of a kind came
+abbrev pub count_in : SetKind → Out → ℕ
+count_in kinds.Configuration o = o.mains
+count_in kinds.OtherSpeed o = o.others
 
-with_set_stands : (p : Part) (n : ℕ) (s : Standing) (known spoken : Bool) → Stands s n known spoken → Stands (with_set p s) n known spoken
-with_set_stands parts.Device n s known spoken at = record { inside = at.inside; device = at.device; languages = at.languages }
-with_set_stands parts.Main n s known spoken at = record { inside = at.inside; device = at.device; languages = at.languages }
-with_set_stands parts.Other n s known spoken at = record { inside = at.inside; device = at.device; languages = at.languages }
+abbrev pub with_count : SetKind → ℕ → Out → Out
+with_count kinds.Configuration n o = record o { mains = n }
+with_count kinds.OtherSpeed n o = record o { others = n }
 
-opened_stands : (running : Option RunningSpeed) (ahead : List ℕ) (n : ℕ) (s : Standing) (known spoken : Bool) → Stands s n known spoken
-    → Stands (opened running ahead s) (little_endian_at ahead 2) known spoken
-unfolding opened
-opened_stands running ahead n s known spoken at = record { inside = refl; device = at.device; languages = at.languages }
+-- a set begins
+abbrev begun : SetKind → ℕ → Seen → Seen
+begun kind n v = record {
+  left = n;
+  known = v.known;
+  spoken = v.spoken;
+  mains = (with_count kind (count_in kind (out v) + 1) (out v)).mains;
+  others = (with_count kind (count_in kind (out v) + 1) (out v)).others;
+  part = part_of_kind kind;
+  number = count_in kind (out v);
+  associations = 0;
+  settings = 0;
+  setting = None;
+  owner = owners.Configuration;
+}
 
--- behind it, what wTotalLength counts is left without it
-set_stands : (running : Option RunningSpeed) (ahead d : List ℕ) (n : ℕ) (s : Standing) (known spoken : Bool) → Stands s n known spoken
-    → Stands (passed roles.Configuration d (entered roles.Configuration running ahead s)) (little_endian_at ahead 2 - length d) known spoken
-unfolding noted
-set_stands running ahead d n s known spoken at =
-    moved_stands (length d) (little_endian_at ahead 2) (with_set (opened running ahead s).set.part (opened running ahead s)) known spoken
-    (with_set_stands (opened running ahead s).set.part (little_endian_at ahead 2) (opened running ahead s) known spoken (opened_stands running ahead n s known spoken at))
+begun_out : (kind : SetKind) (k n : ℕ) (v : Seen) → out_at k (begun kind n v) ≡ with_count kind (count_in kind (out v) + 1) (out_at k v)
+begun_out kinds.Configuration k n v = refl
+begun_out kinds.OtherSpeed k n v = refl
+
+set_after : (kind : SetKind) (running : Option RunningSpeed) (len : ℕ) (body behind : List ℕ) (s : Standing) (told : ℕ)
+    → (let d : List ℕ = len ∷ type_number kind ∷ body in
+    seen (passed roles.Configuration d (with_told told (entered roles.Configuration running (d ++ behind) s))) ≡ begun kind (little_endian_at (d ++ behind) 2 - length d) (seen s))
+unfolding noted opened
+set_after kinds.Configuration running len body behind s told = refl
+set_after kinds.OtherSpeed running len body behind s told = refl
+
+here_set : (kind : SetKind) (is_dump : Bool) (running : Option RunningSpeed) (s : Standing) (len : ℕ) (body behind : List ℕ) (rule : Rule)
+    → ((set : SetStanding) → is_some (set_told set (len ∷ type_number kind ∷ body) rule) ≡ true)
+    → (let d : List ℕ = len ∷ type_number kind ∷ body in
+    is_here is_dump (entered roles.Configuration running (d ++ behind) s) roles.Configuration d behind (finding rule (part_of_kind kind) (count_in kind (out (seen s))) 0 0) ≡ true)
+unfolding opened finding_at told_at
+here_set kinds.Configuration is_dump running s len body behind rule h =
+    here_is is_dump (opened running (len ∷ 2 ∷ body ++ behind) s) roles.Configuration (len ∷ 2 ∷ body) behind (finding rule parts.Main s.main_sets 0 0)
+    (same_place rule parts.Main s.main_sets 0 0) (h (opened running (len ∷ 2 ∷ body ++ behind) s).set)
+here_set kinds.OtherSpeed is_dump running s len body behind rule h =
+    here_is is_dump (opened running (len ∷ 7 ∷ body ++ behind) s) roles.Configuration (len ∷ 7 ∷ body) behind (finding rule parts.Other s.other_sets 0 0)
+    (same_place rule parts.Other s.other_sets 0 0) (h (opened running (len ∷ 7 ∷ body ++ behind) s).set)
 
 -- either type of its first descriptor begins a set
 set_role : (s : Standing) (kind : SetKind) (len : ℕ) (body : List ℕ) → 9 ≤ length (len ∷ type_number kind ∷ body)
@@ -68,39 +116,154 @@ unfolding outer_role
 set_role s kinds.Configuration len body least most = both_hold _ _ roles.Configuration (le-leb _ _ least) (le-leb _ _ most)
 set_role s kinds.OtherSpeed len body least most = both_hold _ _ roles.Configuration (le-leb _ _ least) (le-leb _ _ most)
 
--- ---- sets
+-- what stands of a set behind its first descriptor: its extras and its settings
+abbrev behind_first : Configuration → List ℕ → List ℕ
+behind_first c behind = flat_map extra_bytes c.extras ++ (flat_map setting_bytes c.settings ++ behind)
 
--- A set whose wTotalLength is the count of its bytes. Behind its first descriptor so many bytes are left as the others have,
--- and none of those begins a set, since no raw one has a type that a set reads.
-pub set_goes : (subject : Subject) (known spoken : Bool) (c : Configuration) (total : ℕ) (behind : List ℕ) → has_typed_raw c ≡ false
-    → length (set_bytes c total) ≡ total → Goes subject 0 known spoken behind → Goes subject 0 known spoken (set_bytes c total ++ behind)
-set_goes subject known spoken c total behind raws whole onward s at =
+-- a set whose wTotalLength is the count of its bytes, of which no raw descriptor has a type that a set reads
+record IsWhole (c : Configuration) (total : ℕ) : Type 0 where
+  raws : has_typed_raw c ≡ false
+  length_is : length ((descriptor_bytes (configuration_descriptor c total) ++ flat_map extra_bytes c.extras) ++ flat_map setting_bytes c.settings) ≡ total
+
+whole_sum : (c : Configuration) (total : ℕ) → IsWhole c total
+    → (length (descriptor_bytes (configuration_descriptor c total)) + length (flat_map extra_bytes c.extras)) + length (flat_map setting_bytes c.settings) ≡ total
+whole_sum c total whole =
+    let d : List ℕ = descriptor_bytes (configuration_descriptor c total) in
+    let x = flat_map extra_bytes c.extras in
+    let y = flat_map setting_bytes c.settings in
+    sym (length-append (d ++ x) y ∙ ap (λ n. n + length y) (length-append d x)) ∙ whole.length_is
+
+first_counted : (running : Option RunningSpeed) (s : Standing) (c : Configuration) (total : ℕ) (behind : List ℕ) → IsWhole c total
+    → (let d : List ℕ = descriptor_bytes (configuration_descriptor c total) in
+    set_told (opened running (d ++ behind_first c behind) s).set d rules.V1 ≡ Some (told.InterfaceCount c.declared_interfaces (length (interface_numbers c.settings))))
+unfolding opened survey_of
+first_counted running s c total behind whole =
+    ap (λ n. Some (told.InterfaceCount c.declared_interfaces n)) (interfaces_are c total (little_endian_at (descriptor_bytes (configuration_descriptor c total)) 2) behind whole.raws (two_bytes total) whole.length_is)
+
+configuration_step : (subject : Subject) (before : List Configuration) (c : Configuration) (total : ℕ) (behind : List ℕ) (s : Standing) → IsWhole c total → s.left ≡ 0
+    → Step subject s roles.Configuration (descriptor_bytes (configuration_descriptor c total)) (behind_first c behind) (at_configuration (part_of_kind c.kind) before (count_in c.kind (out (seen s))) c)
+    (begun c.kind (total - length (descriptor_bytes (configuration_descriptor c total))) (seen s))
+    1 (told.InterfaceCount c.declared_interfaces (length (interface_numbers c.settings)) ∷ [])
+unfolding depth_of told_at
+configuration_step subject before c total behind s whole outside =
     let body : List ℕ = (configuration_descriptor c total).body in
     let d : List ℕ = descriptor_bytes (configuration_descriptor c total) in
-    let more : List ℕ = flat_map descriptor_bytes (later_descriptors c) in
-    let sum : length (d ++ more) ≡ length d + length more = length-append d more in
-    let is : role_of s d ≡ Some roles.Configuration = outer_at s d at.inside ∙ set_role s c.kind (2 + length body) body (omega arith) (omega (arith, two_bytes total, sum, whole)) in
-    let stands = set_stands subject.manner.speed (d ++ (more ++ behind)) d 0 s known spoken at in
-    subst (λ l. LeavesNothing subject s l) (sym (append_assoc d more behind))
-    (goes_on subject s d (more ++ behind) roles.Configuration (length_is (2 + length body) (type_number c.kind) body (more ++ behind) refl) is
-    (items_go subject known spoken (later_descriptors c) behind false (fine_items c raws) onward _
-    (subst (λ n. Stands (passed roles.Configuration d (entered roles.Configuration subject.manner.speed (d ++ (more ++ behind)) s)) n known spoken)
-    (omega (arith, two_bytes total, sum, whole)) stands)))
+    let after_it = behind_first c behind in
+    let f = λ (rule : Rule). finding rule (part_of_kind c.kind) (count_in c.kind (out (seen s))) 0 0 in
+    let here = here_set c.kind subject.is_dump subject.manner.speed s (2 + length body) body after_it in
+    let sum = whole_sum c total whole in
+    let room : length d ≤ total = omega (arith, sum) in
+    record {
+      is = outer_at s d outside ∙ set_role s c.kind (2 + length body) body (omega arith) (omega (arith, two_bytes total, room));
+      own = here_four (is_here subject.is_dump (entered roles.Configuration subject.manner.speed (d ++ after_it) s) roles.Configuration d after_it)
+          (wrong_interface_count c) (has_number_gap c) (wrong_attributes c) (wrong_value before c)
+          (f rules.V1) (f rules.V2) (f rules.V9) (f rules.V10) (here rules.V1 (λ set. refl)) (here rules.V2 (λ set. refl)) (here rules.V9 (λ set. refl)) (here rules.V10 (λ set. refl));
+      after = λ n. set_after c.kind subject.manner.speed (2 + length body) body after_it s n ∙ ap (λ n. begun c.kind (n - length d) (seen s)) (two_bytes total);
+      deep = refl;
+      counted = ap (λ (o : Option Told). unwrap_or (option_map (λ t. t ∷ []) o) [] ++ []) (first_counted subject.manner.speed s c total behind whole);
+    }
 
--- a set against which no reason stands has no such raw one
-whole_set_goes : (subject : Subject) (known spoken : Bool) (c : Configuration) (behind : List ℕ) → has_no_layout c ≡ false
-    → Goes subject 0 known spoken behind → Goes subject 0 known spoken (whole_set c ++ behind)
+configuration_goes : (E : Aim) (subject : Subject) (before : List Configuration) (c : Configuration) (total : ℕ) (v : Seen) (behind : List ℕ) (later : List Finding)
+    → IsWhole c total → v.left ≡ 0
+    → Goes (adding E (entry roles.Configuration 1 (descriptor_bytes (configuration_descriptor c total)) ∷ []) (told.InterfaceCount c.declared_interfaces (length (interface_numbers c.settings)) ∷ [])) subject
+    (begun c.kind (total - length (descriptor_bytes (configuration_descriptor c total))) v) later (behind_first c behind)
+    → Goes E subject v (at_configuration (part_of_kind c.kind) before (count_in c.kind (out v)) c ++ later) (descriptor_bytes (configuration_descriptor c total) ++ behind_first c behind)
+configuration_goes E subject before c total v behind later whole outside onward =
+    let item = configuration_descriptor c total in
+    let d = descriptor_bytes item in
+    seen_goes E subject v (λ v. v.left ≡ 0) roles.Configuration d (behind_first c behind) (λ v. at_configuration (part_of_kind c.kind) before (count_in c.kind (out v)) c)
+    (begun c.kind (total - length d)) later (λ v. 1) (told.InterfaceCount c.declared_interfaces (length (interface_numbers c.settings)) ∷ [])
+    (length_is (2 + length item.body) item.kind item.body (behind_first c behind) refl)
+    (λ s p. configuration_step subject before c total behind s whole p) outside onward
+
+-- ---- sets
+
+-- A set whose wTotalLength is the count of its bytes. Behind its first descriptor so many bytes are left as the others have.
+pub set_goes : (E : Aim) (subject : Subject) (c : Configuration) (before : List Configuration) (total : ℕ) (v : Seen) (behind : List ℕ) (later : List Finding)
+    → has_typed_raw c ≡ false → length (set_bytes c total) ≡ total → v.left ≡ 0
+    → ((w : Seen) → out w ≡ with_count c.kind (count_in c.kind (out v) + 1) (out v) → Goes (adding E (set_entries_by c total) (set_counts c)) subject w later behind)
+    → Goes E subject v (set_in_order (part_of_kind c.kind) before (count_in c.kind (out v)) c ++ later) (set_bytes c total ++ behind)
+set_goes E subject c before total v behind later raws all_bytes outside onward =
+    let d : List ℕ = descriptor_bytes (configuration_descriptor c total) in
+    let x = flat_map extra_bytes c.extras in
+    let y = flat_map setting_bytes c.settings in
+    let typed = typed_parts c raws in
+    let n = association_count c.extras in
+    let first = begun c.kind (total - length d) v in
+    let part = part_of_kind c.kind in
+    let i = count_in c.kind (out v) in
+    let one = at_configuration part before i c in
+    let two = at_associations part i c.settings 0 c.extras in
+    let three = λ (k : ℕ). at_each_counted setting_associations (setting_in_order part i c.settings) 0 k c.settings in
+    let is : set_bytes c total ≡ (d ++ x) ++ y = set_bytes_is c total in
+    let whole : IsWhole c total = record { raws = raws; length_is = ap (λ (l : List ℕ). length l) (sym is) ∙ all_bytes } in
+    let sum = whole_sum c total whole in
+    let none : n ≡ 0 + n = omega arith in
+    let left : (total - length d) - length x ≡ length y = omega (arith, sum) in
+    let counts = told.InterfaceCount c.declared_interfaces (length (interface_numbers c.settings)) in
+    let said : Aim = adding E (entry roles.Configuration 1 d ∷ []) (counts ∷ []) in
+    let with_extras : Aim = adding said (map (extra_entry 2) c.extras) [] in
+    goes_as E subject v (((one ++ two) ++ three n) ++ later) (one ++ (two ++ (three (0 + n) ++ later))) (set_bytes c total ++ behind) (d ++ (x ++ (y ++ behind)))
+    (four_parts one two (three n) later ∙ ap (λ k. one ++ (two ++ (three k ++ later))) none) (ap (λ l. l ++ behind) is ∙ four_parts d x y behind)
+    (configuration_goes E subject before c total v behind (two ++ (three (0 + n) ++ later)) whole outside
+    (extras_go said subject c.settings c.extras first (y ++ behind) (three (0 + n) ++ later) typed.0 (omega (arith, sum))
+    (settings_go with_extras subject c.settings c.settings (taken (length x) n first) behind later typed.1 left
+    (λ w e. goes_for (adding E (set_entries_by c total) (set_counts c)) (adding with_extras (flat_map setting_entries c.settings) (map setting_count c.settings)) subject w later behind
+    (λ r l a h. subst (λ k. E r (entry roles.Configuration 1 d ∷ k) (set_counts c ++ a)) (append_assoc (map (extra_entry 2) c.extras) (flat_map setting_entries c.settings) l) h)
+    (onward w (e ∙ begun_out c.kind 0 (total - length d) v ∙ ap (λ k. with_count c.kind (i + 1) (out_at k v)) (sym outside)))))))
+
+-- from each standing of which this is seen
+abbrev pub GoesOut : Aim → Subject → Out → List Finding → List ℕ → Type 0
+GoesOut E subject o later ahead = (v : Seen) → out v ≡ o → Goes E subject v later ahead
+
+with_twice : (kind : SetKind) (m n : ℕ) (o : Out) → with_count kind m (with_count kind n o) ≡ with_count kind m o
+with_twice kinds.Configuration m n o = refl
+with_twice kinds.OtherSpeed m n o = refl
+
+count_of : (kind : SetKind) (n : ℕ) (o : Out) → count_in kind (with_count kind n o) ≡ n
+count_of kinds.Configuration n o = refl
+count_of kinds.OtherSpeed n o = refl
+
+left_of : (kind : SetKind) (n : ℕ) (o : Out) → (with_count kind n o).left ≡ o.left
+left_of kinds.Configuration n o = refl
+left_of kinds.OtherSpeed n o = refl
+
+same_kind : (kind other : SetKind) → not (type_number other == type_number kind) ≡ false → other ≡ kind
+same_kind kinds.Configuration kinds.Configuration e = refl
+same_kind kinds.Configuration kinds.OtherSpeed e = cc
+same_kind kinds.OtherSpeed kinds.Configuration e = cc
+same_kind kinds.OtherSpeed kinds.OtherSpeed e = refl
+
+-- a set against which no reason stands has no raw descriptor of a type that a set reads
+whole_set_goes : (E : Aim) (subject : Subject) (kind : SetKind) (c : Configuration) (before : List Configuration) (i : ℕ) (o : Out) (v : Seen) (behind : List ℕ) (later : List Finding)
+    → c.kind ≡ kind → o.left ≡ 0 → has_no_layout c ≡ false → out v ≡ with_count kind i o
+    → GoesOut (adding E (set_entries c) (set_counts c)) subject (with_count kind (i + 1) o) later behind
+    → Goes E subject v (set_in_order (part_of_kind kind) before i c ++ later) (whole_set c ++ behind)
 unfolding whole_set
-whole_set_goes subject known spoken c behind allowed onward =
+whole_set_goes E subject kind c before i o v behind later same outside allowed is onward =
     let long = no_some (has_long_descriptor c) encoding.Tail _ allowed in
     let typed = no_some (has_typed_raw c) encoding.RawKind _ long.1 in
-    set_goes subject known spoken c (set_length c) behind typed.0 (length-set_bytes c (set_length c) 0) onward
+    let count : count_in c.kind (out v) ≡ i = ap (λ k. count_in k (out v)) same ∙ ap (λ o. count_in kind o) is ∙ count_of kind i o in
+    let left : v.left ≡ 0 = ap (λ (o : Out). o.left) is ∙ left_of kind i o ∙ outside in
+    goes_as E subject v (set_in_order (part_of_kind kind) before i c ++ later) (set_in_order (part_of_kind c.kind) before (count_in c.kind (out v)) c ++ later)
+    (set_bytes c (set_length c) ++ behind) (set_bytes c (set_length c) ++ behind)
+    (ap (λ k. set_in_order (part_of_kind k) before i c ++ later) (sym same) ∙ ap (λ n. set_in_order (part_of_kind c.kind) before n c ++ later) (sym count)) refl
+    (set_goes E subject c before (set_length c) v behind later typed.0 (length-set_bytes c (set_length c) 0) left
+    (λ w e. onward w (e ∙ ap (λ n. with_count c.kind (n + 1) (out v)) count ∙ ap (λ k. with_count k (i + 1) (out v)) same ∙ ap (λ o. with_count kind (i + 1) o) is
+    ∙ with_twice kind (i + 1) i o)))
 
 -- sets one after another
-pub sets_go : (subject : Subject) (known spoken : Bool) (sets : List Configuration) (behind : List ℕ) → list_any has_no_layout sets ≡ false
-    → Goes subject 0 known spoken behind → Goes subject 0 known spoken (sets_bytes sets ++ behind)
-sets_go subject known spoken [] behind allowed onward = onward
-sets_go subject known spoken (c ∷ sets) behind allowed onward =
+pub sets_go : (E : Aim) (subject : Subject) (kind : SetKind) (all sets : List Configuration) (i : ℕ) (o : Out) (behind : List ℕ) (later : List Finding) → o.left ≡ 0
+    → list_any has_no_layout sets ≡ false → list_any (is_other_kind kind) sets ≡ false → ((n : ℕ) → GoesOut (adding E (flat_map set_entries sets) (flat_map set_counts sets)) subject (with_count kind n o) later behind)
+    → GoesOut E subject (with_count kind i o) (at_each (λ i c. set_in_order (part_of_kind kind) (take i all) i c) i sets ++ later) (sets_bytes sets ++ behind)
+sets_go E subject kind all [] i o behind later outside allowed right onward v is = onward i v is
+sets_go E subject kind all (c ∷ sets) i o behind later outside allowed right onward v is =
     let each = or_parts (has_no_layout c) (list_any has_no_layout sets) allowed in
-    subst (λ l. Goes subject 0 known spoken l) (sym (append_assoc (whole_set c) (sets_bytes sets) behind))
-    (whole_set_goes subject known spoken c (sets_bytes sets ++ behind) each.0 (sets_go subject known spoken sets behind each.1 onward))
+    let same = or_parts (is_other_kind kind c) (list_any (is_other_kind kind) sets) right in
+    let one = set_in_order (part_of_kind kind) (take i all) i c in
+    let rest = at_each (λ i c. set_in_order (part_of_kind kind) (take i all) i c) (i + 1) sets in
+    goes_as E subject v ((one ++ rest) ++ later) (one ++ (rest ++ later)) ((whole_set c ++ sets_bytes sets) ++ behind) (whole_set c ++ (sets_bytes sets ++ behind))
+    (append_assoc one rest later) (append_assoc (whole_set c) (sets_bytes sets) behind)
+    (whole_set_goes E subject kind c (take i all) i o v (sets_bytes sets ++ behind) (rest ++ later) (same_kind kind c.kind same.0) outside each.0 is
+    (sets_go (adding E (set_entries c) (set_counts c)) subject kind all sets (i + 1) o behind later outside each.1 same.1
+    (λ n w at. goes_twice E subject w later behind (set_entries c) (flat_map set_entries sets) (set_counts c) (flat_map set_counts sets) (onward n w at))))

@@ -1,41 +1,55 @@
 -- Walks that come to the end of the bytes, and their text.
-use Rattle.std.proofs.Common.{◌≡◌, ◌≤◌, ℕ, zero, suc, List, [], ◌++◌, flat_map, length, map, drop, Some, sym, ap, subst, ◌∙◌, arith, append-nil, length-drop}
+use Rattle.std.proofs.Common.{◌≡◌, ◌≤◌, ℕ, zero, suc, List, [], ◌++◌, flat_map, length, map, drop, Some, sym, ap, subst, ◌∙◌, arith, append-nil, length-drop, Bool, true, false, cond, ◌∷◌, refl}
 use Rattle.usb_explain.specs.declared.role.Role.{Role}
 use Rattle.usb_explain.specs.declared.standing.Standing.{Standing}
 use Rattle.usb_explain.specs.Explanations.{last_line, whole_end}
-use Rattle.usb_explain.specs.Laws.{Cut, Follow, NothingLeft, lines_of, span_of}
+use Rattle.usb_explain.specs.Laws.{Cut, EachFindingOnce, Follow, NothingLeft, Shown, TellsItsOwn, counts_at, entry_of, findings_of, lines_of, span_of}
+use Rattle.usb_explain.specs.Findings.{found_at, is_here}
+use Rattle.std.specs.List.{AllByRecursion, take_while}
+use Rattle.std.proofs.lemmas.List.Sums.{take_while-cons}
 use Rattle.usb_explain.specs.Roles.{next_role}
 use Rattle.usb_explain.specs.Standings.{start}
 use Rattle.usb_explain.specs.Subjects.{Subject}
+use Rattle.usb_explain.specs.Trees.{counts_in, outline}
 use Rattle.usb_explain.specs.Walks.{behind_next, rest_text, walked}
-use Rattle.usb_explain.proofs.Standings.{start_at}
-use Rattle.usb_explain.proofs.Spans.{Ended, ended_more, ended_none, left_behind, cut_parts, next_bounds, ends_at}
+use Rattle.usb_file.specs.declared.input.Input.{Input}
+use Rattle.usb_file.specs.Inputs.{input_findings}
+use Rattle.usb_explain.proofs.Standings.{start_at, start_told}
+use Rattle.usb_rules.specs.declared.finding.Finding.{Finding}
+use Rattle.usb_rules.specs.InOrder.{by_rule}
+use Rattle.usb_rules.proofs.Sorting.{as_many}
+use Rattle.usb_explain.proofs.Spans.{Aim, Ended, adding, ended_more, ended_none, left_behind, cut_parts, next_bounds, ends_at, shown_next}
 
--- a walk from here leaves nothing of these bytes, if it may take as many steps as there are bytes
-abbrev pub LeavesNothing : Subject → Standing → List ℕ → Type 0
-LeavesNothing subject s ahead = (n : ℕ) → length ahead ≤ n → Ended subject n s ahead
+-- a walk from here ends so, if it may take as many steps as there are bytes
+abbrev pub Ends : Aim → Subject → Standing → List ℕ → Type 0
+Ends E subject s ahead = (n : ℕ) → length ahead ≤ n → Ended E subject n s ahead
 
-pub nothing_at_end : (subject : Subject) (s : Standing) → LeavesNothing subject s []
-nothing_at_end subject s n enough = ended_none subject n s
+pub ends_here : (E : Aim) (subject : Subject) (s : Standing) → drop s.told subject.found ≡ [] → E [] [] [] → Ends E subject s []
+ends_here E subject s none aimed n enough = ended_none E subject n s none aimed
 
 -- a descriptor takes one step, and has two bytes at least
-pub nothing_behind : (subject : Subject) (s : Standing) (ahead : List ℕ) (next : Role × ℕ) → next_role s ahead ≡ Some next
-    → LeavesNothing subject (behind_next subject s ahead next) (drop next.1 ahead) → LeavesNothing subject s ahead
-nothing_behind subject s ahead next e onward zero enough =
+pub ends_behind : (E : Aim) (subject : Subject) (s : Standing) (ahead : List ℕ) (next : Role × ℕ) → next_role s ahead ≡ Some next
+    → Ends (adding E (entry_of (shown_next subject s ahead next) ∷ []) (counts_at subject (shown_next subject s ahead next))) subject (behind_next subject s ahead next) (drop next.1 ahead)
+    → Ends E subject s ahead
+ends_behind E subject s ahead next e onward zero enough =
     let bounds = next_bounds s ahead next e in
     absurd (omega (arith, bounds.0, bounds.1, enough))
-nothing_behind subject s ahead next e onward (suc n) enough =
+ends_behind E subject s ahead next e onward (suc n) enough =
     let bounds = next_bounds s ahead next e in
-    ended_more subject n s ahead next e (onward n (omega (arith, length-drop next.1 ahead, bounds.0, bounds.1, enough)))
+    ended_more E subject n s ahead next e (onward n (omega (arith, length-drop next.1 ahead, bounds.0, bounds.1, enough)))
+
+-- a walk over all bytes of an input shows its descriptors and has its counts
+abbrev pub ShowsAll : Input → Aim
+ShowsAll input rest entries counts = (rest ≡ []) × (entries ≡ outline input) × (counts ≡ counts_in input)
 
 -- the text of a walk that leaves nothing
-pub nothing_left : (subject : Subject) (findings : ℕ) (b first text : List ℕ) → text ≡ first ++ walked (length b) subject (whole_end subject findings b) start b
-    → LeavesNothing subject start b → NothingLeft subject b first (last_line findings) text
-nothing_left subject findings b first text e leaves =
+pub nothing_left : (subject : Subject) (input : Input) (findings : ℕ) (b first text : List ℕ) → text ≡ first ++ walked (length b) subject (whole_end subject findings b) start b
+    → Ends (ShowsAll input) subject start b → NothingLeft subject b first (last_line findings) text
+nothing_left subject input findings b first text e leaves =
     let ended = leaves (length b) (omega arith) in
     let w = ended.walk in
     let ends : length (flat_map (λ d. d.bytes) w.shown) ≡ w.end = ends_at w.shown w.end w.spans in
-    let cut : Cut b w.shown [] = subst (λ l. Cut b w.shown l) ended.no_rest w.cut in
+    let cut : Cut b w.shown [] = subst (λ l. Cut b w.shown l) ended.aimed.0 w.cut in
     let parts : b ≡ flat_map (λ d. d.bytes) w.shown ++ [] = cut_parts w.shown b [] cut in
     let left : drop w.end b ≡ [] = left_behind (flat_map (λ d. d.bytes) w.shown) [] b w.end parts ends in
     let total : w.end ≡ length b = sym ends ∙ ap length (sym (parts ∙ append-nil (flat_map (λ d. d.bytes) w.shown))) in
@@ -46,3 +60,56 @@ nothing_left subject findings b first text e leaves =
       cut = cut;
       spans = subst (λ k. Follow 0 (map span_of w.shown) k) total (subst (λ k. Follow k (map span_of w.shown) w.end) start_at w.spans);
     }
+
+-- those that stand at the front while a test holds pass it
+passed_by : (p : Finding → Bool) (f : Finding) (rest : List Finding) (b : Bool) → p f ≡ b → AllByRecursion (λ f. p f ≡ true) rest
+    → AllByRecursion (λ f. p f ≡ true) (cond b (f ∷ rest) [])
+passed_by p f rest true e all = (e, all)
+passed_by p f rest false e all = tt
+
+all_pass : (p : Finding → Bool) (found : List Finding) → AllByRecursion (λ f. p f ≡ true) (take_while p found)
+all_pass p [] = tt
+all_pass p (f ∷ found) =
+    subst (λ l. AllByRecursion (λ f. p f ≡ true) l) (sym (take_while-cons p f found)) (passed_by p f (take_while p found) (p f) refl (all_pass p found))
+
+all_own : (subject : Subject) (shown : List Shown) → AllByRecursion (TellsItsOwn subject) shown
+unfolding found_at
+all_own subject [] = tt
+all_own subject (d ∷ ds) = (all_pass (is_here subject.is_dump d.standing d.role d.bytes d.behind) (drop d.standing.told subject.found), all_own subject ds)
+
+-- it tells each finding
+nothing_untold : (subject : Subject) (input : Input) (b : List ℕ) (first text : List ℕ) (findings : List Finding)
+    → text ≡ first ++ walked (length b) subject (whole_end subject (length subject.found) b) start b → by_rule subject.found ≡ findings
+    → Ended (ShowsAll input) subject (length b) start b → EachFindingOnce subject b first findings text
+nothing_untold subject input b first text findings e sorts ended =
+    let w = ended.walk in
+    let ends : length (flat_map (λ d. d.bytes) w.shown) ≡ w.end = ends_at w.shown w.end w.spans in
+    let cut : Cut b w.shown [] = subst (λ l. Cut b w.shown l) ended.aimed.0 w.cut in
+    let left : drop w.end b ≡ [] = left_behind (flat_map (λ d. d.bytes) w.shown) [] b w.end (cut_parts w.shown b [] cut) ends in
+    let many : length subject.found ≡ length findings = sym (as_many subject.found) ∙ ap (λ (l : List Finding). length l) sorts in
+    let at_end : whole_end subject (length subject.found) b w.end ≡ last_line (length findings) =
+    ap (λ l. rest_text subject w.end l ++ last_line (length subject.found)) left ∙ ap (λ n. last_line n) many in
+    let told : flat_map (findings_of subject) w.shown ≡ subject.found =
+    sym (append-nil (flat_map (findings_of subject) w.shown)) ∙ ap (λ l. flat_map (findings_of subject) w.shown ++ l) (sym ended.all_told) ∙ w.tells
+    ∙ ap (λ k. drop k subject.found) start_told in
+    record {
+      shown = w.shown;
+      lines = e ∙ ap (λ l. first ++ l) (w.lines subject.manner.look (whole_end subject (length subject.found) b) ∙ ap (λ l. flat_map (lines_of subject) w.shown ++ l) at_end);
+      cut = cut;
+      told = ap (λ l. by_rule l) told ∙ sorts;
+      own = all_own subject w.shown;
+    }
+
+-- with the counts of the input, and the entries of its outline
+pub record Tells (subject : Subject) (input : Input) (bytes first text : List ℕ) : Type 0 where
+  pub tells : EachFindingOnce subject bytes first (input_findings input) text
+  pub entries : map entry_of tells.shown ≡ outline input
+  pub counts : flat_map (counts_at subject) tells.shown ≡ counts_in input
+
+pub all_tells : (subject : Subject) (input : Input) (b first text : List ℕ)
+    → text ≡ first ++ walked (length b) subject (whole_end subject (length subject.found) b) start b → by_rule subject.found ≡ input_findings input
+    → Ends (ShowsAll input) subject start b → Tells subject input b first text
+unfolding nothing_untold
+all_tells subject input b first text e sorts leaves =
+    let ended = leaves (length b) (omega arith) in
+    record { tells = nothing_untold subject input b first text (input_findings input) e sorts ended; entries = ended.aimed.1; counts = ended.aimed.2 }

@@ -5,7 +5,7 @@ use Rattle.usb_listing.specs.declared.output.OutFault.TheVariants as outs
 use Rattle.usb_listing.specs.Output.{AppendsFront, AppendsLess, Held}
 use Rattle.usb_file_data.specs.declared.file.DescriptorFile.{DescriptorFile}
 use Rattle.usb_enumeration.specs.declared.run.Run.{Run}
-use Rattle.usb_log.specs.Log.{WritesLogLess}
+use Rattle.usb_enumeration.specs.Log.{WritesLogLess}
 use Rattle.usb_tool.specs.Enumerations.{Conditions, IsRun}
 use Rattle.usb_tool.specs.declared.fault.ToolFault.{ToolFault}
 use Rattle.usb_tool.specs.declared.fault.ToolFault.TheVariants as faults

@@ -19,10 +19,9 @@ loop-endpoint-init c =
     let other = (claims c.args.passed.now.addresses).elsewhere in
     let at = in_interface c.args.place (entries c.args.whole.now).alternates before.numbers before.alternates s in
     let extras = in_extras c.args.place stands c.args.number s.extras in
-    let told = c.in_ok-next.ensures.told ∙ ap (λ xs. c.check_interface.new.found ++ in_extras c.args.place stands c.args.number xs) c.deref.ensures in
-    let next : c.in_ok-next.next ≡ c.args.number + association_count s.extras = c.in_ok-next.ensures.next ∙ ap (λ xs. c.args.number + association_count xs) c.deref.ensures in
+    let next : c.in_ok-next.next ≡ c.args.number + association_count s.extras = c.in_ok-next.ensures.next in
     record {
-      found = joined_twice old c.check_interface.new.found c.check_extras.new.found at extras _ c.in_ok-check_interface.ensures.told told
+      found = joined_twice old c.check_interface.new.found c.check_extras.new.found at extras _ c.in_ok-check_interface.ensures.told c.in_ok-next.ensures.told
           ∙ ap (λ n. old ++ (at ++ extras ++ at_each_counted endpoint_associations (endpoint_at c.args.place stands other s) 0 n s.endpoints)) next;
       interfaces = c.in_ok-check_interface.ensures.interfaces;
       number = ap (λ t. t.number) c.begin.ensures;
@@ -55,10 +54,9 @@ loop-endpoint-preserved c =
     ∙ ap (λ f. old ++ in_endpoint p f (λ b. now.elsewhere b now.number) e) inv.here
     ∙ ap (λ f. old ++ in_endpoint p here f e) elsewhere in
     let told = c.in_ok-next-2.ensures.told
-    ∙ ap (λ xs. c.check_endpoint.new.found ++ in_extras c.args.place stands n xs) c.deref-in-loop-endpoint.ensures
     ∙ ap (λ xs. xs ++ in_extras c.args.place stands n e.extras) at
     ∙ append_assoc old (in_endpoint p here (λ b. other b s.number) e) (in_extras c.args.place stands n e.extras) in
-    let next : c.in_ok-next-2.next ≡ n + endpoint_associations e = c.in_ok-next-2.ensures.next ∙ ap (λ xs. n + association_count xs) c.deref-in-loop-endpoint.ensures in
+    let next : c.in_ok-next-2.next ≡ n + endpoint_associations e = c.in_ok-next-2.ensures.next in
     record {
       found = counted_next endpoint_associations (endpoint_at c.args.place stands other s) s.endpoints k n _ e old _ _ below is inv.found told next;
       interfaces = inv.interfaces;

@@ -1,8 +1,13 @@
-use Rattle.usb_tool.proofs.Running.{enumeration_ends}
+use Rattle.std.proofs.Common.{inl}
+use Rattle.usb_tool.specs.Enumerations.{EnumerateFails, Enumerated}
+use Rattle.usb_tool.specs.Runs.{conditions}
+use Rattle.usb_tool.proofs.Running.{command_ends}
 use Rattle.usb_tool.proofs.program.enumerate_with.Goals as goal
 
 pub returns-in-Ok : goal.returns-in-Ok
-returns-in-Ok g c =
-    enumeration_ends c.args.options.now c.in-Ok.settings (g.R.Read.remaining c.args.r.now) (g.R.Read.remaining c.enumerate_as.new.r)
-    (g.W.Write.contents c.args.w.now) (g.W.Write.contents c.enumerate_as.new.w) c.finish.result c.enumerate_as.result c.in-Ok.ensures.ok
-    c.enumerate_as.ensures.enumerated c.enumerate_as.ensures.err c.finish.ensures
+returns-in-Ok g c = inl (record {
+  settings = c.in-Ok.settings;
+  settled = c.in-Ok.ensures.ok;
+  ended = command_ends (Enumerated (conditions c.in-Ok.settings)) (EnumerateFails (conditions c.in-Ok.settings)) _ _ _ _ _ _
+      c.enumerate_as.ensures.enumerated c.enumerate_as.ensures.err c.report.ensures;
+})

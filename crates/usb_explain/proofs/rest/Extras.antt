@@ -1,0 +1,161 @@
+-- A walk goes through the extras of a set, and tells their findings.
+use Rattle.std.proofs.Common.{◌≡◌, ◌≤◌, ℕ, ◌+◌, ◌-◌, Bool, true, false, List, [], ◌∷◌, ◌++◌, flat_map, if◌then◌else◌, length, map, Some, None, is_some, refl, sym, ap, subst, ◌∙◌, arith, append_assoc, length-append}
+use Rattle.std.specs.List.{list_any}
+use Rattle.std.proofs.lemmas.Bool.{le-leb, eq-eqb, ne_eqb, or_parts}
+use Rattle.std.proofs.lemmas.List.Concat.{flat_map-append}
+use Rattle.usb_rules.specs.declared.finding.Finding.{Finding}
+use Rattle.usb_rules.specs.declared.finding.Part.{Part}
+use Rattle.usb_rules.specs.declared.rule.Rule.{Rule}
+use Rattle.usb_rules.specs.declared.rule.Rule.TheVariants as rules
+use Rattle.usb_rules.specs.InOrder.{association_count, at_associations}
+use Rattle.usb_rules.specs.Places.{at_each, finding, when}
+use Rattle.usb_rules.specs.Rules.{binds_missing_interface}
+use Rattle.usb_rules.proofs.Walking.{each_append}
+use Rattle.usb_set.specs.declared.extra.Association.{Association}
+use Rattle.usb_set.specs.declared.extra.Extra.{Extra}
+use Rattle.usb_set.specs.declared.extra.Extra.TheVariants as extras
+use Rattle.usb_set.specs.declared.extra.Raw.{Raw}
+use Rattle.usb_set.specs.declared.tree.Setting.{Setting}
+use Rattle.usb_set.specs.Descriptors.{association_descriptor, descriptor_bytes, extra_descriptor, raw_descriptor}
+use Rattle.usb_set.specs.Layout.{is_typed, is_typed_raw}
+use Rattle.usb_set.specs.Parts.{association_in}
+use Rattle.usb_set.specs.inside.Trees.{extra_bytes}
+use Rattle.usb_set.proofs.ExtraLemmas.{untyped}
+use Rattle.usb_survey.specs.Cut.{descriptor_length}
+use Rattle.usb_explain.specs.declared.role.Role.{Role}
+use Rattle.usb_explain.specs.declared.role.Role.TheVariants as roles
+use Rattle.usb_explain.specs.declared.standing.Standing.{Standing}
+use Rattle.usb_explained_lines.specs.declared.told.Told.{Told}
+use Rattle.usb_explain.specs.Findings.{finding_at, is_here, is_same_place, part_number, told_at, told_of}
+use Rattle.usb_explain.specs.Kinds.{below, depth_of}
+use Rattle.usb_explain.specs.Passing.{noted}
+use Rattle.usb_explain.specs.Roles.{inner_role, typed_role}
+use Rattle.usb_explain.specs.Subjects.{Subject}
+use Rattle.usb_explain.specs.Trees.{entry, extra_entry, extra_role}
+use Rattle.usb_explain.proofs.Spans.{Aim, adding}
+use Rattle.usb_explain.proofs.rest.Steps.{inner_at, length_is}
+use Rattle.usb_explain.proofs.rest.Seen.{Goes, Seen, Step, goes_as, here_both, here_when, one_goes, seen}
+
+-- ---- a descriptor by what is seen before it
+
+-- where this holds of what is seen
+pub seen_goes : (E : Aim) (subject : Subject) (v : Seen) (P : Seen → Type 0) (role : Role) (d behind : List ℕ) (mine : Seen → List Finding) (w : Seen → Seen) (later : List Finding)
+    (depth : Seen → ℕ) (counts : List Told)
+    → descriptor_length (d ++ behind) ≡ Some (length d) → ((s : Standing) → P (seen s) → Step subject s role d behind (mine (seen s)) (w (seen s)) (depth (seen s)) counts)
+    → P v → Goes (adding E (entry role (depth v) d ∷ []) counts) subject (w v) later behind → Goes E subject v (mine v ++ later) (d ++ behind)
+seen_goes E subject v P role d behind mine w later depth counts e step holds onward =
+    one_goes E subject v (w v) role d behind (mine v) later (depth v) counts e
+    (λ s is. subst (λ v. Step subject s role d behind (mine v) (w v) (depth v) counts) is (step s (subst P (sym is) holds))) onward
+
+-- ---- whose a finding is
+
+pub here_is : (is_dump : Bool) (s : Standing) (role : Role) (d behind : List ℕ) (f : Finding) → is_same_place f (finding_at s role f.rule) ≡ true
+    → is_some (told_at is_dump s role d behind f.rule) ≡ true → is_here is_dump s role d behind f ≡ true
+unfolding told_of
+here_is is_dump s role d behind f h k = ap (λ b. is_some (if b then told_at is_dump s role d behind f.rule else None)) h ∙ k
+
+pub same_place : (rule : Rule) (p : Part) (i j k : ℕ) → is_same_place (finding rule p i j k) (finding rule p i j k) ≡ true
+same_place rule p i j k = rw (eq-eqb (part_number p) (part_number p) refl, eq-eqb i i refl, eq-eqb j j refl, eq-eqb k k refl) refl
+
+here_association : (is_dump : Bool) (s : Standing) (d behind : List ℕ)
+    → is_here is_dump s roles.Association d behind (finding rules.V13 s.set.part s.set.number s.set.associations 0) ≡ true
+unfolding finding_at told_at
+here_association is_dump s d behind =
+    here_is is_dump s roles.Association d behind (finding rules.V13 s.set.part s.set.number s.set.associations 0)
+    (same_place rules.V13 s.set.part s.set.number s.set.associations 0) refl
+
+-- ---- what is left
+
+-- so many bytes of the set are taken
+abbrev pub less : ℕ → Seen → Seen
+less n v = record v { left = v.left - n }
+
+-- the same with so many associations
+abbrev pub taken : ℕ → ℕ → Seen → Seen
+taken n c v = record v { left = v.left - n; associations = v.associations + c }
+
+pub same_taken : (v : Seen) (left count n c : ℕ) → left ≡ v.left - n → count ≡ v.associations + c → record v { left = left; associations = count } ≡ taken n c v
+same_taken v left count n c e f =
+    ap (λ k. record v { left = k; associations = count }) e ∙ ap (λ k. record v { left = v.left - n; associations = k }) f
+
+-- ---- an extra
+
+not_eleven : (kind : ℕ) → is_typed kind ≡ false → kind ≡ 11 → ⊥
+not_eleven kind e is = let no : true ≡ false = ap is_typed (sym is) ∙ e in cc
+
+raw_role : (s : Standing) (r : Raw) → is_typed r.kind ≡ false → inner_role s (descriptor_bytes (raw_descriptor r)) ≡ Some roles.Raw
+unfolding inner_role
+raw_role s r e =
+    let is = untyped r.kind e in
+    rw (ne_eqb r.kind 2 is.two, ne_eqb r.kind 7 is.seven, ne_eqb r.kind 4 is.four, ne_eqb r.kind 5 is.five, ne_eqb r.kind 11 (not_eleven r.kind e)) refl
+
+association_role : (s : Standing) (a : Association) → inner_role s (descriptor_bytes (association_descriptor a)) ≡ Some roles.Association
+unfolding inner_role
+association_role s a = ap (λ b. Some (typed_role b roles.Association)) (le-leb 8 (length (descriptor_bytes (association_descriptor a))) (omega arith))
+
+abbrev extra_findings : Part → ℕ → List Setting → ℕ → Extra → List Finding
+extra_findings part i settings n x = at_each (λ k a. when (binds_missing_interface settings a) (finding rules.V13 part i k 0)) n (association_in x)
+
+extra_step : (subject : Subject) (settings : List Setting) (x : Extra) (behind : List ℕ) (s : Standing) → is_typed_raw x ≡ false → length (extra_bytes x) ≤ s.left
+    → Step subject s (extra_role x) (extra_bytes x) behind (extra_findings s.set.part s.set.number settings s.set.associations x)
+    (taken (length (extra_bytes x)) (length (association_in x)) (seen s)) (below s.set.owner) []
+unfolding noted depth_of told_at
+extra_step subject settings (extras.Raw r) behind s e room =
+    let same : s.set.associations ≡ s.set.associations + 0 = omega arith in
+    record {
+      is = inner_at s (extra_bytes (extras.Raw r)) s.left refl (omega arith) room ∙ raw_role s r e;
+      own = tt;
+      after = λ told. same_taken (seen s) (s.left - length (extra_bytes (extras.Raw r))) s.set.associations (length (extra_bytes (extras.Raw r))) 0 refl same;
+      deep = refl;
+      counted = refl;
+    }
+extra_step subject settings (extras.Association a) behind s e room =
+    let d = extra_bytes (extras.Association a) in
+    let f = finding rules.V13 s.set.part s.set.number s.set.associations 0 in
+    let here = is_here subject.is_dump s roles.Association d behind in
+    record {
+      is = inner_at s d s.left refl (omega arith) room ∙ association_role s a;
+      own = here_both here (when (binds_missing_interface settings a) f) [] (here_when here (binds_missing_interface settings a) f (λ h. here_association subject.is_dump s d behind)) tt;
+      after = λ told. refl;
+      deep = refl;
+      counted = refl;
+    }
+
+extra_goes : (E : Aim) (subject : Subject) (settings : List Setting) (x : Extra) (v : Seen) (behind : List ℕ) (later : List Finding) → is_typed_raw x ≡ false
+    → length (extra_bytes x) ≤ v.left
+    → Goes (adding E (extra_entry (below v.owner) x ∷ []) []) subject (taken (length (extra_bytes x)) (length (association_in x)) v) later behind
+    → Goes E subject v (extra_findings v.part v.number settings v.associations x ++ later) (extra_bytes x ++ behind)
+extra_goes E subject settings x v behind later e room onward =
+    let item = extra_descriptor x in
+    seen_goes E subject v (λ v. length (extra_bytes x) ≤ v.left) (extra_role x) (extra_bytes x) behind (λ v. extra_findings v.part v.number settings v.associations x)
+    (λ v. taken (length (extra_bytes x)) (length (association_in x)) v) later (λ v. below v.owner) [] (length_is (2 + length item.body) item.kind item.body behind refl)
+    (λ s p. extra_step subject settings x behind s e p) room onward
+
+-- ---- extras one after another
+
+pub count_append : (xs ys : List Extra) → association_count (xs ++ ys) ≡ association_count xs + association_count ys
+count_append xs ys = ap (λ (l : List Association). length l) (flat_map-append association_in xs ys) ∙ length-append (flat_map association_in xs) (flat_map association_in ys)
+
+pub extras_go : (E : Aim) (subject : Subject) (settings : List Setting) (xs : List Extra) (v : Seen) (behind : List ℕ) (later : List Finding) → list_any is_typed_raw xs ≡ false
+    → length (flat_map extra_bytes xs) ≤ v.left
+    → Goes (adding E (map (extra_entry (below v.owner)) xs) []) subject (taken (length (flat_map extra_bytes xs)) (association_count xs) v) later behind
+    → Goes E subject v (at_associations v.part v.number settings v.associations xs ++ later) (flat_map extra_bytes xs ++ behind)
+extras_go E subject settings [] v behind later e room onward =
+    subst (λ w. Goes E subject w later behind) (sym (same_taken v v.left v.associations 0 0 (omega arith) (omega arith))) onward
+extras_go E subject settings (x ∷ xs) v behind later e room onward =
+    let each = or_parts (is_typed_raw x) (list_any is_typed_raw xs) e in
+    let d = extra_bytes x in
+    let more = flat_map extra_bytes xs in
+    let n = length (association_in x) in
+    let one = extra_findings v.part v.number settings v.associations x in
+    let rest = at_associations v.part v.number settings (v.associations + n) xs in
+    let sum : length (d ++ more) ≡ length d + length more = length-append d more in
+    let count : association_count (x ∷ xs) ≡ n + association_count xs = length-append (association_in x) (flat_map association_in xs) in
+    let said : Aim = adding E (extra_entry (below v.owner) x ∷ []) [] in
+    goes_as E subject v (at_associations v.part v.number settings v.associations (x ∷ xs) ++ later) (one ++ (rest ++ later)) ((d ++ more) ++ behind) (d ++ (more ++ behind))
+    (ap (λ l. l ++ later) (each_append (λ k a. when (binds_missing_interface settings a) (finding rules.V13 v.part v.number k 0)) v.associations (association_in x) (flat_map association_in xs))
+    ∙ append_assoc one rest later) (append_assoc d more behind)
+    (extra_goes E subject settings x v (more ++ behind) (rest ++ later) each.0 (omega (arith, room, sum))
+    (extras_go said subject settings xs (taken (length d) n v) behind later each.1 (omega (arith, room, sum))
+    (subst (λ w. Goes (adding said (map (extra_entry (below v.owner)) xs) []) subject w later behind)
+    (sym (same_taken v ((v.left - length d) - length more) ((v.associations + n) + association_count xs) (length (d ++ more)) (association_count (x ∷ xs)) (omega (arith, sum)) (omega (arith, count)))) onward)))

@@ -1,0 +1,170 @@
+-- A walk goes through the settings of a set, and tells their findings.
+use Rattle.std.proofs.Common.{◌≡◌, ℕ, ◌+◌, ◌-◌, Bool, true, false, List, [], ◌∷◌, ◌++◌, flat_map, length, map, take, Some, is_some, refl, ap, subst, ◌∙◌, arith, append_assoc, length-append}
+use Rattle.std.specs.List.{list_any}
+use Rattle.std.proofs.lemmas.Bool.{le-leb, or_parts}
+use Rattle.usb_rules.specs.declared.finding.Finding.{Finding}
+use Rattle.usb_rules.specs.declared.rule.Rule.{Rule}
+use Rattle.usb_rules.specs.declared.rule.Rule.TheVariants as rules
+use Rattle.usb_rules.specs.InOrder.{association_count, at_associations, at_interface, endpoint_associations, endpoint_in_order, setting_associations, setting_in_order}
+use Rattle.usb_rules.specs.Places.{at_each_counted, finding, when}
+use Rattle.usb_rules.specs.Rules.{lacks_default_setting, repeats_setting, wrong_endpoint_count}
+use Rattle.usb_set.specs.declared.tree.Endpoint.{Endpoint}
+use Rattle.usb_set.specs.declared.tree.Setting.{Setting}
+use Rattle.usb_set.specs.Descriptors.{descriptor_bytes, interface_descriptor}
+use Rattle.usb_set.specs.inside.Trees.{endpoint_bytes, extra_bytes, is_setting_typed, setting_bytes}
+use Rattle.usb_set.proofs.Trees.{setting_typed_parts}
+use Rattle.usb_explain.specs.declared.role.Role.TheVariants as roles
+use Rattle.usb_explained_lines.specs.declared.told.Told.TheVariants as told
+use Rattle.usb_explain.specs.declared.standing.Owner.TheVariants as owners
+use Rattle.usb_explain.specs.declared.standing.Standing.{Standing}
+use Rattle.usb_explain.specs.Findings.{finding_at, interface_told, is_here, told_at}
+use Rattle.usb_explain.specs.Kinds.{depth_of}
+use Rattle.usb_explain.specs.Passing.{noted}
+use Rattle.usb_explain.specs.Roles.{inner_role, typed_role}
+use Rattle.usb_explain.specs.Subjects.{Subject}
+use Rattle.usb_explain.specs.Trees.{OutlineEntry, endpoint_entries, entry, extra_entry, setting_count, setting_entries}
+use Rattle.usb_explain.proofs.Spans.{Aim, adding}
+use Rattle.usb_explain.proofs.rest.Steps.{inner_at, length_is}
+use Rattle.usb_explain.proofs.rest.Counts.{endpoints_are, four_parts}
+use Rattle.usb_explain.proofs.rest.Seen.{AllHere, Goes, Seen, Step, goes_as, goes_for, here_both, here_when, seen}
+use Rattle.usb_explain.proofs.rest.Extras.{count_append, extras_go, here_is, same_place, seen_goes, taken}
+use Rattle.usb_explain.proofs.rest.Endpoints.{endpoints_go}
+
+-- ---- an interface
+
+here_interface : (is_dump : Bool) (s : Standing) (d behind : List ℕ) (rule : Rule) → ((b : List ℕ) → is_some (interface_told d b rule) ≡ true)
+    → is_here is_dump s roles.Interface d behind (finding rule s.set.part s.set.number s.set.settings 0) ≡ true
+unfolding finding_at told_at
+here_interface is_dump s d behind rule h =
+    here_is is_dump s roles.Interface d behind (finding rule s.set.part s.set.number s.set.settings 0) (same_place rule s.set.part s.set.number s.set.settings 0) (h (take (s.left - length d) behind))
+
+interface_role : (s : Standing) (t : Setting) → inner_role s (descriptor_bytes (interface_descriptor t)) ≡ Some roles.Interface
+unfolding inner_role
+interface_role s t = ap (λ b. Some (typed_role b roles.Interface)) (le-leb 9 (length (descriptor_bytes (interface_descriptor t))) (omega arith))
+
+-- a setting begins
+abbrev begun_setting : ℕ → Seen → Seen
+begun_setting n v = record v { left = v.left - n; settings = v.settings + 1; setting = Some (v.settings, 0); owner = owners.Interface }
+
+here_three : (here : Finding → Bool) (a b c : Bool) (f g h : Finding) → here f ≡ true → here g ≡ true → here h ≡ true → AllHere here (when a f ++ when b g ++ when c h)
+here_three here a b c f g h one two three =
+    here_both here (when a f ++ when b g) (when c h)
+    (here_both here (when a f) (when b g) (here_when here a f (λ _. one)) (here_when here b g (λ _. two))) (here_when here c h (λ _. three))
+
+-- what stands of its set behind an interface: its extras, its endpoints, and the settings behind it
+abbrev behind_interface : Setting → List Setting → List ℕ → List ℕ
+behind_interface t ts behind = flat_map extra_bytes t.extras ++ (flat_map endpoint_bytes t.endpoints ++ (flat_map setting_bytes ts ++ behind))
+
+setting_sum : (t : Setting) (ts : List Setting)
+    → length (flat_map setting_bytes (t ∷ ts)) ≡ length (descriptor_bytes (interface_descriptor t))
+    + (length (flat_map extra_bytes t.extras) + (length (flat_map endpoint_bytes t.endpoints) + length (flat_map setting_bytes ts)))
+setting_sum t ts =
+    let d = descriptor_bytes (interface_descriptor t) in
+    let x = flat_map extra_bytes t.extras in
+    let y = flat_map endpoint_bytes t.endpoints in
+    let more = flat_map setting_bytes ts in
+    let sum : length (((d ++ x) ++ y) ++ more) ≡ ((length d + length x) + length y) + length more =
+    length-append ((d ++ x) ++ y) more ∙ ap (λ n. n + length more) (length-append (d ++ x) y ∙ ap (λ n. n + length y) (length-append d x)) in
+    omega (arith, sum)
+
+interface_step : (subject : Subject) (all : List Setting) (t : Setting) (ts : List Setting) (behind : List ℕ) (s : Standing) → is_setting_typed t ≡ false
+    → s.left ≡ length (flat_map setting_bytes (t ∷ ts))
+    → Step subject s roles.Interface (descriptor_bytes (interface_descriptor t)) (behind_interface t ts behind) (at_interface s.set.part s.set.number all s.set.settings t)
+    (begun_setting (length (descriptor_bytes (interface_descriptor t))) (seen s)) 2 (setting_count t ∷ [])
+unfolding noted depth_of told_at
+interface_step subject all t ts behind s typed left =
+    let d = descriptor_bytes (interface_descriptor t) in
+    let j = s.set.settings in
+    let f = λ (rule : Rule). finding rule s.set.part s.set.number j 0 in
+    let here = here_interface subject.is_dump s d (behind_interface t ts behind) in
+    let sum = setting_sum t ts in
+    record {
+      is = inner_at s d s.left refl (omega arith) (omega (arith, left, sum)) ∙ interface_role s t;
+      own = here_three (is_here subject.is_dump s roles.Interface d (behind_interface t ts behind)) (repeats_setting (take j all) t) (lacks_default_setting all (take j all) t) (wrong_endpoint_count t)
+          (f rules.V3) (f rules.V4) (f rules.V5) (here rules.V3 (λ b. refl)) (here rules.V4 (λ b. refl)) (here rules.V5 (λ b. refl));
+      after = λ n. refl;
+      deep = refl;
+      counted = ap (λ n. told.EndpointCount t.declared_endpoints n ∷ []) (endpoints_are t ts (s.left - length d) behind typed (omega (arith, left, sum)));
+    }
+
+interface_goes : (E : Aim) (subject : Subject) (all : List Setting) (t : Setting) (ts : List Setting) (v : Seen) (behind : List ℕ) (later : List Finding)
+    → is_setting_typed t ≡ false → v.left ≡ length (flat_map setting_bytes (t ∷ ts))
+    → Goes (adding E (entry roles.Interface 2 (descriptor_bytes (interface_descriptor t)) ∷ []) (setting_count t ∷ [])) subject
+    (begun_setting (length (descriptor_bytes (interface_descriptor t))) v) later (behind_interface t ts behind)
+    → Goes E subject v (at_interface v.part v.number all v.settings t ++ later) (descriptor_bytes (interface_descriptor t) ++ behind_interface t ts behind)
+interface_goes E subject all t ts v behind later typed left onward =
+    let item = interface_descriptor t in
+    let d = descriptor_bytes item in
+    seen_goes E subject v (λ v. v.left ≡ length (flat_map setting_bytes (t ∷ ts))) roles.Interface d (behind_interface t ts behind)
+    (λ v. at_interface v.part v.number all v.settings t) (begun_setting (length d)) later (λ v. 2) (setting_count t ∷ [])
+    (length_is (2 + length item.body) item.kind item.body (behind_interface t ts behind) refl) (λ s p. interface_step subject all t ts behind s typed p) left onward
+
+-- ---- settings one after another, each with its extras and its endpoints
+
+-- what is seen outside of sets
+pub record Out : Type 0 where
+  pub left : ℕ
+  pub known : Bool
+  pub spoken : Bool
+  pub mains : ℕ
+  pub others : ℕ
+
+abbrev pub out : Seen → Out
+out v = record { left = v.left; known = v.known; spoken = v.spoken; mains = v.mains; others = v.others }
+
+abbrev pub out_at : ℕ → Seen → Out
+out_at n v = record (out v) { left = n }
+
+five_parts : {A : Type 0} (a b c d e : List A) → (((a ++ b) ++ c) ++ d) ++ e ≡ a ++ (b ++ (c ++ (d ++ e)))
+five_parts a b c d e = append_assoc ((a ++ b) ++ c) d e ∙ four_parts a b c (d ++ e)
+
+-- descriptors of a setting and of those behind it
+setting_joined : (t : Setting) (ts : List Setting) (c : List OutlineEntry)
+    → flat_map setting_entries (t ∷ ts) ++ c
+    ≡ entry roles.Interface 2 (descriptor_bytes (interface_descriptor t)) ∷ (map (extra_entry 3) t.extras ++ (flat_map endpoint_entries t.endpoints ++ (flat_map setting_entries ts ++ c)))
+setting_joined t ts c =
+    let one = entry roles.Interface 2 (descriptor_bytes (interface_descriptor t)) in
+    let x = map (extra_entry 3) t.extras in
+    let y = flat_map endpoint_entries t.endpoints in
+    append_assoc (setting_entries t) (flat_map setting_entries ts) c
+    ∙ ap (λ l. one ∷ l) (append_assoc x y (flat_map setting_entries ts ++ c))
+
+pub settings_go : (E : Aim) (subject : Subject) (all : List Setting) (ts : List Setting) (v : Seen) (behind : List ℕ) (later : List Finding)
+    → list_any is_setting_typed ts ≡ false → v.left ≡ length (flat_map setting_bytes ts)
+    → ((w : Seen) → out w ≡ out_at 0 v → Goes (adding E (flat_map setting_entries ts) (map setting_count ts)) subject w later behind)
+    → Goes E subject v (at_each_counted setting_associations (setting_in_order v.part v.number all) v.settings v.associations ts ++ later) (flat_map setting_bytes ts ++ behind)
+settings_go E subject all [] v behind later typed none onward = onward v (ap (λ n. out_at n v) none)
+settings_go E subject all (t ∷ ts) v behind later typed whole onward =
+    let each = or_parts (is_setting_typed t) (list_any is_setting_typed ts) typed in
+    let parts = setting_typed_parts t each.0 in
+    let d = descriptor_bytes (interface_descriptor t) in
+    let x = flat_map extra_bytes t.extras in
+    let y = flat_map endpoint_bytes t.endpoints in
+    let more = flat_map setting_bytes ts in
+    let inner = flat_map (λ (e : Endpoint). e.extras) t.endpoints in
+    let n = association_count t.extras in
+    let m = association_count inner in
+    let j = v.settings in
+    let begun = begun_setting (length d) v in
+    let passed = taken (length x) n begun in
+    let one = at_interface v.part v.number all j t in
+    let two = at_associations v.part v.number all v.associations t.extras in
+    let three = at_each_counted endpoint_associations (endpoint_in_order v.part v.number all j t) 0 (v.associations + n) t.endpoints in
+    let four = λ (k : ℕ). at_each_counted setting_associations (setting_in_order v.part v.number all) (j + 1) k ts in
+    let rest = four (v.associations + setting_associations t) in
+    let sum = setting_sum t ts in
+    let count : v.associations + setting_associations t ≡ (v.associations + n) + m = omega (arith, count_append t.extras inner) in
+    let left : ((v.left - length d) - length x) - length y ≡ length more = omega (arith, whole, sum) in
+    let said : Aim = adding E (entry roles.Interface 2 d ∷ []) (setting_count t ∷ []) in
+    let with_extras : Aim = adding said (map (extra_entry 3) t.extras) [] in
+    let with_endpoints : Aim = adding with_extras (flat_map endpoint_entries t.endpoints) [] in
+    goes_as E subject v ((((one ++ two) ++ three) ++ rest) ++ later) (one ++ (two ++ (three ++ (rest ++ later))))
+    ((((d ++ x) ++ y) ++ more) ++ behind) (d ++ (x ++ (y ++ (more ++ behind)))) (five_parts one two three rest later) (five_parts d x y more behind)
+    (interface_goes E subject all t ts v behind (two ++ (three ++ (rest ++ later))) each.0 whole
+    (extras_go said subject all t.extras begun (y ++ (more ++ behind)) (three ++ (rest ++ later)) parts.0 (omega (arith, whole, sum))
+    (endpoints_go with_extras subject all j t t.endpoints 0 passed (more ++ behind) (rest ++ later) parts.1 (omega (arith, whole, sum))
+    (λ o w. let u : Seen = record (taken (length y) m passed) { setting = o; owner = w } in
+    goes_as with_endpoints subject u (rest ++ later) (four ((v.associations + n) + m) ++ later) (more ++ behind) (more ++ behind) (ap (λ k. four k ++ later) count) refl
+    (settings_go with_endpoints subject all ts u behind later each.1 left
+    (λ w e. goes_for (adding E (flat_map setting_entries (t ∷ ts)) (map setting_count (t ∷ ts))) (adding with_endpoints (flat_map setting_entries ts) (map setting_count ts)) subject w later behind
+    (λ r c a h. subst (λ l. E r l (map setting_count (t ∷ ts) ++ a)) (setting_joined t ts c) h) (onward w e)))))))

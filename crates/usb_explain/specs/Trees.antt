@@ -1,0 +1,100 @@
+-- The outline of an input: the descriptors of its tree, each with its depth. And the interfaces and endpoints of its sets,
+-- counted.
+use Rattle.std.specs.Prelude.{ℕ, List, [], ◌∷◌, ◌++◌, length, map, Option, Some, None}
+use Rattle.std.specs.List.{flat_map}
+use Rattle.usb_fields.specs.Device.{device_bytes}
+use Rattle.usb_fields.specs.Qualifier.{qualifier_bytes}
+use Rattle.usb_fields.specs.Units.{units_bytes}
+use Rattle.usb_set.specs.declared.extra.Extra.{Extra}
+use Rattle.usb_set.specs.declared.extra.Extra.TheVariants as extras
+use Rattle.usb_set.specs.declared.tree.Endpoint.{Endpoint}
+use Rattle.usb_set.specs.declared.tree.Setting.{Setting}
+use Rattle.usb_set.specs.declared.tree.Configuration.{Configuration}
+use Rattle.usb_set.specs.Descriptors.{configuration_descriptor, descriptor_bytes, endpoint_descriptor, extra_descriptor, interface_descriptor}
+use Rattle.usb_set.specs.Encoding.{set_length}
+use Rattle.usb_file_data.specs.declared.file.Other.{Other}
+use Rattle.usb_file_data.specs.declared.file.Strings.{Strings}
+use Rattle.usb_file_data.specs.Named.{other_sets}
+use Rattle.usb_file.specs.declared.input.Input.{Input}
+use Rattle.usb_file.specs.declared.input.Input.TheVariants as inputs
+use Rattle.usb_rules.specs.Rules.{interface_numbers}
+use Rattle.usb_explained_lines.specs.declared.told.Told.{Told}
+use Rattle.usb_explained_lines.specs.declared.told.Told.TheVariants as told
+use Rattle.usb_explain.specs.declared.role.Role.{Role}
+use Rattle.usb_explain.specs.declared.role.Role.TheVariants as roles
+
+-- An entry of an outline is a descriptor: what it is, its depth, and its bytes. It belongs to the last one before it that
+-- is less deep.
+pub record OutlineEntry : Type 0 where
+  pub role : Role
+  pub depth : ℕ
+  pub bytes : List ℕ
+
+abbrev pub entry : Role → ℕ → List ℕ → OutlineEntry
+entry role depth bytes = record { role = role; depth = depth; bytes = bytes }
+
+-- an association is one, and any other extra is raw bytes
+abbrev pub extra_role : Extra → Role
+extra_role (extras.Raw raw) = roles.Raw
+extra_role (extras.Association association) = roles.Association
+
+-- an extra is one deeper than what it belongs to
+abbrev pub extra_entry : ℕ → Extra → OutlineEntry
+extra_entry depth x = entry (extra_role x) depth (descriptor_bytes (extra_descriptor x))
+
+-- an endpoint and its extras
+abbrev pub endpoint_entries : Endpoint → List OutlineEntry
+endpoint_entries e = entry roles.Endpoint 3 (descriptor_bytes (endpoint_descriptor e)) ∷ map (extra_entry 4) e.extras
+
+-- a setting, its extras, and its endpoints
+abbrev pub setting_entries : Setting → List OutlineEntry
+setting_entries s =
+    entry roles.Interface 2 (descriptor_bytes (interface_descriptor s)) ∷ map (extra_entry 3) s.extras ++ flat_map endpoint_entries s.endpoints
+
+-- a set of this wTotalLength, its extras, and its settings
+abbrev pub set_entries_by : Configuration → ℕ → List OutlineEntry
+set_entries_by c total =
+    entry roles.Configuration 1 (descriptor_bytes (configuration_descriptor c total)) ∷ map (extra_entry 2) c.extras ++ flat_map setting_entries c.settings
+
+-- a set, whose wTotalLength is the count of its bytes
+abbrev pub set_entries : Configuration → List OutlineEntry
+set_entries c = set_entries_by c (set_length c)
+
+-- the qualifier and the sets of the other speed
+abbrev pub other_entries : Option Other → List OutlineEntry
+other_entries None = []
+other_entries (Some o) = entry roles.Qualifier 0 (qualifier_bytes o.qualifier) ∷ flat_map set_entries o.sets
+
+-- a string
+abbrev pub text_entry : List ℕ → OutlineEntry
+text_entry units = entry roles.Text 0 (units_bytes units)
+
+-- the language list and the strings
+abbrev pub string_entries : Option Strings → List OutlineEntry
+string_entries None = []
+string_entries (Some s) = entry roles.Languages 0 (units_bytes s.languages) ∷ map text_entry s.texts
+
+-- the outline of an input: all its descriptors, in the order of its bytes
+abbrev pub outline : Input → List OutlineEntry
+outline (inputs.Set set) = set_entries set
+outline (inputs.File file) =
+    entry roles.Device 0 (device_bytes file.device) ∷ flat_map set_entries file.sets ++ other_entries file.other ++ string_entries file.strings
+outline (inputs.Dump file) = entry roles.Device 0 (device_bytes file.device) ∷ flat_map set_entries file.sets
+
+-- how many endpoints a setting says and has, as rule V5 judges it
+abbrev pub setting_count : Setting → Told
+setting_count s = told.EndpointCount s.declared_endpoints (length s.endpoints)
+
+-- how many interfaces a set says and has, of distinct numbers, as rule V1 judges it; and how many endpoints each setting
+abbrev pub set_counts : Configuration → List Told
+set_counts c = told.InterfaceCount c.declared_interfaces (length (interface_numbers c.settings)) ∷ map setting_count c.settings
+
+-- the sets of an input, in the order of its bytes
+abbrev pub sets_in : Input → List Configuration
+sets_in (inputs.Set set) = set ∷ []
+sets_in (inputs.File file) = file.sets ++ other_sets file.other
+sets_in (inputs.Dump file) = file.sets
+
+-- what they say and have
+abbrev pub counts_in : Input → List Told
+counts_in input = flat_map set_counts (sets_in input)

@@ -1,0 +1,62 @@
+-- How a command ends that reads all of its input before it writes, and what is written then of the text that it tells.
+use Rattle.std.specs.Prelude.{ℕ, ◌⊎◌, List}
+use Rattle.std.specs.Io.KnownBytes.{Appends, Keeps}
+use Rattle.usb_listing.specs.Output.{AppendsFront, Held}
+use Rattle.usb_tool.specs.Input.{Left, ReadFails, ReadsAll}
+use Rattle.usb_tool.specs.declared.fault.ToolFault.{ToolFault}
+use Rattle.usb_tool.specs.declared.fault.ToolFault.TheVariants as faults
+
+-- all was read, and this was done with it
+pub record Succeeds (limit : ℕ) (does : List ℕ → Held → Held → Type 0) (from to : Left) (held holds : Held) : Type 0 where
+  pub bytes : List ℕ
+  pub read : ReadsAll limit from to bytes
+  pub written : does bytes held holds
+
+-- how a command refuses bytes: what it has written then, and its fault
+abbrev pub Refusal : Type 1
+Refusal = List ℕ → Held → Held → ToolFault → Type 0
+
+-- all was read, and then refused
+pub record ReadsInVain (limit : ℕ) (refuses : Refusal) (from to : Left) (held holds : Held) (fault : ToolFault) : Type 0 where
+  pub bytes : List ℕ
+  pub read : ReadsAll limit from to bytes
+  pub refused : refuses bytes held holds fault
+
+-- not all was read, and nothing was written, or all was read and then refused
+abbrev pub Fails : ℕ → Refusal → Left → Left → Held → Held → ToolFault → Type 0
+Fails limit refuses from to held holds fault =
+    (ReadFails limit from to fault × Keeps held holds) ⊎ ReadsInVain limit refuses from to held holds fault
+
+-- what a command tells of bytes: a text, and its exit status
+abbrev pub Telling : Type 1
+Telling = List ℕ → List ℕ → ℕ → Type 0
+
+-- how much of a text was written: all of it (`Appends`), a front (`AppendsFront`), or not all (`AppendsLess`)
+abbrev pub Extent : Type 1
+Extent = Held → Held → List ℕ → Type 0
+
+-- nothing of it was written
+abbrev pub AppendsNone : Extent
+AppendsNone held holds text = Keeps held holds
+
+-- so much was written of a text that is told of the bytes with this status
+pub record Writes (extent : Extent) (tells : Telling) (b : List ℕ) (held holds : Held) (status : ℕ) : Type 0 where
+  pub text : List ℕ
+  pub told : tells b text status
+  pub written : extent held holds text
+
+-- with some status
+abbrev pub WritesSome : Extent → Telling → List ℕ → Held → Held → Type 0
+WritesSome extent tells b held holds = (status : ℕ) × Writes extent tells b held holds status
+
+-- How bytes are refused: where a write failed, a front of a text that is told of them was written; out of memory nothing,
+-- or so much of one; and what else holds is given.
+abbrev pub Refuses : Extent → Telling → Refusal → Refusal
+Refuses extent tells refuses b held holds faults.Write = WritesSome AppendsFront tells b held holds
+Refuses extent tells refuses b held holds faults.Memory = Keeps held holds ⊎ WritesSome extent tells b held holds
+Refuses extent tells refuses b held holds fault = refuses b held holds fault
+
+-- all was read, and all that is told of it was written
+abbrev pub Told : ℕ → Telling → Left → Left → Held → Held → ℕ → Type 0
+Told limit tells from to held holds status =
+    Succeeds limit (λ b held holds. Writes Appends tells b held holds status) from to held holds

@@ -1,0 +1,35 @@
+-- Numbers, messages and lines of the faults.
+use Rattle.std.specs.Prelude.{ℕ, List, codes}
+use Rattle.usb_tool.specs.declared.fates.FatesFault.{FatesFault}
+use Rattle.usb_tool.specs.declared.fates.FatesFault.TheVariants as letters
+use Rattle.usb_tool.specs.declared.settings.SettingsFault.{SettingsFault}
+use Rattle.usb_tool.specs.declared.settings.SettingsFault.TheVariants as faults
+
+-- the number of a fault of letters
+abbrev pub fates_fault_number : FatesFault → ℕ
+fates_fault_number letters.Letter = 1
+fates_fault_number letters.Memory = 2
+
+-- its message, for people
+abbrev pub fates_fault_message : FatesFault → List ℕ
+fates_fault_message letters.Letter = codes "a letter that names no fate"
+fates_fault_message letters.Memory = codes "out of memory"
+
+-- the number of a fault of options
+abbrev pub settings_fault_number : SettingsFault → ℕ
+settings_fault_number faults.Number = 1
+settings_fault_number faults.Speed = 2
+settings_fault_number faults.Fates = 3
+settings_fault_number faults.Memory = 4
+
+-- its line on standard error, without its line feed
+abbrev pub settings_line : SettingsFault → List ℕ
+settings_line faults.Number = codes "usbdesc: bad number"
+settings_line faults.Speed = codes "usbdesc: bad speed"
+settings_line faults.Fates = codes "usbdesc: bad fates"
+settings_line faults.Memory = codes "usbdesc: out of memory"
+
+-- the exit status: 2 as for a line that is no command, and 3 where it is out of memory
+abbrev pub settings_status : SettingsFault → ℕ
+settings_status faults.Memory = 3
+settings_status _ = 2

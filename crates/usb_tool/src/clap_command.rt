@@ -1,0 +1,158 @@
+//! The command `usbdesc`, as `clap` has it.
+ghost use Rattle.std.specs.Prelude.{◌≡◌, IfOk, false};
+ghost use Rattle.clap.specs.Words.{app_of, new_app, rule_of, with_rule, with_subcommand};
+ghost use Rattle.clap.specs.declared.builder.Command.TheViews.{out-Command};
+ghost use Rattle.usb_tool.specs.CommandLine.{address_rule, attempts_rule, enumerate_app, explain_app, fates_rule, flag_rule, log_rule, naks_rule, speed_rule, usbdesc_app, valued_rule};
+
+use crate::help::{
+    ABOUT, ADDRESS_HELP, ATTEMPTS_HELP, BRIEF_HELP, BUILD_ABOUT, BUILD_HELP, CHECK_ABOUT,
+    CHECK_HELP, ENUMERATE_ABOUT, ENUMERATE_HELP, EXPLAIN_ABOUT, EXPLAIN_HELP, FATES_HELP, LOG_HELP,
+    NAKS_HELP, NO_PLACES_HELP, RAN_AT_HELP, SHOW_ABOUT, SHOW_HELP, SPEED_HELP,
+};
+use clap::{Arg, ArgAction, Command, value_parser};
+use std::alloc::{AllocError, Global};
+
+/// The command with its subcommands.
+pub(crate) fn usbdesc<'a>(alloc: Global) -> Result<Command<'a>, AllocError>
+    ensures { IfOk result (λ c. app_of c ≡ usbdesc_app) }
+{
+    let usbdesc = Command::new(alloc, "usbdesc")
+        .about(ABOUT)
+        .subcommand_required(true);
+    let usbdesc = add(alloc, usbdesc, "show", SHOW_ABOUT, SHOW_HELP)?;
+    let usbdesc = add(alloc, usbdesc, "check", CHECK_ABOUT, CHECK_HELP)?;
+    let usbdesc = add(alloc, usbdesc, "build", BUILD_ABOUT, BUILD_HELP)?;
+    let usbdesc = add_command(usbdesc, explain(alloc)?)?;
+    add_command(usbdesc, enumerate(alloc)?)
+}
+
+/// The command with one more subcommand, which takes no words of its own.
+fn add<'a>(
+    alloc: Global,
+    command: Command<'a>,
+    name: &'a str,
+    about: &'a str,
+    help: &'a str,
+) -> Result<Command<'a>, AllocError>
+    ensures { IfOk result (λ c. app_of c ≡ with_subcommand (app_of command.entry) (new_app name.entry.now).top) }
+{
+    let subcommand = Command::new(alloc, name).about(about).after_help(help);
+    command.subcommand(subcommand)
+}
+
+/// The command with one more subcommand, none of whose options its own subcommands take.
+fn add_command<'a>(command: Command<'a>, subcommand: Command<'a>) -> Result<Command<'a>, AllocError>
+    requires { (out-Command subcommand).has_globals ≡ false }
+    ensures { IfOk result (λ c. app_of c ≡ with_subcommand (app_of command.entry) (app_of subcommand.entry).top) }
+{
+    command.subcommand(subcommand)
+}
+
+/// The subcommand `explain` with its options.
+fn explain<'a>(alloc: Global) -> Result<Command<'a>, AllocError>
+    ensures app { IfOk result (λ c. app_of c ≡ explain_app) }
+    ensures local { IfOk result (λ c. (out-Command c).has_globals ≡ false) }
+{
+    let explain = Command::new(alloc, "explain")
+        .about(EXPLAIN_ABOUT)
+        .after_help(EXPLAIN_HELP);
+    let explain = add_option(explain, flag(alloc, "brief", BRIEF_HELP))?;
+    let explain = add_option(explain, flag(alloc, "no-places", NO_PLACES_HELP))?;
+    add_option(explain, ran_at(alloc))
+}
+
+/// The subcommand `enumerate` with its options.
+fn enumerate<'a>(alloc: Global) -> Result<Command<'a>, AllocError>
+    ensures app { IfOk result (λ c. app_of c ≡ enumerate_app) }
+    ensures local { IfOk result (λ c. (out-Command c).has_globals ≡ false) }
+{
+    let enumerate = Command::new(alloc, "enumerate")
+        .about(ENUMERATE_ABOUT)
+        .after_help(ENUMERATE_HELP);
+    let enumerate = add_option(enumerate, speed(alloc))?;
+    let enumerate = add_option(enumerate, address(alloc))?;
+    let enumerate = add_option(enumerate, naks(alloc))?;
+    let enumerate = add_option(enumerate, attempts(alloc))?;
+    let enumerate = add_option(enumerate, fates(alloc))?;
+    add_option(enumerate, log(alloc))
+}
+
+/// The command with one more option, which its subcommands do not take.
+fn add_option<'a>(command: Command<'a>, option: Arg<'a>) -> Result<Command<'a>, AllocError>
+    requires { option.global ≡ false }
+    ensures app { IfOk result (λ c. app_of c ≡ with_rule (app_of command.entry) (rule_of option.entry)) }
+    ensures local { IfOk result (λ c. (out-Command c).has_globals ≡ (out-Command command.entry).has_globals) }
+{
+    command.arg(option)
+}
+
+/// An option of this name, with one value.
+fn valued<'a>(alloc: Global, name: &'a str, help: &'a str) -> Arg<'a>
+    ensures rule { rule_of result ≡ valued_rule name.entry.now }
+    ensures local { result.global ≡ false }
+{
+    Arg::new(alloc, name).long(name).help(help)
+}
+
+/// An option of this name, without a value.
+fn flag<'a>(alloc: Global, name: &'a str, help: &'a str) -> Arg<'a>
+    ensures rule { rule_of result ≡ flag_rule name.entry.now }
+    ensures local { result.global ≡ false }
+{
+    Arg::new(alloc, name)
+        .long(name)
+        .help(help)
+        .action(ArgAction::SetTrue)
+}
+
+/// The speed at which a device ran.
+fn ran_at<'a>(alloc: Global) -> Arg<'a>
+    ensures rule { rule_of result ≡ speed_rule }
+    ensures local { result.global ≡ false }
+{
+    valued(alloc, "speed", RAN_AT_HELP)
+}
+
+/// The speed of the device that is enumerated.
+fn speed<'a>(alloc: Global) -> Arg<'a>
+    ensures rule { rule_of result ≡ speed_rule }
+    ensures local { result.global ≡ false }
+{
+    valued(alloc, "speed", SPEED_HELP)
+}
+
+fn address<'a>(alloc: Global) -> Arg<'a>
+    ensures rule { rule_of result ≡ address_rule }
+    ensures local { result.global ≡ false }
+{
+    valued(alloc, "address", ADDRESS_HELP).value_parser(value_parser!(u8).range(1..=127))
+}
+
+fn naks<'a>(alloc: Global) -> Arg<'a>
+    ensures rule { rule_of result ≡ naks_rule }
+    ensures local { result.global ≡ false }
+{
+    valued(alloc, "naks", NAKS_HELP).value_parser(value_parser!(u16))
+}
+
+fn attempts<'a>(alloc: Global) -> Arg<'a>
+    ensures rule { rule_of result ≡ attempts_rule }
+    ensures local { result.global ≡ false }
+{
+    valued(alloc, "attempts", ATTEMPTS_HELP).value_parser(value_parser!(u8).range(1..=8))
+}
+
+fn fates<'a>(alloc: Global) -> Arg<'a>
+    ensures rule { rule_of result ≡ fates_rule }
+    ensures local { result.global ≡ false }
+{
+    valued(alloc, "fates", FATES_HELP)
+}
+
+/// Whether a log is written.
+fn log<'a>(alloc: Global) -> Arg<'a>
+    ensures rule { rule_of result ≡ log_rule }
+    ensures local { result.global ≡ false }
+{
+    flag(alloc, "log", LOG_HELP)
+}

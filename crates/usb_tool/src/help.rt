@@ -1,0 +1,201 @@
+//! What help says of the commands and of their options.
+
+/// What the program does.
+pub(crate) const ABOUT: &str = "Lists, checks, builds, explains and enumerates USB 2.0 descriptors";
+
+/// What `show` does.
+pub(crate) const SHOW_ABOUT: &str =
+    "Lists the configuration set, descriptor file or dump on standard input, a line for each descriptor";
+
+/// The text after the help of `show`.
+pub(crate) const SHOW_HELP: &str = "\
+Input:
+  One configuration set where the second byte is 2 or 7: what a device answers when it is
+  asked for a configuration. Else a descriptor file: the device descriptor, its configuration
+  sets, a qualifier and its other-speed sets where there is another speed, and where a string
+  is named the languages and the strings. Or a dump: the device descriptor and its
+  configuration sets alone, as Linux gives them in /sys/bus/usb/devices/*/descriptors.
+
+Dumps:
+  Linux lowers bNumConfigurations where it could not read a set, and gives only the prefix of
+  a set that it could parse, while the set keeps its own wTotalLength. So the dump of a broken
+  device ends early (file fault 6 at its end), or runs into the next set (file fault 2).
+  'build' takes the listing of a dump once its languages and strings are added.
+
+Faults of a set, 'usbdesc: set fault N at PLACE', the place in bytes from 0:
+  1  the first bLength is below 9
+  2  the first descriptor is no configuration
+  3  wTotalLength is below the first bLength
+  4  a bLength is below 2
+  5  a descriptor ends past wTotalLength
+  6  a configuration inside a set
+  7  an interface, endpoint or association descriptor is too short
+  8  an endpoint before any interface
+  9  the bytes end before the set does
+
+Faults of a file, 'usbdesc: file fault N at PLACE':
+  1  no device descriptor
+  2  in a set, a fault of a set
+  3  a set of the other kind
+  4  no qualifier
+  5  no string descriptor
+  6  the bytes end before the file does
+  7  bytes after the end of the file
+
+Exit status:
+  0  the listing is written
+  2  the command line is invalid
+  3  reading, the input or writing is at fault; standard error says how";
+
+/// What `check` does.
+pub(crate) const CHECK_ABOUT: &str =
+    "Checks the set, descriptor file or dump on standard input by the rules of chapter 9, a line for each finding";
+
+/// The text after the help of `check`.
+pub(crate) const CHECK_HELP: &str = "\
+Input:
+  A configuration set, a descriptor file or a dump, as of 'show'. A set alone is the main
+  part, or the other part where it is an other-speed configuration. V11 does not apply to it.
+  In a dump with bcdUSB 0300 or above V11 requires a bMaxPacketSize0 of 9.
+
+Rules:
+  V1   bNumInterfaces is not the count of distinct interface numbers
+  V2   interfaces are not numbered from 0 without a gap
+  V3   an alternate setting of an interface stands twice
+  V4   an interface has no alternate setting 0
+  V5   bNumEndpoints is not the count of the setting's endpoints
+  V6   an endpoint has number 0, or one of bits 6 to 4 of bEndpointAddress is one
+  V7   two endpoints of a setting have one address
+  V8   two interfaces of a set claim one endpoint address
+  V9   in bmAttributes of a configuration bit 7 is zero, or one of bits 4 to 0 is one
+  V10  a part has no set, or a bConfigurationValue is 0 or stands twice
+  V11  bMaxPacketSize0 is not 8, 16, 32 or 64, a subclass has no class, or bReserved is not 0
+  V12  one of bits 15 to 13 of wMaxPacketSize is one
+  V13  an association binds no interface, or one that the set does not have
+
+Exit status:
+  0  no rule is broken; the line 'no findings' is written
+  1  a rule is broken; a line is written for each finding
+  2  the command line is invalid
+  3  reading, the input or writing is at fault; standard error says how";
+
+/// What `build` does.
+pub(crate) const BUILD_ABOUT: &str =
+    "Builds the bytes of the descriptor file whose listing is on standard input";
+
+/// The text after the help of `build`.
+pub(crate) const BUILD_HELP: &str = "\
+Input:
+  The listing of a descriptor file, as 'show' writes it: a line for each descriptor, in the
+  order of the file. It may have been written or changed by hand.
+
+Faults of a listing, 'usbdesc: listing fault N line LINE', the first line being 1:
+  1  no whole line of printable text
+  2  no known word
+  3  the word can't stand here
+  4  a field is missing, superfluous or not in its form
+  5  the set is over 65,535 bytes
+  6  the text ends before the file does
+
+Exit status:
+  0  the bytes of the file are written
+  2  the command line is invalid
+  3  reading, the listing or writing is at fault; standard error says how, and of a listing
+     the number of the fault and the first line at fault";
+
+/// What `explain` does.
+pub(crate) const EXPLAIN_ABOUT: &str =
+    "Explains the set, descriptor file or dump on standard input in words, a heading for each descriptor";
+
+/// The text after the help of `explain`.
+pub(crate) const EXPLAIN_HELP: &str = "\
+Input:
+  A configuration set, a descriptor file or a dump, as of 'show'. One that is broken is
+  explained up to its fault.
+
+Text:
+  Each descriptor has a heading, with the place of its first byte and its length. Below it
+  are the broken rules of chapter 9, a line with a '!' for each finding, and its fields.
+  Units of intervals and of bMaxPower depend on the speed, which is in the heading of each
+  set: that of '--speed', or what the descriptors say of it.
+
+Exit status:
+  0  the text is written, with findings too
+  2  the command line is invalid, or '--speed' names no speed
+  3  reading, the input or writing is at fault; standard error says how";
+
+/// What `--brief` says.
+pub(crate) const BRIEF_HELP: &str = "Leaves the fields out";
+
+/// What `--no-places` says.
+pub(crate) const NO_PLACES_HELP: &str = "Leaves the places out";
+
+/// What `--speed` of `explain` says.
+pub(crate) const RAN_AT_HELP: &str =
+    "Speed at which the device ran: low, full, high or super [default: what the descriptors say]";
+
+/// What `enumerate` does.
+pub(crate) const ENUMERATE_ABOUT: &str =
+    "Enumerates a device of the descriptor file on standard input, over a bus that may lose packets";
+
+/// The text after the help of `enumerate`.
+pub(crate) const ENUMERATE_HELP: &str = "\
+Input:
+  A descriptor file: the device descriptor, its configuration sets, a qualifier and its
+  other-speed sets where there is another speed, and where a string is named the languages
+  and the strings.
+
+Log:
+  With --log a line for each transaction is written before the result: its number, its fate,
+  what the host sends, what the device answers, the host's ACK, what the host and what the
+  device have then, and the data. A line begins each bus reset and each transfer.
+
+Fates:
+  A letter for each transaction of the bus, in order. After the last one all packets arrive.
+  .  all packets arrive
+  n  the device is not ready: it answers NAK to all but a SETUP
+  d  what the host sends is lost
+  u  what the device answers is lost
+  a  the host's ACK of a data packet is lost
+
+Refused, 'refused N', with the first finding where N is 1:
+  1  a rule of chapter 9 is broken
+  2  the strings are not those that the file names, or a language stands twice
+  3  no device of this speed has such descriptors
+  5  a set has no bytes, or the sets are not as declared
+
+Trouble, 'trouble N STEP attempts ATTEMPTS transactions TRANSACTIONS':
+  1  no answer, three times in a row
+  2  busy for longer than the limit
+  3  the device stalled the request
+  4  more bytes than were asked for
+  5  an answer that cannot follow
+  6  not what was asked for
+  7  out of memory
+
+Exit status:
+  0  the host has read the device; the result is written, and the listing of what was read
+  1  the file is no device of that speed, or the host gave up; a line is written that says why
+  2  the command line is invalid, or the value of an option is
+  3  reading, the input or writing is at fault; standard error says how";
+
+/// What `--speed` says.
+pub(crate) const SPEED_HELP: &str = "Speed of the device: low, full or high [default: full]";
+
+/// What `--address` says.
+pub(crate) const ADDRESS_HELP: &str = "Address that the device gets, 1 to 127 [default: 1]";
+
+/// What `--naks` says.
+pub(crate) const NAKS_HELP: &str =
+    "NAKs without progress that a transfer retries, 0 to 65535 [default: 16]";
+
+/// What `--attempts` says.
+pub(crate) const ATTEMPTS_HELP: &str =
+    "Attempts of the host at most, each from a bus reset, 1 to 8 [default: 3]";
+
+/// What `--fates` says.
+pub(crate) const FATES_HELP: &str =
+    "What the bus does to each transaction, letters of . n d u a [default: none]";
+
+/// What `--log` says.
+pub(crate) const LOG_HELP: &str = "Writes a line for each transaction before the result";

@@ -1,0 +1,65 @@
+//! How an input is to be explained.
+ghost use Rattle.std.specs.Prelude.{◌≡◌, IfErr, IfOk, None, not};
+ghost use Rattle.std.specs.Option.{option_map};
+ghost use Rattle.usb_tool.specs.Manners.{IsManner, HasBadSpeed, running_said, running_speed_of};
+ghost use Rattle.usb_tool.specs.declared.settings.SettingsFault.TheVariants.{Speed};
+
+use crate::explain_options::Explaining;
+use crate::settings::SettingsFault;
+use usb_explain::{Look, Manner, RunningSpeed};
+
+/// What the options of `explain` mean. Fields and places are written unless they are left out, and without a speed the
+/// descriptors say it.
+///
+/// ```rust
+/// let manner = manner_of(&Explaining { brief: true, no_places: false, speed: Some("high") })?;
+/// assert_eq!(rt; manner.look, Look { brief: true, places: true });
+/// assert_eq!(rt; manner.speed, Some(RunningSpeed::High));
+/// ```
+///
+/// # Errors
+///
+/// [`SettingsFault::Speed`] where no speed has the name.
+pub fn manner_of(explaining: &Explaining<'_>) -> Result<Manner, SettingsFault>
+    ensures ok { IfOk result (IsManner explaining.now) }
+    ensures err { IfErr result (λ fault. (fault ≡ Speed) × HasBadSpeed explaining.now) }
+{
+    let Some(speed) = speed_of(explaining.speed) else {
+        return Err(SettingsFault::Speed);
+    };
+    Ok(Manner {
+        look: Look {
+            brief: explaining.brief,
+            places: !explaining.no_places,
+        },
+        speed,
+    })
+}
+
+/// The speed that is named, if one is; `None` where no speed has the name.
+fn speed_of(name: Option<&str>) -> Option<Option<RunningSpeed>>
+    ensures { result ≡ running_said name.entry }
+{
+    match name {
+        None => Some(None),
+        Some(name) => Some(Some(read_running_speed(name)?)),
+    }
+}
+
+/// The speed of a name: `low`, `full`, `high` or `super`.
+///
+/// ```rust
+/// assert_eq!(rt; read_running_speed("super"), Some(RunningSpeed::Super));
+/// assert_eq!(rt; read_running_speed("Super"), None);
+/// ```
+pub fn read_running_speed(name: &str) -> Option<RunningSpeed>
+    ensures { result ≡ running_speed_of name.now }
+{
+    match name {
+        "low" => Some(RunningSpeed::Low),
+        "full" => Some(RunningSpeed::Full),
+        "high" => Some(RunningSpeed::High),
+        "super" => Some(RunningSpeed::Super),
+        _ => None,
+    }
+}

@@ -1,0 +1,183 @@
+//! What the options of `enumerate` mean.
+ghost use Rattle.std.specs.Prelude.{◌≡◌, IfErr, IfOk, IsSomeAnd, Some};
+ghost use Rattle.usb_tool.specs.Settings.{IsSettled, RefusesOptions, byte_said, fates_said, limits_said, settings_fault_of, speed_said, word_said};
+ghost use Rattle.usb_tool.specs.OptionFaults.{settings_fault_number, settings_line, settings_status};
+ghost use Rattle.usb_tool.specs.OptionValues.{RefusesFates};
+
+use crate::enumerate_options::Options;
+use crate::fates::{FatesFault, read_fates};
+use crate::speed::read_speed;
+use std::alloc::Global;
+use std::{error, fmt};
+use usb_bus::Fate;
+use usb_fields::Speed;
+use usb_transfer::Limits;
+
+/// What an enumeration is given beside its file.
+#[derive(Debug, Drop)]
+pub struct Settings {
+    /// The limits of the host's retries, and the address that it gives.
+    pub limits: Limits,
+    /// The speed of the device.
+    pub speed: Speed,
+    /// What the bus does to each transaction; after the last one all arrives.
+    pub fates: Vec<Fate>,
+    /// Whether a log of the transactions is asked for.
+    pub log: bool,
+}
+
+/// The settings that the options give. An absent one is address 1, 16 NAKs, 3 attempts, full speed, or no fates.
+///
+/// ```rust
+/// let options = Options { speed: Some("high"), address: None, naks: Some("2"), attempts: None, fates: None, log: false };
+/// let settings = settings_of(alloc, &options)?;
+/// assert_eq!(rt; settings.speed, Speed::High);
+/// assert_eq!(rt; settings.limits, Limits::new(1, 2, 3)?);
+/// ```
+///
+/// # Errors
+///
+/// The first of these that holds: [`SettingsFault::Number`] where one of the numbers is none that `parse` reads or
+/// is out of its range, [`SettingsFault::Speed`], and [`SettingsFault::Fates`]. [`SettingsFault::Memory`] as
+/// [`read_fates`] has it; then neither of the first two holds.
+pub fn settings_of(alloc: Global, options: &Options<'_>) -> Result<Settings, SettingsFault>
+    ensures ok { IfOk result (IsSettled options.now) }
+    ensures err { IfErr result (RefusesOptions options.now) }
+{
+    let Some(limits) = limits_of(options) else {
+        return Err(SettingsFault::Number);
+    };
+    let Some(speed) = speed_of(options) else {
+        return Err(SettingsFault::Speed);
+    };
+    let fates = fates_of(alloc, options)?;
+    Ok(Settings {
+        limits,
+        speed,
+        fates,
+        log: options.log,
+    })
+}
+
+/// The limits that the numbers say.
+fn limits_of(options: &Options<'_>) -> Option<Limits>
+    ensures { result ≡ limits_said options.now }
+{
+    let address = byte_of(options.address, 1)?;
+    let naks = word_of(options.naks, 16)?;
+    let attempts = byte_of(options.attempts, 3)?;
+    Limits::new(address, naks, attempts).ok()
+}
+
+/// The number that an option of 8 bits says, or what it is where it is absent.
+fn byte_of(option: Option<&str>, absent: u8) -> Option<u8>
+    ensures { result ≡ byte_said absent option.entry }
+{
+    match option {
+        Some(text) => text.parse::<u8>().ok(),
+        None => Some(absent),
+    }
+}
+
+/// The number that an option of 16 bits says, or what it is where it is absent.
+fn word_of(option: Option<&str>, absent: u16) -> Option<u16>
+    ensures { result ≡ word_said absent option.entry }
+{
+    match option {
+        Some(text) => text.parse::<u16>().ok(),
+        None => Some(absent),
+    }
+}
+
+/// The speed that is named: full speed where none is.
+fn speed_of(options: &Options<'_>) -> Option<Speed>
+    ensures { result ≡ speed_said options.now }
+{
+    match options.speed {
+        Some(name) => read_speed(name),
+        None => Some(Speed::Full),
+    }
+}
+
+/// The fates that are named: none where there is no such option.
+fn fates_of(alloc: Global, options: &Options<'_>) -> Result<Vec<Fate>, FatesFault>
+    ensures ok { IfOk result (λ fates. fates_said options.now ≡ Some fates.items) }
+    ensures err { IfErr result (λ fault. IsSomeAnd options.now.fates (λ text. RefusesFates text.now fault)) }
+{
+    match options.fates {
+        Some(letters) => read_fates(alloc, letters),
+        None => Ok(Vec::new(alloc)),
+    }
+}
+
+/// Why the options give no settings.
+#[derive(Clone, Copy, Debug, PartialEq, Eq, Hash)]
+pub enum SettingsFault {
+    /// A number is none that `parse` reads, or is out of its range.
+    Number,
+    /// No speed has the name.
+    Speed,
+    /// A letter names no fate.
+    Fates,
+    /// Out of memory.
+    Memory,
+}
+
+impl SettingsFault {
+    /// The fault's number, 1 to 4: of the first three a lower one is tested first.
+    ///
+    /// ```rust
+    /// assert_eq!(rt; SettingsFault::Speed.number(), 2);
+    /// ```
+    pub fn number(self) -> u8
+        ensures { result ≡ settings_fault_number self }
+    {
+        match self {
+            SettingsFault::Number => 1,
+            SettingsFault::Speed => 2,
+            SettingsFault::Fates => 3,
+            SettingsFault::Memory => 4,
+        }
+    }
+
+    /// The exit status of the program: 2 as for a line that is no command, and 3 out of memory.
+    ///
+    /// ```rust
+    /// assert_eq!(rt; SettingsFault::Speed.status(), 2);
+    /// ```
+    pub fn status(self) -> u8
+        ensures { result ≡ settings_status self }
+    {
+        match self {
+            SettingsFault::Memory => 3,
+            _ => 2,
+        }
+    }
+}
+
+/// The line that the program prints on standard error, without its line feed.
+impl fmt::Display for SettingsFault {
+    ghost output = { λ fault. Some (settings_line fault) };
+
+    fn fmt<W: fmt::Write>(&self, f: &mut fmt::Formatter<W>) -> fmt::Result {
+        match self {
+            SettingsFault::Number => f.write_str("usbdesc: bad number"),
+            SettingsFault::Speed => f.write_str("usbdesc: bad speed"),
+            SettingsFault::Fates => f.write_str("usbdesc: bad fates"),
+            SettingsFault::Memory => f.write_str("usbdesc: out of memory"),
+        }
+    }
+}
+
+impl error::Error for SettingsFault {}
+
+impl From<FatesFault> for SettingsFault {
+    ghost from_gives = { λ e fault. fault ≡ settings_fault_of e };
+
+    fn from(e: FatesFault) -> SettingsFault {
+        match e {
+            FatesFault::Letter => SettingsFault::Fates,
+            FatesFault::Memory => SettingsFault::Memory,
+        }
+    }
+}
