@@ -14,6 +14,8 @@ usb_transfer/Transfer usb_host/Requests usb_host/Read usb_host/Order
 """.split()
 BOTH = ["usb_transfer/Plan"]
 BOTH_CRATES = ["usb_bus", "usb_enumeration"]
+# But for the lines of a log, whose text is the project's own.
+LOG = ["usb_enumeration/Requests", "usb_enumeration/Exchanges", "usb_enumeration/Lines", "usb_enumeration/Log"]
 # Cited by contracts, and not to be read: how the code holds a device whose calls say all that is known of it.
 LEFT_OUT = ["usb_device/Stages", "usb_device/EndpointZero"]
 
@@ -27,7 +29,7 @@ def table_of(name):
         return None
     if name in STANDARD:
         return "standard"
-    return "both" if name in BOTH or name.split("/")[0] in BOTH_CRATES else "own"
+    return "both" if name in BOTH or name.split("/")[0] in BOTH_CRATES and name not in LOG else "own"
 
 
 def in_reading_order(paths):
