@@ -1,5 +1,5 @@
 -- Owners of addresses.
-use Rattle.std.proofs.Common.{◌≡◌, ℕ, ◌<◌, ◌==◌, ◌&&◌, ◌||◌, not, Bool, true, false, List, length, refl, ap, sym, ◌∙◌, arith, inl, inr}
+use Rattle.std.proofs.Common.{◌≡◌, ℕ, ◌<◌, ◌==◌, ◌&&◌, ◌||◌, not, Bool, true, false, List, length, ap, sym, ◌∙◌, arith, inl, inr}
 use Rattle.std.specs.Prelude.{slice_index_or, slice_set}
 use Rattle.std.proofs.lemmas.Bool.{cases_eq}
 use Rattle.std.proofs.lemmas.Bool.Decides.{nat_tests}
@@ -7,26 +7,21 @@ use Rattle.std.proofs.lemmas.List.{get_or-set_other}
 use Rattle.std.proofs.lemmas.Grind.{get_or-set_at}
 use Rattle.usb_base.specs.Marks.{marked}
 use Rattle.usb_base.proofs.Cells.{funext}
-use Rattle.usb_rules.specs.inside.Addresses.{is_other, joined, owned_at}
+use Rattle.usb_rules.specs.inside.Addresses.{is_other, owned_at}
 use Rattle.usb_rules.specs.declared.addresses.Owner.{Owner}
 use Rattle.usb_rules.specs.declared.addresses.Owner.TheVariants as owners
 
-or-true : (b : Bool) → true ≡ (b || true)
-or-true true = refl
-or-true false = refl
+-- an address that another number has too
+pub is_other_shared : (stands : Bool) (old : Owner) (n m : ℕ) → (stands && is_other old n) ≡ true → true ≡ (not (n == m) || (stands && is_other old m))
+is_other_shared true (owners.One k) n m h = grind (arith, nat_tests)
+is_other_shared true owners.Several n m h = grind (arith, nat_tests)
+is_other_shared false old n m h = grind arith
 
-or-false : (b : Bool) → b ≡ (b || false)
-or-false true = refl
-or-false false = refl
-
--- one more owner
-pub is_other_joined : (o : Owner) (n m : ℕ) → is_other (joined o n) m ≡ (not (n == m) || is_other o m)
-is_other_joined (owners.One k) n m = grind (arith, nat_tests)
-is_other_joined owners.Several n m = or-true (not (n == m))
-
--- the first owner
-pub is_other_alone : (n m : ℕ) → is_other (owners.One n) m ≡ (not (n == m) || false)
-is_other_alone n m = or-false (not (n == m))
+-- an address that no other number has
+pub is_other_alone : (stands : Bool) (old : Owner) (n m : ℕ) → (stands && is_other old n) ≡ false → not (n == m) ≡ (not (n == m) || (stands && is_other old m))
+is_other_alone true (owners.One k) n m h = grind (arith, nat_tests)
+is_other_alone true owners.Several n m h = grind arith
+is_other_alone false old n m h = grind (arith, nat_tests)
 
 -- whether another number has an address, by whether the address stands
 abbrev pub by_cells : (ℕ → Bool) → List Owner → ℕ → ℕ → Bool

@@ -1,10 +1,12 @@
 -- The findings in the order of the bytes, rule by rule.
-use Rattle.std.proofs.Common.{◌≡◌, ℕ, suc, ◌+◌, ◌<◌, ◌==◌, Bool, true, false, List, [], ◌∷◌, ◌++◌, refl, ap, sym, ◌∙◌, length, map, take, get_or, drop, arith, length-append}
+use Rattle.std.proofs.Common.{◌≡◌, ℕ, suc, ◌+◌, ◌<◌, ◌≤◌, ◌==◌, Bool, true, false, List, [], ◌∷◌, ◌++◌, refl, ap, sym, ◌∙◌, length, map, take, get_or, drop, arith, append_assoc, length-append, nat_lt, not}
 use Rattle.std.specs.Prelude.{Option, Some, None, ◌||◌, filter, fold, if◌then◌else◌}
-use Rattle.std.specs.List.{flat_map}
-use Rattle.std.proofs.lemmas.List.{append-nil}
+use Rattle.std.specs.List.{flat_map, list_all}
+use Rattle.std.proofs.lemmas.List.{append-nil, get_or_default}
+use Rattle.std.proofs.lemmas.Bool.Decides.{nat_tests}
 use Rattle.std.proofs.lemmas.List.Elements.{filter-append}
 use Rattle.std.proofs.lemmas.Grind.{common_steps, flat_map-append}
+use Rattle.usb_base.specs.Marks.{marked}
 use Rattle.usb_set.specs.declared.extra.Association.{Association}
 use Rattle.usb_set.specs.declared.extra.Extra.{Extra}
 use Rattle.usb_set.specs.declared.tree.Configuration.{Configuration}
@@ -23,7 +25,7 @@ use Rattle.usb_rules.specs.Places.{at_each, at_each_counted, finding, in_other, 
 use Rattle.usb_rules.specs.Findings.{addresses, associations, attributes, descriptors, endpoint_counts, findings_where, part_findings, interface_counts, missing_default_settings, number_gaps, of_qualifier, packet_sizes, repeated_addresses, repeated_settings, shared_addresses, values}
 use Rattle.usb_rules.specs.InOrder.{association_count, at_associations, at_configuration, at_endpoint, at_interface, by_rule, endpoint_associations, endpoint_in_order, file_in_order, of_rule, other_in_order, part_in_order, set_in_order, setting_associations, setting_in_order, without_sets}
 use Rattle.usb_rules.specs.Rules.{binds_missing_interface, has_number_gap, lacks_default_setting, repeats_address, repeats_setting, shares_address, wrong_address, wrong_attributes, wrong_endpoint_count, wrong_interface_count, wrong_packet_size, wrong_qualifier, wrong_value}
-use Rattle.usb_rules.proofs.Walking.{each_append}
+use Rattle.usb_rules.proofs.Walking.{each_append, stands_more, take_more}
 
 -- a loop's next place
 pub fold_next : {A B : Type 0} (f : B → A → B) (xs : List A) (i : ℕ) (x : A) (old new whole : B) → i < length xs → x ≡ get_or xs i x
@@ -440,3 +442,94 @@ one_more rules.V13 part i j k found = simp length-append (omega arith)
 pub as_many : (found : List Finding) → length (by_rule found) ≡ length found
 as_many [] = refl
 as_many (x ∷ found) = one_more x.rule x.part x.set x.setting x.endpoint found ∙ ap suc (as_many found)
+
+-- ---- in order already
+
+-- no finding is of a rule behind this number
+abbrev pub EndsAt : ℕ → List Finding → Type 0
+EndsAt n found = (m : ℕ) → n < m → stands_in (map (λ f. rule_number f.rule) found) m ≡ false
+
+-- the findings of these rules, behind others
+abbrev of_rules : List Finding → List Finding → List Rule → List Finding
+of_rules found = fold (λ out r. out ++ of_rule r found)
+
+later : ℕ → List Rule → Bool
+later n rs = list_all (λ r. nat_lt n (rule_number r)) rs
+
+none_later : (n : ℕ) (found out : List Finding) (rs : List Rule) → EndsAt n found → later n rs ≡ true → of_rules found out rs ≡ out
+unfolding later
+none_later n found out [] ends h = refl
+none_later n found out (r ∷ rs) ends h =
+    let here : n < rule_number r = grind (arith, nat_tests) in
+    let rest : later n rs ≡ true = grind (arith, nat_tests) in
+    ap (λ xs. of_rules found (out ++ xs) rs) (none_of (λ f. rule_number f.rule) (rule_number r) found (ends (rule_number r) here))
+    ∙ ap (λ xs. of_rules found xs rs) (append-nil out)
+    ∙ none_later n found out rs ends rest
+
+earlier : ℕ → List Rule → Bool
+earlier n rs = list_all (λ r. not (n == rule_number r)) rs
+
+not_its : (here : Bool) (xs : List Finding) (x : Finding) → not here ≡ true → xs ++ (if here then x ∷ [] else []) ≡ xs
+not_its true xs x h = grind arith
+not_its false xs x h = append-nil xs
+
+same_earlier : (found out : List Finding) (x : Finding) (rs : List Rule) → earlier (rule_number x.rule) rs ≡ true → of_rules (found ++ x ∷ []) out rs ≡ of_rules found out rs
+unfolding earlier
+same_earlier found out x [] h = refl
+same_earlier found out x (r ∷ rs) h =
+    let here : not (rule_number x.rule == rule_number r) ≡ true = grind arith in
+    let rest : earlier (rule_number x.rule) rs ≡ true = grind arith in
+    ap (λ xs. of_rules (found ++ x ∷ []) (out ++ xs) rs) (filter-append _ found (x ∷ []) ∙ not_its (rule_number x.rule == rule_number r) (of_rule r found) x here)
+    ∙ same_earlier found (out ++ of_rule r found) x rs rest
+
+-- one finding behind, of a rule between these
+one_behind : (before after : List Rule) (r : Rule) (x : Finding) (found : List Finding) → (rule_number x.rule == rule_number r) ≡ true → earlier (rule_number x.rule) before ≡ true → later (rule_number x.rule) after ≡ true
+    → EndsAt (rule_number x.rule) found → EndsAt (rule_number x.rule) (found ++ x ∷ [])
+    → of_rules (found ++ x ∷ []) (of_rules (found ++ x ∷ []) [] before ++ of_rule r (found ++ x ∷ [])) after ≡ of_rules found (of_rules found [] before ++ of_rule r found) after ++ x ∷ []
+one_behind before after r x found is e l old new =
+    let front = of_rules found [] before in
+    none_later (rule_number x.rule) (found ++ x ∷ []) _ after new l
+    ∙ ap (λ xs. xs ++ of_rule r (found ++ x ∷ [])) (same_earlier found [] x before e)
+    ∙ ap (λ ys. front ++ ys) (filter-append _ found (x ∷ []))
+    ∙ ap (λ here. front ++ (of_rule r found ++ (if here then x ∷ [] else []))) is
+    ∙ sym (append_assoc front (of_rule r found) (x ∷ []))
+    ∙ ap (λ xs. xs ++ x ∷ []) (sym (none_later (rule_number x.rule) found (front ++ of_rule r found) after old l))
+
+rule_behind : (r : Rule) (part : Part) (i j k : ℕ) (found : List Finding) → EndsAt (rule_number r) found → EndsAt (rule_number r) (found ++ finding r part i j k ∷ [])
+    → by_rule (found ++ finding r part i j k ∷ []) ≡ by_rule found ++ finding r part i j k ∷ []
+unfolding earlier later
+rule_behind rules.V1 part i j k found = one_behind [] (rules.V2 ∷ rules.V3 ∷ rules.V4 ∷ rules.V5 ∷ rules.V6 ∷ rules.V7 ∷ rules.V8 ∷ rules.V9 ∷ rules.V10 ∷ rules.V11 ∷ rules.V12 ∷ rules.V13 ∷ []) rules.V1 (finding rules.V1 part i j k) found refl refl refl
+rule_behind rules.V2 part i j k found = one_behind (rules.V1 ∷ []) (rules.V3 ∷ rules.V4 ∷ rules.V5 ∷ rules.V6 ∷ rules.V7 ∷ rules.V8 ∷ rules.V9 ∷ rules.V10 ∷ rules.V11 ∷ rules.V12 ∷ rules.V13 ∷ []) rules.V2 (finding rules.V2 part i j k) found refl refl refl
+rule_behind rules.V3 part i j k found = one_behind (rules.V1 ∷ rules.V2 ∷ []) (rules.V4 ∷ rules.V5 ∷ rules.V6 ∷ rules.V7 ∷ rules.V8 ∷ rules.V9 ∷ rules.V10 ∷ rules.V11 ∷ rules.V12 ∷ rules.V13 ∷ []) rules.V3 (finding rules.V3 part i j k) found refl refl refl
+rule_behind rules.V4 part i j k found = one_behind (rules.V1 ∷ rules.V2 ∷ rules.V3 ∷ []) (rules.V5 ∷ rules.V6 ∷ rules.V7 ∷ rules.V8 ∷ rules.V9 ∷ rules.V10 ∷ rules.V11 ∷ rules.V12 ∷ rules.V13 ∷ []) rules.V4 (finding rules.V4 part i j k) found refl refl refl
+rule_behind rules.V5 part i j k found = one_behind (rules.V1 ∷ rules.V2 ∷ rules.V3 ∷ rules.V4 ∷ []) (rules.V6 ∷ rules.V7 ∷ rules.V8 ∷ rules.V9 ∷ rules.V10 ∷ rules.V11 ∷ rules.V12 ∷ rules.V13 ∷ []) rules.V5 (finding rules.V5 part i j k) found refl refl refl
+rule_behind rules.V6 part i j k found = one_behind (rules.V1 ∷ rules.V2 ∷ rules.V3 ∷ rules.V4 ∷ rules.V5 ∷ []) (rules.V7 ∷ rules.V8 ∷ rules.V9 ∷ rules.V10 ∷ rules.V11 ∷ rules.V12 ∷ rules.V13 ∷ []) rules.V6 (finding rules.V6 part i j k) found refl refl refl
+rule_behind rules.V7 part i j k found = one_behind (rules.V1 ∷ rules.V2 ∷ rules.V3 ∷ rules.V4 ∷ rules.V5 ∷ rules.V6 ∷ []) (rules.V8 ∷ rules.V9 ∷ rules.V10 ∷ rules.V11 ∷ rules.V12 ∷ rules.V13 ∷ []) rules.V7 (finding rules.V7 part i j k) found refl refl refl
+rule_behind rules.V8 part i j k found = one_behind (rules.V1 ∷ rules.V2 ∷ rules.V3 ∷ rules.V4 ∷ rules.V5 ∷ rules.V6 ∷ rules.V7 ∷ []) (rules.V9 ∷ rules.V10 ∷ rules.V11 ∷ rules.V12 ∷ rules.V13 ∷ []) rules.V8 (finding rules.V8 part i j k) found refl refl refl
+rule_behind rules.V9 part i j k found = one_behind (rules.V1 ∷ rules.V2 ∷ rules.V3 ∷ rules.V4 ∷ rules.V5 ∷ rules.V6 ∷ rules.V7 ∷ rules.V8 ∷ []) (rules.V10 ∷ rules.V11 ∷ rules.V12 ∷ rules.V13 ∷ []) rules.V9 (finding rules.V9 part i j k) found refl refl refl
+rule_behind rules.V10 part i j k found = one_behind (rules.V1 ∷ rules.V2 ∷ rules.V3 ∷ rules.V4 ∷ rules.V5 ∷ rules.V6 ∷ rules.V7 ∷ rules.V8 ∷ rules.V9 ∷ []) (rules.V11 ∷ rules.V12 ∷ rules.V13 ∷ []) rules.V10 (finding rules.V10 part i j k) found refl refl refl
+rule_behind rules.V11 part i j k found = one_behind (rules.V1 ∷ rules.V2 ∷ rules.V3 ∷ rules.V4 ∷ rules.V5 ∷ rules.V6 ∷ rules.V7 ∷ rules.V8 ∷ rules.V9 ∷ rules.V10 ∷ []) (rules.V12 ∷ rules.V13 ∷ []) rules.V11 (finding rules.V11 part i j k) found refl refl refl
+rule_behind rules.V12 part i j k found = one_behind (rules.V1 ∷ rules.V2 ∷ rules.V3 ∷ rules.V4 ∷ rules.V5 ∷ rules.V6 ∷ rules.V7 ∷ rules.V8 ∷ rules.V9 ∷ rules.V10 ∷ rules.V11 ∷ []) (rules.V13 ∷ []) rules.V12 (finding rules.V12 part i j k) found refl refl refl
+rule_behind rules.V13 part i j k found = one_behind (rules.V1 ∷ rules.V2 ∷ rules.V3 ∷ rules.V4 ∷ rules.V5 ∷ rules.V6 ∷ rules.V7 ∷ rules.V8 ∷ rules.V9 ∷ rules.V10 ∷ rules.V11 ∷ rules.V12 ∷ []) [] rules.V13 (finding rules.V13 part i j k) found refl refl refl
+
+above : (stood : ℕ → Bool) (n m : ℕ) → n < m → stood m ≡ false → marked stood n m ≡ false
+unfolding marked
+above stood n m h none = grind (arith, nat_tests)
+
+-- one finding more, of no earlier rule: k is its number
+pub ends_next : (xs : List Finding) (i n k : ℕ) (x : Finding) → i < length xs → k ≡ rule_number (get_or xs i x).rule → n ≤ k → EndsAt n (take i xs) → EndsAt k (take (i + 1) xs)
+ends_next xs i n k x below is up ends m h =
+    ap (λ marks. marks m) (stands_more (λ f. rule_number f.rule) xs i (get_or xs i x) below (get_or_default xs i _ _ below))
+    ∙ ap (λ l. marked (stands_in (map (λ f. rule_number f.rule) (take i xs))) l m) (sym is)
+    ∙ above (stands_in (map (λ f. rule_number f.rule) (take i xs))) k m h (ends m (omega (arith, up, h)))
+
+pub in_order_next : (xs : List Finding) (i n k : ℕ) (x : Finding) → i < length xs → k ≡ rule_number (get_or xs i x).rule → n ≤ k → EndsAt n (take i xs)
+    → by_rule (take i xs) ≡ take i xs → by_rule (take (i + 1) xs) ≡ take (i + 1) xs
+in_order_next xs i n k x below is up ends same =
+    let f = get_or xs i x in
+    let more = take_more xs i f below (get_or_default xs i _ _ below) in
+    let new = ends_next xs i n k x below is up ends in
+    ap by_rule more
+    ∙ rule_behind f.rule f.part f.set f.setting f.endpoint (take i xs) (λ m h. ends m (omega (arith, up, is, h)))
+    (λ m h. ap (λ ys. stands_in (map (λ g. rule_number g.rule) ys) m) (sym more) ∙ new m (omega (arith, is, h)))
+    ∙ ap (λ ys. ys ++ f ∷ []) same ∙ sym more

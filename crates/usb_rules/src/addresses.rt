@@ -1,6 +1,6 @@
 //! The endpoint addresses of a set.
 ghost use Rattle.std.specs.Prelude.{◌≡◌};
-ghost use Rattle.usb_rules.specs.inside.Addresses.{claimed, cleared, is_other, joined, kept, turned};
+ghost use Rattle.usb_rules.specs.inside.Addresses.{claimed, cleared, is_other, kept, turned};
 
 use std::marker::Model;
 use usb_base::Marks;
@@ -13,15 +13,6 @@ pub(crate) enum Owner {
 }
 
 impl Owner {
-    fn join(self, number: u8) -> Owner
-        ensures { result ≡ joined self number }
-    {
-        match self {
-            Owner::One(first) if first == number => self,
-            _ => Owner::Several,
-        }
-    }
-
     fn is_other(self, number: u8) -> bool
         ensures { result ≡ is_other self number }
     {
@@ -30,6 +21,15 @@ impl Owner {
             Owner::Several => true,
         }
     }
+}
+
+/// Whether an address was claimed before.
+#[derive(Clone, Copy)]
+pub(crate) struct Claimed {
+    /// By the setting in work.
+    pub(crate) here: bool,
+    /// Under another interface number.
+    pub(crate) elsewhere: bool,
 }
 
 /// Which addresses stood in a set and in its setting in work, and under which interface numbers. One
@@ -81,8 +81,20 @@ impl Addresses {
         self.in_setting = Marks::new();
     }
 
+    /// The setting in work claims the address. Answers who claimed it before.
+    pub(crate) fn claim(&mut self, address: u8) -> Claimed
+        ensures here { result.here ≡ (kept self.old).here address }
+        ensures elsewhere { result.elsewhere ≡ (kept self.old).elsewhere address (kept self.old).number }
+        ensures claimed { kept self.new ≡ claimed address (kept self.old) }
+    {
+        let here = self.is_repeated(address);
+        let elsewhere = self.is_shared(address);
+        self.add(address);
+        Claimed { here, elsewhere }
+    }
+
     /// Whether the address stood in the setting in work.
-    pub(crate) fn is_repeated(&self, address: u8) -> bool
+    fn is_repeated(&self, address: u8) -> bool
         ensures { result ≡ (kept self.now).here address }
     {
         self.in_setting.has(address)
@@ -90,18 +102,18 @@ impl Addresses {
 
     /// Whether the address stood under another interface number than that of the setting in work.
     #[tactic(auto, unfolding(crate::specs::inside::Addresses::kept))]
-    pub(crate) fn is_shared(&self, address: u8) -> bool
+    fn is_shared(&self, address: u8) -> bool
         ensures { result ≡ (kept self.now).elsewhere address (kept self.now).number }
     {
         self.in_set.has(address) && self.owners[usize::from(address)].is_other(self.number)
     }
 
     /// The setting in work claims the address.
-    pub(crate) fn add(&mut self, address: u8)
+    fn add(&mut self, address: u8)
         ensures { kept self.new ≡ claimed address (kept self.old) }
     {
-        let owner = if self.in_set.has(address) {
-            self.owners[usize::from(address)].join(self.number)
+        let owner = if self.is_shared(address) {
+            Owner::Several
         } else {
             Owner::One(self.number)
         };

@@ -1,7 +1,8 @@
 //! What a walk over a file finds.
-ghost use Rattle.std.specs.Prelude.{◌≡◌, ◌++◌, [], map, IfOk, OnOk};
+ghost use Rattle.std.specs.Prelude.{◌≡◌, ◌++◌, [], map, true, IfOk, OnOk};
 ghost use Rattle.usb_base.specs.Marks.{is_marked};
 ghost use Rattle.usb_rules.specs.FindingLine.{rule_number};
+ghost use Rattle.usb_rules.specs.InOrder.{by_rule};
 ghost use Rattle.usb_rules.specs.Places.{stands_in};
 
 use crate::finding::Finding;
@@ -58,7 +59,18 @@ impl Found {
     }
 
     /// All findings, rule by rule.
-    pub(crate) fn by_rule(&self, alloc: Global) -> Result<Vec<Finding>, AllocError>
+    pub(crate) fn by_rule(self, alloc: Global) -> Result<Vec<Finding>, AllocError>
+        ensures { IfOk result (λ v. v.items ≡ by_rule self) }
+    {
+        if is_by_rule(&self.findings) {
+            Ok(self.findings)
+        } else {
+            self.sorted(alloc)
+        }
+    }
+
+    /// A copy of the findings, rule by rule.
+    fn sorted(&self, alloc: Global) -> Result<Vec<Finding>, AllocError>
         ensures { IfOk result (λ v. v.items ≡ by_rule self.now) }
     {
         let broken = broken_rules(&self.findings);
@@ -84,6 +96,21 @@ impl Found {
         }
         Ok(())
     }
+}
+
+/// Whether the findings come rule by rule as they are.
+fn is_by_rule(findings: &[Finding]) -> bool
+    ensures { result ≡ true → by_rule findings.now ≡ findings.now }
+{
+    let mut last = 0;
+    for finding in findings {
+        let number = finding.rule.number();
+        if number < last {
+            return false;
+        }
+        last = number;
+    }
+    true
 }
 
 /// The numbers of the rules that are broken.

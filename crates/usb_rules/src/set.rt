@@ -156,10 +156,9 @@ fn check_endpoint(
     ensures told { OnOk result (found.new ≡ found.old ++ in_endpoint place (claims addresses.old).here (λ b. (claims addresses.old).elsewhere b (claims addresses.old).number) e.now) }
     ensures claimed { OnOk result (claims addresses.new ≡ claimed e.now.address (claims addresses.old)) }
 {
+    let claimed = addresses.claim(e.address);
     check_address(found, place, e)?;
-    check_repeated_address(found, addresses, place, e)?;
-    check_shared_address(found, addresses, place, e)?;
-    check_packet_size(found, place, e)?;
-    addresses.add(e.address);
-    Ok(())
+    check_repeated_address(found, claimed, place)?;
+    check_shared_address(found, claimed, place)?;
+    check_packet_size(found, place, e)
 }

@@ -1,16 +1,11 @@
 -- Under which interface numbers an address stands.
-use Rattle.std.specs.Prelude.{ℕ, ◌==◌, ◌&&◌, ◌||◌, not, Bool, true, false, List, map, slice_index_or, if◌then◌else◌}
+use Rattle.std.specs.Prelude.{ℕ, ◌==◌, ◌&&◌, ◌||◌, not, Bool, true, false, List, map, slice_index_or}
 use Rattle.usb_set.specs.declared.tree.Endpoint.{Endpoint}
 use Rattle.usb_rules.specs.Places.{stands_in}
 use Rattle.usb_rules.specs.Rules.{address_of}
 use Rattle.usb_base.specs.Marks.{marked, unmarked, is_marked}
 use Rattle.usb_rules.specs.declared.addresses.Owner.{Owner}
 use Rattle.usb_rules.specs.declared.addresses.Owner.TheVariants as owners
-
--- the owner of an address that stands under this number too
-abbrev pub joined : Owner → ℕ → Owner
-joined (owners.One m) n = if m == n then owners.One m else owners.Several
-joined owners.Several n = owners.Several
 
 -- whether another number than this owns the address
 abbrev pub is_other : Owner → ℕ → Bool

@@ -2,7 +2,7 @@ use Rattle.std.proofs.Common.{◌++◌}
 use Rattle.std.proofs.lemmas.List.{get_or_default}
 use Rattle.usb_rules.specs.InOrder.{every_rule, of_rule}
 use Rattle.usb_rules.proofs.Sorting.{fold_next}
-use Rattle.usb_rules.proofs.found.Found.by_rule.Goals as goal
+use Rattle.usb_rules.proofs.found.Found.sorted.Goals as goal
 
 pub loop-rule-preserved : goal.loop-rule-preserved
 loop-rule-preserved c =
