@@ -4,7 +4,8 @@ use Rattle.std.specs.Prelude.{filter}
 use Rattle.std.specs.List.{flat_map, list_any, range_with_len}
 use Rattle.std.proofs.lemmas.Bool.{cases_lt}
 use Rattle.std.proofs.lemmas.Bool.Decides.{nat_tests}
-use Rattle.std.proofs.lemmas.List.{append-nil, get_or_default, length-map, map-append}
+use Rattle.std.proofs.lemmas.List.{append-nil, get_or-map, get_or_default, length-map, map-append}
+use Rattle.std.proofs.lemmas.List.Folds.{list_any_at}
 use Rattle.std.proofs.lemmas.List.Elements.{filter-append}
 use Rattle.std.proofs.lemmas.Grind.{common_steps, flat_map-append}
 use Rattle.usb_base.specs.Marks.{IsNextAbsent, marked}
@@ -19,11 +20,11 @@ use Rattle.usb_rules.specs.InOrder.{association_count, endpoint_associations, se
 use Rattle.usb_set.specs.declared.extra.Extra.{Extra}
 use Rattle.usb_set.specs.Parts.{association_in}
 use Rattle.usb_rules.specs.declared.place.Place.{Place}
-use Rattle.usb_rules.specs.Rules.{address_of, has_elsewhere, is_first, interface_numbers}
+use Rattle.usb_rules.specs.Rules.{address_of, has_elsewhere, is_first, interface_numbers, number_of, wrong_endpoint_count}
 use Rattle.usb_rules.specs.inside.Addresses.{owned, owned_at}
-use Rattle.usb_rules.specs.inside.Interfaces.{AreEntered, Entered, first_at, first_of, misses_some, pair_too, stood}
+use Rattle.usb_rules.specs.inside.Interfaces.{AreCalm, AreEntered, AreNew, Entered, first_at, first_of, misses_some, pair_too, seen, stood}
 use Rattle.usb_rules.specs.declared.interfaces.Interface.{Interface}
-use Rattle.usb_rules.specs.inside.Walk.{in_extras, shared_with}
+use Rattle.usb_rules.specs.inside.Walk.{broken, in_extras, in_interface, shared_with}
 
 pub append_again : {A : Type 0} (out xs ys : List A) → (out ++ xs) ++ ys ≡ out ++ (xs ++ ys)
 append_again out xs ys = append_assoc out xs ys
@@ -268,3 +269,42 @@ filter_end p xs i out whole h e =
     let none : filter p (drop i xs) ≡ [] = ap (filter p) rest in
     let same = append-nil out in
     cc
+
+-- a setting more that repeats none
+pub new_more : (settings : List Setting) (j : ℕ) (s : Setting) (repeated again : Bool) → j < length settings → s ≡ get_or settings j s → repeated ≡ stood (take j settings) s.number s.alternate
+    → (again ≡ false → AreNew settings j) → (again || repeated) ≡ false → AreNew settings (j + 1)
+new_more settings j s repeated again small is told old none k below t at =
+    let before : again ≡ false = grind arith in
+    let here : repeated ≡ false = grind arith in
+    elim (cases_lt k j) [
+      | inl less ↦ old before k less t at
+      | inr more ↦
+          let same : k ≡ j = omega (arith, below, more) in
+          let one : t ≡ s = at ∙ ap (λ i. get_or settings i t) same ∙ get_or_default settings j t s small ∙ sym is in
+          ap (λ i. stood (take i settings) t.number t.alternate) same ∙ ap (λ u. stood (take j settings) u.number u.alternate) one ∙ sym told ∙ here
+    ]
+
+-- ---- V3 and V4 where no setting breaks them
+
+neither : (stands default : Bool) → default ≡ true → (not stands && not default) ≡ false
+neither true default h = refl
+neither false default h = ap not h
+
+-- a setting stands in its set
+its_number : (settings : List Setting) (j : ℕ) (s : Setting) → j < length settings → s ≡ get_or settings j s → stands_in (map number_of settings) s.number ≡ true
+its_number settings j s below is =
+    list_any_at (λ n. n == s.number) (map number_of settings) j s.number (omega (arith, below, length-map settings number_of))
+    (ap (λ n. n == s.number) (get_or-map number_of settings j s s.number below ∙ ap number_of (sym is)) ∙ (let e : (s.number == s.number) ≡ true = grind (arith, nat_tests) in e))
+
+pub interface_seen : (odd : Bool) (at : Place) (settings : List Setting) (j : ℕ) (s : Setting) (e : Entered) → j < length settings → s ≡ get_or settings j s
+    → (odd ≡ true → e.numbers ≡ stands_in (map number_of (take j settings))) → (odd ≡ true → e.alternates ≡ stood (take j settings)) → (odd ≡ false → AreCalm settings)
+    → in_interface at (stood settings) (seen odd e).numbers (seen odd e).alternates s ≡ in_interface at (stood settings) (stands_in (map number_of (take j settings))) (stood (take j settings)) s
+interface_seen true at settings j s e below is numbers alternates calm =
+    ap (λ f. in_interface at (stood settings) f e.alternates s) (numbers refl) ∙ ap (λ f. in_interface at (stood settings) (stands_in (map number_of (take j settings))) f s) (alternates refl)
+interface_seen false at settings j s e below is numbers alternates calm =
+    let none = calm refl in
+    let before = stands_in (map number_of (take j settings)) s.number in
+    let count = when (wrong_endpoint_count s) (broken rules.V5 at) in
+    let v4 = neither before (stood settings s.number 0) (none.defaults s.number (its_number settings j s below is)) in
+    ap (λ b. when b (broken rules.V3 at) ++ when (not true && not (stood settings s.number 0)) (broken rules.V4 at) ++ count) (sym (none.repeated j below s is))
+    ∙ ap (λ b. when (stood (take j settings) s.number s.alternate) (broken rules.V3 at) ++ when b (broken rules.V4 at) ++ count) (sym v4)

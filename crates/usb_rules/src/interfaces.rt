@@ -1,7 +1,7 @@
 //! The interfaces of a set.
 ghost use Rattle.std.specs.Prelude.{◌≡◌, true, false, map, IfOk, OnOk};
 ghost use Rattle.usb_base.specs.Marks.{IsNextAbsent};
-ghost use Rattle.usb_rules.specs.inside.Interfaces.{begun, entered, first_of, kept, none_entered, paired};
+ghost use Rattle.usb_rules.specs.inside.Interfaces.{HaveDefaults, begun, entered, first_of, kept, none_entered, paired};
 
 use std::alloc::{AllocError, Global};
 use std::marker::Model;
@@ -61,6 +61,18 @@ impl Interfaces {
         ensures { map first_of result.now ≡ (kept self.now).firsts }
     {
         &self.list
+    }
+
+    /// Whether an interface has no alternate setting 0.
+    pub(crate) fn lacks_default(&self) -> bool
+        ensures { result ≡ false → HaveDefaults (kept self.now) }
+    {
+        for interface in &self.list {
+            if !interface.alternates.has(0) {
+                return true;
+            }
+        }
+        false
     }
 
     /// The first number from this one on that is no interface number.

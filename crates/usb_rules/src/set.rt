@@ -1,9 +1,9 @@
 //! All rules that a set keeps or breaks by itself.
-ghost use Rattle.std.specs.Prelude.{◌≡◌, ◌+◌, ◌++◌, IfOk, OnOk};
+ghost use Rattle.std.specs.Prelude.{◌≡◌, ◌+◌, ◌++◌, true, false, IfOk, OnOk};
 ghost use Rattle.usb_base.specs.Marks.{is_marked, marked};
 ghost use Rattle.usb_rules.specs.InOrder.{setting_associations};
 ghost use Rattle.usb_rules.specs.inside.Addresses.{claimed, owned, kept as claims};
-ghost use Rattle.usb_rules.specs.inside.Interfaces.{AreEntered, entered, kept as entries};
+ghost use Rattle.usb_rules.specs.inside.Interfaces.{AreCalm, AreEntered, entered, kept as entries, seen};
 ghost use Rattle.usb_rules.specs.inside.Walk.{in_configuration, in_endpoint, in_interface, in_set, in_setting};
 
 use crate::addresses::Addresses;
@@ -63,7 +63,7 @@ pub(crate) fn check_set_at(
     ensures told { OnOk result (found.new ≡ found.old ++ in_set place (is_marked values.old) c.now) }
     ensures marked { OnOk result (is_marked values.new ≡ marked (is_marked values.old) c.now.value) }
 {
-    enter_all(&mut known.whole, &c.settings)?;
+    let odd = enter_all(&mut known.whole, &c.settings)?;
     let whole = &known.whole;
     check_configuration(found, whole, values, place, c)?;
     let passed = &mut known.passed;
@@ -71,20 +71,31 @@ pub(crate) fn check_set_at(
     passed.addresses.clear();
     let mut number = check_extras(found, whole, &place, 0, &c.extras)?;
     for (setting, s) in c.settings.iter().enumerate() {
-        number = check_setting(found, whole, passed, place.at_setting(setting), number, s)?;
+        number = check_setting(
+            found,
+            whole,
+            passed,
+            odd,
+            place.at_setting(setting),
+            number,
+            s,
+        )?;
     }
     Ok(())
 }
 
-/// Enters these settings and no others.
-fn enter_all(interfaces: &mut Interfaces, settings: &[Setting]) -> Result<(), AllocError>
-    ensures { OnOk result (AreEntered settings.now (entries interfaces.new)) }
+/// Enters these settings and no others. Answers whether one of them may break V3 or V4.
+fn enter_all(interfaces: &mut Interfaces, settings: &[Setting]) -> Result<bool, AllocError>
+    ensures entered { OnOk result (AreEntered settings.now (entries interfaces.new)) }
+    ensures calm { IfOk result (λ odd. odd ≡ false → AreCalm settings.now) }
 {
     interfaces.clear();
+    let mut again = false;
     for (setting, s) in settings.iter().enumerate() {
-        interfaces.add(setting, s)?;
+        let repeated = interfaces.add(setting, s)?;
+        again |= repeated;
     }
-    Ok(())
+    Ok(again || interfaces.lacks_default())
 }
 
 /// Of the first descriptor of a set.
@@ -110,16 +121,17 @@ fn check_setting(
     found: &mut Found,
     whole: &Interfaces,
     passed: &mut Passed,
+    odd: bool,
     place: Place,
     number: usize,
     s: &Setting,
 ) -> Result<usize, AllocError>
-    ensures told { OnOk result (found.new ≡ found.old ++ in_setting place (entries whole.now).numbers (entries whole.now).alternates (entries passed.old.interfaces).numbers (entries passed.old.interfaces).alternates (claims passed.old.addresses).elsewhere number s.now) }
-    ensures interfaces { OnOk result (entries passed.new.interfaces ≡ entered place.setting s.now (entries passed.old.interfaces)) }
+    ensures told { OnOk result (found.new ≡ found.old ++ in_setting place (entries whole.now).numbers (entries whole.now).alternates (seen odd (entries passed.old.interfaces)).numbers (seen odd (entries passed.old.interfaces)).alternates (claims passed.old.addresses).elsewhere number s.now) }
+    ensures interfaces { OnOk result (odd ≡ true → entries passed.new.interfaces ≡ entered place.setting s.now (entries passed.old.interfaces)) }
     ensures addresses { OnOk result ((claims passed.new.addresses).elsewhere ≡ owned s.now.number s.now.endpoints (claims passed.old.addresses).elsewhere) }
     ensures next { IfOk result (λ next. next ≡ number + setting_associations s.now) }
 {
-    check_interface(found, whole, &mut passed.interfaces, place, s)?;
+    check_interface(found, whole, &mut passed.interfaces, odd, place, s)?;
     let mut next = check_extras(found, whole, &place, number, &s.extras)?;
     passed.addresses.begin(s.number);
     for (endpoint, e) in s.endpoints.iter().enumerate() {
@@ -129,17 +141,21 @@ fn check_setting(
     Ok(next)
 }
 
-/// Of an interface descriptor.
+/// Of an interface descriptor, in a set of which a setting may break V3 or V4, or none does.
 fn check_interface(
     found: &mut Found,
     whole: &Interfaces,
     interfaces: &mut Interfaces,
+    odd: bool,
     place: Place,
     s: &Setting,
 ) -> Result<(), AllocError>
-    ensures told { OnOk result (found.new ≡ found.old ++ in_interface place (entries whole.now).alternates (entries interfaces.old).numbers (entries interfaces.old).alternates s.now) }
-    ensures interfaces { OnOk result (entries interfaces.new ≡ entered place.setting s.now (entries interfaces.old)) }
+    ensures told { OnOk result (found.new ≡ found.old ++ in_interface place (entries whole.now).alternates (seen odd (entries interfaces.old)).numbers (seen odd (entries interfaces.old)).alternates s.now) }
+    ensures interfaces { OnOk result (odd ≡ true → entries interfaces.new ≡ entered place.setting s.now (entries interfaces.old)) }
 {
+    if !odd {
+        return check_endpoint_count(found, place, s);
+    }
     let lacks = lacks_default_setting(whole, interfaces, s);
     check_repeated_setting(found, interfaces, place, s)?;
     found.tell(Rule::V4, lacks, place)?;

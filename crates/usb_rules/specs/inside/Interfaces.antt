@@ -1,5 +1,5 @@
 -- What is kept of the settings of a set that were entered.
-use Rattle.std.specs.Prelude.{◌≡◌, ℕ, ◌+◌, ◌==◌, ◌&&◌, ◌||◌, not, Bool, true, false, List, [], ◌∷◌, ◌++◌, length, map, slice_index_or, take}
+use Rattle.std.specs.Prelude.{◌≡◌, ◌<◌, ℕ, ◌+◌, ◌==◌, ◌&&◌, ◌||◌, not, Bool, true, false, List, [], ◌∷◌, ◌++◌, get_or, length, map, slice_index_or, take}
 use Rattle.std.specs.List.{list_any, range_with_len}
 use Rattle.usb_base.specs.Marks.{marked, is_marked}
 use Rattle.usb_set.specs.declared.extra.Association.{Association}
@@ -55,6 +55,23 @@ pub record AreEntered (settings : List Setting) (e : Entered) : Type 0 where
   pub numbers : e.numbers ≡ stands_in (map number_of settings)
   pub alternates : e.alternates ≡ stood settings
   pub firsts : e.firsts ≡ firsts_of settings
+
+-- each interface has an alternate setting 0
+abbrev pub HaveDefaults : Entered → Type 0
+HaveDefaults e = (n : ℕ) → e.numbers n ≡ true → e.alternates n 0 ≡ true
+
+-- none of the settings before this place has the number and alternate of an earlier one
+abbrev pub AreNew : List Setting → ℕ → Type 0
+AreNew settings i = (j : ℕ) → j < i → (s : Setting) → s ≡ get_or settings j s → stood (take j settings) s.number s.alternate ≡ false
+
+-- no setting breaks V3 or V4
+pub record AreCalm (settings : List Setting) : Type 0 where
+  pub repeated : AreNew settings (length settings)
+  pub defaults : (n : ℕ) → stands_in (map number_of settings) n ≡ true → stood settings n 0 ≡ true
+
+-- what settings before say of V3 and V4, where one may break them, and else that none does
+abbrev pub seen : Bool → Entered → Entered
+seen odd e = record e { numbers = λ n. not odd || e.numbers n; alternates = λ n a. odd && e.alternates n a }
 
 -- an interface by its number and the place of its first setting
 abbrev pub first_of : Interface → ℕ × ℕ

@@ -5,7 +5,7 @@ use Rattle.usb_rules.specs.Places.{at_each_counted, stands_in}
 use Rattle.usb_rules.specs.Rules.{address_of}
 use Rattle.usb_rules.specs.InOrder.{association_count, endpoint_associations}
 use Rattle.usb_rules.specs.inside.Addresses.{owned, owned_at, kept as claims}
-use Rattle.usb_rules.specs.inside.Interfaces.{kept as entries}
+use Rattle.usb_rules.specs.inside.Interfaces.{kept as entries, seen}
 use Rattle.usb_rules.specs.inside.Walk.{endpoint_at, in_endpoint, in_extras, in_interface, place}
 use Rattle.usb_rules.proofs.Walking.{counted_next, count_behind, ends_next, joined_twice, owned_more, owned_none, owned_same, stands_more}
 use Rattle.usb_rules.proofs.set.check_setting.Goals as goal
@@ -15,7 +15,7 @@ loop-endpoint-init c =
     let s = c.args.s.now in
     let old = c.args.found.now in
     let stands = (entries c.args.whole.now).numbers in
-    let before = entries c.args.passed.now.interfaces in
+    let before = seen c.args.odd (entries c.args.passed.now.interfaces) in
     let other = (claims c.args.passed.now.addresses).elsewhere in
     let at = in_interface c.args.place (entries c.args.whole.now).alternates before.numbers before.alternates s in
     let extras = in_extras c.args.place stands c.args.number s.extras in

@@ -1,9 +1,9 @@
-use Rattle.std.proofs.Common.{◌<◌, ◌++◌, ◌∙◌, not, length, ap, sym, arith}
+use Rattle.std.proofs.Common.{◌<◌, ◌++◌, ◌∙◌, not, length, map, ap, sym, arith}
 use Rattle.usb_base.specs.Marks.{marked}
-use Rattle.usb_rules.specs.Places.{when}
+use Rattle.usb_rules.specs.Places.{stands_in, when}
 use Rattle.usb_rules.specs.Rules.{number_of}
-use Rattle.usb_rules.specs.inside.Interfaces.{first_at, pair_too, kept as entries}
-use Rattle.usb_rules.proofs.Walking.{at_each_next, stands_more, stood_more}
+use Rattle.usb_rules.specs.inside.Interfaces.{first_at, pair_too, kept as entries, stood}
+use Rattle.usb_rules.proofs.Walking.{at_each_next, new_more, stands_more, stood_more, take_all}
 use Rattle.usb_rules.proofs.set.enter_all.Goals as goal
 
 pub loop-setting-preserved : goal.loop-setting-preserved
@@ -15,10 +15,23 @@ loop-setting-preserved c =
     let inv = c.loop-setting.invariant in
     let below : j < length settings = omega (arith, c.loop-setting-test.true) in
     let is = c.index-settings-setting.is in
-    let more = c.in_ok-add.ensures.entered in
+    let more = c.in_ok-repeated.ensures.entered in
     record {
       numbers = ap (λ t. t.numbers) more ∙ ap (λ f. marked f s.number) inv.numbers ∙ sym (stands_more number_of settings j s below is);
       alternates = ap (λ t. t.alternates) more ∙ ap (pair_too s.number s.alternate) inv.alternates ∙ sym (stood_more settings j s below is);
       firsts = at_each_next (first_at settings) settings j s now.firsts _ _ below is inv.firsts
           (ap (λ t. t.firsts) more ∙ ap (λ f. now.firsts ++ when (not (f s.number)) (s.number, j)) inv.numbers);
+      calm = new_more settings j s c.in_ok-repeated.repeated c.loop-setting.again below is (c.in_ok-repeated.ensures.again ∙ ap (λ f. f s.number s.alternate) inv.alternates) inv.calm;
+    }
+
+pub returns-else-again-clause-calm : goal.returns-else-again-clause-calm
+returns-else-again-clause-calm c = λ none.
+    let settings = c.args.settings.now in
+    let inv = c.loop-setting.invariant in
+    let all = take_all settings c.loop-setting.setting c.loop-setting-test.false in
+    record {
+      repeated = λ j below. inv.calm c.if-again.false j (omega (arith, below, c.loop-setting-test.false));
+      defaults = λ n there.
+          sym (ap (λ f. f n 0) (inv.alternates ∙ ap stood all))
+          ∙ c.lacks_default.ensures none n (ap (λ f. f n) (inv.numbers ∙ ap (λ xs. stands_in (map number_of xs)) all) ∙ there);
     }
