@@ -194,11 +194,10 @@ pub broken_ends : (subject : Subject) (fault : InputFault) (b : List ℕ) (at : 
 broken_ends subject fault b at = ap (λ l. fault_text fault ++ l) (sym (append-nil (rest_text subject at (drop at b))))
 
 -- a text made of a walk over the front of these bytes
-pub once_by : (subject : Subject) (b front tail first before_rest last text : List ℕ) (n : ℕ) (ending : ℕ → List ℕ) → b ≡ front ++ tail
+unfoldable pub once_of : (subject : Subject) (b front tail first before_rest last text : List ℕ) (n : ℕ) (ending : ℕ → List ℕ) → b ≡ front ++ tail
     → ((at : ℕ) → ending at ≡ end_by subject b before_rest last at)
-    → text ≡ first ++ walked n subject ending start front → EachByteOnce subject front b first before_rest last text
-once_by subject b front tail first before_rest last text n ending whole ends_so e =
-    let w = walk_shows subject n start front in
+    → text ≡ first ++ walked n subject ending start front → Walk subject n start front → EachByteOnce subject front b first before_rest last text
+once_of subject b front tail first before_rest last text n ending whole ends_so e w =
     let ends : length (flat_map (λ d. d.bytes) w.shown) ≡ w.end = ends_at w.shown w.end w.spans in
     let walked_parts = cut_parts w.shown front w.rest w.cut in
     let all : b ≡ flat_map (λ d. d.bytes) w.shown ++ (w.rest ++ tail) = whole ∙ ap (λ l. l ++ tail) walked_parts ∙ append_assoc (flat_map (λ d. d.bytes) w.shown) w.rest tail in
@@ -213,6 +212,12 @@ once_by subject b front tail first before_rest last text n ending whole ends_so 
       parts = parts;
       spans = rest_follows (map span_of w.shown) 0 w.end (length b) (drop w.end b) (subst (λ k. Follow k (map span_of w.shown) w.end) start_at w.spans) (omega (arith, ends, total));
     }
+
+pub once_by : (subject : Subject) (b front tail first before_rest last text : List ℕ) (n : ℕ) (ending : ℕ → List ℕ) → b ≡ front ++ tail
+    → ((at : ℕ) → ending at ≡ end_by subject b before_rest last at)
+    → text ≡ first ++ walked n subject ending start front → EachByteOnce subject front b first before_rest last text
+once_by subject b front tail first before_rest last text n ending whole ends_so e =
+    once_of subject b front tail first before_rest last text n ending whole ends_so e (walk_shows subject n start front)
 
 pub whole_is : (subject : Subject) (name : List ℕ) (n : ℕ) (b : List ℕ)
     → whole_text subject name n b ≡ first_line name (length b) ++ walked (length b) subject (whole_end subject n b) start b

@@ -7,3 +7,5 @@ pub mod Endpoints
 pub mod Settings
 pub mod Sets
 pub mod Inputs
+pub mod Near
+pub mod Broken

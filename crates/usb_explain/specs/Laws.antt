@@ -1,18 +1,19 @@
 -- What holds of each explanation: its headings stand for each byte once, and of an input no bytes are left for the rest. Each
 -- finding is told once, with the counts of its set, and the descriptors are those of the input's tree. A brief one leaves out
--- the fields alone, and each byte of it is a line feed or printable.
+-- the fields alone, and each part of it is printable lines.
 use Rattle.std.specs.Prelude.{◌≡◌, ◌<◌, ℕ, true, false, ◌+◌, List, [], ◌∷◌, ◌++◌, length, map, take, drop, flat_map, slice_index, unwrap_or}
 use Rattle.std.specs.List.{AllByRecursion}
 use Rattle.std.specs.Option.{option_map}
 use Rattle.usb_base.specs.Bytes.{AreBytes}
 use Rattle.usb_file.specs.declared.input.Input.{Input}
 use Rattle.usb_file.specs.declared.input_fault.InputFault.{InputFault}
-use Rattle.usb_file.specs.Inputs.{IsInput, input_findings}
+use Rattle.usb_file.specs.Inputs.{InputRefused, IsInput, input_findings}
 use Rattle.usb_rules.specs.declared.finding.Finding.{Finding}
 use Rattle.usb_rules.specs.declared.rule.Rule.{Rule}
 use Rattle.usb_rules.specs.declared.rule.Rule.TheVariants as rules
 use Rattle.usb_rules.specs.InOrder.{by_rule}
 use Rattle.usb_explained_lines.specs.declared.told.Told.{Told}
+use Rattle.usb_explained_lines.specs.declared.kind.Kind.{Kind}
 use Rattle.usb_explained_lines.specs.declared.kind.Kind.TheVariants as kinds
 use Rattle.usb_explained_lines.specs.Kinds.{fields, heading, kind_lines}
 use Rattle.usb_explain.specs.declared.manner.Manner.{Manner}
@@ -20,9 +21,9 @@ use Rattle.usb_explain.specs.declared.role.Role.{Role}
 use Rattle.usb_explain.specs.declared.standing.Standing.{Standing}
 use Rattle.usb_explain.specs.Explanations.{broken_explanation, broken_name, explanation, first_line, input_name, last_line}
 use Rattle.usb_explain.specs.Faults.{fault_text, place_of_fault}
-use Rattle.usb_explain.specs.Findings.{found_at, is_here, role_findings, told_at}
+use Rattle.usb_explain.specs.Findings.{found_at, is_here, line_of, role_findings, told_at}
 use Rattle.usb_explain.specs.Kinds.{depth_of, kind_of}
-use Rattle.usb_explain.specs.PlainText.{IsPlainText}
+use Rattle.usb_explain.specs.Lines.{IsLine, SayFields}
 use Rattle.usb_explain.specs.Subjects.{Subject, broken_subject, findings_in, subject_with}
 use Rattle.usb_explain.specs.Trees.{OutlineEntry, counts_in, entry, outline}
 use Rattle.usb_explain.specs.Walks.{rest_text}
@@ -105,6 +106,18 @@ abbrev pub BrokenEachByteOnce : Type 0
 BrokenEachByteOnce =
     (manner : Manner) (fault : InputFault) (b : List ℕ) →
     EachByteOnce (broken_subject manner) (take (place_of_fault fault) b) b (first_line (broken_name b) (length b)) (fault_text fault) []
+    (broken_explanation manner fault b)
+
+-- The text of bytes that are no input comes near their fault: of the bytes before it, fewer than 256 have no heading.
+pub record ComesNear (subject : Subject) (front bytes first before_rest last text : List ℕ) : Type 0 where
+  pub once : EachByteOnce subject front bytes first before_rest last text
+  pub near : length (drop once.end front) < 256
+
+-- so does each explanation of bytes that are read as no input, with the fault that is told of them
+abbrev pub BrokenComesNear : Type 0
+BrokenComesNear =
+    (manner : Manner) (fault : InputFault) (b : List ℕ) → AreBytes b → InputRefused b fault →
+    ComesNear (broken_subject manner) (take (place_of_fault fault) b) b (first_line (broken_name b) (length b)) (fault_text fault) []
     (broken_explanation manner fault b)
 
 -- of an input nothing is left: each of its bytes stands under the heading of a descriptor
@@ -210,10 +223,40 @@ BrokenLeavesOutFields =
     LeavesOutFields (broken_subject manner) b (first_line (broken_name b) (length b)) (fault_text fault) []
     (broken_explanation (with_fields manner) fault b) (broken_explanation (without_fields manner) fault b)
 
--- each explanation of an input is a plain text
-abbrev pub WholeIsPlainText : Type 0
-WholeIsPlainText = (manner : Manner) (input : Input) (b : List ℕ) → IsInput input b → IsPlainText (explanation manner input b)
+-- a descriptor of this kind is told in lines: its heading is one, and each of its fields is said in one
+abbrev pub IsInLines : Subject → ℕ → Kind → List ℕ → ℕ → Type 0
+IsInLines subject depth kind b at =
+    IsLine (heading subject.manner.look depth kind b at) × SayFields depth (fields subject.manner.look depth subject.names kind b)
+
+-- so it is of a descriptor, and each finding told there has one line
+abbrev pub BlockIsLines : Subject → Shown → Type 0
+BlockIsLines subject d =
+    IsInLines subject (depth_of d.standing d.role) (kind_of subject d.standing d.role d.bytes) d.bytes d.standing.at
+    × AllByRecursion (λ f. IsLine (line_of subject.is_dump d.standing d.role d.bytes d.behind f)) (findings_of subject d)
+
+-- and of the rest, if bytes are left
+abbrev pub RestIsLines : Subject → ℕ → List ℕ → Type 0
+RestIsLines subject at [] = Unit {0}
+RestIsLines subject at (x ∷ rest) = IsInLines subject 0 kinds.Rest (x ∷ rest) at
+
+-- A text whose parts are lines. The first line is one, and so is that of the fault, before the rest, or the last one.
+pub record InLines (subject : Subject) (front bytes first before_rest last text : List ℕ) : Type 0 where
+  pub once : EachByteOnce subject front bytes first before_rest last text
+  pub begins : IsLine first
+  pub blocks : AllByRecursion (BlockIsLines subject) once.shown
+  pub rest : RestIsLines subject once.end (drop once.end bytes)
+  pub ends : IsLine (before_rest ++ last)
+
+-- each explanation of an input is in lines
+abbrev pub WholeInLines : Type 0
+WholeInLines =
+    (manner : Manner) (input : Input) (b : List ℕ) → IsInput input b →
+    InLines (subject_with manner input (findings_in input)) b b (first_line (input_name input) (length b)) [] (last_line (length (findings_in input)))
+    (explanation manner input b)
 
 -- so is that of any bytes with any fault
-abbrev pub BrokenIsPlainText : Type 0
-BrokenIsPlainText = (manner : Manner) (fault : InputFault) (b : List ℕ) → AreBytes b → IsPlainText (broken_explanation manner fault b)
+abbrev pub BrokenInLines : Type 0
+BrokenInLines =
+    (manner : Manner) (fault : InputFault) (b : List ℕ) → AreBytes b →
+    InLines (broken_subject manner) (take (place_of_fault fault) b) b (first_line (broken_name b) (length b)) (fault_text fault) []
+    (broken_explanation manner fault b)

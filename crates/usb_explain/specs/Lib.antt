@@ -8,7 +8,7 @@ pub mod Passing
 pub mod Walks
 pub mod Faults
 pub mod Explanations
-pub mod PlainText
+pub mod Lines
 pub mod Trees
 pub mod Laws
 pub mod inside

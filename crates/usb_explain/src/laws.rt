@@ -1,5 +1,5 @@
 //! What holds of each explanation. The functions of these laws do nothing: their contracts are the laws.
-ghost use Rattle.usb_explain.specs.Laws.{BrokenEachByteOnce, BrokenIsPlainText, BrokenLeavesOutFields, WholeEachByteOnce, WholeHasNoRest, WholeIsPlainText, WholeLeavesOutFields, WholeShowsTree, WholeTellsCounts, WholeTellsFindings};
+ghost use Rattle.usb_explain.specs.Laws.{BrokenComesNear, BrokenEachByteOnce, BrokenInLines, BrokenLeavesOutFields, WholeEachByteOnce, WholeHasNoRest, WholeInLines, WholeLeavesOutFields, WholeShowsTree, WholeTellsCounts, WholeTellsFindings};
 
 /// Each byte once: the places and lengths in the headings follow each other from 0 to the number of bytes, and each heading
 /// begins the lines of the descriptor there, as long as its bLength. The last one is that of the rest, if bytes
@@ -9,6 +9,12 @@ pub fn each_byte_has_one_heading()
     ensures whole { WholeEachByteOnce }
     ensures broken { BrokenEachByteOnce }
     ensures inputs { WholeHasNoRest }
+{}
+
+/// A broken input is explained up to its fault: with the fault that `read_input` tells of bytes, fewer than 256 of those before
+/// it stand under no heading of a descriptor. They are no more than one descriptor may have.
+pub fn a_broken_input_is_explained_up_to_its_fault()
+    ensures { BrokenComesNear }
 {}
 
 /// Each finding once: the findings under the headings are, in their order, just those that `check` tells of the input, each
@@ -36,9 +42,10 @@ pub fn a_brief_explanation_leaves_out_the_fields()
     ensures broken { BrokenLeavesOutFields }
 {}
 
-/// Each byte of an explanation is a line feed or printable ASCII (20 to 7e hexadecimal), whatever the bytes of the input:
-/// nothing that a device says of itself reaches a terminal as a control character.
-pub fn each_byte_is_printable()
-    ensures whole { WholeIsPlainText }
-    ensures broken { BrokenIsPlainText }
+/// A line is a line: each heading, each finding and each field is one, and so are the first line, that of the fault and the
+/// last one. It is printable ASCII (20 to 7e hexadecimal) up to its line feed, whatever the bytes of the input: nothing that
+/// a device says of itself reaches a terminal as a control character, or as a line of its own.
+pub fn each_line_is_one()
+    ensures whole { WholeInLines }
+    ensures broken { BrokenInLines }
 {}

@@ -1,8 +1,9 @@
--- The lines of headings and fields are plain, and so are the strings that indices name.
-use Rattle.std.proofs.Common.{ℕ, zero, suc, ◌==◌, ◌++◌, List, [], ◌∷◌, Option, Some, None, codes, option_and_then, refl}
+-- Headings and fields are said in a line each, and the strings that indices name are plain.
+use Rattle.std.proofs.Common.{ℕ, zero, suc, ◌*◌, ◌==◌, ◌++◌, Bool, true, false, if◌then◌else◌, List, [], ◌∷◌, Option, Some, None, codes, option_and_then, refl, sym, ap, subst, ◌∙◌, append-nil}
 use Rattle.std.specs.Prelude.{slice_get}
 use Rattle.std.specs.Fmt.{decimal}
 use Rattle.std.specs.List.{AllByRecursion, flat_map}
+use Rattle.std.proofs.lemmas.Grind.{flat_map-append}
 use Rattle.hex.specs.Hex.{encode_lower}
 use Rattle.usb_base.specs.Bytes.{AreBytes}
 use Rattle.usb_file_data.specs.declared.file.Strings.{Strings}
@@ -11,29 +12,65 @@ use Rattle.usb_listing.specs.StringListing.{written_unit}
 use Rattle.usb_explained_fields.specs.declared.look.Look.{Look}
 use Rattle.usb_explained_fields.specs.declared.names.Missing.{Missing}
 use Rattle.usb_explained_fields.specs.declared.names.Missing.TheVariants.{NotInInput, NotRead}
-use Rattle.usb_explained_fields.specs.Lines.{digits_line, field_line, field_start, heading_line}
+use Rattle.usb_explained_fields.specs.Lines.{digits_line, field_line, field_start, heading_line, place_words, spaces}
 use Rattle.usb_explained_fields.specs.Names.{StringNames, index_words, missing_words, name_words, named_units, quoted, units_in_first_language}
-use Rattle.usb_explain.specs.PlainText.{IsPlainText}
-use Rattle.usb_explain.proofs.plain.Texts.{AreWords, decimal_plain, digits_plain, each_plain, either_plain, parts, spaces_plain, unit_plain}
+use Rattle.usb_listing_reader.proofs.PrintableLemmas.{Printable, encoded_printable, unit_printable}
+use Rattle.usb_explain.specs.Lines.{IsLine, Said, SayFields, line_that}
+use Rattle.usb_explain.proofs.plain.Texts.{AreWords, both_plain, decimal_plain, each_plain, either_plain, ended, parts, spaces_plain}
 
 -- ---- lines
 
-pub heading_line_plain : (look : Look) (depth : ℕ) (words : List ℕ) (at count : ℕ) → IsPlainText words → IsPlainText (heading_line look depth words at count)
+pub heading_is_line : (look : Look) (depth : ℕ) (words : List ℕ) (at count : ℕ) → Printable words → IsLine (heading_line look depth words at count)
 unfolding heading_line
-heading_line_plain look depth words at count h = simp (parts, spaces_plain, decimal_plain, h) refl
+heading_is_line look depth words at count h =
+    ended (spaces (2 * depth) ++ words ++ place_words look at count) (simp (parts, spaces_plain, decimal_plain, h) refl)
 
-start_plain : (depth : ℕ) (name : List ℕ) → IsPlainText name → IsPlainText (field_start depth name)
+start_plain : (depth : ℕ) (name : List ℕ) → Printable name → Printable (field_start depth name)
 unfolding field_start
 start_plain depth name h = simp (parts, spaces_plain, h) refl
 
-pub field_line_plain : (depth : ℕ) (name value : List ℕ) → IsPlainText name → IsPlainText value → IsPlainText (field_line depth name value)
+field_is_line : (depth : ℕ) (name value : List ℕ) → Printable name → Printable value → IsLine (field_line depth name value)
 unfolding field_line
-field_line_plain depth name value h k = simp (parts, start_plain depth name h, k) refl
+field_is_line depth name value h k = ended (field_start depth name ++ value) (both_plain (field_start depth name) value (start_plain depth name h) k)
 
-pub digits_line_plain : (depth : ℕ) (name b : List ℕ) → IsPlainText name → AreBytes b → IsPlainText (digits_line depth name b)
+-- ---- fields one after another
+
+pub no_fields : (depth : ℕ) → SayFields depth []
+no_fields depth = record { fields = []; each = tt; joined = refl }
+
+pub field_first : (depth : ℕ) (name value more : List ℕ) → Printable name → Printable value → SayFields depth more
+    → SayFields depth (field_line depth name value ++ more)
+field_first depth name value more h k say = record {
+  fields = record { name = name; value = value } ∷ say.fields;
+  each = (field_is_line depth name value h k, say.each);
+  joined = ap (λ l. field_line depth name value ++ l) say.joined;
+}
+
+pub one_field : (depth : ℕ) (name value : List ℕ) → Printable name → Printable value → SayFields depth (field_line depth name value)
+one_field depth name value h k =
+    subst (SayFields depth) (append-nil (field_line depth name value)) (field_first depth name value [] h k (no_fields depth))
+
+each_of_both : (depth : ℕ) (xs ys : List Said) → AllByRecursion (λ said. IsLine (line_that depth said)) xs
+    → AllByRecursion (λ said. IsLine (line_that depth said)) ys → AllByRecursion (λ said. IsLine (line_that depth said)) (xs ++ ys)
+each_of_both depth [] ys h k = k
+each_of_both depth (x ∷ xs) ys h k = (h.0, each_of_both depth xs ys h.1 k)
+
+pub both_say : (depth : ℕ) (xs ys : List ℕ) → SayFields depth xs → SayFields depth ys → SayFields depth (xs ++ ys)
+both_say depth xs ys h k = record {
+  fields = h.fields ++ k.fields;
+  each = each_of_both depth h.fields k.fields h.each k.each;
+  joined = ap (λ l. l ++ ys) h.joined ∙ ap (λ l. flat_map (line_that depth) h.fields ++ l) k.joined
+      ∙ sym (flat_map-append (line_that depth) h.fields k.fields);
+}
+
+pub either_says : (depth : ℕ) (b : Bool) (xs ys : List ℕ) → SayFields depth xs → SayFields depth ys → SayFields depth (if b then xs else ys)
+either_says depth true xs ys h k = h
+either_says depth false xs ys h k = k
+
+pub digits_say : (depth : ℕ) (name b : List ℕ) → Printable name → AreBytes b → SayFields depth (digits_line depth name b)
 unfolding digits_line
-digits_line_plain depth name [] h k = refl
-digits_line_plain depth name (x ∷ b) h k = field_line_plain depth name (encode_lower (x ∷ b)) h (digits_plain (x ∷ b) k)
+digits_say depth name [] h k = no_fields depth
+digits_say depth name (x ∷ b) h k = one_field depth name (encode_lower (x ∷ b)) h (encoded_printable (x ∷ b) k)
 
 -- ---- strings
 
@@ -69,25 +106,25 @@ units_fit : (named : List ℕ) (index : ℕ) (strings : Option Strings) → Mayb
 units_fit named index None fit = tt
 units_fit named index (Some strings) fit = in_language strings named index (slice_get strings.languages 0) fit
 
-pub units_plain : (units : List ℕ) → AreWords units → IsPlainText (flat_map written_unit units)
-units_plain units words = each_plain written_unit unit_plain units words
+pub units_plain : (units : List ℕ) → AreWords units → Printable (flat_map written_unit units)
+units_plain units words = each_plain written_unit unit_printable units words
 
-quoted_plain : (units : List ℕ) → AreWords units → IsPlainText (quoted units)
+quoted_plain : (units : List ℕ) → AreWords units → Printable (quoted units)
 unfolding quoted
 quoted_plain units words = simp (parts, units_plain units words) refl
 
-missing_plain : (missing : Missing) → IsPlainText (missing_words missing)
+missing_plain : (missing : Missing) → Printable (missing_words missing)
 missing_plain NotInInput = refl
 missing_plain NotRead = refl
 
-name_plain : (missing : Missing) (units : Option (List ℕ)) → MaybeWords units → IsPlainText (name_words missing units)
+name_plain : (missing : Missing) (units : Option (List ℕ)) → MaybeWords units → Printable (name_words missing units)
 name_plain missing None words = missing_plain missing
 name_plain missing (Some units) words = quoted_plain units words
 
-number_plain : (index : ℕ) (behind : List ℕ) → IsPlainText behind → IsPlainText (decimal index ++ behind)
+number_plain : (index : ℕ) (behind : List ℕ) → Printable behind → Printable (decimal index ++ behind)
 number_plain index behind h = simp (parts, decimal_plain, h) refl
 
-pub index_plain : (names : StringNames) (index : ℕ) → MaybeFit names.strings → IsPlainText (index_words names index)
+pub index_plain : (names : StringNames) (index : ℕ) → MaybeFit names.strings → Printable (index_words names index)
 unfolding index_words
 index_plain names index fit =
     let words = name_words names.missing (named_units names index) in

@@ -12,22 +12,22 @@ use Rattle.usb_listing_reader.proofs.RowLemmas.{bytes_back, bytes_front}
 use Rattle.usb_explained_fields.specs.Forms.{decimal_words, form_words, hexadecimal_words, packet_size_words, release_words, report_words}
 use Rattle.usb_explained_fields.specs.Names.{StringNames}
 use Rattle.usb_explained_fields.specs.Values.{address_value, attributes_value, interval_value, packet_value, power_of_two_words, power_value, release_value, set_attributes, size_value, source_words, wakeup_words}
-use Rattle.usb_explain.specs.PlainText.{IsPlainText}
-use Rattle.usb_explain.proofs.plain.Texts.{both_plain, decimal_plain, digits_plain, parts}
+use Rattle.usb_listing_reader.proofs.PrintableLemmas.{Printable, encoded_printable}
+use Rattle.usb_explain.proofs.plain.Texts.{both_plain, decimal_plain, parts}
 use Rattle.usb_explain.proofs.plain.Parts.{byte_fits}
 use Rattle.usb_explain.proofs.plain.Words.{attributes_plain, byte_code_plain, class_field_plain, count_plain, end_plain, interval_plain, meaning_plain, power_plain, protocol_field_plain, release_plain, size_plain, subclass_field_plain, word_code_plain}
 use Rattle.usb_explain.proofs.plain.Fields.{MaybeFit, index_plain}
 
 -- ---- values
 
-release_value_plain : (n : ℕ) → n < 65536 → IsPlainText (release_value n)
+release_value_plain : (n : ℕ) → n < 65536 → Printable (release_value n)
 unfolding release_value
 release_value_plain n lt = simp (parts, word_code_plain n lt, release_plain n lt) refl
 
-power_of_two_plain : (n : ℕ) → IsPlainText (power_of_two_words n)
+power_of_two_plain : (n : ℕ) → Printable (power_of_two_words n)
 power_of_two_plain n = simp (parts, count_plain (2 ^ n) (codes "byte") refl) refl
 
-packet_plain : (speed : Speed) (n : ℕ) → IsPlainText (packet_value speed n)
+packet_plain : (speed : Speed) (n : ℕ) → Printable (packet_value speed n)
 unfolding packet_value
 packet_plain LowOrFull n = decimal_plain n
 packet_plain High n = decimal_plain n
@@ -35,69 +35,69 @@ packet_plain FullOrHigh n = decimal_plain n
 packet_plain Super n =
     both_plain (decimal n) (meaning (power_of_two_words n)) (decimal_plain n) (meaning_plain (power_of_two_words n) (power_of_two_plain n))
 
-pub source_plain : (attributes : ℕ) → IsPlainText (source_words attributes)
+pub source_plain : (attributes : ℕ) → Printable (source_words attributes)
 unfolding source_words
 source_plain attributes = simp parts refl
 
-wakeup_plain : (attributes : ℕ) → IsPlainText (wakeup_words attributes)
+wakeup_plain : (attributes : ℕ) → Printable (wakeup_words attributes)
 unfolding wakeup_words
 wakeup_plain attributes = simp parts refl
 
-set_attributes_plain : (attributes : ℕ) → attributes < 256 → IsPlainText (set_attributes attributes)
+set_attributes_plain : (attributes : ℕ) → attributes < 256 → Printable (set_attributes attributes)
 unfolding set_attributes
 set_attributes_plain attributes lt = simp (parts, byte_code_plain attributes lt, source_plain attributes, wakeup_plain attributes) refl
 
-power_value_plain : (speed : Speed) (power : ℕ) → IsPlainText (power_value speed power)
+power_value_plain : (speed : Speed) (power : ℕ) → Printable (power_value speed power)
 unfolding power_value
 power_value_plain speed power = simp (parts, decimal_plain, power_plain speed power) refl
 
-pub address_plain : (attributes address : ℕ) → address < 256 → IsPlainText (address_value attributes address)
+pub address_plain : (attributes address : ℕ) → address < 256 → Printable (address_value attributes address)
 unfolding address_value
 address_plain attributes address lt = simp (parts, byte_code_plain address lt, end_plain attributes address) refl
 
-attributes_value_plain : (attributes : ℕ) → attributes < 256 → IsPlainText (attributes_value attributes)
+attributes_value_plain : (attributes : ℕ) → attributes < 256 → Printable (attributes_value attributes)
 unfolding attributes_value
 attributes_value_plain attributes lt = simp (parts, byte_code_plain attributes lt, attributes_plain attributes) refl
 
-size_value_plain : (attributes max_packet : ℕ) → max_packet < 65536 → IsPlainText (size_value attributes max_packet)
+size_value_plain : (attributes max_packet : ℕ) → max_packet < 65536 → Printable (size_value attributes max_packet)
 unfolding size_value
 size_value_plain attributes max_packet lt = simp (parts, word_code_plain max_packet lt, size_plain attributes max_packet) refl
 
-interval_value_plain : (speed : Speed) (attributes interval : ℕ) → IsPlainText (interval_value speed attributes interval)
+interval_value_plain : (speed : Speed) (attributes interval : ℕ) → Printable (interval_value speed attributes interval)
 unfolding interval_value
 interval_value_plain speed attributes interval = simp (parts, decimal_plain, interval_plain speed (transfer_type_of attributes) interval) refl
 
 -- ---- forms
 
-decimal_words_plain : (value : List ℕ) → AreBytes value → IsPlainText (decimal_words value)
-decimal_words_plain [] h = digits_plain [] h
+decimal_words_plain : (value : List ℕ) → AreBytes value → Printable (decimal_words value)
+decimal_words_plain [] h = encoded_printable [] h
 decimal_words_plain (a ∷ []) h = decimal_plain a
 decimal_words_plain (a ∷ b ∷ []) h = decimal_plain (a + 256 * b)
-decimal_words_plain (a ∷ b ∷ c ∷ []) h = digits_plain (a ∷ b ∷ c ∷ []) h
+decimal_words_plain (a ∷ b ∷ c ∷ []) h = encoded_printable (a ∷ b ∷ c ∷ []) h
 decimal_words_plain (a ∷ b ∷ c ∷ d ∷ []) h = decimal_plain (a + 256 * (b + 256 * (c + 256 * d)))
-decimal_words_plain (a ∷ b ∷ c ∷ d ∷ e ∷ value) h = digits_plain (a ∷ b ∷ c ∷ d ∷ e ∷ value) h
+decimal_words_plain (a ∷ b ∷ c ∷ d ∷ e ∷ value) h = encoded_printable (a ∷ b ∷ c ∷ d ∷ e ∷ value) h
 
-hexadecimal_words_plain : (value : List ℕ) → AreBytes value → IsPlainText (hexadecimal_words value)
-hexadecimal_words_plain [] h = digits_plain [] h
+hexadecimal_words_plain : (value : List ℕ) → AreBytes value → Printable (hexadecimal_words value)
+hexadecimal_words_plain [] h = encoded_printable [] h
 hexadecimal_words_plain (a ∷ []) h = byte_code_plain a h.0
 hexadecimal_words_plain (a ∷ b ∷ []) h = word_code_plain (a + 256 * b) (omega (arith, h.0, h.1.0))
-hexadecimal_words_plain (a ∷ b ∷ c ∷ []) h = digits_plain (a ∷ b ∷ c ∷ []) h
-hexadecimal_words_plain (a ∷ b ∷ c ∷ d ∷ []) h = digits_plain (d ∷ c ∷ b ∷ a ∷ []) (h.1.1.1.0, (h.1.1.0, (h.1.0, (h.0, tt))))
-hexadecimal_words_plain (a ∷ b ∷ c ∷ d ∷ e ∷ value) h = digits_plain (a ∷ b ∷ c ∷ d ∷ e ∷ value) h
+hexadecimal_words_plain (a ∷ b ∷ c ∷ []) h = encoded_printable (a ∷ b ∷ c ∷ []) h
+hexadecimal_words_plain (a ∷ b ∷ c ∷ d ∷ []) h = encoded_printable (d ∷ c ∷ b ∷ a ∷ []) (h.1.1.1.0, (h.1.1.0, (h.1.0, (h.0, tt))))
+hexadecimal_words_plain (a ∷ b ∷ c ∷ d ∷ e ∷ value) h = encoded_printable (a ∷ b ∷ c ∷ d ∷ e ∷ value) h
 
-release_words_plain : (value : List ℕ) → AreBytes value → IsPlainText (release_words value)
-release_words_plain [] h = digits_plain [] h
-release_words_plain (a ∷ []) h = digits_plain (a ∷ []) h
+release_words_plain : (value : List ℕ) → AreBytes value → Printable (release_words value)
+release_words_plain [] h = encoded_printable [] h
+release_words_plain (a ∷ []) h = encoded_printable (a ∷ []) h
 release_words_plain (a ∷ b ∷ []) h = release_value_plain (a + 256 * b) (omega (arith, h.0, h.1.0))
-release_words_plain (a ∷ b ∷ c ∷ value) h = digits_plain (a ∷ b ∷ c ∷ value) h
+release_words_plain (a ∷ b ∷ c ∷ value) h = encoded_printable (a ∷ b ∷ c ∷ value) h
 
-size_words_plain : (attributes : ℕ) (value : List ℕ) → AreBytes value → IsPlainText (packet_size_words attributes value)
-size_words_plain attributes [] h = digits_plain [] h
-size_words_plain attributes (a ∷ []) h = digits_plain (a ∷ []) h
+size_words_plain : (attributes : ℕ) (value : List ℕ) → AreBytes value → Printable (packet_size_words attributes value)
+size_words_plain attributes [] h = encoded_printable [] h
+size_words_plain attributes (a ∷ []) h = encoded_printable (a ∷ []) h
 size_words_plain attributes (a ∷ b ∷ []) h = size_value_plain attributes (a + 256 * b) (omega (arith, h.0, h.1.0))
-size_words_plain attributes (a ∷ b ∷ c ∷ value) h = digits_plain (a ∷ b ∷ c ∷ value) h
+size_words_plain attributes (a ∷ b ∷ c ∷ value) h = encoded_printable (a ∷ b ∷ c ∷ value) h
 
-report_plain : (type : ℕ) → type < 256 → IsPlainText (report_words type)
+report_plain : (type : ℕ) → type < 256 → Printable (report_words type)
 report_plain type lt = simp (parts, byte_code_plain type lt) refl
 
 -- the bytes of a field
@@ -105,7 +105,7 @@ bytes_fit : (width : ℕ) (b : List ℕ) (place : ℕ) → AreBytes b → AreByt
 bytes_fit width b place h = bytes_front width (drop place b) (bytes_back place b h)
 
 pub form_plain : (speed : Speed) (strings : StringNames) (form : Form) (width : ℕ) (b : List ℕ) (place : ℕ) → MaybeFit strings.strings → AreBytes b
-    → IsPlainText (form_words speed strings form width b place)
+    → Printable (form_words speed strings form width b place)
 unfolding form_words
 form_plain speed strings Decimal width b place fit h = decimal_words_plain (take width (drop place b)) (bytes_fit width b place h)
 form_plain speed strings Hexadecimal width b place fit h = hexadecimal_words_plain (take width (drop place b)) (bytes_fit width b place h)

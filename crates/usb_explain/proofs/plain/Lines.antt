@@ -1,4 +1,4 @@
--- The headings of descriptors and the lines of their fields are plain.
+-- The headings of descriptors are a line each, and each of their fields is said in one.
 use Rattle.std.proofs.Common.{ℕ, ◌<◌, ◌==◌, ◌&&◌, Bool, true, false, if◌then◌else◌, List, [], ◌∷◌, ◌++◌, Option, Some, None, codes, drop, length, slice_index, take, refl, arith}
 use Rattle.hex.specs.Hex.{encode_lower}
 use Rattle.usb_base.specs.Bytes.{AreBytes, little_endian_at}
@@ -18,18 +18,19 @@ use Rattle.usb_explained_lines.specs.Layouts.{association_layout, configuration_
 use Rattle.usb_explained_lines.specs.Rest.{more_words, rest_lines}
 use Rattle.usb_explained_lines.specs.Sets.{association_words, binding_words, bound_words, configuration_words, function_words, interface_words, range_words, set_words, supply_words}
 use Rattle.usb_explained_lines.specs.Strings.{language_words, languages_words, string_place_words, string_words, units_in}
-use Rattle.usb_explain.specs.PlainText.{IsPlainText}
-use Rattle.usb_explain.proofs.plain.Texts.{AreWords, IsWord, both_plain, decimal_plain, digits_plain, each_plain, parts, word_digits}
+use Rattle.usb_listing_reader.proofs.PrintableLemmas.{Printable, encoded_printable}
+use Rattle.usb_explain.specs.Lines.{IsLine, SayFields}
+use Rattle.usb_explain.proofs.plain.Texts.{AreWords, IsWord, both_plain, decimal_plain, each_plain, parts, word_digits}
 use Rattle.usb_explain.proofs.plain.Parts.{byte_fits, word_fits}
 use Rattle.usb_explain.proofs.plain.Words.{attributes_plain, class_words_plain, count_plain, interval_plain, power_plain, release_plain, size_plain, speed_plain, word_code_plain}
-use Rattle.usb_explain.proofs.plain.Fields.{MaybeFit, field_line_plain, heading_line_plain, units_plain}
+use Rattle.usb_explain.proofs.plain.Fields.{MaybeFit, either_says, heading_is_line, no_fields, one_field, units_plain}
 use Rattle.usb_explain.proofs.plain.Forms.{address_plain, source_plain}
-use Rattle.usb_explain.proofs.plain.Layouts.{IsPlainLayout, layout_plain}
-use Rattle.usb_explain.proofs.plain.Raws.{raw_lines_plain, raw_words_plain}
+use Rattle.usb_explain.proofs.plain.Layouts.{IsPlainLayout, layout_says}
+use Rattle.usb_explain.proofs.plain.Raws.{raw_says, raw_words_plain}
 
 -- ---- the device and the qualifier
 
-version_plain : (b : List ℕ) → AreBytes b → IsPlainText (version_words b)
+version_plain : (b : List ℕ) → AreBytes b → Printable (version_words b)
 unfolding version_words
 version_plain b h =
     simp (
@@ -38,30 +39,30 @@ version_plain b h =
       class_words_plain (slice_index b 4) (slice_index b 5) (slice_index b 6) (byte_fits b 4 h),
     ) refl
 
-ids_plain : (vendor product : ℕ) → vendor < 65536 → product < 65536 → IsPlainText (ids_words vendor product)
+ids_plain : (vendor product : ℕ) → vendor < 65536 → product < 65536 → Printable (ids_words vendor product)
 unfolding ids_words
 ids_plain vendor product v p = simp (parts, word_digits vendor v, word_digits product p) refl
 
-device_words_plain : (b : List ℕ) → AreBytes b → IsPlainText (device_words b)
+device_words_plain : (b : List ℕ) → AreBytes b → Printable (device_words b)
 unfolding device_words
 device_words_plain b h =
     simp (parts, ids_plain (little_endian_at b 8) (little_endian_at b 10) (word_fits b 8 h) (word_fits b 10 h), version_plain b h) refl
 
-qualifier_words_plain : (b : List ℕ) → AreBytes b → IsPlainText (qualifier_words b)
+qualifier_words_plain : (b : List ℕ) → AreBytes b → Printable (qualifier_words b)
 unfolding qualifier_words
 qualifier_words_plain b h = version_plain b h
 
 -- ---- sets
 
-set_words_plain : (kind : ℕ) → IsPlainText (set_words kind)
+set_words_plain : (kind : ℕ) → Printable (set_words kind)
 unfolding set_words
 set_words_plain kind = simp parts refl
 
-supply_plain : (speed : Speed) (attributes power : ℕ) → IsPlainText (supply_words speed attributes power)
+supply_plain : (speed : Speed) (attributes power : ℕ) → Printable (supply_words speed attributes power)
 unfolding supply_words
 supply_plain speed attributes power = simp (parts, source_plain attributes, power_plain speed power) refl
 
-configuration_words_plain : (speed : Speed) (b : List ℕ) → IsPlainText (configuration_words speed b)
+configuration_words_plain : (speed : Speed) (b : List ℕ) → Printable (configuration_words speed b)
 unfolding configuration_words
 configuration_words_plain speed b =
     simp (
@@ -73,15 +74,15 @@ configuration_words_plain speed b =
       supply_plain speed (slice_index b 7) (slice_index b 8),
     ) refl
 
-range_plain : (first last : ℕ) → IsPlainText (range_words first last)
+range_plain : (first last : ℕ) → Printable (range_words first last)
 unfolding range_words
 range_plain first last = simp (parts, decimal_plain) refl
 
-bound_plain : (first n : ℕ) → IsPlainText (bound_words first n)
+bound_plain : (first n : ℕ) → Printable (bound_words first n)
 unfolding bound_words
 bound_plain first n = simp (parts, decimal_plain, range_plain) refl
 
-function_plain : (b : List ℕ) → AreBytes b → IsPlainText (function_words b)
+function_plain : (b : List ℕ) → AreBytes b → Printable (function_words b)
 unfolding function_words
 function_plain b h =
     simp (
@@ -90,16 +91,16 @@ function_plain b h =
       class_words_plain (slice_index b 4) (slice_index b 5) (slice_index b 6) (byte_fits b 4 h),
     ) refl
 
-association_words_plain : (number : ℕ) (b : List ℕ) → AreBytes b → IsPlainText (association_words number b)
+association_words_plain : (number : ℕ) (b : List ℕ) → AreBytes b → Printable (association_words number b)
 unfolding association_words
 association_words_plain number b h = simp (parts, decimal_plain, function_plain b h) refl
 
-binding_plain : (association : Option ℕ) → IsPlainText (binding_words association)
+binding_plain : (association : Option ℕ) → Printable (binding_words association)
 unfolding binding_words
 binding_plain None = refl
 binding_plain (Some number) = decimal_plain number
 
-interface_words_plain : (association : Option ℕ) (b : List ℕ) → AreBytes b → IsPlainText (interface_words association b)
+interface_words_plain : (association : Option ℕ) (b : List ℕ) → AreBytes b → Printable (interface_words association b)
 unfolding interface_words
 interface_words_plain association b h =
     simp (
@@ -112,11 +113,11 @@ interface_words_plain association b h =
 
 -- ---- endpoints
 
-interval_words_plain : (speed : Speed) (attributes interval : ℕ) → IsPlainText (interval_words speed attributes interval)
+interval_words_plain : (speed : Speed) (attributes interval : ℕ) → Printable (interval_words speed attributes interval)
 unfolding interval_words
 interval_words_plain speed attributes interval = simp (parts, interval_plain speed (transfer_type_of attributes) interval) refl
 
-endpoint_words_plain : (speed : Speed) (b : List ℕ) → AreBytes b → IsPlainText (endpoint_words speed b)
+endpoint_words_plain : (speed : Speed) (b : List ℕ) → AreBytes b → Printable (endpoint_words speed b)
 unfolding endpoint_words
 endpoint_words_plain speed b h =
     simp (
@@ -134,10 +135,10 @@ units_are_words [] h = tt
 units_are_words (low ∷ []) h = tt
 units_are_words (low ∷ high ∷ b) h = (omega (arith, h.0, h.1.0), units_are_words b h.1.1)
 
-language_plain : (language : ℕ) → IsWord language → IsPlainText (language_words language)
+language_plain : (language : ℕ) → IsWord language → Printable (language_words language)
 language_plain language lt = word_code_plain language lt
 
-languages_plain : (b : List ℕ) → AreBytes b → IsPlainText (languages_words b)
+languages_plain : (b : List ℕ) → AreBytes b → Printable (languages_words b)
 unfolding languages_words
 languages_plain b h = each_plain language_words language_plain (units_in (drop 2 b)) (units_are_words (drop 2 b) (bytes_back 2 b h))
 
@@ -146,33 +147,34 @@ abbrev pub PlaceFits : Option StringPlace → Type 0
 PlaceFits None = Unit {0}
 PlaceFits (Some place) = IsWord place.language
 
-place_plain : (place : Option StringPlace) → PlaceFits place → IsPlainText (string_place_words place)
+place_plain : (place : Option StringPlace) → PlaceFits place → Printable (string_place_words place)
 place_plain None fit = refl
 place_plain (Some place) fit = simp (parts, decimal_plain, word_code_plain place.language fit) refl
 
-string_plain : (place : Option StringPlace) (b : List ℕ) → PlaceFits place → AreBytes b → IsPlainText (string_words place b)
+string_plain : (place : Option StringPlace) (b : List ℕ) → PlaceFits place → AreBytes b → Printable (string_words place b)
 unfolding string_words
 string_plain place b fit h =
     simp (parts, place_plain place fit, units_plain (units_in (drop 2 b)) (units_are_words (drop 2 b) (bytes_back 2 b h))) refl
 
 -- ---- descriptors of each kind
 
-more_plain : (n : ℕ) → IsPlainText (more_words n)
+more_plain : (n : ℕ) → Printable (more_words n)
 more_plain n = simp (parts, decimal_plain) refl
 
-rest_plain : (depth : ℕ) (b : List ℕ) → AreBytes b → IsPlainText (rest_lines depth b)
+rest_says : (depth : ℕ) (b : List ℕ) → AreBytes b → SayFields depth (rest_lines depth b)
 unfolding rest_lines
-rest_plain depth b h =
+rest_says depth b h =
     let digits = encode_lower (take 32 b) in
-    field_line_plain depth (codes "bytes") (digits ++ more_words (length b)) refl
-    (both_plain digits (more_words (length b)) (digits_plain (take 32 b) (bytes_front 32 b h)) (more_plain (length b)))
+    let words = digits ++ more_words (length b) in
+    one_field depth (codes "bytes") words refl
+    (both_plain digits (more_words (length b)) (encoded_printable (take 32 b) (bytes_front 32 b h)) (more_plain (length b)))
 
 -- what a kind says beside its bytes fits
 abbrev pub KindFits : Kind → Type 0
 KindFits (Text place) = PlaceFits place
 KindFits kind = Unit {0}
 
-words_plain : (kind : Kind) (b : List ℕ) → KindFits kind → AreBytes b → IsPlainText (kind_words kind b)
+words_plain : (kind : Kind) (b : List ℕ) → KindFits kind → AreBytes b → Printable (kind_words kind b)
 unfolding kind_words
 words_plain (Device exponent) b fit h = device_words_plain b h
 words_plain Qualifier b fit h = qualifier_words_plain b h
@@ -190,32 +192,32 @@ endpoint_named : (b : Bool) → IsPlainLayout (if b then with_tail (fields_of_en
 endpoint_named true = record { fields = refl; group = refl; rest = refl }
 endpoint_named false = record { fields = refl; group = refl; rest = refl }
 
-lines_plain : (depth : ℕ) (strings : StringNames) (kind : Kind) (b : List ℕ) → MaybeFit strings.strings → AreBytes b
-    → IsPlainText (kind_lines depth strings kind b)
+kind_says : (depth : ℕ) (strings : StringNames) (kind : Kind) (b : List ℕ) → MaybeFit strings.strings → AreBytes b
+    → SayFields depth (kind_lines depth strings kind b)
 unfolding kind_lines
-lines_plain depth strings (Device exponent) b fit h =
-    layout_plain (scope_of depth (Device exponent)) strings device_layout b (record { fields = refl; group = refl; rest = refl }) fit h
-lines_plain depth strings Qualifier b fit h =
-    layout_plain (scope_of depth Qualifier) strings qualifier_layout b (record { fields = refl; group = refl; rest = refl }) fit h
-lines_plain depth strings (Configuration speed) b fit h =
-    layout_plain (scope_of depth (Configuration speed)) strings configuration_layout b (record { fields = refl; group = refl; rest = refl }) fit h
-lines_plain depth strings (Association number) b fit h =
-    layout_plain (scope_of depth (Association number)) strings association_layout b (record { fields = refl; group = refl; rest = refl }) fit h
-lines_plain depth strings (Interface association) b fit h =
-    layout_plain (scope_of depth (Interface association)) strings interface_layout b (record { fields = refl; group = refl; rest = refl }) fit h
-lines_plain depth strings (Endpoint speed audio) b fit h =
-    layout_plain (scope_of depth (Endpoint speed audio)) strings (endpoint_layout audio (length b)) b (endpoint_named (audio && (length b == 9))) fit h
-lines_plain depth strings (Raw interface) b fit h = raw_lines_plain (scope_of depth (Raw interface)) strings interface b fit h
-lines_plain depth strings Languages b fit h = refl
-lines_plain depth strings (Text place) b fit h = refl
-lines_plain depth strings Rest b fit h = rest_plain depth b h
+kind_says depth strings (Device exponent) b fit h =
+    layout_says (scope_of depth (Device exponent)) strings device_layout b (record { fields = refl; group = refl; rest = refl }) fit h
+kind_says depth strings Qualifier b fit h =
+    layout_says (scope_of depth Qualifier) strings qualifier_layout b (record { fields = refl; group = refl; rest = refl }) fit h
+kind_says depth strings (Configuration speed) b fit h =
+    layout_says (scope_of depth (Configuration speed)) strings configuration_layout b (record { fields = refl; group = refl; rest = refl }) fit h
+kind_says depth strings (Association number) b fit h =
+    layout_says (scope_of depth (Association number)) strings association_layout b (record { fields = refl; group = refl; rest = refl }) fit h
+kind_says depth strings (Interface association) b fit h =
+    layout_says (scope_of depth (Interface association)) strings interface_layout b (record { fields = refl; group = refl; rest = refl }) fit h
+kind_says depth strings (Endpoint speed audio) b fit h =
+    layout_says (scope_of depth (Endpoint speed audio)) strings (endpoint_layout audio (length b)) b (endpoint_named (audio && (length b == 9))) fit h
+kind_says depth strings (Raw interface) b fit h = raw_says (scope_of depth (Raw interface)) strings interface b fit h
+kind_says depth strings Languages b fit h = no_fields depth
+kind_says depth strings (Text place) b fit h = no_fields depth
+kind_says depth strings Rest b fit h = rest_says depth b h
 
-pub heading_plain : (look : Look) (depth : ℕ) (kind : Kind) (b : List ℕ) (at : ℕ) → KindFits kind → AreBytes b
-    → IsPlainText (heading look depth kind b at)
+pub heading_of_kind : (look : Look) (depth : ℕ) (kind : Kind) (b : List ℕ) (at : ℕ) → KindFits kind → AreBytes b
+    → IsLine (heading look depth kind b at)
 unfolding heading
-heading_plain look depth kind b at fit h = heading_line_plain look depth (kind_words kind b) at (length b) (words_plain kind b fit h)
+heading_of_kind look depth kind b at fit h = heading_is_line look depth (kind_words kind b) at (length b) (words_plain kind b fit h)
 
-pub fields_plain : (look : Look) (depth : ℕ) (strings : StringNames) (kind : Kind) (b : List ℕ) → MaybeFit strings.strings → AreBytes b
-    → IsPlainText (fields look depth strings kind b)
+pub fields_say : (look : Look) (depth : ℕ) (strings : StringNames) (kind : Kind) (b : List ℕ) → MaybeFit strings.strings → AreBytes b
+    → SayFields depth (fields look depth strings kind b)
 unfolding fields
-fields_plain look depth strings kind b fit h = simp (parts, lines_plain depth strings kind b fit h) refl
+fields_say look depth strings kind b fit h = either_says depth look.brief [] _ (no_fields depth) (kind_says depth strings kind b fit h)

@@ -6,11 +6,12 @@ use Rattle.std.proofs.lemmas.List.Folds.{list_all-append}
 use Rattle.usb_names.specs.declared.codes.ClassCodes.{ClassCodes}
 use Rattle.usb_names.specs.Classes.{Named, NamedProtocol, classes, name_in, protocol_in, protocols, subclasses}
 use Rattle.usb_names.specs.Rows.{Field, Row, application_rows, audio_rows, cdc_data_rows, class_rows, communications_rows, first_row, hid_rows, holds, mass_storage_rows, other_rows, rows_behind, rows_of_class, smart_card_rows, standard_rows, video_rows}
-use Rattle.usb_explain.specs.PlainText.{IsPlainText, is_of_text}
+use Rattle.usb_listing_reader.specs.Words.{is_printable}
+use Rattle.usb_listing_reader.proofs.PrintableLemmas.{Printable}
 use Rattle.usb_explain.proofs.plain.Texts.{MaybePlain, same}
 
 abbrev pub is_plain_name : List ℕ → Bool
-is_plain_name name = list_all is_of_text name
+is_plain_name name = list_all is_printable name
 
 -- one of two lists that a test chooses
 either_all : {X : Type 0} (p : X → Bool) (b : Bool) (xs ys : List X) → list_all p (if b then xs else ys) ≡ (if b then list_all p xs else list_all p ys)
@@ -21,7 +22,7 @@ either_all p false xs ys = refl
 abbrev has_plain_name : Named → Bool
 has_plain_name row = is_plain_name row.name
 
-name_chosen : (b : Bool) (name : List ℕ) (rest : Option (List ℕ)) → IsPlainText name → MaybePlain rest → MaybePlain (if b then Some name else rest)
+name_chosen : (b : Bool) (name : List ℕ) (rest : Option (List ℕ)) → Printable name → MaybePlain rest → MaybePlain (if b then Some name else rest)
 name_chosen true name rest h k = h
 name_chosen false name rest h k = k
 
@@ -68,7 +69,7 @@ abbrev is_plain_row : Row → Bool
 is_plain_row row = is_plain_name row.name && (list_all has_plain_field row.fields && list_all has_plain_field row.group)
 
 pub record IsPlainRow (row : Row) : Type 0 where
-  pub name : IsPlainText row.name
+  pub name : Printable row.name
   pub fields : ArePlainFields row.fields
   pub group : ArePlainFields row.group
 

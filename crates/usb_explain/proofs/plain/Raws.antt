@@ -1,5 +1,5 @@
--- The lines of class descriptors are plain.
-use Rattle.std.proofs.Common.{ℕ, ◌<◌, List, [], ◌++◌, Option, Some, None, codes, drop, slice_index, refl}
+-- The names of class descriptors are plain, and each of their fields is said in one line.
+use Rattle.std.proofs.Common.{ℕ, ◌<◌, List, ◌++◌, Option, Some, None, codes, drop, slice_index, refl}
 use Rattle.std.specs.Prelude.{slice_get}
 use Rattle.usb_base.specs.Bytes.{AreBytes}
 use Rattle.usb_names.specs.declared.codes.ClassCodes.{ClassCodes}
@@ -10,47 +10,43 @@ use Rattle.usb_explained_fields.specs.declared.layout.Scope.{Scope}
 use Rattle.usb_explained_fields.specs.Lines.{field_line}
 use Rattle.usb_explained_fields.specs.Names.{StringNames}
 use Rattle.usb_explained_fields.specs.Raws.{raw_lines, raw_words, row_layout, row_lines, row_of_bytes, row_words, unnamed_words}
-use Rattle.usb_explain.specs.PlainText.{IsPlainText}
-use Rattle.usb_explain.proofs.plain.Texts.{parts}
+use Rattle.usb_listing_reader.proofs.PrintableLemmas.{Printable}
+use Rattle.usb_explain.specs.Lines.{SayFields}
 use Rattle.usb_explain.proofs.plain.Parts.{byte_fits}
 use Rattle.usb_explain.proofs.plain.Names.{MaybePlainRow, row_plain}
 use Rattle.usb_explain.proofs.plain.Words.{byte_code_plain}
-use Rattle.usb_explain.proofs.plain.Fields.{MaybeFit, digits_line_plain, field_line_plain}
-use Rattle.usb_explain.proofs.plain.Layouts.{layout_plain}
+use Rattle.usb_explain.proofs.plain.Fields.{MaybeFit, digits_say, field_first}
+use Rattle.usb_explain.proofs.plain.Layouts.{layout_says}
 
-unnamed_plain : (type : ℕ) → type < 256 → IsPlainText (unnamed_words type)
+unnamed_plain : (type : ℕ) → type < 256 → Printable (unnamed_words type)
 unfolding unnamed_words
 unnamed_plain type lt = byte_code_plain type lt
 
-row_words_plain : (type : ℕ) (row : Option Row) → type < 256 → MaybePlainRow row → IsPlainText (row_words type row)
+row_words_plain : (type : ℕ) (row : Option Row) → type < 256 → MaybePlainRow row → Printable (row_words type row)
 row_words_plain type None lt h = unnamed_plain type lt
 row_words_plain type (Some row) lt h = h.name
 
 row_of_bytes_plain : (interface : Option ClassCodes) (b : List ℕ) → MaybePlainRow (row_of_bytes interface b)
 row_of_bytes_plain interface b = row_plain interface (slice_index b 1) (slice_get b 2)
 
-pub raw_words_plain : (interface : Option ClassCodes) (b : List ℕ) → AreBytes b → IsPlainText (raw_words interface b)
+pub raw_words_plain : (interface : Option ClassCodes) (b : List ℕ) → AreBytes b → Printable (raw_words interface b)
 unfolding raw_words
 raw_words_plain interface b h = row_words_plain (slice_index b 1) (row_of_bytes interface b) (byte_fits b 1 h) (row_of_bytes_plain interface b)
 
-row_lines_plain : (scope : Scope) (strings : StringNames) (row : Option Row) (b : List ℕ) → MaybePlainRow row → MaybeFit strings.strings
-    → AreBytes b → IsPlainText (row_lines scope strings row b)
-row_lines_plain scope strings None b h fit k = digits_line_plain scope.depth (codes "bytes") (drop 2 b) refl (bytes_back 2 b k)
-row_lines_plain scope strings (Some row) b h fit k =
-    layout_plain scope strings (row_layout row) b (record { fields = h.fields; group = h.group; rest = refl }) fit k
+row_says : (scope : Scope) (strings : StringNames) (row : Option Row) (b : List ℕ) → MaybePlainRow row → MaybeFit strings.strings
+    → AreBytes b → SayFields scope.depth (row_lines scope strings row b)
+row_says scope strings None b h fit k = digits_say scope.depth (codes "bytes") (drop 2 b) refl (bytes_back 2 b k)
+row_says scope strings (Some row) b h fit k =
+    layout_says scope strings (row_layout row) b (record { fields = h.fields; group = h.group; rest = refl }) fit k
 
 raw_by : (scope : Scope) (strings : StringNames) (type : ℕ) (row : Option Row) (b : List ℕ) → type < 256 → MaybePlainRow row
     → MaybeFit strings.strings → AreBytes b
-    → IsPlainText (field_line scope.depth (codes "bDescriptorType") (byte_code type) ++ row_lines scope strings row b)
+    → SayFields scope.depth (field_line scope.depth (codes "bDescriptorType") (byte_code type) ++ row_lines scope strings row b)
 raw_by scope strings type row b lt h fit k =
-    simp (
-      parts,
-      field_line_plain scope.depth (codes "bDescriptorType") (byte_code type) refl (byte_code_plain type lt),
-      row_lines_plain scope strings row b h fit k,
-    ) refl
+    field_first scope.depth (codes "bDescriptorType") (byte_code type) _ refl (byte_code_plain type lt) (row_says scope strings row b h fit k)
 
-pub raw_lines_plain : (scope : Scope) (strings : StringNames) (interface : Option ClassCodes) (b : List ℕ) → MaybeFit strings.strings
-    → AreBytes b → IsPlainText (raw_lines scope strings interface b)
+pub raw_says : (scope : Scope) (strings : StringNames) (interface : Option ClassCodes) (b : List ℕ) → MaybeFit strings.strings
+    → AreBytes b → SayFields scope.depth (raw_lines scope strings interface b)
 unfolding raw_lines
-raw_lines_plain scope strings interface b fit h =
+raw_says scope strings interface b fit h =
     raw_by scope strings (slice_index b 1) (row_of_bytes interface b) b (byte_fits b 1 h) (row_of_bytes_plain interface b) fit h

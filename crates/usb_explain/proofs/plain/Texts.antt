@@ -1,22 +1,21 @@
--- Texts of lines of printable ASCII, put together of such texts.
-use Rattle.std.proofs.Common.{◌≡◌, ℕ, zero, suc, ◌/◌, ◌%◌, ◌<◌, ◌==◌, ◌&&◌, Bool, true, false, if◌then◌else◌, List, [], ◌∷◌, ◌++◌, Option, Some, None, drop, replicate, refl, ◌∙◌, arith}
+-- Texts of printable ASCII, put together of such texts, and lines of them.
+use Rattle.std.proofs.Common.{◌≡◌, ℕ, zero, suc, ◌/◌, ◌%◌, ◌<◌, ◌==◌, ◌&&◌, Bool, true, false, if◌then◌else◌, List, [], ◌∷◌, ◌++◌, Option, Some, None, drop, replicate, codes, refl, ◌∙◌, arith}
 use Rattle.std.specs.Fmt.{decimal, digit_glyph, digits, digits_onto}
 use Rattle.std.specs.List.{AllByRecursion, flat_map, list_all}
 use Rattle.std.proofs.lemmas.Bool.{and_parts}
 use Rattle.std.proofs.lemmas.Bool.Decides.{nat_tests}
 use Rattle.std.proofs.lemmas.List.Folds.{list_all-append}
 use Rattle.hex.specs.Hex.{encode_lower}
-use Rattle.usb_base.specs.Bytes.{AreBytes, big_endian}
-use Rattle.usb_listing.specs.StringListing.{written_unit}
+use Rattle.usb_base.specs.Bytes.{big_endian}
 use Rattle.usb_listing_reader.specs.Words.{is_printable}
-use Rattle.usb_listing_reader.proofs.PrintableLemmas.{Printable, encoded_printable, two_fit, unit_printable}
-use Rattle.usb_explain.specs.PlainText.{IsPlainText, is_of_text}
+use Rattle.usb_listing_reader.proofs.PrintableLemmas.{Printable, encoded_printable, two_fit}
+use Rattle.usb_explain.specs.Lines.{IsLine}
 
 -- a text of two parts, and one of two that a test chooses
-pub joined : (xs ys : List ℕ) → list_all is_of_text (xs ++ ys) ≡ (list_all is_of_text xs && list_all is_of_text ys)
-joined xs ys = list_all-append is_of_text xs ys
+pub joined : (xs ys : List ℕ) → list_all is_printable (xs ++ ys) ≡ (list_all is_printable xs && list_all is_printable ys)
+joined xs ys = list_all-append is_printable xs ys
 
-pub chosen : (b : Bool) (xs ys : List ℕ) → list_all is_of_text (if b then xs else ys) ≡ (if b then list_all is_of_text xs else list_all is_of_text ys)
+pub chosen : (b : Bool) (xs ys : List ℕ) → list_all is_printable (if b then xs else ys) ≡ (if b then list_all is_printable xs else list_all is_printable ys)
 chosen true xs ys = refl
 chosen false xs ys = refl
 
@@ -24,62 +23,46 @@ pub same : (b x : Bool) → (if b then x else x) ≡ x
 same true x = refl
 same false x = refl
 
-pub both_plain : (xs ys : List ℕ) → IsPlainText xs → IsPlainText ys → IsPlainText (xs ++ ys)
+pub both_plain : (xs ys : List ℕ) → Printable xs → Printable ys → Printable (xs ++ ys)
 both_plain xs ys h k = joined xs ys ∙ rw (h, k) refl
 
-pub either_plain : (b : Bool) (xs ys : List ℕ) → IsPlainText xs → IsPlainText ys → IsPlainText (if b then xs else ys)
+pub either_plain : (b : Bool) (xs ys : List ℕ) → Printable xs → Printable ys → Printable (if b then xs else ys)
 either_plain true xs ys h k = h
 either_plain false xs ys h k = k
 
 -- by these a text is plain where its parts are
 pub ruleset parts = (joined, chosen, same)
 
-pub dropped : (n : ℕ) (text : List ℕ) → IsPlainText text → IsPlainText (drop n text)
+pub dropped : (n : ℕ) (text : List ℕ) → Printable text → Printable (drop n text)
 dropped zero text h = h
 dropped (suc n) [] h = refl
-dropped (suc n) (x ∷ text) h = dropped n text (and_parts (is_of_text x) (list_all is_of_text text) h).1
+dropped (suc n) (x ∷ text) h = dropped n text (and_parts (is_printable x) (list_all is_printable text) h).1
 
-pub spaces_plain : (n : ℕ) → IsPlainText (replicate n 32)
+pub spaces_plain : (n : ℕ) → Printable (replicate n 32)
 spaces_plain zero = refl
 spaces_plain (suc n) = spaces_plain n
 
 -- decimal digits
-digit_plain : (d : ℕ) → d < 10 → is_of_text (digit_glyph false d) ≡ true
+digit_plain : (d : ℕ) → d < 10 → is_printable (digit_glyph false d) ≡ true
 digit_plain d lt = grind (arith, nat_tests)
 
-onto_plain : (k n : ℕ) (behind : List ℕ) → IsPlainText behind → IsPlainText (digits_onto k 10 false n behind)
+onto_plain : (k n : ℕ) (behind : List ℕ) → Printable behind → Printable (digits_onto k 10 false n behind)
 onto_plain zero n behind h = h
 onto_plain (suc k) n behind h =
     let glyph = digit_glyph false (n % 10) in
-    let more : IsPlainText (glyph ∷ behind) = rw (digit_plain (n % 10) (omega arith), h) refl in
+    let more : Printable (glyph ∷ behind) = rw (digit_plain (n % 10) (omega arith), h) refl in
     chosen (n / 10 == 0) (glyph ∷ behind) (digits_onto k 10 false (n / 10) (glyph ∷ behind))
     ∙ rw (more, onto_plain k (n / 10) (glyph ∷ behind) more) (same (n / 10 == 0) true)
 
-pub decimal_plain : (n : ℕ) → IsPlainText (decimal n)
+pub decimal_plain : (n : ℕ) → Printable (decimal n)
 unfolding digits
 decimal_plain n = onto_plain 64 n [] refl
 
--- what a line may have, a text may have too
-byte_plain : (x : ℕ) → is_printable x ≡ true → is_of_text x ≡ true
-byte_plain x h = grind (arith, nat_tests, h)
+pub byte_digits : (n : ℕ) → n < 256 → Printable (encode_lower (n ∷ []))
+byte_digits n lt = encoded_printable (n ∷ []) (lt, tt)
 
-line_plain : (line : List ℕ) → Printable line → IsPlainText line
-line_plain [] h = refl
-line_plain (x ∷ line) h =
-    let p = and_parts (is_printable x) (list_all is_printable line) h in
-    rw (byte_plain x p.0, line_plain line p.1) refl
-
-pub digits_plain : (b : List ℕ) → AreBytes b → IsPlainText (encode_lower b)
-digits_plain b h = line_plain (encode_lower b) (encoded_printable b h)
-
-pub byte_digits : (n : ℕ) → n < 256 → IsPlainText (encode_lower (n ∷ []))
-byte_digits n lt = digits_plain (n ∷ []) (lt, tt)
-
-pub word_digits : (n : ℕ) → n < 65536 → IsPlainText (encode_lower (big_endian n))
-word_digits n lt = digits_plain (big_endian n) (two_fit n lt)
-
-pub unit_plain : (u : ℕ) → u < 65536 → IsPlainText (written_unit u)
-unit_plain u lt = line_plain (written_unit u) (unit_printable u lt)
+pub word_digits : (n : ℕ) → n < 65536 → Printable (encode_lower (big_endian n))
+word_digits n lt = encoded_printable (big_endian n) (two_fit n lt)
 
 -- numbers of two bytes
 abbrev pub IsWord : ℕ → Type 0
@@ -88,11 +71,21 @@ IsWord n = n < 65536
 abbrev pub AreWords : List ℕ → Type 0
 AreWords us = AllByRecursion IsWord us
 
-pub each_plain : (f : ℕ → List ℕ) → ((u : ℕ) → IsWord u → IsPlainText (f u)) → (us : List ℕ) → AreWords us → IsPlainText (flat_map f us)
+pub each_plain : (f : ℕ → List ℕ) → ((u : ℕ) → IsWord u → Printable (f u)) → (us : List ℕ) → AreWords us → Printable (flat_map f us)
 each_plain f h [] words = refl
 each_plain f h (u ∷ us) words = simp (parts, h u words.0, each_plain f h us words.1) refl
 
 -- a text that there may be
 abbrev pub MaybePlain : Option (List ℕ) → Type 0
 MaybePlain None = Unit {0}
-MaybePlain (Some text) = IsPlainText text
+MaybePlain (Some text) = Printable text
+
+-- ---- lines
+
+-- words and the line feed
+pub ended : (words : List ℕ) → Printable words → IsLine (words ++ codes "\n")
+ended words h = record { words = words; printable = h; ends = refl }
+
+pub either_line : (b : Bool) (xs ys : List ℕ) → IsLine xs → IsLine ys → IsLine (if b then xs else ys)
+either_line true xs ys h k = h
+either_line false xs ys h k = k

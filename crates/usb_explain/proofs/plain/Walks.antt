@@ -1,28 +1,28 @@
--- Whole explanations are plain.
-use Rattle.std.proofs.Common.{ℕ, zero, suc, ◌/◌, ◌%◌, List, [], ◌∷◌, ◌++◌, Option, Some, None, drop, length, option_and_then, take, unwrap_or, codes, refl}
+-- The parts of explanations are lines.
+use Rattle.std.proofs.Common.{ℕ, zero, suc, ◌/◌, ◌%◌, ◌==◌, List, [], ◌∷◌, ◌++◌, Option, Some, None, drop, length, option_and_then, codes, refl, subst}
 use Rattle.std.specs.Prelude.{slice_get}
-use Rattle.std.specs.Option.{option_map}
+use Rattle.std.specs.List.{AllByRecursion}
 use Rattle.usb_base.specs.Bytes.{AreBytes}
 use Rattle.usb_file_data.specs.declared.file.Strings.{Strings}
-use Rattle.usb_file.specs.declared.input_fault.InputFault.{InputFault}
-use Rattle.usb_listing_reader.proofs.RowLemmas.{bytes_back, bytes_front}
+use Rattle.usb_file_data.proofs.Lists.{bytes_before, bytes_behind}
+use Rattle.usb_words.specs.Numbers.{count}
+use Rattle.usb_listing_reader.proofs.PrintableLemmas.{Printable}
+use Rattle.usb_listing_reader.proofs.RowLemmas.{bytes_back}
 use Rattle.usb_explained_lines.specs.declared.kind.Kind.TheVariants as kinds
 use Rattle.usb_explain.specs.declared.role.Role.{Role}
 use Rattle.usb_explain.specs.declared.role.Role.TheVariants.{Device, Qualifier, Configuration, Association, Interface, Endpoint, Raw, Languages, Text}
 use Rattle.usb_explain.specs.declared.standing.Standing.{Standing}
-use Rattle.usb_explain.specs.Explanations.{broken_end, broken_name, broken_text, first_line, last_line, whole_end, whole_text}
-use Rattle.usb_explain.specs.Faults.{place_of_fault}
+use Rattle.usb_explain.specs.Explanations.{broken_name, first_line, last_line}
 use Rattle.usb_explain.specs.Kinds.{depth_of, kind_of}
-use Rattle.usb_explain.specs.Roles.{next_role}
-use Rattle.usb_explain.specs.Standings.{start}
+use Rattle.usb_explain.specs.Laws.{BlockIsLines, Cut, EachByteOnce, InLines, RestIsLines, Shown, findings_of}
+use Rattle.usb_explain.specs.Lines.{IsLine}
 use Rattle.usb_explain.specs.Subjects.{Subject, place_among, place_by}
-use Rattle.usb_explain.specs.Walks.{behind_next, block, here, next_block, rest_text, walked}
-use Rattle.usb_explain.specs.PlainText.{IsPlainText}
-use Rattle.usb_explain.proofs.plain.Texts.{AreWords, IsWord, parts}
+use Rattle.usb_explain.proofs.rest.Walks.{tells_own}
+use Rattle.usb_explain.proofs.plain.Texts.{AreWords, IsWord, either_line, ended, parts}
 use Rattle.usb_explain.proofs.plain.Words.{count_plain}
 use Rattle.usb_explain.proofs.plain.Fields.{AreFit, MaybeFit}
-use Rattle.usb_explain.proofs.plain.Lines.{KindFits, PlaceFits, fields_plain, heading_plain}
-use Rattle.usb_explain.proofs.plain.Findings.{fault_plain, findings_plain}
+use Rattle.usb_explain.proofs.plain.Lines.{KindFits, PlaceFits, fields_say, heading_of_kind}
+use Rattle.usb_explain.proofs.plain.Findings.{each_told}
 
 -- the strings of a subject have numbers of two bytes
 abbrev pub SubjectFits : Subject → Type 0
@@ -67,85 +67,53 @@ kind_fits subject s Raw d fit = tt
 kind_fits subject s Languages d fit = tt
 kind_fits subject s Text d fit = place_fits subject.names.named s.strings subject.names.strings fit
 
--- ---- the walk
+-- ---- descriptors and the rest
 
-block_plain : (subject : Subject) (s : Standing) (role : Role) (d behind : List ℕ) → SubjectFits subject → AreBytes d
-    → IsPlainText (block subject s role d behind)
-unfolding block
-block_plain subject s role d behind fit h =
-    let kind = kind_of subject s role d in
-    simp (
-      parts,
-      heading_plain subject.manner.look (depth_of s role) kind d s.at (kind_fits subject s role d fit) h,
-      findings_plain subject s role d behind,
-      fields_plain subject.manner.look (depth_of s role) subject.names kind d fit h,
-    ) refl
+-- the lines of the descriptors into which bytes are cut
+pub blocks_are_lines : (subject : Subject) (shown : List Shown) (b rest : List ℕ) → SubjectFits subject → Cut b shown rest → AreBytes b
+    → AllByRecursion (BlockIsLines subject) shown
+blocks_are_lines subject [] b rest fit cut h = tt
+blocks_are_lines subject (d ∷ ds) b rest fit cut h =
+    let parts = subst AreBytes cut.0 h in
+    let bytes = bytes_before d.bytes d.behind parts in
+    let depth = depth_of d.standing d.role in
+    let kind = kind_of subject d.standing d.role d.bytes in (
+      (
+        (
+          heading_of_kind subject.manner.look depth kind d.bytes d.standing.at (kind_fits subject d.standing d.role d.bytes fit) bytes,
+          fields_say subject.manner.look depth subject.names kind d.bytes fit bytes,
+        ),
+        each_told subject.is_dump d.standing d.role d.bytes d.behind (findings_of subject d) (tells_own subject d),
+      ),
+      blocks_are_lines subject ds d.behind rest fit cut.2 (bytes_behind d.bytes d.behind parts),
+    )
 
-next_or_end : {A : Type 0} (f : A → List ℕ) (o : Option A) (otherwise : List ℕ) → ((x : A) → IsPlainText (f x)) → IsPlainText otherwise
-    → IsPlainText (unwrap_or (option_map f o) otherwise)
-next_or_end f None otherwise h k = k
-next_or_end f (Some x) otherwise h k = h x
-
-walked_plain : (n : ℕ) (subject : Subject) (ending : ℕ → List ℕ) (s : Standing) (ahead : List ℕ) → SubjectFits subject
-    → ((at : ℕ) → IsPlainText (ending at)) → AreBytes ahead → IsPlainText (walked n subject ending s ahead)
-unfolding walked
-walked_plain zero subject ending s ahead fit ends h = ends s.at
-walked_plain (suc n) subject ending s ahead fit ends h =
-    next_or_end (λ (next : Role × ℕ). next_block subject s ahead next ++ walked n subject ending (behind_next subject s ahead next) (drop next.1 ahead))
-    (next_role s ahead) (ending s.at) (λ next. simp (
-      parts,
-      block_plain subject (here subject s ahead next) next.0 (take next.1 ahead) (drop next.1 ahead) fit (bytes_front next.1 ahead h),
-      walked_plain n subject ending (behind_next subject s ahead next) (drop next.1 ahead) fit ends (bytes_back next.1 ahead h),
-    ) refl) (ends s.at)
-
-rest_plain : (subject : Subject) (at : ℕ) (rest : List ℕ) → SubjectFits subject → AreBytes rest → IsPlainText (rest_text subject at rest)
-rest_plain subject at [] fit h = refl
-rest_plain subject at (x ∷ rest) fit h =
-    simp (
-      parts,
-      heading_plain subject.manner.look 0 kinds.Rest (x ∷ rest) at tt h,
-      fields_plain subject.manner.look 0 subject.names kinds.Rest (x ∷ rest) fit h,
-    ) refl
+rest_is_lines : (subject : Subject) (at : ℕ) (rest : List ℕ) → SubjectFits subject → AreBytes rest → RestIsLines subject at rest
+rest_is_lines subject at [] fit h = tt
+rest_is_lines subject at (x ∷ rest) fit h =
+    (heading_of_kind subject.manner.look 0 kinds.Rest (x ∷ rest) at tt h, fields_say subject.manner.look 0 subject.names kinds.Rest (x ∷ rest) fit h)
 
 -- ---- whole texts
 
-first_line_plain : (name : List ℕ) (n : ℕ) → IsPlainText name → IsPlainText (first_line name n)
+pub first_is_line : (name : List ℕ) (n : ℕ) → Printable name → IsLine (first_line name n)
 unfolding first_line
-first_line_plain name n h = simp (parts, h, count_plain n (codes "byte") refl) refl
+first_is_line name n h = ended (name ++ codes ", " ++ count n (codes "byte")) (simp (parts, h, count_plain n (codes "byte") refl) refl)
 
-last_line_plain : (n : ℕ) → IsPlainText (last_line n)
+pub last_is_line : (n : ℕ) → IsLine (last_line n)
 unfolding last_line
-last_line_plain n = simp (parts, count_plain n (codes "finding") refl) refl
+last_is_line n =
+    either_line (n == 0) _ _ (ended (codes "no findings") refl) (ended (count n (codes "finding")) (count_plain n (codes "finding") refl))
 
-whole_end_plain : (subject : Subject) (findings : ℕ) (b : List ℕ) (at : ℕ) → SubjectFits subject → AreBytes b → IsPlainText (whole_end subject findings b at)
-whole_end_plain subject findings b at fit h =
-    simp (parts, rest_plain subject at (drop at b) fit (bytes_back at b h), last_line_plain findings) refl
-
-pub whole_text_plain : (subject : Subject) (name : List ℕ) (findings : ℕ) (b : List ℕ) → SubjectFits subject → IsPlainText name → AreBytes b
-    → IsPlainText (whole_text subject name findings b)
-unfolding whole_text
-whole_text_plain subject name findings b fit k h =
-    simp (
-      parts,
-      first_line_plain name (length b) k,
-      walked_plain (length b) subject (whole_end subject findings b) start b fit (λ at. whole_end_plain subject findings b at fit h) h,
-    ) refl
-
-broken_name_plain : (b : List ℕ) → IsPlainText (broken_name b)
+pub broken_name_plain : (b : List ℕ) → Printable (broken_name b)
 broken_name_plain b = simp parts refl
 
-broken_end_plain : (subject : Subject) (fault : InputFault) (b : List ℕ) (at : ℕ) → SubjectFits subject → AreBytes b → IsPlainText (broken_end subject fault b at)
-broken_end_plain subject fault b at fit h =
-    simp (parts, fault_plain fault, rest_plain subject at (drop at b) fit (bytes_back at b h)) refl
-
-pub broken_text_plain : (subject : Subject) (fault : InputFault) (b : List ℕ) → SubjectFits subject → AreBytes b
-    → IsPlainText (broken_text subject fault b)
-unfolding broken_text
-broken_text_plain subject fault b fit h =
-    let whole = take (place_of_fault fault) b in
-    simp (
-      parts,
-      first_line_plain (broken_name b) (length b) (broken_name_plain b),
-      walked_plain (length whole) subject (broken_end subject fault b) start whole fit (λ at. broken_end_plain subject fault b at fit h)
-          (bytes_front (place_of_fault fault) b h),
-    ) refl
+pub in_lines : (subject : Subject) (front b first before_rest last text : List ℕ) → SubjectFits subject → AreBytes b → AreBytes front
+    → EachByteOnce subject front b first before_rest last text → IsLine first → IsLine (before_rest ++ last)
+    → InLines subject front b first before_rest last text
+in_lines subject front b first before_rest last text fit h k once first_so last_so = record {
+  once = once;
+  begins = first_so;
+  blocks = blocks_are_lines subject once.shown front (drop once.end front) fit once.cut k;
+  rest = rest_is_lines subject once.end (drop once.end b) fit (bytes_back once.end b h);
+  ends = last_so;
+}

@@ -65,7 +65,7 @@ use Rattle.usb_explain.proofs.rest.Sets.{GoesOut, both_hold, count_in, outer_at,
 -- ---- descriptors outside of sets
 
 -- outside of sets: whether the device and the language list came, and how many sets of each part
-abbrev outside : Bool → Bool → ℕ → ℕ → Out
+abbrev pub outside : Bool → Bool → ℕ → ℕ → Out
 outside known spoken mains others = record { left = 0; known = known; spoken = spoken; mains = mains; others = others }
 
 -- the end of the bytes
@@ -73,14 +73,14 @@ at_end : (E : Aim) (subject : Subject) (o : Out) → E [] [] [] → GoesOut E su
 at_end E subject o aimed v e s same rear = ends_here E subject s (rear.1 ∙ drop-nil rear.0) aimed
 
 -- a descriptor outside of sets, which has no counts
-record OutStep (subject : Subject) (s : Standing) (role : Role) (d behind : List ℕ) (mine : List Finding) (o : Out) : Type 0 where
-  is : role_of s d ≡ Some role
-  own : AllHere (is_here subject.is_dump (entered role subject.manner.speed (d ++ behind) s) role d behind) mine
-  after : (told : ℕ) → out (seen (passed role d (with_told told (entered role subject.manner.speed (d ++ behind) s)))) ≡ o
-  deep : depth_of (entered role subject.manner.speed (d ++ behind) s) role ≡ 0
-  counted : counts_at subject (shown_at subject s role (d ++ behind) d behind) ≡ []
+pub record OutStep (subject : Subject) (s : Standing) (role : Role) (d behind : List ℕ) (mine : List Finding) (o : Out) : Type 0 where
+  pub is : role_of s d ≡ Some role
+  pub own : AllHere (is_here subject.is_dump (entered role subject.manner.speed (d ++ behind) s) role d behind) mine
+  pub after : (told : ℕ) → out (seen (passed role d (with_told told (entered role subject.manner.speed (d ++ behind) s)))) ≡ o
+  pub deep : depth_of (entered role subject.manner.speed (d ++ behind) s) role ≡ 0
+  pub counted : counts_at subject (shown_at subject s role (d ++ behind) d behind) ≡ []
 
-out_goes : (E : Aim) (subject : Subject) (o p : Out) (role : Role) (d behind : List ℕ) (mine later : List Finding) → descriptor_length (d ++ behind) ≡ Some (length d)
+pub out_goes : (E : Aim) (subject : Subject) (o p : Out) (role : Role) (d behind : List ℕ) (mine later : List Finding) → descriptor_length (d ++ behind) ≡ Some (length d)
     → ((s : Standing) → out (seen s) ≡ o → OutStep subject s role d behind mine p) → GoesOut (adding E (entry role 0 d ∷ []) []) subject p later behind
     → GoesOut E subject o (mine ++ later) (d ++ behind)
 out_goes E subject o p role d behind mine later e step onward v is s same rear =
@@ -91,7 +91,7 @@ out_goes E subject o p role d behind mine later e step onward v is s same rear =
 
 -- ---- the device
 
-device_role : (d : DeviceDescriptor) → role_of start (device_bytes d) ≡ Some roles.Device
+pub device_role : (d : DeviceDescriptor) → role_of start (device_bytes d) ≡ Some roles.Device
 unfolding start role_of outer_role
 device_role d = refl
 
@@ -108,7 +108,7 @@ unfolding finding_at told_at
 here_device is_dump s d behind =
     here_is is_dump s roles.Device d behind (finding rules.V11 parts.Device 0 0 0) (same_place rules.V11 parts.Device 0 0 0) refl
 
-device_after : (d ahead : List ℕ) (subject : Subject) (told : ℕ)
+pub device_after : (d ahead : List ℕ) (subject : Subject) (told : ℕ)
     → out (seen (passed roles.Device d (with_told told (entered roles.Device subject.manner.speed ahead start)))) ≡ outside true false 0 0
 unfolding start noted
 device_after d ahead subject told = let none : 0 - length d ≡ 0 = omega arith in ap (λ n. record (outside true false 0 0) { left = n }) none
@@ -144,7 +144,7 @@ device_goes E subject d sets wrong behind later count onward rear =
 
 -- ---- the other speed
 
-qualifier_role : (s : Standing) (q : Qualifier) → is_some s.device ≡ true → outer_role s (qualifier_bytes q) ≡ Some roles.Qualifier
+pub qualifier_role : (s : Standing) (q : Qualifier) → is_some s.device ≡ true → outer_role s (qualifier_bytes q) ≡ Some roles.Qualifier
 unfolding outer_role
 qualifier_role s q e = both_hold (is_some s.device) true roles.Qualifier e refl
 
@@ -159,7 +159,7 @@ here_qualifier is_dump s d behind =
     here_is is_dump s roles.Qualifier d behind (finding rules.V11 parts.Other 0 0 0) (same_place rules.V11 parts.Other 0 0 0) refl
 
 -- outside of sets nothing is left of one
-nothing_less : (o : Out) (s : Standing) (n : ℕ) → o.left ≡ 0 → out (seen s) ≡ o → record (out (seen s)) { left = s.left - n } ≡ o
+pub nothing_less : (o : Out) (s : Standing) (n : ℕ) → o.left ≡ 0 → out (seen s) ≡ o → record (out (seen s)) { left = s.left - n } ≡ o
 nothing_less o s n none e =
     let left : s.left ≡ 0 = ap (λ (o : Out). o.left) e ∙ none in
     let same : s.left - n ≡ s.left = omega (arith, left) in
@@ -224,7 +224,7 @@ text_role s u e =
     ap (λ b. string_role b (length (units_bytes u))) e
     ∙ holds _ roles.Text (even (length (units_bytes u)) (length u) (length-units_bytes u))
 
-languages_step : (subject : Subject) (u behind : List ℕ) (known : Bool) (m n : ℕ) (s : Standing) → 0 < length u → out (seen s) ≡ outside known false m n
+pub languages_step : (subject : Subject) (u behind : List ℕ) (known : Bool) (m n : ℕ) (s : Standing) → 0 < length u → out (seen s) ≡ outside known false m n
     → OutStep subject s roles.Languages (units_bytes u) behind [] (outside known true m n)
 unfolding noted depth_of told_at
 languages_step subject u behind known m n s some e = record {
@@ -235,7 +235,7 @@ languages_step subject u behind known m n s some e = record {
   counted = refl;
 }
 
-text_step : (subject : Subject) (u behind : List ℕ) (known : Bool) (m n : ℕ) (s : Standing) → out (seen s) ≡ outside known true m n
+pub text_step : (subject : Subject) (u behind : List ℕ) (known : Bool) (m n : ℕ) (s : Standing) → out (seen s) ≡ outside known true m n
     → OutStep subject s roles.Text (units_bytes u) behind [] (outside known true m n)
 unfolding noted depth_of told_at
 text_step subject u behind known m n s e = record {
@@ -246,7 +246,7 @@ text_step subject u behind known m n s e = record {
   counted = refl;
 }
 
-units_length : (u : List ℕ) → 2 + 2 * length u ≡ 2 + length (flat_map little_endian u)
+pub units_length : (u : List ℕ) → 2 + 2 * length u ≡ 2 + length (flat_map little_endian u)
 units_length u = omega (arith, length-units_bytes u)
 
 -- strings behind the language list, up to the end
@@ -280,7 +280,7 @@ unfolding start
 no_sets kinds.Configuration = refl
 no_sets kinds.OtherSpeed = refl
 
-start_outside : start.left ≡ 0
+pub start_outside : start.left ≡ 0
 unfolding start
 start_outside = refl
 

@@ -89,7 +89,7 @@ begun_out : (kind : SetKind) (k n : ℕ) (v : Seen) → out_at k (begun kind n v
 begun_out kinds.Configuration k n v = refl
 begun_out kinds.OtherSpeed k n v = refl
 
-set_after : (kind : SetKind) (running : Option RunningSpeed) (len : ℕ) (body behind : List ℕ) (s : Standing) (told : ℕ)
+pub set_after : (kind : SetKind) (running : Option RunningSpeed) (len : ℕ) (body behind : List ℕ) (s : Standing) (told : ℕ)
     → (let d : List ℕ = len ∷ type_number kind ∷ body in
     seen (passed roles.Configuration d (with_told told (entered roles.Configuration running (d ++ behind) s))) ≡ begun kind (little_endian_at (d ++ behind) 2 - length d) (seen s))
 unfolding noted opened
@@ -109,7 +109,7 @@ here_set kinds.OtherSpeed is_dump running s len body behind rule h =
     (same_place rule parts.Other s.other_sets 0 0) (h (opened running (len ∷ 7 ∷ body ++ behind) s).set)
 
 -- either type of its first descriptor begins a set
-set_role : (s : Standing) (kind : SetKind) (len : ℕ) (body : List ℕ) → 9 ≤ length (len ∷ type_number kind ∷ body)
+pub set_role : (s : Standing) (kind : SetKind) (len : ℕ) (body : List ℕ) → 9 ≤ length (len ∷ type_number kind ∷ body)
     → length (len ∷ type_number kind ∷ body) ≤ little_endian_at (len ∷ type_number kind ∷ body) 2
     → outer_role s (len ∷ type_number kind ∷ body) ≡ Some roles.Configuration
 unfolding outer_role

@@ -72,10 +72,13 @@ all_pass p [] = tt
 all_pass p (f ∷ found) =
     subst (λ l. AllByRecursion (λ f. p f ≡ true) l) (sym (take_while-cons p f found)) (passed_by p f (take_while p found) (p f) refl (all_pass p found))
 
-all_own : (subject : Subject) (shown : List Shown) → AllByRecursion (TellsItsOwn subject) shown
+pub tells_own : (subject : Subject) (d : Shown) → TellsItsOwn subject d
 unfolding found_at
+tells_own subject d = all_pass (is_here subject.is_dump d.standing d.role d.bytes d.behind) (drop d.standing.told subject.found)
+
+all_own : (subject : Subject) (shown : List Shown) → AllByRecursion (TellsItsOwn subject) shown
 all_own subject [] = tt
-all_own subject (d ∷ ds) = (all_pass (is_here subject.is_dump d.standing d.role d.bytes d.behind) (drop d.standing.told subject.found), all_own subject ds)
+all_own subject (d ∷ ds) = (tells_own subject d, all_own subject ds)
 
 -- it tells each finding
 nothing_untold : (subject : Subject) (input : Input) (b : List ℕ) (first text : List ℕ) (findings : List Finding)

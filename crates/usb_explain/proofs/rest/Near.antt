@@ -1,0 +1,289 @@
+-- A walk over bytes with the fault of a set comes near that fault.
+use Rattle.std.proofs.Common.{◌≡◌, ◌≤◌, ◌<◌, ℕ, zero, suc, ◌+◌, ◌-◌, ◌*◌, ◌==◌, ◌&&◌, ◌||◌, Bool, true, false, if◌then◌else◌, List, [], ◌∷◌, ◌++◌, length, take, drop, nat_le, nat_lt, Option, Some, None, is_some, unwrap_or, refl, sym, ap, subst, ◌∙◌, arith, inl, inr, append_assoc, append-nil, length-append}
+use Rattle.std.specs.Option.{option_map}
+use Rattle.std.proofs.Math.Seq.{drop-length, drop-nil, take-append_seam}
+use Rattle.std.proofs.lemmas.Bool.{cond-false, eq-eqb, eqb-true}
+use Rattle.std.proofs.lemmas.Bool.Decides.{nat_tests}
+use Rattle.std.proofs.lemmas.Option.{none-some}
+use Rattle.usb_base.specs.Bytes.{AreBytes}
+use Rattle.usb_rules.specs.declared.finding.Finding.{Finding}
+use Rattle.usb_set.specs.declared.fault.SetWhy.{SetWhy}
+use Rattle.usb_set.specs.declared.fault.SetWhy.TheVariants as whys
+use Rattle.usb_set.specs.declared.tree.SetKind.{SetKind}
+use Rattle.usb_set.specs.declared.tree.SetKind.TheVariants as kinds
+use Rattle.usb_set.specs.Descriptors.{Descriptor, descriptor_bytes, type_number}
+use Rattle.usb_set.specs.Faults.{AreItems, Fault, Faulty, IsHeader, IsOpen, Reaches, header_fault, is_interface, is_set_type, item_fault, joined, total_of}
+use Rattle.usb_set.specs.inside.Reading.{Reading, first, later, whole, faulty, first_byte, reading_of}
+use Rattle.usb_set.proofs.ByteByByte.{header_long, whole_length}
+use Rattle.usb_set.proofs.Sound.{Sound, sound}
+use Rattle.usb_set.proofs.Stands.{item_within}
+use Rattle.usb_file_data.proofs.Lists.{bytes_behind}
+use Rattle.usb_survey.specs.declared.speed.RunningSpeed.{RunningSpeed}
+use Rattle.usb_explain.specs.declared.role.Role.{Role}
+use Rattle.usb_explain.specs.declared.role.Role.TheVariants.{Device, Qualifier, Association, Interface, Endpoint, Raw, Languages, Text}
+use Rattle.usb_explain.specs.declared.role.Role.TheVariants as roles
+use Rattle.usb_explain.specs.declared.standing.Standing.{Standing}
+use Rattle.usb_explain.specs.Laws.{Cut, Shown}
+use Rattle.usb_explain.specs.Opening.{entered}
+use Rattle.usb_explain.specs.Passing.{noted, passed, with_told}
+use Rattle.usb_explain.specs.Roles.{inner_role, typed_role}
+use Rattle.usb_explain.specs.Subjects.{Subject}
+use Rattle.usb_explain.proofs.Spans.{Aim, walk_shows}
+use Rattle.usb_explain.proofs.rest.Walks.{Ends}
+use Rattle.usb_explain.proofs.rest.Seen.{Rear, Seen}
+use Rattle.usb_explain.proofs.rest.Sets.{outer_at, set_after, set_role}
+use Rattle.usb_explain.proofs.rest.Steps.{behind_one, goes_on, inner_at, length_is}
+
+-- fewer bytes are left than a descriptor may have
+abbrev pub few : Aim
+few = λ rest entries counts. length rest < 256
+
+-- nothing is told of bytes that are no input
+abbrev pub TellsNothing : Subject → Type 0
+TellsNothing subject = subject.found ≡ []
+
+pub rear_of_none : (subject : Subject) (s : Standing) (found : List Finding) → TellsNothing subject → Rear subject s found
+rear_of_none subject s found none = (length found, ap (λ l. drop s.told l) none ∙ drop-nil s.told ∙ sym (drop-length found))
+
+-- ---- few bytes
+
+cut_rest : (shown : List Shown) (b rest : List ℕ) → Cut b shown rest → length rest ≤ length b
+cut_rest [] b rest e = omega (arith, ap (λ (l : List ℕ). length l) e)
+cut_rest (d ∷ ds) b rest c =
+    omega (arith, ap (λ (l : List ℕ). length l) c.0, length-append d.bytes d.behind, cut_rest ds d.behind rest c.2)
+
+-- of few bytes few are left
+pub few_left : (subject : Subject) (s : Standing) (ahead : List ℕ) → TellsNothing subject → length ahead < 256 → Ends few subject s ahead
+few_left subject s ahead none lt n enough =
+    let w = walk_shows subject n s ahead in
+    let fewer : length w.rest < 256 = omega (arith, lt, cut_rest w.shown ahead w.rest w.cut) in
+    record { walk = w; aimed = fewer; all_told = ap (λ l. drop w.told l) none ∙ drop-nil w.told }
+
+taken : (n : ℕ) (b : List ℕ) → length (take n b) ≤ n
+taken zero b = omega arith
+taken (suc n) [] = omega arith
+taken (suc n) (x ∷ b) = omega (arith, taken n b)
+
+pub few_taken : (n : ℕ) (b : List ℕ) → n < 256 → length (take n b) < 256
+few_taken n b lt = omega (arith, lt, taken n b)
+
+-- as many bytes as a bLength may say
+pub below_length : (b : List ℕ) → AreBytes b → length b < first_byte b → length b < 256
+below_length [] h short = omega arith
+below_length (len ∷ b) h short = omega (arith, h.0, short)
+
+-- ---- descriptors in a set
+
+-- roles in a set behind its first descriptor
+abbrev Stays : Role → Type 0
+Stays Association = Unit {0}
+Stays Interface = Unit {0}
+Stays Endpoint = Unit {0}
+Stays Raw = Unit {0}
+Stays role = ⊥
+
+typed_stays : (holds : Bool) (role : Role) → Stays role → Stays (typed_role holds role)
+typed_stays true role h = h
+typed_stays false role h = tt
+
+record Inner (s : Standing) (d : List ℕ) : Type 0 where
+  role : Role
+  is : inner_role s d ≡ Some role
+  stays : Stays role
+
+chosen : (a b c : Bool) (x y z : Role) → Stays x → Stays y → Stays z
+    → (role : Role) × ((if a then Some x else if b then Some y else if c then Some z else Some Raw) ≡ Some role) × Stays role
+chosen true b c x y z hx hy hz = (x, refl, hx)
+chosen false true c x y z hx hy hz = (y, refl, hy)
+chosen false false true x y z hx hy hz = (z, refl, hz)
+chosen false false false x y z hx hy hz = (Raw, refl, tt)
+
+inner : (s : Standing) (len kind : ℕ) (body : List ℕ) → is_set_type kind ≡ false → Inner s (len ∷ kind ∷ body)
+unfolding inner_role
+inner s len kind body e =
+    let n = length (len ∷ kind ∷ body) in
+    let nine = nat_le 9 n in
+    let seven = is_some s.set.setting && nat_le 7 n in
+    let eight = nat_le 8 n in
+    let one = chosen (kind == 4) (kind == 5) (kind == 11) (typed_role nine Interface) (typed_role seven Endpoint) (typed_role eight Association)
+    (typed_stays nine Interface tt) (typed_stays seven Endpoint tt) (typed_stays eight Association tt) in
+    record { role = one.0; is = cond-false (is_set_type kind) None _ e ∙ one.1; stays = one.2 }
+
+left_behind : (role : Role) → Stays role → (running : Option RunningSpeed) (d ahead : List ℕ) (s : Standing) (told : ℕ)
+    → (passed role d (with_told told (entered role running ahead s))).left ≡ s.left - length d
+unfolding noted
+left_behind Device h running d ahead s told = absurd h
+left_behind Qualifier h running d ahead s told = absurd h
+left_behind roles.Configuration h running d ahead s told = absurd h
+left_behind Association h running d ahead s told = refl
+left_behind Interface h running d ahead s told = refl
+left_behind Endpoint h running d ahead s told = refl
+left_behind Raw h running d ahead s told = refl
+left_behind Languages h running d ahead s told = absurd h
+left_behind Text h running d ahead s told = absurd h
+
+no_other_fault : (a b c : Bool) (x y z : SetWhy) (rest : Option SetWhy)
+    → (if a then Some x else if b then Some y else if c then Some z else rest) ≡ None → c ≡ false
+no_other_fault true b c x y z rest e = absurd (none-some x (sym e))
+no_other_fault false true c x y z rest e = absurd (none-some y (sym e))
+no_other_fault false false true x y z rest e = absurd (none-some z (sym e))
+no_other_fault false false false x y z rest e = refl
+
+not_nested : (room : ℕ) (in_setting : Bool) (len kind : ℕ) (body : List ℕ) → item_fault room in_setting (len ∷ kind ∷ body) ≡ None → is_set_type kind ≡ false
+not_nested room in_setting len kind body e =
+    no_other_fault (nat_lt len 2) (nat_lt room len) (is_set_type kind) whys.ItemLength whys.Over whys.Nested _ e
+
+-- from each standing where so much of a set is left, few bytes are left of these
+abbrev pub GoesFew : Subject → ℕ → List ℕ → Type 0
+GoesFew subject room ahead = (s : Standing) → s.left ≡ room → Ends few subject s ahead
+
+item_goes : (subject : Subject) (room : ℕ) (in_setting : Bool) (item : Descriptor) (behind : List ℕ) → item_fault room in_setting (descriptor_bytes item) ≡ None
+    → GoesFew subject (room - length (descriptor_bytes item)) behind → GoesFew subject room (descriptor_bytes item ++ behind)
+item_goes subject room in_setting item behind fine onward s left =
+    let d = descriptor_bytes item in
+    let len = 2 + length item.body in
+    let one = inner s len item.kind item.body (not_nested room in_setting len item.kind item.body fine) in
+    let within : length d ≤ room = item_within room in_setting d fine (eq-eqb (length (item.kind ∷ item.body) + 1) len (omega arith)) in
+    goes_on few subject s d behind one.role _ _ (length_is len item.kind item.body behind refl) (inner_at s d room left (omega arith) within ∙ one.is) refl refl
+    (onward (behind_one subject s one.role d behind)
+    (left_behind one.role one.stays subject.manner.speed d (d ++ behind) s _ ∙ ap (λ k. k - length d) left))
+
+items_go : (subject : Subject) (room : ℕ) (in_setting : Bool) (items : List Descriptor) (behind : List ℕ) → AreItems room in_setting items
+    → ((s : Standing) → Ends few subject s behind) → GoesFew subject room (joined items ++ behind)
+items_go subject room in_setting [] behind are onward s left = onward s
+items_go subject room in_setting (item ∷ items) behind are onward s left =
+    let d = descriptor_bytes item in
+    subst (λ l. Ends few subject s l) (sym (append_assoc d (joined items) behind))
+    (item_goes subject room in_setting item (joined items ++ behind) are.0
+    (items_go subject (room - length d) (in_setting || is_interface item) items behind are.1 onward) s left)
+
+-- ---- the first descriptor of a set
+
+set_kind : (kind : ℕ) → is_set_type kind ≡ true → (k : SetKind) × (type_number k ≡ kind)
+set_kind kind e = by_test (kind == 2) refl
+  where
+    by_test : (b : Bool) → (kind == 2) ≡ b → (k : SetKind) × (type_number k ≡ kind)
+    by_test true two = (kinds.Configuration, sym (eqb-true kind 2 two))
+    by_test false two = (kinds.OtherSpeed, sym (eqb-true kind 7 (sym (ap (λ b. b || (kind == 7)) two) ∙ e)))
+
+record Header (header : List ℕ) : Type 0 where
+  kind : SetKind
+  body : List ℕ
+  is : header ≡ (2 + length body) ∷ type_number kind ∷ body
+  least : 9 ≤ length header
+  most : length header ≤ total_of header
+
+no_header_fault : (a b c : Bool) (x y z : Fault) → (if a then Some x else if b then (if c then Some y else None) else Some z) ≡ None
+    → (b ≡ true) × (c ≡ false)
+no_header_fault true b c x y z e = absurd (none-some x (sym e))
+no_header_fault false true true x y z e = absurd (none-some y (sym e))
+no_header_fault false true false x y z e = (refl, refl)
+no_header_fault false false c x y z e = absurd (none-some z (sym e))
+
+not_below : (a b : ℕ) → nat_lt a b ≡ false → b ≤ a
+not_below a b e = grind (arith, nat_tests)
+
+header_parts : (header : List ℕ) → IsHeader header → Header header
+header_parts [] h = absurd (omega (arith, header_long [] h.no_fault h.whole))
+header_parts (len ∷ []) h = absurd (omega (arith, header_long (len ∷ []) h.no_fault h.whole))
+header_parts (len ∷ kind ∷ []) h = absurd (omega (arith, header_long (len ∷ kind ∷ []) h.no_fault h.whole))
+header_parts (len ∷ kind ∷ low ∷ []) h = absurd (omega (arith, header_long (len ∷ kind ∷ low ∷ []) h.no_fault h.whole))
+header_parts (len ∷ kind ∷ low ∷ high ∷ body) h =
+    let all = len ∷ kind ∷ low ∷ high ∷ body in
+    let fine = no_header_fault (nat_lt len 9) (is_set_type kind) (nat_lt (low + 256 * high) len) (0, whys.HeaderLength) (2, whys.Total) (1, whys.HeaderKind) h.no_fault in
+    let k = set_kind kind fine.0 in
+    let long : length all ≡ len = whole_length all h.whole in
+    let rest : List ℕ = low ∷ high ∷ body in
+    let counts : len ≡ 2 + length rest = omega (arith, long) in
+    let total : len ≤ low + 256 * high = not_below (low + 256 * high) len fine.1 in
+    record {
+      kind = k.0;
+      body = rest;
+      is = ap (λ n. n ∷ kind ∷ rest) counts ∙ ap (λ n. (2 + length rest) ∷ n ∷ rest) (sym k.1);
+      least = header_long all h.no_fault h.whole;
+      most = omega (arith, long, total);
+    }
+
+total_before : (len kind : ℕ) (body behind : List ℕ) → 9 ≤ length (len ∷ kind ∷ body) → total_of ((len ∷ kind ∷ body) ++ behind) ≡ total_of (len ∷ kind ∷ body)
+total_before len kind [] behind least = absurd (omega arith)
+total_before len kind (low ∷ []) behind least = absurd (omega arith)
+total_before len kind (low ∷ high ∷ body) behind least = refl
+
+begun_goes : (subject : Subject) (kind : SetKind) (body behind : List ℕ) (s : Standing) → s.left ≡ 0
+    → (let d : List ℕ = (2 + length body) ∷ type_number kind ∷ body in
+    9 ≤ length d → length d ≤ total_of d → GoesFew subject (total_of d - length d) behind → Ends few subject s (d ++ behind))
+begun_goes subject kind body behind s outside least most onward =
+    let len = 2 + length body in
+    let d : List ℕ = len ∷ type_number kind ∷ body in
+    goes_on few subject s d behind roles.Configuration _ _ (length_is len (type_number kind) body behind refl)
+    (outer_at s d outside ∙ set_role s kind len body least most) refl refl
+    (onward (behind_one subject s roles.Configuration d behind)
+    (ap (λ (v : Seen). v.left) (set_after kind subject.manner.speed len body behind s _) ∙ ap (λ n. n - length d) (total_before len (type_number kind) body behind least)))
+
+header_goes : (subject : Subject) (header behind : List ℕ) (s : Standing) → s.left ≡ 0 → IsHeader header
+    → GoesFew subject (total_of header - length header) behind → Ends few subject s (header ++ behind)
+header_goes subject header behind s outside is onward =
+    let h = header_parts header is in
+    subst (λ l. Ends few subject s (l ++ behind)) (sym h.is)
+    (begun_goes subject h.kind h.body behind s outside (subst (λ l. 9 ≤ length l) h.is h.least) (subst (λ l. length l ≤ total_of l) h.is h.most)
+    (subst (λ l. GoesFew subject (total_of l - length l) behind) h.is onward))
+
+-- ---- sets
+
+-- from each standing outside of sets, few bytes are left of these
+abbrev pub OutFew : Subject → List ℕ → Type 0
+OutFew subject ahead = GoesFew subject 0 ahead
+
+pub reached : (subject : Subject) (b header : List ℕ) (items : List Descriptor) (place : ℕ) (rest cur : List ℕ) → TellsNothing subject
+    → Reaches b header items place rest → length cur < 256 → OutFew subject (header ++ joined items ++ cur)
+reached subject b header items place rest cur none r lt s outside =
+    subst (λ l. Ends few subject s l) (sym (append_assoc header (joined items) cur))
+    (header_goes subject header (joined items ++ cur) s outside r.is_header
+    (items_go subject (total_of header - length header) false items cur r.are_items (λ t. few_left subject t cur none lt)))
+
+-- up to the place of the rest
+pub reached_place : (subject : Subject) (b header : List ℕ) (items : List Descriptor) (place : ℕ) (rest : List ℕ) → TellsNothing subject
+    → Reaches b header items place rest → OutFew subject (take place b)
+reached_place subject b header items place rest none r s outside =
+    let front = header ++ joined items in
+    let ends : length front ≡ place = length-append header (joined items) ∙ sym r.ends in
+    let is : take place b ≡ front ++ [] =
+    ap (λ l. take place l) r.parts ∙ ap (λ k. take k (front ++ rest)) (sym ends) ∙ take-append_seam front rest ∙ sym (append-nil front) in
+    subst (λ l. Ends few subject s l) (sym is) (reached subject b header items place rest [] none r (omega arith) s outside)
+
+abbrev place_in : Option Fault → ℕ
+place_in o = unwrap_or (option_map (λ (f : Fault). f.0) o) 0
+
+first_places : (a b c : Bool) → place_in (if a then Some (0, whys.HeaderLength) else if b then (if c then Some (2, whys.Total) else None) else Some (1, whys.HeaderKind)) ≤ 2
+first_places true b c = omega arith
+first_places false true true = omega arith
+first_places false true false = omega arith
+first_places false false c = omega arith
+
+header_places : (b : List ℕ) → place_in (header_fault b) ≤ 2
+header_places [] = omega arith
+header_places (len ∷ []) = first_places (nat_lt len 9) true false
+header_places (len ∷ kind ∷ []) = first_places (nat_lt len 9) (is_set_type kind) false
+header_places (len ∷ kind ∷ low ∷ []) = first_places (nat_lt len 9) (is_set_type kind) false
+header_places (len ∷ kind ∷ low ∷ high ∷ b) = first_places (nat_lt len 9) (is_set_type kind) (nat_lt (low + 256 * high) len)
+
+pub faulty_few : (subject : Subject) (b : List ℕ) (place : ℕ) (why : SetWhy) → TellsNothing subject → Faulty b place why → OutFew subject (take place b)
+faulty_few subject b place why none (inl e) s outside =
+    let at : place_in (header_fault b) ≡ place = ap (λ o. place_in o) e in
+    few_left subject s (take place b) none (few_taken place b (omega (arith, at, header_places b)))
+faulty_few subject b place why none (inr h) s outside = reached_place subject b h.header h.items place h.rest none h.reaches s outside
+
+-- bytes that are open end in a descriptor
+open_by : (subject : Subject) (b : List ℕ) (r : Reading) → TellsNothing subject → AreBytes b → IsOpen b → Sound b r → OutFew subject b
+open_by subject b (first cur) none h waits is s outside =
+    few_left subject s b none (below_length b h (subst (λ l. length l < first_byte l) (sym is.same) is.short))
+open_by subject b (later c total place cur) none h waits is s outside =
+    let front = is.header ++ joined is.items in
+    let behind = bytes_behind front cur (subst AreBytes is.reaches.parts h) in
+    subst (λ l. Ends few subject s l) (sym is.reaches.parts)
+    (reached subject b is.header is.items place cur cur none is.reaches (below_length cur behind is.short) s outside)
+open_by subject b (whole c place) none h waits is s outside = absurd (waits.no_layout c place is)
+open_by subject b (faulty place why) none h waits is s outside = absurd (waits.no_fault place why is)
+
+pub open_few : (subject : Subject) (b : List ℕ) → TellsNothing subject → AreBytes b → IsOpen b → OutFew subject b
+open_few subject b none h waits = open_by subject b (reading_of b) none h waits (sound b h)
