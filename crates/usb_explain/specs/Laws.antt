@@ -1,7 +1,7 @@
 -- What holds of each explanation: its headings stand for each byte once, and of an input no bytes are left for the rest. Each
 -- finding is told once, with the counts of its set, and the descriptors are those of the input's tree. A brief one leaves out
 -- the fields alone, and each part of it is printable lines.
-use Rattle.std.specs.Prelude.{◌≡◌, ◌<◌, ℕ, true, false, ◌+◌, List, [], ◌∷◌, ◌++◌, length, map, take, drop, flat_map, slice_index, unwrap_or}
+use Rattle.std.specs.Prelude.{◌≡◌, ◌<◌, ◌≤◌, ℕ, true, false, ◌+◌, List, [], ◌∷◌, ◌++◌, length, map, take, drop, flat_map, slice_index, unwrap_or}
 use Rattle.std.specs.List.{AllByRecursion}
 use Rattle.std.specs.Option.{option_map}
 use Rattle.usb_base.specs.Bytes.{AreBytes}
@@ -24,6 +24,7 @@ use Rattle.usb_explain.specs.Faults.{fault_text, place_of_fault}
 use Rattle.usb_explain.specs.Findings.{found_at, is_here, line_of, role_findings, told_at}
 use Rattle.usb_explain.specs.Kinds.{depth_of, kind_of}
 use Rattle.usb_explain.specs.Lines.{IsLine, SayFields}
+use Rattle.usb_explain.specs.Slack.{slack}
 use Rattle.usb_explain.specs.Subjects.{Subject, broken_subject, findings_in, subject_with}
 use Rattle.usb_explain.specs.Trees.{OutlineEntry, counts_in, entry, outline}
 use Rattle.usb_explain.specs.Walks.{rest_text}
@@ -108,16 +109,16 @@ BrokenEachByteOnce =
     EachByteOnce (broken_subject manner) (take (place_of_fault fault) b) b (first_line (broken_name b) (length b)) (fault_text fault) []
     (broken_explanation manner fault b)
 
--- The text of bytes that are no input comes near their fault: of the bytes before it, fewer than 256 have no heading.
-pub record ComesNear (subject : Subject) (front bytes first before_rest last text : List ℕ) : Type 0 where
+-- a text that stands for each byte once, where no more of the front than so many bytes are left for the rest
+pub record ComesUpTo (most : ℕ) (subject : Subject) (front bytes first before_rest last text : List ℕ) : Type 0 where
   pub once : EachByteOnce subject front bytes first before_rest last text
-  pub near : length (drop once.end front) < 256
+  pub near : length (drop once.end front) ≤ most
 
--- so does each explanation of bytes that are read as no input, with the fault that is told of them
-abbrev pub BrokenComesNear : Type 0
-BrokenComesNear =
+-- each explanation of bytes that are no input comes up to the fault with which they are refused
+abbrev pub BrokenComesUpToFault : Type 0
+BrokenComesUpToFault =
     (manner : Manner) (fault : InputFault) (b : List ℕ) → AreBytes b → InputRefused b fault →
-    ComesNear (broken_subject manner) (take (place_of_fault fault) b) b (first_line (broken_name b) (length b)) (fault_text fault) []
+    ComesUpTo (slack fault) (broken_subject manner) (take (place_of_fault fault) b) b (first_line (broken_name b) (length b)) (fault_text fault) []
     (broken_explanation manner fault b)
 
 -- of an input nothing is left: each of its bytes stands under the heading of a descriptor

@@ -9,6 +9,7 @@ pub mod Walks
 pub mod Faults
 pub mod Explanations
 pub mod Lines
+pub mod Slack
 pub mod Trees
 pub mod Laws
 pub mod inside

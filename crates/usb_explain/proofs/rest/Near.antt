@@ -1,6 +1,5 @@
--- A walk over bytes with the fault of a set comes near that fault.
-use Rattle.std.proofs.Common.{◌≡◌, ◌≤◌, ◌<◌, ℕ, zero, suc, ◌+◌, ◌-◌, ◌*◌, ◌==◌, ◌&&◌, ◌||◌, Bool, true, false, if◌then◌else◌, List, [], ◌∷◌, ◌++◌, length, take, drop, nat_le, nat_lt, Option, Some, None, is_some, unwrap_or, refl, sym, ap, subst, ◌∙◌, arith, inl, inr, append_assoc, append-nil, length-append}
-use Rattle.std.specs.Option.{option_map}
+-- A walk over bytes with the fault of a set comes up to that fault.
+use Rattle.std.proofs.Common.{◌≡◌, ◌≤◌, ◌<◌, ℕ, zero, suc, ◌+◌, ◌-◌, ◌*◌, ◌==◌, ◌&&◌, ◌||◌, Bool, true, false, if◌then◌else◌, List, [], ◌∷◌, ◌++◌, length, take, drop, nat_le, nat_lt, Option, Some, None, is_some, refl, sym, ap, subst, ◌∙◌, arith, inl, inr, append_assoc, append-nil, length-append}
 use Rattle.std.proofs.Math.Seq.{drop-length, drop-nil, take-append_seam}
 use Rattle.std.proofs.lemmas.Bool.{cond-false, eq-eqb, eqb-true}
 use Rattle.std.proofs.lemmas.Bool.Decides.{nat_tests}
@@ -27,6 +26,7 @@ use Rattle.usb_explain.specs.Laws.{Cut, Shown}
 use Rattle.usb_explain.specs.Opening.{entered}
 use Rattle.usb_explain.specs.Passing.{noted, passed, with_told}
 use Rattle.usb_explain.specs.Roles.{inner_role, typed_role}
+use Rattle.usb_explain.specs.Slack.{set_slack}
 use Rattle.usb_explain.specs.Subjects.{Subject}
 use Rattle.usb_explain.proofs.Spans.{Aim, walk_shows}
 use Rattle.usb_explain.proofs.rest.Walks.{Ends}
@@ -34,9 +34,9 @@ use Rattle.usb_explain.proofs.rest.Seen.{Rear, Seen}
 use Rattle.usb_explain.proofs.rest.Sets.{outer_at, set_after, set_role}
 use Rattle.usb_explain.proofs.rest.Steps.{behind_one, goes_on, inner_at, length_is}
 
--- fewer bytes are left than a descriptor may have
-abbrev pub few : Aim
-few = λ rest entries counts. length rest < 256
+-- no more bytes are left than so many
+abbrev pub few : ℕ → Aim
+few k = λ rest entries counts. length rest ≤ k
 
 -- nothing is told of bytes that are no input
 abbrev pub TellsNothing : Subject → Type 0
@@ -53,10 +53,10 @@ cut_rest (d ∷ ds) b rest c =
     omega (arith, ap (λ (l : List ℕ). length l) c.0, length-append d.bytes d.behind, cut_rest ds d.behind rest c.2)
 
 -- of few bytes few are left
-pub few_left : (subject : Subject) (s : Standing) (ahead : List ℕ) → TellsNothing subject → length ahead < 256 → Ends few subject s ahead
-few_left subject s ahead none lt n enough =
+pub few_left : (k : ℕ) (subject : Subject) (s : Standing) (ahead : List ℕ) → TellsNothing subject → length ahead ≤ k → Ends (few k) subject s ahead
+few_left k subject s ahead none le n enough =
     let w = walk_shows subject n s ahead in
-    let fewer : length w.rest < 256 = omega (arith, lt, cut_rest w.shown ahead w.rest w.cut) in
+    let fewer : length w.rest ≤ k = omega (arith, le, cut_rest w.shown ahead w.rest w.cut) in
     record { walk = w; aimed = fewer; all_told = ap (λ l. drop w.told l) none ∙ drop-nil w.told }
 
 taken : (n : ℕ) (b : List ℕ) → length (take n b) ≤ n
@@ -64,11 +64,11 @@ taken zero b = omega arith
 taken (suc n) [] = omega arith
 taken (suc n) (x ∷ b) = omega (arith, taken n b)
 
-pub few_taken : (n : ℕ) (b : List ℕ) → n < 256 → length (take n b) < 256
-few_taken n b lt = omega (arith, lt, taken n b)
+pub few_taken : (k n : ℕ) (b : List ℕ) → n ≤ k → length (take n b) ≤ k
+few_taken k n b le = omega (arith, le, taken n b)
 
--- as many bytes as a bLength may say
-pub below_length : (b : List ℕ) → AreBytes b → length b < first_byte b → length b < 256
+-- a descriptor that is cut off has at most 254 bytes
+pub below_length : (b : List ℕ) → AreBytes b → length b < first_byte b → length b ≤ 254
 below_length [] h short = omega arith
 below_length (len ∷ b) h short = omega (arith, h.0, short)
 
@@ -133,29 +133,29 @@ not_nested : (room : ℕ) (in_setting : Bool) (len kind : ℕ) (body : List ℕ)
 not_nested room in_setting len kind body e =
     no_other_fault (nat_lt len 2) (nat_lt room len) (is_set_type kind) whys.ItemLength whys.Over whys.Nested _ e
 
--- from each standing where so much of a set is left, few bytes are left of these
-abbrev pub GoesFew : Subject → ℕ → List ℕ → Type 0
-GoesFew subject room ahead = (s : Standing) → s.left ≡ room → Ends few subject s ahead
+-- from each standing where so much of a set is left, no more bytes than so many are left of these
+abbrev pub GoesFew : ℕ → Subject → ℕ → List ℕ → Type 0
+GoesFew k subject room ahead = (s : Standing) → s.left ≡ room → Ends (few k) subject s ahead
 
-item_goes : (subject : Subject) (room : ℕ) (in_setting : Bool) (item : Descriptor) (behind : List ℕ) → item_fault room in_setting (descriptor_bytes item) ≡ None
-    → GoesFew subject (room - length (descriptor_bytes item)) behind → GoesFew subject room (descriptor_bytes item ++ behind)
-item_goes subject room in_setting item behind fine onward s left =
+item_goes : (k : ℕ) (subject : Subject) (room : ℕ) (in_setting : Bool) (item : Descriptor) (behind : List ℕ) → item_fault room in_setting (descriptor_bytes item) ≡ None
+    → GoesFew k subject (room - length (descriptor_bytes item)) behind → GoesFew k subject room (descriptor_bytes item ++ behind)
+item_goes k subject room in_setting item behind fine onward s left =
     let d = descriptor_bytes item in
     let len = 2 + length item.body in
     let one = inner s len item.kind item.body (not_nested room in_setting len item.kind item.body fine) in
     let within : length d ≤ room = item_within room in_setting d fine (eq-eqb (length (item.kind ∷ item.body) + 1) len (omega arith)) in
-    goes_on few subject s d behind one.role _ _ (length_is len item.kind item.body behind refl) (inner_at s d room left (omega arith) within ∙ one.is) refl refl
+    goes_on (few k) subject s d behind one.role _ _ (length_is len item.kind item.body behind refl) (inner_at s d room left (omega arith) within ∙ one.is) refl refl
     (onward (behind_one subject s one.role d behind)
     (left_behind one.role one.stays subject.manner.speed d (d ++ behind) s _ ∙ ap (λ k. k - length d) left))
 
-items_go : (subject : Subject) (room : ℕ) (in_setting : Bool) (items : List Descriptor) (behind : List ℕ) → AreItems room in_setting items
-    → ((s : Standing) → Ends few subject s behind) → GoesFew subject room (joined items ++ behind)
-items_go subject room in_setting [] behind are onward s left = onward s
-items_go subject room in_setting (item ∷ items) behind are onward s left =
+items_go : (k : ℕ) (subject : Subject) (room : ℕ) (in_setting : Bool) (items : List Descriptor) (behind : List ℕ) → AreItems room in_setting items
+    → ((s : Standing) → Ends (few k) subject s behind) → GoesFew k subject room (joined items ++ behind)
+items_go k subject room in_setting [] behind are onward s left = onward s
+items_go k subject room in_setting (item ∷ items) behind are onward s left =
     let d = descriptor_bytes item in
-    subst (λ l. Ends few subject s l) (sym (append_assoc d (joined items) behind))
-    (item_goes subject room in_setting item (joined items ++ behind) are.0
-    (items_go subject (room - length d) (in_setting || is_interface item) items behind are.1 onward) s left)
+    subst (λ l. Ends (few k) subject s l) (sym (append_assoc d (joined items) behind))
+    (item_goes k subject room in_setting item (joined items ++ behind) are.0
+    (items_go k subject (room - length d) (in_setting || is_interface item) items behind are.1 onward) s left)
 
 -- ---- the first descriptor of a set
 
@@ -209,81 +209,82 @@ total_before len kind [] behind least = absurd (omega arith)
 total_before len kind (low ∷ []) behind least = absurd (omega arith)
 total_before len kind (low ∷ high ∷ body) behind least = refl
 
-begun_goes : (subject : Subject) (kind : SetKind) (body behind : List ℕ) (s : Standing) → s.left ≡ 0
+begun_goes : (k : ℕ) (subject : Subject) (kind : SetKind) (body behind : List ℕ) (s : Standing) → s.left ≡ 0
     → (let d : List ℕ = (2 + length body) ∷ type_number kind ∷ body in
-    9 ≤ length d → length d ≤ total_of d → GoesFew subject (total_of d - length d) behind → Ends few subject s (d ++ behind))
-begun_goes subject kind body behind s outside least most onward =
+    9 ≤ length d → length d ≤ total_of d → GoesFew k subject (total_of d - length d) behind → Ends (few k) subject s (d ++ behind))
+begun_goes k subject kind body behind s outside least most onward =
     let len = 2 + length body in
     let d : List ℕ = len ∷ type_number kind ∷ body in
-    goes_on few subject s d behind roles.Configuration _ _ (length_is len (type_number kind) body behind refl)
+    goes_on (few k) subject s d behind roles.Configuration _ _ (length_is len (type_number kind) body behind refl)
     (outer_at s d outside ∙ set_role s kind len body least most) refl refl
     (onward (behind_one subject s roles.Configuration d behind)
     (ap (λ (v : Seen). v.left) (set_after kind subject.manner.speed len body behind s _) ∙ ap (λ n. n - length d) (total_before len (type_number kind) body behind least)))
 
-header_goes : (subject : Subject) (header behind : List ℕ) (s : Standing) → s.left ≡ 0 → IsHeader header
-    → GoesFew subject (total_of header - length header) behind → Ends few subject s (header ++ behind)
-header_goes subject header behind s outside is onward =
+header_goes : (k : ℕ) (subject : Subject) (header behind : List ℕ) (s : Standing) → s.left ≡ 0 → IsHeader header
+    → GoesFew k subject (total_of header - length header) behind → Ends (few k) subject s (header ++ behind)
+header_goes k subject header behind s outside is onward =
     let h = header_parts header is in
-    subst (λ l. Ends few subject s (l ++ behind)) (sym h.is)
-    (begun_goes subject h.kind h.body behind s outside (subst (λ l. 9 ≤ length l) h.is h.least) (subst (λ l. length l ≤ total_of l) h.is h.most)
-    (subst (λ l. GoesFew subject (total_of l - length l) behind) h.is onward))
+    subst (λ l. Ends (few k) subject s (l ++ behind)) (sym h.is)
+    (begun_goes k subject h.kind h.body behind s outside (subst (λ l. 9 ≤ length l) h.is h.least) (subst (λ l. length l ≤ total_of l) h.is h.most)
+    (subst (λ l. GoesFew k subject (total_of l - length l) behind) h.is onward))
 
 -- ---- sets
 
--- from each standing outside of sets, few bytes are left of these
-abbrev pub OutFew : Subject → List ℕ → Type 0
-OutFew subject ahead = GoesFew subject 0 ahead
+-- so it is from each standing outside of sets
+abbrev pub OutFew : ℕ → Subject → List ℕ → Type 0
+OutFew k subject ahead = GoesFew k subject 0 ahead
 
-pub reached : (subject : Subject) (b header : List ℕ) (items : List Descriptor) (place : ℕ) (rest cur : List ℕ) → TellsNothing subject
-    → Reaches b header items place rest → length cur < 256 → OutFew subject (header ++ joined items ++ cur)
-reached subject b header items place rest cur none r lt s outside =
-    subst (λ l. Ends few subject s l) (sym (append_assoc header (joined items) cur))
-    (header_goes subject header (joined items ++ cur) s outside r.is_header
-    (items_go subject (total_of header - length header) false items cur r.are_items (λ t. few_left subject t cur none lt)))
+pub reached : (k : ℕ) (subject : Subject) (b header : List ℕ) (items : List Descriptor) (place : ℕ) (rest cur : List ℕ) → TellsNothing subject
+    → Reaches b header items place rest → length cur ≤ k → OutFew k subject (header ++ joined items ++ cur)
+reached k subject b header items place rest cur none r lt s outside =
+    subst (λ l. Ends (few k) subject s l) (sym (append_assoc header (joined items) cur))
+    (header_goes k subject header (joined items ++ cur) s outside r.is_header
+    (items_go k subject (total_of header - length header) false items cur r.are_items (λ t. few_left k subject t cur none lt)))
 
 -- up to the place of the rest
-pub reached_place : (subject : Subject) (b header : List ℕ) (items : List Descriptor) (place : ℕ) (rest : List ℕ) → TellsNothing subject
-    → Reaches b header items place rest → OutFew subject (take place b)
-reached_place subject b header items place rest none r s outside =
+pub reached_place : (k : ℕ) (subject : Subject) (b header : List ℕ) (items : List Descriptor) (place : ℕ) (rest : List ℕ) → TellsNothing subject
+    → Reaches b header items place rest → OutFew k subject (take place b)
+reached_place k subject b header items place rest none r s outside =
     let front = header ++ joined items in
     let ends : length front ≡ place = length-append header (joined items) ∙ sym r.ends in
     let is : take place b ≡ front ++ [] =
     ap (λ l. take place l) r.parts ∙ ap (λ k. take k (front ++ rest)) (sym ends) ∙ take-append_seam front rest ∙ sym (append-nil front) in
-    subst (λ l. Ends few subject s l) (sym is) (reached subject b header items place rest [] none r (omega arith) s outside)
+    subst (λ l. Ends (few k) subject s l) (sym is) (reached k subject b header items place rest [] none r (omega arith) s outside)
 
-abbrev place_in : Option Fault → ℕ
-place_in o = unwrap_or (option_map (λ (f : Fault). f.0) o) 0
+-- a fault of the first descriptor is no further on than bytes may be left before it
+abbrev IsSlack : Option Fault → Type 0
+IsSlack None = Unit {0}
+IsSlack (Some fault) = fault.0 ≤ set_slack fault.1
 
-first_places : (a b c : Bool) → place_in (if a then Some (0, whys.HeaderLength) else if b then (if c then Some (2, whys.Total) else None) else Some (1, whys.HeaderKind)) ≤ 2
-first_places true b c = omega arith
-first_places false true true = omega arith
-first_places false true false = omega arith
-first_places false false c = omega arith
+first_slack : (a b c : Bool) → IsSlack (if a then Some (0, whys.HeaderLength) else if b then (if c then Some (2, whys.Total) else None) else Some (1, whys.HeaderKind))
+first_slack true b c = omega arith
+first_slack false true true = omega arith
+first_slack false true false = tt
+first_slack false false c = omega arith
 
-header_places : (b : List ℕ) → place_in (header_fault b) ≤ 2
-header_places [] = omega arith
-header_places (len ∷ []) = first_places (nat_lt len 9) true false
-header_places (len ∷ kind ∷ []) = first_places (nat_lt len 9) (is_set_type kind) false
-header_places (len ∷ kind ∷ low ∷ []) = first_places (nat_lt len 9) (is_set_type kind) false
-header_places (len ∷ kind ∷ low ∷ high ∷ b) = first_places (nat_lt len 9) (is_set_type kind) (nat_lt (low + 256 * high) len)
+header_slack : (b : List ℕ) → IsSlack (header_fault b)
+header_slack [] = tt
+header_slack (len ∷ []) = first_slack (nat_lt len 9) true false
+header_slack (len ∷ kind ∷ []) = first_slack (nat_lt len 9) (is_set_type kind) false
+header_slack (len ∷ kind ∷ low ∷ []) = first_slack (nat_lt len 9) (is_set_type kind) false
+header_slack (len ∷ kind ∷ low ∷ high ∷ b) = first_slack (nat_lt len 9) (is_set_type kind) (nat_lt (low + 256 * high) len)
 
-pub faulty_few : (subject : Subject) (b : List ℕ) (place : ℕ) (why : SetWhy) → TellsNothing subject → Faulty b place why → OutFew subject (take place b)
+pub faulty_few : (subject : Subject) (b : List ℕ) (place : ℕ) (why : SetWhy) → TellsNothing subject → Faulty b place why → OutFew (set_slack why) subject (take place b)
 faulty_few subject b place why none (inl e) s outside =
-    let at : place_in (header_fault b) ≡ place = ap (λ o. place_in o) e in
-    few_left subject s (take place b) none (few_taken place b (omega (arith, at, header_places b)))
-faulty_few subject b place why none (inr h) s outside = reached_place subject b h.header h.items place h.rest none h.reaches s outside
+    few_left (set_slack why) subject s (take place b) none (few_taken (set_slack why) place b (subst (λ o. IsSlack o) e (header_slack b)))
+faulty_few subject b place why none (inr h) s outside = reached_place (set_slack why) subject b h.header h.items place h.rest none h.reaches s outside
 
 -- bytes that are open end in a descriptor
-open_by : (subject : Subject) (b : List ℕ) (r : Reading) → TellsNothing subject → AreBytes b → IsOpen b → Sound b r → OutFew subject b
+open_by : (subject : Subject) (b : List ℕ) (r : Reading) → TellsNothing subject → AreBytes b → IsOpen b → Sound b r → OutFew 254 subject b
 open_by subject b (first cur) none h waits is s outside =
-    few_left subject s b none (below_length b h (subst (λ l. length l < first_byte l) (sym is.same) is.short))
+    few_left 254 subject s b none (below_length b h (subst (λ l. length l < first_byte l) (sym is.same) is.short))
 open_by subject b (later c total place cur) none h waits is s outside =
     let front = is.header ++ joined is.items in
     let behind = bytes_behind front cur (subst AreBytes is.reaches.parts h) in
-    subst (λ l. Ends few subject s l) (sym is.reaches.parts)
-    (reached subject b is.header is.items place cur cur none is.reaches (below_length cur behind is.short) s outside)
+    subst (λ l. Ends (few 254) subject s l) (sym is.reaches.parts)
+    (reached 254 subject b is.header is.items place cur cur none is.reaches (below_length cur behind is.short) s outside)
 open_by subject b (whole c place) none h waits is s outside = absurd (waits.no_layout c place is)
 open_by subject b (faulty place why) none h waits is s outside = absurd (waits.no_fault place why is)
 
-pub open_few : (subject : Subject) (b : List ℕ) → TellsNothing subject → AreBytes b → IsOpen b → OutFew subject b
+pub open_few : (subject : Subject) (b : List ℕ) → TellsNothing subject → AreBytes b → IsOpen b → OutFew 254 subject b
 open_few subject b none h waits = open_by subject b (reading_of b) none h waits (sound b h)
