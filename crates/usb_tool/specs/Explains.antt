@@ -1,7 +1,8 @@
 -- What `explain` tells of its input.
-use Rattle.std.specs.Prelude.{◌≡◌, ℕ, ◌⊎◌, List}
+use Rattle.std.specs.Prelude.{◌≡◌, ℕ, ◌⊎◌, List, ◌++◌, codes}
 use Rattle.std.specs.Io.KnownBytes.{Appends}
 use Rattle.usb_explain.specs.Explanations.{broken_explanation, explanation}
+use Rattle.usb_explain.specs.Faults.{fault_words}
 use Rattle.usb_explain.specs.declared.manner.Manner.{Manner}
 use Rattle.usb_file.specs.Inputs.{InputFaulty, IsInput}
 use Rattle.usb_file.specs.declared.input.Input.{Input}
@@ -9,9 +10,11 @@ use Rattle.usb_file.specs.declared.input_fault.InputFault.{InputFault}
 use Rattle.usb_file.specs.declared.laws.TheConstants.{FILE_LIMIT}
 use Rattle.usb_listing.specs.Output.{AppendsLess, Held}
 use Rattle.usb_tool.specs.Endings.{Fails, Refusal, Refuses, Told}
+use Rattle.usb_tool.specs.Faults.{fault_line, fault_of_input}
 use Rattle.usb_tool.specs.Input.{Left}
 use Rattle.usb_tool.specs.InputFaults.{OfInput}
 use Rattle.usb_tool.specs.declared.fault.ToolFault.{ToolFault}
+use Rattle.usb_tool.specs.declared.fault.ToolFault.TheVariants as tools
 
 -- the explanation of the set, the file or the dump that the bytes are is told, with status 0
 pub record TellsExplanation (m : Manner) (b text : List ℕ) (status : ℕ) : Type 0 where
@@ -47,3 +50,10 @@ Explained m = Told FILE_LIMIT (TellsExplanation m)
 -- how `explain` fails
 abbrev pub ExplainFails : Manner → Left → Left → Held → Held → ToolFault → Type 0
 ExplainFails m = Fails FILE_LIMIT (RefusesToExplain m)
+
+-- What an explanation says of a fault is the line that standard error has of it, and then what is wrong there. Out of memory
+-- is a fault of the program, of which nothing is explained.
+abbrev pub SaysLineOfFault : Type 0
+SaysLineOfFault =
+    (fault : InputFault) → (fault_of_input fault ≡ tools.Memory → ⊥) →
+    (message : List ℕ) × (codes "usbdesc: " ++ fault_words fault ≡ fault_line (fault_of_input fault) ++ codes ": " ++ message)

@@ -4,7 +4,7 @@ ghost use Rattle.std.specs.Io.KnownBytes.{Appends};
 ghost use Rattle.usb_explain.specs.Explanations.{broken_explanation, explanation};
 ghost use Rattle.usb_file.specs.Inputs.{InputRefused, IsInput};
 ghost use Rattle.usb_tool.specs.Endings.{Writes};
-ghost use Rattle.usb_tool.specs.Explains.{ExplainFails, Explained, RefusesToExplain, TellsExplanation};
+ghost use Rattle.usb_tool.specs.Explains.{ExplainFails, Explained, RefusesToExplain, SaysLineOfFault, TellsExplanation};
 ghost use Rattle.usb_tool.specs.inside.Telling.{IsCutShort};
 
 use crate::fault::ToolFault;
@@ -120,3 +120,9 @@ fn explain_front<W: Write>(
     explain_broken(alloc, bytes, fault, manner, w)?;
     finish(w)
 }
+
+/// What an explanation says of a fault is the line that standard error has of it, a colon, and what is wrong there. It says
+/// nothing of want of memory.
+pub fn an_explanation_says_the_line_of_its_fault()
+    ensures { SaysLineOfFault }
+{}

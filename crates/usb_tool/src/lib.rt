@@ -55,7 +55,7 @@ pub use command_line::{Line, read_line};
 pub use enumerate_options::Options;
 pub use enumeration::{run_enumerate, run_enumerate_logged};
 pub use explain_options::Explaining;
-pub use explanation::run_explain;
+pub use explanation::{an_explanation_says_the_line_of_its_fault, run_explain};
 pub use fates::{FatesFault, read_fates};
 pub use fault::{ToolFault, verdict};
 pub use manner::{manner_of, read_running_speed};
