@@ -12,7 +12,6 @@ use Rattle.usb_file_data.specs.declared.file.Other.{Other}
 use Rattle.usb_file_data.specs.declared.file.Strings.{Strings}
 use Rattle.usb_file_data.specs.File.{has_no_layout, is_other_kind, has_wrong_count, has_wrong_kind, has_wrong_layout, is_other_miscounted, are_wrong_strings, is_long_string, has_long_string}
 use Rattle.usb_file_data.specs.Named.{named_indices, other_sets}
-use Rattle.usb_rules.specs.declared.finding.Finding.{Finding}
 use Rattle.usb_rules.specs.declared.finding.Part.TheVariants as parts
 use Rattle.usb_rules.specs.Findings.{findings, descriptors, values}
 use Rattle.usb_rules.specs.Rules.{wrong_device}
@@ -88,10 +87,6 @@ device_fits f none = not_when (wrong_device f.device) _ (no_left _ _ none)
 first_some : (cs : List Configuration) → values parts.Main cs ≡ [] → (first_value cs == 0) ≡ false
 first_some [] none = cc
 first_some (c ∷ cs) none = grind (arith, nat_tests)
-
--- each rule is among others
-in_middle : (before here after : List Finding) → before ++ here ++ after ≡ [] → here ≡ []
-in_middle before here after none = no_right before here (no_left (before ++ here) after none)
 
 pub value_some : (f : DescriptorFile) → findings f ≡ [] → (first_value f.sets == 0) ≡ false
 value_some f none =

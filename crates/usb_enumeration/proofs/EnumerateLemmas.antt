@@ -3,7 +3,6 @@ use Rattle.std.proofs.Common.{◌≡◌, ℕ, suc, ◌+◌, ◌*◌, ◌/◌, �
 use Rattle.std.specs.Prelude.{IfOk, IfErr}
 use Rattle.std.proofs.lemmas.Nat.{mul-le, le-div, div_below}
 use Rattle.std.proofs.Math.Nat.{div-mul-le_self}
-use Rattle.usb_fields.specs.declared.speed.Speed.{Speed}
 use Rattle.usb_fields.specs.Packet.{Reply as Answer}
 use Rattle.usb_file_data.specs.declared.file.DescriptorFile.{DescriptorFile}
 use Rattle.usb_transfer.specs.declared.why.Why.{Why}
@@ -20,9 +19,9 @@ use Rattle.usb_host.specs.declared.place.Place.TheVariants.{Reported, Stopped}
 use Rattle.usb_host.specs.Cost.{most, left_to_ask}
 use Rattle.usb_host.specs.Steps.{HostPhase, ResetDue, Reading, Ended, HostView, WantsReset, wanted, blames_bus, outcome_at, outcome_of, reset, Takes, TakesIn}
 use Rattle.usb_enumeration.specs.Enumerate.{HasReadAll, HasCause}
-use Rattle.usb_enumeration.specs.Run.{Pair, new_pair, Runs}
+use Rattle.usb_enumeration.specs.Run.{Pair, Runs}
 use Rattle.usb_enumeration.specs.inside.Ends.{EndsWell, GoesWell}
-use Rattle.usb_enumeration.specs.Stepping.{Moves, LeadsTo, measure}
+use Rattle.usb_enumeration.specs.Stepping.{Moves, measure}
 use Rattle.usb_host.proofs.AskingLemmas.{wants_reset, reset_is}
 
 -- one step more
@@ -30,10 +29,6 @@ pub runs_on : (f : DescriptorFile) (fates : List Fate) (new : Pair) (earlier : L
     Moves f fates x n y now → Runs f fates new (x ∷ earlier) now y
 runs_on f fates new earlier x y n now runs (inl (r, e)) = inl (r, subst (λ m. Runs f fates new earlier m x) (sym e) runs)
 runs_on f fates new earlier x y n now runs (inr (t, e)) = inr (n, e, t, runs)
-
-pub leads_on : (f : DescriptorFile) (speed : Speed) (limits : LimitView) (fates : List Fate) (x y : Pair) (n now : ℕ) →
-    LeadsTo f speed limits fates n x → Moves f fates x n y now → LeadsTo f speed limits fates now y
-leads_on f speed limits fates x y n now (earlier, runs) moves = (x ∷ earlier, runs_on f fates (new_pair limits speed) earlier x y n now runs moves)
 
 -- an answer adds no reset
 takes_resets : (v w : HostView) (p : HostPhase) (answer : Answer) → TakesIn v p answer w → w.resets ≡ v.resets

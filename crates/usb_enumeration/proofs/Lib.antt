@@ -17,5 +17,4 @@ mod RunLemmas
 mod ByteLemmas
 pub mod EnumerateLemmas
 mod JoinLemmas
-mod ColumnLemmas
 mod LogLemmas

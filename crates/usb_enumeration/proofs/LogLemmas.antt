@@ -1,31 +1,27 @@
 -- A run that goes on, and its log.
-use Rattle.std.proofs.Common.{◌≡◌, ℕ, suc, ◌-◌, List, [], ◌∷◌, ◌++◌, Option, Some, None, inl, inr, ap, sym, ◌∙◌, refl, arith}
+use Rattle.std.proofs.Common.{◌≡◌, ℕ, suc, ◌-◌, List, [], ◌∷◌, ◌++◌, Option, Some, None, inl, inr, ap, sym, ◌∙◌, refl, arith, subst}
+use Rattle.std.specs.Io.KnownBytes.{Appends, Keeps}
 use Rattle.usb_fields.specs.declared.speed.Speed.{Speed}
 use Rattle.usb_file_data.specs.declared.file.DescriptorFile.{DescriptorFile}
-use Rattle.usb_listing.specs.declared.output.OutFault.{OutFault}
 use Rattle.usb_listing.specs.Output.{Held}
 use Rattle.usb_listing.proofs.Pages.{appends_more, appends_nothing, keeps_refl}
-use Rattle.std.specs.Prelude.{◌≤◌, ◌⊎◌, IfErr, IfOk}
+use Rattle.std.specs.Prelude.{◌⊎◌, IfErr, IfOk, Result, Ok, Err}
 use Rattle.usb_fields.specs.Packet.{Reply, Sent}
 use Rattle.usb_transfer.specs.Transfer.{TransferView, due}
 use Rattle.usb_host.specs.declared.step.Step.{Step}
 use Rattle.usb_device.specs.Step.{DeviceView}
-use Rattle.usb_base.specs.Bytes.{AreBytes}
-use Rattle.usb_file_data.specs.File.{file_bytes}
-use Rattle.usb_description.specs.Accepted.{Accepted}
-use Rattle.usb_bus.specs.Run.{fate_at, fates_used}
-use Rattle.usb_enumeration.specs.declared.run.Run.{Run}
-use Rattle.usb_enumeration.specs.Enumerate.{HasCause, HasReadAll}
-use Rattle.usb_enumeration.specs.Laws.{EnumerationsEndWell}
-use Rattle.usb_transfer.specs.Limits.{IsInRange, LimitView}
+use Rattle.usb_bus.specs.Run.{fate_at}
+use Rattle.usb_transfer.specs.Limits.{LimitView}
 use Rattle.usb_bus.specs.declared.fate.Fate.{Fate}
 use Rattle.usb_host.specs.Steps.{Ended, HostPhase, Reading, ResetDue, WantsReset, WantsSent, sends, step_in, transfer_in, wanted}
 use Rattle.usb_enumeration.specs.Run.{Pair, new_pair}
 use Rattle.usb_enumeration.specs.Stepping.{Moves, answered}
 use Rattle.usb_enumeration.specs.Exchanges.{answered_in}
-use Rattle.usb_enumeration.specs.Log.{WritesLog, count_before, lines_with, log_text, step_lines}
+use Rattle.usb_enumeration.specs.Log.{CutsOff, WritesLog, WritesLogLess, count_before, lines_with, log_text, step_lines}
 use Rattle.usb_enumeration.proofs.EnumerateLemmas.{runs_on}
-use Rattle.usb_enumeration.specs.inside.Walking.{Breaks, BreaksAt, Goes, IsLogged}
+use Rattle.usb_enumeration.specs.inside.Walking.{AllBeside, Beside, Breaks, Leads, Walks}
+use Rattle.usb_enumeration.specs.declared.run.Run.{Run}
+use Rattle.usb_listing.specs.declared.output.OutFault.{OutFault}
 
 -- a transfer wants no reset
 no_reset : (o : Option Sent) → sends o ≡ WantsReset → ⊥
@@ -66,53 +62,66 @@ before_is : (f : DescriptorFile) (fates : List Fate) (x y : Pair) (n now : ℕ) 
 before_is f fates x y n now (inl (r, e)) = rw r.due e
 before_is f fates x y n now (inr (t, e)) = rw t.due (omega arith)
 
--- the log with one step more
-pub text_on : (f : DescriptorFile) (fates : List Fate) (earlier : List Pair) (x y : Pair) (n now : ℕ) → Moves f fates x n y now
-    → log_text f fates (x ∷ earlier) now y ≡ log_text f fates earlier n x ++ step_lines f fates now x y
+-- a run that goes on, and what is done beside
+module _ {W : Type 0} (f : DescriptorFile) (speed : Speed) (limits : LimitView) (fates : List Fate) (does : Beside W) where
+  pub leads_none : (last : Pair) (w : W) → last ≡ new_pair limits speed → Leads f speed limits fates does 0 last w w
+  leads_none last w new = record { earlier = []; runs = (new, refl); beside = refl }
+
+  pub leads_on : (x y : Pair) (n now : ℕ) (from mid to : W)
+      → Leads f speed limits fates does n x from mid → Moves f fates x n y now → does x y now mid to → Leads f speed limits fates does now y from to
+  leads_on x y n now from mid to l moves did = record {
+    earlier = x ∷ l.earlier;
+    runs = runs_on f fates (new_pair limits speed) l.earlier x y n now l.runs moves;
+    beside = (mid, subst (λ m. AllBeside does l.earlier m x from mid) (sym (before_is f fates x y n now moves)) l.beside, did);
+  }
+
+-- the lines of all steps are the log
+pub log_written : {W : Type 0} (contents : W → Held) (f : DescriptorFile) (fates : List Fate) (earlier : List Pair) (n : ℕ) (last : Pair) (from to : W)
+    → AllBeside (λ x y m a b. Appends (contents a) (contents b) (step_lines f fates m x y)) earlier n last from to
+    → Appends (contents from) (contents to) (log_text f fates earlier n last)
 unfolding log_text
-text_on f fates earlier x y n now moves =
-    ap (λ m. log_text f fates earlier m x ++ step_lines f fates now x y) (before_is f fates x y n now moves)
+log_written contents f fates [] n last from to same =
+    appends_nothing (contents from) (contents to) (subst (λ w. Keeps (contents from) (contents w)) (sym same) (keeps_refl (contents from)))
+log_written contents f fates (x ∷ earlier) n last from to (mid, before, step) =
+    appends_more (contents from) (contents mid) (contents to) _ _
+    (log_written contents f fates earlier (count_before (wanted x.host.phase) n) x from mid before) step
 
--- nothing was done yet
-pub logged_none : (f : DescriptorFile) (speed : Speed) (limits : LimitView) (fates : List Fate) (last : Pair) (a : Held)
-    → last ≡ new_pair limits speed → IsLogged f speed limits fates 0 last a a
-unfolding log_text
-logged_none f speed limits fates last a new =
-    record { earlier = []; runs = (new, refl); written = appends_nothing a a (keeps_refl a) }
+-- of a run that ended, and of one that was broken
+module _ {W : Type 0} (contents : W → Held) (f : DescriptorFile) (speed : Speed) (limits : LimitView) (fates : List Fate) (from to : W) where
+  abbrev writes : Beside W
+  writes x y n a b = Appends (contents a) (contents b) (step_lines f fates n x y)
 
-pub logged_on : (f : DescriptorFile) (speed : Speed) (limits : LimitView) (fates : List Fate) (x y : Pair) (n now : ℕ) (a b c : Held)
-    → IsLogged f speed limits fates n x a b → Goes f fates x n y now b c → IsLogged f speed limits fates now y a c
-logged_on f speed limits fates x y n now a b c l g = record {
-  earlier = x ∷ l.earlier;
-  runs = runs_on f fates (new_pair limits speed) l.earlier x y n now l.runs g.moves;
-  written = rw (text_on f fates l.earlier x y n now g.moves) (appends_more a b c _ _ l.written g.written);
-}
+  abbrev cuts : OutFault → Beside W
+  cuts fault x y n a b = CutsOff fault (contents a) (contents b) (step_lines f fates n x y)
 
--- a log is broken by the step that comes next
-pub logged_less : (f : DescriptorFile) (speed : Speed) (limits : LimitView) (fates : List Fate) (x y : Pair) (n : ℕ) (a b c : Held) (fault : OutFault)
-    → IsLogged f speed limits fates n x a b → Breaks f fates x n y b c fault → BreaksAt y f speed limits fates a c fault
-logged_less f speed limits fates x y n a b c fault l g = (
-  record {
-    earlier = l.earlier;
-    before = x;
-    transactions = n;
-    runs = l.runs;
-    last = y;
-    now = g.now;
-    moves = g.moves;
-    between = b;
-    logged = l.written;
-    written = g.written;
-  },
-  refl,
-)
+  pub log_of : (r : Result Run OutFault) → IfOk r (Walks f speed limits fates writes from to) → IfOk r (WritesLog f speed limits fates (contents from) (contents to))
+  log_of (Err fault) walks = tt
+  log_of (Ok run) w = record {
+    log = log_text f fates w.leads.earlier run.transactions w.last;
+    of_run = record {
+      earlier = w.leads.earlier;
+      last = w.last;
+      runs = w.leads.runs;
+      attempts = w.attempts;
+      outcome = w.outcome;
+      state = w.state;
+      text = refl;
+    };
+    written = log_written contents f fates w.leads.earlier run.transactions w.last from to w.leads.beside;
+  }
 
--- what holds of the run whose log was written, by the law of enumerations that have ended
-pub logged_ends : (f : DescriptorFile) (speed : Speed) (limits : LimitView) (fates : List Fate) (held holds : Held) (run : Run)
-    → EnumerationsEndWell → Accepted f speed → AreBytes (file_bytes f) → IsInRange limits.address limits.attempts → WritesLog f speed limits fates held holds run
-    → (run.attempts ≤ limits.attempts) × IfOk run.outcome (HasReadAll f limits.address run.state)
-    × IfErr run.outcome (λ trouble. HasCause limits (fates_used fates run.transactions) run.attempts trouble.why)
-logged_ends f speed limits fates held holds run law accepted bytes range w =
-    let l = w.of_run in
-    let said = law f speed limits fates run accepted bytes range (l.earlier, l.last, l.runs, l.attempts, l.outcome, l.state) in
-    (said.0, said.2, said.3)
+  pub log_less : (r : Result Run OutFault) → IfErr r (λ fault. Breaks f speed limits fates writes (cuts fault) from to)
+      → IfErr r (WritesLogLess f speed limits fates (contents from) (contents to))
+  log_less (Ok run) breaks = tt
+  log_less (Err fault) b = record {
+    earlier = b.leads.earlier;
+    before = b.before;
+    transactions = b.transactions;
+    runs = b.leads.runs;
+    last = b.last;
+    now = b.now;
+    moves = b.moves;
+    between = contents b.mid;
+    logged = log_written contents f fates b.leads.earlier b.transactions b.before from b.mid b.leads.beside;
+    written = b.broken;
+  }

@@ -1,5 +1,5 @@
 -- What an enumeration promises.
-use Rattle.std.specs.Prelude.{◌≡◌, ℕ, suc, ◌+◌, ◌/◌, ◌≤◌, Bool, true, false, List, [], ◌∷◌, Some, ◌⊎◌}
+use Rattle.std.specs.Prelude.{◌≡◌, ℕ, suc, ◌+◌, ◌/◌, ◌<◌, ◌≤◌, Bool, true, false, List, [], ◌∷◌, Some, ◌⊎◌, IfErr, IfOk}
 use Rattle.usb_fields.specs.declared.speed.Speed.{Speed}
 use Rattle.usb_file_data.specs.declared.file.DescriptorFile.{DescriptorFile}
 use Rattle.usb_transfer.specs.declared.why.Why.{Why}
@@ -10,6 +10,8 @@ use Rattle.usb_device.specs.States.{first_alternates}
 use Rattle.usb_bus.specs.declared.fate.Fate.{Fate}
 use Rattle.usb_bus.specs.declared.fate.Fate.TheVariants.{Pass, LostAck}
 use Rattle.usb_bus.specs.Fates.{losses, busies}
+use Rattle.usb_bus.specs.Run.{fates_used}
+use Rattle.usb_host.specs.Cost.{most}
 use Rattle.usb_host.specs.Order.{first_value}
 use Rattle.usb_host.specs.Steps.{outcome_of, blames_bus}
 use Rattle.usb_enumeration.specs.declared.run.Run.{Run}
@@ -57,3 +59,20 @@ abbrev pub HasCause : LimitView → List Fate → ℕ → Why → Type 0
 HasCause limits used attempts why =
     ((why ≡ Memory) × (ends_heard used ≡ true))
     ⊎ ((blames_bus why ≡ true) × (attempts ≡ limits.attempts) × (limits.attempts ≤ losses used + busies used / suc limits.naks))
+
+-- What holds of every enumeration of a device with these accepted descriptors, whatever the bus does to it.
+pub record EndsWell (f : DescriptorFile) (limits : LimitView) (fates : List Fate) (run : Run) : Type 0 where
+  -- a success has read the descriptors, and the device is configured
+  pub reads : IfOk run.outcome (HasReadAll f limits.address run.state)
+  -- there are at most this many transactions
+  pub few : run.transactions ≤ most limits
+  -- and as many attempts as the limits allow
+  pub attempts : run.attempts ≤ limits.attempts
+  -- any other end has a cause
+  pub cause : IfErr run.outcome (λ trouble. HasCause limits (fates_used fates run.transactions) run.attempts trouble.why)
+  -- where the bus is blamed, all attempts were used
+  pub all : IfErr run.outcome (λ trouble. blames_bus trouble.why ≡ true → run.attempts ≡ limits.attempts)
+  -- with fewer losses, and Busy for each time that NAKs are no longer borne, than attempts, it succeeds if memory is there
+  pub succeeds : losses fates + busies fates / suc limits.naks < limits.attempts → IfErr run.outcome (λ trouble. trouble.why ≡ Memory)
+  -- so with fewer losses than attempts, and no more Busy than NAKs are borne
+  pub plainly : losses fates < limits.attempts → busies fates ≤ limits.naks → IfErr run.outcome (λ trouble. trouble.why ≡ Memory)

@@ -1,5 +1,5 @@
 -- What holds of an enumeration over a bus.
-use Rattle.std.specs.Prelude.{◌≡◌, ℕ, ◌≤◌, IfErr, IfOk, List}
+use Rattle.std.specs.Prelude.{◌≡◌, ℕ, ◌≤◌, List}
 use Rattle.usb_base.specs.Bytes.{AreBytes}
 use Rattle.usb_fields.specs.declared.setup.Setup.{Setup}
 use Rattle.usb_fields.specs.declared.speed.Speed.{Speed}
@@ -13,17 +13,9 @@ use Rattle.usb_device.specs.Requests.{Outcome, answer}
 use Rattle.usb_bus.specs.declared.fate.Fate.{Fate}
 use Rattle.usb_bus.specs.Fates.{losses, busies}
 use Rattle.usb_bus.specs.Run.{fates_used}
-use Rattle.usb_host.specs.Cost.{most}
 use Rattle.usb_enumeration.specs.declared.run.Run.{Run}
 use Rattle.usb_enumeration.specs.Beside.{IsBeside}
-use Rattle.usb_enumeration.specs.Enumerate.{IsEnumeration, IsEnumerationAt, HasReadAll, HasCause}
-
--- An enumeration began no attempt too many, and had at most `most` transactions. If it succeeded it has read these
--- descriptors and configured the device, and any other end has a cause.
-abbrev pub EndsWell : DescriptorFile → LimitView → List Fate → Run → Type 0
-EndsWell f limits fates run =
-    (run.attempts ≤ limits.attempts) × (run.transactions ≤ most limits) × IfOk run.outcome (HasReadAll f limits.address run.state)
-    × IfErr run.outcome (λ trouble. HasCause limits (fates_used fates run.transactions) run.attempts trouble.why)
+use Rattle.usb_enumeration.specs.Enumerate.{EndsWell, IsEnumeration, IsEnumerationAt}
 
 -- Whatever a bus does to a host and a device with accepted descriptors, an enumeration ends well.
 abbrev pub EnumerationsEndWell : Type 0

@@ -1,9 +1,7 @@
--- What one step of an enumeration does, and what its loop keeps.
+-- What one step of an enumeration does, and what falls with it.
 use Rattle.std.specs.Prelude.{◌≡◌, ℕ, suc, ◌+◌, ◌-◌, Bool, List, Option, Some, None, ◌⊎◌}
 use Rattle.usb_fields.specs.Packet.{NoReply, Reply, Sent}
-use Rattle.usb_fields.specs.declared.speed.Speed.{Speed}
 use Rattle.usb_file_data.specs.declared.file.DescriptorFile.{DescriptorFile}
-use Rattle.usb_transfer.specs.Limits.{LimitView}
 use Rattle.usb_device.specs.Step.{DeviceView}
 use Rattle.usb_device.specs.View.{served_by}
 use Rattle.usb_bus.specs.declared.fate.Fate.{Fate}
@@ -11,7 +9,7 @@ use Rattle.usb_bus.specs.Bus.{readiness}
 use Rattle.usb_bus.specs.Run.{fate_at}
 use Rattle.usb_host.specs.Cost.{left_to_ask}
 use Rattle.usb_host.specs.Steps.{HostView}
-use Rattle.usb_enumeration.specs.Run.{Pair, new_pair, IsReset, IsTransaction, Runs}
+use Rattle.usb_enumeration.specs.Run.{Pair, IsReset, IsTransaction}
 
 -- both ends
 abbrev pub both : HostView → DeviceView → Pair
@@ -29,10 +27,6 @@ answered f d sent fate = answered_to f d sent (readiness fate)
 -- a reset after n transactions, or transaction n under its fate; so many transactions there were then
 abbrev pub Moves : DescriptorFile → List Fate → Pair → ℕ → Pair → ℕ → Type 0
 Moves f fates x n y now = (IsReset x y × (now ≡ n)) ⊎ (IsTransaction f (fate_at fates n) x y × (now ≡ suc n))
-
--- so many transactions lead to a pair
-abbrev pub LeadsTo : DescriptorFile → Speed → LimitView → List Fate → ℕ → Pair → Type 0
-LeadsTo f speed limits fates n last = (earlier : List Pair) × Runs f fates (new_pair limits speed) earlier n last
 
 -- What falls with each step: what may still be asked for, and the attempts that are left.
 abbrev pub measure : HostView → ℕ

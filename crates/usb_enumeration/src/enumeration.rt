@@ -1,18 +1,16 @@
 //! An enumeration, from a new host and a new device to its outcome.
-ghost use Rattle.std.specs.Prelude.{◌≡◌, ◌<◌, ◌≤◌, ◌+◌, ◌/◌, ◌^◌, suc, true, IfErr, IfOk, IfSome, IsNone, IsSome};
-ghost use Rattle.usb_transfer.specs.declared.why.Why.TheVariants.{Memory};
-ghost use Rattle.usb_bus.specs.Fates.{busies, losses};
+ghost use Rattle.std.specs.Prelude.{◌≡◌, ◌<◌, ◌≤◌, ◌+◌, ◌^◌, IfSome, IsNone, IsSome};
 ghost use Rattle.usb_fields.specs.Packet.{Sent};
-ghost use Rattle.usb_bus.specs.Run.{fate_at, fates_used};
-ghost use Rattle.usb_host.specs.Cost.{left_to_ask, most};
-ghost use Rattle.usb_host.specs.Steps.{WantsSent, blames_bus, outcome_of, wanted};
-ghost use Rattle.usb_enumeration.specs.Enumerate.{HasReadAll, IsEnumeration, HasCause};
+ghost use Rattle.usb_bus.specs.Run.{fate_at};
+ghost use Rattle.usb_host.specs.Cost.{left_to_ask};
+ghost use Rattle.usb_host.specs.Steps.{WantsSent, outcome_of, wanted};
+ghost use Rattle.usb_enumeration.specs.Enumerate.{EndsWell, IsEnumeration};
 ghost use Rattle.usb_enumeration.specs.Stepping.{Moves, answered, both, measure};
 
 use crate::exchange::exchange;
-use crate::laws::an_enumeration_ends_well;
 use crate::observer::{Nobody, Observer};
 use crate::run::Run;
+use crate::steps::run_with;
 use std::alloc::Global;
 use usb_bus::Fate;
 use usb_device::{Description, Device};
@@ -106,40 +104,11 @@ pub fn step_seen<O: Observer>(
 pub fn enumerate(alloc: Global, d: &Description, limits: Limits, fates: &[Fate]) -> Run
     ensures run { IsEnumeration d.now.file d.now.speed limits fates.now result }
 
-    // A success has read the description, and the device is configured.
-    ensures reads { IfOk result.outcome (HasReadAll d.now.file limits.address result.state) }
-
-    // Whatever comes of it, it keeps the limits; and where the bus is blamed, all attempts were used.
-    ensures few { result.transactions ≤ most limits }
-    ensures attempts { result.attempts ≤ limits.attempts }
-    ensures all { IfErr result.outcome (λ trouble. blames_bus trouble.why ≡ true → result.attempts ≡ limits.attempts) }
-
-    // An end without success has a cause, and it does not come without one.
-    ensures cause { IfErr result.outcome (λ trouble. HasCause limits (fates_used fates.now result.transactions) result.attempts trouble.why) }
-    ensures succeeds { losses fates.now + busies fates.now / suc limits.naks < limits.attempts → IfErr result.outcome (λ trouble. trouble.why ≡ Memory) }
-
-    // So with fewer losses than attempts, and no more Busy than NAKs are borne, it succeeds.
-    ensures plainly { losses fates.now < limits.attempts → busies fates.now ≤ limits.naks → IfErr result.outcome (λ trouble. trouble.why ≡ Memory) }
+    // A success has read the description and configured the device, any other end has its cause, and the limits are kept.
+    ensures ends_well { EndsWell d.now.file limits fates.now result }
 {
-    // For the proof alone: what holds of a description, of limits and of every run.
-    let _file = d.file();
-    d.known();
-    limits.known();
-    an_enumeration_ends_well();
-    let mut host = Host::new(alloc, limits, d.speed());
-    let mut device = Device::new(d);
-    let mut transactions = 0u64;
-    while let Some(now) = step(&mut host, &mut device, fates, transactions) {
-        transactions = now;
-    }
-    let attempts = host.attempts();
-    match host.into_outcome() {
-        Some(outcome) => Run {
-            outcome,
-            attempts,
-            transactions,
-            state: device.state(),
-        },
-        None => unreachable!(),
+    match run_with(alloc, d, limits, fates, &mut Nobody, &mut ()) {
+        Ok(run) => run,
+        Err(never) => match never {},
     }
 }

@@ -22,15 +22,16 @@ mod enumeration;
 mod exchange;
 pub mod laws;
 mod lemmas;
+mod log;
 mod observer;
 mod packets;
 mod request;
 mod run;
 mod seen;
 mod step_lines;
-mod walk;
+mod steps;
 
 pub use enumeration::{enumerate, step, step_seen};
+pub use log::enumerate_logged;
 pub use observer::Observer;
 pub use run::Run;
-pub use walk::enumerate_logged;

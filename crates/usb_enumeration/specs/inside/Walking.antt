@@ -1,33 +1,46 @@
--- A run on its way, and its log on the way to a writer.
-use Rattle.std.specs.Prelude.{◌≡◌, ℕ, List}
-use Rattle.std.specs.Io.KnownBytes.{Appends}
+-- A run, and what is done beside each of its steps.
+use Rattle.std.specs.Prelude.{◌≡◌, ℕ, List, [], ◌∷◌, Some}
 use Rattle.usb_fields.specs.declared.speed.Speed.{Speed}
 use Rattle.usb_file_data.specs.declared.file.DescriptorFile.{DescriptorFile}
-use Rattle.usb_listing.specs.declared.output.OutFault.{OutFault}
-use Rattle.usb_listing.specs.Output.{Held}
 use Rattle.usb_transfer.specs.Limits.{LimitView}
 use Rattle.usb_bus.specs.declared.fate.Fate.{Fate}
+use Rattle.usb_host.specs.Steps.{outcome_of, wanted}
+use Rattle.usb_enumeration.specs.declared.run.Run.{Run}
 use Rattle.usb_enumeration.specs.Run.{Pair, Runs, new_pair}
 use Rattle.usb_enumeration.specs.Stepping.{Moves}
-use Rattle.usb_enumeration.specs.Log.{CutsOff, WritesLogLess, log_text, step_lines}
+use Rattle.usb_enumeration.specs.Log.{count_before}
 
--- so many transactions lead to this pair, and the log up to there was written
-pub record IsLogged (f : DescriptorFile) (speed : Speed) (limits : LimitView) (fates : List Fate) (n : ℕ) (last : Pair) (held holds : Held) : Type 0 where
+-- what is done beside a step from one pair to the next, after which there were so many transactions: from this to that
+abbrev pub Beside : Type 0 → Type 1
+Beside W = Pair → Pair → ℕ → W → W → Type 0
+
+-- it was done beside each step over these pairs, the newest first, up to the last one
+abbrev pub AllBeside : {W : Type 0} → Beside W → List Pair → ℕ → Pair → W → W → Type 0
+AllBeside does [] n last from to = to ≡ from
+AllBeside {W} does (x ∷ earlier) n last from to =
+    (mid : W) × AllBeside does earlier (count_before (wanted x.host.phase) n) x from mid × does x last n mid to
+
+-- so many transactions lead to this pair, and this was done beside
+pub record Leads {W : Type 0} (f : DescriptorFile) (speed : Speed) (limits : LimitView) (fates : List Fate) (does : Beside W) (n : ℕ) (last : Pair) (from to : W) : Type 0 where
   pub earlier : List Pair
   pub runs : Runs f fates (new_pair limits speed) earlier n last
-  pub written : Appends held holds (log_text f fates earlier n last)
+  pub beside : AllBeside does earlier n last from to
 
--- a step was made, and its lines were written
-pub record Goes (f : DescriptorFile) (fates : List Fate) (x : Pair) (n : ℕ) (y : Pair) (now : ℕ) (held holds : Held) : Type 0 where
-  pub moves : Moves f fates x n y now
-  pub written : Appends held holds (step_lines f fates now x y)
+-- a run has ended, with what `run` says, and this was done beside
+pub record Walks {W : Type 0} (f : DescriptorFile) (speed : Speed) (limits : LimitView) (fates : List Fate) (does : Beside W) (from to : W) (run : Run) : Type 0 where
+  pub last : Pair
+  pub leads : Leads f speed limits fates does run.transactions last from to
+  pub attempts : last.host.resets ≡ run.attempts
+  pub outcome : outcome_of last.host.phase ≡ Some run.outcome
+  pub state : last.device.state ≡ run.state
 
--- a step was made, and its lines were cut off
-pub record Breaks (f : DescriptorFile) (fates : List Fate) (x : Pair) (n : ℕ) (y : Pair) (held holds : Held) (fault : OutFault) : Type 0 where
+-- a run has come so far, and the step that was made then has broken it
+pub record Breaks {W : Type 0} (f : DescriptorFile) (speed : Speed) (limits : LimitView) (fates : List Fate) (does breaks : Beside W) (from to : W) : Type 0 where
+  pub before : Pair
+  pub transactions : ℕ
+  pub mid : W
+  pub leads : Leads f speed limits fates does transactions before from mid
+  pub last : Pair
   pub now : ℕ
-  pub moves : Moves f fates x n y now
-  pub written : CutsOff fault held holds (step_lines f fates now x y)
-
--- the step whose lines were cut off leads to this pair
-abbrev pub BreaksAt : Pair → DescriptorFile → Speed → LimitView → List Fate → Held → Held → OutFault → Type 0
-BreaksAt y f speed limits fates held holds fault = (less : WritesLogLess f speed limits fates held holds fault) × (less.last ≡ y)
+  pub moves : Moves f fates before transactions last now
+  pub broken : breaks before last now mid to

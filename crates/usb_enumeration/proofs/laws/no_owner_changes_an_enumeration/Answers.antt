@@ -1,6 +1,6 @@
 use Rattle.std.proofs.Common.{◌≤◌, subst}
 use Rattle.usb_bus.specs.Run.{fates_used}
-use Rattle.usb_enumeration.proofs.EnumerateLemmas.{Says, says}
+use Rattle.usb_enumeration.proofs.EnumerateLemmas.{Says, all_used, memory_alone, memory_left, says}
 use Rattle.usb_enumeration.proofs.laws.no_owner_changes_an_enumeration.Goals as goal
 
 pub returns : goal.returns
@@ -11,4 +11,12 @@ returns c = λ f table speed limits fates run owned accepted fits range (earlier
     let there = says f limits used last.host.resets last.device.state last.host.phase run.outcome well outcome in
     let said = subst (λ s. Says f limits used run.attempts s run.outcome) state
     (subst (λ n. Says f limits used n last.device.state run.outcome) resets there) in
-    (subst (λ n. n ≤ limits.attempts) resets keeps.0, keeps.1, said.0, said.1)
+    record {
+      reads = said.0;
+      few = keeps.1;
+      attempts = subst (λ n. n ≤ limits.attempts) resets keeps.0;
+      cause = said.1;
+      all = all_used limits used run.attempts run.outcome said.1;
+      succeeds = memory_left limits fates run.transactions run.attempts run.outcome said.1;
+      plainly = memory_alone limits fates run.transactions run.attempts run.outcome said.1;
+    }
