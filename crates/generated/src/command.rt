@@ -6,8 +6,7 @@ use std::io::{Read, Write};
 use usb_bus::Fate;
 use usb_fields::Speed;
 use usb_tool::{
-    Look, Manner, ToolFault, run_build, run_check, run_enumerate, run_enumerate_logged,
-    run_explain, run_show,
+    Look, Manner, Settings, ToolFault, run_build, run_check, run_enumerate, run_explain, run_show,
 };
 use usb_transfer::Limits;
 
@@ -19,13 +18,6 @@ const WHOLE: Manner = Manner {
     },
     speed: None,
 };
-
-/// The bus of an enumeration.
-#[derive(Drop)]
-pub(crate) struct Bus {
-    pub limits: Limits,
-    pub fates: Vec<Fate>,
-}
 
 /// A command.
 #[derive(Clone, Copy)]
@@ -67,22 +59,30 @@ impl Command {
         }
     }
 
+    /// The settings of its enumeration.
+    pub(crate) fn settings(self, limits: Limits, fates: Vec<Fate>) -> Settings {
+        Settings {
+            limits,
+            speed: Speed::Full,
+            fates,
+            log: matches!(self, Command::Log),
+        }
+    }
+
     /// Carries it out. What the commands promise ends here: whoever calls this is proved without it.
     pub(crate) fn run<R: Read, W: Write>(
         self,
         alloc: Global,
         r: &mut R,
         w: &mut W,
-        bus: &Bus,
+        settings: &Settings,
     ) -> Result<u8, ToolFault> {
-        let (limits, speed) = (bus.limits, Speed::Full);
         match self {
             Command::Show => run_show(alloc, r, w),
             Command::Check => run_check(alloc, r, w),
             Command::Explain => run_explain(alloc, r, w, WHOLE),
             Command::Build => run_build(alloc, r, w),
-            Command::Enumerate => run_enumerate(alloc, r, w, limits, speed, &bus.fates),
-            Command::Log => run_enumerate_logged(alloc, r, w, limits, speed, &bus.fates),
+            Command::Enumerate | Command::Log => run_enumerate(alloc, r, w, settings),
         }
     }
 
@@ -90,11 +90,11 @@ impl Command {
     pub(crate) fn answer(
         self,
         mut input: &[u8],
-        bus: &Bus,
+        settings: &Settings,
         tally: &mut Tally,
     ) -> anyhow::Result<Vec<u8>> {
         let mut output = Vec::new(tally.alloc);
-        let outcome = self.run(tally.alloc, &mut input, &mut output, bus);
+        let outcome = self.run(tally.alloc, &mut input, &mut output, settings);
         let answer = Answer::new(tally.alloc, outcome, output)?;
         tally.add(self.word(), &answer)?;
         Ok(answer.output)

@@ -1,10 +1,11 @@
 //! Commands over readers and writers that fail.
 use crate::answer::Answer;
-use crate::command::{Bus, Command};
+use crate::command::Command;
 use crate::plan::{Fault, Plan};
 use crate::stream::Stream;
 use crate::tally::Tally;
 use anyhow::Result;
+use usb_tool::Settings;
 
 /// How many bytes a call gives or takes at most: one, a few, or all that the commands ask for at a time.
 const STEPS: [usize; 3] = [1, 7, 4096];
@@ -20,7 +21,7 @@ pub(crate) enum End {
 #[derive(Drop)]
 pub(crate) struct Failing {
     pub command: Command,
-    pub bus: Bus,
+    pub settings: Settings,
     pub end: End,
 }
 
@@ -65,7 +66,9 @@ impl Failing {
         let alloc = tally.alloc;
         let mut reader = Stream::new(alloc, bytes, plan);
         let mut output = Vec::new(alloc);
-        let outcome = self.command.run(alloc, &mut reader, &mut output, &self.bus);
+        let outcome = self
+            .command
+            .run(alloc, &mut reader, &mut output, &self.settings);
         let (left, behind) = (reader.rest.len(), reader.after);
         tally.begin(format!(in alloc; "{plan}, {left} left, {behind} calls behind\n")?.as_str())?;
         tally.add(self.command.word(), &Answer::new(alloc, outcome, output)?)?;
@@ -77,7 +80,9 @@ impl Failing {
         let alloc = tally.alloc;
         let mut rest = bytes;
         let mut writer = Stream::new(alloc, &[], plan);
-        let outcome = self.command.run(alloc, &mut rest, &mut writer, &self.bus);
+        let outcome = self
+            .command
+            .run(alloc, &mut rest, &mut writer, &self.settings);
         let (behind, has_failed) = (writer.after, writer.has_failed);
         tally.begin(format!(in alloc; "{plan}, {behind} calls behind\n")?.as_str())?;
         tally.add(

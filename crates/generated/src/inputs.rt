@@ -1,5 +1,5 @@
 //! How inputs are made of an example.
-use crate::command::{Bus, Command};
+use crate::command::Command;
 use crate::example::Example;
 use crate::form::Form;
 use crate::numbers::Numbers;
@@ -61,16 +61,13 @@ pub(crate) fn cut(example: &Example, tally: &mut Tally) -> Result<()> {
 
 /// Takes the answers of the commands to an input, which are a case. What `show` lists is built again.
 fn take(input: &[u8], tally: &mut Tally) -> Result<()> {
-    let bus = Bus {
-        limits: Limits::new(1, 16, 3)?,
-        fates: Vec::new(tally.alloc),
-    };
+    let settings = Command::Enumerate.settings(Limits::new(1, 16, 3)?, Vec::new(tally.alloc));
     tally.begin("")?;
-    let shown = Command::Show.answer(input, &bus, tally)?;
-    let _ = Command::Check.answer(input, &bus, tally)?;
-    let _ = Command::Explain.answer(input, &bus, tally)?;
+    let shown = Command::Show.answer(input, &settings, tally)?;
+    let _ = Command::Check.answer(input, &settings, tally)?;
+    let _ = Command::Explain.answer(input, &settings, tally)?;
     let listing = if shown.is_empty() { input } else { &shown };
-    let _ = Command::Build.answer(listing, &bus, tally)?;
-    let _ = Command::Enumerate.answer(input, &bus, tally)?;
+    let _ = Command::Build.answer(listing, &settings, tally)?;
+    let _ = Command::Enumerate.answer(input, &settings, tally)?;
     Ok(())
 }

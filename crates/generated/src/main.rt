@@ -27,7 +27,7 @@ mod stream;
 mod tally;
 
 use anyhow::{Context, Result, bail};
-use command::{Bus, Command};
+use command::Command;
 use example::Example;
 use failing::{End, Failing};
 use runs::Runs;
@@ -107,12 +107,11 @@ fn take(example: &Example, way: &str, tally: &mut Tally) -> Result<()> {
 /// Takes those of a command whose reader or writer fails.
 fn take_failing(example: &Example, word: &str, end: End, tally: &mut Tally) -> Result<()> {
     let fates = if word == "log" { LOST } else { "" };
+    let command = Command::of(word).context("no command")?;
+    let fates = read_fates(example.alloc, fates)?;
     let failing = Failing {
-        command: Command::of(word).context("no command")?,
-        bus: Bus {
-            limits: Limits::new(1, 16, 3)?,
-            fates: read_fates(example.alloc, fates)?,
-        },
+        command,
+        settings: command.settings(Limits::new(1, 16, 3)?, fates),
         end,
     };
     failing.all(&example.bytes, tally)

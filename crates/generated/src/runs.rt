@@ -1,6 +1,6 @@
 //! A device over a bus that loses packets: talks, transfers that its owner answers, and enumerations with their log and
 //! without it.
-use crate::command::{Bus, Command};
+use crate::command::Command;
 use crate::example::Example;
 use crate::lists::Lists;
 use crate::numbers::Numbers;
@@ -53,7 +53,11 @@ impl Runs {
             match (word, command) {
                 (_, Some(command)) => {
                     tally.begin("")?;
-                    let _ = command.answer(&example.bytes, &Bus { limits, fates }, tally)?;
+                    let _ = command.answer(
+                        &example.bytes,
+                        &command.settings(limits, fates),
+                        tally,
+                    )?;
                 }
                 ("talk", _) => self.talk(&description, &fates, tally)?,
                 ("answered", _) => make_all(&description, limits.naks(), &fates, tally)?,

@@ -9,10 +9,6 @@ use Rattle.usb_bus.specs.declared.fate.Fate.{Fate}
 abbrev pub with_rest : List Fate → Option (List Fate) → Option (List Fate)
 with_rest done rest = option_map (λ fs. done ++ fs) rest
 
-pub with_rest_nil : (r : Option (List Fate)) → r ≡ with_rest [] r
-with_rest_nil None = refl
-with_rest_nil (Some fs) = refl
-
 fates_cons : (b : ℕ) (rest : List ℕ) → fates_of (b ∷ rest) ≡ option_and_then (λ f. option_map (λ fs. f ∷ fs) (fates_of rest)) (fate_of b)
 unfolding fates_of
 fates_cons b rest = refl

@@ -1,8 +1,6 @@
 -- On how a command refuses bytes.
 use Rattle.std.proofs.Common.{◌≡◌, ◌≢◌, ℕ, ◌⊎◌, true, false, List, [], refl, sym, subst, inl, inr}
-use Rattle.std.specs.Io.KnownBytes.{Appends, Keeps}
-use Rattle.usb_explain.specs.Explanations.{broken_explanation}
-use Rattle.usb_explain.specs.declared.manner.Manner.{Manner}
+use Rattle.std.specs.Io.KnownBytes.{Keeps}
 use Rattle.usb_set.specs.declared.fault.SetFault.{SetFault}
 use Rattle.usb_set.specs.declared.fault.SetWhy.{SetWhy}
 use Rattle.usb_set.specs.declared.fault.SetWhy.TheVariants as whys
@@ -17,7 +15,6 @@ use Rattle.usb_file.specs.Inputs.{DeviceRefused, HasFault, InputFaulty, InputRef
 use Rattle.usb_listing.specs.Output.{AppendsFront, AppendsLess, Held}
 use Rattle.usb_listing.proofs.Pages.{keeps_refl}
 use Rattle.usb_tool.specs.Endings.{Extent, Refusal, Refuses, Telling}
-use Rattle.usb_tool.specs.Explains.{Explains, ExplainsFault, RefusesToExplain}
 use Rattle.usb_tool.specs.Faults.{fault_by_why, fault_of_input, file_fault_by_why}
 use Rattle.usb_tool.specs.InputFaults.{OfInput, RefusesInput}
 use Rattle.usb_tool.specs.inside.Telling.{IsCutShort}
@@ -90,18 +87,6 @@ shown_fault b e refused known = by (is_told b e refused)
     by : IsTold b e (fault_of_input e) → InputFaulty b e
     by (inl memory) = absurd (known memory)
     by (inr h) = h.0
-
--- an explanation of bytes with a fault was written
-pub fault_is_explained : (m : Manner) (b : List ℕ) (held holds : Held) (e : InputFault) → InputRefused b e → fault_of_input e ≢ faults.Memory
-    → Appends held holds (broken_explanation m e b) → RefusesToExplain m b held holds (fault_of_input e)
-fault_is_explained m b held holds e refused known written = by (is_told b e refused)
-  where
-    by : IsTold b e (fault_of_input e) → RefusesToExplain m b held holds (fault_of_input e)
-    by (inl memory) = absurd (known memory)
-    by (inr h) =
-        subst (RefusesToExplain m b held holds) (sym h.1)
-        (with_told AppendsLess (Explains m) (ExplainsFault m) b held holds e
-        (of_told (λ f. InputFaulty b f × Appends held holds (broken_explanation m f b)) e (h.0, written)))
 
 -- a text that was not written to its end
 pub cut_short : (tells : Telling) (refuses : Refusal) (b text : List ℕ) (status : ℕ) (held holds : Held) (fault : ToolFault)

@@ -14,12 +14,13 @@ use Rattle.usb_description.specs.declared.fault.DescriptionFault.{DescriptionFau
 use Rattle.usb_description.specs.declared.fault.DescriptionFault.TheVariants as refusals
 use Rattle.usb_enumeration.specs.declared.run.Run.{Run}
 use Rattle.usb_host.specs.declared.step.Trouble.{Trouble}
-use Rattle.usb_tool.specs.Enumerations.{Conditions, IsRun, RefusesToEnumerate, StopsShort, Tells, WritesResult, WritesResultFront, run_status, run_text}
+use Rattle.usb_tool.specs.Enumerations.{IsRun, RefusesToEnumerate, StopsShort, Tells, WritesResult, WritesResultFront, run_status, run_text}
 use Rattle.usb_tool.specs.Faults.{fault_of_output}
 use Rattle.usb_tool.specs.ResultLines.{refused_line, success_line, trouble_line}
 use Rattle.usb_tool.specs.inside.Telling.{EndsWith, IsCutShort}
 use Rattle.usb_tool.specs.declared.fault.ToolFault.{ToolFault}
 use Rattle.usb_tool.specs.declared.fault.ToolFault.TheVariants as faults
+use Rattle.usb_tool.specs.declared.settings.Settings.{Settings}
 
 -- eight texts, joined from the left or from the right
 pub eight_joined : (a b c d e f g h : List ℕ)
@@ -39,15 +40,15 @@ first_reason f s refusals.Memory why known = absurd (known refl)
 first_reason f s refusals.Unwritable why known = why
 
 -- what is told of a file that no device can be made of
-pub refusal_told : (c : Conditions) (f : DescriptorFile) (b : List ℕ) (fault : DescriptionFault) → File f b
-    → refusal_of f c.speed ≡ Some fault → Tells c b [] (refused_line fault) 1
-refusal_told c f b fault layout why =
+pub refusal_told : (s : Settings) (f : DescriptorFile) (b : List ℕ) (fault : DescriptionFault) → File f b
+    → refusal_of f s.speed ≡ Some fault → Tells s b [] (refused_line fault) 1
+refusal_told s f b fault layout why =
     record { file = f; layout = layout; told = inl (record { fault = fault; why = why; told = refl; ended = refl }, refl) }
 
 -- what is told of a run
-pub run_told : (c : Conditions) (f : DescriptorFile) (b : List ℕ) (run : Run) (log : List ℕ) → File f b → Accepted f c.speed
-    → IsRun c.logs c f run log → Tells c b log (run_text run.outcome run) (run_status run.outcome)
-run_told c f b run log layout accepted enumerated = record {
+pub run_told : (s : Settings) (f : DescriptorFile) (b : List ℕ) (run : Run) (log : List ℕ) → File f b → Accepted f s.speed
+    → IsRun s.log s f run log → Tells s b log (run_text run.outcome run) (run_status run.outcome)
+run_told s f b run log layout accepted enumerated = record {
   file = f;
   layout = layout;
   told = inr (record { run = run; accepted = accepted; enumerated = enumerated; told = refl; ended = refl });
@@ -68,19 +69,19 @@ less_after a b c s t whole less = record {
   written = appends_more a b c s less.front whole less.written;
 }
 
-module _ (c : Conditions) (b log text : List ℕ) (ended : ℕ) (held between holds : Held) (tells : Tells c b log text ended) (logged : Appends held between log) where
+module _ (s : Settings) (b log text : List ℕ) (ended : ℕ) (held between holds : Held) (tells : Tells s b log text ended) (logged : Appends held between log) where
   -- what was written is what comes of the bytes
-  pub result_written : (r : Result ℕ ToolFault) → IfOk r (EndsWith text ended between holds) → IfOk r (WritesResult c b held holds)
+  pub result_written : (r : Result ℕ ToolFault) → IfOk r (EndsWith text ended between holds) → IfOk r (WritesResult s b held holds)
   result_written (Ok status) (written, is) =
-      record { log = log; text = text; tells = subst (Tells c b log text) (sym is) tells; written = appends_more held between holds log text logged written }
+      record { log = log; text = text; tells = subst (Tells s b log text) (sym is) tells; written = appends_more held between holds log text logged written }
   result_written (Err fault) ends = tt
 
-  cut_off : (fault : OutFault) → StopsShort fault between holds text → WritesResultFront c b held holds fault
+  cut_off : (fault : OutFault) → StopsShort fault between holds text → WritesResultFront s b held holds fault
   cut_off fault short =
       record { log = log; text = text; status = ended; tells = tells; between = between; logged = logged; written = short }
 
   -- and where it was cut short, a front of that
-  pub result_cut : (r : Result ℕ ToolFault) → 0 < length text → IfErr r (IsCutShort text between holds) → IfErr r (RefusesToEnumerate c b held holds)
+  pub result_cut : (r : Result ℕ ToolFault) → 0 < length text → IfErr r (IsCutShort text between holds) → IfErr r (RefusesToEnumerate s b held holds)
   result_cut (Ok status) some cut = tt
   result_cut (Err faults.Write) some front = inr (cut_off outs.Write front)
   result_cut (Err faults.Memory) some (inl keeps) =

@@ -9,7 +9,7 @@ use Rattle.clap.specs.declared.error.kind.ErrorKind.TheVariants as kinds
 use Rattle.usb_listing.specs.Output.{Held}
 use Rattle.usb_tool.specs.Builds.{BuildFails, Built}
 use Rattle.usb_tool.specs.Checks.{CheckFails, Checked}
-use Rattle.usb_tool.specs.Enumerations.{Conditions, EnumerateFails, Enumerated, conditions_of}
+use Rattle.usb_tool.specs.Enumerations.{EnumerateFails, Enumerated}
 use Rattle.usb_tool.specs.Explains.{ExplainFails, Explained}
 use Rattle.usb_tool.specs.Input.{Left}
 use Rattle.usb_tool.specs.CommandLine.{Asks, usbdesc_app, word_texts}
@@ -77,14 +77,10 @@ EndsExplanation o from to held holds status =
     OptionsAreTaken Manner (IsManner o) (λ m. Ends (Explained m) (ExplainFails m)) from to held holds status
     ⊎ OptionsAreRefused (λ fault. (fault ≡ Speed) × HasBadSpeed o) from to held holds status
 
--- what an enumeration with these settings is made under
-abbrev pub conditions : Settings → Conditions
-conditions s = conditions_of s.log s.limits s.speed s.fates.items
-
 -- how `enumerate` ends with these options
 abbrev pub EndsEnumeration : Options → Work
 EndsEnumeration o from to held holds status =
-    OptionsAreTaken Settings (IsSettled o) (λ s. Ends (Enumerated (conditions s)) (EnumerateFails (conditions s))) from to held holds status
+    OptionsAreTaken Settings (IsSettled o) (λ s. Ends (Enumerated s) (EnumerateFails s)) from to held holds status
     ⊎ OptionsAreRefused (RefusesOptions o) from to held holds status
 
 -- how ends what a line asks for

@@ -1,7 +1,7 @@
 //! The command `enumerate`.
 ghost use Rattle.std.specs.Prelude.{◌++◌, IfErr, IfOk};
 ghost use Rattle.usb_listing.specs.Listing.{file_lines};
-ghost use Rattle.usb_tool.specs.Enumerations.{EnumerateFails, Enumerated, RefusesToEnumerate, WritesResult, conditions_of, logged_under, run_status, run_text, under};
+ghost use Rattle.usb_tool.specs.Enumerations.{EnumerateFails, Enumerated, RefusesToEnumerate, WritesResult, run_status, run_text};
 ghost use Rattle.usb_tool.specs.ResultLines.{refused_line, success_line, trouble_line};
 ghost use Rattle.usb_tool.specs.inside.Telling.{BreaksRun, EndsWith, IsCutShort, MakesRun};
 
@@ -9,27 +9,27 @@ use crate::fault::ToolFault;
 use crate::input::read_all;
 use crate::output::write_flushed;
 use crate::result_line::{RefusedLine, SuccessLine, TroubleLine};
+use crate::settings::Settings;
 use std::alloc::Global;
 use std::io::{Read, Write};
-use usb_bus::Fate;
 use usb_description::{Description, DescriptionFault};
 use usb_enumeration::{Run, enumerate, enumerate_logged};
-use usb_fields::Speed;
 use usb_file::{DescriptorFile, FILE_LIMIT, list, read_file};
 use usb_host::Trouble;
 use usb_listing::write_all;
-use usb_transfer::Limits;
 
-/// Reads a descriptor file to its end, and enumerates a device of this speed that has these descriptors, over a bus with
-/// these fates. It writes a line of what came of that, and after success the listing of the file that the host has read.
-/// The number in `Ok` is 0 after success. It is 1 where the enumeration had trouble, and where no device of this speed
-/// can have the descriptors.
+/// Reads a descriptor file to its end, and enumerates a device that has these descriptors, as the settings say. It writes
+/// a line of what came of that, and after success the listing of the file that the host has read. Where the settings ask
+/// for a log, a line for each bus reset, each transfer and each transaction comes before, as soon as it is done. The
+/// number in `Ok` is 0 after success. It is 1 where the enumeration had trouble, and where no device of the speed can
+/// have the descriptors.
 ///
 /// ```rust
 /// let mut input: &[u8] = &[18, 1, 0, 2, 0, 0, 0, 64, 0x34, 0x12, 0x78, 0x56, 0, 1, 0, 0, 0, 0];
 /// let mut lines = Vec::new(alloc);
-/// let limits = Limits::new(1, 16, 3)?;
-/// assert_eq!(rt; run_enumerate(alloc, &mut input, &mut lines, limits, Speed::Full, &[])?, 1);
+/// let fates = Vec::new(alloc);
+/// let settings = Settings { limits: Limits::new(1, 16, 3)?, speed: Speed::Full, fates, log: false };
+/// assert_eq!(rt; run_enumerate(alloc, &mut input, &mut lines, &settings)?, 1);
 /// // A device has a configuration.
 /// assert_eq!(rt; lines.as_slice(), b"refused 1 V10 main 0 0 0\n");
 /// ```
@@ -39,65 +39,20 @@ use usb_transfer::Limits;
 /// `Read` where the reader failed, `TooLarge` at the first byte over [`FILE_LIMIT`], and `File` with the fault of
 /// the whole input. Nothing is written then. `Write` where the writer or its flush failed; a prefix of the text is
 /// written then, and may be all of it. `Memory` when out of memory, but for one of the host, which is a trouble
-/// of the enumeration; at least the last byte of the text is not written then.
+/// of the enumeration; at least the last byte of the text is not written then. Where one of these comes within the log,
+/// the enumeration goes no further: the log was written up to a step, and of that step's lines a prefix, or nothing
+/// out of memory.
 pub fn run_enumerate<R: Read, W: Write>(
     alloc: Global,
     r: &mut R,
     w: &mut W,
-    limits: Limits,
-    speed: Speed,
-    fates: &[Fate],
+    settings: &Settings,
 ) -> Result<u8, ToolFault>
-    ensures enumerated { IfOk result (Enumerated (under limits speed fates.now) (R.remaining r.old) (R.remaining r.new) (W.contents w.old) (W.contents w.new)) }
-    ensures err { IfErr result (EnumerateFails (under limits speed fates.now) (R.remaining r.old) (R.remaining r.new) (W.contents w.old) (W.contents w.new)) }
+    ensures enumerated { IfOk result (Enumerated settings.now (R.remaining r.old) (R.remaining r.new) (W.contents w.old) (W.contents w.new)) }
+    ensures err { IfErr result (EnumerateFails settings.now (R.remaining r.old) (R.remaining r.new) (W.contents w.old) (W.contents w.new)) }
 {
     let bytes = read_all(alloc, r, FILE_LIMIT)?;
-    let bus = Bus {
-        fates,
-        is_logged: false,
-    };
-    enumerate_bytes(alloc, &bytes, w, limits, speed, bus)
-}
-
-/// Does the same as [`run_enumerate`], and writes a log before the line: a line for each bus reset, each transfer and
-/// each transaction, as soon as it is done.
-///
-/// ```rust
-/// let mut lines = Vec::new(alloc);
-/// let lost = [Fate::LostDown; 9];
-/// assert_eq!(rt; run_enumerate_logged(alloc, &mut input, &mut lines, limits, Speed::Full, &lost)?, 1);
-/// assert!(rt; lines.starts_with(b"attempt 1: bus reset\n"));
-/// assert!(rt; lines.ends_with(b"trouble 1 first attempts 3 transactions 9\n"));
-/// ```
-///
-/// # Errors
-///
-/// Those of `run_enumerate`. Where `Write` or `Memory` comes within the log, the enumeration goes no further: the log was
-/// written up to a step, and of that step's lines a prefix, or nothing out of memory.
-pub fn run_enumerate_logged<R: Read, W: Write>(
-    alloc: Global,
-    r: &mut R,
-    w: &mut W,
-    limits: Limits,
-    speed: Speed,
-    fates: &[Fate],
-) -> Result<u8, ToolFault>
-    ensures enumerated { IfOk result (Enumerated (logged_under limits speed fates.now) (R.remaining r.old) (R.remaining r.new) (W.contents w.old) (W.contents w.new)) }
-    ensures err { IfErr result (EnumerateFails (logged_under limits speed fates.now) (R.remaining r.old) (R.remaining r.new) (W.contents w.old) (W.contents w.new)) }
-{
-    let bytes = read_all(alloc, r, FILE_LIMIT)?;
-    let bus = Bus {
-        fates,
-        is_logged: true,
-    };
-    enumerate_bytes(alloc, &bytes, w, limits, speed, bus)
-}
-
-/// What the bus does to the transactions, and whether they are logged.
-#[derive(Clone, Copy)]
-struct Bus<'f> {
-    fates: &'f [Fate],
-    is_logged: bool,
+    enumerate_bytes(alloc, &bytes, w, settings)
 }
 
 /// Writes what comes of the file that the bytes are, and flushes the writer.
@@ -105,15 +60,13 @@ fn enumerate_bytes<W: Write>(
     alloc: Global,
     bytes: &[u8],
     w: &mut W,
-    limits: Limits,
-    speed: Speed,
-    bus: Bus<'_>,
+    settings: &Settings,
 ) -> Result<u8, ToolFault>
-    ensures ok { IfOk result (WritesResult (conditions_of bus.entry.is_logged limits speed bus.entry.fates.now) bytes.now (W.contents w.old) (W.contents w.new)) }
-    ensures err { IfErr result (RefusesToEnumerate (conditions_of bus.entry.is_logged limits speed bus.entry.fates.now) bytes.now (W.contents w.old) (W.contents w.new)) }
+    ensures ok { IfOk result (WritesResult settings.now bytes.now (W.contents w.old) (W.contents w.new)) }
+    ensures err { IfErr result (RefusesToEnumerate settings.now bytes.now (W.contents w.old) (W.contents w.new)) }
 {
     let file = read_file(alloc, bytes)?;
-    let description = match Description::new(alloc, file, speed) {
+    let description = match Description::new(alloc, file, settings.speed) {
         Ok(description) => description,
         Err(fault) => {
             if fault == DescriptionFault::Memory {
@@ -122,26 +75,25 @@ fn enumerate_bytes<W: Write>(
             return tell_refusal(alloc, fault, w);
         }
     };
-    let run = run_over(alloc, &description, limits, bus, w)?;
+    let run = run_over(alloc, &description, settings, w)?;
     tell_run(alloc, &run, w)
 }
 
-/// The enumeration, and its log where one is asked for.
+/// The enumeration of a device, whose speed is the description's, and its log where one is asked for.
 fn run_over<W: Write>(
     alloc: Global,
     d: &Description,
-    limits: Limits,
-    bus: Bus<'_>,
+    settings: &Settings,
     w: &mut W,
 ) -> Result<Run, ToolFault>
-    ensures ok { IfOk result (MakesRun (conditions_of bus.entry.is_logged limits d.now.speed bus.entry.fates.now) d.now.file (W.contents w.old) (W.contents w.new)) }
-    ensures err { IfErr result (BreaksRun (conditions_of bus.entry.is_logged limits d.now.speed bus.entry.fates.now) d.now.file (W.contents w.old) (W.contents w.new)) }
+    ensures ok { IfOk result (MakesRun (record settings.now { speed = d.now.speed }) d.now.file (W.contents w.old) (W.contents w.new)) }
+    ensures err { IfErr result (BreaksRun (record settings.now { speed = d.now.speed }) d.now.file (W.contents w.old) (W.contents w.new)) }
 {
-    if bus.is_logged {
-        let run = enumerate_logged(alloc, d, limits, bus.fates, w)?;
+    if settings.log {
+        let run = enumerate_logged(alloc, d, settings.limits, &settings.fates, w)?;
         Ok(run)
     } else {
-        Ok(enumerate(alloc, d, limits, bus.fates))
+        Ok(enumerate(alloc, d, settings.limits, &settings.fates))
     }
 }
 

@@ -7,8 +7,8 @@
 //! chapter 9 in such an input (`specs/Checks.antt`), and [`run_build`] reads a listing and writes the bytes of its file
 //! (`specs/Builds.antt`). [`run_explain`] writes what the descriptors of an input mean, in words (`specs/Explains.antt`).
 //! [`run_enumerate`] enumerates a device that has the descriptors of a file, over a bus that loses
-//! packets and handshakes, and writes what came of that (`specs/Enumerations.antt`). [`run_enumerate_logged`] writes a log
-//! of it too, whose lines are in the crate `usb_enumeration`.
+//! packets and handshakes, and writes what came of that (`specs/Enumerations.antt`), and a log of it where one is asked
+//! for, whose lines are in the crate `usb_enumeration`.
 //!
 //! [`run`] is the whole program over any standard streams: [`read_line`] reads its command line,
 //! [`ToolFault`] says why a command failed, and [`verdict`] gives the exit status. What a run does is
@@ -53,7 +53,7 @@ pub use build::run_build;
 pub use check::run_check;
 pub use command_line::{Line, read_line};
 pub use enumerate_options::Options;
-pub use enumeration::{run_enumerate, run_enumerate_logged};
+pub use enumeration::run_enumerate;
 pub use explain_options::Explaining;
 pub use explanation::{an_explanation_says_the_line_of_its_fault, run_explain};
 pub use fates::{FatesFault, read_fates};

@@ -1,21 +1,20 @@
 //! What the program does, from the words of its command line to its exit status.
-ghost use Rattle.std.specs.Prelude.{◌≡◌, IfErr, IfOk};
+ghost use Rattle.std.specs.Prelude.{◌≡◌};
 ghost use Rattle.clap.specs.Values.{kind_of};
-ghost use Rattle.usb_tool.specs.Enumerations.{EnumerateFails, Enumerated};
 ghost use Rattle.usb_tool.specs.Faults.{status_of};
-ghost use Rattle.usb_tool.specs.Runs.{EndsEnumeration, EndsExplanation, EndsLine, KeepsUnlessHelp, Runs, conditions, line_status};
+ghost use Rattle.usb_tool.specs.Runs.{EndsEnumeration, EndsExplanation, EndsLine, KeepsUnlessHelp, Runs, line_status};
 ghost use Rattle.usb_tool.specs.OptionFaults.{settings_status};
 
 use crate::build::run_build;
 use crate::check::run_check;
 use crate::command_line::{Line, read_line};
 use crate::enumerate_options::Options;
-use crate::enumeration::{run_enumerate, run_enumerate_logged};
+use crate::enumeration::run_enumerate;
 use crate::explain_options::Explaining;
 use crate::explanation::run_explain;
 use crate::fault::{ToolFault, verdict};
 use crate::manner::manner_of;
-use crate::settings::{Settings, SettingsFault, settings_of};
+use crate::settings::{SettingsFault, settings_of};
 use crate::show::run_show;
 use clap::Error;
 use std::alloc::Global;
@@ -99,26 +98,8 @@ fn enumerate_with<R: Read, W: Write, E: Write>(
     ensures { EndsEnumeration options.now (R.remaining r.old) (R.remaining r.new) (W.contents w.old) (W.contents w.new) result }
 {
     match settings_of(alloc, options) {
-        Ok(settings) => report(&enumerate_as(alloc, &settings, r, w), e),
+        Ok(settings) => report(&run_enumerate(alloc, r, w, &settings), e),
         Err(fault) => refuse(fault, e),
-    }
-}
-
-/// Enumerates as the settings say, with a log or without.
-fn enumerate_as<R: Read, W: Write>(
-    alloc: Global,
-    settings: &Settings,
-    r: &mut R,
-    w: &mut W,
-) -> Result<u8, ToolFault>
-    ensures enumerated { IfOk result (Enumerated (conditions settings.now) (R.remaining r.old) (R.remaining r.new) (W.contents w.old) (W.contents w.new)) }
-    ensures err { IfErr result (EnumerateFails (conditions settings.now) (R.remaining r.old) (R.remaining r.new) (W.contents w.old) (W.contents w.new)) }
-{
-    let (limits, speed) = (settings.limits, settings.speed);
-    if settings.log {
-        run_enumerate_logged(alloc, r, w, limits, speed, &settings.fates)
-    } else {
-        run_enumerate(alloc, r, w, limits, speed, &settings.fates)
     }
 }
 

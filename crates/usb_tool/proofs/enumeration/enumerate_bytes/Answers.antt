@@ -2,7 +2,6 @@ use Rattle.std.proofs.Common.{◌≢◌, rules, subst}
 use Rattle.usb_description.specs.Described.{Described}
 use Rattle.usb_description.specs.declared.fault.DescriptionFault.TheVariants.{Memory}
 use Rattle.usb_listing.proofs.Pages.{appends_nothing, keeps_refl}
-use Rattle.usb_tool.specs.Enumerations.{conditions_of}
 use Rattle.usb_tool.specs.inside.Telling.{MakesRun}
 use Rattle.usb_tool.proofs.Telling.{first_reason, refusal_told, refused_some, result_cut, result_written, run_text_some, run_told}
 use Rattle.usb_tool.proofs.enumeration.enumerate_bytes.Goals as goal
@@ -10,8 +9,8 @@ use Rattle.usb_tool.proofs.enumeration.enumerate_bytes.Goals as goal
 pub returns-in-Err : goal.returns-in-Err
 returns-in-Err g c =
     let known : c.in-Err.fault ≢ Memory = search rules in
-    let why = first_reason c.in_ok-file.file c.args.speed c.in-Err.fault c.in-Err.ensures.err known in
-    let told = refusal_told (conditions_of c.args.bus.is_logged c.args.limits c.args.speed c.args.bus.fates.now) c.in_ok-file.file c.args.bytes.now c.in-Err.fault c.in_ok-file.ensures.ok why in
+    let why = first_reason c.in_ok-file.file c.args.settings.now.speed c.in-Err.fault c.in-Err.ensures.err known in
+    let told = refusal_told c.args.settings.now c.in_ok-file.file c.args.bytes.now c.in-Err.fault c.in_ok-file.ensures.ok why in
     let held = g.W.Write.contents c.args.w.now in
     let unlogged = appends_nothing held held (keeps_refl held) in
     record {
@@ -25,10 +24,10 @@ returns g c =
     let held = g.W.Write.contents c.args.w.now in
     let mid = g.W.Write.contents c.run_over.new.w in
     let made =
-    subst (λ (d : Described). MakesRun (conditions_of c.args.bus.is_logged c.args.limits d.speed c.args.bus.fates.now) d.file held mid run) c.in-Ok.ensures.ok
+    subst (λ (d : Described). MakesRun (record c.args.settings.now { speed = d.speed }) d.file held mid run) c.in-Ok.ensures.ok
     c.in_ok-run.ensures.ok
     in
-    let told = run_told (conditions_of c.args.bus.is_logged c.args.limits c.args.speed c.args.bus.fates.now) c.in_ok-file.file c.args.bytes.now run made.log c.in_ok-file.ensures.ok
+    let told = run_told c.args.settings.now c.in_ok-file.file c.args.bytes.now run made.log c.in_ok-file.ensures.ok
     c.in-Ok.ensures.accepted made.enumerated in
     record {
       ok = result_written _ _ _ _ _ _ _ _ told made.written _ c.tell_run.ensures.ok;
