@@ -22,7 +22,7 @@ use Rattle.usb_set.specs.Parts.{association_in}
 use Rattle.usb_rules.specs.declared.place.Place.{Place}
 use Rattle.usb_rules.specs.Rules.{address_of, has_elsewhere, is_first, interface_numbers, number_of, wrong_endpoint_count}
 use Rattle.usb_rules.specs.inside.Addresses.{owned, owned_at}
-use Rattle.usb_rules.specs.inside.Interfaces.{AreCalm, AreEntered, AreNew, Entered, first_at, first_of, misses_some, pair_too, seen, stood}
+use Rattle.usb_rules.specs.inside.Interfaces.{KeepV3AndV4, AreEntered, AreNew, Entered, first_at, first_of, misses_some, pair_too, seen, stood}
 use Rattle.usb_rules.specs.declared.interfaces.Interface.{Interface}
 use Rattle.usb_rules.specs.inside.Walk.{broken, in_extras, in_interface, shared_with}
 
@@ -296,13 +296,13 @@ its_number settings j s below is =
     list_any_at (λ n. n == s.number) (map number_of settings) j s.number (omega (arith, below, length-map settings number_of))
     (ap (λ n. n == s.number) (get_or-map number_of settings j s s.number below ∙ ap number_of (sym is)) ∙ (let e : (s.number == s.number) ≡ true = grind (arith, nat_tests) in e))
 
-pub interface_seen : (odd : Bool) (at : Place) (settings : List Setting) (j : ℕ) (s : Setting) (e : Entered) → j < length settings → s ≡ get_or settings j s
-    → (odd ≡ true → e.numbers ≡ stands_in (map number_of (take j settings))) → (odd ≡ true → e.alternates ≡ stood (take j settings)) → (odd ≡ false → AreCalm settings)
-    → in_interface at (stood settings) (seen odd e).numbers (seen odd e).alternates s ≡ in_interface at (stood settings) (stands_in (map number_of (take j settings))) (stood (take j settings)) s
-interface_seen true at settings j s e below is numbers alternates calm =
+pub interface_seen : (may_break : Bool) (at : Place) (settings : List Setting) (j : ℕ) (s : Setting) (e : Entered) → j < length settings → s ≡ get_or settings j s
+    → (may_break ≡ true → e.numbers ≡ stands_in (map number_of (take j settings))) → (may_break ≡ true → e.alternates ≡ stood (take j settings)) → (may_break ≡ false → KeepV3AndV4 settings)
+    → in_interface at (stood settings) (seen may_break e).numbers (seen may_break e).alternates s ≡ in_interface at (stood settings) (stands_in (map number_of (take j settings))) (stood (take j settings)) s
+interface_seen true at settings j s e below is numbers alternates keep =
     ap (λ f. in_interface at (stood settings) f e.alternates s) (numbers refl) ∙ ap (λ f. in_interface at (stood settings) (stands_in (map number_of (take j settings))) f s) (alternates refl)
-interface_seen false at settings j s e below is numbers alternates calm =
-    let none = calm refl in
+interface_seen false at settings j s e below is numbers alternates keep =
+    let none = keep refl in
     let before = stands_in (map number_of (take j settings)) s.number in
     let count = when (wrong_endpoint_count s) (broken rules.V5 at) in
     let v4 = neither before (stood settings s.number 0) (none.defaults s.number (its_number settings j s below is)) in

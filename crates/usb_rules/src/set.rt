@@ -3,7 +3,7 @@ ghost use Rattle.std.specs.Prelude.{◌≡◌, ◌+◌, ◌++◌, true, false, I
 ghost use Rattle.usb_base.specs.Marks.{is_marked, marked};
 ghost use Rattle.usb_rules.specs.InOrder.{setting_associations};
 ghost use Rattle.usb_rules.specs.inside.Addresses.{claimed, owned, kept as claims};
-ghost use Rattle.usb_rules.specs.inside.Interfaces.{AreCalm, AreEntered, entered, kept as entries, seen};
+ghost use Rattle.usb_rules.specs.inside.Interfaces.{KeepV3AndV4, AreEntered, entered, kept as entries, seen};
 ghost use Rattle.usb_rules.specs.inside.Walk.{in_configuration, in_endpoint, in_interface, in_set, in_setting};
 
 use crate::addresses::Addresses;
@@ -63,7 +63,7 @@ pub(crate) fn check_set_at(
     ensures told { OnOk result (found.new ≡ found.old ++ in_set place (is_marked values.old) c.now) }
     ensures marked { OnOk result (is_marked values.new ≡ marked (is_marked values.old) c.now.value) }
 {
-    let odd = enter_all(&mut known.whole, &c.settings)?;
+    let may_break = enter_all(&mut known.whole, &c.settings)?;
     let whole = &known.whole;
     check_configuration(found, whole, values, place, c)?;
     let passed = &mut known.passed;
@@ -75,7 +75,7 @@ pub(crate) fn check_set_at(
             found,
             whole,
             passed,
-            odd,
+            may_break,
             place.at_setting(setting),
             number,
             s,
@@ -87,7 +87,7 @@ pub(crate) fn check_set_at(
 /// Enters these settings and no others. Answers whether one of them may break V3 or V4.
 fn enter_all(interfaces: &mut Interfaces, settings: &[Setting]) -> Result<bool, AllocError>
     ensures entered { OnOk result (AreEntered settings.now (entries interfaces.new)) }
-    ensures calm { IfOk result (λ odd. odd ≡ false → AreCalm settings.now) }
+    ensures keep { IfOk result (λ may_break. may_break ≡ false → KeepV3AndV4 settings.now) }
 {
     interfaces.clear();
     let mut again = false;
@@ -121,17 +121,17 @@ fn check_setting(
     found: &mut Found,
     whole: &Interfaces,
     passed: &mut Passed,
-    odd: bool,
+    may_break: bool,
     place: Place,
     number: usize,
     s: &Setting,
 ) -> Result<usize, AllocError>
-    ensures told { OnOk result (found.new ≡ found.old ++ in_setting place (entries whole.now).numbers (entries whole.now).alternates (seen odd (entries passed.old.interfaces)).numbers (seen odd (entries passed.old.interfaces)).alternates (claims passed.old.addresses).elsewhere number s.now) }
-    ensures interfaces { OnOk result (odd ≡ true → entries passed.new.interfaces ≡ entered place.setting s.now (entries passed.old.interfaces)) }
+    ensures told { OnOk result (found.new ≡ found.old ++ in_setting place (entries whole.now).numbers (entries whole.now).alternates (seen may_break (entries passed.old.interfaces)).numbers (seen may_break (entries passed.old.interfaces)).alternates (claims passed.old.addresses).elsewhere number s.now) }
+    ensures interfaces { OnOk result (may_break ≡ true → entries passed.new.interfaces ≡ entered place.setting s.now (entries passed.old.interfaces)) }
     ensures addresses { OnOk result ((claims passed.new.addresses).elsewhere ≡ owned s.now.number s.now.endpoints (claims passed.old.addresses).elsewhere) }
     ensures next { IfOk result (λ next. next ≡ number + setting_associations s.now) }
 {
-    check_interface(found, whole, &mut passed.interfaces, odd, place, s)?;
+    check_interface(found, whole, &mut passed.interfaces, may_break, place, s)?;
     let mut next = check_extras(found, whole, &place, number, &s.extras)?;
     passed.addresses.begin(s.number);
     for (endpoint, e) in s.endpoints.iter().enumerate() {
@@ -146,14 +146,14 @@ fn check_interface(
     found: &mut Found,
     whole: &Interfaces,
     interfaces: &mut Interfaces,
-    odd: bool,
+    may_break: bool,
     place: Place,
     s: &Setting,
 ) -> Result<(), AllocError>
-    ensures told { OnOk result (found.new ≡ found.old ++ in_interface place (entries whole.now).alternates (seen odd (entries interfaces.old)).numbers (seen odd (entries interfaces.old)).alternates s.now) }
-    ensures interfaces { OnOk result (odd ≡ true → entries interfaces.new ≡ entered place.setting s.now (entries interfaces.old)) }
+    ensures told { OnOk result (found.new ≡ found.old ++ in_interface place (entries whole.now).alternates (seen may_break (entries interfaces.old)).numbers (seen may_break (entries interfaces.old)).alternates s.now) }
+    ensures interfaces { OnOk result (may_break ≡ true → entries interfaces.new ≡ entered place.setting s.now (entries interfaces.old)) }
 {
-    if !odd {
+    if !may_break {
         return check_endpoint_count(found, place, s);
     }
     let lacks = lacks_default_setting(whole, interfaces, s);

@@ -65,13 +65,13 @@ abbrev pub AreNew : List Setting → ℕ → Type 0
 AreNew settings i = (j : ℕ) → j < i → (s : Setting) → s ≡ get_or settings j s → stood (take j settings) s.number s.alternate ≡ false
 
 -- no setting breaks V3 or V4
-pub record AreCalm (settings : List Setting) : Type 0 where
+pub record KeepV3AndV4 (settings : List Setting) : Type 0 where
   pub repeated : AreNew settings (length settings)
   pub defaults : (n : ℕ) → stands_in (map number_of settings) n ≡ true → stood settings n 0 ≡ true
 
 -- what settings before say of V3 and V4, where one may break them, and else that none does
 abbrev pub seen : Bool → Entered → Entered
-seen odd e = record e { numbers = λ n. not odd || e.numbers n; alternates = λ n a. odd && e.alternates n a }
+seen may_break e = record e { numbers = λ n. not may_break || e.numbers n; alternates = λ n a. may_break && e.alternates n a }
 
 -- an interface by its number and the place of its first setting
 abbrev pub first_of : Interface → ℕ × ℕ

@@ -21,16 +21,16 @@ loop-setting-preserved c =
       alternates = ap (λ t. t.alternates) more ∙ ap (pair_too s.number s.alternate) inv.alternates ∙ sym (stood_more settings j s below is);
       firsts = at_each_next (first_at settings) settings j s now.firsts _ _ below is inv.firsts
           (ap (λ t. t.firsts) more ∙ ap (λ f. now.firsts ++ when (not (f s.number)) (s.number, j)) inv.numbers);
-      calm = new_more settings j s c.in_ok-repeated.repeated c.loop-setting.again below is (c.in_ok-repeated.ensures.again ∙ ap (λ f. f s.number s.alternate) inv.alternates) inv.calm;
+      keep = new_more settings j s c.in_ok-repeated.repeated c.loop-setting.again below is (c.in_ok-repeated.ensures.again ∙ ap (λ f. f s.number s.alternate) inv.alternates) inv.keep;
     }
 
-pub returns-else-again-clause-calm : goal.returns-else-again-clause-calm
-returns-else-again-clause-calm c = λ none.
+pub returns-else-again-clause-keep : goal.returns-else-again-clause-keep
+returns-else-again-clause-keep c = λ none.
     let settings = c.args.settings.now in
     let inv = c.loop-setting.invariant in
     let all = take_all settings c.loop-setting.setting c.loop-setting-test.false in
     record {
-      repeated = λ j below. inv.calm c.if-again.false j (omega (arith, below, c.loop-setting-test.false));
+      repeated = λ j below. inv.keep c.if-again.false j (omega (arith, below, c.loop-setting-test.false));
       defaults = λ n there.
           sym (ap (λ f. f n 0) (inv.alternates ∙ ap stood all))
           ∙ c.lacks_default.ensures none n (ap (λ f. f n) (inv.numbers ∙ ap (λ xs. stands_in (map number_of xs)) all) ∙ there);

@@ -9,5 +9,5 @@ invariant-loop-setting l = record {
   numbers : (entries l.interfaces).numbers ≡ stands_in (map number_of (take l.setting l.settings));
   alternates : (entries l.interfaces).alternates ≡ stood (take l.setting l.settings);
   firsts : (entries l.interfaces).firsts ++ at_each (first_at l.settings) l.setting (drop l.setting l.settings) ≡ firsts_of l.settings;
-  calm : l.again ≡ false → AreNew l.settings l.setting;
+  keep : l.again ≡ false → AreNew l.settings l.setting;
 }
