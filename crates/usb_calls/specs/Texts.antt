@@ -3,8 +3,8 @@ use Rattle.std.specs.Prelude.{◌≡◌, ℕ, ◌/◌, ◌%◌, ◌⊎◌, ◌==
 use Rattle.std.specs.List.{flat_map}
 use Rattle.usb_explain.specs.Explanations.{broken_explanation, explanation}
 use Rattle.usb_explain.specs.declared.manner.Manner.{Manner}
-use Rattle.usb_survey.specs.declared.speed.RunningSpeed.{RunningSpeed}
-use Rattle.usb_survey.specs.declared.speed.RunningSpeed.TheVariants as speeds
+use Rattle.usb_words.specs.declared.set_speed.RunningSpeed.{RunningSpeed}
+use Rattle.usb_words.specs.declared.set_speed.RunningSpeed.TheVariants as speeds
 use Rattle.usb_file_data.specs.File.{File}
 use Rattle.usb_file_data.specs.declared.file.DescriptorFile.{DescriptorFile}
 use Rattle.usb_file.specs.Inputs.{InputFaulty, IsInput, input_findings}

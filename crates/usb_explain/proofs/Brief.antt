@@ -5,9 +5,9 @@ use Rattle.usb_file.specs.declared.input.Input.TheVariants as inputs
 use Rattle.usb_rules.specs.declared.finding.Finding.{Finding}
 use Rattle.usb_explained_lines.specs.declared.kind.Kind.{Kind}
 use Rattle.usb_explained_lines.specs.declared.kind.Kind.TheVariants as kinds
-use Rattle.usb_explained_fields.specs.declared.look.Look.{Look}
+use Rattle.usb_explained_lines.specs.declared.look.Look.{Look}
 use Rattle.usb_explained_lines.specs.Kinds.{fields, heading, kind_lines}
-use Rattle.usb_explained_fields.specs.Lines.{heading_line}
+use Rattle.usb_explained_lines.specs.Lines.{heading_line}
 use Rattle.usb_explain.specs.declared.manner.Manner.{Manner}
 use Rattle.usb_explain.specs.declared.role.Role.{Role}
 use Rattle.usb_explain.specs.declared.role.Role.TheVariants.{Device, Qualifier, Configuration, Association, Interface, Endpoint, Raw, Languages, Text}

@@ -5,9 +5,9 @@ use Rattle.std.proofs.lemmas.Bool.Decides.{nat_tests}
 use Rattle.std.proofs.lemmas.Option.{none-some}
 use Rattle.std.proofs.lemmas.List.{length-take-le, take-append-drop}
 use Rattle.std.proofs.Math.Seq.{drop-append_seam}
-use Rattle.usb_survey.specs.Cut.{descriptor_length}
+use Rattle.usb_words.specs.Cut.{descriptor_length}
 use Rattle.usb_file.specs.declared.input_fault.InputFault.{InputFault}
-use Rattle.usb_explained_fields.specs.declared.look.Look.{Look}
+use Rattle.usb_explained_lines.specs.declared.look.Look.{Look}
 use Rattle.usb_explain.specs.declared.role.Role.{Role}
 use Rattle.usb_explain.specs.declared.standing.Standing.{Standing}
 use Rattle.usb_explain.specs.Explanations.{broken_end, broken_explanation, broken_name, broken_text, explanation, first_line, input_name, last_line, whole_end, whole_text}

@@ -2,7 +2,7 @@
 use Rattle.std.proofs.Common.{◌≡◌, ◌≤◌, ℕ, ◌+◌, List, Option, Some, None, refl, arith}
 use Rattle.usb_rules.specs.declared.finding.Part.{Part}
 use Rattle.usb_rules.specs.declared.finding.Part.TheVariants as parts
-use Rattle.usb_survey.specs.declared.speed.RunningSpeed.{RunningSpeed}
+use Rattle.usb_words.specs.declared.set_speed.RunningSpeed.{RunningSpeed}
 use Rattle.usb_explain.specs.declared.role.Role.{Role}
 use Rattle.usb_explain.specs.declared.role.Role.TheVariants.{Device, Qualifier, Configuration, Association, Interface, Endpoint, Raw, Languages, Text}
 use Rattle.usb_explain.specs.declared.standing.SettingStanding.{SettingStanding}

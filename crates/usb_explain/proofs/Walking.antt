@@ -7,9 +7,9 @@ use Rattle.usb_listing.specs.inside.Pages.{Puts}
 use Rattle.usb_listing.proofs.Pages.{front_longer, not_begun, puts_after, puts_broken, puts_more}
 use Rattle.usb_listing.proofs.HasBytes.{longer}
 use Rattle.usb_explained_lines.specs.declared.kind.Kind.{Kind}
-use Rattle.usb_explained_fields.specs.declared.look.Look.{Look}
+use Rattle.usb_explained_lines.specs.declared.look.Look.{Look}
 use Rattle.usb_explained_lines.specs.Kinds.{heading}
-use Rattle.usb_explained_fields.specs.Lines.{heading_line}
+use Rattle.usb_explained_lines.specs.Lines.{heading_line}
 use Rattle.usb_explain.specs.declared.role.Role.{Role}
 use Rattle.usb_explain.specs.declared.standing.Standing.{Standing}
 use Rattle.usb_explain.specs.Roles.{next_role}

@@ -9,8 +9,8 @@ use Rattle.usb_rules.specs.declared.finding.Part.TheVariants as parts
 use Rattle.usb_rules.specs.declared.rule.Rule.{Rule}
 use Rattle.usb_rules.specs.declared.rule.Rule.TheVariants as rules
 use Rattle.usb_rules.specs.Places.{finding}
-use Rattle.usb_survey.specs.Counts.{endpoints_before_interface}
-use Rattle.usb_survey.specs.Cut.{descriptors}
+use Rattle.usb_words.specs.Counts.{endpoints_before_interface}
+use Rattle.usb_words.specs.Cut.{descriptors}
 use Rattle.usb_explained_lines.specs.declared.told.Told.{Told}
 use Rattle.usb_explained_lines.specs.declared.told.Told.TheVariants as told
 use Rattle.usb_explained_lines.specs.Findings.{finding_line}

@@ -2,9 +2,9 @@
 use Rattle.std.specs.Prelude.{ℕ, List, length, slice_index, Bool, true, false, nat_le, ◌==◌, Option, Some, None, option_and_then}
 use Rattle.usb_base.specs.Bytes.{little_endian_at}
 use Rattle.usb_names.specs.declared.codes.ClassCodes.{ClassCodes}
-use Rattle.usb_survey.specs.declared.speed.RunningSpeed.{RunningSpeed}
-use Rattle.usb_survey.specs.declared.speed.RunningSpeed.TheVariants.{Super}
-use Rattle.usb_survey.specs.Bindings.{bound_at}
+use Rattle.usb_words.specs.declared.set_speed.RunningSpeed.{RunningSpeed}
+use Rattle.usb_words.specs.declared.set_speed.RunningSpeed.TheVariants.{Super}
+use Rattle.usb_words.specs.Bindings.{bound_at}
 use Rattle.usb_explained_lines.specs.declared.kind.Kind.{Kind}
 use Rattle.usb_explained_lines.specs.declared.kind.Kind.TheVariants as kinds
 use Rattle.usb_explained_lines.specs.declared.kind.StringPlace.{StringPlace}

@@ -1,15 +1,15 @@
 -- How a set begins.
 use Rattle.std.specs.Prelude.{ℕ, List, slice_index, take, ◌==◌, Option, Some, None, option_and_then, if◌then◌else◌}
-use Rattle.std.specs.Option.{option_map}
+use Rattle.std.specs.Option.{option_map, option_or}
 use Rattle.usb_base.specs.Bytes.{little_endian_at}
 use Rattle.usb_rules.specs.declared.finding.Part.{Part}
 use Rattle.usb_rules.specs.declared.finding.Part.TheVariants.{Main, Other}
 use Rattle.usb_words.specs.declared.speed.Speed.{Speed}
-use Rattle.usb_survey.specs.declared.speed.RunningSpeed.{RunningSpeed}
-use Rattle.usb_survey.specs.declared.survey.Survey.{Survey}
-use Rattle.usb_survey.specs.Cut.{descriptors}
-use Rattle.usb_survey.specs.Speeds.{known_or, other_speed_at, speed_at, speed_by, speed_of_release}
-use Rattle.usb_survey.specs.Surveys.{survey_of}
+use Rattle.usb_words.specs.declared.set_speed.RunningSpeed.{RunningSpeed}
+use Rattle.usb_words.specs.declared.survey.Survey.{Survey}
+use Rattle.usb_words.specs.Cut.{descriptors}
+use Rattle.usb_words.specs.SetSpeeds.{other_speed_at, speed_at, speed_by, speed_of_release}
+use Rattle.usb_words.specs.Surveys.{survey_of}
 use Rattle.usb_explain.specs.declared.role.Role.{Role}
 use Rattle.usb_explain.specs.declared.role.Role.TheVariants.{Configuration}
 use Rattle.usb_explain.specs.declared.standing.DeviceFacts.{DeviceFacts}
@@ -29,7 +29,7 @@ sets_of s _ = s.main_sets
 -- the speed that is known of a set of the part: that at which the device ran, else what bcdUSB tells
 abbrev pub known_in_part : DeviceFacts → Option RunningSpeed → Part → Option Speed
 known_in_part device running Other = option_and_then other_speed_at running
-known_in_part device running _ = known_or (option_map speed_at running) (speed_of_release device.usb)
+known_in_part device running _ = option_or (option_map speed_at running) (speed_of_release device.usb)
 
 -- the same of any set; a set without a device is the one that the device ran with
 abbrev pub known_speed : Option DeviceFacts → Option RunningSpeed → Part → Option Speed

@@ -2,7 +2,7 @@
 use Rattle.std.specs.Prelude.{ℕ, ◌%◌, List, length, slice_index, take, Bool, true, false, nat_le, ◌==◌, ◌&&◌, ◌||◌, Option, Some, None, is_some, option_and_then, if◌then◌else◌}
 use Rattle.std.specs.Option.{option_map}
 use Rattle.usb_base.specs.Bytes.{little_endian_at}
-use Rattle.usb_survey.specs.Cut.{descriptor_length}
+use Rattle.usb_words.specs.Cut.{descriptor_length}
 use Rattle.usb_explain.specs.declared.role.Role.{Role}
 use Rattle.usb_explain.specs.declared.role.Role.TheVariants.{Device, Qualifier, Configuration, Association, Interface, Endpoint, Raw, Languages, Text}
 use Rattle.usb_explain.specs.declared.standing.Standing.{Standing}

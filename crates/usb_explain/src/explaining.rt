@@ -15,8 +15,7 @@ use std::io::Write;
 use usb_base::descriptor_type;
 use usb_file::{Input, InputFault};
 use usb_listing::{OutFault, write_all};
-use usb_survey::{behind, byte_at, front};
-use usb_words::{Text, put_count};
+use usb_words::{Text, behind, byte_at, front, put_count};
 
 /// Writes the explanation of an input, of which these are the bytes.
 ///

@@ -7,7 +7,7 @@ use crate::standing::{Owner, SettingStanding, Standing};
 use crate::subject::Subject;
 use usb_explained_lines::Kind;
 use usb_names::ClassCodes;
-use usb_survey::{RunningSpeed, byte_at, word_at};
+use usb_words::{RunningSpeed, byte_at, word_at};
 
 /// The class of audio devices.
 const AUDIO: u8 = 1;

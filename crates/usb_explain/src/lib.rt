@@ -31,4 +31,4 @@ mod walk;
 pub use explaining::{explain, explain_broken};
 pub use manner::Manner;
 pub use usb_explained_lines::Look;
-pub use usb_survey::RunningSpeed;
+pub use usb_words::RunningSpeed;

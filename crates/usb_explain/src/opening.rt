@@ -1,17 +1,16 @@
 //! How a set begins.
 ghost use Rattle.std.specs.Prelude.{◌≡◌, option_and_then};
-ghost use Rattle.std.specs.Option.{option_map};
-ghost use Rattle.usb_survey.specs.Speeds.{known_or, other_speed_at, speed_at, speed_of_release};
+ghost use Rattle.std.specs.Option.{option_map, option_or};
+ghost use Rattle.usb_words.specs.SetSpeeds.{other_speed_at, speed_at, speed_of_release};
 ghost use Rattle.usb_explain.specs.Opening.{known_in_part, known_speed, opened, packet_in_part, packet_of, part_of, sets_of};
 
 use crate::standing::{DeviceFacts, Owner, SetStanding, Standing};
 use usb_base::descriptor_type;
 use usb_rules::Part;
-use usb_survey::{
-    RunningSpeed, Survey, byte_at, front, other_speed_at, speed_at, speed_by, speed_of_release,
-    word_at,
+use usb_words::{
+    RunningSpeed, Speed, Survey, byte_at, front, other_speed_at, speed_at, speed_by,
+    speed_of_release, word_at,
 };
-use usb_words::Speed;
 
 impl Standing {
     /// At the first descriptor of a set, of whose bytes and those after it these are there.
@@ -120,7 +119,7 @@ fn other_speed(running: Option<RunningSpeed>) -> Option<Speed>
 }
 
 fn main_speed(running: Option<RunningSpeed>, usb: u16) -> Option<Speed>
-    ensures { result ≡ known_or (option_map speed_at running) (speed_of_release usb) }
+    ensures { result ≡ option_or (option_map speed_at running) (speed_of_release usb) }
 {
     match running {
         None => speed_of_release(usb),

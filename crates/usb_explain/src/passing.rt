@@ -7,7 +7,7 @@ use crate::role::Role;
 use crate::standing::{DeviceFacts, Owner, SettingStanding, Standing};
 use usb_names::ClassCodes;
 use usb_rules::Part;
-use usb_survey::{byte_at, word_at};
+use usb_words::{byte_at, word_at};
 
 impl Standing {
     /// Keeps how many findings are told.

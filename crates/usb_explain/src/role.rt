@@ -4,7 +4,7 @@ ghost use Rattle.usb_explain.specs.Roles.{inner_role, outer_role, role_if, role_
 
 use crate::standing::Standing;
 use usb_base::{descriptor_length, descriptor_type};
-use usb_survey::{byte_at, word_at};
+use usb_words::{byte_at, word_at};
 
 /// What a descriptor is at its place.
 #[derive(Clone, Copy)]

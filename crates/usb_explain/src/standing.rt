@@ -5,8 +5,7 @@ ghost use Rattle.usb_explain.specs.inside.Walking.{Counted};
 
 use usb_names::ClassCodes;
 use usb_rules::Part;
-use usb_survey::Bindings;
-use usb_words::Speed;
+use usb_words::{Bindings, Speed};
 
 /// What of a device descriptor the rest of the input depends on.
 #[derive(Clone, Copy)]

@@ -9,8 +9,7 @@ use crate::subject::Subject;
 use std::alloc::AllocError;
 use usb_explained_lines::{Told, put_finding};
 use usb_rules::{Finding, Part, Rule};
-use usb_survey::{byte_at, endpoint_count, front, word_at};
-use usb_words::Text;
+use usb_words::{Text, byte_at, endpoint_count, front, word_at};
 
 impl Standing {
     /// Puts a line for each finding of a descriptor of this role, with which those that aren't told yet begin. Answers how

@@ -14,8 +14,7 @@ use crate::subject::Subject;
 use std::alloc::AllocError;
 use std::io::Write;
 use usb_listing::{OutFault, write_all};
-use usb_survey::{behind, descriptor_length, front};
-use usb_words::Text;
+use usb_words::{Text, behind, descriptor_length, front};
 
 /// A text of so many bytes is passed on to the writer.
 const FULL: usize = 32 * 1024;

@@ -5,7 +5,7 @@ use Rattle.usb_set.specs.Endpoints.{transfer_type_of}
 use Rattle.usb_words.specs.declared.speed.Speed.{Speed}
 use Rattle.usb_words.specs.Endpoints.{attributes_words, size_words}
 use Rattle.usb_words.specs.Speeds.{interval_at, is_periodic}
-use Rattle.usb_explained_fields.specs.Values.{address_value}
+use Rattle.usb_explained_lines.specs.Values.{address_value}
 
 -- the interval of a periodic endpoint behind the other words
 unfoldable pub interval_words : Speed → ℕ → ℕ → List ℕ

@@ -7,7 +7,7 @@ use Rattle.usb_rules.specs.FindingLine.{rule_number}
 use Rattle.usb_words.specs.Numbers.{count}
 use Rattle.usb_explained_lines.specs.declared.told.Told.{Told}
 use Rattle.usb_explained_lines.specs.declared.told.Told.TheVariants as told
-use Rattle.usb_explained_fields.specs.Lines.{spaces}
+use Rattle.usb_explained_lines.specs.Lines.{spaces}
 
 -- the rule that a finding breaks
 abbrev pub rule_of : Told → Rule

@@ -4,16 +4,16 @@ use Rattle.usb_words.specs.declared.speed.Speed.{Speed}
 use Rattle.usb_words.specs.declared.speed.Speed.TheVariants.{FullOrHigh, Super}
 use Rattle.usb_explained_lines.specs.declared.kind.Kind.{Kind}
 use Rattle.usb_explained_lines.specs.declared.kind.Kind.TheVariants.{Device, Qualifier, Configuration, Association, Interface, Endpoint, Raw, Languages, Text, Rest}
-use Rattle.usb_explained_fields.specs.declared.look.Look.{Look}
-use Rattle.usb_explained_fields.specs.declared.layout.Scope.{Scope}
-use Rattle.usb_explained_fields.specs.Layouts.{layout_lines}
-use Rattle.usb_explained_fields.specs.Lines.{heading_line}
-use Rattle.usb_explained_fields.specs.Names.{StringNames}
+use Rattle.usb_explained_lines.specs.declared.look.Look.{Look}
+use Rattle.usb_explained_lines.specs.declared.layout.Scope.{Scope}
+use Rattle.usb_explained_lines.specs.Layouts.{layout_lines}
+use Rattle.usb_explained_lines.specs.Lines.{heading_line}
+use Rattle.usb_explained_lines.specs.Names.{StringNames}
 use Rattle.usb_explained_lines.specs.Device.{device_words, qualifier_words}
 use Rattle.usb_explained_lines.specs.Sets.{association_words, configuration_words, interface_words}
 use Rattle.usb_explained_lines.specs.Endpoints.{endpoint_words}
-use Rattle.usb_explained_lines.specs.Layouts.{association_layout, configuration_layout, device_layout, endpoint_layout, interface_layout, qualifier_layout}
-use Rattle.usb_explained_fields.specs.Raws.{raw_lines, raw_words}
+use Rattle.usb_explained_lines.specs.StandardLayouts.{association_layout, configuration_layout, device_layout, endpoint_layout, interface_layout, qualifier_layout}
+use Rattle.usb_explained_lines.specs.Raws.{raw_lines, raw_words}
 use Rattle.usb_explained_lines.specs.Strings.{languages_words, string_words}
 use Rattle.usb_explained_lines.specs.Rest.{rest_lines}
 

@@ -1,53 +1,58 @@
--- The fields of the standard's descriptors behind bDescriptorType, each with the form of its number (USB 2.0, 9.6).
-use Rattle.std.specs.Prelude.{ℕ, List, [], ◌∷◌, ◌++◌, codes, ◌==◌, ◌&&◌, Bool, if◌then◌else◌}
-use Rattle.usb_base.specs.Fields as standard
-use Rattle.usb_fields.specs.Device.{device_fields}
-use Rattle.usb_fields.specs.Qualifier.{qualifier_fields}
-use Rattle.usb_set.specs.Descriptors.{association_fields, configuration_fields, endpoint_fields, interface_fields}
-use Rattle.usb_names.specs.declared.field.Form.{Form}
-use Rattle.usb_names.specs.declared.field.Form.TheVariants.{Decimal, Hexadecimal, Release, Index, Class, Subclass, Protocol, DevicePacket, Supply, Power, Address, Transfer, PacketSize, Interval}
-use Rattle.usb_names.specs.Rows.{Field, decimal, hexadecimal}
-use Rattle.usb_explained_fields.specs.Layouts.{Layout}
+-- The lines of a descriptor's fields: one line for each field of its layout, in the order of the bytes.
+use Rattle.std.specs.Prelude.{ℕ, zero, suc, ◌+◌, ◌-◌, ◌/◌, ◌==◌, List, [], ◌∷◌, ◌++◌, drop, length, map, nat_lt, if◌then◌else◌}
+use Rattle.usb_names.specs.Rows.{Field}
+use Rattle.usb_names.specs.Shown.{field_of}
+use Rattle.usb_explained_lines.specs.declared.layout.DescriptorLayout.{DescriptorLayout}
+use Rattle.usb_explained_lines.specs.declared.layout.Scope.{Scope}
+use Rattle.usb_explained_lines.specs.Forms.{form_words}
+use Rattle.usb_explained_lines.specs.Lines.{digits_line, field_line}
+use Rattle.usb_explained_lines.specs.Names.{StringNames}
 
--- fields of the standard's names and widths, in these forms
-abbrev pub fields_in : {Descriptor : Type 0} → List (standard.Field Descriptor) → List Form → List Field
-fields_in (standard.byte name number ∷ fields) (form ∷ forms) = record { name = name; width = 1; form = form } ∷ fields_in fields forms
-fields_in (standard.word name number ∷ fields) (form ∷ forms) = record { name = name; width = 2; form = form } ∷ fields_in fields forms
-fields_in fields forms = []
+-- the fields of a descriptor, those that repeat behind them, and what the bytes are called that are left
+pub record Layout : Type 0 where
+  pub fields : List Field
+  pub group : List Field
+  pub rest : List ℕ
 
--- a descriptor of these fields, behind which there may be a tail
-abbrev pub with_tail : List Field → Layout
-with_tail fields = record { fields = fields; group = []; rest = codes "tail" }
+-- a layout of the code
+abbrev pub layout_of : DescriptorLayout → Layout
+layout_of l = record { fields = map field_of l.fields.now; group = map field_of l.group.now; rest = l.rest.now }
 
--- the device descriptor (9.6.1)
-abbrev pub device_layout : Layout
-device_layout =
-    with_tail (fields_in device_fields (Release ∷ Class ∷ Subclass ∷ Protocol ∷ DevicePacket ∷ Hexadecimal ∷ Hexadecimal ∷ Release ∷ Index ∷ Index ∷ Index ∷ Decimal ∷ []))
+-- the line of the field at a place
+abbrev pub line_of : Scope → StringNames → Field → List ℕ → ℕ → List ℕ
+line_of scope strings field b place =
+    field_line scope.depth field.name (form_words scope.speed strings field.form field.width b place)
 
--- the device qualifier (9.6.2)
-abbrev pub qualifier_layout : Layout
-qualifier_layout = with_tail (fields_in qualifier_fields (Release ∷ Class ∷ Subclass ∷ Protocol ∷ Decimal ∷ Decimal ∷ Hexadecimal ∷ []))
+-- how many bytes fields have
+abbrev pub width_of : List Field → ℕ
+width_of [] = 0
+width_of (field ∷ fields) = field.width + width_of fields
 
--- the first descriptor of a set (9.6.3 and 9.6.4)
-abbrev pub configuration_layout : Layout
-configuration_layout =
-    with_tail (decimal 2 (codes "wTotalLength") ∷ fields_in configuration_fields (Decimal ∷ Decimal ∷ Index ∷ Supply ∷ Power ∷ []))
+-- the lines of fields of which all bytes are there
+unfoldable pub group_lines : Scope → StringNames → List Field → List ℕ → ℕ → List ℕ
+group_lines scope strings [] b place = []
+group_lines scope strings (field ∷ fields) b place =
+    line_of scope strings field b place ++ group_lines scope strings fields b (place + field.width)
 
--- an interface association (its ECN, 9.X.Y)
-abbrev pub association_layout : Layout
-association_layout = with_tail (fields_in association_fields (Decimal ∷ Decimal ∷ Class ∷ Subclass ∷ Protocol ∷ Index ∷ []))
+-- how many times a group of so many bytes is there
+abbrev pub group_count : ℕ → ℕ → ℕ
+group_count width n = if width == 0 then 0 else n / width
 
--- an interface (9.6.5)
-abbrev pub interface_layout : Layout
-interface_layout = with_tail (fields_in interface_fields (Decimal ∷ Decimal ∷ Decimal ∷ Class ∷ Subclass ∷ Protocol ∷ Index ∷ []))
+-- the lines of so many groups, and what is left behind them
+unfoldable pub groups_lines : Scope → StringNames → Layout → ℕ → List ℕ → ℕ → List ℕ
+groups_lines scope strings layout zero b place = digits_line scope.depth layout.rest (drop place b)
+groups_lines scope strings layout (suc n) b place =
+    group_lines scope strings layout.group b place ++ groups_lines scope strings layout n b (place + width_of layout.group)
 
--- the fields of an endpoint (9.6.6)
-abbrev pub fields_of_endpoint : List Field
-fields_of_endpoint = fields_in endpoint_fields (Address ∷ Transfer ∷ PacketSize ∷ Interval ∷ [])
+-- The lines of a body: the fields while all bytes of the next one are there, then the group again and again while all
+-- bytes of one are, then what is left.
+unfoldable pub body_lines : Scope → StringNames → List Field → Layout → List ℕ → ℕ → List ℕ
+body_lines scope strings [] layout b place =
+    groups_lines scope strings layout (group_count (width_of layout.group) (length b - place)) b place
+body_lines scope strings (field ∷ fields) layout b place =
+    if nat_lt (length b) (place + field.width) then digits_line scope.depth layout.rest (drop place b)
+    else line_of scope strings field b place ++ body_lines scope strings fields layout b (place + field.width)
 
--- An endpoint of so many bytes. Two bytes behind the fields of an audio endpoint are bRefresh and bSynchAddress (audio 1.0,
--- 4.6.1.1 and 4.6.2.1).
-abbrev pub endpoint_layout : Bool → ℕ → Layout
-endpoint_layout audio n =
-    if audio && (n == 9) then with_tail (fields_of_endpoint ++ decimal 1 (codes "bRefresh") ∷ hexadecimal 1 (codes "bSynchAddress") ∷ [])
-    else with_tail fields_of_endpoint
+-- the lines of a descriptor of this layout, which begins behind bDescriptorType
+abbrev pub layout_lines : Scope → StringNames → Layout → List ℕ → List ℕ
+layout_lines scope strings layout b = body_lines scope strings layout.fields layout b 2

@@ -1,8 +1,14 @@
+pub mod Lines
+pub mod Values
+pub mod Names
+pub mod Forms
+pub mod Layouts
+pub mod Raws
 pub mod Device
 pub mod Sets
 pub mod Endpoints
 pub mod Strings
 pub mod Rest
-pub mod Layouts
+pub mod StandardLayouts
 pub mod Kinds
 pub mod Findings

@@ -2,7 +2,7 @@
 use Rattle.std.specs.Prelude.{ℕ, ◌-◌, List, [], ◌++◌, length, take, codes, nat_lt, if◌then◌else◌}
 use Rattle.std.specs.Fmt.{decimal}
 use Rattle.hex.specs.Hex.{encode_lower}
-use Rattle.usb_explained_fields.specs.Lines.{field_line}
+use Rattle.usb_explained_lines.specs.Lines.{field_line}
 
 -- how many bytes there are above 32
 abbrev pub more_words : ℕ → List ℕ

@@ -6,7 +6,7 @@ use Rattle.usb_words.specs.declared.speed.Speed.{Speed}
 use Rattle.usb_words.specs.Numbers.{count}
 use Rattle.usb_words.specs.Names.{class_words}
 use Rattle.usb_words.specs.Speeds.{power_words, speed_words}
-use Rattle.usb_explained_fields.specs.Values.{source_words}
+use Rattle.usb_explained_lines.specs.Values.{source_words}
 
 -- which of the two the set is, by bDescriptorType
 unfoldable pub set_words : ℕ → List ℕ

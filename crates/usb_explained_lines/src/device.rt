@@ -3,8 +3,7 @@ ghost use Rattle.std.specs.Prelude.{◌≡◌, ◌++◌, OnOk};
 ghost use Rattle.usb_explained_lines.specs.Device.{device_words, ids_words, qualifier_words, version_words};
 
 use std::alloc::AllocError;
-use usb_explained_fields::{byte_at, word_at};
-use usb_words::{Text, put_class_words, put_release};
+use usb_words::{Text, byte_at, put_class_words, put_release, word_at};
 
 /// Puts the words of a device descriptor's heading (USB 2.0, 9.6.1).
 #[tactic(auto, unfolding(crate::specs::Device::device_words))]

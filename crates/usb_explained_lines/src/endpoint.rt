@@ -2,9 +2,11 @@
 ghost use Rattle.std.specs.Prelude.{◌≡◌, ◌++◌, OnOk};
 ghost use Rattle.usb_explained_lines.specs.Endpoints.{endpoint_words, interval_words};
 
+use crate::endpoint_value::put_address;
 use std::alloc::AllocError;
-use usb_explained_fields::{byte_at, put_address, word_at};
-use usb_words::{Speed, Text, is_periodic, put_attributes, put_interval, put_size};
+use usb_words::{
+    Speed, Text, byte_at, is_periodic, put_attributes, put_interval, put_size, word_at,
+};
 
 /// Puts the words of an endpoint descriptor's heading (USB 2.0, 9.6.6).
 #[tactic(auto, unfolding(crate::specs::Endpoints::endpoint_words))]

@@ -1,128 +1,68 @@
-//! Headings, and the lines of fields.
+//! The parts of lines.
 ghost use Rattle.std.specs.Prelude.{◌≡◌, ◌++◌, codes, length, OnOk};
-ghost use Rattle.usb_explained_lines.specs.Kinds.{fields, heading, kind_lines, kind_words};
-ghost use Rattle.usb_explained_fields.specs.Lines.{heading_line};
+ghost use Rattle.usb_explained_lines.specs.Lines.{digits_line, field_start, place_words};
 
-use crate::device::{put_device_words, put_qualifier_words};
-use crate::endpoint::put_endpoint_words;
-use crate::kind::Kind;
-use crate::layouts::{
-    association_layout, configuration_layout, device_layout, endpoint_layout, interface_layout,
-    qualifier_layout,
-};
-use crate::rest::put_rest_fields;
-use crate::set::{put_association_words, put_configuration_words, put_interface_words};
-use crate::string::{put_languages_words, put_string_words};
+use crate::look::Look;
 use std::alloc::AllocError;
-use usb_explained_fields::{
-    Look, Names, Scope, end_line, put_layout, put_place, put_raw_fields, put_raw_words,
-};
 use usb_words::Text;
 
-/// Puts the heading of a descriptor of these bytes, which starts at this place of the input.
-///
-/// ```rust
-/// let look = Look { brief: false, places: true };
-/// put_heading(&mut text, look, 2, Kind::Interface { association: None }, &interface, 27)?;
-/// assert_eq!(rt; text.as_bytes(), b"    interface 0 alternate 0, HID / boot interface / keyboard, 1 endpoint @27+9\n");
-/// ```
+/// Puts where a descriptor starts in the input, and how many bytes it has, where places are shown.
 ///
 /// # Errors
 ///
 /// Out of memory.
-#[tactic(auto, unfolding(crate::specs::Kinds::heading, usb_explained_fields::specs::Lines::heading_line))]
-pub fn put_heading(
-    text: &mut Text,
-    look: Look,
-    depth: u8,
-    kind: Kind,
-    bytes: &[u8],
-    at: usize,
-) -> Result<(), AllocError>
-    ensures { OnOk result (text.new ≡ text.old ++ heading look depth kind bytes.now at) }
+pub fn put_place(text: &mut Text, look: Look, at: usize, count: usize) -> Result<(), AllocError>
+    ensures { OnOk result (text.new ≡ text.old ++ place_words look at count) }
 {
-    text.put_spaces(2 * usize::from(depth))?;
-    put_words(text, kind, bytes)?;
-    put_place(text, look, at, bytes.len())?;
-    end_line(text)
-}
-
-#[tactic(auto, unfolding(crate::specs::Kinds::kind_words))]
-fn put_words(text: &mut Text, kind: Kind, bytes: &[u8]) -> Result<(), AllocError>
-    ensures { OnOk result (text.new ≡ text.old ++ kind_words kind bytes.now) }
-{
-    match kind {
-        Kind::Device { .. } => put_device_words(text, bytes),
-        Kind::Qualifier => put_qualifier_words(text, bytes),
-        Kind::Configuration { speed } => put_configuration_words(text, speed, bytes),
-        Kind::Association { number } => put_association_words(text, number, bytes),
-        Kind::Interface { association } => put_interface_words(text, association, bytes),
-        Kind::Endpoint { speed, .. } => put_endpoint_words(text, speed, bytes),
-        Kind::Raw { interface } => put_raw_words(text, interface, bytes),
-        Kind::Languages => put_languages_words(text, bytes),
-        Kind::Text { place } => put_string_words(text, place, bytes),
-        Kind::Rest => text.put("the rest"),
-    }
-}
-
-/// Puts the lines of the fields of a descriptor of these bytes, whose heading has this depth. A brief explanation has
-/// none.
-///
-/// ```rust
-/// let look = Look { brief: false, places: true };
-/// let names = Names::none(alloc, Missing::NotInInput);
-/// put_fields(&mut text, look, 3, &names, Kind::Raw { interface: None }, &[3, 0x77, 0xab])?;
-/// assert_eq!(rt; text.as_bytes(), b"          bDescriptorType        0x77\n          bytes                  ab\n");
-/// ```
-///
-/// # Errors
-///
-/// Out of memory.
-#[tactic(auto, unfolding(crate::specs::Kinds::fields))]
-pub fn put_fields(
-    text: &mut Text,
-    look: Look,
-    depth: u8,
-    names: &Names,
-    kind: Kind,
-    bytes: &[u8],
-) -> Result<(), AllocError>
-    ensures { OnOk result (text.new ≡ text.old ++ fields look depth names.now kind bytes.now) }
-{
-    if look.brief {
-        Ok(())
+    if look.places {
+        text.put(" @")?;
+        text.put_decimal(at as u64)?;
+        text.put("+")?;
+        text.put_decimal(count as u64)
     } else {
-        put_lines(text, depth, names, kind, bytes)
+        Ok(())
     }
 }
 
-#[tactic(auto, unfolding(crate::specs::Kinds::kind_lines))]
-fn put_lines(
+/// Begins the line of a field: its name, which takes 22 characters at least.
+///
+/// # Errors
+///
+/// Out of memory.
+#[tactic(auto, using(crate::proofs::Fields::name_column), unfolding(crate::specs::Lines::field_start))]
+pub fn begin_field(text: &mut Text, depth: u8, name: &str) -> Result<(), AllocError>
+    ensures { OnOk result (text.new ≡ text.old ++ field_start depth name.now) }
+{
+    text.put_column_behind(2 * usize::from(depth) + 4, name, 23)
+}
+
+/// Ends a line.
+///
+/// # Errors
+///
+/// Out of memory.
+pub fn end_line(text: &mut Text) -> Result<(), AllocError>
+    ensures { OnOk result (text.new ≡ text.old ++ codes "\n") }
+{
+    text.put_character(b'\n')
+}
+
+/// Puts bytes as hexadecimal digits, if there are any.
+#[tactic(auto, unfolding(crate::specs::Lines::digits_line, crate::specs::Lines::field_line))]
+pub(crate) fn put_digits(
     text: &mut Text,
     depth: u8,
-    names: &Names,
-    kind: Kind,
+    name: &str,
     bytes: &[u8],
 ) -> Result<(), AllocError>
-    ensures { OnOk result (text.new ≡ text.old ++ kind_lines depth names.now kind bytes.now) }
+    ensures { OnOk result (text.new ≡ text.old ++ digits_line depth name.now bytes.now) }
 {
-    let scope = Scope {
-        depth,
-        speed: kind.speed(),
-    };
-    match kind {
-        Kind::Device { .. } => put_layout(text, scope, names, device_layout(), bytes),
-        Kind::Qualifier => put_layout(text, scope, names, qualifier_layout(), bytes),
-        Kind::Configuration { .. } => put_layout(text, scope, names, configuration_layout(), bytes),
-        Kind::Association { .. } => put_layout(text, scope, names, association_layout(), bytes),
-        Kind::Interface { .. } => put_layout(text, scope, names, interface_layout(), bytes),
-        Kind::Endpoint { audio, .. } => {
-            let layout = endpoint_layout(audio, bytes.len());
-            put_layout(text, scope, names, layout, bytes)
+    match bytes {
+        [] => Ok(()),
+        _ => {
+            begin_field(text, depth, name)?;
+            text.put_digits(bytes)?;
+            end_line(text)
         }
-        Kind::Raw { interface } => put_raw_fields(text, scope, names, interface, bytes),
-        Kind::Languages => Ok(()),
-        Kind::Text { .. } => Ok(()),
-        Kind::Rest => put_rest_fields(text, depth, bytes),
     }
 }

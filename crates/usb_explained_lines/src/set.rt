@@ -2,9 +2,9 @@
 ghost use Rattle.std.specs.Prelude.{◌≡◌, ◌++◌, OnOk};
 ghost use Rattle.usb_explained_lines.specs.Sets.{association_words, binding_words, bound_words, configuration_words, function_words, interface_words, range_words, set_words, supply_words};
 
+use crate::value::source_words;
 use std::alloc::AllocError;
-use usb_explained_fields::{byte_at, source_words};
-use usb_words::{Speed, Text, put_class_words, put_count, put_power, put_speed};
+use usb_words::{Speed, Text, byte_at, put_class_words, put_count, put_power, put_speed};
 
 /// Puts the words of the heading of a set's first descriptor (USB 2.0, 9.6.3 and 9.6.4).
 #[tactic(auto, unfolding(crate::specs::Sets::configuration_words))]

@@ -5,9 +5,9 @@ ghost use Rattle.usb_listing.specs.StringListing.{written_unit};
 ghost use Rattle.usb_explained_lines.specs.Strings.{language_words, languages_words, string_place_words, string_words, units_in};
 
 use crate::kind::StringPlace;
+use crate::quoted::put_unit;
 use std::alloc::AllocError;
-use usb_explained_fields::{behind, put_unit};
-use usb_words::{Text, put_word_code};
+use usb_words::{Text, behind, put_word_code};
 
 /// Puts the words of the language list's heading (USB 2.0, 9.6.7).
 #[tactic(auto, unfolding(crate::specs::Strings::languages_words))]

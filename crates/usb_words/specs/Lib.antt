@@ -3,3 +3,11 @@ pub mod Names
 pub mod Endpoints
 pub mod Speeds
 pub mod Columns
+pub mod Cut
+pub mod DescriptorTypes
+pub mod Bindings
+pub mod Counts
+pub mod Speaking
+pub mod Surveys
+pub mod SetSpeeds
+pub mod inside

@@ -1,20 +1,39 @@
-//! What the numbers of descriptors mean, in words: counts, releases, class codes, endpoints, speeds, intervals and power.
+//! What descriptors say, in words and as a whole: numbers, class codes, endpoints, speeds, intervals and power, and what
+//! the bytes of a set tell of its speed, its interfaces and their associations.
 //!
-//! Each function puts exactly the text that a definition of `specs/` says at the end of a [`Text`]: those of
+//! Each function `put_*` puts exactly the text that a definition of `specs/` says at the end of a [`Text`]: those of
 //! `specs/Numbers.antt`, of class codes `specs/Names.antt`, of endpoints `specs/Endpoints.antt`, and of speeds, intervals
 //! and power `specs/Speeds.antt`.
+//!
+//! A set is cut into descriptors by their first bytes (`specs/Cut.antt`), so that bytes which are no whole set are surveyed
+//! as far as they go. [`Survey::of`] has the speed for which the endpoints speak, the count of interfaces, and the
+//! association that binds each (`specs/Surveys.antt`); [`endpoint_count`] counts the endpoints of a setting. The rules for
+//! the speed of a set are [`speed_at`], [`other_speed_at`], [`speed_of_release`] and [`speed_by`] (`specs/SetSpeeds.antt`).
 #![tactic(auto)]
 
+mod bindings;
+mod counts;
+mod cut;
+mod descriptor_types;
 mod endpoint;
+mod gathering;
 mod interval;
 mod names;
 mod numbers;
+mod set_speed;
+mod speaking;
 mod speed;
+mod survey;
 mod text;
 
+pub use bindings::Bindings;
+pub use counts::endpoint_count;
+pub use cut::{behind, byte_at, descriptor_length, front, word_at};
 pub use endpoint::{put_attributes, put_end, put_size};
 pub use interval::{is_periodic, put_interval};
 pub use names::{put_class, put_class_words, put_protocol, put_subclass};
 pub use numbers::{put_byte_code, put_count, put_release, put_word_code};
+pub use set_speed::{RunningSpeed, other_speed_at, speed_at, speed_by, speed_of_release};
 pub use speed::{Speed, put_power, put_speed};
+pub use survey::Survey;
 pub use text::Text;

@@ -14,7 +14,7 @@ use Rattle.usb_file.specs.declared.input_fault.InputFault.TheVariants as faults
 use Rattle.usb_file.specs.Numbers.{why_number}
 use Rattle.usb_rules.specs.declared.finding.Finding.{Finding}
 use Rattle.usb_rules.specs.FindingLine.{rule_number}
-use Rattle.usb_explained_fields.specs.Lines.{spaces}
+use Rattle.usb_explained_lines.specs.Lines.{spaces}
 use Rattle.usb_explained_lines.specs.declared.told.Told.{Told}
 use Rattle.usb_explained_lines.specs.declared.told.Told.TheVariants as told
 use Rattle.usb_explained_lines.specs.Findings.{counts_words, finding_line, rule_of, told_words}

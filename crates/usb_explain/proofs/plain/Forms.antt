@@ -9,9 +9,9 @@ use Rattle.usb_words.specs.declared.speed.Speed.{Speed}
 use Rattle.usb_words.specs.declared.speed.Speed.TheVariants.{LowOrFull, High, FullOrHigh, Super}
 use Rattle.usb_words.specs.Numbers.{meaning}
 use Rattle.usb_listing_reader.proofs.RowLemmas.{bytes_back, bytes_front}
-use Rattle.usb_explained_fields.specs.Forms.{decimal_words, form_words, hexadecimal_words, packet_size_words, release_words, report_words}
-use Rattle.usb_explained_fields.specs.Names.{StringNames}
-use Rattle.usb_explained_fields.specs.Values.{address_value, attributes_value, interval_value, packet_value, power_of_two_words, power_value, release_value, set_attributes, size_value, source_words, wakeup_words}
+use Rattle.usb_explained_lines.specs.Forms.{decimal_words, form_words, hexadecimal_words, packet_size_words, release_words, report_words}
+use Rattle.usb_explained_lines.specs.Names.{StringNames}
+use Rattle.usb_explained_lines.specs.Values.{address_value, attributes_value, interval_value, packet_value, power_of_two_words, power_value, release_value, set_attributes, size_value, source_words, wakeup_words}
 use Rattle.usb_listing_reader.proofs.PrintableLemmas.{Printable, encoded_printable}
 use Rattle.usb_explain.proofs.plain.Texts.{both_plain, decimal_plain, parts}
 use Rattle.usb_explain.proofs.plain.Parts.{byte_fits}

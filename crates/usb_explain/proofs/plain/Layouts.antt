@@ -5,11 +5,11 @@ use Rattle.std.proofs.lemmas.Bool.{and_parts}
 use Rattle.usb_base.specs.Bytes.{AreBytes}
 use Rattle.usb_names.specs.Rows.{Field}
 use Rattle.usb_listing_reader.proofs.RowLemmas.{bytes_back}
-use Rattle.usb_explained_fields.specs.declared.layout.Scope.{Scope}
-use Rattle.usb_explained_fields.specs.Forms.{form_words}
-use Rattle.usb_explained_fields.specs.Layouts.{Layout, body_lines, group_count, group_lines, groups_lines, layout_lines, line_of, width_of}
-use Rattle.usb_explained_fields.specs.Lines.{digits_line}
-use Rattle.usb_explained_fields.specs.Names.{StringNames}
+use Rattle.usb_explained_lines.specs.declared.layout.Scope.{Scope}
+use Rattle.usb_explained_lines.specs.Forms.{form_words}
+use Rattle.usb_explained_lines.specs.Layouts.{Layout, body_lines, group_count, group_lines, groups_lines, layout_lines, line_of, width_of}
+use Rattle.usb_explained_lines.specs.Lines.{digits_line}
+use Rattle.usb_explained_lines.specs.Names.{StringNames}
 use Rattle.usb_listing_reader.proofs.PrintableLemmas.{Printable}
 use Rattle.usb_explain.specs.Lines.{SayFields}
 use Rattle.usb_explain.proofs.plain.Names.{ArePlainFields, has_plain_field, is_plain_name}

@@ -6,15 +6,15 @@ use Rattle.usb_names.specs.Rows.{decimal, hexadecimal}
 use Rattle.usb_set.specs.Endpoints.{transfer_type_of}
 use Rattle.usb_words.specs.declared.speed.Speed.{Speed}
 use Rattle.usb_listing_reader.proofs.RowLemmas.{bytes_back, bytes_front}
-use Rattle.usb_explained_fields.specs.declared.look.Look.{Look}
-use Rattle.usb_explained_fields.specs.Names.{StringNames}
+use Rattle.usb_explained_lines.specs.declared.look.Look.{Look}
+use Rattle.usb_explained_lines.specs.Names.{StringNames}
 use Rattle.usb_explained_lines.specs.declared.kind.Kind.{Kind}
 use Rattle.usb_explained_lines.specs.declared.kind.Kind.TheVariants.{Device, Qualifier, Configuration, Association, Interface, Endpoint, Raw, Languages, Text, Rest}
 use Rattle.usb_explained_lines.specs.declared.kind.StringPlace.{StringPlace}
 use Rattle.usb_explained_lines.specs.Device.{device_words, ids_words, qualifier_words, version_words}
 use Rattle.usb_explained_lines.specs.Endpoints.{endpoint_words, interval_words}
 use Rattle.usb_explained_lines.specs.Kinds.{fields, heading, kind_lines, kind_words, scope_of}
-use Rattle.usb_explained_lines.specs.Layouts.{association_layout, configuration_layout, device_layout, endpoint_layout, fields_of_endpoint, interface_layout, qualifier_layout, with_tail}
+use Rattle.usb_explained_lines.specs.StandardLayouts.{association_layout, configuration_layout, device_layout, endpoint_layout, fields_of_endpoint, interface_layout, qualifier_layout, with_tail}
 use Rattle.usb_explained_lines.specs.Rest.{more_words, rest_lines}
 use Rattle.usb_explained_lines.specs.Sets.{association_words, binding_words, bound_words, configuration_words, function_words, interface_words, range_words, set_words, supply_words}
 use Rattle.usb_explained_lines.specs.Strings.{language_words, languages_words, string_place_words, string_words, units_in}

@@ -6,10 +6,10 @@ use Rattle.usb_names.specs.declared.codes.ClassCodes.{ClassCodes}
 use Rattle.usb_names.specs.Rows.{Row}
 use Rattle.usb_words.specs.Numbers.{byte_code}
 use Rattle.usb_listing_reader.proofs.RowLemmas.{bytes_back}
-use Rattle.usb_explained_fields.specs.declared.layout.Scope.{Scope}
-use Rattle.usb_explained_fields.specs.Lines.{field_line}
-use Rattle.usb_explained_fields.specs.Names.{StringNames}
-use Rattle.usb_explained_fields.specs.Raws.{raw_lines, raw_words, row_layout, row_lines, row_of_bytes, row_words, unnamed_words}
+use Rattle.usb_explained_lines.specs.declared.layout.Scope.{Scope}
+use Rattle.usb_explained_lines.specs.Lines.{field_line}
+use Rattle.usb_explained_lines.specs.Names.{StringNames}
+use Rattle.usb_explained_lines.specs.Raws.{raw_lines, raw_words, row_layout, row_lines, row_of_bytes, row_words, unnamed_words}
 use Rattle.usb_listing_reader.proofs.PrintableLemmas.{Printable}
 use Rattle.usb_explain.specs.Lines.{SayFields}
 use Rattle.usb_explain.proofs.plain.Parts.{byte_fits}

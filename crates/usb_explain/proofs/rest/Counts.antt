@@ -20,10 +20,10 @@ use Rattle.usb_set.specs.Layout.{has_typed_raw, is_typed_raw}
 use Rattle.usb_set.specs.inside.Trees.{endpoint_bytes, extra_bytes, is_endpoint_typed, is_setting_typed, setting_bytes}
 use Rattle.usb_set.proofs.ExtraLemmas.{untyped}
 use Rattle.usb_set.proofs.Trees.{setting_typed_parts, typed_parts}
-use Rattle.usb_survey.specs.Counts.{endpoints_before_interface, interfaces_beyond}
-use Rattle.usb_survey.specs.Cut.{descriptors}
-use Rattle.usb_survey.specs.Kinds.{is_endpoint, is_interface}
-use Rattle.usb_survey.proofs.Cuts.{descriptors_step}
+use Rattle.usb_words.specs.Counts.{endpoints_before_interface, interfaces_beyond}
+use Rattle.usb_words.specs.Cut.{descriptors}
+use Rattle.usb_words.specs.DescriptorTypes.{is_endpoint, is_interface}
+use Rattle.usb_words.proofs.Cuts.{descriptors_step}
 use Rattle.usb_explain.proofs.rest.Steps.{length_is}
 
 pub four_parts : {A : Type 0} (a b c d : List A) → ((a ++ b) ++ c) ++ d ≡ a ++ (b ++ (c ++ d))

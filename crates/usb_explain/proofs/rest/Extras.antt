@@ -21,7 +21,7 @@ use Rattle.usb_set.specs.Layout.{is_typed, is_typed_raw}
 use Rattle.usb_set.specs.Parts.{association_in}
 use Rattle.usb_set.specs.inside.Trees.{extra_bytes}
 use Rattle.usb_set.proofs.ExtraLemmas.{untyped}
-use Rattle.usb_survey.specs.Cut.{descriptor_length}
+use Rattle.usb_words.specs.Cut.{descriptor_length}
 use Rattle.usb_explain.specs.declared.role.Role.{Role}
 use Rattle.usb_explain.specs.declared.role.Role.TheVariants as roles
 use Rattle.usb_explain.specs.declared.standing.Standing.{Standing}

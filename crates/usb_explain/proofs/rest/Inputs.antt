@@ -36,8 +36,8 @@ use Rattle.usb_file.specs.Dumps.{Dump}
 use Rattle.usb_file.specs.Inputs.{IsInput, input_findings}
 use Rattle.usb_file.proofs.Next.{all_strings}
 use Rattle.usb_file.proofs.Units.{length-units_bytes}
-use Rattle.usb_survey.specs.Cut.{descriptor_length}
-use Rattle.usb_survey.specs.declared.speed.RunningSpeed.{RunningSpeed}
+use Rattle.usb_words.specs.Cut.{descriptor_length}
+use Rattle.usb_words.specs.declared.set_speed.RunningSpeed.{RunningSpeed}
 use Rattle.usb_explain.specs.declared.manner.Manner.{Manner}
 use Rattle.usb_explain.specs.declared.role.Role.{Role}
 use Rattle.usb_explain.specs.declared.role.Role.TheVariants as roles

@@ -17,7 +17,7 @@ use Rattle.usb_set.proofs.ByteByByte.{header_long, whole_length}
 use Rattle.usb_set.proofs.Sound.{Sound, sound}
 use Rattle.usb_set.proofs.Stands.{item_within}
 use Rattle.usb_file_data.proofs.Lists.{bytes_behind}
-use Rattle.usb_survey.specs.declared.speed.RunningSpeed.{RunningSpeed}
+use Rattle.usb_words.specs.declared.set_speed.RunningSpeed.{RunningSpeed}
 use Rattle.usb_explain.specs.declared.role.Role.{Role}
 use Rattle.usb_explain.specs.declared.role.Role.TheVariants.{Device, Qualifier, Association, Interface, Endpoint, Raw, Languages, Text}
 use Rattle.usb_explain.specs.declared.role.Role.TheVariants as roles

@@ -7,7 +7,7 @@ use Rattle.std.proofs.lemmas.List.Sums.{take_while-cons}
 use Rattle.usb_rules.specs.declared.finding.Finding.{Finding}
 use Rattle.usb_rules.specs.declared.finding.Part.{Part}
 use Rattle.usb_rules.specs.Places.{when}
-use Rattle.usb_survey.specs.Cut.{descriptor_length}
+use Rattle.usb_words.specs.Cut.{descriptor_length}
 use Rattle.usb_explain.specs.declared.role.Role.{Role}
 use Rattle.usb_explained_lines.specs.declared.told.Told.{Told}
 use Rattle.usb_explain.specs.declared.standing.Owner.{Owner}

@@ -25,8 +25,8 @@ use Rattle.usb_set.proofs.Sets.{length-set_bytes}
 use Rattle.usb_set.proofs.Trees.{set_bytes_is, typed_parts}
 use Rattle.usb_file_data.specs.File.{has_no_layout, is_other_kind, sets_bytes, whole_set}
 use Rattle.usb_file_data.proofs.WholeSets.{no_some}
-use Rattle.usb_survey.specs.declared.speed.RunningSpeed.{RunningSpeed}
-use Rattle.usb_survey.specs.Surveys.{survey_of}
+use Rattle.usb_words.specs.declared.set_speed.RunningSpeed.{RunningSpeed}
+use Rattle.usb_words.specs.Surveys.{survey_of}
 use Rattle.usb_explained_lines.specs.declared.told.Told.{Told}
 use Rattle.usb_explained_lines.specs.declared.told.Told.TheVariants as told
 use Rattle.usb_explain.specs.declared.role.Role.{Role}

@@ -1,0 +1,70 @@
+//! Values of an endpoint's fields.
+ghost use Rattle.std.specs.Prelude.{◌≡◌, ◌++◌, OnOk};
+ghost use Rattle.usb_explained_lines.specs.Values.{address_value, attributes_value, interval_value, size_value};
+
+use std::alloc::AllocError;
+use usb_words::{
+    Speed, Text, is_periodic, put_attributes, put_byte_code, put_end, put_interval, put_size,
+    put_word_code,
+};
+
+/// Puts bEndpointAddress of an endpoint of these attributes: `0x81 (EP 1 IN)`.
+///
+/// # Errors
+///
+/// Out of memory.
+#[tactic(auto, unfolding(crate::specs::Values::address_value))]
+pub fn put_address(text: &mut Text, attributes: u8, address: u8) -> Result<(), AllocError>
+    ensures { OnOk result (text.new ≡ text.old ++ address_value attributes address) }
+{
+    put_byte_code(text, address)?;
+    text.put(" (")?;
+    put_end(text, attributes, address)?;
+    text.put(")")
+}
+
+/// Puts bmAttributes of an endpoint.
+#[tactic(auto, unfolding(crate::specs::Values::attributes_value))]
+pub(crate) fn put_attributes_value(text: &mut Text, attributes: u8) -> Result<(), AllocError>
+    ensures { OnOk result (text.new ≡ text.old ++ attributes_value attributes) }
+{
+    put_byte_code(text, attributes)?;
+    text.put(" (")?;
+    put_attributes(text, attributes)?;
+    text.put(")")
+}
+
+/// Puts wMaxPacketSize of an endpoint of these attributes.
+#[tactic(auto, unfolding(crate::specs::Values::size_value))]
+pub(crate) fn put_size_value(
+    text: &mut Text,
+    attributes: u8,
+    max_packet: u16,
+) -> Result<(), AllocError>
+    ensures { OnOk result (text.new ≡ text.old ++ size_value attributes max_packet) }
+{
+    put_word_code(text, max_packet)?;
+    text.put(" (")?;
+    put_size(text, attributes, max_packet)?;
+    text.put(")")
+}
+
+/// Puts bInterval of an endpoint of these attributes.
+#[tactic(auto, unfolding(crate::specs::Values::interval_value))]
+pub(crate) fn put_interval_value(
+    text: &mut Text,
+    speed: Speed,
+    attributes: u8,
+    interval: u8,
+) -> Result<(), AllocError>
+    ensures { OnOk result (text.new ≡ text.old ++ interval_value speed attributes interval) }
+{
+    text.put_decimal(u64::from(interval))?;
+    if is_periodic(attributes) {
+        text.put(" (")?;
+        put_interval(text, speed, attributes, interval)?;
+        text.put(")")
+    } else {
+        Ok(())
+    }
+}

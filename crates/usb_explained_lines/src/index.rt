@@ -1,0 +1,42 @@
+//! Indices of strings.
+ghost use Rattle.std.specs.Prelude.{◌≡◌, ◌++◌, OnOk};
+ghost use Rattle.std.specs.Option.{option_copied};
+ghost use Rattle.usb_explained_lines.specs.Names.{index_words, missing_words, name_words};
+
+use crate::names::{Missing, Names};
+use crate::quoted::put_quoted;
+use std::alloc::AllocError;
+use usb_words::Text;
+
+/// Puts the index of a string: `0 (none)`, or the number and the string that it names.
+#[tactic(auto, unfolding(crate::specs::Names::index_words))]
+pub(crate) fn put_index(text: &mut Text, names: &Names, index: u8) -> Result<(), AllocError>
+    ensures { OnOk result (text.new ≡ text.old ++ index_words names.now index) }
+{
+    if index == 0 {
+        return text.put("0 (none)");
+    }
+    text.put_decimal(u64::from(index))?;
+    put_name(text, names.missing(), names.units(index))
+}
+
+fn put_name(text: &mut Text, missing: Missing, units: Option<&[u16]>) -> Result<(), AllocError>
+    ensures { OnOk result (text.new ≡ text.old ++ name_words missing (option_copied units.entry)) }
+{
+    match units {
+        None => text.put(missing_words(missing)),
+        Some(units) => {
+            text.put(" ")?;
+            put_quoted(text, units)
+        }
+    }
+}
+
+fn missing_words(missing: Missing) -> &'static str
+    ensures { result.now ≡ missing_words missing }
+{
+    match missing {
+        Missing::NotInInput => " (not in the input)",
+        Missing::NotRead => " (not read)",
+    }
+}

@@ -1,0 +1,51 @@
+//! Strings between quotes.
+ghost use Rattle.std.specs.Prelude.{◌≡◌, ◌++◌, OnOk};
+ghost use Rattle.std.specs.List.{flat_map};
+ghost use Rattle.usb_listing.specs.StringListing.{is_plain, written_unit};
+ghost use Rattle.usb_explained_lines.specs.Names.{quoted};
+
+use std::alloc::AllocError;
+use usb_words::Text;
+
+/// Puts the units of a string between quotes.
+#[tactic(auto, unfolding(crate::specs::Names::quoted))]
+pub(crate) fn put_quoted(text: &mut Text, units: &[u16]) -> Result<(), AllocError>
+    ensures { OnOk result (text.new ≡ text.old ++ quoted units.now) }
+{
+    text.put("\"")?;
+    put_units(text, units)?;
+    text.put("\"")
+}
+
+fn put_units(text: &mut Text, units: &[u16]) -> Result<(), AllocError>
+    ensures { OnOk result (text.new ≡ text.old ++ flat_map written_unit units.now) }
+{
+    for unit in units {
+        put_unit(text, *unit)?;
+    }
+    Ok(())
+}
+
+/// Puts a unit of a string: its character, or a backslash and four digits.
+///
+/// # Errors
+///
+/// Out of memory.
+#[tactic(auto, unfolding(usb_listing::specs::StringListing::written_unit))]
+pub fn put_unit(text: &mut Text, unit: u16) -> Result<(), AllocError>
+    ensures { OnOk result (text.new ≡ text.old ++ written_unit unit) }
+{
+    if is_plain(unit) {
+        return text.put_bytes(&[unit as u8]);
+    }
+    text.put("\\")?;
+    text.put_digits(&unit.to_be_bytes())
+}
+
+/// Whether a unit is written as the character that it is: a printable one of ASCII that is neither the
+/// quote, which ends a string, nor the backslash, which begins an escape.
+fn is_plain(unit: u16) -> bool
+    ensures { result ≡ is_plain unit }
+{
+    (0x20..=0x7e).contains(&unit) && unit != 0x22 && unit != 0x5c
+}

@@ -1,0 +1,39 @@
+-- What is gathered of a set, descriptor by descriptor.
+use Rattle.std.specs.Prelude.{◌≡◌, ◌≤◌, ◌<◌, ℕ, ◌+◌, List, ◌∷◌, length, Bool, ◌||◌, Option, Some, None}
+use Rattle.std.specs.List.{list_any}
+use Rattle.usb_base.specs.Marks.{is_marked, unmarked}
+use Rattle.usb_words.specs.Bindings.{binding, bound_at}
+use Rattle.usb_words.specs.Counts.{interfaces_beyond}
+use Rattle.usb_words.specs.Speaking.{speaks_high, speaks_low_or_full}
+use Rattle.usb_words.specs.declared.gathering.Gathering.{Gathering}
+use Rattle.usb_words.specs.declared.gathering.Numbers.{Numbers}
+use Rattle.usb_words.specs.declared.gathering.Binders.{Binders}
+
+-- the first of two that is there
+abbrev pub or_else : Option ℕ → Option ℕ → Option ℕ
+or_else None y = y
+or_else (Some x) y = Some x
+
+-- how many distinct numbers there are with those of these descriptors
+abbrev pub counted : Numbers → List (List ℕ) → ℕ
+counted numbers ds = interfaces_beyond (is_marked numbers.marks) ds + numbers.count
+
+-- a descriptor was counted that came before others
+abbrev pub CountsOn : Numbers → Numbers → List ℕ → List (List ℕ) → Type 0
+CountsOn old new d ds = counted old (d ∷ ds) ≡ counted new ds
+
+-- the association that binds a number, with these descriptors
+abbrev pub bound_with : Binders → ℕ → List (List ℕ) → Option ℕ
+bound_with binders n ds = or_else (bound_at binders.bindings n) (binding n binders.count ds)
+
+-- a descriptor was taken that came before others
+abbrev pub BindsOn : Binders → Binders → ℕ → List ℕ → List (List ℕ) → Type 0
+BindsOn old new n d ds = bound_with old n (d ∷ ds) ≡ bound_with new n ds
+
+-- with what was gathered of the descriptors before, these descriptors make up all
+pub record Gathers (all : List (List ℕ)) (g : Gathering) (ds : List (List ℕ)) : Type 0 where
+  pub cells : length g.associations.bindings ≡ 256
+  pub high : list_any speaks_high all ≡ g.high || list_any speaks_high ds
+  pub low_or_full : list_any speaks_low_or_full all ≡ g.low_or_full || list_any speaks_low_or_full ds
+  pub interfaces : interfaces_beyond unmarked all ≡ counted g.interfaces ds
+  pub bindings : (n : ℕ) → n < 256 → binding n 0 all ≡ bound_with g.associations n ds
