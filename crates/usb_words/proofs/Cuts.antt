@@ -41,18 +41,13 @@ enough zero g (x ∷ xs) p q = absurd (omega arith)
 enough (suc f) zero (x ∷ xs) p q = absurd (omega arith)
 enough (suc f) (suc g) (x ∷ xs) p q = enough_at f g (x ∷ xs) (descriptor_length (x ∷ xs)) refl p q (enough f g)
 
--- a test as a number
-pub test_number : (b : Bool) → bool_byte b ≡ (if b then 1 else 0)
-test_number true = refl
-test_number false = refl
-
--- it is one at most
-pub test_at_most_one : (b : Bool) → (if b then 1 else 0) ≤ 1
+-- a test as a number is one at most
+pub test_at_most_one : (b : Bool) → bool_byte b ≤ 1
 test_at_most_one true = omega arith
 test_at_most_one false = omega arith
 
 -- one more or not
-pub endpoint_or_not : (b : Bool) (m n : ℕ) → (if b then m + 1 else m) + n ≡ m + (n + (if b then 1 else 0))
+endpoint_or_not : (b : Bool) (m n : ℕ) → (if b then m + 1 else m) + n ≡ m + (n + bool_byte b)
 endpoint_or_not true m n = omega arith
 endpoint_or_not false m n = omega arith
 
@@ -73,5 +68,5 @@ descriptors_end (x ∷ xs) e = first_step (length xs) (x ∷ xs) None e
 
 -- a descriptor that is no interface counts where it is an endpoint
 pub counted_endpoint : (ds more : List (List ℕ)) (d : List ℕ) (n k : ℕ) → ds ≡ d ∷ more → is_interface d ≡ false
-    → k ≡ (if is_endpoint d then 1 else 0) → endpoints_before_interface ds + n ≡ endpoints_before_interface more + (n + k)
+    → k ≡ bool_byte (is_endpoint d) → endpoints_before_interface ds + n ≡ endpoints_before_interface more + (n + k)
 counted_endpoint ds more d n k e other count = rw (e, other, count) (endpoint_or_not (is_endpoint d) (endpoints_before_interface more) n)

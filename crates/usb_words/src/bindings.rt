@@ -1,7 +1,7 @@
 //! Which association binds each interface.
 ghost use Rattle.std.specs.Prelude.{◌≡◌, ◌<◌, ℕ, length, None, Some, if◌then◌else◌, replicate, slice_index_or};
+ghost use Rattle.std.specs.Option.{option_or};
 ghost use Rattle.usb_words.specs.Bindings.{binds, bound_at};
-ghost use Rattle.usb_words.specs.inside.Gathered.{or_else};
 
 use std::marker::Model;
 
@@ -43,7 +43,7 @@ impl Bindings {
     /// Binds those of so many numbers that no earlier association binds.
     pub(crate) fn bind(&mut self, association: u64, first: u8, count: u8)
         ensures cells { length self.new ≡ 256 }
-        ensures bound { (n : ℕ) → n < 256 → bound_at self.new n ≡ or_else (bound_at self.old n) (if binds first count n then Some association else None) }
+        ensures bound { (n : ℕ) → n < 256 → bound_at self.new n ≡ option_or (bound_at self.old n) (if binds first count n then Some association else None) }
     {
         let end = (usize::from(first) + usize::from(count)).min(256);
         for number in usize::from(first)..end {

@@ -1,10 +1,10 @@
 //! What an endpoint says of the speed of its set.
 ghost use Rattle.std.specs.Prelude.{◌≡◌};
-ghost use Rattle.usb_set.specs.Endpoints.{transfer_type_of};
 ghost use Rattle.usb_words.specs.Speaking.{has_multiple, is_high, is_low_or_full, speaks_high, speaks_low_or_full};
 
 use crate::cut::{byte_at, word_at};
 use crate::descriptor_types::is_endpoint;
+use crate::endpoint::transfer_type;
 use usb_set::TransferType;
 
 pub(crate) fn speaks_high(d: &[u8]) -> bool
@@ -17,17 +17,6 @@ pub(crate) fn speaks_low_or_full(d: &[u8]) -> bool
     ensures { result ≡ speaks_low_or_full d.now }
 {
     is_endpoint(d) && is_low_or_full(transfer_type(byte_at(d, 3)), word_at(d, 4), byte_at(d, 6))
-}
-
-fn transfer_type(attributes: u8) -> TransferType
-    ensures { result ≡ transfer_type_of attributes }
-{
-    match attributes % 4 {
-        0 => TransferType::Control,
-        1 => TransferType::Isochronous,
-        2 => TransferType::Bulk,
-        _ => TransferType::Interrupt,
-    }
 }
 
 fn is_high(transfer: TransferType, max_packet: u16) -> bool

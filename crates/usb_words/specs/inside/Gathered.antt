@@ -1,6 +1,7 @@
 -- What is gathered of a set, descriptor by descriptor.
-use Rattle.std.specs.Prelude.{◌≡◌, ◌≤◌, ◌<◌, ℕ, ◌+◌, List, ◌∷◌, length, Bool, ◌||◌, Option, Some, None}
+use Rattle.std.specs.Prelude.{◌≡◌, ◌≤◌, ◌<◌, ℕ, ◌+◌, List, ◌∷◌, length, Bool, ◌||◌, Option}
 use Rattle.std.specs.List.{list_any}
+use Rattle.std.specs.Option.{option_or}
 use Rattle.usb_base.specs.Marks.{is_marked, unmarked}
 use Rattle.usb_words.specs.Bindings.{binding, bound_at}
 use Rattle.usb_words.specs.Counts.{interfaces_beyond}
@@ -8,11 +9,6 @@ use Rattle.usb_words.specs.Speaking.{speaks_high, speaks_low_or_full}
 use Rattle.usb_words.specs.declared.gathering.Gathering.{Gathering}
 use Rattle.usb_words.specs.declared.gathering.Numbers.{Numbers}
 use Rattle.usb_words.specs.declared.gathering.Binders.{Binders}
-
--- the first of two that is there
-abbrev pub or_else : Option ℕ → Option ℕ → Option ℕ
-or_else None y = y
-or_else (Some x) y = Some x
 
 -- how many distinct numbers there are with those of these descriptors
 abbrev pub counted : Numbers → List (List ℕ) → ℕ
@@ -24,7 +20,7 @@ CountsOn old new d ds = counted old (d ∷ ds) ≡ counted new ds
 
 -- the association that binds a number, with these descriptors
 abbrev pub bound_with : Binders → ℕ → List (List ℕ) → Option ℕ
-bound_with binders n ds = or_else (bound_at binders.bindings n) (binding n binders.count ds)
+bound_with binders n ds = option_or (bound_at binders.bindings n) (binding n binders.count ds)
 
 -- a descriptor was taken that came before others
 abbrev pub BindsOn : Binders → Binders → ℕ → List ℕ → List (List ℕ) → Type 0

@@ -1,7 +1,7 @@
 use Rattle.std.proofs.Common.{◌≡◌, ◌∷◌, ◌∙◌, ◌-◌, ◌≤◌, ℕ, List, Some, ap, false, if◌then◌else◌, arith, drop, length, length-drop, rules, sym, take}
 use mir.Val.{bool_byte}
 use Rattle.usb_words.specs.Cut.{descriptor_length, descriptors}
-use Rattle.usb_words.proofs.Cuts.{counted_endpoint, descriptors_step, test_at_most_one, test_number}
+use Rattle.usb_words.proofs.Cuts.{counted_endpoint, descriptors_step, test_at_most_one}
 use Rattle.usb_words.specs.DescriptorTypes.{is_endpoint, is_interface}
 use Rattle.usb_words.proofs.counts.endpoint_count.Goals as goal
 
@@ -13,8 +13,8 @@ loop-length-preserved c =
     let step : descriptors rest ≡ take n rest ∷ descriptors (drop n rest) = descriptors_step rest n found in
     let left : length (drop n rest) ≡ length rest - n = length-drop n rest in
     let no : is_interface (take n rest) ≡ false = sym (ap is_interface c.front-d.ensures) ∙ sym c.is_interface.ensures ∙ c.if-is_interface.false in
-    let count : c.from-count.result ≡ (if is_endpoint (take n rest) then 1 else 0) = c.from-count.ensures ∙ ap bool_byte (c.is_endpoint.ensures ∙ ap is_endpoint c.front-d.ensures) ∙ test_number (is_endpoint (take n rest)) in
-    let small : (if is_endpoint (take n rest) then 1 else 0) ≤ 1 = test_at_most_one (is_endpoint (take n rest)) in
+    let count : c.from-count.result ≡ bool_byte (is_endpoint (take n rest)) = c.from-count.ensures ∙ ap bool_byte (c.is_endpoint.ensures ∙ ap is_endpoint c.front-d.ensures) in
+    let small : bool_byte (is_endpoint (take n rest)) ≤ 1 = test_at_most_one (is_endpoint (take n rest)) in
     record {
       counts = rw c.behind-rest.ensures (c.loop-length.invariant.counts ∙ counted_endpoint _ _ _ c.loop-length.count c.from-count.result step no count);
       room = rw c.behind-rest.ensures (omega (arith, count, small, left, c.in-Some.ensures.least, c.in-Some.ensures.most, c.loop-length.invariant.room));

@@ -1,10 +1,10 @@
 use Rattle.std.proofs.Common.{◌≡◌, ◌<◌, ◌≤◌, ◌&&◌, ℕ, Some, None, nat_le, nat_lt, if◌then◌else◌, length}
+use Rattle.std.specs.Option.{option_or}
 use Rattle.usb_words.specs.Bindings.{bound_at}
-use Rattle.usb_words.specs.inside.Gathered.{or_else}
 use Rattle.usb_words.proofs.bindings.Bindings.bind.Given as goal
 
 abbrev pub invariant-loop-number : goal.invariant-loop-number
 invariant-loop-number l = record {
   cells : length l.self-inside.numbers ≡ 256;
-  bound : (n : ℕ) → n < 256 → bound_at l.self-inside.numbers n ≡ or_else (bound_at l.initial.self-inside.numbers n) (if nat_le l.first n && nat_lt n l.number then Some l.association else None);
+  bound : (n : ℕ) → n < 256 → bound_at l.self-inside.numbers n ≡ option_or (bound_at l.initial.self-inside.numbers n) (if nat_le l.first n && nat_lt n l.number then Some l.association else None);
 }
