@@ -1,8 +1,6 @@
 -- The lines of a descriptor's fields: one line for each field of its layout, in the order of the bytes.
-use Rattle.std.specs.Prelude.{ℕ, zero, suc, ◌+◌, ◌-◌, ◌/◌, ◌==◌, List, [], ◌∷◌, ◌++◌, drop, length, map, nat_lt, if◌then◌else◌}
+use Rattle.std.specs.Prelude.{ℕ, zero, suc, ◌+◌, ◌-◌, ◌/◌, ◌==◌, List, [], ◌∷◌, ◌++◌, drop, length, nat_lt, if◌then◌else◌}
 use Rattle.usb_names.specs.Rows.{Field}
-use Rattle.usb_names.specs.Shown.{field_of}
-use Rattle.usb_explained_lines.specs.declared.layout.DescriptorLayout.{DescriptorLayout}
 use Rattle.usb_explained_lines.specs.declared.layout.Scope.{Scope}
 use Rattle.usb_explained_lines.specs.Forms.{form_words}
 use Rattle.usb_explained_lines.specs.Lines.{digits_line, field_line}
@@ -13,10 +11,6 @@ pub record Layout : Type 0 where
   pub fields : List Field
   pub group : List Field
   pub rest : List ℕ
-
--- a layout of the code
-abbrev pub layout_of : DescriptorLayout → Layout
-layout_of l = record { fields = map field_of l.fields.now; group = map field_of l.group.now; rest = l.rest.now }
 
 -- the line of the field at a place
 abbrev pub line_of : Scope → StringNames → Field → List ℕ → ℕ → List ℕ

@@ -12,3 +12,4 @@ pub mod Rest
 pub mod StandardLayouts
 pub mod Kinds
 pub mod Findings
+pub mod inside

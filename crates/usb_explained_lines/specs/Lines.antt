@@ -1,7 +1,8 @@
 -- The forms of lines: headings, findings and fields, each at the depth of its descriptor.
-use Rattle.std.specs.Prelude.{ℕ, ◌+◌, ◌-◌, ◌*◌, List, [], ◌∷◌, ◌++◌, length, replicate, codes, if◌then◌else◌}
+use Rattle.std.specs.Prelude.{ℕ, ◌+◌, ◌*◌, List, [], ◌∷◌, ◌++◌, replicate, codes, if◌then◌else◌}
 use Rattle.std.specs.Fmt.{decimal}
 use Rattle.hex.specs.Hex.{encode_lower}
+use Rattle.usb_words.specs.Columns.{column}
 use Rattle.usb_explained_lines.specs.declared.look.Look.{Look}
 
 -- so many spaces
@@ -16,9 +17,9 @@ place_words look at count = if look.places then codes " @" ++ decimal at ++ code
 unfoldable pub heading_line : Look → ℕ → List ℕ → ℕ → ℕ → List ℕ
 heading_line look depth words at count = spaces (2 * depth) ++ words ++ place_words look at count ++ codes "\n"
 
--- the line of a field up to its value: the name takes 22 characters at least
+-- the line of a field up to its value: the name in a column of 23 characters
 unfoldable pub field_start : ℕ → List ℕ → List ℕ
-field_start depth name = spaces (2 * depth + 4) ++ name ++ spaces (22 - length name) ++ codes " "
+field_start depth name = spaces (2 * depth + 4) ++ column 23 name
 
 -- the line of a field
 unfoldable pub field_line : ℕ → List ℕ → List ℕ → List ℕ

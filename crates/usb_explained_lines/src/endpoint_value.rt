@@ -9,12 +9,8 @@ use usb_words::{
 };
 
 /// Puts bEndpointAddress of an endpoint of these attributes: `0x81 (EP 1 IN)`.
-///
-/// # Errors
-///
-/// Out of memory.
 #[tactic(auto, unfolding(crate::specs::Values::address_value))]
-pub fn put_address(text: &mut Text, attributes: u8, address: u8) -> Result<(), AllocError>
+pub(crate) fn put_address(text: &mut Text, attributes: u8, address: u8) -> Result<(), AllocError>
     ensures { OnOk result (text.new ≡ text.old ++ address_value attributes address) }
 {
     put_byte_code(text, address)?;

@@ -2,7 +2,8 @@
 ghost use Rattle.std.specs.Prelude.{◌≡◌, ◌+◌, ◌-◌, ◌++◌, drop, length, map, IfOk, IfSome, OnOk};
 ghost use Rattle.usb_names.specs.Shown.{field_of};
 ghost use Rattle.usb_explained_lines.specs.Lines.{digits_line};
-ghost use Rattle.usb_explained_lines.specs.Layouts.{body_lines, group_count, group_lines, groups_lines, layout_lines, layout_of, line_of, width_of};
+ghost use Rattle.usb_explained_lines.specs.Layouts.{body_lines, group_count, group_lines, groups_lines, layout_lines, line_of, width_of};
+ghost use Rattle.usb_explained_lines.specs.inside.LayoutOf.{layout_of};
 
 use crate::form::put_form;
 use crate::line::{begin_field, end_line, put_digits};
@@ -13,7 +14,7 @@ use usb_words::{Speed, Text, behind};
 
 /// The fields of a descriptor after bDescriptorType.
 #[derive(Clone, Copy, Debug)]
-pub struct DescriptorLayout {
+pub(crate) struct DescriptorLayout {
     /// The fields, in order.
     pub fields: &'static [ClassField],
     /// The fields that repeat after those.
@@ -40,11 +41,7 @@ pub(crate) struct Shown<'d> {
 }
 
 /// Puts the lines of the fields of a descriptor: those of which all bytes are there, and then the bytes that are left.
-///
-/// # Errors
-///
-/// Out of memory.
-pub fn put_layout(
+pub(crate) fn put_layout(
     text: &mut Text,
     scope: Scope,
     names: &Names,

@@ -1,5 +1,5 @@
 //! The parts of lines.
-ghost use Rattle.std.specs.Prelude.{◌≡◌, ◌++◌, codes, length, OnOk};
+ghost use Rattle.std.specs.Prelude.{◌≡◌, ◌++◌, codes, OnOk};
 ghost use Rattle.usb_explained_lines.specs.Lines.{digits_line, field_start, place_words};
 
 use crate::look::Look;
@@ -7,11 +7,12 @@ use std::alloc::AllocError;
 use usb_words::Text;
 
 /// Puts where a descriptor starts in the input, and how many bytes it has, where places are shown.
-///
-/// # Errors
-///
-/// Out of memory.
-pub fn put_place(text: &mut Text, look: Look, at: usize, count: usize) -> Result<(), AllocError>
+pub(crate) fn put_place(
+    text: &mut Text,
+    look: Look,
+    at: usize,
+    count: usize,
+) -> Result<(), AllocError>
     ensures { OnOk result (text.new ≡ text.old ++ place_words look at count) }
 {
     if look.places {
@@ -24,24 +25,16 @@ pub fn put_place(text: &mut Text, look: Look, at: usize, count: usize) -> Result
     }
 }
 
-/// Begins the line of a field: its name, which takes 22 characters at least.
-///
-/// # Errors
-///
-/// Out of memory.
-#[tactic(auto, using(crate::proofs::Fields::name_column), unfolding(crate::specs::Lines::field_start))]
-pub fn begin_field(text: &mut Text, depth: u8, name: &str) -> Result<(), AllocError>
+/// Begins the line of a field: its name, in a column of 23 characters.
+#[tactic(auto, unfolding(crate::specs::Lines::field_start))]
+pub(crate) fn begin_field(text: &mut Text, depth: u8, name: &str) -> Result<(), AllocError>
     ensures { OnOk result (text.new ≡ text.old ++ field_start depth name.now) }
 {
     text.put_column_behind(2 * usize::from(depth) + 4, name, 23)
 }
 
 /// Ends a line.
-///
-/// # Errors
-///
-/// Out of memory.
-pub fn end_line(text: &mut Text) -> Result<(), AllocError>
+pub(crate) fn end_line(text: &mut Text) -> Result<(), AllocError>
     ensures { OnOk result (text.new ≡ text.old ++ codes "\n") }
 {
     text.put_character(b'\n')

@@ -27,12 +27,8 @@ fn put_units(text: &mut Text, units: &[u16]) -> Result<(), AllocError>
 }
 
 /// Puts a unit of a string: its character, or a backslash and four digits.
-///
-/// # Errors
-///
-/// Out of memory.
 #[tactic(auto, unfolding(usb_listing::specs::StringListing::written_unit))]
-pub fn put_unit(text: &mut Text, unit: u16) -> Result<(), AllocError>
+pub(crate) fn put_unit(text: &mut Text, unit: u16) -> Result<(), AllocError>
     ensures { OnOk result (text.new ≡ text.old ++ written_unit unit) }
 {
     if is_plain(unit) {

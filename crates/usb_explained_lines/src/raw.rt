@@ -14,12 +14,8 @@ use usb_names::{ClassCodes, ClassDescriptor, class_descriptor};
 use usb_words::{Text, behind, byte_at, put_byte_code};
 
 /// Puts the name of a descriptor after an interface of these codes, or its type where it has no name.
-///
-/// # Errors
-///
-/// Out of memory.
 #[tactic(auto, unfolding(crate::specs::Raws::raw_words))]
-pub fn put_raw_words(
+pub(crate) fn put_raw_words(
     text: &mut Text,
     interface: Option<ClassCodes>,
     b: &[u8],
@@ -58,12 +54,8 @@ fn put_unnamed(text: &mut Text, descriptor_type: u8) -> Result<(), AllocError>
 }
 
 /// Puts the fields of a descriptor after an interface of these codes.
-///
-/// # Errors
-///
-/// Out of memory.
 #[tactic(auto, unfolding(crate::specs::Raws::raw_lines))]
-pub fn put_raw_fields(
+pub(crate) fn put_raw_fields(
     text: &mut Text,
     scope: Scope,
     names: &Names,

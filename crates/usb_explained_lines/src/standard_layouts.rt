@@ -1,6 +1,6 @@
 //! The fields of the standard's descriptors, each with the form of its number.
 ghost use Rattle.std.specs.Prelude.{◌≡◌};
-ghost use Rattle.usb_explained_lines.specs.Layouts.{layout_of};
+ghost use Rattle.usb_explained_lines.specs.inside.LayoutOf.{layout_of};
 ghost use Rattle.usb_explained_lines.specs.StandardLayouts.{association_layout, configuration_layout, device_layout, endpoint_layout, interface_layout, qualifier_layout};
 
 use crate::layout::DescriptorLayout;

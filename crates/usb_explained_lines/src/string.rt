@@ -41,13 +41,13 @@ pub(crate) fn put_string_words(
     ensures { OnOk result (text.new ≡ text.old ++ string_words place b.now) }
 {
     text.put("string")?;
-    put_place(text, place)?;
+    put_string_place(text, place)?;
     text.put(" \"")?;
     put_units_in(text, behind(b, 2))?;
     text.put("\"")
 }
 
-fn put_place(text: &mut Text, place: Option<StringPlace>) -> Result<(), AllocError>
+fn put_string_place(text: &mut Text, place: Option<StringPlace>) -> Result<(), AllocError>
     ensures { OnOk result (text.new ≡ text.old ++ string_place_words place) }
 {
     match place {

@@ -44,7 +44,7 @@ fn put_power_of_two(text: &mut Text, exponent: u8) -> Result<(), AllocError>
 
 /// Where a set of these bmAttributes takes its power: `bus-powered`.
 #[tactic(auto, unfolding(crate::specs::Values::source_words))]
-pub fn source_words(attributes: u8) -> &'static str
+pub(crate) fn source_words(attributes: u8) -> &'static str
     ensures { result.now ≡ source_words attributes }
 {
     if attributes / 64 % 2 == 1 {

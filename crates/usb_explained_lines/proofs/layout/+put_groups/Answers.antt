@@ -1,6 +1,7 @@
 use Rattle.std.proofs.Common.{◌≡◌, ◌+◌, ◌-◌, ◌<◌, ◌++◌, append_assoc, arith}
 use Rattle.std.proofs.lemmas.Result.{on_ok_weaker}
-use Rattle.usb_explained_lines.specs.Layouts.{group_lines, groups_lines, layout_of, width_of}
+use Rattle.usb_explained_lines.specs.Layouts.{group_lines, groups_lines, width_of}
+use Rattle.usb_explained_lines.specs.inside.LayoutOf.{layout_of}
 use Rattle.usb_explained_lines.proofs.Groups.{one_more}
 use Rattle.usb_explained_lines.proofs.layout.+put_groups.Goals as goal
 
