@@ -1,5 +1,5 @@
 -- Decimal digits of small numbers.
-use Rattle.std.proofs.Common.{◌≡◌, ◌≤◌, ◌<◌, ℕ, ◌+◌, ◌/◌, ◌%◌, ◌^◌, [], ◌∷◌, decimal, arith, refl}
+use Rattle.std.proofs.Common.{◌≡◌, ◌≤◌, ◌<◌, ℕ, ◌+◌, ◌/◌, ◌%◌, [], ◌∷◌, decimal, arith, refl}
 use Rattle.std.proofs.lemmas.Fmt.{decimal_digit, decimal_step}
 
 -- two digits

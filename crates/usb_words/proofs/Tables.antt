@@ -1,6 +1,5 @@
 -- What is gathered of a set, and its survey.
-use Rattle.std.proofs.Common.{◌≡◌, ◌<◌, ◌+◌, ℕ, List, [], ◌∷◌, length, map, Bool, true, false, ◌||◌, Option, Some, None, refl, sym, ap, ◌∙◌, arith, rules, zero-add}
-use Rattle.std.proofs.Math.ListN.{get_or}
+use Rattle.std.proofs.Common.{◌≡◌, ◌<◌, ℕ, List, [], length, map, Option, Some, None, refl, sym, ◌∙◌, arith, zero-add}
 use Rattle.std.proofs.Math.Bool.{or-false}
 use Rattle.std.specs.List.{list_any, range_with_len}
 use Rattle.std.specs.Option.{option_or}
@@ -12,7 +11,7 @@ use Rattle.usb_words.specs.declared.survey.Survey.{Survey}
 use Rattle.usb_words.specs.Bindings.{binding, bindings, bound_at}
 use Rattle.usb_words.specs.Speaking.{speaks_high, speaks_low_or_full}
 use Rattle.usb_words.specs.Surveys.{spoken_speed, survey_of}
-use Rattle.usb_words.specs.inside.Gathered.{bound_with, Gathers}
+use Rattle.usb_words.specs.inside.Gathered.{Gathers}
 
 -- the first of two, of which there is one alone
 or_none : (x : Option ℕ) → option_or x None ≡ x

@@ -1,5 +1,5 @@
 -- What the endpoints of a set say of its speed (USB 2.0, 5.5 to 5.8 and 9.6.6).
-use Rattle.std.specs.Prelude.{ℕ, List, slice_index, Bool, true, false, nat_le, nat_lt, not, ◌==◌, ◌&&◌, ◌||◌, ◌/◌, ◌%◌}
+use Rattle.std.specs.Prelude.{ℕ, List, slice_index, Bool, false, nat_le, nat_lt, not, ◌==◌, ◌&&◌, ◌||◌, ◌/◌, ◌%◌}
 use Rattle.usb_base.specs.Bytes.{little_endian_at}
 use Rattle.usb_set.specs.Endpoints.{packet_size_of, transfer_type_of}
 use Rattle.usb_set.specs.declared.endpoint.TransferType.{TransferType}

@@ -5,7 +5,6 @@ use Rattle.usb_base.specs.Marks.{unmarked}
 use Rattle.usb_words.specs.declared.speed.Speed.{Speed}
 use Rattle.usb_words.specs.declared.speed.Speed.TheVariants.{LowOrFull, High, FullOrHigh}
 use Rattle.usb_words.specs.declared.survey.Survey.{Survey}
-use Rattle.usb_words.specs.Cut.{descriptors}
 use Rattle.usb_words.specs.Bindings.{bindings}
 use Rattle.usb_words.specs.Counts.{interfaces_beyond}
 use Rattle.usb_words.specs.Speaking.{speaks_high, speaks_low_or_full}

@@ -1,5 +1,5 @@
 -- What is gathered of a set, descriptor by descriptor.
-use Rattle.std.specs.Prelude.{◌≡◌, ◌≤◌, ◌<◌, ℕ, ◌+◌, List, ◌∷◌, length, Bool, ◌||◌, Option}
+use Rattle.std.specs.Prelude.{◌≡◌, ◌<◌, ℕ, ◌+◌, List, ◌∷◌, length, ◌||◌, Option}
 use Rattle.std.specs.List.{list_any}
 use Rattle.std.specs.Option.{option_or}
 use Rattle.usb_base.specs.Marks.{is_marked, unmarked}

@@ -1,4 +1,4 @@
-use Rattle.std.proofs.Common.{◌≡◌, ◌∷◌, ◌∙◌, ◌-◌, ◌≤◌, ℕ, List, Some, ap, false, if◌then◌else◌, arith, drop, length, length-drop, rules, sym, take}
+use Rattle.std.proofs.Common.{◌≡◌, ◌∷◌, ◌∙◌, ◌-◌, ◌≤◌, ℕ, List, Some, ap, false, arith, drop, length, length-drop, sym, take}
 use mir.Val.{bool_byte}
 use Rattle.usb_words.specs.Cut.{descriptor_length, descriptors}
 use Rattle.usb_words.proofs.Cuts.{counted_endpoint, descriptors_step, test_at_most_one}

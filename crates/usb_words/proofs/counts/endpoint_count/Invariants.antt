@@ -1,4 +1,4 @@
-use Rattle.std.proofs.Common.{◌≡◌, ◌≤◌, ◌+◌, ℕ, length}
+use Rattle.std.proofs.Common.{◌≡◌, ◌≤◌, ◌+◌, length}
 use Rattle.usb_words.specs.Cut.{descriptors}
 use Rattle.usb_words.specs.Counts.{endpoints_before_interface}
 use Rattle.usb_words.proofs.counts.endpoint_count.Given as goal

@@ -1,4 +1,4 @@
-use Rattle.std.proofs.Common.{◌≡◌, ◌<◌, ◌≤◌, ◌&&◌, ℕ, Some, None, nat_le, nat_lt, if◌then◌else◌, length}
+use Rattle.std.proofs.Common.{◌≡◌, ◌<◌, ◌&&◌, ℕ, Some, None, nat_le, nat_lt, if◌then◌else◌, length}
 use Rattle.std.specs.Option.{option_or}
 use Rattle.usb_words.specs.Bindings.{bound_at}
 use Rattle.usb_words.proofs.bindings.Bindings.bind.Given as goal

@@ -1,4 +1,4 @@
-use Rattle.std.proofs.Common.{◌≡◌, refl, sym, ap, ◌∙◌, None, Option, ℕ, length, replicate, add-zero}
+use Rattle.std.proofs.Common.{refl, sym, ap, ◌∙◌, None, Option, ℕ, length, add-zero}
 use Rattle.std.proofs.lemmas.List.{length-replicate}
 use Rattle.std.proofs.lemmas.List.{get_or-replicate}
 use Rattle.std.specs.Option.{option_or}

@@ -1,4 +1,3 @@
-use Rattle.std.proofs.Common.{◌≡◌, length}
 use Rattle.usb_words.proofs.Tables.{gathered_all}
 use Rattle.usb_words.proofs.gathering.Gathering.survey.Goals as goal
 

@@ -1,8 +1,7 @@
-use Rattle.std.proofs.Common.{◌≡◌, ◌∷◌, ◌∙◌, ◌-◌, ℕ, List, Some, arith, drop, length, length-drop, rules, subst, sym, take}
-use Rattle.std.proofs.lemmas.Grind.{common_steps}
+use Rattle.std.proofs.Common.{◌≡◌, ◌∷◌, ◌∙◌, ◌-◌, ℕ, List, Some, arith, drop, length, length-drop, sym, take}
 use Rattle.usb_words.specs.Cut.{descriptor_length, descriptors}
 use Rattle.usb_words.specs.inside.Gathered.{Gathers}
-use Rattle.usb_words.proofs.Cuts.{descriptors_end, descriptors_step}
+use Rattle.usb_words.proofs.Cuts.{descriptors_step}
 use Rattle.usb_words.proofs.survey.Survey.of.Goals as goal
 
 pub loop-length-init : goal.loop-length-init

@@ -1,4 +1,4 @@
-use Rattle.std.proofs.Common.{◌≡◌, ◌≤◌, ◌+◌, ℕ, length}
+use Rattle.std.proofs.Common.{◌≤◌, ◌+◌, length}
 use Rattle.usb_words.specs.Cut.{descriptors}
 use Rattle.usb_words.specs.inside.Gathered.{Gathers}
 use Rattle.usb_words.proofs.survey.Survey.of.Given as goal
