@@ -1,5 +1,5 @@
 -- The lines of a descriptor of each kind.
-use Rattle.std.specs.Prelude.{ℕ, Bool, true, false, List, [], length, codes, if◌then◌else◌}
+use Rattle.std.specs.Prelude.{ℕ, true, List, [], length, codes, if◌then◌else◌}
 use Rattle.usb_words.specs.declared.speed.Speed.{Speed}
 use Rattle.usb_words.specs.declared.speed.Speed.TheVariants.{FullOrHigh, Super}
 use Rattle.usb_explained_lines.specs.declared.kind.Kind.{Kind}
