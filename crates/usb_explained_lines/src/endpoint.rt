@@ -9,6 +9,7 @@ use usb_words::{
 };
 
 /// Puts the words of an endpoint descriptor's heading (USB 2.0, 9.6.6).
+#[inline(never)]
 #[tactic(auto, unfolding(crate::specs::Endpoints::endpoint_words))]
 pub(crate) fn put_endpoint_words(text: &mut Text, speed: Speed, b: &[u8]) -> Result<(), AllocError>
     ensures { OnOk result (text.new ≡ text.old ++ endpoint_words speed b.now) }

@@ -4,28 +4,28 @@ ghost use Rattle.usb_explained_lines.specs.Values.{address_value, attributes_val
 
 use std::alloc::AllocError;
 use usb_words::{
-    Speed, Text, is_periodic, put_attributes, put_byte_code, put_end, put_interval, put_size,
-    put_word_code,
+    Speed, Text, begin_byte_meaning, begin_word_meaning, is_periodic, put_attributes, put_end,
+    put_interval, put_size,
 };
 
 /// Puts bEndpointAddress of an endpoint of these attributes: `0x81 (EP 1 IN)`.
+#[inline(never)]
 #[tactic(auto, unfolding(crate::specs::Values::address_value))]
 pub(crate) fn put_address(text: &mut Text, attributes: u8, address: u8) -> Result<(), AllocError>
     ensures { OnOk result (text.new ≡ text.old ++ address_value attributes address) }
 {
-    put_byte_code(text, address)?;
-    text.put(" (")?;
+    begin_byte_meaning(text, address)?;
     put_end(text, attributes, address)?;
     text.put(")")
 }
 
 /// Puts bmAttributes of an endpoint.
+#[inline(never)]
 #[tactic(auto, unfolding(crate::specs::Values::attributes_value))]
 pub(crate) fn put_attributes_value(text: &mut Text, attributes: u8) -> Result<(), AllocError>
     ensures { OnOk result (text.new ≡ text.old ++ attributes_value attributes) }
 {
-    put_byte_code(text, attributes)?;
-    text.put(" (")?;
+    begin_byte_meaning(text, attributes)?;
     put_attributes(text, attributes)?;
     text.put(")")
 }
@@ -39,13 +39,13 @@ pub(crate) fn put_size_value(
 ) -> Result<(), AllocError>
     ensures { OnOk result (text.new ≡ text.old ++ size_value attributes max_packet) }
 {
-    put_word_code(text, max_packet)?;
-    text.put(" (")?;
+    begin_word_meaning(text, max_packet)?;
     put_size(text, attributes, max_packet)?;
     text.put(")")
 }
 
 /// Puts bInterval of an endpoint of these attributes.
+#[inline(never)]
 #[tactic(auto, unfolding(crate::specs::Values::interval_value))]
 pub(crate) fn put_interval_value(
     text: &mut Text,

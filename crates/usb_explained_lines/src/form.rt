@@ -19,6 +19,7 @@ use usb_words::{
 const ATTRIBUTES: usize = 3;
 
 /// Puts the words of the field at a place.
+#[inline(always)]
 #[tactic(auto, unfolding(crate::specs::Forms::form_words))]
 pub(crate) fn put_form(
     text: &mut Text,
@@ -74,6 +75,7 @@ fn byte_before(b: &[u8], place: usize, count: usize) -> u8
     byte_at(b, place.saturating_sub(count))
 }
 
+#[inline(always)]
 fn put_decimal_words(text: &mut Text, value: &[u8]) -> Result<(), AllocError>
     ensures { OnOk result (text.new ≡ text.old ++ decimal_words value.now) }
 {
@@ -87,6 +89,7 @@ fn put_decimal_words(text: &mut Text, value: &[u8]) -> Result<(), AllocError>
     }
 }
 
+#[inline(never)]
 fn put_hexadecimal_words(text: &mut Text, value: &[u8]) -> Result<(), AllocError>
     ensures { OnOk result (text.new ≡ text.old ++ hexadecimal_words value.now) }
 {
@@ -101,6 +104,7 @@ fn put_hexadecimal_words(text: &mut Text, value: &[u8]) -> Result<(), AllocError
     }
 }
 
+#[inline(never)]
 fn put_release_words(text: &mut Text, value: &[u8]) -> Result<(), AllocError>
     ensures { OnOk result (text.new ≡ text.old ++ release_words value.now) }
 {
@@ -110,6 +114,7 @@ fn put_release_words(text: &mut Text, value: &[u8]) -> Result<(), AllocError>
     }
 }
 
+#[inline(never)]
 fn put_packet_size(text: &mut Text, attributes: u8, value: &[u8]) -> Result<(), AllocError>
     ensures { OnOk result (text.new ≡ text.old ++ packet_size_words attributes value.now) }
 {
@@ -119,6 +124,7 @@ fn put_packet_size(text: &mut Text, attributes: u8, value: &[u8]) -> Result<(), 
     }
 }
 
+#[inline(never)]
 fn put_report_words(text: &mut Text, descriptor_type: u8) -> Result<(), AllocError>
     ensures { OnOk result (text.new ≡ text.old ++ report_words descriptor_type) }
 {

@@ -9,6 +9,7 @@ use std::alloc::AllocError;
 use usb_words::Text;
 
 /// Puts the index of a string: `0 (none)`, or the number and the string that it names.
+#[inline(never)]
 #[tactic(auto, unfolding(crate::specs::Names::index_words))]
 pub(crate) fn put_index(text: &mut Text, names: &Names, index: u8) -> Result<(), AllocError>
     ensures { OnOk result (text.new ≡ text.old ++ index_words names.now index) }

@@ -173,6 +173,7 @@ fn put_group(
 }
 
 /// Puts the line of the field at a place.
+#[inline(always)]
 #[tactic(auto, unfolding(crate::specs::Lines::field_line))]
 fn put_field(
     text: &mut Text,

@@ -7,6 +7,7 @@ use std::alloc::AllocError;
 use usb_words::Text;
 
 /// Puts where a descriptor starts in the input, and how many bytes it has, where places are shown.
+#[inline(never)]
 pub(crate) fn put_place(
     text: &mut Text,
     look: Look,
@@ -26,6 +27,7 @@ pub(crate) fn put_place(
 }
 
 /// Begins the line of a field: its name, in a column of 23 characters.
+#[inline(always)]
 #[tactic(auto, unfolding(crate::specs::Lines::field_start))]
 pub(crate) fn begin_field(text: &mut Text, depth: u8, name: &str) -> Result<(), AllocError>
     ensures { OnOk result (text.new ≡ text.old ++ field_start depth name.now) }

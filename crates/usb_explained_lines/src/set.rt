@@ -1,5 +1,6 @@
 //! The configuration, interface association and interface descriptors.
-ghost use Rattle.std.specs.Prelude.{◌≡◌, ◌++◌, OnOk};
+ghost use Rattle.std.specs.Prelude.{◌≡◌, ◌++◌, codes, OnOk};
+ghost use Rattle.std.specs.Fmt.{decimal};
 ghost use Rattle.usb_explained_lines.specs.Sets.{association_words, binding_words, bound_words, configuration_words, function_words, interface_words, range_words, set_words, supply_words};
 
 use crate::value::source_words;
@@ -7,6 +8,7 @@ use std::alloc::AllocError;
 use usb_words::{Speed, Text, byte_at, put_class_words, put_count, put_power, put_speed};
 
 /// Puts the words of the heading of a set's first descriptor (USB 2.0, 9.6.3 and 9.6.4).
+#[inline(never)]
 #[tactic(auto, unfolding(crate::specs::Sets::configuration_words))]
 pub(crate) fn put_configuration_words(
     text: &mut Text,
@@ -46,6 +48,7 @@ fn set_words(descriptor_type: u8) -> &'static str
 }
 
 /// Puts the words of an interface association's heading (its ECN, 9.X.Y).
+#[inline(never)]
 #[tactic(auto, unfolding(crate::specs::Sets::association_words))]
 pub(crate) fn put_association_words(
     text: &mut Text,
@@ -99,6 +102,7 @@ fn put_range(text: &mut Text, first: u64, last: u64) -> Result<(), AllocError>
 }
 
 /// Puts the words of an interface descriptor's heading (9.6.5).
+#[inline(never)]
 #[tactic(auto, unfolding(crate::specs::Sets::interface_words))]
 pub(crate) fn put_interface_words(
     text: &mut Text,
@@ -107,10 +111,7 @@ pub(crate) fn put_interface_words(
 ) -> Result<(), AllocError>
     ensures { OnOk result (text.new ≡ text.old ++ interface_words association b.now) }
 {
-    text.put("interface ")?;
-    text.put_decimal(u64::from(byte_at(b, 2)))?;
-    text.put(" alternate ")?;
-    text.put_decimal(u64::from(byte_at(b, 3)))?;
+    put_setting(text, byte_at(b, 2), byte_at(b, 3))?;
     put_binding(text, association)?;
     text.put(", ")?;
     put_class_words(text, byte_at(b, 5), byte_at(b, 6), byte_at(b, 7))?;
@@ -129,4 +130,14 @@ fn put_binding(text: &mut Text, association: Option<u64>) -> Result<(), AllocErr
             text.put_decimal(number)
         }
     }
+}
+
+#[inline(never)]
+fn put_setting(text: &mut Text, interface: u8, alternate: u8) -> Result<(), AllocError>
+    ensures { OnOk result (text.new ≡ text.old ++ codes "interface " ++ decimal interface ++ codes " alternate " ++ decimal alternate) }
+{
+    text.put("interface ")?;
+    text.put_decimal(u64::from(interface))?;
+    text.put(" alternate ")?;
+    text.put_decimal(u64::from(alternate))
 }

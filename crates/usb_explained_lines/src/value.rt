@@ -3,20 +3,22 @@ ghost use Rattle.std.specs.Prelude.{◌≡◌, ◌++◌, OnOk};
 ghost use Rattle.usb_explained_lines.specs.Values.{packet_value, power_of_two_words, power_value, release_value, set_attributes, source_words, wakeup_words};
 
 use std::alloc::AllocError;
-use usb_words::{Speed, Text, put_byte_code, put_count, put_power, put_release, put_word_code};
+use usb_words::{
+    Speed, Text, begin_byte_meaning, begin_word_meaning, put_count, put_power, put_release,
+};
 
 /// Puts a release in hexadecimal digits, and as it is meant.
 #[tactic(auto, unfolding(crate::specs::Values::release_value))]
 pub(crate) fn put_release_value(text: &mut Text, release: u16) -> Result<(), AllocError>
     ensures { OnOk result (text.new ≡ text.old ++ release_value release) }
 {
-    put_word_code(text, release)?;
-    text.put(" (")?;
+    begin_word_meaning(text, release)?;
     put_release(text, release)?;
     text.put(")")
 }
 
 /// Puts bMaxPacketSize0 of a device, which is an exponent at SuperSpeed.
+#[inline(never)]
 #[tactic(auto, unfolding(crate::specs::Values::packet_value))]
 pub(crate) fn put_packet_value(text: &mut Text, speed: Speed, size: u8) -> Result<(), AllocError>
     ensures { OnOk result (text.new ≡ text.old ++ packet_value speed size) }
@@ -66,18 +68,19 @@ fn wakeup_words(attributes: u8) -> &'static str
 }
 
 /// Puts bmAttributes of a set.
+#[inline(never)]
 #[tactic(auto, unfolding(crate::specs::Values::set_attributes))]
 pub(crate) fn put_set_attributes(text: &mut Text, attributes: u8) -> Result<(), AllocError>
     ensures { OnOk result (text.new ≡ text.old ++ set_attributes attributes) }
 {
-    put_byte_code(text, attributes)?;
-    text.put(" (")?;
+    begin_byte_meaning(text, attributes)?;
     text.put(source_words(attributes))?;
     text.put(wakeup_words(attributes))?;
     text.put(")")
 }
 
 /// Puts bMaxPower of a set.
+#[inline(never)]
 #[tactic(auto, unfolding(crate::specs::Values::power_value))]
 pub(crate) fn put_power_value(text: &mut Text, speed: Speed, power: u8) -> Result<(), AllocError>
     ensures { OnOk result (text.new ≡ text.old ++ power_value speed power) }

@@ -1,5 +1,5 @@
 -- A column that is written into the spaces for it.
-use Rattle.std.proofs.Common.{◌≡◌, ℕ, ◌+◌, ◌-◌, ◌≤◌, List, ◌++◌, length, take, drop, replicate, max, refl, arith, append_assoc}
+use Rattle.std.proofs.Common.{◌≡◌, ℕ, ◌+◌, ◌-◌, ◌≤◌, ◌<◌, List, ◌++◌, length, take, drop, replicate, max, refl, arith, append_assoc}
 use Rattle.std.proofs.Math.Seq.{take-append-add, drop-append-add}
 use Rattle.std.proofs.lemmas.List.{length-append, length-replicate, take-replicate, drop-replicate}
 
@@ -10,17 +10,17 @@ length_with_spaces old count =
     rw (length-append old (replicate count space), length-replicate count space) refl
 
 -- the characters over the spaces behind a text: the indent, the characters, and the filling
-pub column_within : (old words : List ℕ) (indent width : ℕ)
-    → take (length old + indent) (old ++ replicate (indent + max width (length words + 1)) 32)
+pub column_within : (old words : List ℕ) (indent width : ℕ) → length words < width
+    → take (length old + indent) (old ++ replicate (indent + width) 32)
     ++ words
-    ++ drop (length old + indent + length words) (old ++ replicate (indent + max width (length words + 1)) 32)
+    ++ drop (length old + indent + length words) (old ++ replicate (indent + width) 32)
     ≡ old ++ replicate indent 32 ++ (words ++ replicate (max (width - length words) 1) 32)
-column_within old words indent width =
+column_within old words indent width fits =
     let space : ℕ = 32 in
-    let count = indent + max width (length words + 1) in
+    let count = indent + width in
     let behind : length old + indent + length words ≡ length old + (indent + length words) = omega arith in
     let inside : indent ≤ count = omega arith in
-    let left : count - (indent + length words) ≡ max (width - length words) 1 = omega arith in
+    let left : count - (indent + length words) ≡ max (width - length words) 1 = omega (arith, fits) in
     rw (
       behind,
       take-append-add old (replicate count space) indent,

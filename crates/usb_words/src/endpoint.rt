@@ -29,24 +29,24 @@ pub fn put_end(text: &mut Text, attributes: u8, address: u8) -> Result<(), Alloc
 {
     text.put("EP ")?;
     text.put_decimal(u64::from(address % 16))?;
-    text.put(way(transfer_type(attributes), address))
+    put_way(text, transfer_type(attributes), address)
 }
 
-fn way(transfer: TransferType, address: u8) -> &'static str
-    ensures { result.now ≡ way_words transfer address }
+fn put_way(text: &mut Text, transfer: TransferType, address: u8) -> Result<(), AllocError>
+    ensures { OnOk result (text.new ≡ text.old ++ way_words transfer address) }
 {
     match transfer {
-        TransferType::Control => "",
-        _ => direction(address),
+        TransferType::Control => Ok(()),
+        _ => put_direction(text, address),
     }
 }
 
-fn direction(address: u8) -> &'static str
-    ensures { result.now ≡ direction_words (direction_of address) }
+fn put_direction(text: &mut Text, address: u8) -> Result<(), AllocError>
+    ensures { OnOk result (text.new ≡ text.old ++ direction_words (direction_of address)) }
 {
     match address / 128 {
-        0 => " OUT",
-        _ => " IN",
+        0 => text.put(" OUT"),
+        _ => text.put(" IN"),
     }
 }
 

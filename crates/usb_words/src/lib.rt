@@ -32,7 +32,9 @@ pub use cut::{behind, byte_at, descriptor_length, front, word_at};
 pub use endpoint::{put_attributes, put_end, put_size};
 pub use interval::{is_periodic, put_interval};
 pub use names::{put_class, put_class_words, put_protocol, put_subclass};
-pub use numbers::{put_byte_code, put_count, put_release, put_word_code};
+pub use numbers::{
+    begin_byte_meaning, begin_word_meaning, put_byte_code, put_count, put_release, put_word_code,
+};
 pub use set_speed::{RunningSpeed, other_speed_at, speed_at, speed_by, speed_of_release};
 pub use speed::{Speed, put_power, put_speed};
 pub use survey::Survey;

@@ -1,8 +1,9 @@
 //! Class codes in words.
 ghost use Rattle.std.specs.Prelude.{◌≡◌, ◌++◌, option_map, OnOk};
+ghost use Rattle.usb_words.specs.Numbers.{byte_code};
 ghost use Rattle.usb_words.specs.Names.{class_field, class_or_code, class_words, further, named, protocol_field, subclass_field};
 
-use crate::numbers::put_byte_code;
+use crate::numbers::{begin_byte_meaning, put_byte_code};
 use crate::text::Text;
 use std::alloc::AllocError;
 use usb_names::{class_name, protocol_name, subclass_name};
@@ -53,24 +54,25 @@ fn put_further(text: &mut Text, name: Option<&'static str>) -> Result<(), AllocE
 }
 
 /// Puts a class code, with its name if it has one: `0x03 (HID)`.
+#[inline(never)]
 #[tactic(auto, unfolding(crate::specs::Names::class_field))]
 pub fn put_class(text: &mut Text, class: u8) -> Result<(), AllocError>
     ensures { OnOk result (text.new ≡ text.old ++ class_field class) }
 {
-    put_byte_code(text, class)?;
-    put_name(text, class_name(class))
+    put_code(text, class, class_name(class))
 }
 
 /// Puts a subclass code, with the name that it has in its class: `0x01 (boot interface)`.
+#[inline(never)]
 #[tactic(auto, unfolding(crate::specs::Names::subclass_field))]
 pub fn put_subclass(text: &mut Text, class: u8, subclass: u8) -> Result<(), AllocError>
     ensures { OnOk result (text.new ≡ text.old ++ subclass_field class subclass) }
 {
-    put_byte_code(text, subclass)?;
-    put_name(text, subclass_name(class, subclass))
+    put_code(text, subclass, subclass_name(class, subclass))
 }
 
 /// Puts a protocol code, with the name that it has in its class and subclass: `0x02 (mouse)`.
+#[inline(never)]
 #[tactic(auto, unfolding(crate::specs::Names::protocol_field))]
 pub fn put_protocol(
     text: &mut Text,
@@ -80,20 +82,19 @@ pub fn put_protocol(
 ) -> Result<(), AllocError>
     ensures { OnOk result (text.new ≡ text.old ++ protocol_field class subclass protocol) }
 {
-    put_byte_code(text, protocol)?;
-    put_name(text, protocol_name(class, subclass, protocol))
+    put_code(text, protocol, protocol_name(class, subclass, protocol))
 }
 
-/// Puts a name, if there is one, as the meaning of the number before it.
-fn put_name(text: &mut Text, name: Option<&'static str>) -> Result<(), AllocError>
-    ensures { OnOk result (text.new ≡ text.old ++ named (option_map (λ n. n.now) name.entry)) }
+/// Puts a code, and the name that it has, if there is one, as its meaning.
+fn put_code(text: &mut Text, code: u8, name: Option<&'static str>) -> Result<(), AllocError>
+    ensures { OnOk result (text.new ≡ text.old ++ byte_code code ++ named (option_map (λ n. n.now) name.entry)) }
 {
     match name {
-        None => Ok(()),
+        None => put_byte_code(text, code),
         Some(name) => {
-            text.put(" (")?;
+            begin_byte_meaning(text, code)?;
             text.put(name)?;
-            text.put(")")
+            text.put_character(b')')
         }
     }
 }

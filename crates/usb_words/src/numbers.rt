@@ -1,11 +1,12 @@
 //! Numbers in words.
-ghost use Rattle.std.specs.Prelude.{◌≡◌, ◌++◌, OnOk};
+ghost use Rattle.std.specs.Prelude.{◌≡◌, ◌++◌, codes, OnOk};
 ghost use Rattle.usb_words.specs.Numbers.{byte_code, count, release, short_byte, word_code};
 
 use crate::text::Text;
 use std::alloc::AllocError;
 
 /// Puts a number and what it counts: `1 byte`, `2 bytes`.
+#[inline(never)]
 #[tactic(auto, unfolding(crate::specs::Numbers::count))]
 pub fn put_count(text: &mut Text, number: u64, noun: &str) -> Result<(), AllocError>
     ensures { OnOk result (text.new ≡ text.old ++ count number noun.now) }
@@ -13,7 +14,7 @@ pub fn put_count(text: &mut Text, number: u64, noun: &str) -> Result<(), AllocEr
     text.put_decimal(number)?;
     text.put(" ")?;
     text.put(noun)?;
-    text.put(if number == 1 { "" } else { "s" })
+    if number == 1 { Ok(()) } else { text.put("s") }
 }
 
 /// Puts a code of one byte: `0x81`.
@@ -27,6 +28,17 @@ pub fn put_byte_code(text: &mut Text, code: u8) -> Result<(), AllocError>
     text.put_bytes(&digits)
 }
 
+/// Puts a code of one byte, behind which its meaning begins: `0x81 (`.
+#[tactic(auto, unfolding(crate::specs::Numbers::byte_code))]
+pub fn begin_byte_meaning(text: &mut Text, code: u8) -> Result<(), AllocError>
+    ensures { OnOk result (text.new ≡ text.old ++ byte_code code ++ codes " (") }
+{
+    let mut digits = *b"0x00 (";
+    // Two digits are room for one byte.
+    let _ = hex::encode_to_slice([code], &mut digits[2..4]);
+    text.put_bytes(&digits)
+}
+
 /// Puts a code of two bytes: `0x0409`.
 #[tactic(auto, unfolding(crate::specs::Numbers::word_code))]
 pub fn put_word_code(text: &mut Text, code: u16) -> Result<(), AllocError>
@@ -35,6 +47,17 @@ pub fn put_word_code(text: &mut Text, code: u16) -> Result<(), AllocError>
     let mut digits = *b"0x0000";
     // Four digits are room for two bytes.
     let _ = hex::encode_to_slice(code.to_be_bytes(), &mut digits[2..]);
+    text.put_bytes(&digits)
+}
+
+/// Puts a code of two bytes, behind which its meaning begins: `0x0040 (`.
+#[tactic(auto, unfolding(crate::specs::Numbers::word_code))]
+pub fn begin_word_meaning(text: &mut Text, code: u16) -> Result<(), AllocError>
+    ensures { OnOk result (text.new ≡ text.old ++ word_code code ++ codes " (") }
+{
+    let mut digits = *b"0x0000 (";
+    // Four digits are room for two bytes.
+    let _ = hex::encode_to_slice(code.to_be_bytes(), &mut digits[2..6]);
     text.put_bytes(&digits)
 }
 

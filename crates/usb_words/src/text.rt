@@ -1,5 +1,5 @@
 //! A text that grows at its end.
-ghost use Rattle.std.specs.Prelude.{◌≡◌, ◌≤◌, ◌+◌, ◌-◌, ◌*◌, ◌<◌, [], ◌∷◌, ◌++◌, drop, length, max, replicate, take, ◌==◌, IfSome, OnOk};
+ghost use Rattle.std.specs.Prelude.{◌≡◌, ◌≤◌, ◌+◌, ◌-◌, ◌*◌, ◌<◌, [], ◌∷◌, ◌++◌, drop, length, replicate, take, ◌==◌, IfSome, OnOk};
 ghost use Rattle.std.specs.Fmt.{decimal};
 ghost use Rattle.usb_words.specs.Columns.{column, filling};
 ghost use Rattle.hex.specs.Hex.{encode_lower};
@@ -131,7 +131,8 @@ impl Text {
         self.put_long_decimal(number)
     }
 
-    /// The same of a number of more than one digit.
+    /// The same of a number of more than one digit, apart so that one digit costs no call.
+    #[inline(never)]
     #[tactic(auto, using(crate::proofs::Decimals::two_digits, crate::proofs::Decimals::three_digits))]
     fn put_long_decimal(&mut self, number: u64) -> Result<(), AllocError>
         requires { 10 ≤ number }
@@ -140,14 +141,21 @@ impl Text {
         if number < 100 {
             return self.put_bytes(&[digit(number / 10), digit(number % 10)]);
         }
-        if number < 1000 {
-            let digits = [
-                digit(number / 100),
-                digit(number / 10 % 10),
-                digit(number % 10),
-            ];
-            return self.put_bytes(&digits);
+        if number >= 1000 {
+            return self.put_great_decimal(number);
         }
+        let digits = [
+            digit(number / 100),
+            digit(number / 10 % 10),
+            digit(number % 10),
+        ];
+        self.put_bytes(&digits)
+    }
+
+    #[inline(never)]
+    fn put_great_decimal(&mut self, number: u64) -> Result<(), AllocError>
+        ensures { OnOk result (self.new ≡ self.old ++ decimal number) }
+    {
         self.put(Buffer::new().format(number))
     }
 
@@ -193,7 +201,8 @@ impl Text {
     /// text.put_column_behind(2, "> IN", 7)?;
     /// assert_eq!(rt; text.as_bytes(), b"  > IN   ");
     /// ```
-    #[tactic(auto, using(crate::proofs::Columns::length_with_spaces, crate::proofs::Columns::column_within))]
+    #[inline(always)]
+    #[tactic(auto, using(crate::proofs::Columns::fewer_spaces, crate::proofs::Columns::length_with_spaces, crate::proofs::Columns::column_within))]
     pub fn put_column_behind(
         &mut self,
         indent: usize,
@@ -202,13 +211,33 @@ impl Text {
     ) -> Result<(), AllocError>
         ensures { OnOk result (self.new ≡ self.old ++ replicate indent 32 ++ column width words.now) }
     {
-        let start = self.bytes.len();
-        let Some(count) = spaces_for(indent, words.len(), width) else {
+        let Some(count) = indent.checked_add(width) else {
             return Err(AllocError);
         };
-        self.put_spaces(count)?;
+        if count > SPACES.len() || words.len() >= width {
+            return self.put_long_column(indent, words, width);
+        }
+        let start = self.bytes.len();
+        self.bytes.extend_from_slice(&SPACES)?;
+        self.bytes.truncate(start + count);
         overwrite(&mut self.bytes, start + indent, words.as_bytes());
         Ok(())
+    }
+
+    /// The same where the column is longer than the start of a line, or has no room for the words.
+    #[inline(never)]
+    fn put_long_column(
+        &mut self,
+        indent: usize,
+        words: &str,
+        width: usize,
+    ) -> Result<(), AllocError>
+        ensures { OnOk result (self.new ≡ self.old ++ replicate indent 32 ++ column width words.now) }
+    {
+        self.put_spaces(indent)?;
+        let start = self.bytes.len();
+        self.put(words)?;
+        self.fill(start, width)
     }
 
     /// Fills the column of this width that begins at `start`: with spaces to the width, and with at least one.
@@ -234,13 +263,6 @@ fn with_digits(len: usize, bytes: usize) -> Option<usize>
     ensures { IfSome result (λ end. end ≡ len + 2 * bytes) }
 {
     bytes.checked_mul(2)?.checked_add(len)
-}
-
-/// How many characters an indent and a column of this width have, of which so many are used, if a `usize` can say it.
-fn spaces_for(indent: usize, used: usize, width: usize) -> Option<usize>
-    ensures { IfSome result (λ count. count ≡ indent + max width (used + 1)) }
-{
-    indent.checked_add(width.max(used.checked_add(1)?))
 }
 
 /// Writes characters over those from `start` on.
