@@ -54,7 +54,14 @@ fn read_line(
         }
         _ => {
             let row = rows.last_mut().context("no row above")?;
-            add_line(alloc, names, row, line)
+            let (mark, rest) = line.split_once(' ').unwrap_or((line, ""));
+            let text = expand_line(alloc, names, rest)?;
+            match mark {
+                "|" => row.lines.push_str(text.as_str())?,
+                ">" | "!" => row.wanted.push_str(text.as_str())?,
+                _ => bail!("neither a row nor a line of one"),
+            }
+            Ok(())
         }
     }
 }
@@ -69,16 +76,4 @@ fn begin(alloc: Global, names: &Names, line: usize, asked: &str, wanted: &str) -
         lines: String::new(alloc),
         wanted: expand_all(alloc, names, wanted)?.join(alloc, " ")?,
     })
-}
-
-/// Puts a line where its first character says.
-fn add_line(alloc: Global, names: &Names, row: &mut Row, line: &str) -> Result<()> {
-    let (mark, rest) = line.split_once(' ').unwrap_or((line, ""));
-    let text = expand_line(alloc, names, rest)?;
-    match mark {
-        "|" => row.lines.push_str(text.as_str())?,
-        ">" | "!" => row.wanted.push_str(text.as_str())?,
-        _ => bail!("neither a row nor a line of one"),
-    }
-    Ok(())
 }

@@ -7,7 +7,7 @@ use crate::numbers::Numbers;
 use crate::owners::make_all;
 use crate::tally::Tally;
 use anyhow::{Context, Result, bail};
-use usb_bus::{Fate, NoMemory, Talk, converse};
+use usb_bus::{Fate, converse};
 use usb_device::Description;
 use usb_fields::Setup;
 use usb_transfer::Limits;
@@ -69,7 +69,14 @@ impl Runs {
 
     /// A talk, and what came of it.
     fn talk(&self, description: &Description, fates: &[Fate], tally: &mut Tally) -> Result<()> {
-        let talk = converse_about(description, self.limits.naks(), fates, tally)?;
+        let requests = REQUESTS.map(|bytes| Setup::from_bytes(&bytes));
+        let talk = converse(
+            tally.alloc,
+            description,
+            self.limits.naks(),
+            &requests,
+            fates,
+        )?;
         let why = talk.stopped.map_or(0, |why| why.number());
         let (transactions, replies) = (talk.transactions, talk.replies.len());
         let (address, selected) = (talk.state.address, talk.state.selected);
@@ -79,15 +86,4 @@ impl Runs {
         )?.as_str())?;
         tally.count(kind)
     }
-}
-
-/// A talk. What it promises ends here: whoever calls this is proved without it.
-fn converse_about(
-    description: &Description,
-    naks: u16,
-    fates: &[Fate],
-    tally: &Tally,
-) -> Result<Talk, NoMemory> {
-    let requests = REQUESTS.map(|bytes| Setup::from_bytes(&bytes));
-    converse(tally.alloc, description, naks, &requests, fates)
 }

@@ -3,7 +3,7 @@ use crate::answer::Said;
 use crate::driven::Driven;
 use crate::host::{HostInWork, read_host};
 use crate::outcome::Outcome;
-use crate::steps::form_of;
+use crate::steps::STEPS;
 use crate::talk::Bus;
 use crate::transfer::{due, read_transfer, take};
 use anyhow::Result;
@@ -47,7 +47,7 @@ impl Bench {
         words: &[&str],
     ) -> Result<Outcome> {
         let verb = words.first().map_or("", |verb| *verb);
-        let Some(form) = form_of(verb) else {
+        let Some((_, form)) = STEPS.iter().find(|(word, _)| *word == verb) else {
             return Ok(Outcome::NoStep("no such step"));
         };
         let outcome = if is_hosts(words) {
@@ -65,7 +65,7 @@ impl Bench {
                 None => self.bus.act(alloc, target, words)?,
             }
         };
-        Ok(outcome.unwrap_or(Outcome::NoStep(form)))
+        Ok(outcome.unwrap_or(Outcome::NoStep(*form)))
     }
 
     /// What comes of a step that needs no device, if it is one.

@@ -37,9 +37,3 @@ pub const STEPS: [(&str, &str); 31] = [
     ("data1", "data1 HEX, to a host or a transfer"),
     ("enumerate", "enumerate LETTERS, of . n d u a; enumerate -"),
 ];
-
-/// How a step that begins with this word is written, if there is one.
-pub fn form_of(verb: &str) -> Option<&'static str> {
-    let (_, form) = STEPS.iter().find(|(word, _)| *word == verb)?;
-    Some(*form)
-}
