@@ -5,10 +5,10 @@ ghost use Rattle.usb_base.specs.Bytes.{AreBytes};
 ghost use Rattle.usb_file_data.specs.File.{file_bytes};
 ghost use Rattle.usb_file_data.specs.StringPlaces.{string_place};
 
-use crate::accepting::examine;
+use crate::acceptance::examine;
+use crate::encoded_file::{add_speeds, add_strings};
 use crate::fault::DescriptionFault;
 use crate::image::Image;
-use crate::imaging::{add_speeds, add_strings};
 use crate::ranks::Ranks;
 use std::alloc::Global;
 use std::marker::Model;

@@ -12,11 +12,11 @@
 //!   too.
 #![tactic(auto)]
 
-mod accepting;
+mod acceptance;
 mod description;
+mod encoded_file;
 mod fault;
 mod image;
-mod imaging;
 mod ranks;
 
 pub use description::Description;

@@ -5,10 +5,10 @@ use Rattle.usb_rules.specs.declared.finding.Part.TheVariants as parts
 use Rattle.usb_words.specs.declared.set_speed.RunningSpeed.{RunningSpeed}
 use Rattle.usb_explain.specs.declared.role.Role.{Role}
 use Rattle.usb_explain.specs.declared.role.Role.TheVariants.{Device, Qualifier, Configuration, Association, Interface, Endpoint, Raw, Languages, Text}
-use Rattle.usb_explain.specs.declared.standing.SettingStanding.{SettingStanding}
-use Rattle.usb_explain.specs.declared.standing.Standing.{Standing}
-use Rattle.usb_explain.specs.Opening.{entered, opened}
-use Rattle.usb_explain.specs.Passing.{moved, noted, with_endpoint, with_set, with_told}
+use Rattle.usb_explain.specs.declared.position.SettingStanding.{SettingStanding}
+use Rattle.usb_explain.specs.declared.position.Standing.{Standing}
+use Rattle.usb_explain.specs.SetStart.{entered, opened}
+use Rattle.usb_explain.specs.Steps.{moved, noted, with_endpoint, with_set, with_told}
 use Rattle.usb_explain.specs.Standings.{start}
 use Rattle.usb_explain.specs.inside.Walking.{Counted, endpoints_of}
 

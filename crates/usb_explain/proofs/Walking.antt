@@ -11,7 +11,7 @@ use Rattle.usb_explained_lines.specs.declared.look.Look.{Look}
 use Rattle.usb_explained_lines.specs.Kinds.{heading}
 use Rattle.usb_explained_lines.specs.Lines.{heading_line}
 use Rattle.usb_explain.specs.declared.role.Role.{Role}
-use Rattle.usb_explain.specs.declared.standing.Standing.{Standing}
+use Rattle.usb_explain.specs.declared.position.Standing.{Standing}
 use Rattle.usb_explain.specs.Roles.{next_role}
 use Rattle.usb_explain.specs.Standings.{start}
 use Rattle.usb_explain.specs.Subjects.{Subject}

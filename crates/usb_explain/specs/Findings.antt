@@ -16,9 +16,9 @@ use Rattle.usb_explained_lines.specs.declared.told.Told.TheVariants as told
 use Rattle.usb_explained_lines.specs.Findings.{finding_line}
 use Rattle.usb_explain.specs.declared.role.Role.{Role}
 use Rattle.usb_explain.specs.declared.role.Role.TheVariants.{Device, Qualifier, Configuration, Association, Interface, Endpoint}
-use Rattle.usb_explain.specs.declared.standing.SetStanding.{SetStanding}
-use Rattle.usb_explain.specs.declared.standing.SettingStanding.{SettingStanding}
-use Rattle.usb_explain.specs.declared.standing.Standing.{Standing}
+use Rattle.usb_explain.specs.declared.position.SetStanding.{SetStanding}
+use Rattle.usb_explain.specs.declared.position.SettingStanding.{SettingStanding}
+use Rattle.usb_explain.specs.declared.position.Standing.{Standing}
 use Rattle.usb_explain.specs.Kinds.{depth_of}
 use Rattle.usb_explain.specs.Subjects.{Subject}
 

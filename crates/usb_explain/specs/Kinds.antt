@@ -10,10 +10,10 @@ use Rattle.usb_explained_lines.specs.declared.kind.Kind.TheVariants as kinds
 use Rattle.usb_explained_lines.specs.declared.kind.StringPlace.{StringPlace}
 use Rattle.usb_explain.specs.declared.role.Role.{Role}
 use Rattle.usb_explain.specs.declared.role.Role.TheVariants.{Device, Qualifier, Configuration, Association, Interface, Endpoint, Raw, Languages, Text}
-use Rattle.usb_explain.specs.declared.standing.Owner.{Owner}
-use Rattle.usb_explain.specs.declared.standing.Owner.TheVariants as owners
-use Rattle.usb_explain.specs.declared.standing.SettingStanding.{SettingStanding}
-use Rattle.usb_explain.specs.declared.standing.Standing.{Standing}
+use Rattle.usb_explain.specs.declared.position.Owner.{Owner}
+use Rattle.usb_explain.specs.declared.position.Owner.TheVariants as owners
+use Rattle.usb_explain.specs.declared.position.SettingStanding.{SettingStanding}
+use Rattle.usb_explain.specs.declared.position.Standing.{Standing}
 use Rattle.usb_explain.specs.Subjects.{Subject, place_among}
 
 -- a device of SuperSpeed: it ran so, or bcdUSB is 0300 or more

@@ -1,10 +1,10 @@
 pub mod Subjects
 pub mod Standings
 pub mod Roles
-pub mod Opening
+pub mod SetStart
 pub mod Kinds
 pub mod Findings
-pub mod Passing
+pub mod Steps
 pub mod Walks
 pub mod Faults
 pub mod Explanations

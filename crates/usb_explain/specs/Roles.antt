@@ -5,7 +5,7 @@ use Rattle.usb_base.specs.Bytes.{little_endian_at}
 use Rattle.usb_words.specs.Cut.{descriptor_length}
 use Rattle.usb_explain.specs.declared.role.Role.{Role}
 use Rattle.usb_explain.specs.declared.role.Role.TheVariants.{Device, Qualifier, Configuration, Association, Interface, Endpoint, Raw, Languages, Text}
-use Rattle.usb_explain.specs.declared.standing.Standing.{Standing}
+use Rattle.usb_explain.specs.declared.position.Standing.{Standing}
 
 -- this role, if it has what the role asks for
 abbrev pub role_if : Bool → Role → Option Role

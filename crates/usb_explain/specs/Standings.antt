@@ -2,9 +2,9 @@
 use Rattle.std.specs.Prelude.{replicate, false, None}
 use Rattle.usb_rules.specs.declared.finding.Part.TheVariants.{Main}
 use Rattle.usb_words.specs.declared.speed.Speed.TheVariants.{FullOrHigh}
-use Rattle.usb_explain.specs.declared.standing.Owner.TheVariants as owners
-use Rattle.usb_explain.specs.declared.standing.SetStanding.{SetStanding}
-use Rattle.usb_explain.specs.declared.standing.Standing.{Standing}
+use Rattle.usb_explain.specs.declared.position.Owner.TheVariants as owners
+use Rattle.usb_explain.specs.declared.position.SetStanding.{SetStanding}
+use Rattle.usb_explain.specs.declared.position.Standing.{Standing}
 
 -- in no set yet
 unfoldable pub before_sets : SetStanding

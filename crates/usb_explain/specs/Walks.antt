@@ -4,11 +4,11 @@ use Rattle.std.specs.Option.{option_map}
 use Rattle.usb_explained_lines.specs.declared.kind.Kind.TheVariants as kinds
 use Rattle.usb_explained_lines.specs.Kinds.{fields, heading}
 use Rattle.usb_explain.specs.declared.role.Role.{Role}
-use Rattle.usb_explain.specs.declared.standing.Standing.{Standing}
+use Rattle.usb_explain.specs.declared.position.Standing.{Standing}
 use Rattle.usb_explain.specs.Findings.{found_at, role_findings}
 use Rattle.usb_explain.specs.Kinds.{depth_of, kind_of}
-use Rattle.usb_explain.specs.Opening.{entered}
-use Rattle.usb_explain.specs.Passing.{passed, with_told}
+use Rattle.usb_explain.specs.SetStart.{entered}
+use Rattle.usb_explain.specs.Steps.{passed, with_told}
 use Rattle.usb_explain.specs.Roles.{next_role}
 use Rattle.usb_explain.specs.Subjects.{Subject}
 

@@ -3,8 +3,8 @@ ghost use Rattle.std.specs.Prelude.{◌≡◌, ◌+◌, ◌++◌, length, IfOk, 
 ghost use Rattle.usb_explain.specs.Findings.{found_at};
 ghost use Rattle.usb_explain.specs.Walks.{block};
 
+use crate::position::Standing;
 use crate::role::Role;
-use crate::standing::Standing;
 use crate::subject::Subject;
 use std::alloc::AllocError;
 use usb_explained_lines::{put_fields, put_heading};

@@ -2,8 +2,8 @@
 ghost use Rattle.std.specs.Prelude.{◌≡◌};
 ghost use Rattle.usb_explain.specs.Kinds.{below, codes_of, depth_of, is_audio, is_super, kind_of};
 
+use crate::position::{Owner, SettingStanding, Standing};
 use crate::role::Role;
-use crate::standing::{Owner, SettingStanding, Standing};
 use crate::subject::Subject;
 use usb_explained_lines::Kind;
 use usb_names::ClassCodes;

@@ -12,23 +12,23 @@
 #![tactic(auto)]
 
 mod block;
-mod ending;
-mod explaining;
+mod explanation;
 mod fault_line;
 mod found;
 mod kind;
 pub mod laws;
 mod manner;
-mod opening;
-mod passing;
 mod places;
+mod position;
+mod rest_lines;
 mod role;
-mod standing;
+mod set_start;
+mod step;
 mod subject;
 mod told;
 mod walk;
 
-pub use explaining::{explain, explain_broken};
+pub use explanation::{explain, explain_broken};
 pub use manner::Manner;
 pub use usb_explained_lines::Look;
 pub use usb_words::RunningSpeed;

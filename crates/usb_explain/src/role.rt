@@ -2,7 +2,7 @@
 ghost use Rattle.std.specs.Prelude.{◌≡◌, length};
 ghost use Rattle.usb_explain.specs.Roles.{inner_role, outer_role, role_if, role_of, string_role, typed_role};
 
-use crate::standing::Standing;
+use crate::position::Standing;
 use usb_base::{descriptor_length, descriptor_type};
 use usb_words::{byte_at, word_at};
 

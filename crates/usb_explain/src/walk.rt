@@ -2,14 +2,14 @@
 ghost use Rattle.std.specs.Prelude.{◌≡◌, ◌≤◌, ◌++◌, ℕ, List, [], length, IfOk, IfSome, OnErr, OnOk};
 ghost use Rattle.usb_listing.specs.Output.{AppendsLess};
 ghost use Rattle.usb_listing.specs.inside.Pages.{Puts};
-ghost use Rattle.usb_explain.specs.Opening.{entered};
+ghost use Rattle.usb_explain.specs.SetStart.{entered};
 ghost use Rattle.usb_explain.specs.Roles.{next_role};
 ghost use Rattle.usb_explain.specs.Standings.{start};
 ghost use Rattle.usb_explain.specs.Walks.{walked};
 ghost use Rattle.usb_explain.specs.inside.Walking.{PutsWalk};
 
+use crate::position::Standing;
 use crate::role::Role;
-use crate::standing::Standing;
 use crate::subject::Subject;
 use std::alloc::AllocError;
 use std::io::Write;

@@ -3,8 +3,8 @@ ghost use Rattle.std.specs.Prelude.{◌≡◌, IfErr, IfOk, true};
 ghost use Rattle.usb_set.specs.Layout.{Layout};
 ghost use Rattle.usb_file.specs.Inputs.{InputRefused, IsInput, input_findings, is_one_set};
 
+use crate::file_reader::{Form, read_file_or_dump};
 use crate::input_fault::InputFault;
-use crate::reading::{Form, read_file_or_dump};
 use std::alloc::{AllocError, Global};
 use usb_base::descriptor_type::{CONFIGURATION, OTHER_SPEED_CONFIGURATION};
 use usb_file_data::DescriptorFile;

@@ -19,24 +19,24 @@
 
 mod device;
 mod fault;
+mod file_reader;
+mod file_writer;
 mod input;
 mod input_fault;
 pub mod laws;
 mod other;
-mod reading;
 mod sets;
 mod strings;
-mod writing;
 
 pub use fault::{FileFault, FileWhy};
+pub use file_reader::read_file;
+pub use file_writer::write_file;
 pub use input::{Input, check_input, read_input};
 pub use input_fault::InputFault;
 pub use laws::{FILE_LIMIT, LISTING_LIMIT};
-pub use reading::read_file;
 pub use usb_file_data::{
     DescriptorFile, NoMemory, Other, Strings, WriteFault, named, write_refusal,
 };
 pub use usb_listing::{OutFault, list, list_set};
 pub use usb_listing_reader::{ListFault, ListWhy, assemble};
 pub use usb_rules::{Finding, Part, Rule, check, check_dump, check_set};
-pub use writing::write_file;

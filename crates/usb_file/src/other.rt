@@ -4,7 +4,7 @@ ghost use Rattle.usb_file.specs.FileFaults.{begins_qualifier};
 ghost use Rattle.usb_file.specs.inside.Reading.{OtherRefused, QualifierRefused, ReadsOther, ReadsQualifier};
 
 use crate::fault::{FileFault, FileWhy};
-use crate::reading::rest;
+use crate::file_reader::rest;
 use crate::sets::read_sets;
 use std::alloc::Global;
 use usb_fields::{Qualifier, descriptor_length, descriptor_type};

@@ -3,7 +3,7 @@ ghost use Rattle.std.specs.Prelude.{◌≡◌, ◌+◌, ◌<◌, ◌≤◌, ◌^
 ghost use Rattle.usb_file.specs.inside.Reading.{Behind, ReadsNextSet, ReadsSet, ReadsSets, SetRefused, SetsRefused, set_refusal};
 
 use crate::fault::{FileFault, FileWhy};
-use crate::reading::rest;
+use crate::file_reader::rest;
 use std::alloc::Global;
 use usb_file_data::is_other_kind;
 use usb_set::{Configuration, Sequence, SetKind, SetWhy, read_set};

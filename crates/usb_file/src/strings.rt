@@ -4,7 +4,7 @@ ghost use Rattle.usb_file.specs.FileFaults.{is_no_string};
 ghost use Rattle.usb_file.specs.inside.Reading.{Behind, ReadsNextString, ReadsString, ReadsStrings, ReadsDueStrings, StringRefused, StringsRefused, DueStringsRefused};
 
 use crate::fault::{FileFault, FileWhy};
-use crate::reading::rest;
+use crate::file_reader::rest;
 use std::alloc::Global;
 use usb_fields::{UnitFault, descriptor_length, descriptor_type, read_units};
 use usb_file_data::Strings;

@@ -11,13 +11,13 @@
 
 mod fault;
 mod file;
-mod judging;
 pub mod laws;
-mod marking;
-mod naming;
+mod named_strings;
+mod refusal;
 mod string;
+mod string_marks;
 
 pub use fault::WriteFault;
 pub use file::{DescriptorFile, Other, Strings};
-pub use judging::{are_wrong_strings, has_undeclared_sets, is_other_kind, write_refusal};
-pub use naming::{NoMemory, count_named, named};
+pub use named_strings::{NoMemory, count_named, named};
+pub use refusal::{are_wrong_strings, has_undeclared_sets, is_other_kind, write_refusal};

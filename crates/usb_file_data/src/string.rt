@@ -6,8 +6,8 @@ ghost use Rattle.usb_file_data.specs.StringPlaces.{units_at, units_of};
 ghost use Rattle.usb_file_data.specs.inside.Marks.{marked_among};
 
 use crate::file::{DescriptorFile, Strings};
-use crate::marking::mark_file;
-use crate::naming::count_marked;
+use crate::named_strings::count_marked;
+use crate::string_marks::mark_file;
 use usb_base::Marks;
 use usb_set::Sequence;
 

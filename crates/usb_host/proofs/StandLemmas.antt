@@ -15,11 +15,11 @@ use Rattle.usb_host.specs.declared.place.Place.{Place}
 use Rattle.usb_host.specs.declared.place.Place.TheVariants.{First, Address, Device, Header, Set, Qualifier, Languages, Text, Configure, Reported, Stopped}
 use Rattle.usb_host.specs.declared.kept.Kept.{Kept}
 use Rattle.usb_host.specs.declared.kept.Kept.TheVariants as kept
-use Rattle.usb_host.specs.declared.reading.Ending.{Ending}
+use Rattle.usb_host.specs.declared.current_read.Ending.{Ending}
 use Rattle.usb_host.specs.Steps.{HostPhase, Reading, Ended, HostView, outcome_at, outcome_of, enter, settled, KeepsHeard, TakesHeard, TakesIn, Takes}
 use Rattle.usb_host.specs.inside.Steady.{IsGood, IsSteady}
 use Rattle.usb_host.specs.Cost.{BringsBytes, left_to_ask}
-use Rattle.usb_host.specs.inside.Leading.{is_end, is_bus_trouble}
+use Rattle.usb_host.specs.inside.NextPlace.{is_end, is_bus_trouble}
 use Rattle.usb_host.specs.inside.Reads.{IsGoing, IsCounted, IsReading, IsStanding, EndsBy, Hears, GoesOn, standing}
 use Rattle.usb_host.specs.inside.Hosts.{IsPhase, phase_in}
 use Rattle.usb_host.proofs.LowerLemmas.{asks_less}

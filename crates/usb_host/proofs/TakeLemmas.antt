@@ -21,13 +21,13 @@ use Rattle.usb_transfer.specs.Transfer.{TransferView, Hearing, Goes, Brings, Com
 use Rattle.usb_host.specs.declared.place.Place.{Place}
 use Rattle.usb_host.specs.declared.kept.Kept.{Kept}
 use Rattle.usb_host.specs.declared.kept.Kept.TheVariants as kept
-use Rattle.usb_host.specs.declared.reading.Ending.{Ending}
-use Rattle.usb_host.specs.declared.reading.Ending.TheVariants as endings
+use Rattle.usb_host.specs.declared.current_read.Ending.{Ending}
+use Rattle.usb_host.specs.declared.current_read.Ending.TheVariants as endings
 use Rattle.usb_host.specs.Order.{stopped}
 use Rattle.usb_host.specs.Steps.{Reading, Ended, enter, goes_on, Grows, KeepsHeard, LacksMemory, TakesHeard}
 use Rattle.usb_host.specs.inside.Steady.{IsGood, FitsPlace, KeepsBytes}
 use Rattle.usb_host.specs.Cost.{BringsBytes}
-use Rattle.usb_host.specs.inside.Leading.{Adds, HasRoom, is_end}
+use Rattle.usb_host.specs.inside.NextPlace.{Adds, HasRoom, is_end}
 use Rattle.usb_host.specs.inside.Reads.{IsGoing, IsCounted, EndsBy, Hears, LeadsOn, ended_leads, standing}
 use Rattle.usb_host.proofs.LowerLemmas.{hears_bytes, kept_steady, completed_low}
 use Rattle.usb_host.proofs.CostLemmas.{refused_falls}

@@ -3,6 +3,6 @@ pub mod Steady
 pub mod Asking
 pub mod Sound
 pub mod Places
-pub mod Leading
+pub mod NextPlace
 pub mod Reads
 pub mod Hosts

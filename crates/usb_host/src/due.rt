@@ -60,7 +60,7 @@ impl Due {
     ghost use Rattle.usb_host.specs.inside.Steady.{IsGood};
     ghost use Rattle.usb_host.specs.inside.Places.{place_of};
     ghost use Rattle.usb_host.specs.Order.{asks, step_of, stopped};
-    ghost use Rattle.usb_host.specs.inside.Leading.{is_bus_trouble as is_bus_trouble_at, is_end as is_end_at, requested};
+    ghost use Rattle.usb_host.specs.inside.NextPlace.{is_bus_trouble as is_bus_trouble_at, is_end as is_end_at, requested};
 
     /// Whether the enumeration has ended.
     #[inline(always)]

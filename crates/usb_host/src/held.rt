@@ -21,7 +21,7 @@ pub struct Held {
 
 impl Held {
     ghost use Rattle.usb_host.specs.Keeping.{nothing_kept, set_kept};
-    ghost use Rattle.usb_host.specs.inside.Leading.{Adds, HasRoom};
+    ghost use Rattle.usb_host.specs.inside.NextPlace.{Adds, HasRoom};
     ghost use Rattle.usb_host.specs.inside.Places.{kept_of, place_of};
 
     /// What the first read begins with.

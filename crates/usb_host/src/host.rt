@@ -2,13 +2,13 @@
 ghost use Rattle.std.specs.Prelude.{◌≡◌, ◌<◌, ◌≤◌, ◌&&◌, nat_lt, IsSome};
 ghost use Rattle.usb_fields.specs.Packet.{Sent, reply_of};
 ghost use Rattle.usb_host.specs.Cost.{BringsBytes};
-ghost use Rattle.usb_host.specs.inside.Leading.{is_bus_trouble};
+ghost use Rattle.usb_host.specs.inside.NextPlace.{is_bus_trouble};
 ghost use Rattle.usb_host.specs.inside.Reads.{place_in};
 
 use crate::action::Action;
+use crate::current_read::{Reading, begin};
 use crate::draft::Draft;
 use crate::due::Due;
-use crate::reading::{Reading, begin};
 use crate::step::{Step, Trouble};
 use std::alloc::Global;
 use std::marker::Model;

@@ -6,6 +6,7 @@
 #![tactic(auto)]
 
 mod action;
+mod current_read;
 mod draft;
 mod due;
 mod held;
@@ -13,10 +14,9 @@ mod host;
 mod kept;
 mod kept_bytes;
 pub mod laws;
-mod leading;
+mod next_place;
 mod place;
 mod read;
-mod reading;
 mod request;
 mod sets;
 mod step;

@@ -4,12 +4,12 @@
 //! them. A line becomes the bytes of its descriptor, which usb_set and usb_fields read.
 #![tactic(auto)]
 
-mod assembling;
+mod assembly;
 mod digits;
 mod draft;
+mod draft_steps;
 mod fault;
 mod fields;
-mod growing;
 pub mod laws;
 mod order;
 mod row;
@@ -18,5 +18,5 @@ mod strings;
 mod values;
 mod word;
 
-pub use assembling::assemble;
+pub use assembly::assemble;
 pub use fault::{ListFault, ListWhy};

@@ -8,8 +8,8 @@ ghost use Rattle.usb_listing_reader.specs.inside.Walking.{add, add_item, add_lin
 ghost use Rattle.usb_listing_reader.specs.declared.word.Word.TheVariants as words;
 
 use crate::draft::Draft;
+use crate::draft_steps::{add_described, add_languages, add_string, begin};
 use crate::fault::ListWhy;
-use crate::growing::{add_described, add_languages, add_string, begin};
 use crate::order::may_stand;
 use crate::row::read_fields;
 use crate::strings::{read_languages, read_string};

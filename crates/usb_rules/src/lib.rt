@@ -11,9 +11,9 @@
 #![tactic(auto)]
 
 mod addresses;
+mod all_findings;
 mod association;
 mod attributes;
-mod checking;
 mod default_setting;
 mod device;
 mod endpoint;
@@ -30,7 +30,7 @@ mod set;
 mod shared_address;
 mod value;
 
-pub use checking::{
+pub use all_findings::{
     NoMemory, check, check_dump, check_set, dump_findings_in_order, findings_in_order,
     set_findings_in_order,
 };

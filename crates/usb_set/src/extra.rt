@@ -5,7 +5,7 @@ ghost use Rattle.usb_set.specs.Descriptors.{association_fields, extra_of, raw_de
 ghost use Rattle.usb_set.specs.Faults.{least_length};
 ghost use Rattle.usb_set.specs.Layout.{is_typed, is_typed_raw};
 
-use crate::attaching::read_bytes;
+use crate::attachment::read_bytes;
 use std::alloc::{AllocError, Global};
 use usb_base::Width::{self, One};
 use usb_base::{Sequence, descriptor_length, descriptor_type};

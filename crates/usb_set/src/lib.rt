@@ -12,10 +12,10 @@
 //! - The module [`laws`] states what holds of layouts and faults, whoever reads them.
 #![tactic(auto)]
 
-mod attaching;
-mod building;
-mod checking;
+mod attachment;
+mod builder;
 mod decoder;
+mod descriptor_check;
 mod endpoint;
 mod endpoints;
 mod extra;
@@ -31,7 +31,7 @@ mod set_kind;
 mod tree;
 mod whole_set;
 
-pub use building::{add_descriptor, begin_set, next_fault};
+pub use builder::{add_descriptor, begin_set, next_fault};
 pub use decoder::{Decoder, Progress};
 pub use endpoint::TransferType;
 pub use endpoints::Endpoints;

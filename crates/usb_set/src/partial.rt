@@ -4,8 +4,8 @@ ghost use Rattle.usb_set.specs.Faults.{is_whole};
 ghost use Rattle.usb_set.specs.inside.Reading.{first};
 ghost use Rattle.usb_set.specs.inside.Stepping.{InWork, IsStart, IsWanting, fault_at, is_done, past, place_of, whole_tree};
 
-use crate::attaching::{attach, read_configuration};
-use crate::checking::{declared_total, fault_in_header, fault_in_item, is_in_setting};
+use crate::attachment::{attach, read_configuration};
+use crate::descriptor_check::{declared_total, fault_in_header, fault_in_item, is_in_setting};
 use crate::fault::{SetFault, SetWhy};
 use crate::tree::Configuration;
 use std::alloc::{AllocError, Global};

@@ -4,8 +4,8 @@ ghost use Rattle.arrayvec.specs.ArrayVec.{array_vec_len};
 ghost use Rattle.usb_set.specs.inside.Reading.{first};
 ghost use Rattle.usb_set.specs.inside.Stepping.{InWork, Keeps, Reads, Steps, current_of, ends_as, is_done};
 
-use crate::checking::split_descriptor;
 use crate::decoder::Progress;
+use crate::descriptor_check::split_descriptor;
 use crate::fault::{SetFault, SetWhy};
 use crate::partial::Partial;
 use crate::tree::Configuration;

@@ -8,10 +8,10 @@
 //!   `decoding_undoes_encoding`.
 #![tactic(auto)]
 
-mod encoding;
+mod encoder;
 mod lengths;
 mod limits;
-mod writing;
+mod parts;
 
-pub use encoding::{encode, encode_onto, refusal};
+pub use encoder::{encode, encode_onto, refusal};
 pub use usb_set::EncodeFault;

@@ -6,10 +6,10 @@ use Rattle.std.specs.Option.{option_or}
 use Rattle.std.proofs.lemmas.List.{ext_get_or}
 use Rattle.std.proofs.lemmas.List.FromFn.{get_or-map-range_with_len, length-map-range_with_len}
 use Rattle.usb_words.specs.declared.speed.Speed.{Speed}
-use Rattle.usb_words.specs.declared.gathering.Gathering.{Gathering}
+use Rattle.usb_words.specs.declared.survey_builder.Gathering.{Gathering}
 use Rattle.usb_words.specs.declared.survey.Survey.{Survey}
 use Rattle.usb_words.specs.Bindings.{binding, bindings, bound_at}
-use Rattle.usb_words.specs.Speaking.{speaks_high, speaks_low_or_full}
+use Rattle.usb_words.specs.SpeedEvidence.{speaks_high, speaks_low_or_full}
 use Rattle.usb_words.specs.Surveys.{spoken_speed, survey_of}
 use Rattle.usb_words.specs.inside.Gathered.{Gathers}
 

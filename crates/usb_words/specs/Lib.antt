@@ -7,7 +7,7 @@ pub mod Cut
 pub mod DescriptorTypes
 pub mod Bindings
 pub mod Counts
-pub mod Speaking
+pub mod SpeedEvidence
 pub mod Surveys
 pub mod SetSpeeds
 pub mod inside

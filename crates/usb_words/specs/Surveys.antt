@@ -7,7 +7,7 @@ use Rattle.usb_words.specs.declared.speed.Speed.TheVariants.{LowOrFull, High, Fu
 use Rattle.usb_words.specs.declared.survey.Survey.{Survey}
 use Rattle.usb_words.specs.Bindings.{bindings}
 use Rattle.usb_words.specs.Counts.{interfaces_beyond}
-use Rattle.usb_words.specs.Speaking.{speaks_high, speaks_low_or_full}
+use Rattle.usb_words.specs.SpeedEvidence.{speaks_high, speaks_low_or_full}
 
 -- the speed for which descriptors speak: high or not, and low or full or not
 abbrev pub spoken_speed : Bool → Bool → Speed

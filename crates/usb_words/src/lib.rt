@@ -16,14 +16,14 @@ mod counts;
 mod cut;
 mod descriptor_types;
 mod endpoint;
-mod gathering;
 mod interval;
 mod names;
 mod numbers;
 mod set_speed;
-mod speaking;
 mod speed;
+mod speed_evidence;
 mod survey;
+mod survey_builder;
 mod text;
 
 pub use bindings::Bindings;

@@ -5,8 +5,8 @@ ghost use Rattle.usb_words.specs.Surveys.{spoken_speed, survey_of};
 
 use crate::bindings::Bindings;
 use crate::cut::{behind, descriptor_length, front};
-use crate::gathering::Gathering;
 use crate::speed::Speed;
+use crate::survey_builder::Gathering;
 
 /// What is known of a set before its descriptors are gone over one by one.
 #[derive(Clone, Debug, Drop, PartialEq, Eq, Hash)]

@@ -41,13 +41,13 @@ use Rattle.usb_words.specs.declared.set_speed.RunningSpeed.{RunningSpeed}
 use Rattle.usb_explain.specs.declared.manner.Manner.{Manner}
 use Rattle.usb_explain.specs.declared.role.Role.{Role}
 use Rattle.usb_explain.specs.declared.role.Role.TheVariants as roles
-use Rattle.usb_explain.specs.declared.standing.Standing.{Standing}
+use Rattle.usb_explain.specs.declared.position.Standing.{Standing}
 use Rattle.usb_explain.specs.Explanations.{explanation, first_line, input_name, whole_end}
 use Rattle.usb_explain.specs.Findings.{finding_at, is_here, none_told, told_at}
 use Rattle.usb_explain.specs.Kinds.{depth_of}
 use Rattle.usb_explain.specs.Laws.{WholeHasNoRest, WholeShowsTree, WholeTellsCounts, WholeTellsFindings, counts_at}
-use Rattle.usb_explain.specs.Opening.{entered}
-use Rattle.usb_explain.specs.Passing.{noted, passed, with_told}
+use Rattle.usb_explain.specs.SetStart.{entered}
+use Rattle.usb_explain.specs.Steps.{noted, passed, with_told}
 use Rattle.usb_explain.specs.Roles.{outer_role, role_if, role_of, string_role}
 use Rattle.usb_explain.specs.Standings.{start}
 use Rattle.usb_explain.specs.Subjects.{Subject, findings_in, subject_with}

@@ -21,10 +21,10 @@ use Rattle.usb_words.specs.declared.set_speed.RunningSpeed.{RunningSpeed}
 use Rattle.usb_explain.specs.declared.role.Role.{Role}
 use Rattle.usb_explain.specs.declared.role.Role.TheVariants.{Device, Qualifier, Association, Interface, Endpoint, Raw, Languages, Text}
 use Rattle.usb_explain.specs.declared.role.Role.TheVariants as roles
-use Rattle.usb_explain.specs.declared.standing.Standing.{Standing}
+use Rattle.usb_explain.specs.declared.position.Standing.{Standing}
 use Rattle.usb_explain.specs.Laws.{Cut, Shown}
-use Rattle.usb_explain.specs.Opening.{entered}
-use Rattle.usb_explain.specs.Passing.{noted, passed, with_told}
+use Rattle.usb_explain.specs.SetStart.{entered}
+use Rattle.usb_explain.specs.Steps.{noted, passed, with_told}
 use Rattle.usb_explain.specs.Roles.{inner_role, typed_role}
 use Rattle.usb_explain.specs.Slack.{set_slack}
 use Rattle.usb_explain.specs.Subjects.{Subject}

@@ -10,14 +10,14 @@ use Rattle.usb_rules.specs.Places.{when}
 use Rattle.usb_words.specs.Cut.{descriptor_length}
 use Rattle.usb_explain.specs.declared.role.Role.{Role}
 use Rattle.usb_explained_lines.specs.declared.told.Told.{Told}
-use Rattle.usb_explain.specs.declared.standing.Owner.{Owner}
-use Rattle.usb_explain.specs.declared.standing.SettingStanding.{SettingStanding}
-use Rattle.usb_explain.specs.declared.standing.Standing.{Standing}
+use Rattle.usb_explain.specs.declared.position.Owner.{Owner}
+use Rattle.usb_explain.specs.declared.position.SettingStanding.{SettingStanding}
+use Rattle.usb_explain.specs.declared.position.Standing.{Standing}
 use Rattle.usb_explain.specs.Findings.{found_at, is_here}
 use Rattle.usb_explain.specs.Kinds.{depth_of}
 use Rattle.usb_explain.specs.Laws.{counts_at, entry_of}
-use Rattle.usb_explain.specs.Opening.{entered}
-use Rattle.usb_explain.specs.Passing.{passed, with_told}
+use Rattle.usb_explain.specs.SetStart.{entered}
+use Rattle.usb_explain.specs.Steps.{passed, with_told}
 use Rattle.usb_explain.specs.Roles.{role_of}
 use Rattle.usb_explain.specs.Subjects.{Subject}
 use Rattle.usb_explain.specs.Trees.{OutlineEntry, entry}

@@ -15,11 +15,11 @@ use Rattle.usb_set.specs.inside.Trees.{endpoint_bytes, extra_bytes, is_setting_t
 use Rattle.usb_set.proofs.Trees.{setting_typed_parts}
 use Rattle.usb_explain.specs.declared.role.Role.TheVariants as roles
 use Rattle.usb_explained_lines.specs.declared.told.Told.TheVariants as told
-use Rattle.usb_explain.specs.declared.standing.Owner.TheVariants as owners
-use Rattle.usb_explain.specs.declared.standing.Standing.{Standing}
+use Rattle.usb_explain.specs.declared.position.Owner.TheVariants as owners
+use Rattle.usb_explain.specs.declared.position.Standing.{Standing}
 use Rattle.usb_explain.specs.Findings.{finding_at, interface_told, is_here, told_at}
 use Rattle.usb_explain.specs.Kinds.{depth_of}
-use Rattle.usb_explain.specs.Passing.{noted}
+use Rattle.usb_explain.specs.Steps.{noted}
 use Rattle.usb_explain.specs.Roles.{inner_role, typed_role}
 use Rattle.usb_explain.specs.Subjects.{Subject}
 use Rattle.usb_explain.specs.Trees.{OutlineEntry, endpoint_entries, entry, extra_entry, setting_count, setting_entries}

@@ -6,12 +6,12 @@ use Rattle.std.proofs.lemmas.Bool.Decides.{nat_tests}
 use Rattle.std.proofs.Math.Seq.{drop-append_seam, take-append_seam}
 use Rattle.usb_words.specs.Cut.{descriptor_length}
 use Rattle.usb_explain.specs.declared.role.Role.{Role}
-use Rattle.usb_explain.specs.declared.standing.Standing.{Standing}
+use Rattle.usb_explain.specs.declared.position.Standing.{Standing}
 use Rattle.usb_explained_lines.specs.declared.told.Told.{Told}
 use Rattle.usb_explain.specs.Kinds.{depth_of}
 use Rattle.usb_explain.specs.Laws.{Shown, counts_at, entry_of}
-use Rattle.usb_explain.specs.Opening.{entered}
-use Rattle.usb_explain.specs.Passing.{passed}
+use Rattle.usb_explain.specs.SetStart.{entered}
+use Rattle.usb_explain.specs.Steps.{passed}
 use Rattle.usb_explain.specs.Roles.{inner_role, next_role, role_of}
 use Rattle.usb_explain.specs.Subjects.{Subject}
 use Rattle.usb_explain.specs.Trees.{entry}

@@ -1,7 +1,7 @@
 -- Walks that come to the end of the bytes, and their text.
 use Rattle.std.proofs.Common.{◌≡◌, ◌≤◌, ℕ, zero, suc, List, [], ◌++◌, flat_map, length, map, drop, Some, sym, ap, subst, ◌∙◌, arith, append-nil, length-drop, Bool, true, false, cond, ◌∷◌, refl}
 use Rattle.usb_explain.specs.declared.role.Role.{Role}
-use Rattle.usb_explain.specs.declared.standing.Standing.{Standing}
+use Rattle.usb_explain.specs.declared.position.Standing.{Standing}
 use Rattle.usb_explain.specs.Explanations.{last_line, whole_end}
 use Rattle.usb_explain.specs.Laws.{Cut, EachFindingOnce, Follow, NothingLeft, Shown, TellsItsOwn, counts_at, entry_of, findings_of, lines_of, span_of}
 use Rattle.usb_explain.specs.Findings.{found_at, is_here}

@@ -2,8 +2,8 @@
 use Rattle.std.specs.Prelude.{◌≡◌, ◌≤◌, ℕ, List, ◌++◌, length, Option, Some, None}
 use Rattle.usb_listing.specs.Output.{Held}
 use Rattle.usb_listing.specs.inside.Pages.{Puts}
-use Rattle.usb_explain.specs.declared.standing.SettingStanding.{SettingStanding}
-use Rattle.usb_explain.specs.declared.standing.Standing.{Standing}
+use Rattle.usb_explain.specs.declared.position.SettingStanding.{SettingStanding}
+use Rattle.usb_explain.specs.declared.position.Standing.{Standing}
 use Rattle.usb_explain.specs.Standings.{start}
 use Rattle.usb_explain.specs.Subjects.{Subject}
 use Rattle.usb_explain.specs.Walks.{walked}

@@ -20,8 +20,8 @@ use Rattle.usb_file.specs.declared.fault.FileFault.{FileFault}
 use Rattle.usb_file_data.specs.File.{file_bytes, whole_set, has_no_layout, is_other_kind, is_long_string}
 use Rattle.usb_file_data.specs.Front.{AllSets, Splits}
 use Rattle.usb_file_data.specs.File.{File}
-use Rattle.usb_file.specs.declared.reading.Form.{Form}
-use Rattle.usb_file.specs.declared.reading.Form.TheVariants as forms
+use Rattle.usb_file.specs.declared.file_reader.Form.{Form}
+use Rattle.usb_file.specs.declared.file_reader.Form.TheVariants as forms
 use Rattle.usb_file.specs.Dumps.{Dump}
 use Rattle.usb_file.specs.FileFaults.{NoQualifierIsNext, SetFaulty, begins_qualifier, fixed_fault, string_fault}
 

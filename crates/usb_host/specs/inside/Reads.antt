@@ -11,13 +11,13 @@ use Rattle.usb_transfer.specs.Transfer.{TransferView, Hearing, Goes, Brings, Com
 use Rattle.usb_host.specs.declared.place.Place.{Place}
 use Rattle.usb_host.specs.declared.kept.Kept.{Kept}
 use Rattle.usb_host.specs.declared.kept.Kept.TheVariants as kept
-use Rattle.usb_host.specs.declared.reading.Ending.{Ending}
-use Rattle.usb_host.specs.declared.reading.Ending.TheVariants as endings
-use Rattle.usb_host.specs.declared.reading.Reading.{Reading as Work}
+use Rattle.usb_host.specs.declared.current_read.Ending.{Ending}
+use Rattle.usb_host.specs.declared.current_read.Ending.TheVariants as endings
+use Rattle.usb_host.specs.declared.current_read.Reading.{Reading as Work}
 use Rattle.usb_host.specs.Order.{stopped, refused_leads}
 use Rattle.usb_host.specs.Steps.{HostPhase, ResetDue, Reading, Ended, KeepsHeard, LacksMemory, completed_leads, enter}
 use Rattle.usb_host.specs.inside.Steady.{IsGood, FitsPlace, KeepsBytes}
-use Rattle.usb_host.specs.inside.Leading.{is_end, Leads}
+use Rattle.usb_host.specs.inside.NextPlace.{is_end, Leads}
 use Rattle.usb_host.specs.inside.Places.{place_of, kept_of}
 
 -- where the enumeration stands

@@ -5,10 +5,10 @@ use Rattle.std.specs.Option.{option_or}
 use Rattle.usb_base.specs.Marks.{is_marked, unmarked}
 use Rattle.usb_words.specs.Bindings.{binding, bound_at}
 use Rattle.usb_words.specs.Counts.{interfaces_beyond}
-use Rattle.usb_words.specs.Speaking.{speaks_high, speaks_low_or_full}
-use Rattle.usb_words.specs.declared.gathering.Gathering.{Gathering}
-use Rattle.usb_words.specs.declared.gathering.Numbers.{Numbers}
-use Rattle.usb_words.specs.declared.gathering.Binders.{Binders}
+use Rattle.usb_words.specs.SpeedEvidence.{speaks_high, speaks_low_or_full}
+use Rattle.usb_words.specs.declared.survey_builder.Gathering.{Gathering}
+use Rattle.usb_words.specs.declared.survey_builder.Numbers.{Numbers}
+use Rattle.usb_words.specs.declared.survey_builder.Binders.{Binders}
 
 -- how many distinct numbers there are with those of these descriptors
 abbrev pub counted : Numbers → List (List ℕ) → ℕ

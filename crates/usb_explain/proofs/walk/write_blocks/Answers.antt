@@ -1,8 +1,8 @@
 use Rattle.std.proofs.Common.{◌≡◌, ◌+◌, zero-add, ◌++◌, ◌∙◌, Some, ap, arith, length, subst, sym, append-nil, []}
 use Rattle.std.proofs.lemmas.List.{length-take-le}
 use Rattle.usb_listing.proofs.Pages.{appends_nothing, keeps_refl, on_err}
-use Rattle.usb_explain.specs.declared.standing.Standing.{Standing}
-use Rattle.usb_explain.specs.Passing.{with_told}
+use Rattle.usb_explain.specs.declared.position.Standing.{Standing}
+use Rattle.usb_explain.specs.Steps.{with_told}
 use Rattle.usb_explain.specs.Roles.{next_role}
 use Rattle.usb_explain.specs.Walks.{next_block, walked}
 use Rattle.usb_explain.specs.inside.Walking.{Counted}

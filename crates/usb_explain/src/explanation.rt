@@ -1,0 +1,176 @@
+//! Whole explanations.
+ghost use Rattle.std.specs.Prelude.{◌≡◌, ◌++◌, length, OnErr, OnOk};
+ghost use Rattle.std.specs.Io.KnownBytes.{Appends};
+ghost use Rattle.usb_listing.specs.Output.{AppendsLess};
+ghost use Rattle.usb_explain.specs.Explanations.{broken_end, broken_explanation, broken_name, broken_text, explanation, first_line, input_name, last_line, whole_end, whole_text};
+
+use crate::fault_line::{fault_place, put_fault};
+use crate::found::findings_in;
+use crate::manner::Manner;
+use crate::rest_lines::put_rest;
+use crate::subject::Subject;
+use crate::walk::write_blocks;
+use std::alloc::{AllocError, Global};
+use std::io::Write;
+use usb_base::descriptor_type;
+use usb_file::{Input, InputFault};
+use usb_listing::{OutFault, write_all};
+use usb_words::{Text, behind, byte_at, front, put_count};
+
+/// Writes the explanation of an input, of which these are the bytes.
+///
+/// ```rust
+/// let input = read_input(alloc, &bytes)?;
+/// explain(alloc, &bytes, &input, manner, &mut rt.stdout())?;
+/// ```
+///
+/// # Errors
+///
+/// `Write` where the writer failed, `Memory` when out of memory. A prefix of the explanation is written then, not all
+/// of it.
+pub fn explain<W: Write>(
+    alloc: Global,
+    bytes: &[u8],
+    input: &Input,
+    manner: Manner,
+    w: &mut W,
+) -> Result<(), OutFault>
+    ensures ok { OnOk result (Appends (W.contents w.old) (W.contents w.new) (explanation manner input.now bytes.now)) }
+    ensures err { OnErr result (AppendsLess (W.contents w.old) (W.contents w.new) (explanation manner input.now bytes.now)) }
+{
+    let findings = findings_in(alloc, input)?;
+    let subject = Subject::of(alloc, manner, input, &findings)?;
+    write_whole(alloc, bytes, &subject, input_name(input), findings.len(), w)
+}
+
+/// Writes the explanation of an input of this name, with so many findings.
+fn write_whole<W: Write>(
+    alloc: Global,
+    bytes: &[u8],
+    subject: &Subject,
+    name: &str,
+    findings: usize,
+    w: &mut W,
+) -> Result<(), OutFault>
+    ensures ok { OnOk result (Appends (W.contents w.old) (W.contents w.new) (whole_text subject.now name.now findings bytes.now)) }
+    ensures err { OnErr result (AppendsLess (W.contents w.old) (W.contents w.new) (whole_text subject.now name.now findings bytes.now)) }
+{
+    let mut text = Text::new(alloc);
+    put_first_line(&mut text, name, bytes)?;
+    let place = write_blocks(&mut text, subject, bytes, w)?;
+    put_whole_end(&mut text, subject, findings, bytes, place)?;
+    write_all(w, text.as_bytes())
+}
+
+fn put_whole_end(
+    text: &mut Text,
+    subject: &Subject,
+    findings: usize,
+    bytes: &[u8],
+    place: usize,
+) -> Result<(), AllocError>
+    ensures { OnOk result (text.new ≡ text.old ++ whole_end subject.now findings bytes.now place) }
+{
+    put_rest(text, subject, behind(bytes, place), place)?;
+    put_last_line(text, findings)
+}
+
+/// Writes the explanation of bytes that are no input, as far as they go, and their fault.
+///
+/// ```rust
+/// if let Err(fault) = read_input(alloc, &bytes) {
+///     explain_broken(alloc, &bytes, fault, manner, &mut rt.stdout())?;
+/// }
+/// ```
+///
+/// # Errors
+///
+/// `Write` where the writer failed, `Memory` when out of memory. A prefix of the explanation is written then, not all
+/// of it.
+pub fn explain_broken<W: Write>(
+    alloc: Global,
+    bytes: &[u8],
+    fault: InputFault,
+    manner: Manner,
+    w: &mut W,
+) -> Result<(), OutFault>
+    ensures ok { OnOk result (Appends (W.contents w.old) (W.contents w.new) (broken_explanation manner fault bytes.now)) }
+    ensures err { OnErr result (AppendsLess (W.contents w.old) (W.contents w.new) (broken_explanation manner fault bytes.now)) }
+{
+    let subject = Subject::broken(alloc, manner);
+    write_broken(alloc, bytes, &subject, fault, w)
+}
+
+/// Writes the explanation of bytes that are no input.
+fn write_broken<W: Write>(
+    alloc: Global,
+    bytes: &[u8],
+    subject: &Subject,
+    fault: InputFault,
+    w: &mut W,
+) -> Result<(), OutFault>
+    ensures ok { OnOk result (Appends (W.contents w.old) (W.contents w.new) (broken_text subject.now fault bytes.now)) }
+    ensures err { OnErr result (AppendsLess (W.contents w.old) (W.contents w.new) (broken_text subject.now fault bytes.now)) }
+{
+    let whole = front(bytes, fault_place(fault));
+    let mut text = Text::new(alloc);
+    put_first_line(&mut text, broken_name(bytes), bytes)?;
+    let place = write_blocks(&mut text, subject, whole, w)?;
+    put_broken_end(&mut text, subject, fault, bytes, place)?;
+    write_all(w, text.as_bytes())
+}
+
+fn put_broken_end(
+    text: &mut Text,
+    subject: &Subject,
+    fault: InputFault,
+    bytes: &[u8],
+    place: usize,
+) -> Result<(), AllocError>
+    ensures { OnOk result (text.new ≡ text.old ++ broken_end subject.now fault bytes.now place) }
+{
+    put_fault(text, fault)?;
+    put_rest(text, subject, behind(bytes, place), place)
+}
+
+#[tactic(auto, unfolding(crate::specs::Explanations::first_line))]
+fn put_first_line(text: &mut Text, name: &str, bytes: &[u8]) -> Result<(), AllocError>
+    ensures { OnOk result (text.new ≡ text.old ++ first_line name.now (length bytes.now)) }
+{
+    text.put(name)?;
+    text.put(", ")?;
+    put_count(text, bytes.len() as u64, "byte")?;
+    text.put("\n")
+}
+
+#[tactic(auto, unfolding(crate::specs::Explanations::last_line))]
+fn put_last_line(text: &mut Text, findings: usize) -> Result<(), AllocError>
+    ensures { OnOk result (text.new ≡ text.old ++ last_line findings) }
+{
+    if findings == 0 {
+        text.put("no findings\n")
+    } else {
+        put_count(text, findings as u64, "finding")?;
+        text.put("\n")
+    }
+}
+
+fn input_name(input: &Input) -> &'static str
+    ensures { result.now ≡ input_name input.now }
+{
+    match input {
+        Input::Set(_) => "set",
+        Input::File(_) => "file",
+        Input::Dump(_) => "device and its sets without strings",
+    }
+}
+
+/// What the bytes would have been.
+fn broken_name(bytes: &[u8]) -> &'static str
+    ensures { result.now ≡ broken_name bytes.now }
+{
+    match byte_at(bytes, 1) {
+        descriptor_type::CONFIGURATION | descriptor_type::OTHER_SPEED_CONFIGURATION => "broken set",
+        _ => "broken file",
+    }
+}

@@ -1,0 +1,12 @@
+use Rattle.std.proofs.Common.{◌≡◌, ap, ◌∙◌, length}
+use Rattle.usb_base.specs.Marks.{is_marked}
+use Rattle.usb_file_data.specs.inside.Marks.{marked_among}
+use Rattle.usb_file_data.specs.Named.{string_indices, named_indices}
+use Rattle.usb_file_data.proofs.Folds.{among_marks}
+use Rattle.usb_file_data.proofs.named_strings.count_named.Goals as goal
+
+pub returns-clause-count : goal.returns-clause-count
+returns-clause-count c =
+    let is : marked_among 1 255 (is_marked c.mark_file.result) ≡ named_indices c.args.f.now =
+    ap (marked_among 1 255) c.mark_file.ensures ∙ among_marks (string_indices c.args.f.now) in
+    c.count_marked.ensures.count ∙ ap length is

@@ -1,0 +1,151 @@
+//! Why a file has no bytes.
+ghost use Rattle.std.specs.Prelude.{◌≡◌, ◌||◌, ℕ, ◌≤◌, length};
+ghost use Rattle.std.specs.List.{list_any};
+ghost use Rattle.usb_set.specs.Descriptors.{type_number};
+ghost use Rattle.usb_file_data.specs.Named.{other_sets};
+ghost use Rattle.usb_file_data.specs.File.{has_no_layout, is_long_string, is_other_kind, is_other_miscounted, write_refusal, has_wrong_count, has_wrong_kind, has_wrong_layout, are_wrong_strings};
+
+use crate::fault::WriteFault;
+use crate::file::{DescriptorFile, Other, Strings};
+use crate::named_strings::count_named;
+use usb_fields::MOST_UNITS;
+use usb_set::{Configuration, Sequence, SetKind};
+use usb_set_encoder::refusal;
+
+/// The first reason other than memory for which the file has no bytes, if it has none. Allocates nothing.
+pub fn write_refusal(f: &DescriptorFile) -> Option<WriteFault>
+    ensures { result ≡ write_refusal f.now }
+{
+    if has_wrong_count(f) {
+        return Some(WriteFault::Count);
+    }
+    if has_wrong_kind(f) {
+        return Some(WriteFault::Kind);
+    }
+    if has_wrong_layout(f) {
+        return Some(WriteFault::Layout);
+    }
+    if are_wrong_strings(count_named(f), &f.strings) {
+        return Some(WriteFault::Texts);
+    }
+    None
+}
+
+/// Whether the sets are not as many as bNumConfigurations says, or not of the kind that belongs there. With the layouts
+/// of the sets and the strings that is all that [`write_refusal`] asks, so that a writer judges each set as it writes it.
+///
+/// ```rust
+/// file.device.configurations += 1;
+/// assert!(rt; has_undeclared_sets(&file));
+/// ```
+pub fn has_undeclared_sets(f: &DescriptorFile) -> bool
+    ensures { result ≡ (has_wrong_count f.now || has_wrong_kind f.now) }
+{
+    has_wrong_count(f) || has_wrong_kind(f)
+}
+
+fn has_wrong_count(f: &DescriptorFile) -> bool
+    ensures { result ≡ has_wrong_count f.now }
+{
+    f.sets.len() != usize::from(f.device.configurations) || is_other_miscounted(&f.other)
+}
+
+fn is_other_miscounted(other: &Option<Other>) -> bool
+    ensures { result ≡ is_other_miscounted other.now }
+{
+    match other {
+        None => false,
+        Some(other) => other.sets.len() != usize::from(other.qualifier.configurations),
+    }
+}
+
+fn has_wrong_kind(f: &DescriptorFile) -> bool
+    ensures { result ≡ has_wrong_kind f.now }
+{
+    any_other_kind(&f.sets, SetKind::Configuration)
+        || any_other_kind(sets_of(&f.other), SetKind::OtherSpeed)
+}
+
+/// The sets of the other speed.
+fn sets_of(other: &Option<Other>) -> &[Configuration]
+    ensures { result.now ≡ other_sets other.now }
+{
+    match other {
+        None => &[],
+        Some(other) => &other.sets,
+    }
+}
+
+fn any_other_kind(sets: &[Configuration], kind: SetKind) -> bool
+    ensures { result ≡ list_any (is_other_kind kind) sets.now }
+{
+    sets.iter().any(|c| is_other_kind(c, kind))
+}
+
+/// Whether the set is of the other kind than this one.
+///
+/// ```rust
+/// let (set, _) = read_set(alloc, &[9, 7, 9, 0, 0, 1, 0, 0x80, 0x32])?;
+/// assert!(rt; is_other_kind(&set, SetKind::Configuration));
+/// ```
+pub fn is_other_kind(c: &Configuration, kind: SetKind) -> bool
+    ensures { result ≡ is_other_kind kind c.now }
+{
+    c.kind.descriptor_type() != kind.descriptor_type()
+}
+
+fn has_wrong_layout(f: &DescriptorFile) -> bool
+    ensures { result ≡ has_wrong_layout f.now }
+{
+    any_without_layout(&f.sets) || any_without_layout(sets_of(&f.other))
+}
+
+fn any_without_layout(sets: &[Configuration]) -> bool
+    ensures { result ≡ list_any has_no_layout sets.now }
+{
+    sets.iter().any(|c| has_no_layout(c))
+}
+
+fn has_no_layout(c: &Configuration) -> bool
+    ensures { result ≡ has_no_layout c.now }
+{
+    refusal(c).is_some()
+}
+
+/// Whether the strings are not those of so many named indices, of which there can be 255: [`WriteFault::Texts`].
+///
+/// ```rust
+/// // A file that names no string has none.
+/// assert!(rt; !are_wrong_strings(0, &None));
+/// ```
+///
+/// # Requires
+///
+/// `count` is at most 255.
+pub fn are_wrong_strings(count: usize, strings: &Option<Strings>) -> bool
+    requires { count ≤ 255 }
+    ensures { result ≡ are_wrong_strings count strings.now }
+{
+    match strings {
+        None => count != 0,
+        Some(strings) => {
+            count == 0
+                || strings.languages.is_empty()
+                || is_long_string(&strings.languages)
+                || any_long_string(&strings.texts)
+                || strings.texts.len() != strings.languages.len() * count
+        }
+    }
+}
+
+fn any_long_string(strings: &[Sequence<u16>]) -> bool
+    ensures { result ≡ list_any is_long_string strings.now }
+{
+    strings.iter().any(|string| is_long_string(string))
+}
+
+fn is_long_string(string: &Sequence<u16>) -> bool
+    ensures { result ≡ is_long_string string.now }
+{
+    string.len() > MOST_UNITS
+}
