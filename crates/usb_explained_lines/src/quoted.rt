@@ -1,10 +1,11 @@
 //! Strings between quotes.
 ghost use Rattle.std.specs.Prelude.{◌≡◌, ◌++◌, OnOk};
 ghost use Rattle.std.specs.List.{flat_map};
-ghost use Rattle.usb_listing.specs.StringListing.{is_plain, written_unit};
+ghost use Rattle.usb_listing.specs.StringListing.{written_unit};
 ghost use Rattle.usb_explained_lines.specs.Names.{quoted};
 
 use std::alloc::AllocError;
+use usb_listing::is_plain;
 use usb_words::Text;
 
 /// Puts the units of a string between quotes.
@@ -36,12 +37,4 @@ pub(crate) fn put_unit(text: &mut Text, unit: u16) -> Result<(), AllocError>
     }
     text.put("\\")?;
     text.put_digits(&unit.to_be_bytes())
-}
-
-/// Whether a unit is written as the character that it is: a printable one of ASCII that is neither the
-/// quote, which ends a string, nor the backslash, which begins an escape.
-fn is_plain(unit: u16) -> bool
-    ensures { result ≡ is_plain unit }
-{
-    (0x20..=0x7e).contains(&unit) && unit != 0x22 && unit != 0x5c
 }

@@ -112,7 +112,7 @@ on_err (Err e) p = p
 pub front_more : (a b : Held) (page s t : List ℕ) → AppendsLess a b (page ++ s) → AppendsLess a b (page ++ (s ++ t))
 front_more a b page s t f = subst (AppendsLess a b) (append_assoc page s t) (front_longer a b (page ++ s) t f)
 
--- a whole text is a front of itself
+-- a whole text is a prefix of itself
 pub front_whole : (a b c : Held) (text : List ℕ) → Appends a b text → Keeps b c → AppendsFront a c text
 front_whole a b c text w k =
     record { front = text; rest = []; parts = sym (append-nil text); written = appends_kept a b c text w k }
@@ -125,7 +125,7 @@ not_begun a [] (x ∷ xs) some =
 not_begun a (y ∷ ys) (x ∷ xs) some =
     record { front = []; missing = y; rest = ys ++ x ∷ xs; parts = refl; written = appends_nothing a a (keeps_refl a) }
 
--- where not all of a text was written, a front of it was
+-- where not all of a text was written, a prefix of it was
 pub less_is_front : (a b : Held) (text : List ℕ) → AppendsLess a b text → AppendsFront a b text
 less_is_front a b text f = record { front = f.front; rest = f.missing ∷ f.rest; parts = f.parts; written = f.written }
 

@@ -1,21 +1,21 @@
--- A text on its way to a writer, of which a claim is made where the writer tells its bytes.
+-- A text on its way to a writer, of which a claim is made where the writer's bytes are known.
 use Rattle.std.specs.Prelude.{◌≡◌, ℕ, List, ◌∷◌, ◌++◌, Option}
 use Rattle.std.specs.Io.KnownBytes.{Appends}
 use Rattle.usb_listing.specs.declared.output.OutFault.{OutFault}
 use Rattle.usb_listing.specs.declared.output.OutFault.TheVariants as outs
 
--- the bytes that a writer holds, where it tells them
+-- the bytes that a writer holds, where they are known
 abbrev pub Held : Type 0
 Held = Option (List ℕ)
 
--- the writer gained a front of the text
+-- the writer gained a prefix of the text
 pub record AppendsFront (old new : Held) (text : List ℕ) : Type 0 where
   pub front : List ℕ
   pub rest : List ℕ
   pub parts : text ≡ front ++ rest
   pub written : Appends old new front
 
--- the writer gained a front of the text, and this byte of it and those after it are missing
+-- the writer gained a prefix of the text, and this byte of it and those after it are missing
 pub record AppendsLess (old new : Held) (text : List ℕ) : Type 0 where
   pub front : List ℕ
   pub missing : ℕ

@@ -11,7 +11,7 @@ use Rattle.usb_set.specs.declared.tree.Configuration.{Configuration}
 use Rattle.usb_set.specs.Descriptors.{configuration_descriptor, endpoint_descriptor, extra_descriptor, interface_descriptor, type_number}
 use Rattle.usb_listing.specs.Table.{Row, row_line, row_of, configuration_row, raw_row, descriptor_line}
 
--- the row of an extra: one that is kept as it stands is a `raw` line whatever its type, any other is of its type
+-- the row of an extra: a raw one is a `raw` line whatever its type, any other is of its type
 abbrev pub row_of_extra : Extra → Row
 row_of_extra (extras.Raw r) = raw_row
 row_of_extra x = row_of (extra_descriptor x).kind

@@ -11,15 +11,15 @@ use Rattle.usb_listing.specs.declared.extra_word.ExtraWord.{ExtraWord}
 use Rattle.usb_listing.specs.declared.extra_word.ExtraWord.TheVariants as words
 use Rattle.usb_listing.specs.Lines.{written_line}
 
--- A row: the word of the line; the bytes behind bLength that the line leaves out, bDescriptorType, and wTotalLength as
--- 0; the widths of the fields that it says; and whether there may be a tail behind them.
+-- A row: the word of the line; the bytes after bLength that the line leaves out, bDescriptorType, and wTotalLength as
+-- 0; the widths of the fields that it says; and whether there may be a tail after them.
 pub record Row : Type 0 where
   pub word : List ℕ
   pub front : List ℕ
   pub widths : List Width
   pub tail : Bool
 
--- the line of a row, for the bytes of a descriptor behind bLength
+-- the line of a row, for the bytes of a descriptor after bLength
 abbrev pub row_line : Row → List ℕ → List ℕ
 row_line row bytes = written_line row.word (cells row.widths row.tail (drop (length row.front) bytes))
 
@@ -44,7 +44,7 @@ endpoint_row = record { word = codes "endpoint"; front = 5 ∷ []; widths = widt
 abbrev pub association_row : Row
 association_row = record { word = codes "association"; front = 11 ∷ []; widths = widths association_fields; tail = true }
 
--- a descriptor that is kept as it stands: bDescriptorType is a field of its line
+-- a descriptor that is kept as it is: bDescriptorType is a field of its line
 abbrev pub raw_row : Row
 raw_row = record { word = codes "raw"; front = []; widths = One ∷ []; tail = true }
 

@@ -15,8 +15,10 @@ mod output;
 mod page;
 mod set_listing;
 mod string_listing;
+mod unit;
 
 pub use extra_word::{EXTRA_WORDS, ExtraWord, RAW_WIDTHS};
 pub use listing::list;
 pub use output::{OutFault, write_all};
 pub use set_listing::list_set;
+pub use unit::is_plain;

@@ -4,12 +4,13 @@ ghost use Rattle.hex.specs.Hex.{encode_lower};
 ghost use Rattle.std.specs.List.{flat_map};
 ghost use Rattle.usb_base.specs.Widths.{cells};
 ghost use Rattle.usb_listing.specs.Lines.{two_bytes, written_field, written_line};
-ghost use Rattle.usb_listing.specs.StringListing.{is_plain, written_unit};
+ghost use Rattle.usb_listing.specs.StringListing.{written_unit};
 ghost use Rattle.std.specs.Io.KnownBytes.{Appends};
 ghost use Rattle.usb_listing.specs.Output.{AppendsLess};
 ghost use Rattle.usb_listing.specs.inside.Pages.{Puts};
 
 use crate::output::{OutFault, write_all};
+use crate::unit::is_plain;
 use std::alloc::{AllocError, Global};
 use std::io::Write;
 use std::marker::Model;
@@ -213,12 +214,4 @@ fn with_digits(len: usize, bytes: usize) -> Option<usize>
     ensures { IfSome result (λ end. end ≡ len + 2 * bytes) }
 {
     bytes.checked_mul(2)?.checked_add(len)
-}
-
-/// Whether a unit is written as the character that it is: a printable one of ASCII that is neither the
-/// quote, which ends a string, nor the backslash, which begins an escape.
-fn is_plain(unit: u16) -> bool
-    ensures { result ≡ is_plain unit }
-{
-    (0x20..=0x7e).contains(&unit) && unit != 0x22 && unit != 0x5c
 }

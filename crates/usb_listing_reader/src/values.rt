@@ -1,11 +1,11 @@
 //! The units of a string and the language codes of a line, read.
 ghost use Rattle.std.specs.Prelude.{◌≡◌, ◌≤◌, IfOk, MatchOption, None, Some, []};
-ghost use Rattle.usb_listing.specs.StringListing.{is_plain};
 ghost use Rattle.usb_listing_reader.specs.inside.Units.{number_first, unit_first, value_first, values_from};
 
 use crate::digits::pair;
 use crate::fields::skip_space;
 use std::alloc::{AllocError, Global};
+use usb_listing::is_plain;
 use usb_set::Sequence;
 
 /// The most units of a string, and the most languages of a language list (USB 2.0, 9.6.7).
@@ -33,13 +33,6 @@ fn take_number(text: &[u8]) -> Option<(u16, &[u8])>
         }
         _ => None,
     }
-}
-
-/// Whether a unit is written as the character that it is.
-fn is_plain(unit: u16) -> bool
-    ensures { result ≡ is_plain unit }
-{
-    (0x20..=0x7e).contains(&unit) && unit != 0x22 && unit != 0x5c
 }
 
 /// The unit that comes first, and what is after it.

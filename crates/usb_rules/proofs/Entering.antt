@@ -10,7 +10,7 @@ use Rattle.std.proofs.lemmas.Grind.{get_or-set_at}
 use lib.ListN.{get_or-eq_default}
 use Rattle.usb_base.specs.Marks.{is_marked, marked, unmarked}
 use Rattle.usb_base.proofs.Cells.{funext}
-use Rattle.usb_rules.specs.inside.Interfaces.{AreFound, Entered, Table, settled, begun, entries, first_of, kept, pair_too, paired, place_of}
+use Rattle.usb_rules.specs.inside.Interfaces.{AreFound, Entered, Table, with_interface, begun, entries, first_of, kept, pair_too, with_alternate, place_of}
 use Rattle.usb_rules.specs.Places.{when}
 use Rattle.usb_rules.specs.declared.interfaces.Interface.{Interface}
 
@@ -18,7 +18,7 @@ use Rattle.usb_rules.specs.declared.interfaces.Interface.{Interface}
 abbrev pub IsFound : List ℕ → List ℕ → (ℕ → Bool) → Type 0
 IsFound numbers places stands = (n : ℕ) → stands n ≡ true → get_or numbers (place_of places n) (n + 1) ≡ n
 
--- a place at which a number stands is within
+-- a place at which a number is lies within
 pub within : (numbers : List ℕ) (place n : ℕ) → get_or numbers place (n + 1) ≡ n → place < length numbers
 within numbers place n is =
     elim (cases_lt place (length numbers)) [
@@ -26,7 +26,7 @@ within numbers place n is =
       | inr above ↦ let none = get_or-eq_default numbers (n + 1) above in absurd (omega (arith, is, none))
     ]
 
--- two numbers stand at two places
+-- two numbers are at two places
 apart : (numbers : List ℕ) (p q n m : ℕ) → get_or numbers p (n + 1) ≡ n → get_or numbers q (m + 1) ≡ m → q ≡ p → m ≡ n
 apart numbers p q n m is other same =
     let here = get_or_default numbers p (m + 1) (n + 1) (within numbers p n is) in
@@ -137,7 +137,7 @@ pub rows_kept : (numbers : List ℕ) (rows : List (List ℕ)) (places : List ℕ
 rows_kept numbers rows places stands n row long found new none small =
     funext _ _ (λ m. funext _ _ (λ b. row_kept numbers rows places stands n row long found new none small m b))
 
--- ---- a number that stands already
+-- ---- a number that is there already
 
 marked_again : (stands : ℕ → Bool) (n k : ℕ) → stands n ≡ true → marked stands n k ≡ stands k
 marked_again stands n k there =
@@ -159,7 +159,7 @@ pub row_of : (list : List Interface) (place : ℕ) (i : Interface) → place < l
     → get_or (map (λ x. x.alternates) list) place [] ≡ i.alternates
 row_of list place i small is = get_or-map (λ x. x.alternates) list place i [] small ∙ ap (λ x. x.alternates) (sym is)
 
--- the interface of a number that stands is within the list
+-- the interface of a number that is there lies within the list
 pub within_list : (t : Table) (n : ℕ) → AreFound t → is_marked t.marks n ≡ true → place_of t.places n < length t.list
 within_list t n sound there = omega (arith, within (map (λ i. i.number) t.list) (place_of t.places n) n (sound.found n there), length-map t.list (λ i. i.number))
 
@@ -179,7 +179,7 @@ found_paired t place a i old sound is more =
 
 pub kept_paired : (t : Table) (n a place : ℕ) (i old : Interface) → AreFound t → is_marked t.marks n ≡ true → place ≡ place_of t.places n
     → old ≡ get_or t.list place old → IsRowMore i old a
-    → kept (record { list = slice_set t.list place i; places = t.places; marks = t.marks }) ≡ paired n a (kept t)
+    → kept (record { list = slice_set t.list place i; places = t.places; marks = t.marks }) ≡ with_alternate n a (kept t)
 unfolding kept
 kept_paired t n a place i old sound there at is more =
     let stands = is_marked t.marks in
@@ -245,12 +245,12 @@ kept_begun t n setting i marks sound small new more none =
 
 -- ---- a setting that is entered
 
-pub begun_is : (e : Entered) (n setting : ℕ) → e.numbers n ≡ false → begun n setting e ≡ settled n setting e
+pub begun_is : (e : Entered) (n setting : ℕ) → e.numbers n ≡ false → begun n setting e ≡ with_interface n setting e
 begun_is e n setting none =
     ap (λ there. record { numbers = marked e.numbers n; alternates = e.alternates; firsts = e.firsts ++ when (not there) (n, setting) }) (sym none)
 
-pub settled_is : (e : Entered) (n setting : ℕ) → e.numbers n ≡ true → e ≡ settled n setting e
-settled_is e n setting there =
+pub with_interface_is : (e : Entered) (n setting : ℕ) → e.numbers n ≡ true → e ≡ with_interface n setting e
+with_interface_is e n setting there =
     ap (λ f. record { numbers = f; alternates = e.alternates; firsts = e.firsts }) (sym (stands_again e.numbers n there))
     ∙ ap (λ xs. record { numbers = marked e.numbers n; alternates = e.alternates; firsts = xs }) (sym (append-nil e.firsts))
     ∙ ap (λ b. record { numbers = marked e.numbers n; alternates = e.alternates; firsts = e.firsts ++ when (not b) (n, setting) }) (sym there)

@@ -23,7 +23,7 @@ is_other_alone true (owners.One k) n m h = grind (arith, nat_tests)
 is_other_alone true owners.Several n m h = grind arith
 is_other_alone false old n m h = grind (arith, nat_tests)
 
--- whether another number has an address, by whether the address stands
+-- whether another number has an address, by whether the address is there
 abbrev pub by_cells : (ℕ → Bool) → List Owner → ℕ → ℕ → Bool
 by_cells stands cells b m = stands b && is_other (slice_index_or cells b (owners.One 0)) m
 

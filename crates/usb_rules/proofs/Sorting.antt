@@ -247,7 +247,7 @@ parts_have : {A : Type 0} (extras : A → List Extra) (xs : List A) → flat_map
 parts_have extras [] = refl
 parts_have extras (x ∷ xs) = ap (λ l. flat_map association_in (extras x) ++ l) (parts_have extras xs) ∙ sym (flat_map-append association_in (extras x) (flat_map extras xs))
 
--- behind extras come those of the parts
+-- after extras come those of the parts
 binds_on : {A : Type 0} (part : Part) (i : ℕ) (settings : List Setting) (n : ℕ) (first : List Extra) (extras : A → List Extra) (xs : List A)
     → at_each (binds part i settings) n (flat_map association_in first) ++ at_each (binds part i settings) (n + association_count first) (flat_map (λ x. flat_map association_in (extras x)) xs)
     ≡ at_each (binds part i settings) n (flat_map association_in (first ++ flat_map extras xs))
@@ -445,11 +445,11 @@ as_many (x ∷ found) = one_more x.rule x.part x.set x.setting x.endpoint found 
 
 -- ---- in order already
 
--- no finding is of a rule behind this number
+-- no finding is of a rule after this number
 abbrev pub EndsAt : ℕ → List Finding → Type 0
 EndsAt n found = (m : ℕ) → n < m → stands_in (map (λ f. rule_number f.rule) found) m ≡ false
 
--- the findings of these rules, behind others
+-- the findings of these rules, after others
 abbrev of_rules : List Finding → List Finding → List Rule → List Finding
 of_rules found = fold (λ out r. out ++ of_rule r found)
 
@@ -482,11 +482,11 @@ same_earlier found out x (r ∷ rs) h =
     ap (λ xs. of_rules (found ++ x ∷ []) (out ++ xs) rs) (filter-append _ found (x ∷ []) ∙ not_its (rule_number x.rule == rule_number r) (of_rule r found) x here)
     ∙ same_earlier found (out ++ of_rule r found) x rs rest
 
--- one finding behind, of a rule between these
-one_behind : (before after : List Rule) (r : Rule) (x : Finding) (found : List Finding) → (rule_number x.rule == rule_number r) ≡ true → earlier (rule_number x.rule) before ≡ true → later (rule_number x.rule) after ≡ true
+-- one finding after, of a rule between these
+one_after : (before after : List Rule) (r : Rule) (x : Finding) (found : List Finding) → (rule_number x.rule == rule_number r) ≡ true → earlier (rule_number x.rule) before ≡ true → later (rule_number x.rule) after ≡ true
     → EndsAt (rule_number x.rule) found → EndsAt (rule_number x.rule) (found ++ x ∷ [])
     → of_rules (found ++ x ∷ []) (of_rules (found ++ x ∷ []) [] before ++ of_rule r (found ++ x ∷ [])) after ≡ of_rules found (of_rules found [] before ++ of_rule r found) after ++ x ∷ []
-one_behind before after r x found is e l old new =
+one_after before after r x found is e l old new =
     let front = of_rules found [] before in
     none_later (rule_number x.rule) (found ++ x ∷ []) _ after new l
     ∙ ap (λ xs. xs ++ of_rule r (found ++ x ∷ [])) (same_earlier found [] x before e)
@@ -495,26 +495,26 @@ one_behind before after r x found is e l old new =
     ∙ sym (append_assoc front (of_rule r found) (x ∷ []))
     ∙ ap (λ xs. xs ++ x ∷ []) (sym (none_later (rule_number x.rule) found (front ++ of_rule r found) after old l))
 
-rule_behind : (r : Rule) (part : Part) (i j k : ℕ) (found : List Finding) → EndsAt (rule_number r) found → EndsAt (rule_number r) (found ++ finding r part i j k ∷ [])
+rule_after : (r : Rule) (part : Part) (i j k : ℕ) (found : List Finding) → EndsAt (rule_number r) found → EndsAt (rule_number r) (found ++ finding r part i j k ∷ [])
     → by_rule (found ++ finding r part i j k ∷ []) ≡ by_rule found ++ finding r part i j k ∷ []
 unfolding earlier later
-rule_behind rules.V1 part i j k found = one_behind [] (rules.V2 ∷ rules.V3 ∷ rules.V4 ∷ rules.V5 ∷ rules.V6 ∷ rules.V7 ∷ rules.V8 ∷ rules.V9 ∷ rules.V10 ∷ rules.V11 ∷ rules.V12 ∷ rules.V13 ∷ []) rules.V1 (finding rules.V1 part i j k) found refl refl refl
-rule_behind rules.V2 part i j k found = one_behind (rules.V1 ∷ []) (rules.V3 ∷ rules.V4 ∷ rules.V5 ∷ rules.V6 ∷ rules.V7 ∷ rules.V8 ∷ rules.V9 ∷ rules.V10 ∷ rules.V11 ∷ rules.V12 ∷ rules.V13 ∷ []) rules.V2 (finding rules.V2 part i j k) found refl refl refl
-rule_behind rules.V3 part i j k found = one_behind (rules.V1 ∷ rules.V2 ∷ []) (rules.V4 ∷ rules.V5 ∷ rules.V6 ∷ rules.V7 ∷ rules.V8 ∷ rules.V9 ∷ rules.V10 ∷ rules.V11 ∷ rules.V12 ∷ rules.V13 ∷ []) rules.V3 (finding rules.V3 part i j k) found refl refl refl
-rule_behind rules.V4 part i j k found = one_behind (rules.V1 ∷ rules.V2 ∷ rules.V3 ∷ []) (rules.V5 ∷ rules.V6 ∷ rules.V7 ∷ rules.V8 ∷ rules.V9 ∷ rules.V10 ∷ rules.V11 ∷ rules.V12 ∷ rules.V13 ∷ []) rules.V4 (finding rules.V4 part i j k) found refl refl refl
-rule_behind rules.V5 part i j k found = one_behind (rules.V1 ∷ rules.V2 ∷ rules.V3 ∷ rules.V4 ∷ []) (rules.V6 ∷ rules.V7 ∷ rules.V8 ∷ rules.V9 ∷ rules.V10 ∷ rules.V11 ∷ rules.V12 ∷ rules.V13 ∷ []) rules.V5 (finding rules.V5 part i j k) found refl refl refl
-rule_behind rules.V6 part i j k found = one_behind (rules.V1 ∷ rules.V2 ∷ rules.V3 ∷ rules.V4 ∷ rules.V5 ∷ []) (rules.V7 ∷ rules.V8 ∷ rules.V9 ∷ rules.V10 ∷ rules.V11 ∷ rules.V12 ∷ rules.V13 ∷ []) rules.V6 (finding rules.V6 part i j k) found refl refl refl
-rule_behind rules.V7 part i j k found = one_behind (rules.V1 ∷ rules.V2 ∷ rules.V3 ∷ rules.V4 ∷ rules.V5 ∷ rules.V6 ∷ []) (rules.V8 ∷ rules.V9 ∷ rules.V10 ∷ rules.V11 ∷ rules.V12 ∷ rules.V13 ∷ []) rules.V7 (finding rules.V7 part i j k) found refl refl refl
-rule_behind rules.V8 part i j k found = one_behind (rules.V1 ∷ rules.V2 ∷ rules.V3 ∷ rules.V4 ∷ rules.V5 ∷ rules.V6 ∷ rules.V7 ∷ []) (rules.V9 ∷ rules.V10 ∷ rules.V11 ∷ rules.V12 ∷ rules.V13 ∷ []) rules.V8 (finding rules.V8 part i j k) found refl refl refl
-rule_behind rules.V9 part i j k found = one_behind (rules.V1 ∷ rules.V2 ∷ rules.V3 ∷ rules.V4 ∷ rules.V5 ∷ rules.V6 ∷ rules.V7 ∷ rules.V8 ∷ []) (rules.V10 ∷ rules.V11 ∷ rules.V12 ∷ rules.V13 ∷ []) rules.V9 (finding rules.V9 part i j k) found refl refl refl
-rule_behind rules.V10 part i j k found = one_behind (rules.V1 ∷ rules.V2 ∷ rules.V3 ∷ rules.V4 ∷ rules.V5 ∷ rules.V6 ∷ rules.V7 ∷ rules.V8 ∷ rules.V9 ∷ []) (rules.V11 ∷ rules.V12 ∷ rules.V13 ∷ []) rules.V10 (finding rules.V10 part i j k) found refl refl refl
-rule_behind rules.V11 part i j k found = one_behind (rules.V1 ∷ rules.V2 ∷ rules.V3 ∷ rules.V4 ∷ rules.V5 ∷ rules.V6 ∷ rules.V7 ∷ rules.V8 ∷ rules.V9 ∷ rules.V10 ∷ []) (rules.V12 ∷ rules.V13 ∷ []) rules.V11 (finding rules.V11 part i j k) found refl refl refl
-rule_behind rules.V12 part i j k found = one_behind (rules.V1 ∷ rules.V2 ∷ rules.V3 ∷ rules.V4 ∷ rules.V5 ∷ rules.V6 ∷ rules.V7 ∷ rules.V8 ∷ rules.V9 ∷ rules.V10 ∷ rules.V11 ∷ []) (rules.V13 ∷ []) rules.V12 (finding rules.V12 part i j k) found refl refl refl
-rule_behind rules.V13 part i j k found = one_behind (rules.V1 ∷ rules.V2 ∷ rules.V3 ∷ rules.V4 ∷ rules.V5 ∷ rules.V6 ∷ rules.V7 ∷ rules.V8 ∷ rules.V9 ∷ rules.V10 ∷ rules.V11 ∷ rules.V12 ∷ []) [] rules.V13 (finding rules.V13 part i j k) found refl refl refl
+rule_after rules.V1 part i j k found = one_after [] (rules.V2 ∷ rules.V3 ∷ rules.V4 ∷ rules.V5 ∷ rules.V6 ∷ rules.V7 ∷ rules.V8 ∷ rules.V9 ∷ rules.V10 ∷ rules.V11 ∷ rules.V12 ∷ rules.V13 ∷ []) rules.V1 (finding rules.V1 part i j k) found refl refl refl
+rule_after rules.V2 part i j k found = one_after (rules.V1 ∷ []) (rules.V3 ∷ rules.V4 ∷ rules.V5 ∷ rules.V6 ∷ rules.V7 ∷ rules.V8 ∷ rules.V9 ∷ rules.V10 ∷ rules.V11 ∷ rules.V12 ∷ rules.V13 ∷ []) rules.V2 (finding rules.V2 part i j k) found refl refl refl
+rule_after rules.V3 part i j k found = one_after (rules.V1 ∷ rules.V2 ∷ []) (rules.V4 ∷ rules.V5 ∷ rules.V6 ∷ rules.V7 ∷ rules.V8 ∷ rules.V9 ∷ rules.V10 ∷ rules.V11 ∷ rules.V12 ∷ rules.V13 ∷ []) rules.V3 (finding rules.V3 part i j k) found refl refl refl
+rule_after rules.V4 part i j k found = one_after (rules.V1 ∷ rules.V2 ∷ rules.V3 ∷ []) (rules.V5 ∷ rules.V6 ∷ rules.V7 ∷ rules.V8 ∷ rules.V9 ∷ rules.V10 ∷ rules.V11 ∷ rules.V12 ∷ rules.V13 ∷ []) rules.V4 (finding rules.V4 part i j k) found refl refl refl
+rule_after rules.V5 part i j k found = one_after (rules.V1 ∷ rules.V2 ∷ rules.V3 ∷ rules.V4 ∷ []) (rules.V6 ∷ rules.V7 ∷ rules.V8 ∷ rules.V9 ∷ rules.V10 ∷ rules.V11 ∷ rules.V12 ∷ rules.V13 ∷ []) rules.V5 (finding rules.V5 part i j k) found refl refl refl
+rule_after rules.V6 part i j k found = one_after (rules.V1 ∷ rules.V2 ∷ rules.V3 ∷ rules.V4 ∷ rules.V5 ∷ []) (rules.V7 ∷ rules.V8 ∷ rules.V9 ∷ rules.V10 ∷ rules.V11 ∷ rules.V12 ∷ rules.V13 ∷ []) rules.V6 (finding rules.V6 part i j k) found refl refl refl
+rule_after rules.V7 part i j k found = one_after (rules.V1 ∷ rules.V2 ∷ rules.V3 ∷ rules.V4 ∷ rules.V5 ∷ rules.V6 ∷ []) (rules.V8 ∷ rules.V9 ∷ rules.V10 ∷ rules.V11 ∷ rules.V12 ∷ rules.V13 ∷ []) rules.V7 (finding rules.V7 part i j k) found refl refl refl
+rule_after rules.V8 part i j k found = one_after (rules.V1 ∷ rules.V2 ∷ rules.V3 ∷ rules.V4 ∷ rules.V5 ∷ rules.V6 ∷ rules.V7 ∷ []) (rules.V9 ∷ rules.V10 ∷ rules.V11 ∷ rules.V12 ∷ rules.V13 ∷ []) rules.V8 (finding rules.V8 part i j k) found refl refl refl
+rule_after rules.V9 part i j k found = one_after (rules.V1 ∷ rules.V2 ∷ rules.V3 ∷ rules.V4 ∷ rules.V5 ∷ rules.V6 ∷ rules.V7 ∷ rules.V8 ∷ []) (rules.V10 ∷ rules.V11 ∷ rules.V12 ∷ rules.V13 ∷ []) rules.V9 (finding rules.V9 part i j k) found refl refl refl
+rule_after rules.V10 part i j k found = one_after (rules.V1 ∷ rules.V2 ∷ rules.V3 ∷ rules.V4 ∷ rules.V5 ∷ rules.V6 ∷ rules.V7 ∷ rules.V8 ∷ rules.V9 ∷ []) (rules.V11 ∷ rules.V12 ∷ rules.V13 ∷ []) rules.V10 (finding rules.V10 part i j k) found refl refl refl
+rule_after rules.V11 part i j k found = one_after (rules.V1 ∷ rules.V2 ∷ rules.V3 ∷ rules.V4 ∷ rules.V5 ∷ rules.V6 ∷ rules.V7 ∷ rules.V8 ∷ rules.V9 ∷ rules.V10 ∷ []) (rules.V12 ∷ rules.V13 ∷ []) rules.V11 (finding rules.V11 part i j k) found refl refl refl
+rule_after rules.V12 part i j k found = one_after (rules.V1 ∷ rules.V2 ∷ rules.V3 ∷ rules.V4 ∷ rules.V5 ∷ rules.V6 ∷ rules.V7 ∷ rules.V8 ∷ rules.V9 ∷ rules.V10 ∷ rules.V11 ∷ []) (rules.V13 ∷ []) rules.V12 (finding rules.V12 part i j k) found refl refl refl
+rule_after rules.V13 part i j k found = one_after (rules.V1 ∷ rules.V2 ∷ rules.V3 ∷ rules.V4 ∷ rules.V5 ∷ rules.V6 ∷ rules.V7 ∷ rules.V8 ∷ rules.V9 ∷ rules.V10 ∷ rules.V11 ∷ rules.V12 ∷ []) [] rules.V13 (finding rules.V13 part i j k) found refl refl refl
 
-above : (stood : ℕ → Bool) (n m : ℕ) → n < m → stood m ≡ false → marked stood n m ≡ false
+above : (marks : ℕ → Bool) (n m : ℕ) → n < m → marks m ≡ false → marked marks n m ≡ false
 unfolding marked
-above stood n m h none = grind (arith, nat_tests)
+above marks n m h none = grind (arith, nat_tests)
 
 -- one finding more, of no earlier rule: k is its number
 pub ends_next : (xs : List Finding) (i n k : ℕ) (x : Finding) → i < length xs → k ≡ rule_number (get_or xs i x).rule → n ≤ k → EndsAt n (take i xs) → EndsAt k (take (i + 1) xs)
@@ -530,6 +530,6 @@ in_order_next xs i n k x below is up ends same =
     let more = take_more xs i f below (get_or_default xs i _ _ below) in
     let new = ends_next xs i n k x below is up ends in
     ap by_rule more
-    ∙ rule_behind f.rule f.part f.set f.setting f.endpoint (take i xs) (λ m h. ends m (omega (arith, up, is, h)))
+    ∙ rule_after f.rule f.part f.set f.setting f.endpoint (take i xs) (λ m h. ends m (omega (arith, up, is, h)))
     (λ m h. ap (λ ys. stands_in (map (λ g. rule_number g.rule) ys) m) (sym more) ∙ new m (omega (arith, is, h)))
     ∙ ap (λ ys. ys ++ f ∷ []) same ∙ sym more

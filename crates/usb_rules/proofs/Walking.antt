@@ -1,30 +1,27 @@
--- Going over lists, and what stands before a place.
+-- Going over lists, and what is before a place.
 use Rattle.std.proofs.Common.{◌≡◌, ℕ, zero, suc, inl, inr, ◌+◌, ◌<◌, ◌≤◌, ◌==◌, ◌&&◌, ◌||◌, not, nat_lt, Bool, true, false, List, [], ◌∷◌, ◌++◌, refl, ap, sym, ◌∙◌, length, map, get_or, take, drop, arith, append_assoc, length-append}
-use Rattle.std.specs.Prelude.{filter}
 use Rattle.std.specs.List.{flat_map, list_any, range_with_len}
 use Rattle.std.proofs.lemmas.Bool.{cases_lt}
 use Rattle.std.proofs.lemmas.Bool.Decides.{nat_tests}
-use Rattle.std.proofs.lemmas.List.{append-nil, get_or-map, get_or_default, length-map, map-append}
+use Rattle.std.proofs.lemmas.List.{get_or-map, get_or_default, length-map, map-append}
 use Rattle.std.proofs.lemmas.List.Folds.{list_any_at}
-use Rattle.std.proofs.lemmas.List.Elements.{filter-append}
 use Rattle.std.proofs.lemmas.Grind.{common_steps, flat_map-append}
 use Rattle.usb_base.specs.Marks.{IsNextAbsent, marked}
 use Rattle.usb_base.proofs.Cells.{funext}
 use Rattle.usb_set.specs.declared.extra.Association.{Association}
 use Rattle.usb_set.specs.declared.tree.Endpoint.{Endpoint}
 use Rattle.usb_set.specs.declared.tree.Setting.{Setting}
-use Rattle.usb_rules.specs.declared.finding.Finding.{Finding}
 use Rattle.usb_rules.specs.declared.rule.Rule.TheVariants as rules
-use Rattle.usb_rules.specs.Places.{at_each, at_each_counted, finding, stands_in, when}
+use Rattle.usb_rules.specs.Places.{at_each, at_each_counted, stands_in, when}
 use Rattle.usb_rules.specs.InOrder.{association_count, endpoint_associations, setting_associations}
 use Rattle.usb_set.specs.declared.extra.Extra.{Extra}
 use Rattle.usb_set.specs.Parts.{association_in}
 use Rattle.usb_rules.specs.declared.place.Place.{Place}
 use Rattle.usb_rules.specs.Rules.{address_of, has_elsewhere, is_first, interface_numbers, number_of, wrong_endpoint_count}
 use Rattle.usb_rules.specs.inside.Addresses.{owned, owned_at}
-use Rattle.usb_rules.specs.inside.Interfaces.{KeepV3AndV4, AreEntered, AreNew, Entered, first_at, first_of, misses_some, pair_too, seen, stood}
+use Rattle.usb_rules.specs.inside.Interfaces.{NoneBreaksV3OrV4, AreEntered, AreNew, Entered, first_at, first_of, misses_some, pair_too, compared_with, has_alternate}
 use Rattle.usb_rules.specs.declared.interfaces.Interface.{Interface}
-use Rattle.usb_rules.specs.inside.Walk.{broken, in_extras, in_interface, shared_with}
+use Rattle.usb_rules.specs.inside.Walk.{broken, in_interface, shared_with}
 
 pub append_again : {A : Type 0} (out xs ys : List A) → (out ++ xs) ++ ys ≡ out ++ (xs ++ ys)
 append_again out xs ys = append_assoc out xs ys
@@ -45,13 +42,6 @@ at_each_next f xs i x old new whole below is whole_is new_is =
     let joined = append_assoc old (f i x) (at_each f (i + 1) (drop (i + 1) xs)) in
     cc
 
--- a loop's end
-pub at_each_end : {A B : Type 0} (f : ℕ → A → List B) (xs : List A) (i : ℕ) (out whole : List B) → length xs ≤ i → out ++ at_each f i (drop i xs) ≡ whole → out ≡ whole
-at_each_end f xs i out whole h e =
-    let rest : drop i xs ≡ [] = grind (arith, common_steps) in
-    let same = append-nil out in
-    cc
-
 -- the same with a count
 pub counted_next : {A B : Type 0} (size : A → ℕ) (f : ℕ → ℕ → A → List B) (xs : List A) (i n m : ℕ) (x : A) (old new whole : List B)
     → i < length xs → x ≡ get_or xs i x → old ++ at_each_counted size f i n (drop i xs) ≡ whole → new ≡ old ++ f i n x → m ≡ n + size x
@@ -64,12 +54,6 @@ counted_next size f xs i n m x old new whole below is whole_is new_is m_is =
     ∙ ap (λ l. l ++ at_each_counted size f (i + 1) (n + size x) (drop (i + 1) xs)) new_is
     ∙ joined ∙ ap (λ l. old ++ l) (sym step) ∙ whole_is
 
-pub counted_end : {A B : Type 0} (size : A → ℕ) (f : ℕ → ℕ → A → List B) (xs : List A) (i n : ℕ) (out whole : List B) → length xs ≤ i
-    → out ++ at_each_counted size f i n (drop i xs) ≡ whole → out ≡ whole
-counted_end size f xs i n out whole h e =
-    let rest : drop i xs ≡ [] = grind (arith, common_steps) in
-    sym (append-nil out) ∙ ap (λ l. out ++ at_each_counted size f i n l) (sym rest) ∙ e
-
 -- of two lists one after the other
 pub each_append : {A B : Type 0} (f : ℕ → A → List B) (n : ℕ) (xs ys : List A) → at_each f n (xs ++ ys) ≡ at_each f n xs ++ at_each f (n + length xs) ys
 each_append f n [] ys = ap (λ k. at_each f k ys) (let e : n ≡ n + 0 = omega arith in e)
@@ -77,25 +61,6 @@ each_append f n (x ∷ xs) ys =
     ap (λ l. f n x ++ l) (each_append f (n + 1) xs ys)
     ∙ ap (λ k. f n x ++ (at_each f (n + 1) xs ++ at_each f k ys)) (let e : n + 1 + length xs ≡ n + suc (length xs) = omega arith in e)
     ∙ sym (append_assoc (f n x) (at_each f (n + 1) xs) (at_each f (n + suc (length xs)) ys))
-
--- V13 at an extra, and at those behind it
-pub extras_next : (at : Place) (stands : ℕ → Bool) (xs : List Extra) (i n m : ℕ) (x : Extra) (old new whole : List Finding)
-    → i < length xs → x ≡ get_or xs i x → old ++ in_extras at stands n (drop i xs) ≡ whole → new ≡ old ++ in_extras at stands n (x ∷ [])
-    → m ≡ n + length (association_in x) → new ++ in_extras at stands m (drop (i + 1) xs) ≡ whole
-extras_next at stands xs i n m x old new whole below is whole_is new_is m_is =
-    let here : drop i xs ≡ x ∷ drop (i + 1) xs = grind (arith, common_steps) in
-    let told : ℕ → Association → List Finding = λ k a. when (misses_some stands a) (finding rules.V13 at.part at.set k 0) in
-    let rest = flat_map association_in (drop (i + 1) xs) in
-    let step : in_extras at stands n (drop i xs) ≡ at_each told n (association_in x) ++ at_each told m rest =
-    ap (in_extras at stands n) here ∙ each_append told n (association_in x) rest ∙ ap (λ k. at_each told n (association_in x) ++ at_each told k rest) (sym m_is) in
-    let one : new ≡ old ++ at_each told n (association_in x) = new_is ∙ ap (λ l. old ++ at_each told n l) (append-nil (association_in x)) in
-    ap (λ l. l ++ at_each told m rest) one ∙ append_assoc old (at_each told n (association_in x)) (at_each told m rest) ∙ ap (λ l. old ++ l) (sym step) ∙ whole_is
-
-pub extras_end : (at : Place) (stands : ℕ → Bool) (xs : List Extra) (i n : ℕ) (out whole : List Finding) → length xs ≤ i
-    → out ++ in_extras at stands n (drop i xs) ≡ whole → out ≡ whole
-extras_end at stands xs i n out whole h e =
-    let rest : drop i xs ≡ [] = grind (arith, common_steps) in
-    sym (append-nil out) ∙ ap (λ l. out ++ in_extras at stands n l) (sym rest) ∙ e
 
 -- how many associations are left
 pub count_next : (xs : List Extra) (i n m total : ℕ) (x : Extra) → i < length xs → x ≡ get_or xs i x → n + association_count (drop i xs) ≡ total
@@ -106,19 +71,13 @@ count_next xs i n m total x below is total_is m_is =
     ap association_count here ∙ length-append (association_in x) (flat_map association_in (drop (i + 1) xs)) in
     omega (arith, sum, total_is, m_is)
 
-pub count_end : (xs : List Extra) (i n total : ℕ) → length xs ≤ i → n + association_count (drop i xs) ≡ total → n ≡ total
-count_end xs i n total h e =
-    let rest : drop i xs ≡ [] = grind (arith, common_steps) in
-    let none : association_count (drop i xs) ≡ 0 = ap association_count rest in
-    omega (arith, none, e)
-
 count_append : (xs ys : List Extra) → association_count (xs ++ ys) ≡ association_count xs + association_count ys
 count_append xs ys = ap length (flat_map-append association_in xs ys) ∙ length-append (flat_map association_in xs) (flat_map association_in ys)
 
--- those of a setting's endpoints come behind its own
-pub count_behind : (s : Setting) (n m : ℕ) → m ≡ n + association_count s.extras
+-- those of a setting's endpoints come after its own
+pub count_after : (s : Setting) (n m : ℕ) → m ≡ n + association_count s.extras
     → m + association_count (flat_map (λ e. e.extras) s.endpoints) ≡ n + setting_associations s
-count_behind s n m is = omega (arith, is, count_append s.extras (flat_map (λ e. e.extras) s.endpoints))
+count_after s n m is = omega (arith, is, count_append s.extras (flat_map (λ e. e.extras) s.endpoints))
 
 pub ends_next : (xs : List Endpoint) (i n m total : ℕ) (x : Endpoint) → i < length xs → x ≡ get_or xs i x
     → n + association_count (flat_map (λ e. e.extras) (drop i xs)) ≡ total → m ≡ n + endpoint_associations x
@@ -129,7 +88,7 @@ ends_next xs i n m total x below is total_is m_is =
     ap (λ l. association_count (flat_map (λ (e : Endpoint). e.extras) l)) here ∙ count_append x.extras (flat_map (λ e. e.extras) (drop (i + 1) xs)) in
     omega (arith, sum, total_is, m_is)
 
--- ---- what stands before
+-- ---- what is before
 
 pub take_more : {A : Type 0} (xs : List A) (i : ℕ) (x : A) → i < length xs → x ≡ get_or xs i x → take (i + 1) xs ≡ take i xs ++ x ∷ []
 take_more xs i x below is = grind (arith, common_steps)
@@ -146,7 +105,7 @@ any_more : {A : Type 0} (p : A → Bool) (xs : List A) (x : A) → list_any p (x
 any_more p [] x = refl
 any_more p (y ∷ xs) x = ap (λ b. p y || b) (any_more p xs x) ∙ or_turn (p y) (p x) (list_any p xs)
 
--- one key more stands
+-- one key more
 pub stands_more : {A : Type 0} (key : A → ℕ) (xs : List A) (i : ℕ) (x : A) → i < length xs → x ≡ get_or xs i x
     → stands_in (map key (take (i + 1) xs)) ≡ marked (stands_in (map key (take i xs))) (key x)
 unfolding marked
@@ -158,16 +117,16 @@ stands_more key xs i x below is =
 -- the same where an element is looked up and its key is marked
 pub stands_next : {A : Type 0} (key : A → ℕ) (xs : List A) (i n : ℕ) (x : A) (old new : ℕ → Bool) → i < length xs → n ≡ key (get_or xs i x)
     → old ≡ stands_in (map key (take i xs)) → new ≡ marked old n → new ≡ stands_in (map key (take (i + 1) xs))
-stands_next key xs i n x old new below is stood more =
-    more ∙ ap (marked old) is ∙ ap (λ marks. marked marks (key (get_or xs i x))) stood
+stands_next key xs i n x old new below is here more =
+    more ∙ ap (marked old) is ∙ ap (λ marks. marked marks (key (get_or xs i x))) here
     ∙ sym (stands_more key xs i (get_or xs i x) below (get_or_default xs i _ _ below))
 
--- one setting more stood
-pub stood_more : (settings : List Setting) (j : ℕ) (s : Setting) → j < length settings → s ≡ get_or settings j s
-    → stood (take (j + 1) settings) ≡ pair_too s.number s.alternate (stood (take j settings))
+-- one setting more
+pub alternate_more : (settings : List Setting) (j : ℕ) (s : Setting) → j < length settings → s ≡ get_or settings j s
+    → has_alternate (take (j + 1) settings) ≡ pair_too s.number s.alternate (has_alternate (take j settings))
 unfolding pair_too
-stood_more settings j s below is =
-    ap stood (take_more settings j s below is)
+alternate_more settings j s below is =
+    ap has_alternate (take_more settings j s below is)
     ∙ funext _ _ (λ n. funext _ _ (λ a. any_more (λ t. (t.number == n) && (t.alternate == a)) (take j settings) s))
 
 -- a setting more has its addresses
@@ -255,25 +214,10 @@ misses_else stands a next absent some =
 
 -- ---- the findings of a rule
 
-pub filter_next : {A : Type 0} (p : A → Bool) (xs : List A) (i : ℕ) (x : A) (old new whole : List A) → i < length xs → x ≡ get_or xs i x
-    → old ++ filter p (drop i xs) ≡ whole → new ≡ old ++ filter p (x ∷ []) → new ++ filter p (drop (i + 1) xs) ≡ whole
-filter_next p xs i x old new whole below is whole_is new_is =
-    let here : drop i xs ≡ x ∷ drop (i + 1) xs = grind (arith, common_steps) in
-    let step : filter p (drop i xs) ≡ filter p (x ∷ []) ++ filter p (drop (i + 1) xs) = ap (filter p) here ∙ filter-append p (x ∷ []) (drop (i + 1) xs) in
-    let joined = append_assoc old (filter p (x ∷ [])) (filter p (drop (i + 1) xs)) in
-    cc
-
-pub filter_end : {A : Type 0} (p : A → Bool) (xs : List A) (i : ℕ) (out whole : List A) → length xs ≤ i → out ++ filter p (drop i xs) ≡ whole → out ≡ whole
-filter_end p xs i out whole h e =
-    let rest : drop i xs ≡ [] = grind (arith, common_steps) in
-    let none : filter p (drop i xs) ≡ [] = ap (filter p) rest in
-    let same = append-nil out in
-    cc
-
 -- a setting more that repeats none
-pub new_more : (settings : List Setting) (j : ℕ) (s : Setting) (repeated again : Bool) → j < length settings → s ≡ get_or settings j s → repeated ≡ stood (take j settings) s.number s.alternate
+pub new_more : (settings : List Setting) (j : ℕ) (s : Setting) (repeated again : Bool) → j < length settings → s ≡ get_or settings j s → repeated ≡ has_alternate (take j settings) s.number s.alternate
     → (again ≡ false → AreNew settings j) → (again || repeated) ≡ false → AreNew settings (j + 1)
-new_more settings j s repeated again small is told old none k below t at =
+new_more settings j s repeated again small is reported old none k below t at =
     let before : again ≡ false = grind arith in
     let here : repeated ≡ false = grind arith in
     elim (cases_lt k j) [
@@ -281,7 +225,7 @@ new_more settings j s repeated again small is told old none k below t at =
       | inr more ↦
           let same : k ≡ j = omega (arith, below, more) in
           let one : t ≡ s = at ∙ ap (λ i. get_or settings i t) same ∙ get_or_default settings j t s small ∙ sym is in
-          ap (λ i. stood (take i settings) t.number t.alternate) same ∙ ap (λ u. stood (take j settings) u.number u.alternate) one ∙ sym told ∙ here
+          ap (λ i. has_alternate (take i settings) t.number t.alternate) same ∙ ap (λ u. has_alternate (take j settings) u.number u.alternate) one ∙ sym reported ∙ here
     ]
 
 -- ---- V3 and V4 where no setting breaks them
@@ -290,21 +234,21 @@ neither : (stands default : Bool) → default ≡ true → (not stands && not de
 neither true default h = refl
 neither false default h = ap not h
 
--- a setting stands in its set
+-- a setting is in its set
 its_number : (settings : List Setting) (j : ℕ) (s : Setting) → j < length settings → s ≡ get_or settings j s → stands_in (map number_of settings) s.number ≡ true
 its_number settings j s below is =
     list_any_at (λ n. n == s.number) (map number_of settings) j s.number (omega (arith, below, length-map settings number_of))
     (ap (λ n. n == s.number) (get_or-map number_of settings j s s.number below ∙ ap number_of (sym is)) ∙ (let e : (s.number == s.number) ≡ true = grind (arith, nat_tests) in e))
 
 pub interface_seen : (may_break : Bool) (at : Place) (settings : List Setting) (j : ℕ) (s : Setting) (e : Entered) → j < length settings → s ≡ get_or settings j s
-    → (may_break ≡ true → e.numbers ≡ stands_in (map number_of (take j settings))) → (may_break ≡ true → e.alternates ≡ stood (take j settings)) → (may_break ≡ false → KeepV3AndV4 settings)
-    → in_interface at (stood settings) (seen may_break e).numbers (seen may_break e).alternates s ≡ in_interface at (stood settings) (stands_in (map number_of (take j settings))) (stood (take j settings)) s
+    → (may_break ≡ true → e.numbers ≡ stands_in (map number_of (take j settings))) → (may_break ≡ true → e.alternates ≡ has_alternate (take j settings)) → (may_break ≡ false → NoneBreaksV3OrV4 settings)
+    → in_interface at (has_alternate settings) (compared_with may_break e).numbers (compared_with may_break e).alternates s ≡ in_interface at (has_alternate settings) (stands_in (map number_of (take j settings))) (has_alternate (take j settings)) s
 interface_seen true at settings j s e below is numbers alternates keep =
-    ap (λ f. in_interface at (stood settings) f e.alternates s) (numbers refl) ∙ ap (λ f. in_interface at (stood settings) (stands_in (map number_of (take j settings))) f s) (alternates refl)
+    ap (λ f. in_interface at (has_alternate settings) f e.alternates s) (numbers refl) ∙ ap (λ f. in_interface at (has_alternate settings) (stands_in (map number_of (take j settings))) f s) (alternates refl)
 interface_seen false at settings j s e below is numbers alternates keep =
     let none = keep refl in
     let before = stands_in (map number_of (take j settings)) s.number in
     let count = when (wrong_endpoint_count s) (broken rules.V5 at) in
-    let v4 = neither before (stood settings s.number 0) (none.defaults s.number (its_number settings j s below is)) in
-    ap (λ b. when b (broken rules.V3 at) ++ when (not true && not (stood settings s.number 0)) (broken rules.V4 at) ++ count) (sym (none.repeated j below s is))
-    ∙ ap (λ b. when (stood (take j settings) s.number s.alternate) (broken rules.V3 at) ++ when b (broken rules.V4 at) ++ count) (sym v4)
+    let v4 = neither before (has_alternate settings s.number 0) (none.defaults s.number (its_number settings j s below is)) in
+    ap (λ b. when b (broken rules.V3 at) ++ when (not true && not (has_alternate settings s.number 0)) (broken rules.V4 at) ++ count) (sym (none.repeated j below s is))
+    ∙ ap (λ b. when (has_alternate (take j settings) s.number s.alternate) (broken rules.V3 at) ++ when b (broken rules.V4 at) ++ count) (sym v4)

@@ -1,5 +1,6 @@
--- The line of a finding.
-use Rattle.std.specs.Prelude.{List, ℕ, ◌++◌, codes}
+-- The line of a finding, and the text of `check`.
+use Rattle.std.specs.Prelude.{List, [], ◌∷◌, ℕ, ◌++◌, codes}
+use Rattle.std.specs.List.{flat_map}
 use Rattle.std.specs.Fmt.{decimal}
 use Rattle.usb_rules.specs.declared.finding.Part.{Part}
 use Rattle.usb_rules.specs.declared.finding.Part.TheVariants as parts
@@ -34,3 +35,16 @@ abbrev pub finding_line : Finding → List ℕ
 finding_line f =
     codes "V" ++ decimal (rule_number f.rule) ++ codes " " ++ part_word f.part ++ codes " " ++ decimal f.set ++ codes " " ++ decimal f.setting
     ++ codes " " ++ decimal f.endpoint
+
+-- the same, ended by a line feed
+abbrev pub finding_line_end : Finding → List ℕ
+finding_line_end f = finding_line f ++ 10 ∷ []
+
+-- the lines of findings
+abbrev pub finding_lines : List Finding → List ℕ
+finding_lines found = flat_map finding_line_end found
+
+-- the lines of the findings, or the line that there is none
+abbrev pub check_text : List Finding → List ℕ
+check_text [] = codes "no findings" ++ 10 ∷ []
+check_text (f ∷ found) = finding_lines (f ∷ found)

@@ -35,7 +35,7 @@ interface_counts = of_set rules.V1 wrong_interface_count
 abbrev pub number_gaps : Part → ℕ → Configuration → List Finding
 number_gaps = of_set rules.V2 has_number_gap
 
--- V3 in one set, at each setting that stood before
+-- V3 in one set, at each setting that came before
 abbrev pub repeated_settings : Part → ℕ → Configuration → List Finding
 repeated_settings = of_settings_after rules.V3 repeats_setting
 
@@ -55,7 +55,7 @@ addresses_in part i j s = at_each (λ k e. when (wrong_address e.address) (findi
 abbrev pub addresses : Part → ℕ → Configuration → List Finding
 addresses part i c = at_each (addresses_in part i) 0 c.settings
 
--- V7 in one setting, at each endpoint whose address stood before
+-- V7 in one setting, at each endpoint whose address came before
 abbrev pub repeated_in_setting : Part → ℕ → ℕ → Setting → List Finding
 repeated_in_setting part i j s = at_each_after (λ before k e. when (repeats_address before e) (finding rules.V7 part i j k)) s.endpoints
 
@@ -116,11 +116,11 @@ findings_where wrong f =
     ++ in_parts (in_sets packet_sizes) f
     ++ in_parts (in_sets associations) f
 
--- what `check` tells of a file
+-- what `check` reports of a file
 abbrev pub findings : DescriptorFile → List Finding
 findings f = findings_where (wrong_device f.device) f
 
--- what it tells of a dump, whose device may be one of SuperSpeed
+-- what it reports of a dump, whose device may be one of SuperSpeed
 abbrev pub dump_findings : DescriptorFile → List Finding
 dump_findings f = findings_where (wrong_dumped_device f.device) f
 
@@ -145,6 +145,6 @@ part_findings part sets =
     ++ in_sets packet_sizes part sets
     ++ in_sets associations part sets
 
--- what `check` tells of a set alone: it is the only set of its part
+-- what `check` reports of a set alone: it is the only set of its part
 abbrev pub set_findings : Configuration → List Finding
 set_findings c = part_findings (part_of_kind c.kind) (c ∷ [])

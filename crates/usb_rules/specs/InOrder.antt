@@ -46,15 +46,15 @@ at_endpoint part i before j s k e =
     ++ when (shares_address before s e) (finding rules.V8 part i j k)
     ++ when (wrong_packet_size e.max_packet) (finding rules.V12 part i j k)
 
--- how many associations stand among the extras
+-- how many associations there are among the extras
 abbrev pub association_count : List Extra → ℕ
 association_count extras = length (flat_map association_in extras)
 
--- how many stand behind an endpoint
+-- how many there are after an endpoint
 abbrev pub endpoint_associations : Endpoint → ℕ
 endpoint_associations e = association_count e.extras
 
--- how many stand in a setting
+-- how many there are in a setting
 abbrev pub setting_associations : Setting → ℕ
 setting_associations s = association_count (setting_extras s)
 
@@ -85,7 +85,7 @@ part_in_order part sets = at_each_after (set_in_order part) sets
 abbrev pub without_sets : Part → List Configuration → List Finding
 without_sets part sets = when (length sets == 0) (finding rules.V10 part 0 0 0)
 
--- at the qualifier, and in the sets behind it
+-- at the qualifier, and in the sets after it
 abbrev pub other_in_order : Option Other → List Finding
 other_in_order None = []
 other_in_order (Some other) =

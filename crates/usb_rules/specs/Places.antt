@@ -1,4 +1,4 @@
--- Going over a file, and telling what is found where.
+-- Going over a file, and what is found where.
 use Rattle.std.specs.Prelude.{ℕ, ◌+◌, List, [], ◌∷◌, ◌++◌, take, Bool, ◌==◌, Option, Some, None, if◌then◌else◌}
 use Rattle.std.specs.List.{list_any}
 use Rattle.usb_set.specs.declared.tree.Configuration.{Configuration}
@@ -9,7 +9,7 @@ use Rattle.usb_rules.specs.declared.finding.Part.TheVariants as parts
 use Rattle.usb_rules.specs.declared.finding.Finding.{Finding}
 use Rattle.usb_rules.specs.declared.rule.Rule.{Rule}
 
--- whether the number stands in the list
+-- whether the number is in the list
 abbrev pub stands_in : List ℕ → ℕ → Bool
 stands_in xs n = list_any (λ x. x == n) xs
 

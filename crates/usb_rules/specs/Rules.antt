@@ -25,7 +25,7 @@ value_of c = c.value
 abbrev pub is_first : List Setting → Setting → Bool
 is_first before s = not (stands_in (map number_of before) s.number)
 
--- the interface numbers of the settings, each once, in the order in which they first stand
+-- the interface numbers of the settings, each once, in the order in which they come first
 abbrev pub interface_numbers : List Setting → List ℕ
 interface_numbers settings = at_each_after (λ before j s. when (is_first before s) s.number) settings
 
@@ -44,7 +44,7 @@ has_number_gap c =
 abbrev pub is_same_setting : Setting → Setting → Bool
 is_same_setting s t = (t.number == s.number) && (t.alternate == s.alternate)
 
--- V3. The same alternate setting of the same interface stands twice, so that SET_INTERFACE can't tell them
+-- V3. The same alternate setting of the same interface is there twice, so that SET_INTERFACE can't tell them
 -- apart (9.6.5, bAlternateSetting).
 abbrev pub repeats_setting : List Setting → Setting → Bool
 repeats_setting before s = list_any (is_same_setting s) before
@@ -53,7 +53,7 @@ repeats_setting before s = list_any (is_same_setting s) before
 abbrev pub is_default_of : ℕ → Setting → Bool
 is_default_of number t = (t.number == number) && (t.alternate == 0)
 
--- V4. An interface has no alternate setting 0, which is the one that SET_CONFIGURATION selects. Told once for
+-- V4. An interface has no alternate setting 0, which is the one that SET_CONFIGURATION selects. Reported once for
 -- each interface number, at its first setting (9.6.5).
 abbrev pub lacks_default_setting : List Setting → List Setting → Setting → Bool
 lacks_default_setting settings before s = is_first before s && not (list_any (is_default_of s.number) settings)

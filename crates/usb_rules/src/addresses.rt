@@ -1,6 +1,6 @@
 //! The endpoint addresses of a set.
 ghost use Rattle.std.specs.Prelude.{◌≡◌};
-ghost use Rattle.usb_rules.specs.inside.Addresses.{claimed, cleared, is_other, kept, turned};
+ghost use Rattle.usb_rules.specs.inside.Addresses.{claimed, cleared, is_other, kept, begun};
 
 use std::marker::Model;
 use usb_base::Marks;
@@ -32,7 +32,7 @@ pub(crate) struct Claimed {
     pub(crate) elsewhere: bool,
 }
 
-/// Which addresses stood in a set and in its setting in work, and under which interface numbers. One
+/// Which addresses a set and its setting in work have, and under which interface numbers. One
 /// value serves all sets of a file: to begin anew takes as little for a large set as for a small one.
 #[derive(Drop)]
 pub(crate) struct Addresses {
@@ -40,7 +40,7 @@ pub(crate) struct Addresses {
     number: u8,
     in_setting: Marks,
     in_set: Marks,
-    /// The owner of each address that stood in the set, and of others anything.
+    /// The owner of each address that the set has, and of others anything.
     owners: [Owner; 256],
 }
 
@@ -75,7 +75,7 @@ impl Addresses {
 
     /// Begins a setting of this interface number.
     pub(crate) fn begin(&mut self, number: u8)
-        ensures { kept self.new ≡ turned number (kept self.old) }
+        ensures { kept self.new ≡ begun number (kept self.old) }
     {
         self.number = number;
         self.in_setting = Marks::new();
@@ -93,14 +93,14 @@ impl Addresses {
         Claimed { here, elsewhere }
     }
 
-    /// Whether the address stood in the setting in work.
+    /// Whether the setting in work has the address.
     fn is_repeated(&self, address: u8) -> bool
         ensures { result ≡ (kept self.now).here address }
     {
         self.in_setting.has(address)
     }
 
-    /// Whether the address stood under another interface number than that of the setting in work.
+    /// Whether another interface number than that of the setting in work has the address.
     #[tactic(auto, unfolding(crate::specs::inside::Addresses::kept))]
     fn is_shared(&self, address: u8) -> bool
         ensures { result ≡ (kept self.now).elsewhere address (kept self.now).number }

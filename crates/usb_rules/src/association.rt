@@ -23,7 +23,7 @@ pub(crate) fn check_extras(
     number: usize,
     extras: &Sequence<Extra>,
 ) -> Result<usize, AllocError>
-    ensures told { OnOk result (found.new ≡ found.old ++ in_extras place.now (kept interfaces.now).numbers number extras.now) }
+    ensures reported { OnOk result (found.new ≡ found.old ++ in_extras place.now (kept interfaces.now).numbers number extras.now) }
     ensures next { IfOk result (λ next. next ≡ number + association_count extras.now) }
 {
     if extras.is_empty() {
@@ -40,7 +40,7 @@ fn check_each(
     number: usize,
     extras: &[Extra],
 ) -> Result<usize, AllocError>
-    ensures told { OnOk result (found.new ≡ found.old ++ in_extras place (kept interfaces.now).numbers number extras.now) }
+    ensures reported { OnOk result (found.new ≡ found.old ++ in_extras place (kept interfaces.now).numbers number extras.now) }
     ensures next { IfOk result (λ next. next ≡ number + association_count extras.now) }
 {
     let mut next = number;
@@ -58,13 +58,13 @@ fn check_extra(
     number: usize,
     extra: &Extra,
 ) -> Result<usize, AllocError>
-    ensures told { OnOk result (found.new ≡ found.old ++ in_extras place (kept interfaces.now).numbers number (extra.now ∷ [])) }
+    ensures reported { OnOk result (found.new ≡ found.old ++ in_extras place (kept interfaces.now).numbers number (extra.now ∷ [])) }
     ensures next { IfOk result (λ next. next ≡ number + length (association_in extra.now)) }
 {
     match extra {
         Extra::Association(a) => {
             let misses = binds_missing_interface(interfaces, a);
-            found.tell(Rule::V13, misses, place.at_setting(number))?;
+            found.report(Rule::V13, misses, place.at_setting(number))?;
             // No memory holds so many associations that this is refused.
             number.checked_add(1).ok_or(AllocError)
         }

@@ -25,5 +25,5 @@ pub(crate) fn check_attributes(
     ensures { OnOk result (found.new ≡ found.old ++ when (wrong_attributes c.now) (broken rules.V9 place)) }
 {
     let wrong = c.attributes & ALWAYS_ONE == 0 || c.attributes & ALWAYS_ZERO != 0;
-    found.tell(Rule::V9, wrong, place)
+    found.report(Rule::V9, wrong, place)
 }

@@ -40,7 +40,7 @@ pub(crate) fn is_wrong_dumped_device(d: &DeviceDescriptor) -> bool
 pub(crate) fn check_device(found: &mut Found, wrong: bool) -> Result<(), AllocError>
     ensures { OnOk result (found.new ≡ found.old ++ when wrong (finding rules.V11 parts.Device 0 0 0)) }
 {
-    found.tell(Rule::V11, wrong, Place::of(Part::Device, 0))
+    found.report(Rule::V11, wrong, Place::of(Part::Device, 0))
 }
 
 /// Whether there is a subclass without a class.
@@ -54,7 +54,7 @@ pub(crate) fn check_qualifier(found: &mut Found, q: &Qualifier) -> Result<(), Al
     ensures { OnOk result (found.new ≡ found.old ++ when (wrong_qualifier q.now) (finding rules.V11 parts.Other 0 0 0)) }
 {
     let wrong = is_wrong_packet(q.packet) || q.class == 0 && q.subclass != 0 || q.reserved != 0;
-    found.tell(Rule::V11, wrong, Place::of(Part::Other, 0))
+    found.report(Rule::V11, wrong, Place::of(Part::Other, 0))
 }
 
 /// Whether no packet of endpoint zero has this size.

@@ -24,7 +24,7 @@ pub(crate) fn check_address(found: &mut Found, place: Place, e: &Endpoint) -> Re
     ensures { OnOk result (found.new ≡ found.old ++ when (wrong_address e.now.address) (broken rules.V6 place)) }
 {
     let wrong = e.address & NUMBER == 0 || e.address & RESERVED != 0;
-    found.tell(Rule::V6, wrong, place)
+    found.report(Rule::V6, wrong, place)
 }
 
 pub(crate) fn check_packet_size(
@@ -34,5 +34,5 @@ pub(crate) fn check_packet_size(
 ) -> Result<(), AllocError>
     ensures { OnOk result (found.new ≡ found.old ++ when (wrong_packet_size e.now.max_packet) (broken rules.V12 place)) }
 {
-    found.tell(Rule::V12, e.max_packet & RESERVED_SIZE != 0, place)
+    found.report(Rule::V12, e.max_packet & RESERVED_SIZE != 0, place)
 }

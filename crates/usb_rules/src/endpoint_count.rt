@@ -19,5 +19,5 @@ pub(crate) fn check_endpoint_count(
     ensures { OnOk result (found.new ≡ found.old ++ when (wrong_endpoint_count s.now) (broken rules.V5 place)) }
 {
     let declared = usize::from(s.declared_endpoints);
-    found.tell(Rule::V5, declared != s.endpoints.len(), place)
+    found.report(Rule::V5, declared != s.endpoints.len(), place)
 }

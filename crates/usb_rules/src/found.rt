@@ -42,7 +42,7 @@ impl Found {
     }
 
     /// Reports that the rule is broken at the place, where the test holds.
-    pub(crate) fn tell(&mut self, rule: Rule, holds: bool, place: Place) -> Result<(), AllocError>
+    pub(crate) fn report(&mut self, rule: Rule, holds: bool, place: Place) -> Result<(), AllocError>
         ensures { OnOk result (self.new ≡ self.old ++ when holds (broken rule place)) }
     {
         if holds {

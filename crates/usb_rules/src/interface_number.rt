@@ -23,7 +23,7 @@ pub(crate) fn check_interface_count(
     ensures { OnOk result (found.new ≡ found.old ++ when (wrong_interface_count c.now) (broken rules.V1 place)) }
 {
     let declared = usize::from(c.declared_interfaces);
-    found.tell(Rule::V1, declared != interfaces.list().len(), place)
+    found.report(Rule::V1, declared != interfaces.list().len(), place)
 }
 
 pub(crate) fn check_number_gap(
@@ -35,7 +35,7 @@ pub(crate) fn check_number_gap(
     requires { AreEntered c.now.settings (kept interfaces.now) }
     ensures { OnOk result (found.new ≡ found.old ++ when (has_number_gap c.now) (broken rules.V2 place)) }
 {
-    found.tell(
+    found.report(
         Rule::V2,
         interfaces.next_absent(0) < interfaces.list().len(),
         place,

@@ -1,7 +1,7 @@
 //! The interfaces of a set.
 ghost use Rattle.std.specs.Prelude.{◌≡◌, true, false, map, IfOk, OnOk};
 ghost use Rattle.usb_base.specs.Marks.{IsNextAbsent};
-ghost use Rattle.usb_rules.specs.inside.Interfaces.{HaveDefaults, begun, entered, first_of, kept, none_entered, paired};
+ghost use Rattle.usb_rules.specs.inside.Interfaces.{HaveDefaults, begun, entered, first_of, kept, none_entered, with_alternate};
 
 use std::alloc::{AllocError, Global};
 use std::marker::Model;
@@ -136,7 +136,7 @@ impl Interfaces {
     fn mark(&mut self, number: u8, alternate: u8) -> bool
         requires { (kept self.old).numbers number ≡ true }
         ensures again { result ≡ (kept self.old).alternates number alternate }
-        ensures marked { kept self.new ≡ paired number alternate (kept self.old) }
+        ensures marked { kept self.new ≡ with_alternate number alternate (kept self.old) }
     {
         let place = usize::from(self.places[usize::from(number)]);
         let alternates = &mut self.list[place].alternates;

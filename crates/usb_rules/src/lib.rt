@@ -19,6 +19,7 @@ mod device;
 mod endpoint;
 mod endpoint_count;
 mod finding;
+mod finding_lines;
 mod found;
 mod interface_number;
 mod interfaces;
@@ -35,4 +36,5 @@ pub use all_findings::{
     set_findings_in_order,
 };
 pub use finding::{Finding, Part};
+pub use finding_lines::findings_text;
 pub use rule::{MESSAGES, Rule};

@@ -17,5 +17,5 @@ pub(crate) fn check_repeated_address(
 ) -> Result<(), AllocError>
     ensures { OnOk result (found.new ≡ found.old ++ when claimed.here (broken rules.V7 place)) }
 {
-    found.tell(Rule::V7, claimed.here, place)
+    found.report(Rule::V7, claimed.here, place)
 }

@@ -19,9 +19,9 @@ pub(crate) fn check_repeated_setting(
     place: Place,
     s: &Setting,
 ) -> Result<(), AllocError>
-    ensures told { OnOk result (found.new ≡ found.old ++ when ((kept interfaces.old).alternates s.now.number s.now.alternate) (broken rules.V3 place)) }
+    ensures reported { OnOk result (found.new ≡ found.old ++ when ((kept interfaces.old).alternates s.now.number s.now.alternate) (broken rules.V3 place)) }
     ensures entered { OnOk result (kept interfaces.new ≡ entered place.setting s.now (kept interfaces.old)) }
 {
     let again = interfaces.add(place.setting, s)?;
-    found.tell(Rule::V3, again, place)
+    found.report(Rule::V3, again, place)
 }

@@ -3,7 +3,7 @@ ghost use Rattle.std.specs.Prelude.{◌≡◌, ◌+◌, ◌++◌, true, false, I
 ghost use Rattle.usb_base.specs.Marks.{is_marked, marked};
 ghost use Rattle.usb_rules.specs.InOrder.{setting_associations};
 ghost use Rattle.usb_rules.specs.inside.Addresses.{claimed, owned, kept as claims};
-ghost use Rattle.usb_rules.specs.inside.Interfaces.{KeepV3AndV4, AreEntered, entered, kept as entries, seen};
+ghost use Rattle.usb_rules.specs.inside.Interfaces.{NoneBreaksV3OrV4, AreEntered, entered, kept as entries, compared_with};
 ghost use Rattle.usb_rules.specs.inside.Walk.{in_configuration, in_endpoint, in_interface, in_set, in_setting};
 
 use crate::addresses::Addresses;
@@ -60,7 +60,7 @@ pub(crate) fn check_set_at(
     place: Place,
     c: &Configuration,
 ) -> Result<(), AllocError>
-    ensures told { OnOk result (found.new ≡ found.old ++ in_set place (is_marked values.old) c.now) }
+    ensures reported { OnOk result (found.new ≡ found.old ++ in_set place (is_marked values.old) c.now) }
     ensures marked { OnOk result (is_marked values.new ≡ marked (is_marked values.old) c.now.value) }
 {
     let may_break = enter_all(&mut known.whole, &c.settings)?;
@@ -87,7 +87,7 @@ pub(crate) fn check_set_at(
 /// Enters these settings and no others. Answers whether one of them may break V3 or V4.
 fn enter_all(interfaces: &mut Interfaces, settings: &[Setting]) -> Result<bool, AllocError>
     ensures entered { OnOk result (AreEntered settings.now (entries interfaces.new)) }
-    ensures keep { IfOk result (λ may_break. may_break ≡ false → KeepV3AndV4 settings.now) }
+    ensures keep { IfOk result (λ may_break. may_break ≡ false → NoneBreaksV3OrV4 settings.now) }
 {
     interfaces.clear();
     let mut again = false;
@@ -107,7 +107,7 @@ fn check_configuration(
     c: &Configuration,
 ) -> Result<(), AllocError>
     requires { AreEntered c.now.settings (entries whole.now) }
-    ensures told { OnOk result (found.new ≡ found.old ++ in_configuration place (is_marked values.old) c.now) }
+    ensures reported { OnOk result (found.new ≡ found.old ++ in_configuration place (is_marked values.old) c.now) }
     ensures marked { OnOk result (is_marked values.new ≡ marked (is_marked values.old) c.now.value) }
 {
     check_interface_count(found, whole, place, c)?;
@@ -126,7 +126,7 @@ fn check_setting(
     number: usize,
     s: &Setting,
 ) -> Result<usize, AllocError>
-    ensures told { OnOk result (found.new ≡ found.old ++ in_setting place (entries whole.now).numbers (entries whole.now).alternates (seen may_break (entries passed.old.interfaces)).numbers (seen may_break (entries passed.old.interfaces)).alternates (claims passed.old.addresses).elsewhere number s.now) }
+    ensures reported { OnOk result (found.new ≡ found.old ++ in_setting place (entries whole.now).numbers (entries whole.now).alternates (compared_with may_break (entries passed.old.interfaces)).numbers (compared_with may_break (entries passed.old.interfaces)).alternates (claims passed.old.addresses).elsewhere number s.now) }
     ensures interfaces { OnOk result (may_break ≡ true → entries passed.new.interfaces ≡ entered place.setting s.now (entries passed.old.interfaces)) }
     ensures addresses { OnOk result ((claims passed.new.addresses).elsewhere ≡ owned s.now.number s.now.endpoints (claims passed.old.addresses).elsewhere) }
     ensures next { IfOk result (λ next. next ≡ number + setting_associations s.now) }
@@ -150,7 +150,7 @@ fn check_interface(
     place: Place,
     s: &Setting,
 ) -> Result<(), AllocError>
-    ensures told { OnOk result (found.new ≡ found.old ++ in_interface place (entries whole.now).alternates (seen may_break (entries interfaces.old)).numbers (seen may_break (entries interfaces.old)).alternates s.now) }
+    ensures reported { OnOk result (found.new ≡ found.old ++ in_interface place (entries whole.now).alternates (compared_with may_break (entries interfaces.old)).numbers (compared_with may_break (entries interfaces.old)).alternates s.now) }
     ensures interfaces { OnOk result (may_break ≡ true → entries interfaces.new ≡ entered place.setting s.now (entries interfaces.old)) }
 {
     if !may_break {
@@ -158,7 +158,7 @@ fn check_interface(
     }
     let lacks = lacks_default_setting(whole, interfaces, s);
     check_repeated_setting(found, interfaces, place, s)?;
-    found.tell(Rule::V4, lacks, place)?;
+    found.report(Rule::V4, lacks, place)?;
     check_endpoint_count(found, place, s)
 }
 
@@ -169,7 +169,7 @@ fn check_endpoint(
     place: Place,
     e: &Endpoint,
 ) -> Result<(), AllocError>
-    ensures told { OnOk result (found.new ≡ found.old ++ in_endpoint place (claims addresses.old).here (λ b. (claims addresses.old).elsewhere b (claims addresses.old).number) e.now) }
+    ensures reported { OnOk result (found.new ≡ found.old ++ in_endpoint place (claims addresses.old).here (λ b. (claims addresses.old).elsewhere b (claims addresses.old).number) e.now) }
     ensures claimed { OnOk result (claims addresses.new ≡ claimed e.now.address (claims addresses.old)) }
 {
     let claimed = addresses.claim(e.address);

@@ -17,5 +17,5 @@ pub(crate) fn check_shared_address(
 ) -> Result<(), AllocError>
     ensures { OnOk result (found.new ≡ found.old ++ when claimed.elsewhere (broken rules.V8 place)) }
 {
-    found.tell(Rule::V8, claimed.elsewhere, place)
+    found.report(Rule::V8, claimed.elsewhere, place)
 }

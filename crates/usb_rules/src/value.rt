@@ -20,7 +20,7 @@ pub(crate) fn check_any_set(
 ) -> Result<(), AllocError>
     ensures { OnOk result (found.new ≡ found.old ++ when (length sets.now == 0) (broken rules.V10 place)) }
 {
-    found.tell(Rule::V10, sets.is_empty(), place)
+    found.report(Rule::V10, sets.is_empty(), place)
 }
 
 /// Of a set, among the values of those before it in its part.
@@ -30,10 +30,10 @@ pub(crate) fn check_value(
     place: Place,
     c: &Configuration,
 ) -> Result<(), AllocError>
-    ensures told { OnOk result (found.new ≡ found.old ++ when ((c.now.value == 0) || is_marked values.old c.now.value) (broken rules.V10 place)) }
+    ensures reported { OnOk result (found.new ≡ found.old ++ when ((c.now.value == 0) || is_marked values.old c.now.value) (broken rules.V10 place)) }
     ensures marked { OnOk result (is_marked values.new ≡ marked (is_marked values.old) c.now.value) }
 {
-    found.tell(Rule::V10, c.value == 0 || values.has(c.value), place)?;
+    found.report(Rule::V10, c.value == 0 || values.has(c.value), place)?;
     values.add(c.value);
     Ok(())
 }

@@ -5,7 +5,7 @@ use Rattle.std.proofs.lemmas.Bool.{eqb-true}
 use Rattle.usb_base.specs.Bytes.{AreBytes}
 use Rattle.usb_set.specs.declared.tree.SetKind.TheVariants as kinds
 use Rattle.usb_set.specs.declared.tree.Configuration.{Configuration}
-use Rattle.usb_set.specs.Building.{Adds, BeginsWith, IsOneMore, has_setting}
+use Rattle.usb_set.specs.Building.{Accepts, AcceptsAll, Adds, BeginsWith, IsOneMore, has_setting}
 use Rattle.usb_set.specs.Encoding.{AllFieldsFit, FieldsFit}
 use Rattle.usb_set.specs.Descriptors.{Descriptor, configuration_descriptor, descriptor_bytes, type_number}
 use Rattle.usb_set.specs.Faults.{is_interface, is_set_type, is_whole, item_fault}
@@ -74,33 +74,57 @@ begin_is (len ∷ kind ∷ low ∷ high ∷ p ∷ q ∷ r ∷ s ∷ u ∷ tail) 
       later = refl;
     }
 
-pub one_tree : (c d : Configuration) → has_typed_raw c ≡ false → has_typed_raw d ≡ false → configuration_descriptor c 0 ≡ configuration_descriptor d 0
+-- equal first descriptors, whatever wTotalLength is, and equal later ones
+pub same_tree : (c d : Configuration) (m n : ℕ) → has_typed_raw c ≡ false → has_typed_raw d ≡ false → configuration_descriptor c m ≡ configuration_descriptor d n
     → later_descriptors c ≡ later_descriptors d → c ≡ d
-one_tree c d hc hd head later =
-    let bares : bare c ≡ bare d = sym (configuration_again c 0) ∙ ap (λ (x : Descriptor). configuration_of (descriptor_bytes x)) head ∙ configuration_again d 0 in
+same_tree c d m n hc hd head later =
+    let bares : bare c ≡ bare d = sym (configuration_again c m) ∙ ap (λ (x : Descriptor). configuration_of (descriptor_bytes x)) head ∙ configuration_again d n in
     sym (items_again c hc) ∙ ap (attached (bare c)) later ∙ ap (λ (x : Configuration). attached x (later_descriptors d)) bares ∙ items_again d hd
 
+pub one_tree : (c d : Configuration) → has_typed_raw c ≡ false → has_typed_raw d ≡ false → configuration_descriptor c 0 ≡ configuration_descriptor d 0
+    → later_descriptors c ≡ later_descriptors d → c ≡ d
+one_tree c d = same_tree c d 0 0
+
+-- ---- descriptors that are accepted one after another
+
+pub accepted : (items : List Descriptor) (c : Configuration) → AllFine (has_setting c) items → AllByRecursion FieldsFit items → has_typed_raw c ≡ false → AcceptsAll c items (attached c items)
+accepted [] c fine fits raws = refl
+accepted (item ∷ items) c fine fits raws =
+    let shown = fine_fault (length (descriptor_bytes item)) (has_setting c) item fine.0 (omega arith) in
+    let next : Accepts c item (attach c item) = record {
+      fine = shown;
+      adds = record { item = item; bytes = refl; head = attach-head c item; later = later_descriptors-attach c (length (descriptor_bytes item)) item shown fits.0.1 };
+      raws = typed-attach c (length (descriptor_bytes item)) item raws shown;
+    } in
+    let more = subst (λ (s : Bool). AllFine s items) (sym (has_setting-attach c item)) fine.1 in
+    (attach c item, next, accepted items (attach c item) more fits.1 next.raws)
+
+pub same_descriptor : (d e : Descriptor) → descriptor_bytes d ≡ descriptor_bytes e → d ≡ e
+same_descriptor d e is = ap (λ (b : List ℕ). record { kind = slice_index b 1; body = drop 2 b }) is
+
+-- the set that accepted the items has them after those of the old one
+pub record Gained (old : Configuration) (items : List Descriptor) (new : Configuration) : Type 0 where
+  pub head : (total : ℕ) → configuration_descriptor new total ≡ configuration_descriptor old total
+  pub later : later_descriptors new ≡ later_descriptors old ++ items
+  pub raws : has_typed_raw new ≡ false
+
+pub gained : (items : List Descriptor) (old new : Configuration) → has_typed_raw old ≡ false → AcceptsAll old items new → Gained old items new
+gained [] old new raws is = record {
+  head = λ total. ap (λ (c : Configuration). configuration_descriptor c total) is;
+  later = ap later_descriptors is ∙ sym (append-nil (later_descriptors old));
+  raws = ap has_typed_raw is ∙ raws;
+}
+gained (item ∷ items) old new raws (next, one, all) =
+    let more = gained items next new one.raws all in
+    record {
+      head = λ total. more.head total ∙ one.adds.head total;
+      later = more.later
+          ∙ ap (λ (ds : List Descriptor). ds ++ items) (one.adds.later ∙ ap (λ (d : Descriptor). later_descriptors old ++ d ∷ []) (same_descriptor one.adds.item item one.adds.bytes))
+          ∙ append_assoc (later_descriptors old) (item ∷ []) items;
+      raws = more.raws;
+    }
+
 -- ---- a set without its last descriptor
-
-attached-later : (items : List Descriptor) (c : Configuration) → AllFine (has_setting c) items → AllByRecursion FieldsFit items → later_descriptors (attached c items) ≡ later_descriptors c ++ items
-attached-later [] c fine fits = sym (append-nil (later_descriptors c))
-attached-later (item ∷ items) c fine fits =
-    let room = 2 + length item.body in
-    let more = subst (λ (s : Bool). AllFine s items) (sym (has_setting-attach c item)) fine.1 in
-    attached-later items (attach c item) more fits.1
-    ∙ ap (λ (ds : List Descriptor). ds ++ items) (later_descriptors-attach c room item (fine_fault room (has_setting c) item fine.0 (omega arith)) fits.0.1)
-    ∙ append_assoc (later_descriptors c) (item ∷ []) items
-
-attached-head : (items : List Descriptor) (c : Configuration) (total : ℕ) → configuration_descriptor (attached c items) total ≡ configuration_descriptor c total
-attached-head [] c total = refl
-attached-head (item ∷ items) c total = attached-head items (attach c item) total ∙ attach-head c item total
-
-attached-typed : (items : List Descriptor) (c : Configuration) → AllFine (has_setting c) items → has_typed_raw c ≡ false → has_typed_raw (attached c items) ≡ false
-attached-typed [] c fine raws = raws
-attached-typed (item ∷ items) c fine raws =
-    let room = 2 + length item.body in
-    let more = subst (λ (s : Bool). AllFine s items) (sym (has_setting-attach c item)) fine.1 in
-    attached-typed items (attach c item) more (typed-attach c room item raws (fine_fault room (has_setting c) item fine.0 (omega arith)))
 
 fine_front : (s : Bool) (xs ys : List Descriptor) → AllFine s (xs ++ ys) → AllFine s xs
 fine_front s [] ys h = tt
@@ -114,9 +138,5 @@ pub one_less : (c : Configuration) (ds : List Descriptor) (d : Descriptor) → h
 one_less c ds d raws fits is =
     let fine = subst (AllFine false) is (fine_items c raws) in
     let fit = subst (AllByRecursion FieldsFit) is fits.1 in
-    record {
-      before = attached (bare c) ds;
-      head = attached-head ds (bare c);
-      later = attached-later ds (bare c) (fine_front false ds (d ∷ []) fine) (fit_front ds (d ∷ []) fit);
-      raws = attached-typed ds (bare c) (fine_front false ds (d ∷ []) fine) refl;
-    }
+    let first = gained ds (bare c) (attached (bare c) ds) refl (accepted ds (bare c) (fine_front false ds (d ∷ []) fine) (fit_front ds (d ∷ []) fit) refl) in
+    record { before = attached (bare c) ds; head = first.head; later = first.later; raws = first.raws }

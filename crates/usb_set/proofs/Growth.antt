@@ -1,4 +1,4 @@
--- A set with one more descriptor has it behind its own.
+-- A set with one more descriptor has it after its own.
 use Rattle.std.proofs.Common.{◌≡◌, ℕ, suc, ◌+◌, ◌*◌, ◌/◌, ◌%◌, ◌<◌, ◌≤◌, Bool, true, false, cond, ltb, eqb, ◌||◌, List, [], ◌∷◌, ◌++◌, length, map, Option, Some, None, refl, sym, ap, subst, ◌∙◌, append_assoc, length-append, ◌⊎◌, arith, inl, inr}
 use Rattle.std.specs.List.{flat_map, list_any}
 use Rattle.std.proofs.lemmas.Bool.{le-ltb, ltb-false, eqb-false, eqb-true, ne_eqb, eq-eqb, cond-true, cond-false, cases_Bool, cases_eq, or_parts, or_from, or_right}
@@ -39,7 +39,7 @@ length-with_last f [] = refl
 length-with_last f (x ∷ []) = refl
 length-with_last f (x ∷ y ∷ xs) = ap (λ n. suc n) (length-with_last f (y ∷ xs))
 
--- an element goes in front of what is not there
+-- an element goes before what is not there
 swap_nothing : {A : Type 0} (a b y : List A) → b ≡ [] → (a ++ y) ++ b ≡ (a ++ b) ++ y
 swap_nothing a b y e = rw (e, append-nil, append-nil) refl
 

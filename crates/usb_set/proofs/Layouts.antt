@@ -108,7 +108,7 @@ kind_again : (k : SetKind) → cond (eqb (type_number k) 2) kinds.Configuration 
 kind_again kinds.Configuration = refl
 kind_again kinds.OtherSpeed = refl
 
-type_again : (k : SetKind) → is_set_type (type_number k) ≡ true
+pub type_again : (k : SetKind) → is_set_type (type_number k) ≡ true
 type_again kinds.Configuration = refl
 type_again kinds.OtherSpeed = refl
 

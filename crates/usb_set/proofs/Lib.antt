@@ -16,3 +16,4 @@ pub mod Unrefused
 pub mod ReadBack
 pub mod Lifting
 pub mod Adding
+pub mod BuiltSets

@@ -14,7 +14,7 @@ use Rattle.usb_set.proofs.Sets.{length-set_bytes}
 use Rattle.usb_set.proofs.Sound.{Begins-more, Faulty-more}
 use Rattle.usb_set.proofs.Exact.{one_layout, not_both}
 
--- a layout begins itself and whatever it is the front of
+-- a layout begins itself and whatever it is a prefix of
 pub begins_with : (c : Configuration) (b more : List ℕ) → Layout c b → Begins (b ++ more) c (length b)
 begins_with c b more h = record { front = b; rest = more; parts = refl; layout = h; ends = refl }
 

@@ -11,13 +11,13 @@ use Rattle.usb_set.specs.inside.Lengths.{HasLength}
 pub length-set_bytes : (c : Configuration) (m n : ℕ) → length (set_bytes c m) ≡ length (set_bytes c n)
 length-set_bytes c m n = simp length-append
 
--- what is written for a set against which no reason stands is its layout
+-- what is written for a set that is refused for no reason is its layout
 pub layout_of : (c : Configuration) (b : List ℕ) (total : ℕ) → HasLength c total → b ≡ set_bytes c total → AreBytes b → Layout c b
 layout_of c b total h is fits =
     let same : length b ≡ total = omega (arith, ap length is, length-set_bytes c total 0, h.is_length) in
     record { bytes = rw same is; fits = fits; within_255 = h.within_255; raws_are_raw = h.raws_are_raw; short = omega (arith, h.short) }
 
--- no reason stands against a set that has a length
+-- a set that has a length is refused for no reason
 pub no_refusal : (c : Configuration) (total : ℕ) → HasLength c total → refusal_of c ≡ None
 no_refusal c total h =
     cond-false (has_long_descriptor c) _ _ h.within_255

@@ -130,12 +130,6 @@ on_short (later c total place b) current w on = (on.1, on.2)
 on_short (whole c place) current w on = absurd w
 on_short (faulty place why) current w on = absurd w
 
-pub on_from : (p : Reading) (current : List ℕ) → InWork p → fault_at p current ≡ None → length current < first_byte current → length current < 255 → GoesOn (with_current p current)
-on_from (first b) current w fine short bound = (no_header _ fine, short, bound)
-on_from (later c total place b) current w fine short bound = (no_item place _ fine, short, bound)
-on_from (whole c place) current w fine short bound = absurd w
-on_from (faulty place why) current w fine short bound = absurd w
-
 -- ---- a step
 
 pub step_refused : (old p new : Reading) (current bytes : List ℕ) (count : ℕ) (fault : SetFault) → with_current p current ≡ old → InWork old → GoesOn old → fault_at p (current ++ take count bytes) ≡ Some fault
@@ -219,7 +213,7 @@ pub whole_now : (current xs : List ℕ) → 0 < length current → length (curre
 whole_now [] xs some e = absurd (omega arith)
 whole_now (x ∷ current) xs some e = eq-eqb (length (current ++ xs) + 1) x (omega arith)
 
--- the front of some bytes, at its length
+-- a prefix of some bytes, at its length
 pub front_taken : (front rest : List ℕ) → take (length front) (front ++ rest) ≡ front
 front_taken [] rest = refl
 front_taken (x ∷ front) rest = ap (λ (z : List ℕ). x ∷ z) (front_taken front rest)
@@ -282,7 +276,7 @@ on_err (Err x) P e h = h
 pub wanting_still : {A E : Type 0} (p new : Reading) (r : Result A E) (fault : SetFault) → is_err r ≡ true → OnErr r (place_of new ≡ place_of p) → IsWanting (place_of new) fault → IsWanting (place_of p) fault
 wanting_still p new r fault e h w = (w.0 ∙ on_err r (place_of new ≡ place_of p) e h, w.1)
 
--- ---- no fault lies behind the first four bytes
+-- ---- no fault lies after the first four bytes
 
 pub settled_append : (p : Reading) (a b : List ℕ) → 4 ≤ length a → fault_at p a ≡ None → fault_at p (a ++ b) ≡ None
 settled_append (first c) a b n e = ap header_at (header_settled a b (no_header _ e) n)

@@ -1,4 +1,4 @@
--- Sets that nothing stands against have a layout.
+-- Sets that are refused for no reason have a layout.
 use Rattle.std.proofs.Common.{◌≡◌, ◌↔◌, ℕ, ◌+◌, ◌<◌, Bool, true, false, ltb, List, [], ◌∷◌, ◌++◌, length, Some, None, if◌then◌else◌, refl, sym, ap, arith}
 use Rattle.std.proofs.lemmas.Bool.{or_parts}
 use Rattle.std.proofs.lemmas.Bool.Decides.{nat_tests}
@@ -28,7 +28,7 @@ descriptors_fit (d ∷ ds) fit short =
 with_total : (c : Configuration) (total : ℕ) → total < 65536 → AllFieldsFit c → AllByRecursion FieldsFit (set_descriptors c total)
 with_total c total within fit = ((fit.0.0, (omega arith, (omega arith, fit.0.1.1.1))), fit.1)
 
--- nothing stands against the set
+-- the set is refused for no reason
 record Unrefused (c : Configuration) : Type 0 where
   within_255 : has_long_descriptor c ≡ false
   raws_are_raw : has_typed_raw c ≡ false

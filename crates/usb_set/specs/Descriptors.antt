@@ -22,7 +22,7 @@ pub record Descriptor : Type 0 where
 abbrev pub descriptor_bytes : Descriptor → List ℕ
 descriptor_bytes d = (2 + length d.body) ∷ d.kind ∷ d.body
 
--- a descriptor that is kept as it stands
+-- a descriptor that is kept as it is
 abbrev pub raw_descriptor : Raw → Descriptor
 raw_descriptor r = record { kind = r.kind; body = r.body }
 
@@ -57,7 +57,7 @@ association_of body = record {
   tail = drop 6 body;
 }
 
--- the extra of a descriptor: of a type that is none of theirs it is kept as it stands
+-- the extra of a descriptor: of a type that is none of theirs it is kept as it is
 abbrev pub extra_of : Descriptor → Extra
 extra_of item =
     if item.kind == 11 then extras.Association (association_of item.body)
@@ -105,7 +105,7 @@ abbrev pub type_number : SetKind → ℕ
 type_number kinds.Configuration = 2
 type_number kinds.OtherSpeed = 7
 
--- the fields of a set's first descriptor behind wTotalLength, in the order of its bytes (9.6.3 and 9.6.4)
+-- the fields of a set's first descriptor after wTotalLength, in the order of its bytes (9.6.3 and 9.6.4)
 abbrev pub configuration_fields : List (Field Configuration)
 configuration_fields =
     byte (codes "bNumInterfaces") (λ c. c.declared_interfaces)

@@ -20,7 +20,7 @@ refusal_of c =
     else if nat_lt 65535 (set_length c) then Some TooLong
     else None
 
--- *Out of memory* is told of sets that have bytes, and else the first reason.
+-- *Out of memory* is reported of sets that have bytes, and else the first reason.
 abbrev pub Refuses : Configuration → EncodeFault → Type 0
 Refuses c Memory = refusal_of c ≡ None
 Refuses c fault = refusal_of c ≡ Some fault

@@ -9,12 +9,12 @@ use Rattle.usb_set.specs.Descriptors.{Descriptor}
 use Rattle.usb_set.specs.Faults.{is_whole, Reaches, Begins, Faulty, IsOpen}
 use Rattle.usb_set.specs.Decoding.{Decoding, gathers, has, refused}
 
--- From this place on these bytes stand, and a descriptor starts there: the first one, or one behind
+-- From this place on these are the bytes, and a descriptor starts there: the first one, or one after
 -- whole ones without fault.
 abbrev pub StartsAt : List ℕ → ℕ → List ℕ → Type 0
 StartsAt b place rest = ((place ≡ 0) × (rest ≡ b)) ⊎ ((header : List ℕ) × (items : List Descriptor) × Reaches b header items place rest)
 
--- Memory is wanting for a whole descriptor, and is told at its place: its last byte came with the piece.
+-- Out of memory for a whole descriptor, which is reported at its place: its last byte came with the piece.
 pub record WantsMemory (s piece : List ℕ) (fault : SetFault) : Type 0 where
   pub why : fault.why ≡ Memory
   pub item : List ℕ
@@ -23,7 +23,7 @@ pub record WantsMemory (s piece : List ℕ) (fault : SetFault) : Type 0 where
   pub whole : is_whole item ≡ true
   pub in_piece : length s < fault.at + length item
 
--- The answer to a piece after these bytes: more where the join is open; done where a front of it is
+-- The answer to a piece after these bytes: more where the join is open; done where a prefix of it is
 -- a layout that ends in the piece; the fault that the join shows; or out of memory.
 abbrev pub Feeds : List ℕ → List ℕ → Result Progress SetFault → Decoding → Type 0
 Feeds s piece (Ok More) new = IsOpen (s ++ piece) × (new ≡ gathers (s ++ piece))
@@ -50,7 +50,7 @@ Finishes (gathers s) result = result ≡ Err (record { at = length s; why = Trun
 Finishes (has c) result = result ≡ Ok c
 Finishes (refused fault) result = result ≡ Err fault
 
--- what one call reads from the front of some bytes: a set of so many of them, or why there is none
+-- what one call reads of some bytes: a set of so many of the first, or why there is none
 abbrev pub ReadsSet : List ℕ → Result (Configuration × ℕ) SetFault → Type 0
 ReadsSet b (Ok set) = Begins b set.0 set.1
 ReadsSet b (Err fault) =

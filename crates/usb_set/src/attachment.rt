@@ -1,5 +1,5 @@
 //! The tree with one more descriptor.
-ghost use Rattle.std.specs.Prelude.{◌≡◌, ◌≤◌, ◌<◌, ◌+◌, [], ◌∷◌, ◌++◌, length, OnOk, IfOk};
+ghost use Rattle.std.specs.Prelude.{◌≡◌, ◌≤◌, ◌<◌, ◌+◌, [], ◌∷◌, ◌++◌, length, OnOk, OnErr, IfOk};
 ghost use Rattle.usb_set.specs.Faults.{least_length};
 ghost use Rattle.usb_set.specs.inside.Reading.{attach, configuration_of, endpoint_of, endpoint_with_extra, set_with_endpoint, set_with_extra, set_with_setting, setting_of, setting_with_endpoint, setting_with_extra, with_last};
 
@@ -46,7 +46,8 @@ pub(crate) fn read_configuration(alloc: Global, bytes: &[u8]) -> Result<Configur
 #[inline(never)]
 fn add_setting(alloc: Global, c: &mut Configuration, body: &[u8]) -> Result<(), AllocError>
     requires { 7 ≤ length body.now }
-    ensures { OnOk result (c.new ≡ set_with_setting (setting_of body.now) c.old) }
+    ensures ok { OnOk result (c.new ≡ set_with_setting (setting_of body.now) c.old) }
+    ensures err { OnErr result (c.new ≡ c.old) }
 {
     let tail = read_bytes(alloc, &body[7..])?;
     c.settings.push(Setting {
@@ -81,7 +82,8 @@ fn read_endpoint(alloc: Global, body: &[u8]) -> Result<Endpoint, AllocError>
 
 #[tactic(auto, unfolding(crate::specs::inside::Reading::endpoint_with_extra))]
 fn add_to_endpoint(e: &mut Endpoint, extra: Extra) -> Result<(), AllocError>
-    ensures { OnOk result (e.new ≡ endpoint_with_extra extra e.old) }
+    ensures ok { OnOk result (e.new ≡ endpoint_with_extra extra e.old) }
+    ensures err { OnErr result (e.new ≡ e.old) }
 {
     e.extras.push(extra)?;
     Ok(())
@@ -90,7 +92,8 @@ fn add_to_endpoint(e: &mut Endpoint, extra: Extra) -> Result<(), AllocError>
 #[tactic(auto, unfolding(crate::specs::inside::Reading::setting_with_endpoint))]
 #[inline(always)]
 fn push_endpoint(s: &mut Setting, endpoint: Endpoint) -> Result<(), AllocError>
-    ensures { OnOk result (s.new ≡ setting_with_endpoint endpoint s.old) }
+    ensures ok { OnOk result (s.new ≡ setting_with_endpoint endpoint s.old) }
+    ensures err { OnErr result (s.new ≡ s.old) }
 {
     s.endpoints.push(endpoint)?;
     Ok(())
@@ -102,7 +105,8 @@ fn push_endpoint(s: &mut Setting, endpoint: Endpoint) -> Result<(), AllocError>
 fn add_endpoint(alloc: Global, c: &mut Configuration, body: &[u8]) -> Result<(), AllocError>
     requires body { 5 ≤ length body.now }
     requires belongs { 0 < length c.old.settings }
-    ensures { OnOk result (c.new ≡ set_with_endpoint (endpoint_of body.now) c.old) }
+    ensures ok { OnOk result (c.new ≡ set_with_endpoint (endpoint_of body.now) c.old) }
+    ensures err { OnErr result (c.new ≡ c.old) }
 {
     let endpoint = read_endpoint(alloc, body)?;
     let count = c.settings.len();
@@ -112,7 +116,8 @@ fn add_endpoint(alloc: Global, c: &mut Configuration, body: &[u8]) -> Result<(),
 /// Adds one at the end of such a list.
 #[inline(never)]
 fn add_extra(extras: &mut Sequence<Extra>, extra: Extra) -> Result<(), AllocError>
-    ensures { OnOk result (extras.new ≡ extras.old ++ extra ∷ []) }
+    ensures ok { OnOk result (extras.new ≡ extras.old ++ extra ∷ []) }
+    ensures err { OnErr result (extras.new ≡ extras.old) }
 {
     extras.push(extra)?;
     Ok(())
@@ -121,7 +126,8 @@ fn add_extra(extras: &mut Sequence<Extra>, extra: Extra) -> Result<(), AllocErro
 #[tactic(auto, using(crate::proofs::Last::with_last_is), unfolding(crate::specs::inside::Reading::setting_with_extra))]
 #[inline(always)]
 fn add_to_setting(s: &mut Setting, extra: Extra) -> Result<(), AllocError>
-    ensures { OnOk result (s.new ≡ setting_with_extra extra s.old) }
+    ensures ok { OnOk result (s.new ≡ setting_with_extra extra s.old) }
+    ensures err { OnErr result (s.new ≡ s.old) }
 {
     let count = s.endpoints.len();
     if count == 0 {
@@ -135,7 +141,8 @@ fn add_to_setting(s: &mut Setting, extra: Extra) -> Result<(), AllocError>
 #[tactic(auto, using(crate::proofs::Last::with_last_is), unfolding(crate::specs::inside::Reading::set_with_extra))]
 #[inline(always)]
 fn add_to_set(c: &mut Configuration, extra: Extra) -> Result<(), AllocError>
-    ensures { OnOk result (c.new ≡ set_with_extra extra c.old) }
+    ensures ok { OnOk result (c.new ≡ set_with_extra extra c.old) }
+    ensures err { OnErr result (c.new ≡ c.old) }
 {
     let count = c.settings.len();
     if count == 0 {
@@ -146,7 +153,7 @@ fn add_to_set(c: &mut Configuration, extra: Extra) -> Result<(), AllocError>
     Ok(())
 }
 
-/// Adds a whole descriptor, which belongs to the nearest typed one before it.
+/// Adds a whole descriptor, which belongs to the nearest typed one before it. When out of memory the set stays.
 #[tactic(auto, using(crate::proofs::Last::with_last_is), unfolding(crate::specs::inside::Reading::attach))]
 #[inline(always)]
 pub(crate) fn attach(
@@ -157,7 +164,8 @@ pub(crate) fn attach(
 ) -> Result<(), AllocError>
     requires long { least_length kind ≤ 2 + length body.now }
     requires belongs { kind ≡ 5 → 0 < length c.old.settings }
-    ensures { OnOk result (c.new ≡ attach c.old (record { kind = kind; body = body.now })) }
+    ensures ok { OnOk result (c.new ≡ attach c.old (record { kind = kind; body = body.now })) }
+    ensures err { OnErr result (c.new ≡ c.old) }
 {
     match kind {
         descriptor_type::INTERFACE => {

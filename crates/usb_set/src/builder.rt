@@ -1,5 +1,5 @@
 //! A set, built descriptor by descriptor.
-ghost use Rattle.std.specs.Prelude.{◌≡◌, ◌≤◌, [], None, OnOk, IfOk, length, true, false};
+ghost use Rattle.std.specs.Prelude.{◌≡◌, ◌≤◌, [], None, OnOk, OnErr, IfOk, length, true, false};
 ghost use Rattle.usb_set.specs.Building.{Adds, BeginsWith, has_setting};
 ghost use Rattle.usb_set.specs.Faults.{is_set_type, is_whole, item_fault};
 ghost use Rattle.usb_set.specs.Layout.{has_typed_raw};
@@ -51,7 +51,7 @@ pub fn next_fault(set: &Configuration, room: usize, descriptor: &[u8]) -> Option
 }
 
 /// Adds a descriptor, which belongs to the nearest one before it that can own it: the set has its descriptors and this
-/// one after them. When out of memory, the set may have it in part.
+/// one after them. When out of memory the set stays.
 ///
 /// ```rust
 /// add_descriptor(alloc, &mut set, &[9, 4, 0, 0, 1, 3, 0, 0, 0])?;
@@ -74,6 +74,7 @@ pub fn add_descriptor(
     requires whole { is_whole descriptor.now ≡ true }
     ensures adds { OnOk result (Adds set.old descriptor.now set.new) }
     ensures raws { OnOk result (has_typed_raw set.old ≡ false → has_typed_raw set.new ≡ false) }
+    ensures err { OnErr result (set.new ≡ set.old) }
 {
     known_bytes(descriptor);
     attach(alloc, set, descriptor[1], &descriptor[2..])

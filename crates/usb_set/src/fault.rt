@@ -59,27 +59,34 @@ impl SetWhy {
             SetWhy::Memory => 10,
         }
     }
+
+    /// The message, for people.
+    pub fn message(self) -> &'static str
+        ensures { result.now ≡ why_message self }
+    {
+        SET_MESSAGES[usize::from(self.number()) - 1]
+    }
 }
+
+/// The messages of faults of bytes, in the order of their numbers.
+const SET_MESSAGES: [&str; 10] = [
+    "the first bLength is below 9",
+    "the first descriptor is no configuration",
+    "wTotalLength is below the first bLength",
+    "a bLength is below 2",
+    "a descriptor ends past wTotalLength",
+    "a configuration inside a set",
+    "an interface, endpoint or association descriptor is too short",
+    "an endpoint before any interface",
+    "the bytes end before the set does",
+    "out of memory",
+];
 
 impl fmt::Display for SetWhy {
     ghost output = { λ why. Some (why_message why) };
 
     fn fmt<W: fmt::Write>(&self, f: &mut fmt::Formatter<W>) -> fmt::Result {
-        match self {
-            SetWhy::HeaderLength => write!(f, "the first bLength is below 9"),
-            SetWhy::HeaderKind => write!(f, "the first descriptor is no configuration"),
-            SetWhy::Total => write!(f, "wTotalLength is below the first bLength"),
-            SetWhy::ItemLength => write!(f, "a bLength is below 2"),
-            SetWhy::Over => write!(f, "a descriptor ends past wTotalLength"),
-            SetWhy::Nested => write!(f, "a configuration inside a set"),
-            SetWhy::ItemShort => write!(
-                f,
-                "an interface, endpoint or association descriptor is too short"
-            ),
-            SetWhy::Stray => write!(f, "an endpoint before any interface"),
-            SetWhy::Truncated => write!(f, "the bytes end before the set does"),
-            SetWhy::Memory => write!(f, "out of memory"),
-        }
+        f.write_str(self.message())
     }
 }
 
@@ -156,18 +163,28 @@ impl EncodeFault {
             EncodeFault::Memory => 4,
         }
     }
+
+    /// The message, for people.
+    pub fn message(self) -> &'static str
+        ensures { result.now ≡ encode_message self }
+    {
+        ENCODE_MESSAGES[usize::from(self.number()) - 1]
+    }
 }
+
+/// The messages of refusals to write, in the order of their numbers.
+const ENCODE_MESSAGES: [&str; 4] = [
+    "a descriptor would be over 255 bytes",
+    "a raw descriptor of a type that a set reads",
+    "the set would be over 65535 bytes",
+    "out of memory",
+];
 
 impl fmt::Display for EncodeFault {
     ghost output = { λ fault. Some (encode_message fault) };
 
     fn fmt<W: fmt::Write>(&self, f: &mut fmt::Formatter<W>) -> fmt::Result {
-        match self {
-            EncodeFault::Tail => write!(f, "a descriptor would be over 255 bytes"),
-            EncodeFault::RawKind => write!(f, "a raw descriptor of a type that a set reads"),
-            EncodeFault::TooLong => write!(f, "the set would be over 65535 bytes"),
-            EncodeFault::Memory => write!(f, "out of memory"),
-        }
+        f.write_str(self.message())
     }
 }
 

@@ -102,14 +102,14 @@ impl Partial {
         requires fine { fault_at self.now (take before bytes.now) ≡ None }
         ensures { result ≡ fault_at self.now bytes.now }
     {
-        // No fault lies behind wTotalLength.
+        // No fault lies after wTotalLength.
         if before >= 4 {
             return None;
         }
         self.fault_in(bytes)
     }
 
-    /// Adds a whole descriptor. When out of memory it may be added in part.
+    /// Adds a whole descriptor. When out of memory the place stays.
     #[inline(always)]
     pub(crate) fn grow(&mut self, alloc: Global, item: &[u8]) -> Result<(), AllocError>
         requires work { InWork self.old }

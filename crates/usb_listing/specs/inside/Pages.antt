@@ -3,7 +3,7 @@ use Rattle.std.specs.Prelude.{◌≡◌, ℕ, List, ◌++◌}
 use Rattle.std.specs.Io.KnownBytes.{Appends}
 use Rattle.usb_listing.specs.Output.{Held}
 
--- The text was put at the end of a page, of which the writer gained a front; the page holds the rest.
+-- The text was put at the end of a page, of which the writer gained a prefix; the page holds the rest.
 pub record Puts (old new : Held) (page rest text : List ℕ) : Type 0 where
   pub front : List ℕ
   pub parts : page ++ text ≡ front ++ rest

@@ -1,4 +1,4 @@
--- Under which interface numbers an address stands.
+-- Which interface numbers have an address.
 use Rattle.std.specs.Prelude.{ℕ, ◌==◌, ◌&&◌, ◌||◌, not, Bool, true, false, List, map, slice_index_or}
 use Rattle.usb_set.specs.declared.tree.Endpoint.{Endpoint}
 use Rattle.usb_rules.specs.Places.{stands_in}
@@ -12,8 +12,8 @@ abbrev pub is_other : Owner → ℕ → Bool
 is_other (owners.One m) n = not (m == n)
 is_other owners.Several n = true
 
--- the interface number of the setting in work, the addresses that stood in it, and of each address and each number
--- whether the address stood in the set under another number
+-- the interface number of the setting in work, the addresses that it has, and of each address and each number
+-- whether another number of the set has the address
 pub record Claims : Type 0 where
   pub number : ℕ
   pub here : ℕ → Bool
@@ -24,14 +24,14 @@ abbrev pub cleared : Claims → Claims
 cleared t = record t { elsewhere = λ b m. false }
 
 -- a setting of this number begins
-abbrev pub turned : ℕ → Claims → Claims
-turned n t = record t { number = n; here = unmarked }
+abbrev pub begun : ℕ → Claims → Claims
+begun n t = record t { number = n; here = unmarked }
 
 -- the number has this address too
 unfoldable pub owned_at : ℕ → (ℕ → ℕ → Bool) → ℕ → ℕ → ℕ → Bool
 owned_at n t a b m = (not (n == m) && (a == b)) || t b m
 
--- the address stands in the setting in work
+-- the setting in work has the address
 abbrev pub claimed : ℕ → Claims → Claims
 claimed a t = record t { here = marked t.here a; elsewhere = owned_at t.number t.elsewhere a }
 

@@ -8,13 +8,13 @@ use Rattle.usb_rules.specs.declared.interfaces.Interface.{Interface}
 use Rattle.usb_rules.specs.Places.{at_each, stands_in, when}
 use Rattle.usb_rules.specs.Rules.{is_first, number_of}
 
--- which interface numbers stood, with which alternates, and where each first stood
+-- which interface numbers there are, with which alternates, and where each comes first
 pub record Entered : Type 0 where
   pub numbers : ℕ → Bool
   pub alternates : ℕ → ℕ → Bool
   pub firsts : List (ℕ × ℕ)
 
--- no setting stood
+-- no setting
 abbrev pub none_entered : Entered
 none_entered = record { numbers = λ n. false; alternates = λ n a. false; firsts = [] }
 
@@ -22,21 +22,21 @@ none_entered = record { numbers = λ n. false; alternates = λ n a. false; first
 abbrev pub begun : ℕ → ℕ → Entered → Entered
 begun number setting e = record { numbers = marked e.numbers number; alternates = e.alternates; firsts = e.firsts ++ (number, setting) ∷ [] }
 
--- this pair stands too
+-- this pair too
 unfoldable pub pair_too : ℕ → ℕ → (ℕ → ℕ → Bool) → ℕ → ℕ → Bool
 pair_too n a pairs m b = ((n == m) && (a == b)) || pairs m b
 
--- a setting of an interface that began stands too
-abbrev pub paired : ℕ → ℕ → Entered → Entered
-paired n a e = record { numbers = e.numbers; alternates = pair_too n a e.alternates; firsts = e.firsts }
+-- a setting more of an interface that began
+abbrev pub with_alternate : ℕ → ℕ → Entered → Entered
+with_alternate n a e = record { numbers = e.numbers; alternates = pair_too n a e.alternates; firsts = e.firsts }
 
--- the interface of this number stands, and began at the setting of this place if it did not stand before
-abbrev pub settled : ℕ → ℕ → Entered → Entered
-settled n setting e = record { numbers = marked e.numbers n; alternates = e.alternates; firsts = e.firsts ++ when (not (e.numbers n)) (n, setting) }
+-- the interface of this number too, which began at the setting of this place if it was not there before
+abbrev pub with_interface : ℕ → ℕ → Entered → Entered
+with_interface n setting e = record { numbers = marked e.numbers n; alternates = e.alternates; firsts = e.firsts ++ when (not (e.numbers n)) (n, setting) }
 
--- the setting of this place stands too
+-- the setting of this place too
 abbrev pub entered : ℕ → Setting → Entered → Entered
-entered setting s e = paired s.number s.alternate (settled s.number setting e)
+entered setting s e = with_alternate s.number s.alternate (with_interface s.number setting e)
 
 -- the interface that begins at a setting, by its place
 abbrev pub first_at : List Setting → ℕ → Setting → List (ℕ × ℕ)
@@ -46,14 +46,14 @@ first_at settings j s = when (is_first (take j settings) s) (s.number, j)
 abbrev pub firsts_of : List Setting → List (ℕ × ℕ)
 firsts_of settings = at_each (first_at settings) 0 settings
 
--- whether a setting of this number and alternate stands in the list
-abbrev pub stood : List Setting → ℕ → ℕ → Bool
-stood settings n a = list_any (λ t. (t.number == n) && (t.alternate == a)) settings
+-- whether a setting of the list has this number and alternate
+abbrev pub has_alternate : List Setting → ℕ → ℕ → Bool
+has_alternate settings n a = list_any (λ t. (t.number == n) && (t.alternate == a)) settings
 
 -- just these settings were entered
 pub record AreEntered (settings : List Setting) (e : Entered) : Type 0 where
   pub numbers : e.numbers ≡ stands_in (map number_of settings)
-  pub alternates : e.alternates ≡ stood settings
+  pub alternates : e.alternates ≡ has_alternate settings
   pub firsts : e.firsts ≡ firsts_of settings
 
 -- each interface has an alternate setting 0
@@ -62,16 +62,17 @@ HaveDefaults e = (n : ℕ) → e.numbers n ≡ true → e.alternates n 0 ≡ tru
 
 -- none of the settings before this place has the number and alternate of an earlier one
 abbrev pub AreNew : List Setting → ℕ → Type 0
-AreNew settings i = (j : ℕ) → j < i → (s : Setting) → s ≡ get_or settings j s → stood (take j settings) s.number s.alternate ≡ false
+AreNew settings i = (j : ℕ) → j < i → (s : Setting) → s ≡ get_or settings j s → has_alternate (take j settings) s.number s.alternate ≡ false
 
 -- no setting breaks V3 or V4
-pub record KeepV3AndV4 (settings : List Setting) : Type 0 where
+pub record NoneBreaksV3OrV4 (settings : List Setting) : Type 0 where
   pub repeated : AreNew settings (length settings)
-  pub defaults : (n : ℕ) → stands_in (map number_of settings) n ≡ true → stood settings n 0 ≡ true
+  pub defaults : (n : ℕ) → stands_in (map number_of settings) n ≡ true → has_alternate settings n 0 ≡ true
 
--- what settings before say of V3 and V4, where one may break them, and else that none does
-abbrev pub seen : Bool → Entered → Entered
-seen may_break e = record e { numbers = λ n. not may_break || e.numbers n; alternates = λ n a. may_break && e.alternates n a }
+-- the numbers and alternates that V3 and V4 compare a setting with: those before it, where one may break a rule, and
+-- else such that none does
+abbrev pub compared_with : Bool → Entered → Entered
+compared_with may_break e = record e { numbers = λ n. not may_break || e.numbers n; alternates = λ n a. may_break && e.alternates n a }
 
 -- an interface by its number and the place of its first setting
 abbrev pub first_of : Interface → ℕ × ℕ
@@ -81,7 +82,7 @@ first_of i = (i.number, i.first)
 abbrev pub number_at : List Interface → ℕ → ℕ → ℕ
 number_at list place n = slice_index_or (map (λ i. i.number) list) place (n + 1)
 
--- where the interface of a number stands, if it has one
+-- the place of the interface of a number, if it has one
 abbrev pub place_of : List ℕ → ℕ → ℕ
 place_of places n = slice_index_or places n 0
 
@@ -91,7 +92,7 @@ pub record Table : Type 0 where
   pub places : List ℕ
   pub marks : List ℕ
 
--- of each number with a mark an interface stands at its place
+-- each number with a mark has an interface at its place
 pub record AreFound (t : Table) : Type 0 where
   pub room : length t.places ≡ 256
   pub found : (n : ℕ) → is_marked t.marks n ≡ true → number_at t.list (place_of t.places n) n ≡ n

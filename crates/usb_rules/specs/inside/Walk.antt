@@ -14,7 +14,7 @@ use Rattle.usb_rules.specs.declared.rule.Rule.TheVariants as rules
 use Rattle.usb_rules.specs.Places.{at_each, at_each_counted, finding, stands_in, when}
 use Rattle.usb_rules.specs.Rules.{address_of, has_elsewhere, has_number_gap, number_of, value_of, wrong_address, wrong_attributes, wrong_endpoint_count, wrong_interface_count, wrong_packet_size}
 use Rattle.usb_rules.specs.InOrder.{association_count, endpoint_associations, setting_associations}
-use Rattle.usb_rules.specs.inside.Interfaces.{misses_some, stood}
+use Rattle.usb_rules.specs.inside.Interfaces.{misses_some, has_alternate}
 
 -- a place at the numbers of a set, a setting and an endpoint
 abbrev pub place : Part → ℕ → ℕ → ℕ → Place
@@ -46,14 +46,14 @@ endpoint_at at stands elsewhere s k n e =
     in_endpoint (place at.part at.set at.setting k) (stands_in (map address_of (take k s.endpoints))) (λ b. elsewhere b s.number) e
     ++ in_extras at stands n e.extras
 
--- at an interface, given whether the whole set has an alternate, which numbers and alternates stood before
+-- at an interface, given whether the whole set has an alternate, which numbers and alternates come before
 abbrev pub in_interface : Place → (ℕ → ℕ → Bool) → (ℕ → Bool) → (ℕ → ℕ → Bool) → Setting → List Finding
 in_interface at whole numbers alternates s =
     when (alternates s.number s.alternate) (broken rules.V3 at)
     ++ when (not (numbers s.number) && not (whole s.number 0)) (broken rules.V4 at)
     ++ when (wrong_endpoint_count s) (broken rules.V5 at)
 
--- in a setting, by what the whole set has, what stood before it, which addresses other interfaces have, and how many
+-- in a setting, by what the whole set has, what comes before it, which addresses other interfaces have, and how many
 -- associations come before
 abbrev pub in_setting : Place → (ℕ → Bool) → (ℕ → ℕ → Bool) → (ℕ → Bool) → (ℕ → ℕ → Bool) → (ℕ → ℕ → Bool) → ℕ → Setting → List Finding
 in_setting at stands whole numbers alternates elsewhere n s =
@@ -64,10 +64,10 @@ in_setting at stands whole numbers alternates elsewhere n s =
 -- at a setting of a set, by its place and how many associations come before
 abbrev pub setting_at : Place → List Setting → ℕ → ℕ → Setting → List Finding
 setting_at at settings j n s =
-    in_setting (place at.part at.set j 0) (stands_in (map number_of settings)) (stood settings)
-    (stands_in (map number_of (take j settings))) (stood (take j settings)) (shared_with (take j settings)) n s
+    in_setting (place at.part at.set j 0) (stands_in (map number_of settings)) (has_alternate settings)
+    (stands_in (map number_of (take j settings))) (has_alternate (take j settings)) (shared_with (take j settings)) n s
 
--- at the first descriptor of a set, by the values that stood in its part
+-- at the first descriptor of a set, by the values of those before it in its part
 abbrev pub in_configuration : Place → (ℕ → Bool) → Configuration → List Finding
 in_configuration at values c =
     when (wrong_interface_count c) (broken rules.V1 at)

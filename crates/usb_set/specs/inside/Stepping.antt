@@ -93,7 +93,7 @@ past (later c total place b) item = goes_on (attach c (record { kind = slice_ind
 past (whole c place) item = whole c place
 past (faulty place why) item = faulty place why
 
--- memory is wanting at this place
+-- out of memory at this place
 abbrev pub IsWanting : ℕ → SetFault → Type 0
 IsWanting place fault = (fault.at ≡ place) × (fault.why ≡ Memory)
 
@@ -104,7 +104,7 @@ pub record EndsIn (current bytes : List ℕ) : Type 0 where
   pub some : 0 < count
   pub whole : is_whole (current ++ take count bytes) ≡ true
 
--- memory is wanting for the descriptor in work, which ends in these bytes
+-- out of memory for the descriptor in work, which ends in these bytes
 abbrev pub WantsHere : Reading → List ℕ → SetFault → Type 0
 WantsHere r bytes fault = InWork r × IsWanting (place_of r) fault × EndsIn (current_of r) bytes
 
@@ -120,7 +120,7 @@ abbrev pub Keeps : Reading → List ℕ → Bool → Reading → Type 0
 Keeps old bytes true new = (reads old bytes ≡ new) × InWork new
 Keeps old bytes false new = new ≡ old
 
--- memory is wanting behind some of these bytes
+-- out of memory after some of these bytes
 pub record WantsIn (old : Reading) (bytes : List ℕ) (fault : SetFault) : Type 0 where
   pub count : ℕ
   pub here : WantsHere (reads old (take count bytes)) (drop count bytes) fault

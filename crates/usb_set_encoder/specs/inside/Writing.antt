@@ -5,7 +5,7 @@ use Rattle.std.specs.Prelude.{◌≡◌, ℕ, ◌+◌, ◌≤◌, List, ◌++◌
 abbrev pub HasRoom : List ℕ → ℕ → List ℕ → Type 0
 HasRoom buffer at bytes = at + length bytes ≤ length buffer
 
--- the bytes stand at this place, after what stood before it, and end there; the buffer keeps its length
+-- the bytes are at this place, after what was before it, and end there; the buffer keeps its length
 pub record Puts (old : List ℕ) (at : ℕ) (bytes new : List ℕ) (end : ℕ) : Type 0 where
   pub front : take end new ≡ take at old ++ bytes
   pub ends : end ≡ at + length bytes

@@ -13,10 +13,10 @@ loop-set-preserved c =
     let old = c.loop-set.found in
     let inv = c.loop-set.invariant in
     let below : i < length sets = omega (arith, c.loop-set-test.true) in
-    let told = c.in_ok-check_set_at.ensures.told
+    let reported = c.in_ok-check_set_at.ensures.reported
     ∙ ap (λ q. old ++ in_set q (is_marked c.loop-set.values) v) c.of.ensures
     ∙ ap (λ f. old ++ in_set (place c.args.part i 0 0) f v) inv.values in
     record {
-      found = at_each_next (set_at c.args.part sets) sets i v old _ _ below c.index-sets-set.is inv.found told;
+      found = at_each_next (set_at c.args.part sets) sets i v old _ _ below c.index-sets-set.is inv.found reported;
       values = c.in_ok-check_set_at.ensures.marked ∙ ap (λ f. marked f v.value) inv.values ∙ sym (stands_more value_of sets i v below c.index-sets-set.is);
     }

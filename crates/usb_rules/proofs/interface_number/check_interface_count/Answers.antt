@@ -10,4 +10,4 @@ pub returns : goal.returns
 returns c =
     let is = count_is c.args.c.now.settings (kept c.args.interfaces.now) c.list.result.now c.requires c.list.ensures in
     let wrong = ap (λ n. not (n == length c.list.result.now)) c.from-declared.ensures ∙ ap (λ n. not (c.args.c.now.declared_interfaces == n)) is in
-    subst (λ b. OnOk c.tell.result (c.tell.new.self ≡ c.args.found.now ++ when b (broken rules.V1 c.args.place))) wrong c.tell.ensures
+    subst (λ b. OnOk c.report.result (c.report.new.self ≡ c.args.found.now ++ when b (broken rules.V1 c.args.place))) wrong c.report.ensures

@@ -17,4 +17,4 @@ returns c =
     let from : n ≡ 0 + n = omega arith in
     let wrong = ap (nat_lt next) (is ∙ from) ∙ sym (some_absent e.numbers 0 next n c.next_absent.ensures)
     ∙ ap (λ f. list_any (λ m. not (f m)) (range_with_len 0 n)) c.requires.numbers in
-    subst (λ b. OnOk c.tell.result (c.tell.new.self ≡ c.args.found.now ++ when b (broken rules.V2 c.args.place))) wrong c.tell.ensures
+    subst (λ b. OnOk c.report.result (c.report.new.self ≡ c.args.found.now ++ when b (broken rules.V2 c.args.place))) wrong c.report.ensures

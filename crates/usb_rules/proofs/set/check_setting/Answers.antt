@@ -5,9 +5,9 @@ use Rattle.usb_rules.specs.Places.{at_each_counted, stands_in}
 use Rattle.usb_rules.specs.Rules.{address_of}
 use Rattle.usb_rules.specs.InOrder.{association_count, endpoint_associations}
 use Rattle.usb_rules.specs.inside.Addresses.{owned, owned_at, kept as claims}
-use Rattle.usb_rules.specs.inside.Interfaces.{kept as entries, seen}
+use Rattle.usb_rules.specs.inside.Interfaces.{kept as entries, compared_with}
 use Rattle.usb_rules.specs.inside.Walk.{endpoint_at, in_endpoint, in_extras, in_interface, place}
-use Rattle.usb_rules.proofs.Walking.{counted_next, count_behind, ends_next, joined_twice, owned_more, owned_none, owned_same, stands_more}
+use Rattle.usb_rules.proofs.Walking.{counted_next, count_after, ends_next, joined_twice, owned_more, owned_none, owned_same, stands_more}
 use Rattle.usb_rules.proofs.set.check_setting.Goals as goal
 
 pub loop-endpoint-init : goal.loop-endpoint-init
@@ -15,19 +15,19 @@ loop-endpoint-init c =
     let s = c.args.s.now in
     let old = c.args.found.now in
     let stands = (entries c.args.whole.now).numbers in
-    let before = seen c.args.may_break (entries c.args.passed.now.interfaces) in
+    let before = compared_with c.args.may_break (entries c.args.passed.now.interfaces) in
     let other = (claims c.args.passed.now.addresses).elsewhere in
     let at = in_interface c.args.place (entries c.args.whole.now).alternates before.numbers before.alternates s in
     let extras = in_extras c.args.place stands c.args.number s.extras in
     let next : c.in_ok-next.next ≡ c.args.number + association_count s.extras = c.in_ok-next.ensures.next in
     record {
-      found = joined_twice old c.check_interface.new.found c.check_extras.new.found at extras _ c.in_ok-check_interface.ensures.told c.in_ok-next.ensures.told
+      found = joined_twice old c.check_interface.new.found c.check_extras.new.found at extras _ c.in_ok-check_interface.ensures.reported c.in_ok-next.ensures.reported
           ∙ ap (λ n. old ++ (at ++ extras ++ at_each_counted endpoint_associations (endpoint_at c.args.place stands other s) 0 n s.endpoints)) next;
       interfaces = c.in_ok-check_interface.ensures.interfaces;
       number = ap (λ t. t.number) c.begin.ensures;
       here = ap (λ t. t.here) c.begin.ensures;
       elsewhere = ap (λ t. t.elsewhere) c.begin.ensures ∙ sym (owned_none s.number other);
-      next = count_behind s c.args.number c.in_ok-next.next next;
+      next = count_after s c.args.number c.in_ok-next.next next;
     }
 
 pub loop-endpoint-preserved : goal.loop-endpoint-preserved
@@ -49,16 +49,16 @@ loop-endpoint-preserved c =
     let is : e ≡ get_or s.endpoints k e = c.e-item.is ∙ ap (λ xs. get_or xs k e) same in
     let elsewhere = funext (λ b. now.elsewhere b now.number) (λ b. other b s.number) (λ b.
     ap (λ f. f b now.number) inv.elsewhere ∙ ap (owned s.number (take k s.endpoints) other b) inv.number ∙ owned_same s.number other (take k s.endpoints) b) in
-    let at = c.in_ok-check_endpoint.ensures.told
+    let at = c.in_ok-check_endpoint.ensures.reported
     ∙ ap (λ q. old ++ in_endpoint q now.here (λ b. now.elsewhere b now.number) e) c.at_endpoint.ensures
     ∙ ap (λ f. old ++ in_endpoint p f (λ b. now.elsewhere b now.number) e) inv.here
     ∙ ap (λ f. old ++ in_endpoint p here f e) elsewhere in
-    let told = c.in_ok-next-2.ensures.told
+    let reported = c.in_ok-next-2.ensures.reported
     ∙ ap (λ xs. xs ++ in_extras c.args.place stands n e.extras) at
     ∙ append_assoc old (in_endpoint p here (λ b. other b s.number) e) (in_extras c.args.place stands n e.extras) in
     let next : c.in_ok-next-2.next ≡ n + endpoint_associations e = c.in_ok-next-2.ensures.next in
     record {
-      found = counted_next endpoint_associations (endpoint_at c.args.place stands other s) s.endpoints k n _ e old _ _ below is inv.found told next;
+      found = counted_next endpoint_associations (endpoint_at c.args.place stands other s) s.endpoints k n _ e old _ _ below is inv.found reported next;
       interfaces = inv.interfaces;
       number = ap (λ t. t.number) c.in_ok-check_endpoint.ensures.claimed ∙ inv.number;
       here = ap (λ t. t.here) c.in_ok-check_endpoint.ensures.claimed ∙ ap (λ f. marked f e.address) inv.here ∙ sym (stands_more address_of s.endpoints k e below is);

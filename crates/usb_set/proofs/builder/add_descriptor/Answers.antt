@@ -16,13 +16,13 @@ on_ok (Err e) P new made is p = tt
 pub returns-clause-adds : goal.returns-clause-adds
 returns-clause-adds c =
     let d = c.args.descriptor.now in
-    on_ok c.attach.result (Adds c.args.set.now d) c.attach.new.c _ c.attach.ensures
+    on_ok c.attach.result (Adds c.args.set.now d) c.attach.new.c _ c.attach.ensures.ok
     (subst (λ (body : List ℕ). Adds c.args.set.now d (attach c.args.set.now (record { kind = slice_index d 1; body = body }))) (sym (take_rest d 2))
     (add_is c.args.set.now d (length d) c.known_bytes.ensures c.requires.whole c.requires.fine))
 
 pub returns-clause-raws : goal.returns-clause-raws
 returns-clause-raws c =
     let d = c.args.descriptor.now in
-    on_ok c.attach.result (λ new. has_typed_raw c.args.set.now ≡ false → has_typed_raw new ≡ false) c.attach.new.c _ c.attach.ensures
+    on_ok c.attach.result (λ new. has_typed_raw c.args.set.now ≡ false → has_typed_raw new ≡ false) c.attach.new.c _ c.attach.ensures.ok
     (subst (λ (body : List ℕ). has_typed_raw c.args.set.now ≡ false → has_typed_raw (attach c.args.set.now (record { kind = slice_index d 1; body = body })) ≡ false) (sym (take_rest d 2))
     (add_typed c.args.set.now d (length d) c.requires.whole c.requires.fine))

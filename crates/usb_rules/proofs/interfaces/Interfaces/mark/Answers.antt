@@ -1,7 +1,7 @@
 use Rattle.std.proofs.Common.{◌≡◌, ◌&&◌, ◌∙◌, [], refl, ap, sym, map, true, arith}
 use Rattle.std.specs.Prelude.{slice_index_or}
 use Rattle.usb_base.specs.Marks.{is_marked}
-use Rattle.usb_rules.specs.inside.Interfaces.{kept, paired, place_of}
+use Rattle.usb_rules.specs.inside.Interfaces.{kept, with_alternate, place_of}
 use Rattle.usb_rules.proofs.Entering.{found_paired, kept_paired, row_of, within_list}
 use Rattle.usb_rules.proofs.interfaces.Interfaces.mark.Goals as goal
 
@@ -44,4 +44,4 @@ returns-clause-marked c =
     kept_paired (record { list = t.list.items; places = t.places; marks = t.numbers }) n c.args.alternate c.from-place.result
     (record { number = c.index_mut.result.now.number; first = c.index_mut.result.now.first; alternates = c.add.new.self }) c.index_mut.result.now
     c.self.invariant there place c.index_mut.ensures.value (refl, refl, c.add.ensures)
-    ∙ ap (λ v. paired n c.args.alternate (kept v)) c.self.view_is
+    ∙ ap (λ v. with_alternate n c.args.alternate (kept v)) c.self.view_is

@@ -12,7 +12,7 @@ returns-in_ok-c-in-None-clause-ok c =
 
 pub returns-in_ok-attach-in-Some-clause-ok : goal.returns-in_ok-attach-in-Some-clause-ok
 returns-in_ok-attach-in-Some-clause-ok c =
-    grown c.args.self.now c.self.inside.tree c.self.inside.total c.self.inside.place c.in-Some.c c.attach.new.c c.args.item.now c.self.view_is c.requires.work c.in-Some.is c.in_ok-attach-in-Some.ensures
+    grown c.args.self.now c.self.inside.tree c.self.inside.total c.self.inside.place c.in-Some.c c.attach.new.c c.args.item.now c.self.view_is c.requires.work c.in-Some.is c.in_ok-attach-in-Some.ensures.ok
 
 pub returns-in_ok-c-in-None-clause-start : goal.returns-in_ok-c-in-None-clause-start
 returns-in_ok-c-in-None-clause-start c =
