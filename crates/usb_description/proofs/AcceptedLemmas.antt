@@ -1,16 +1,15 @@
 -- What is known of accepted descriptors.
 use Rattle.std.proofs.Common.{◌≡◌, ℕ, ◌*◌, ◌<◌, ◌==◌, Bool, true, false, not, ◌||◌, List, [], ◌∷◌, ◌++◌, length, slice_get, Option, Some, None, refl, arith}
 use Rattle.std.proofs.lemmas.Bool.Decides.{nat_tests}
-use Rattle.std.specs.List.{list_any}
 use Rattle.usb_file_data.specs.declared.file.DescriptorFile.{DescriptorFile}
 use Rattle.usb_file_data.specs.declared.file.Strings.{Strings}
-use Rattle.usb_file_data.specs.File.{has_no_layout, has_long_string, has_wrong_layout, has_wrong_count, has_wrong_kind, are_wrong_strings}
-use Rattle.usb_file_data.specs.Named.{named_indices, other_sets}
+use Rattle.usb_file_data.specs.File.{has_long_string, are_wrong_strings}
+use Rattle.usb_file_data.specs.Named.{named_indices}
 use Rattle.usb_rules.specs.declared.finding.Finding.{Finding}
 use Rattle.usb_rules.specs.Findings.{findings, descriptors}
 use Rattle.usb_rules.specs.Rules.{wrong_device}
 use Rattle.usb_rules.specs.Places.{when}
-use Rattle.usb_description.specs.Accepted.{has_wrong_sets, has_wrong_strings, repeats_language}
+use Rattle.usb_description.specs.Accepted.{has_wrong_strings, repeats_language}
 
 no_left : {X : Type 0} (xs ys : List X) → xs ++ ys ≡ [] → xs ≡ []
 no_left [] ys none = refl
@@ -47,16 +46,6 @@ or_left true b none = cc
 or_right : (a b : Bool) → (a || b) ≡ false → b ≡ false
 or_right false b none = none
 or_right true b none = cc
-
--- accepted sets have bytes
-pub sets_have_bytes : (f : DescriptorFile) → has_wrong_sets f ≡ false → list_any has_no_layout f.sets ≡ false
-unfolding has_wrong_sets
-sets_have_bytes f right = or_left _ _ (or_right (has_wrong_count f || has_wrong_kind f) (has_wrong_layout f) right)
-
-pub other_sets_have_bytes : (f : DescriptorFile) → has_wrong_sets f ≡ false → list_any has_no_layout (other_sets f.other) ≡ false
-unfolding has_wrong_sets
-other_sets_have_bytes f right =
-    or_right (list_any has_no_layout f.sets) _ (or_right (has_wrong_count f || has_wrong_kind f) (has_wrong_layout f) right)
 
 -- accepted strings have bytes
 short_strings : (count : ℕ) (strings : Option Strings) → are_wrong_strings count strings ≡ false → has_long_string strings ≡ false

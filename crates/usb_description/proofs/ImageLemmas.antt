@@ -1,7 +1,7 @@
 -- Byte strings in one buffer.
 use Rattle.std.proofs.Common.{◌≡◌, ℕ, zero, suc, ◌≤◌, List, [], ◌∷◌, ◌++◌, length, drop, take, map, refl, sym, arith}
 use Rattle.std.specs.List.{AllByRecursion}
-use Rattle.std.proofs.lemmas.List.{length-append, take-append-le, drop-append-le, drop_at, take_all, length-drop}
+use Rattle.std.proofs.lemmas.List.{take-append-le, drop-append-le, drop_at, take_all, length-drop}
 use Rattle.usb_base.specs.Bytes.{AreBytes}
 use Rattle.usb_description.specs.declared.image.Span.{Span}
 use Rattle.usb_description.specs.inside.Images.{span_bytes, IsSpan}
@@ -17,16 +17,6 @@ span_bytes-append bytes more s within =
 span_bytes-added : (bytes more : List ℕ) (s : Span) → s.start ≡ length bytes → s.count ≡ length more → span_bytes (bytes ++ more) s ≡ more
 span_bytes-added bytes more s start count =
     rw (drop_at bytes more s.start (sym start), take_all s.count more (omega arith)) refl
-
-pub IsSpan-append : (bytes more : List ℕ) (spans : List Span) → AllByRecursion (IsSpan bytes) spans → AllByRecursion (IsSpan (bytes ++ more)) spans
-IsSpan-append bytes more [] within = tt
-IsSpan-append bytes more (s ∷ spans) within =
-    (omega (arith, length-append bytes more, within.0), IsSpan-append bytes more spans within.1)
-
-pub IsSpan-push : (bytes more : List ℕ) (s : Span) (spans : List Span) → s.start ≡ length bytes → s.count ≡ length more → AllByRecursion (IsSpan bytes) spans → AllByRecursion (IsSpan (bytes ++ more)) (spans ++ s ∷ [])
-IsSpan-push bytes more s [] start count within = (omega (arith, length-append bytes more), tt)
-IsSpan-push bytes more s (t ∷ spans) start count within =
-    (omega (arith, length-append bytes more, within.0), IsSpan-push bytes more s spans start count within.1)
 
 -- one byte string more
 pub pieces-push : (bytes more : List ℕ) (s : Span) (spans : List Span) → s.start ≡ length bytes → s.count ≡ length more → AllByRecursion (IsSpan bytes) spans → map (span_bytes (bytes ++ more)) (spans ++ s ∷ []) ≡ map (span_bytes bytes) spans ++ more ∷ []
@@ -44,7 +34,7 @@ drop_fit zero bytes h = h
 drop_fit (suc n) [] h = tt
 drop_fit (suc n) (b ∷ bytes) h = drop_fit n bytes h.1
 
--- what stands in a buffer of bytes are bytes
+-- what is in a buffer of bytes are bytes
 pub pieces_fit : (bytes : List ℕ) (spans : List Span) → AreBytes bytes → AllByRecursion AreBytes (map (span_bytes bytes) spans)
 pieces_fit bytes [] h = tt
 pieces_fit bytes (s ∷ spans) h = (take_fit s.count (drop s.start bytes) (drop_fit s.start bytes h), pieces_fit bytes spans h)

@@ -1,7 +1,6 @@
--- Where descriptors stand in a description.
-use Rattle.std.proofs.Common.{◌≡◌, ℕ, zero, suc, ◌+◌, ◌*◌, ◌<◌, ◌≤◌, List, [], ◌∷◌, ◌++◌, length, map, slice_get, Option, Some, None, refl, arith}
+-- Where descriptors are in a description.
+use Rattle.std.proofs.Common.{◌≡◌, ℕ, zero, suc, ◌+◌, ◌<◌, ◌≤◌, List, [], ◌∷◌, ◌++◌, length, map, slice_get, Option, Some, None, refl, arith}
 use Rattle.std.proofs.Common.{inl, inr}
-use Rattle.std.proofs.Math.Nat.{mul-le-mul_right}
 use Rattle.std.specs.Option.{option_map}
 use Rattle.std.proofs.lemmas.Option.{slice_get-map, slice_get_within, slice_get_cases, slice_get_past}
 use Rattle.usb_fields.specs.Device.{device_bytes}
@@ -40,7 +39,7 @@ get_there f xs i within =
       | inr past ↦ absurd (let le : length xs ≤ i = past.0 in omega arith)
     ]
 
--- what stands at a place is found there
+-- what is at a place is found there
 found : (f : DescriptorFile) (bytes : Option (List ℕ)) (place : ℕ) (b : List ℕ) → bytes ≡ Some b → slice_get (descriptors f) place ≡ Some b → IsFound f bytes place
 found f bytes place b is at = record { bytes_are = rw at is; within = slice_get_within (descriptors f) place b at }
 
@@ -68,7 +67,7 @@ set_found f i within =
 pub set_missing : (sets : List Configuration) (i : ℕ) → length sets ≤ i → set_at sets i ≡ None
 set_missing sets i past = rw (slice_get_past sets i past) refl
 
--- what stands among the descriptors of the second speed
+-- what is among the descriptors of the second speed
 other_there : (f : DescriptorFile) (i : ℕ) (b : List ℕ) → slice_get (other_descriptors f.other) i ≡ Some b → slice_get (descriptors f) (length (main_descriptors f) + i) ≡ Some b
 unfolding descriptors
 other_there f i b at =
@@ -91,7 +90,7 @@ other_set_found f o place i is at within =
     let mine : slice_get (other_descriptors f.other) (suc i) ≡ Some b = rw is there.2 in
     found f (other_set_at f.other i) (place + 1 + i) b (rw is there.1) (rw (← next) (other_there f (suc i) b mine))
 
--- what stands among the strings
+-- what is among the strings
 string_there : (f : DescriptorFile) (i : ℕ) (b : List ℕ) → slice_get (string_descriptors f.strings) i ≡ Some b → slice_get (descriptors f) (length (main_descriptors f ++ other_descriptors f.other) + i) ≡ Some b
 unfolding descriptors
 string_there f i b at = get_right (main_descriptors f ++ other_descriptors f.other) (string_descriptors f.strings) i b at
@@ -121,10 +120,3 @@ string_below f s place i is at within =
     let next : length (main_descriptors f ++ other_descriptors f.other) + suc i ≡ place + 1 + i = omega arith in
     let mine : slice_get (string_descriptors f.strings) (suc i) ≡ Some there.0 = rw is there.2 in
     slice_get_within (descriptors f) (place + 1 + i) there.0 (rw (← next) (string_there f (suc i) there.0 mine))
-
--- a place in a table of rows
-pub row_within : (row rows column columns : ℕ) → row < rows → column < columns → row * columns + column < rows * columns
-row_within row rows column columns here there =
-    let more : suc row * columns ≤ rows * columns = mul-le-mul_right columns (let e : suc row ≤ rows = omega arith in e) in
-    let one : suc row * columns ≡ columns + row * columns = grind arith in
-    omega arith

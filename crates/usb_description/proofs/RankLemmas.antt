@@ -8,11 +8,11 @@ use Rattle.std.specs.Prelude.{not, Some, None, unwrap_or}
 use Rattle.std.specs.List.{position_or_len}
 use Rattle.usb_description.specs.inside.Ranks.{rank, HasRanks}
 
--- where the number stands first, or how many numbers there are
+-- where the number is first, or how many numbers there are
 abbrev first : List ℕ → ℕ → ℕ
 first numbers n = position_or_len (λ m. m == n) numbers
 
--- the rank of a number that stands first there, among so many
+-- the rank of a number that is first there, among so many
 abbrev ranked : ℕ → ℕ → ℕ
 ranked place count = cond (ltb place count) place 255
 
@@ -144,7 +144,7 @@ module _ (cells numbers : List ℕ) (i y : ℕ) (less : i < length numbers) (few
     ranks = λ n within. old_rank present n within ∙ ap (λ xs. rank xs n) (sym next_numbers);
   }
 
--- a number with rank 255 has no place, and any other stands at its rank
+-- a number with rank 255 has no place, and any other is at its rank
 module _ (numbers : List ℕ) (n r : ℕ) (is : r ≡ rank numbers n) (few : length numbers ≤ 255) where
   by_place : r ≡ ranked (first numbers n) (length numbers)
   by_place = is ∙ rank_is numbers n

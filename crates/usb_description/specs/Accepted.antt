@@ -12,7 +12,7 @@ use Rattle.usb_rules.specs.Findings.{findings}
 use Rattle.usb_description.specs.declared.fault.DescriptionFault.{DescriptionFault}
 use Rattle.usb_description.specs.declared.fault.DescriptionFault.TheVariants as faults
 
--- whether the number stands in the list
+-- whether the number is in the list
 abbrev pub stands_in : List ℕ → ℕ → Bool
 stands_in numbers n = list_any (λ other. other == n) numbers
 
@@ -21,7 +21,7 @@ abbrev pub repeats : List ℕ → Bool
 repeats [] = false
 repeats (n ∷ numbers) = stands_in numbers n || repeats numbers
 
--- whether a language stands twice in the language list, so that its second strings could not be asked for (9.6.7)
+-- whether a language is twice in the language list, so that its second strings could not be asked for (9.6.7)
 abbrev pub repeats_language : Option Strings → Bool
 repeats_language None = false
 repeats_language (Some s) = repeats s.languages
@@ -30,7 +30,7 @@ repeats_language (Some s) = repeats s.languages
 unfoldable pub has_wrong_sets : DescriptorFile → Bool
 has_wrong_sets f = has_wrong_count f || has_wrong_kind f || has_wrong_layout f
 
--- whether the strings are not those that the file names, or could not be told apart
+-- whether the strings are not those that the file names, or are not distinct
 unfoldable pub has_wrong_strings : DescriptorFile → Bool
 has_wrong_strings f = are_wrong_strings (length (named_indices f)) f.strings || repeats_language f.strings
 
@@ -57,7 +57,7 @@ pub record Accepted (f : DescriptorFile) (s : Speed) : Type 0 where
   pub strings : has_wrong_strings f ≡ false
   pub speed : has_wrong_speed f s ≡ false
 
--- the first finding, or else what stands against the strings or the speed
+-- the first finding, or else what is wrong with the strings or the speed
 abbrev pub later_refusal : List Finding → DescriptorFile → Speed → Option DescriptionFault
 later_refusal (first ∷ more) f s = Some (faults.Finding first)
 later_refusal [] f s =
@@ -69,7 +69,7 @@ later_refusal [] f s =
 abbrev pub refusal_of : DescriptorFile → Speed → Option DescriptionFault
 refusal_of f s = if has_wrong_sets f then Some faults.Unwritable else later_refusal (findings f) f s
 
--- *Out of memory* is told only of descriptors whose sets have bytes, since the rules are looked through after that, and
+-- *Out of memory* is reported only of descriptors whose sets have bytes, since the rules are looked through after that, and
 -- else the first reason.
 abbrev pub Refuses : DescriptorFile → Speed → DescriptionFault → Type 0
 Refuses f s faults.Memory = has_wrong_sets f ≡ false

@@ -7,8 +7,9 @@ ghost use Rattle.usb_description.specs.Accepted.{has_early_second_speed, has_oth
 use crate::fault::DescriptionFault;
 use std::alloc::Global;
 use usb_fields::{Speed, USB_2_0};
-use usb_file_data::{DescriptorFile, Strings, WriteFault, are_wrong_strings, write_refusal};
+use usb_file_data::{DescriptorFile, Strings, WriteFault, are_wrong_strings};
 use usb_rules::check;
+use usb_set_encoder::write_refusal;
 
 /// Rejects a file that is no description of a device of this speed. Its sets have bytes, and it names so many strings.
 pub(crate) fn examine(

@@ -1,5 +1,5 @@
 //! The descriptors of a device, ready to be sent.
-ghost use Rattle.std.specs.Prelude.{◌≡◌, ◌<◌, ◌*◌, ◌==◌, length, position, IfErr, IfOk, IfSome, MatchOption, OnOk, None};
+ghost use Rattle.std.specs.Prelude.{◌≡◌, ◌<◌, ◌*◌, length, IfErr, IfOk, IfSome, MatchOption, OnOk, None};
 ghost use Rattle.std.specs.Option.{option_copied};
 ghost use Rattle.usb_base.specs.Bytes.{AreBytes};
 ghost use Rattle.usb_file_data.specs.File.{file_bytes};
@@ -65,7 +65,7 @@ impl Description {
         ensures ok { IfOk result (λ d. d ≡ record { file = f; speed = s }) }
         ensures accepted { OnOk result (Accepted f s) }
         ensures err { IfErr result (λ fault. Refuses f s fault) }
-        // No reason stands against a file that is accepted.
+        // An accepted file has no reason to be rejected.
         ensures only { Accepted f s → refusal_of f s ≡ None }
     {
         let mut image = Image::new(alloc);
@@ -121,7 +121,7 @@ impl Description {
         usize::from(self.file.device.packet)
     }
 
-    /// The bytes of the descriptor at this place, lent from the description: those of a whole set where a set is
+    /// The bytes of the descriptor at this place, borrowed from the description: those of a whole set where a set is
     /// there (USB 2.0, 9.4.3). Places count from 0, in the order of the file.
     ///
     /// # Requires
@@ -138,7 +138,7 @@ impl Description {
 
     /// The place of the descriptor of this type and index, in this language where it is a string, or `None` where the
     /// device has none such. `kind` and `index` are the high and the low byte of wValue in GET_DESCRIPTOR, and
-    /// `language` is its wIndex (USB 2.0, 9.4.3). [`Description::bytes`] lends the bytes there.
+    /// `language` is its wIndex (USB 2.0, 9.4.3). [`Description::bytes`] gives the bytes there.
     #[inline(always)]
     pub fn find(&self, kind: u8, index: u8, language: u16) -> Option<usize>
         ensures { MatchOption result (descriptor self.now.file kind index language ≡ None) (IsFound self.now.file (descriptor self.now.file kind index language)) }
@@ -241,14 +241,7 @@ fn find_place(strings: &Strings, named: &Ranks, index: u8, language: u16) -> Opt
     ensures within { IfSome result (λ place. place < length strings.now.texts) }
 {
     let _count = strings.texts.len();
-    let row = place_of_language(&strings.languages, language)?;
+    let row = strings.place_of_language(language)?;
     let column = named.place(index)?;
     Some(row * named.len() + column)
-}
-
-fn place_of_language(languages: &[u16], language: u16) -> Option<usize>
-    ensures place { result ≡ position (λ l. l == language) languages.now }
-    ensures within { IfSome result (λ place. place < length languages.now) }
-{
-    languages.iter().position(|other| *other == language)
 }

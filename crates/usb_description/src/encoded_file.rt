@@ -14,7 +14,7 @@ use crate::fault::DescriptionFault;
 use crate::image::Image;
 use std::alloc::AllocError;
 use usb_fields::UnitFault;
-use usb_file_data::{DescriptorFile, Other, Strings, has_undeclared_sets};
+use usb_file_data::{DescriptorFile, Other, Strings, has_wrong_count, has_wrong_kind};
 use usb_set::{Configuration, EncodeFault, Sequence};
 
 /// Adds the descriptors of both speeds, and answers how many are before those of the second.
@@ -49,7 +49,7 @@ fn add_declared(image: &mut Image, f: &DescriptorFile) -> Option<usize>
     ensures others { IfSome result (λ place. place ≡ length (image.old ++ main_descriptors f.now)) }
     ensures allowed { OnSome result (has_wrong_sets f.now ≡ false) }
 {
-    if has_undeclared_sets(f) {
+    if has_wrong_count(f) || has_wrong_kind(f) {
         return None;
     }
     add_main(image, f).ok()?;

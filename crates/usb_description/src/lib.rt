@@ -2,7 +2,7 @@
 //!
 //! A [`Description`] is made of a descriptor file and a speed, where a device of that speed can have those descriptors,
 //! and else [`DescriptionFault`] is why not. It encodes each descriptor once, a set as one. [`Description::find`]
-//! gives the place of the descriptor that a request asks for, and [`Description::bytes`] lends the bytes there, so
+//! gives the place of the descriptor that a request asks for, and [`Description::bytes`] gives the bytes there, so
 //! that no answer copies a byte.
 //!
 //! - Which descriptors make a device is `specs/Accepted.antt`.

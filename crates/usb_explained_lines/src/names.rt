@@ -1,13 +1,11 @@
 //! The strings that indices name.
-ghost use Rattle.std.specs.Prelude.{◌≡◌, ◌+◌, ◌*◌, ◌==◌, position, slice_get, IfOk, option_map};
+ghost use Rattle.std.specs.Prelude.{◌≡◌, IfOk, option_map};
 ghost use Rattle.std.specs.Option.{option_copied};
-ghost use Rattle.usb_file_data.specs.StringPlaces.{units_at};
 ghost use Rattle.usb_explained_lines.specs.Names.{names_of, named_units, no_names, units_in_first_language};
 
 use std::alloc::Global;
 use std::marker::Model;
 use usb_file_data::{DescriptorFile, NoMemory, Strings, named};
-use usb_set::Sequence;
 
 /// Why the string of an index isn't there.
 #[derive(Clone, Copy, Debug, PartialEq, Eq, Hash)]
@@ -98,41 +96,7 @@ fn units_in_first_language<'s>(named: &[u8], index: u8, strings: &'s Strings) ->
     ensures { option_copied result ≡ units_in_first_language named.now index strings.now }
 {
     match strings.languages.first() {
-        Some(language) => units_at(strings, named, index, *language),
-        None => None,
-    }
-}
-
-/// The units of the string of an index in a language.
-fn units_at<'s>(strings: &'s Strings, named: &[u8], index: u8, language: u16) -> Option<&'s [u16]>
-    ensures { option_copied result ≡ units_at strings.now named.now index language }
-{
-    let row = place_of_language(&strings.languages, language)?;
-    let column = place_of_index(named, index)?;
-    units_in(&strings.texts, row, named.len(), column)
-}
-
-fn place_of_index(named: &[u8], index: u8) -> Option<usize>
-    ensures { result ≡ position (λ n. n == index) named.now }
-{
-    named.iter().position(|other| *other == index)
-}
-
-fn place_of_language(languages: &[u16], language: u16) -> Option<usize>
-    ensures { result ≡ position (λ l. l == language) languages.now }
-{
-    languages.iter().position(|other| *other == language)
-}
-
-/// The units in this row and column of a table, of which each row has so many columns.
-fn units_in(table: &[Sequence<u16>], row: usize, columns: usize, column: usize) -> Option<&[u16]>
-    ensures { option_copied result ≡ slice_get table.now (row * columns + column) }
-{
-    // For the proof alone: there are fewer than a `usize` can count.
-    let _count = table.len();
-    let place = row.checked_mul(columns)?.checked_add(column)?;
-    match table.get(place) {
-        Some(units) => Some(units.as_slice()),
+        Some(language) => strings.units_at(named, index, *language),
         None => None,
     }
 }

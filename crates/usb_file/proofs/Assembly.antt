@@ -3,7 +3,7 @@ use Rattle.std.proofs.Common.{◌≡◌, ◌≢◌, ℕ, cond, ltb, take, ◌+�
 use Rattle.std.specs.Prelude.{is_some, slice_index}
 use Rattle.std.specs.List.{list_any}
 use Rattle.std.proofs.lemmas.List.{append-nil, take-append-drop}
-use Rattle.std.proofs.lemmas.Bool.{ltb-false, ltb-true, or_from, or_parts}
+use Rattle.std.proofs.lemmas.Bool.{ltb-false, or_from, or_parts}
 use Rattle.usb_fields.specs.declared.device.DeviceDescriptor.{DeviceDescriptor}
 use Rattle.usb_fields.specs.declared.qualifier.Qualifier.{Qualifier}
 use Rattle.usb_fields.specs.Device.{device_bytes, device_fault}
@@ -19,9 +19,8 @@ use Rattle.usb_file_data.specs.Named.{named_indices}
 use Rattle.usb_file_data.specs.File.{File, file_bytes, sets_bytes, other_bytes, each_string_bytes, is_other_kind, has_no_layout, are_wrong_strings}
 use Rattle.usb_file.specs.declared.fault.FileWhy.{FileWhy}
 use Rattle.usb_file.specs.declared.fault.FileWhy.TheVariants as files
-use Rattle.usb_file_data.specs.Front.{AllSets, IsPartStart, Splits}
+use Rattle.usb_file_data.specs.Front.{AllSets, IsPartStart}
 use Rattle.usb_file.specs.FileFaults.{NextPart, a_set, a_qualifier, the_languages, a_string, the_end, begins_qualifier, IsNext, NoQualifierIsNext, EndIsNext, is_no_string, string_fault, fixed_fault, PartFaulty, FaultyPart}
-use Rattle.usb_file.specs.Dumps.{Dump}
 use Rattle.usb_file.specs.Inputs.{DeviceRefused}
 use Rattle.usb_file.specs.inside.PartLaws.{PartLaws}
 use Rattle.usb_file.specs.inside.Reading.{ReadSoFar, SetsRead, Behind, SetRefused, ReadsSets, SetsRefused, ReadsQualifier, ReadsOther, OtherRefused, no_qualifier, no_set, ReadsString, StringRefused, ReadsDueStrings, ReadsStrings, StringsRefused, ends_as_dump, no_languages, no_string}
@@ -33,7 +32,7 @@ use Rattle.usb_file_data.specs.Front.{with_strings}
 use Rattle.usb_file.proofs.Next.{right_count, right_none, right_strings, not_none}
 use Rattle.usb_file.proofs.Ends.{is_file, bytes_left, drop_all}
 use Rattle.usb_file.proofs.Complete.{no_device_fault}
-use Rattle.usb_file.proofs.Dumps.{dump_splits, end_apart, is_dump, no_dump, qualifier_apart, set_apart, string_apart}
+use Rattle.usb_file.proofs.Dumps.{dump_splits, end_apart, no_dump, qualifier_apart, set_apart, string_apart}
 
 -- a file by its parts
 abbrev made : DeviceDescriptor → List Configuration → Option Other → Option Strings → DescriptorFile
@@ -82,7 +81,7 @@ told_why n at w why o h k =
     let pairs : found ≡ told = cc in
     ap (λ (p : ℕ × FileWhy). p.1) pairs
 
--- a descriptor of known length never tells *out of memory*
+-- a descriptor of known length never reports *out of memory*
 fixed_memory : (long : ℕ) (wrong : Bool) (tells : FileWhy) (rest : List ℕ) (at : ℕ) (why : FileWhy) → fixed_fault long wrong tells rest ≡ Some (at, why)
     → tells ≢ files.Memory → why ≢ files.Memory
 fixed_memory long wrong tells rest at why h not = cases (ltb (length rest) long) wrong h
@@ -247,7 +246,7 @@ strings_refused laws b f place at why sets elsewhere (no_string u start texts na
 
 -- ---- the end
 
--- a front was read after which the file must end
+-- a prefix was read after which the file must end
 pub record AllRead (b : List ℕ) (f : DescriptorFile) (place : ℕ) : Type 0 where
   pub so_far : ReadSoFar b f place
   pub next : EndIsNext f (drop place b)
@@ -294,20 +293,7 @@ trailing laws b f place read long =
 
 -- ---- a dump
 
--- where no byte is left behind the sets of a device that names an index
-pub whole_dump : (b : List ℕ) (f : DescriptorFile) (place : ℕ) → SetsRead b f place → ends_as_dump (length (named_indices f)) f.other (drop place b) ≡ true → Dump f b
-whole_dump b f place sets ends =
-    let is = as_dump (length (named_indices f)) f.other (drop place b) ends in
-    is_dump f b sets.so_far.fits (subst (Splits b f) is.1 sets.so_far.splits)
-    (record { all = sets.all; no_strings = sets.no_strings; no_qualifier = λ _ _. refl; named = is.2 }) is.0
-  where
-    as_dump : (count : ℕ) (other : Option Other) (rest : List ℕ) → ends_as_dump count other rest ≡ true → (other ≡ None) × (rest ≡ []) × (0 < count)
-    as_dump count None [] h = (refl, refl, ltb-true 0 count h)
-    as_dump count None (x ∷ rest) h = cc
-    as_dump count (Some o) [] h = cc
-    as_dump count (Some o) (x ∷ rest) h = cc
-
--- and where one is
+-- bytes after which a dump does not end, where the device has no other speed and names an index
 pub is_elsewhere : (count : ℕ) (other : Option Other) (rest : List ℕ) → ends_as_dump count other rest ≡ false → 0 < count → rest ≡ [] → other ≡ None → ⊥
 is_elsewhere count None [] h named none no_other = absurd (omega (arith, named, ltb-false 0 count h))
 is_elsewhere count None (x ∷ rest) h named none no_other = cc

@@ -1,11 +1,8 @@
 -- Elements of a file between two places.
-use Rattle.std.proofs.Common.{◌≡◌, ℕ, ◌+◌, ◌≤◌, List, [], ◌∷◌, ◌++◌, length, drop, refl, sym, ap, ◌∙◌, append_assoc, length-append, arith}
+use Rattle.std.proofs.Common.{◌≡◌, ℕ, ◌+◌, ◌≤◌, List, [], ◌∷◌, ◌++◌, length, drop, sym, ap, ◌∙◌, append_assoc, length-append, arith}
 use Rattle.std.specs.List.{flat_map}
 use Rattle.usb_file_data.proofs.Lists.{flat_map-push}
 use Rattle.usb_file.specs.inside.Reading.{ReadsAll}
-
-pub reads_none : {A : Type 0} (g : A → List ℕ) (b : List ℕ) (place : ℕ) → place ≤ length b → ReadsAll g b place [] place
-reads_none g b place within = record { parts = refl; ends = omega arith; within = within }
 
 pub reads_more : {A : Type 0} (g : A → List ℕ) (b : List ℕ) (start : ℕ) (xs : List A) (mid : ℕ) (x : A) (end : ℕ) → ReadsAll g b start xs mid
     → drop mid b ≡ g x ++ drop end b → end ≡ mid + length (g x) → end ≤ length b → ReadsAll g b start (xs ++ x ∷ []) end

@@ -33,7 +33,7 @@ use Rattle.usb_file.specs.FileOrFault.{FileOrFault, is_file, is_faulty}
 use Rattle.usb_file.specs.inside.Next.{next_string, next_part}
 use Rattle.usb_file_data.specs.Front.{with_set, with_qualifier}
 
--- ---- the part that is due makes a front of a front
+-- ---- the part that is due makes a prefix of a prefix
 
 grow_none : (f g : DescriptorFile) (r p : List ℕ) → IsFront f → AllSets f f.other → f.strings ≡ None → next_part f r ≡ next_string (length (named_indices f)) None → PartIs (next_part f r) f g p → Grown f g p
 grow_none f g r p front all none turn is =
@@ -255,7 +255,7 @@ file_or_fault laws b fits =
         let d = laws.device_written (take 18 b) (front_bytes 18 b fits) is in
         from_front laws (length (drop 18 b)) b (begun d.0) (drop 18 b) (omega arith) fits (begun_splits b d.0 d.1)
 
--- ---- a file is a front after which the end is due
+-- ---- a file is a prefix after which the end is due
 
 order_of : (f : DescriptorFile) (o : Option Other) (s : Option Strings) → AllSets f o → are_wrong_strings (length (named_indices f)) s ≡ false → IsInOrder f o s
 order_of f None None all h = omega (arith, all)
@@ -281,7 +281,7 @@ one_file laws b f g x y =
 device_fine : (d : DeviceDescriptor) (r : List ℕ) → fixed_fault 18 (is_some (device_fault (take 18 (device_bytes d ++ r)))) files.Device (device_bytes d ++ r) ≡ None
 device_fine d r = cond-false (ltb (length (device_bytes d ++ r)) 18) _ _ (le-ltb _ 18 (omega arith))
 
--- the device descriptor of a front is one
+-- the device descriptor of a prefix is one
 pub no_device_fault : (b : List ℕ) (f : DescriptorFile) (r : List ℕ) (at : ℕ) (why : FileWhy) → Splits b f r → fixed_fault 18 (is_some (device_fault (take 18 b))) files.Device b ≡ Some (at, why) → ⊥
 no_device_fault b f r at why splits h =
     let is : b ≡ device_bytes f.device ++ behind f r = splits.parts ∙ device_first f r in

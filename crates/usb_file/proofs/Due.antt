@@ -1,4 +1,4 @@
--- The part of a file that comes next after a front of it.
+-- The part of a file that comes next after a prefix of it.
 use Rattle.std.proofs.Common.{◌≡◌, ℕ, ◌<◌, true, false, ltb, List, length, Option, Some, None, refl, ap, ◌∙◌, arith}
 use Rattle.std.proofs.lemmas.Bool.{lt-ltb, le-ltb, cond-true, cond-false}
 use Rattle.usb_set.specs.declared.tree.SetKind.TheVariants as kinds

@@ -1,4 +1,4 @@
--- What a dump is among the fronts of files.
+-- What a dump is among the prefixes of files.
 use Rattle.std.proofs.Common.{◌≡◌, ℕ, List, [], ◌++◌, length, None, refl, ap, sym, subst, ◌∙◌, arith}
 use Rattle.std.specs.List.{list_any}
 use Rattle.std.proofs.lemmas.List.{append-nil}
@@ -36,9 +36,9 @@ string_apart e = cc
 pub end_apart : the_end ≡ the_languages → ⊥
 end_apart e = cc
 
--- ---- dumps among fronts
+-- ---- dumps among prefixes
 
--- nothing stands behind the sets of a file without another speed and without strings
+-- nothing is after the sets of a file without another speed and without strings
 bare_bytes : (f : DescriptorFile) → f.other ≡ None → f.strings ≡ None → file_bytes f ++ [] ≡ device_bytes f.device ++ sets_bytes f.sets
 bare_bytes f no_other no_strings =
     append-nil (file_bytes f)
@@ -47,7 +47,7 @@ bare_bytes f no_other no_strings =
     ∙ append-nil (device_bytes f.device ++ sets_bytes f.sets ++ [])
     ∙ append-nil (device_bytes f.device ++ sets_bytes f.sets)
 
--- a dump is a front of a file
+-- a dump is a prefix of a file
 pub dump_splits : (f : DescriptorFile) (b : List ℕ) → Dump f b → Splits b f []
 dump_splits f b dump = record {
   is_front = record {

@@ -9,7 +9,7 @@ use Rattle.usb_file_data.specs.Front.{IsFront}
 use Rattle.usb_file.specs.FileFaults.{the_end, EndIsNext, PartFaulty, FileFaulty, ReadRefused}
 use Rattle.usb_base.specs.Bytes.{AreBytes}
 
--- a front of a file after which the file must end, and nothing else
+-- a prefix of a file after which the file must end, and nothing else
 pub is_file : (f : DescriptorFile) (b : List ℕ) → EndIsNext f [] → IsFront f → b ≡ file_bytes f ++ [] → AreBytes b → File f b
 is_file f b next front parts fits = record {
   bytes = parts ∙ append-nil (file_bytes f);

@@ -4,7 +4,6 @@ use Rattle.std.proofs.Math.Seq.{take-append_seam}
 use Rattle.std.proofs.lemmas.List.{append-nil, take-append-drop, length-take-le}
 use Rattle.std.proofs.lemmas.Bool.{cases_Bool, cases_lt}
 use Rattle.usb_base.specs.Bytes.{AreBytes}
-use Rattle.usb_fields.specs.Device.{device_bytes}
 use Rattle.usb_set.specs.declared.fault.SetFault.{SetFault}
 use Rattle.usb_set.specs.declared.fault.SetWhy.TheVariants.{Truncated}
 use Rattle.usb_set.specs.declared.tree.Configuration.{Configuration}
@@ -43,10 +42,6 @@ set_type kinds.OtherSpeed = refl
 layout_is_set : (c : Configuration) (b : List ℕ) → Layout c b → is_one_set b ≡ true
 layout_is_set c b layout = ap is_one_set layout.bytes ∙ set_type c.kind
 
--- and that of a device descriptor isn't
-device_is_no_set : (f : DescriptorFile) (b rest : List ℕ) → b ≡ device_bytes f.device ++ rest → is_one_set b ≡ false
-device_is_no_set f b rest is = ap is_one_set is
-
 file_is_no_set : (f : DescriptorFile) (b : List ℕ) → File f b → is_one_set b ≡ false
 file_is_no_set f b file = ap is_one_set file.bytes
 
@@ -68,7 +63,7 @@ begins_whole b c place begins h =
     let short : length (begins.front ++ begins.rest) ≤ length begins.front = omega (arith, begins.ends, ap length begins.parts) in
     subst (Layout c) (sym (begins.parts ∙ nothing_after begins.front begins.rest short)) begins.layout
 
--- the front that is a layout, by its length
+-- the prefix that is a layout, by its length
 pub front_of : {b : List ℕ} {c : Configuration} {place : ℕ} (begins : Begins b c place) → begins.front ≡ take place b
 front_of begins = sym (ap₂ take (sym begins.ends) begins.parts ∙ take-append_seam begins.front begins.rest)
 
@@ -111,7 +106,7 @@ module _ (laws : PartLaws) where
 
   -- ---- files and dumps
 
-  -- the part at fault of bytes that are no file: it tells whether they are a dump
+  -- the part at fault of bytes that are no file: it says whether they are a dump
   part_or_dump : (b : List ℕ) (at : ℕ) (why : FileWhy) (y : FaultyPart b at why) → AreBytes b → Dump y.front b ⊎ IsNoDump b
   part_or_dump b at why y fits = cases y.part y.rest y.front.other refl refl refl
     where

@@ -1,4 +1,4 @@
--- What comes next after a front of a file.
+-- What comes next after a prefix of a file.
 use Rattle.std.proofs.Common.{◌≡◌, ℕ, ltb, ◌*◌, ◌<◌, inl, inr, false, not, ◌||◌, ◌==◌, List, length, Option, Some, None, refl, ap, sym, subst, ◌∙◌, arith}
 use Rattle.std.proofs.lemmas.Bool.{eq-eqb, eqb-true, eqb-false, ne_eqb, lt-ltb, le-ltb, not-false, or_from, or_parts, cond-true, cond-false, cases_Bool, cases_eq, cases_lt, not_from_true}
 use Rattle.usb_set.specs.declared.tree.SetKind.TheVariants as kinds

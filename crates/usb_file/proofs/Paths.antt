@@ -1,4 +1,4 @@
--- Fronts of the same bytes lie on one path, which grows part by part.
+-- Prefixes of the same bytes lie on one path, which grows part by part.
 use Rattle.std.proofs.Common.{◌≡◌, ℕ, zero, suc, ltb, ◌+◌, ◌*◌, ◌<◌, ◌≤◌, false, ◌==◌, List, [], ◌∷◌, ◌++◌, length, Option, Some, None, refl, ap, sym, subst, ◌∙◌, arith, append_assoc}
 use Rattle.std.specs.List.{list_any}
 use Rattle.std.proofs.lemmas.List.{append-nil}
@@ -81,7 +81,7 @@ meet laws (suc n) (suc m) f r g s h t x y i j =
 
 -- ---- sets on the path
 
--- bytes of a set against which no reason stands
+-- bytes of a set that has bytes
 set_layout : (c : Configuration) → has_no_layout c ≡ false → AreBytes (whole_set c) → Layout c (whole_set c)
 unfolding whole_set
 set_layout c h fits =
@@ -193,7 +193,7 @@ strings_path f x rest all no_strings follow =
     step_on f (strings_bytes (Some x) ++ rest) (with_strings bare f) (each_string_bytes x.texts ++ rest) (with_strings x f) rest step
     (steps_texts x.texts f bare rest (with_strings x f) rest all (omega arith) long.1 (here (with_strings x f) rest))
 
--- ---- the path of a front
+-- ---- the path of a prefix
 
 -- a file by its parts
 abbrev made : DeviceDescriptor → List Configuration → Option Other → Option Strings → DescriptorFile
@@ -203,7 +203,7 @@ made d ss o s = record { device = d; sets = ss; other = o; strings = s }
 abbrev pub begun : DeviceDescriptor → DescriptorFile
 begun d = made d [] None None
 
--- what stands behind the device descriptor
+-- what is after the device descriptor
 abbrev pub behind : DescriptorFile → List ℕ → List ℕ
 behind f rest = sets_bytes f.sets ++ (other_bytes f.other ++ (strings_bytes f.strings ++ rest))
 
@@ -255,7 +255,7 @@ front_path f rest front fits =
     steps_main f.sets (begun f.device) tail f rest refl refl (omega arith) ks.0 ls.0 fits
     (from_main f.device f.sets f.other f.strings rest front (bytes_behind (sets_bytes f.sets) tail fits))
 
--- ---- two fronts
+-- ---- two prefixes
 
 pub device_first : (f : DescriptorFile) (rest : List ℕ) → file_bytes f ++ rest ≡ device_bytes f.device ++ behind f rest
 device_first f rest = regroup (device_bytes f.device) (sets_bytes f.sets) (other_bytes f.other) (strings_bytes f.strings) rest

@@ -16,7 +16,7 @@ neither : {A : Type 0} (test : Bool) (x y told : A) → (x ≡ told → ⊥) →
 neither true x y told not_x not_y h = not_x h
 neither false x y told not_x not_y h = not_y h
 
--- the end of the bytes, told at a place
+-- the end of the bytes, reported at a place
 abbrev cut_at : ℕ → Option Fault
 cut_at place = Some (place, sets.Truncated)
 

@@ -15,7 +15,7 @@ use Rattle.usb_file_data.specs.Named.{named_indices}
 use Rattle.usb_file_data.specs.File.{file_bytes, has_wrong_count, are_wrong_strings, is_other_kind}
 use Rattle.usb_file_data.specs.Front.{AllSets, IsPartStart, Splits}
 
--- what comes next after a front of a file
+-- what comes next after a prefix of a file
 pub data NextPart : Type 0 where
   a_set : SetKind → NextPart
   a_qualifier : NextPart
@@ -30,7 +30,7 @@ begins_qualifier [] = false
 begins_qualifier (x ∷ []) = true
 begins_qualifier (x ∷ kind ∷ rest) = kind == 6
 
--- a qualifier is next: the front ends with all sets of the device, and what is left begins one
+-- a qualifier is next: the prefix ends with all sets of the device, and what is left begins one
 pub record QualifierIsNext (f : DescriptorFile) (rest : List ℕ) : Type 0 where
   pub all : length f.sets ≡ f.device.configurations
   pub no_other : f.other ≡ None
@@ -41,14 +41,14 @@ pub record QualifierIsNext (f : DescriptorFile) (rest : List ℕ) : Type 0 where
 abbrev pub NoQualifierIsNext : DescriptorFile → List ℕ → Type 0
 NoQualifierIsNext f rest = f.other ≡ None → f.strings ≡ None → begins_qualifier rest ≡ false
 
--- the language list is next: the front ends with all sets, and an index is named
+-- the language list is next: the prefix ends with all sets, and an index is named
 pub record LanguagesAreNext (f : DescriptorFile) (rest : List ℕ) : Type 0 where
   pub all : AllSets f f.other
   pub no_strings : f.strings ≡ None
   pub no_qualifier : NoQualifierIsNext f rest
   pub named : 0 < length (named_indices f)
 
--- the file must end: the front misses no set and no string
+-- the file must end: the prefix misses no set and no string
 pub record EndIsNext (f : DescriptorFile) (rest : List ℕ) : Type 0 where
   pub counts : has_wrong_count f ≡ false
   pub texts : are_wrong_strings (length (named_indices f)) f.strings ≡ false
@@ -64,7 +64,7 @@ abbrev pub MissesString : ℕ → Option Strings → Type 0
 MissesString count None = ⊥
 MissesString count (Some s) = length s.texts < length s.languages * count
 
--- this part comes next after a front of a file, where these bytes are left
+-- this part comes next after a prefix of a file, where these bytes are left
 abbrev pub IsNext : NextPart → DescriptorFile → List ℕ → Type 0
 IsNext (a_set kinds.Configuration) f rest = length f.sets < f.device.configurations
 IsNext (a_set kinds.OtherSpeed) f rest = MissesSet f.other
@@ -128,7 +128,7 @@ abbrev pub FileFaulty : List ℕ → ℕ → FileWhy → Type 0
 FileFaulty b at why =
     (fixed_fault 18 (is_some (device_fault (take 18 b))) files.Device b ≡ Some (at, why)) ⊎ FaultyPart b at why
 
--- *Out of memory* is told where a part starts, and else the fault that the bytes show.
+-- *Out of memory* is reported where a part starts, and else the fault that the bytes show.
 abbrev pub ReadRefused : List ℕ → ℕ → FileWhy → Type 0
 ReadRefused b at files.Memory = IsPartStart b at
 ReadRefused b at why = FileFaulty b at why

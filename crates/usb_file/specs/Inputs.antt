@@ -43,14 +43,14 @@ pub record GoesOn (b : List ℕ) (at : ℕ) : Type 0 where
   pub layout : Layout set (take at b)
   pub more : at < length b
 
--- The bytes show this fault: that of a set or bytes behind it, where they are read as one. Else it is the fault
+-- The bytes show this fault: that of a set or bytes after it, where they are read as one. Else it is the fault
 -- of a file, where they are no dump.
 abbrev pub InputFaulty : List ℕ → InputFault → Type 0
 InputFaulty b (faults.Set fault) = (is_one_set b ≡ true) × HasFault b fault
 InputFaulty b (faults.Trailing at) = (is_one_set b ≡ true) × GoesOn b at
 InputFaulty b (faults.File fault) = (is_one_set b ≡ false) × FileFaulty b fault.at fault.why × IsNoDump b
 
--- *out of memory* is told where a part starts, and else the fault of a file, where the bytes are no dump
+-- *out of memory* is reported where a part starts, and else the fault of a file, where the bytes are no dump
 abbrev pub DeviceRefused : List ℕ → ℕ → FileWhy → Type 0
 DeviceRefused b at files.Memory = IsPartStart b at
 DeviceRefused b at why = FileFaulty b at why × IsNoDump b

@@ -9,11 +9,11 @@ use std::alloc::Global;
 use usb_base::known_bytes;
 use usb_fields::{UnitFault, write_units_onto};
 use usb_file_data::{
-    DescriptorFile, Other, Strings, WriteFault, are_wrong_strings, count_named,
-    has_undeclared_sets, write_refusal,
+    DescriptorFile, Other, Strings, WriteFault, are_wrong_strings, count_named, has_wrong_count,
+    has_wrong_kind,
 };
 use usb_set::{Configuration, EncodeFault, Sequence};
-use usb_set_encoder::encode_onto;
+use usb_set_encoder::{encode_onto, write_refusal};
 
 /// The bytes of a file: its parts one after another, each judged and written once (USB 2.0, 9.4.3 and 9.6).
 ///
@@ -57,7 +57,8 @@ fn file_of(alloc: Global, f: &DescriptorFile) -> Option<Vec<u8>>
     ensures bytes { IfSome result (λ b. b.items ≡ file_bytes f.now) }
     ensures allowed { OnSome result (write_refusal f.now ≡ None) }
 {
-    if has_undeclared_sets(f) || are_wrong_strings(count_named(f), &f.strings) {
+    let is_undeclared = has_wrong_count(f) || has_wrong_kind(f);
+    if is_undeclared || are_wrong_strings(count_named(f), &f.strings) {
         return None;
     }
     let mut out = Vec::new(alloc);

@@ -10,8 +10,8 @@
 //!
 //! - The data, what its bytes are and which strings it names are in the crate usb_file_data, the rules in
 //!   usb_rules, the listings in usb_listing, and listings read back in usb_listing_reader. Their public calls and
-//!   types are named here too, but for the laws of usb_file_data and usb_listing_reader and five calls that
-//!   only crates take: `count_named`, `is_other_kind`, `has_undeclared_sets`, `are_wrong_strings` and `write_all`.
+//!   types are named here too, but for the laws of usb_file_data and usb_listing_reader and six calls that only crates
+//!   take: `count_named`, `has_wrong_count`, `has_wrong_kind`, `is_other_kind`, `are_wrong_strings` and `write_all`.
 //! - What is wrong with bytes, and where, is `specs/FileFaults.antt`: the fault is that of the part which
 //!   comes next after a prefix of a file, `specs/Front.antt`.
 //! - The module [`laws`] states what holds of files and faults, whoever reads them.
@@ -34,9 +34,8 @@ pub use file_writer::write_file;
 pub use input::{Input, check_input, read_input};
 pub use input_fault::InputFault;
 pub use laws::{FILE_LIMIT, LISTING_LIMIT};
-pub use usb_file_data::{
-    DescriptorFile, NoMemory, Other, Strings, WriteFault, named, write_refusal,
-};
+pub use usb_file_data::{DescriptorFile, NoMemory, Other, Strings, WriteFault, named};
 pub use usb_listing::{OutFault, list, list_set};
 pub use usb_listing_reader::{ListFault, ListWhy, assemble};
 pub use usb_rules::{Finding, Part, Rule, check, check_dump, check_set};
+pub use usb_set_encoder::write_refusal;

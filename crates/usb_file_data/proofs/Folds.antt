@@ -1,5 +1,5 @@
 -- What marks say.
-use Rattle.std.proofs.Common.{◌≡◌, ℕ, ◌+◌, ◌==◌, List, [], ◌∷◌, ◌++◌, Bool, true, false, ◌||◌, cond, refl, ap, ◌∙◌, map, length, length-append}
+use Rattle.std.proofs.Common.{◌≡◌, ℕ, ◌+◌, ◌==◌, List, [], ◌∷◌, ◌++◌, Bool, true, false, ◌||◌, cond, refl, ap, ◌∙◌, map}
 use Rattle.std.specs.Prelude.{fold, filter}
 use Rattle.std.specs.List.{list_any, range_with_len}
 use Rattle.std.proofs.lemmas.List.{append-nil}
@@ -43,12 +43,6 @@ pub among_same : (first n : ℕ) (passes : ℕ → Bool) → passes (first + n) 
 among_same first n passes h =
     among_more first n passes ∙ ap (λ b. marked_among first n passes ++ cond b ((first + n) ∷ []) []) h ∙ append-nil (marked_among first n passes)
 
-pub count_next : (first n : ℕ) (passes : ℕ → Bool) → passes (first + n) ≡ true → length (marked_among first (n + 1) passes) ≡ length (marked_among first n passes) + 1
-count_next first n passes h = ap length (among_next first n passes h) ∙ length-append (marked_among first n passes) ((first + n) ∷ [])
-
-pub count_same : (first n : ℕ) (passes : ℕ → Bool) → passes (first + n) ≡ false → length (marked_among first (n + 1) passes) ≡ length (marked_among first n passes)
-count_same first n passes h = ap length (among_same first n passes h)
-
 or_swap : (a b c : Bool) → (a || (b || c)) ≡ ((b || a) || c)
 or_swap true true c = refl
 or_swap true false c = refl
@@ -59,7 +53,7 @@ or-false : (b : Bool) → (b || false) ≡ b
 or-false true = refl
 or-false false = refl
 
--- whether the number stands in the list
+-- whether the number is in the list
 abbrev stands_in : List ℕ → ℕ → Bool
 stands_in xs n = list_any (λ x. x == n) xs
 

@@ -1,4 +1,4 @@
--- Fronts of files, and each with one part more.
+-- Prefixes of files, and each with one part more.
 use Rattle.std.proofs.Common.{◌≡◌, ℕ, ◌*◌, ◌<◌, ◌≤◌, false, List, [], ◌∷◌, ◌++◌, length, Option, Some, None, refl, ap, sym, subst, ◌∙◌, arith, append_assoc}
 use Rattle.std.specs.List.{list_any}
 use Rattle.std.proofs.lemmas.List.{append-nil}
@@ -24,7 +24,7 @@ abbrev pub string_with : List ℕ → Option Strings → Option Strings
 string_with u None = None
 string_with u (Some s) = Some (record s { texts = s.texts ++ u ∷ [] })
 
--- the second front is the first one and one more part
+-- the second prefix is the first one and one more part
 pub record Grown (f g : DescriptorFile) (p : List ℕ) : Type 0 where
   pub is_front : IsFront g
   pub bytes : file_bytes g ≡ file_bytes f ++ p

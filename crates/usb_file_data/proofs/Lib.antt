@@ -1,5 +1,4 @@
 pub mod Folds
-pub mod Ranks
 pub mod ExtraMarks
 pub mod Lists
 pub mod WholeSets

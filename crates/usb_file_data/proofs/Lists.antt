@@ -17,7 +17,7 @@ list_any-push p xs x e h = list_any-append p xs (x ∷ []) ∙ or_from (list_any
 pub length-push : {A : Type 0} (xs : List A) (x : A) → length (xs ++ x ∷ []) ≡ length xs + 1
 length-push xs x = length-append xs (x ∷ [])
 
--- bytes behind a list in the middle of a file, where nothing stands behind it yet
+-- bytes after a list in the middle of a file, where nothing is after it yet
 pub behind_main : (d s s' o t p : List ℕ) → s' ≡ s ++ p → o ≡ [] → t ≡ [] → d ++ s' ++ o ++ t ≡ (d ++ s ++ o ++ t) ++ p
 behind_main d s s' o t p e eo et = rw (e, eo, et) (simp (append_assoc, append-nil))
 

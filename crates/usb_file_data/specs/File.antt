@@ -61,11 +61,11 @@ is_other_kind kind c = not (type_number c.kind == type_number kind)
 abbrev pub has_wrong_kind : DescriptorFile → Bool
 has_wrong_kind f = list_any (is_other_kind kinds.Configuration) f.sets || list_any (is_other_kind kinds.OtherSpeed) (other_sets f.other)
 
--- whether a reason stands against the layout of the set
+-- whether the set has no bytes
 abbrev pub has_no_layout : Configuration → Bool
 has_no_layout c = is_some (refusal_of c)
 
--- whether one stands against that of a set of either speed
+-- whether a set of either speed has none
 abbrev pub has_wrong_layout : DescriptorFile → Bool
 has_wrong_layout f = list_any has_no_layout f.sets || list_any has_no_layout (other_sets f.other)
 
@@ -95,7 +95,7 @@ write_refusal f =
     else if are_wrong_strings (length (named_indices f)) f.strings then Some writes.Texts
     else None
 
--- The bytes are the file's: its parts one after another and nothing behind them, each number within its
+-- The bytes are the file's: its parts one after another and nothing after them, each number within its
 -- width, and each count, kind, layout and string as it has to be.
 pub record File (f : DescriptorFile) (b : List ℕ) : Type 0 where
   pub bytes : b ≡ file_bytes f
@@ -105,7 +105,7 @@ pub record File (f : DescriptorFile) (b : List ℕ) : Type 0 where
   pub layouts : has_wrong_layout f ≡ false
   pub texts : are_wrong_strings (length (named_indices f)) f.strings ≡ false
 
--- *Out of memory* is told of files against which no reason stands, and else the first reason.
+-- *Out of memory* is reported of files that have bytes, and else the first reason.
 abbrev pub WriteRefused : DescriptorFile → WriteFault → Type 0
 WriteRefused f writes.Memory = write_refusal f ≡ None
 WriteRefused f fault = write_refusal f ≡ Some fault

@@ -31,12 +31,12 @@ abbrev pub other_sets : Option Other → List Configuration
 other_sets None = []
 other_sets (Some other) = other.sets
 
--- each number that stands in the file where the index of a string stands
+-- each number that is in the file where the index of a string belongs
 abbrev pub string_indices : DescriptorFile → List ℕ
 string_indices f =
     device_string_indices f.device ++ flat_map set_string_indices f.sets ++ flat_map set_string_indices (other_sets f.other)
 
--- those of 1 to 255 that stand in the list, ascending: an index of 0 names no string
+-- those of 1 to 255 that are in the list, ascending: an index of 0 names no string
 unfoldable pub named_among : List ℕ → List ℕ
 named_among indices = filter (λ n. list_any (λ index. index == n) indices) (range_with_len 1 255)
 

@@ -8,8 +8,7 @@ use thiserror::Error;
 /// others does.
 ///
 /// ```rust
-/// file.device.configurations += 1;
-/// assert_eq!(rt; write_refusal(&file), Some(WriteFault::Count));
+/// assert_eq!(rt; WriteFault::Kind.number(), 2);
 /// ```
 #[derive(Clone, Copy, Debug, Drop, Error, PartialEq, Eq, Hash)]
 pub enum WriteFault {

@@ -3,7 +3,7 @@
 //! A file is the device descriptor and the configuration sets that bNumConfigurations counts (USB 2.0, 9.4.3
 //! and 9.6). Where the device has a second speed, its qualifier follows with the sets of that speed, and
 //! where a string is named, the language list and the strings. [`DescriptorFile`] holds all of it, [`named`]
-//! has the indices of the strings that it names, and [`write_refusal`] why it has no bytes.
+//! has the indices of the strings that it names, and [`WriteFault`] the reasons for which it has no bytes.
 //!
 //! What the bytes of a file are is `specs/File.antt`; which strings are named is `specs/Named.antt`. A copy of
 //! a file is that file: the module [`laws`].
@@ -20,4 +20,4 @@ mod string_marks;
 pub use fault::WriteFault;
 pub use file::{DescriptorFile, Other, Strings};
 pub use named_strings::{NoMemory, count_named, named};
-pub use refusal::{are_wrong_strings, has_undeclared_sets, is_other_kind, write_refusal};
+pub use refusal::{are_wrong_strings, has_wrong_count, has_wrong_kind, is_other_kind};

@@ -1,11 +1,12 @@
 //! Which strings a file names.
-ghost use Rattle.std.specs.Prelude.{◌≡◌, ◌+◌, ◌≤◌, IfOk, length};
+ghost use Rattle.std.specs.Prelude.{◌≡◌, ◌≤◌, [], IfOk, length};
 ghost use Rattle.usb_file_data.specs.Named.{named_indices};
 ghost use Rattle.usb_base.specs.Marks.{is_marked};
 ghost use Rattle.usb_file_data.specs.inside.Marks.{marked_among};
 
 use crate::file::DescriptorFile;
 use crate::string_marks::mark_file;
+use arrayvec::ArrayVec;
 use std::alloc::Global;
 use usb_base::Marks;
 
@@ -29,7 +30,9 @@ pub fn named(alloc: Global, f: &DescriptorFile) -> Result<Vec<u8>, NoMemory>
     ensures indices { IfOk result (λ v. v.items ≡ named_indices f.now) }
     ensures most { IfOk result (λ v. length v.items ≤ 255) }
 {
-    marked_numbers(alloc, &mark_file(f), 1, 255)
+    let mut indices = ArrayVec::new();
+    put_named(f, &mut indices);
+    indices.as_slice().to_vec(alloc)
 }
 
 /// How many indices of strings the file names. In each language it has as many strings.
@@ -43,43 +46,31 @@ pub fn count_named(f: &DescriptorFile) -> usize
     ensures count { result ≡ length (named_indices f.now) }
     ensures most { result ≤ 255 }
 {
-    count_marked(&mark_file(f), 1, 255)
+    let mut indices = ArrayVec::new();
+    put_named(f, &mut indices);
+    indices.len()
 }
 
-/// The marked ones of `count` numbers from the first on.
+/// Fills an empty list with the indices that the file names.
+pub(crate) fn put_named(f: &DescriptorFile, out: &mut ArrayVec<u8, 255>)
+    requires { out.old.items ≡ [] }
+    ensures indices { out.new.items ≡ named_indices f.now }
+    ensures most { length out.new.items ≤ 255 }
+{
+    put_marked(&mark_file(f), out);
+}
+
+/// Fills an empty list with the marked numbers of 1 to 255, ascending.
 #[tactic(auto, using(crate::proofs::Folds::among_none, crate::proofs::Folds::among_next, crate::proofs::Folds::among_same))]
-fn marked_numbers(
-    alloc: Global,
-    marks: &Marks,
-    first: usize,
-    count: usize,
-) -> Result<Vec<u8>, NoMemory>
-    requires { first + count ≤ 256 }
-    ensures numbers { IfOk result (λ v. v.items ≡ marked_among first count (is_marked marks.now)) }
-    ensures most { IfOk result (λ v. length v.items ≤ count) }
+fn put_marked(marks: &Marks, out: &mut ArrayVec<u8, 255>)
+    requires { out.old.items ≡ [] }
+    ensures numbers { out.new.items ≡ marked_among 1 255 (is_marked marks.now) }
+    ensures most { length out.new.items ≤ 255 }
 {
-    let mut numbers = Vec::new(alloc);
-    for i in 0..count {
-        let n = (first + i) as u8;
+    for i in 0..255u8 {
+        let n = 1 + i;
         if marks.has(n) {
-            numbers.push(n)?;
+            out.push(n);
         }
     }
-    Ok(numbers)
-}
-
-/// How many of `count` numbers from the first on are marked.
-#[tactic(auto, using(crate::proofs::Folds::among_none, crate::proofs::Folds::count_next, crate::proofs::Folds::count_same))]
-pub(crate) fn count_marked(marks: &Marks, first: usize, count: usize) -> usize
-    requires { first + count ≤ 256 }
-    ensures count { result ≡ length (marked_among first count (is_marked marks.now)) }
-    ensures most { result ≤ count }
-{
-    let mut numbers = 0;
-    for i in 0..count {
-        if marks.has((first + i) as u8) {
-            numbers += 1;
-        }
-    }
-    numbers
 }

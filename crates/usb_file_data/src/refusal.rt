@@ -1,50 +1,20 @@
-//! Why a file has no bytes.
-ghost use Rattle.std.specs.Prelude.{◌≡◌, ◌||◌, ℕ, ◌≤◌, length};
+//! What keeps a file from having bytes, apart from the layouts of its sets.
+ghost use Rattle.std.specs.Prelude.{◌≡◌, ◌≤◌};
 ghost use Rattle.std.specs.List.{list_any};
-ghost use Rattle.usb_set.specs.Descriptors.{type_number};
 ghost use Rattle.usb_file_data.specs.Named.{other_sets};
-ghost use Rattle.usb_file_data.specs.File.{has_no_layout, is_long_string, is_other_kind, is_other_miscounted, write_refusal, has_wrong_count, has_wrong_kind, has_wrong_layout, are_wrong_strings};
+ghost use Rattle.usb_file_data.specs.File.{are_wrong_strings, has_wrong_count, has_wrong_kind, is_long_string, is_other_kind, is_other_miscounted};
 
-use crate::fault::WriteFault;
 use crate::file::{DescriptorFile, Other, Strings};
-use crate::named_strings::count_named;
 use usb_fields::MOST_UNITS;
 use usb_set::{Configuration, Sequence, SetKind};
-use usb_set_encoder::refusal;
 
-/// The first reason other than memory for which the file has no bytes, if it has none. Allocates nothing.
-pub fn write_refusal(f: &DescriptorFile) -> Option<WriteFault>
-    ensures { result ≡ write_refusal f.now }
-{
-    if has_wrong_count(f) {
-        return Some(WriteFault::Count);
-    }
-    if has_wrong_kind(f) {
-        return Some(WriteFault::Kind);
-    }
-    if has_wrong_layout(f) {
-        return Some(WriteFault::Layout);
-    }
-    if are_wrong_strings(count_named(f), &f.strings) {
-        return Some(WriteFault::Texts);
-    }
-    None
-}
-
-/// Whether the sets are not as many as bNumConfigurations says, or not of the kind that belongs there. With the layouts
-/// of the sets and the strings that is all that [`write_refusal`] asks, so that a writer judges each set as it writes it.
+/// Whether the sets are not as many as bNumConfigurations says: [`WriteFault::Count`](crate::WriteFault::Count).
 ///
 /// ```rust
 /// file.device.configurations += 1;
-/// assert!(rt; has_undeclared_sets(&file));
+/// assert!(rt; has_wrong_count(&file));
 /// ```
-pub fn has_undeclared_sets(f: &DescriptorFile) -> bool
-    ensures { result ≡ (has_wrong_count f.now || has_wrong_kind f.now) }
-{
-    has_wrong_count(f) || has_wrong_kind(f)
-}
-
-fn has_wrong_count(f: &DescriptorFile) -> bool
+pub fn has_wrong_count(f: &DescriptorFile) -> bool
     ensures { result ≡ has_wrong_count f.now }
 {
     f.sets.len() != usize::from(f.device.configurations) || is_other_miscounted(&f.other)
@@ -59,7 +29,13 @@ fn is_other_miscounted(other: &Option<Other>) -> bool
     }
 }
 
-fn has_wrong_kind(f: &DescriptorFile) -> bool
+/// Whether a set is of the kind that belongs to the other speed: [`WriteFault::Kind`](crate::WriteFault::Kind).
+///
+/// ```rust
+/// file.sets.at_mut(0).kind = SetKind::OtherSpeed;
+/// assert!(rt; has_wrong_kind(&file));
+/// ```
+pub fn has_wrong_kind(f: &DescriptorFile) -> bool
     ensures { result ≡ has_wrong_kind f.now }
 {
     any_other_kind(&f.sets, SetKind::Configuration)
@@ -94,25 +70,7 @@ pub fn is_other_kind(c: &Configuration, kind: SetKind) -> bool
     c.kind.descriptor_type() != kind.descriptor_type()
 }
 
-fn has_wrong_layout(f: &DescriptorFile) -> bool
-    ensures { result ≡ has_wrong_layout f.now }
-{
-    any_without_layout(&f.sets) || any_without_layout(sets_of(&f.other))
-}
-
-fn any_without_layout(sets: &[Configuration]) -> bool
-    ensures { result ≡ list_any has_no_layout sets.now }
-{
-    sets.iter().any(|c| has_no_layout(c))
-}
-
-fn has_no_layout(c: &Configuration) -> bool
-    ensures { result ≡ has_no_layout c.now }
-{
-    refusal(c).is_some()
-}
-
-/// Whether the strings are not those of so many named indices, of which there can be 255: [`WriteFault::Texts`].
+/// Whether the strings are not those of so many named indices, of which there can be 255: [`WriteFault::Texts`](crate::WriteFault::Texts).
 ///
 /// ```rust
 /// // A file that names no string has none.

@@ -1,14 +1,11 @@
 //! The string of an index in a language.
-ghost use Rattle.std.specs.Prelude.{◌≡◌, ◌+◌, ◌*◌, ◌≤◌, ◌==◌, position, slice_get};
+ghost use Rattle.std.specs.Prelude.{◌≡◌, ◌+◌, ◌*◌, ◌<◌, ◌==◌, position, slice_get, length, IfSome};
 ghost use Rattle.std.specs.Option.{option_copied};
-ghost use Rattle.usb_base.specs.Marks.{is_marked};
 ghost use Rattle.usb_file_data.specs.StringPlaces.{units_at, units_of};
-ghost use Rattle.usb_file_data.specs.inside.Marks.{marked_among};
 
 use crate::file::{DescriptorFile, Strings};
-use crate::named_strings::count_marked;
-use crate::string_marks::mark_file;
-use usb_base::Marks;
+use crate::named_strings::put_named;
+use arrayvec::ArrayVec;
 use usb_set::Sequence;
 
 impl DescriptorFile {
@@ -26,36 +23,47 @@ impl DescriptorFile {
         ensures { option_copied result ≡ units_of self.now index language }
     {
         match &self.strings {
-            Some(strings) => units_at(strings, &mark_file(self), index, language),
+            Some(strings) => {
+                let mut named = ArrayVec::new();
+                put_named(self, &mut named);
+                strings.units_at(named.as_slice(), index, language)
+            }
             None => None,
         }
     }
 }
 
-/// The units of the string, where these indices are named.
-fn units_at<'s>(strings: &'s Strings, named: &Marks, index: u8, language: u16) -> Option<&'s [u16]>
-    ensures { option_copied result ≡ units_at strings.now (marked_among 1 255 (is_marked named.now)) index language }
-{
-    let row = place_of_language(&strings.languages, language)?;
-    let column = place_of_index(named, index)?;
-    units_in(&strings.texts, row, count_marked(named, 1, 255), column)
-}
-
-fn place_of_language(languages: &[u16], language: u16) -> Option<usize>
-    ensures { result ≡ position (λ l. l == language) languages.now }
-{
-    languages.iter().position(|other| *other == language)
-}
-
-/// The place of an index among the marked ones of 1 to 255.
-fn place_of_index(named: &Marks, index: u8) -> Option<usize>
-    ensures { result ≡ position (λ n. n == index) (marked_among 1 255 (is_marked named.now)) }
-{
-    if index != 0 && named.has(index) {
-        Some(count_marked(named, 1, usize::from(index) - 1))
-    } else {
-        None
+impl Strings {
+    /// The units of the string of an index in a language, where `named` has the indices that the file names.
+    ///
+    /// ```rust
+    /// let units = strings.units_at(&named(alloc, &file)?, file.device.product_text, 0x0409);
+    /// ```
+    pub fn units_at(&self, named: &[u8], index: u8, language: u16) -> Option<&[u16]>
+        ensures { option_copied result ≡ units_at self.now named.now index language }
+    {
+        let row = self.place_of_language(language)?;
+        let column = place_of_index(named, index)?;
+        units_in(&self.texts, row, named.len(), column)
     }
+
+    /// The first place of a language in the list.
+    ///
+    /// ```rust
+    /// assert_eq!(rt; strings.place_of_language(0x0409), Some(0));
+    /// ```
+    pub fn place_of_language(&self, language: u16) -> Option<usize>
+        ensures place { result ≡ position (λ l. l == language) self.now.languages }
+        ensures within { IfSome result (λ place. place < length self.now.languages) }
+    {
+        self.languages.iter().position(|other| *other == language)
+    }
+}
+
+fn place_of_index(named: &[u8], index: u8) -> Option<usize>
+    ensures { result ≡ position (λ n. n == index) named.now }
+{
+    named.iter().position(|other| *other == index)
 }
 
 /// The units in this row and column of a table, of which each row has so many columns.

@@ -4,7 +4,7 @@ use Rattle.std.specs.List.{AllByRecursion}
 use Rattle.usb_description.specs.declared.image.Span.{Span}
 use Rattle.usb_description.specs.declared.image.Image.TheInside.{Inside}
 
--- the bytes that stand there
+-- the bytes that are there
 abbrev pub span_bytes : List ℕ → Span → List ℕ
 span_bytes bytes s = take s.count (drop s.start bytes)
 

@@ -1,8 +1,8 @@
--- A table of where each byte stands in a list.
+-- A table of where each byte is in a list.
 use Rattle.std.specs.Prelude.{◌≡◌, ◌≤◌, ℕ, ◌<◌, ◌==◌, List, length, position, slice_index_or, unwrap_or}
 use Rattle.usb_description.specs.declared.ranks.Ranks.TheInside.{Inside}
 
--- where the number stands first, or 255 where it does not
+-- where the number is first, or 255 where it does not
 unfoldable pub rank : List ℕ → ℕ → ℕ
 rank numbers n = unwrap_or (position (λ m. m == n) numbers) 255
 

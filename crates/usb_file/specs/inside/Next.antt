@@ -1,4 +1,4 @@
--- What comes next after a front of a file, as a function of it and of the bytes that are left.
+-- What comes next after a prefix of a file, as a function of it and of the bytes that are left.
 use Rattle.std.specs.Prelude.{ℕ, ◌*◌, List, length, nat_lt, ◌==◌, Option, Some, None, if◌then◌else◌}
 use Rattle.usb_set.specs.declared.tree.SetKind.TheVariants as kinds
 use Rattle.usb_file_data.specs.declared.file.DescriptorFile.{DescriptorFile}

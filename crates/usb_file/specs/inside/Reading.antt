@@ -32,13 +32,13 @@ pub record ReadSoFar (b : List ℕ) (f : DescriptorFile) (place : ℕ) : Type 0 
   pub within : place ≤ length b
   pub fits : AreBytes b
 
--- so many bytes behind a place something holds
+-- so many bytes after a place something holds
 pub record Behind (place : ℕ) (P : ℕ → Type 0) (at : ℕ) : Type 0 where
   pub count : ℕ
   pub holds : P count
   pub at_is : at ≡ place + count
 
--- between these places stand these elements, one after another
+-- between these places are these elements, one after another
 pub record ReadsAll {A : Type 0} (bytes_of : A → List ℕ) (b : List ℕ) (start : ℕ) (items : List A) (end : ℕ) : Type 0 where
   pub parts : drop start b ≡ flat_map bytes_of items ++ drop end b
   pub ends : end ≡ start + length (flat_map bytes_of items)
@@ -51,7 +51,7 @@ pub record ReadsSet (kind : SetKind) (rest : List ℕ) (c : Configuration) (used
   pub begins : Begins rest c used
   pub kind_is : is_other_kind kind c ≡ false
 
--- The fault of a set as one of the file, from the set's start: *out of memory* is told there, and bytes that
+-- The fault of a set as one of the file, from the set's start: *out of memory* is reported there, and bytes that
 -- end too early end the file.
 abbrev pub set_refusal : SetWhy → ℕ → FileFault
 set_refusal sets.Memory at = record { at = 0; why = files.Memory }
@@ -69,13 +69,13 @@ pub record ReadsNextSet (kind : SetKind) (b : List ℕ) (place : ℕ) (old new :
   pub reads : Behind place (ReadsSet kind (drop place b) set) end
   pub grown : new ≡ old ++ set ∷ []
 
--- between these places stand these sets, all of this kind
+-- between these places are these sets, all of this kind
 pub record ReadsSets (kind : SetKind) (b : List ℕ) (start : ℕ) (sets : List Configuration) (end : ℕ) : Type 0 where
   pub all : ReadsAll whole_set b start sets end
   pub kinds : list_any (is_other_kind kind) sets ≡ false
   pub layouts : list_any has_no_layout sets ≡ false
 
--- Of so many sets that are declared the next one after these was refused: *out of memory* is told where it
+-- Of so many sets that are declared the next one after these was refused: *out of memory* is reported where it
 -- starts.
 pub record SetsRefused (kind : SetKind) (declared : ℕ) (b : List ℕ) (start : ℕ) (sets : List Configuration) (at : ℕ) (why : FileWhy) : Type 0 where
   pub end : ℕ
@@ -85,7 +85,7 @@ pub record SetsRefused (kind : SetKind) (declared : ℕ) (b : List ℕ) (start :
 
 -- ---- the other speed
 
--- a qualifier stands at this place
+-- a qualifier is at this place
 pub record ReadsQualifier (b : List ℕ) (place : ℕ) (q : Qualifier) : Type 0 where
   pub bytes : take 10 (drop place b) ≡ qualifier_bytes q
   pub long : 10 ≤ length (drop place b)
@@ -95,7 +95,7 @@ abbrev pub QualifierRefused : List ℕ → ℕ → ℕ → FileWhy → Type 0
 QualifierRefused b place at why =
     Behind place (λ n. fixed_fault 10 (is_some (qualifier_fault (take 10 (drop place b)))) files.Qualifier (drop place b) ≡ Some (n, why)) at
 
--- between these places stands the other speed: the qualifier and all its sets
+-- between these places is the other speed: the qualifier and all its sets
 pub record ReadsSpeed (b : List ℕ) (place : ℕ) (o : Other) (end : ℕ) : Type 0 where
   pub begins : begins_qualifier (drop place b) ≡ true
   pub qualifier : ReadsQualifier b place o.qualifier
@@ -141,12 +141,12 @@ pub record ReadsNextString (b : List ℕ) (place : ℕ) (old new : List (List �
   pub reads : Behind place (ReadsString 2 (drop place b) units) end
   pub grown : new ≡ old ++ units ∷ []
 
--- between these places stand these strings
+-- between these places are these strings
 pub record ReadsDueStrings (b : List ℕ) (start : ℕ) (strings : List (List ℕ)) (end : ℕ) : Type 0 where
   pub all : ReadsAll units_bytes b start strings end
   pub short : list_any is_long_string strings ≡ false
 
--- Of so many strings that are due the next one after these was refused: *out of memory* is told where it
+-- Of so many strings that are due the next one after these was refused: *out of memory* is reported where it
 -- starts.
 pub record DueStringsRefused (due : ℕ) (b : List ℕ) (start : ℕ) (strings : List (List ℕ)) (at : ℕ) (why : FileWhy) : Type 0 where
   pub end : ℕ
@@ -154,7 +154,7 @@ pub record DueStringsRefused (due : ℕ) (b : List ℕ) (start : ℕ) (strings :
   pub few : length strings < due
   pub refused : Behind end (λ n. StringRefused 2 (drop end b) n why) at
 
--- between these places stand the language list and one string for each language and each of so many indices
+-- between these places are the language list and one string for each language and each of so many indices
 pub record ReadsLanguages (count : ℕ) (b : List ℕ) (place : ℕ) (s : Strings) (end : ℕ) : Type 0 where
   pub named : 0 < count
   pub start : ℕ

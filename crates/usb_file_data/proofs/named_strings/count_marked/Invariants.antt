@@ -1,7 +1,0 @@
-use Rattle.std.proofs.Common.{◌≡◌, ◌≤◌, length}
-use Rattle.usb_base.specs.Marks.{is_marked}
-use Rattle.usb_file_data.specs.inside.Marks.{marked_among}
-use Rattle.usb_file_data.proofs.named_strings.count_marked.Given as goal
-
-abbrev pub invariant-loop-i : goal.invariant-loop-i
-invariant-loop-i l = (l.numbers ≡ length (marked_among l.first l.i (is_marked l.marks))) × (l.numbers ≤ l.i)
