@@ -3,23 +3,22 @@ use Rattle.std.proofs.Common.{◌≡◌, ℕ, List, [], ◌∷◌, ◌++◌, Boo
 use Rattle.usb_file.specs.declared.input.Input.{Input}
 use Rattle.usb_file.specs.declared.input.Input.TheVariants as inputs
 use Rattle.usb_rules.specs.declared.finding.Finding.{Finding}
-use Rattle.usb_explained_lines.specs.declared.kind.Kind.{Kind}
-use Rattle.usb_explained_lines.specs.declared.kind.Kind.TheVariants as kinds
+use Rattle.usb_explained_lines.specs.declared.context.Context.{Context}
 use Rattle.usb_explained_lines.specs.declared.look.Look.{Look}
-use Rattle.usb_explained_lines.specs.Kinds.{fields, heading, kind_lines}
+use Rattle.usb_explained_lines.specs.Descriptors.{field_lines, fields, heading}
 use Rattle.usb_explained_lines.specs.Lines.{heading_line}
 use Rattle.usb_explain.specs.declared.manner.Manner.{Manner}
-use Rattle.usb_explain.specs.declared.role.Role.{Role}
-use Rattle.usb_explain.specs.declared.role.Role.TheVariants.{Device, Qualifier, Configuration, Association, Interface, Endpoint, Raw, Languages, Text}
+use Rattle.usb_explained_lines.specs.declared.role.Role.{Role}
 use Rattle.usb_explain.specs.declared.position.Standing.{Standing}
 use Rattle.usb_explain.specs.Explanations.{broken_end, broken_explanation, broken_name, explanation, first_line, input_name, last_line, whole_end, whole_text}
 use Rattle.usb_explain.specs.Faults.{fault_text, place_of_fault}
 use Rattle.usb_explain.specs.Findings.{found_at, role_findings}
-use Rattle.usb_explain.specs.Kinds.{depth_of, kind_of}
-use Rattle.usb_explain.specs.Laws.{BrokenLeavesOutFields, LeavesOutFields, Shown, WholeLeavesOutFields, fields_of, head_of, lines_of, rest_fields, rest_head, with_fields, without_fields}
+use Rattle.usb_explain.specs.Contexts.{context_of}
+use Rattle.usb_explain.specs.Laws.{BrokenLeavesOutFields, LeavesOutFields, Shown, WholeLeavesOutFields, context_at, fields_of, head_of, lines_of, rest_bytes, rest_head, with_fields, without_fields}
 use Rattle.usb_explain.specs.Standings.{start}
 use Rattle.usb_explain.specs.Subjects.{Subject, broken_subject, findings_in, subject_with}
-use Rattle.usb_explain.specs.Walks.{rest_text, walked}
+use Rattle.usb_explained_lines.specs.Rest.{rest_fields, rest_heading, rest_lines}
+use Rattle.usb_explain.specs.Walks.{walked}
 use Rattle.usb_explain.proofs.Spans.{broken_ends, broken_is, end_by, walk_shows, whole_is, with_look}
 
 -- a look with the lines of fields or without them
@@ -27,30 +26,24 @@ abbrev pub brief_if : Bool → Look → Look
 brief_if brief look = record look { brief = brief }
 
 -- a heading doesn't tell whether fields follow
-heading_same : (brief : Bool) (look : Look) (depth : ℕ) (kind : Kind) (b : List ℕ) (at : ℕ) → heading (brief_if brief look) depth kind b at ≡ heading look depth kind b at
+heading_same : (brief : Bool) (look : Look) (role : Role) (context : Context) (b : List ℕ) (at : ℕ)
+    → heading (brief_if brief look) role context b at ≡ heading look role context b at
 unfolding heading heading_line
-heading_same brief look depth kind b at = refl
+heading_same brief look role context b at = refl
 
-fields_shown : (look : Look) (depth : ℕ) (subject : Subject) (kind : Kind) (b : List ℕ) → fields (brief_if false look) depth subject.names kind b ≡ kind_lines depth subject.names kind b
+fields_shown : (look : Look) (subject : Subject) (role : Role) (context : Context) (b : List ℕ)
+    → fields (brief_if false look) subject.names role context b ≡ field_lines subject.names role context b
 unfolding fields
-fields_shown look depth subject kind b = refl
+fields_shown look subject role context b = refl
 
-fields_left_out : (look : Look) (depth : ℕ) (subject : Subject) (kind : Kind) (b : List ℕ) → fields (brief_if true look) depth subject.names kind b ≡ []
+fields_left_out : (look : Look) (subject : Subject) (role : Role) (context : Context) (b : List ℕ) → fields (brief_if true look) subject.names role context b ≡ []
 unfolding fields
-fields_left_out look depth subject kind b = refl
+fields_left_out look subject role context b = refl
 
--- a kind doesn't depend on the look
-kind_same : (look : Look) (subject : Subject) (s : Standing) (role : Role) (d : List ℕ) → kind_of (with_look look subject) s role d ≡ kind_of subject s role d
-unfolding kind_of
-kind_same look subject s Device d = refl
-kind_same look subject s Qualifier d = refl
-kind_same look subject s Configuration d = refl
-kind_same look subject s Association d = refl
-kind_same look subject s Interface d = refl
-kind_same look subject s Endpoint d = refl
-kind_same look subject s Raw d = refl
-kind_same look subject s Languages d = refl
-kind_same look subject s Text d = refl
+-- what words depend on doesn't depend on the look
+context_same : (look : Look) (subject : Subject) (s : Standing) (role : Role) (d : List ℕ) → context_of (with_look look subject) s role d ≡ context_of subject s role d
+unfolding context_of
+context_same look subject s role d = refl
 
 -- neither do findings
 findings_same : (look : Look) (subject : Subject) (s : Standing) (role : Role) (d behind : List ℕ) → role_findings (with_look look subject) s role d behind ≡ role_findings subject s role d behind
@@ -61,30 +54,30 @@ findings_same look subject s role d behind = refl
 head_same : (brief : Bool) (subject : Subject) (d : Shown)
     → head_of (with_look (brief_if brief subject.manner.look) subject) d ≡ head_of subject d
 head_same brief subject d =
-    ap (λ kind. heading (brief_if brief subject.manner.look) (depth_of d.standing d.role) kind d.bytes d.standing.at ++ role_findings (with_look (brief_if brief subject.manner.look) subject) d.standing d.role d.bytes d.behind)
-    (kind_same (brief_if brief subject.manner.look) subject d.standing d.role d.bytes)
+    ap (λ context. heading (brief_if brief subject.manner.look) d.role context d.bytes d.standing.at ++ role_findings (with_look (brief_if brief subject.manner.look) subject) d.standing d.role d.bytes d.behind)
+    (context_same (brief_if brief subject.manner.look) subject d.standing d.role d.bytes)
     ∙ ap (λ l. l ++ role_findings (with_look (brief_if brief subject.manner.look) subject) d.standing d.role d.bytes d.behind)
-    (heading_same brief subject.manner.look (depth_of d.standing d.role) (kind_of subject d.standing d.role d.bytes) d.bytes d.standing.at)
-    ∙ ap (λ l. heading subject.manner.look (depth_of d.standing d.role) (kind_of subject d.standing d.role d.bytes) d.bytes d.standing.at ++ l)
+    (heading_same brief subject.manner.look d.role (context_at subject d) d.bytes d.standing.at)
+    ∙ ap (λ l. heading subject.manner.look d.role (context_at subject d) d.bytes d.standing.at ++ l)
     (findings_same (brief_if brief subject.manner.look) subject d.standing d.role d.bytes d.behind)
 
 lines_are : (subject : Subject) (d : Shown)
-    → lines_of subject d ≡ head_of subject d ++ fields subject.manner.look (depth_of d.standing d.role) subject.names (kind_of subject d.standing d.role d.bytes) d.bytes
+    → lines_of subject d ≡ head_of subject d ++ fields subject.manner.look subject.names d.role (context_at subject d) d.bytes
 lines_are subject d = refl
 
 full_lines : (subject : Subject) (d : Shown) → lines_of (with_look (brief_if false subject.manner.look) subject) d ≡ head_of subject d ++ fields_of subject d
 full_lines subject d =
     let look = brief_if false subject.manner.look in
     lines_are (with_look look subject) d
-    ∙ ap (λ l. head_of (with_look look subject) d ++ l) (fields_shown subject.manner.look (depth_of d.standing d.role) subject (kind_of (with_look look subject) d.standing d.role d.bytes) d.bytes)
-    ∙ ap (λ kind. head_of (with_look look subject) d ++ kind_lines (depth_of d.standing d.role) subject.names kind d.bytes) (kind_same look subject d.standing d.role d.bytes)
+    ∙ ap (λ l. head_of (with_look look subject) d ++ l) (fields_shown subject.manner.look subject d.role (context_at (with_look look subject) d) d.bytes)
+    ∙ ap (λ context. head_of (with_look look subject) d ++ field_lines subject.names d.role context d.bytes) (context_same look subject d.standing d.role d.bytes)
     ∙ ap (λ l. l ++ fields_of subject d) (head_same false subject d)
 
 brief_lines : (subject : Subject) (d : Shown) → lines_of (with_look (brief_if true subject.manner.look) subject) d ≡ head_of subject d
 brief_lines subject d =
     let look = brief_if true subject.manner.look in
     lines_are (with_look look subject) d
-    ∙ ap (λ l. head_of (with_look look subject) d ++ l) (fields_left_out subject.manner.look (depth_of d.standing d.role) subject (kind_of (with_look look subject) d.standing d.role d.bytes) d.bytes)
+    ∙ ap (λ l. head_of (with_look look subject) d ++ l) (fields_left_out subject.manner.look subject d.role (context_at (with_look look subject) d) d.bytes)
     ∙ append-nil (head_of (with_look look subject) d)
     ∙ head_same true subject d
 
@@ -93,18 +86,15 @@ all_same f g e [] = refl
 all_same f g e (d ∷ ds) = ap (λ l. l ++ flat_map f ds) (e d) ∙ ap (λ l. g d ++ l) (all_same f g e ds)
 
 -- the rest
-full_rest : (subject : Subject) (at : ℕ) (rest : List ℕ) → rest_text (with_look (brief_if false subject.manner.look) subject) at rest ≡ rest_head subject at rest ++ rest_fields subject rest
+full_rest : (subject : Subject) (at : ℕ) (rest : List ℕ) → rest_lines (brief_if false subject.manner.look) at rest ≡ rest_head subject at rest ++ rest_bytes rest
+unfolding rest_heading rest_fields heading_line
 full_rest subject at [] = refl
-full_rest subject at (x ∷ rest) =
-    ap (λ l. l ++ fields (brief_if false subject.manner.look) 0 subject.names kinds.Rest (x ∷ rest)) (heading_same false subject.manner.look 0 kinds.Rest (x ∷ rest) at)
-    ∙ ap (λ l. heading subject.manner.look 0 kinds.Rest (x ∷ rest) at ++ l) (fields_shown subject.manner.look 0 subject kinds.Rest (x ∷ rest))
+full_rest subject at (x ∷ rest) = refl
 
-brief_rest : (subject : Subject) (at : ℕ) (rest : List ℕ) → rest_text (with_look (brief_if true subject.manner.look) subject) at rest ≡ rest_head subject at rest
+brief_rest : (subject : Subject) (at : ℕ) (rest : List ℕ) → rest_lines (brief_if true subject.manner.look) at rest ≡ rest_head subject at rest
+unfolding rest_heading rest_fields heading_line
 brief_rest subject at [] = refl
-brief_rest subject at (x ∷ rest) =
-    ap (λ l. l ++ fields (brief_if true subject.manner.look) 0 subject.names kinds.Rest (x ∷ rest)) (heading_same true subject.manner.look 0 kinds.Rest (x ∷ rest) at)
-    ∙ ap (λ l. heading subject.manner.look 0 kinds.Rest (x ∷ rest) at ++ l) (fields_left_out subject.manner.look 0 subject kinds.Rest (x ∷ rest))
-    ∙ append-nil (heading subject.manner.look 0 kinds.Rest (x ∷ rest) at)
+brief_rest subject at (x ∷ rest) = append-nil _
 
 pub leaves_out : (subject : Subject) (b front first before_rest last one other : List ℕ) (n : ℕ) (one_end other_end : ℕ → List ℕ)
     → ((at : ℕ) → one_end at ≡ end_by (with_look (brief_if false subject.manner.look) subject) b before_rest last at)

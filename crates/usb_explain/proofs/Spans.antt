@@ -8,7 +8,7 @@ use Rattle.std.proofs.Math.Seq.{drop-append_seam}
 use Rattle.usb_words.specs.Cut.{descriptor_length}
 use Rattle.usb_file.specs.declared.input_fault.InputFault.{InputFault}
 use Rattle.usb_explained_lines.specs.declared.look.Look.{Look}
-use Rattle.usb_explain.specs.declared.role.Role.{Role}
+use Rattle.usb_explained_lines.specs.declared.role.Role.{Role}
 use Rattle.usb_explain.specs.declared.position.Standing.{Standing}
 use Rattle.usb_explain.specs.Explanations.{broken_end, broken_explanation, broken_name, broken_text, explanation, first_line, input_name, last_line, whole_end, whole_text}
 use Rattle.usb_explain.specs.Faults.{fault_text, place_of_fault}
@@ -19,7 +19,8 @@ use Rattle.usb_explained_lines.specs.declared.told.Told.{Told}
 use Rattle.usb_explain.specs.Roles.{next_role, role_of}
 use Rattle.usb_explain.specs.Standings.{start}
 use Rattle.usb_explain.specs.Subjects.{Subject, broken_subject, findings_in, subject_with}
-use Rattle.usb_explain.specs.Walks.{behind_next, block, here, next_block, rest_text, told_next, walked}
+use Rattle.usb_explained_lines.specs.Rest.{rest_lines}
+use Rattle.usb_explain.specs.Walks.{behind_next, block, here, next_block, told_next, walked}
 use Rattle.usb_explain.proofs.Standings.{entered_at, noted_at, start_at, told_entered, told_noted}
 use Rattle.usb_explain.proofs.Telling.{found_front}
 use Rattle.usb_explain.proofs.Walking.{walk_end, walk_next}
@@ -187,11 +188,11 @@ rest_follows (x ∷ xs) from at total rest f e = (f.0, f.1, rest_follows xs (fro
 
 -- what ends a text: lines before the rest, the rest, and the last line
 abbrev pub end_by : Subject → List ℕ → List ℕ → List ℕ → ℕ → List ℕ
-end_by subject b before_rest last at = before_rest ++ (rest_text subject at (drop at b) ++ last)
+end_by subject b before_rest last at = before_rest ++ (rest_lines subject.manner.look at (drop at b) ++ last)
 
 -- nothing behind the rest
 pub broken_ends : (subject : Subject) (fault : InputFault) (b : List ℕ) (at : ℕ) → broken_end subject fault b at ≡ end_by subject b (fault_text fault) [] at
-broken_ends subject fault b at = ap (λ l. fault_text fault ++ l) (sym (append-nil (rest_text subject at (drop at b))))
+broken_ends subject fault b at = ap (λ l. fault_text fault ++ l) (sym (append-nil (rest_lines subject.manner.look at (drop at b))))
 
 -- a text made of a walk over the front of these bytes
 unfoldable pub once_of : (subject : Subject) (b front tail first before_rest last text : List ℕ) (n : ℕ) (ending : ℕ → List ℕ) → b ≡ front ++ tail

@@ -10,10 +10,10 @@ use Rattle.std.proofs.lemmas.List.Sums.{take_while-cons}
 use Rattle.usb_rules.specs.declared.finding.Finding.{Finding}
 use Rattle.usb_explained_lines.specs.declared.told.Told.{Told}
 use Rattle.usb_explained_lines.specs.Findings.{finding_line}
-use Rattle.usb_explain.specs.declared.role.Role.{Role}
+use Rattle.usb_explained_lines.specs.declared.role.Role.{Role}
 use Rattle.usb_explain.specs.declared.position.Standing.{Standing}
 use Rattle.usb_explain.specs.Findings.{found_at, is_here, line_of, told_of}
-use Rattle.usb_explain.specs.Kinds.{depth_of}
+use Rattle.usb_explain.specs.Contexts.{depth_of}
 use Rattle.usb_explain.specs.Subjects.{Subject}
 
 -- the next finding is one of the descriptor, and its line comes next

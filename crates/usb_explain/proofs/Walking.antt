@@ -6,11 +6,11 @@ use Rattle.usb_listing.specs.Output.{AppendsLess, Held}
 use Rattle.usb_listing.specs.inside.Pages.{Puts}
 use Rattle.usb_listing.proofs.Pages.{front_longer, not_begun, puts_after, puts_broken, puts_more}
 use Rattle.usb_listing.proofs.HasBytes.{longer}
-use Rattle.usb_explained_lines.specs.declared.kind.Kind.{Kind}
+use Rattle.usb_explained_lines.specs.declared.context.Context.{Context}
 use Rattle.usb_explained_lines.specs.declared.look.Look.{Look}
-use Rattle.usb_explained_lines.specs.Kinds.{heading}
+use Rattle.usb_explained_lines.specs.Descriptors.{heading}
 use Rattle.usb_explained_lines.specs.Lines.{heading_line}
-use Rattle.usb_explain.specs.declared.role.Role.{Role}
+use Rattle.usb_explained_lines.specs.declared.role.Role.{Role}
 use Rattle.usb_explain.specs.declared.position.Standing.{Standing}
 use Rattle.usb_explain.specs.Roles.{next_role}
 use Rattle.usb_explain.specs.Standings.{start}
@@ -35,9 +35,9 @@ walk_end (suc n) subject ending s ahead e =
     ap (λ o. unwrap_or (option_map (λ next. next_block subject s ahead next ++ walked n subject ending (behind_next subject s ahead next) (drop next.1 ahead)) o) (ending s.at)) e
 
 -- a heading has bytes
-pub heading_has : (look : Look) (depth : ℕ) (kind : Kind) (b : List ℕ) (at : ℕ) → 0 < length (heading look depth kind b at)
+pub heading_has : (look : Look) (role : Role) (context : Context) (b : List ℕ) (at : ℕ) → 0 < length (heading look role context b at)
 unfolding heading heading_line
-heading_has look depth kind b at = simp length-append (omega arith)
+heading_has look role context b at = simp length-append (omega arith)
 
 pub block_has : (subject : Subject) (s : Standing) (role : Role) (d behind : List ℕ) → 0 < length (block subject s role d behind)
 unfolding block

@@ -1,6 +1,7 @@
 -- The explanation of an input, and of bytes that are none.
 use Rattle.std.specs.Prelude.{ℕ, List, ◌++◌, length, take, drop, slice_index, codes, ◌==◌, ◌||◌, if◌then◌else◌}
 use Rattle.usb_words.specs.Numbers.{count}
+use Rattle.usb_explained_lines.specs.Rest.{rest_lines}
 use Rattle.usb_file.specs.declared.input.Input.{Input}
 use Rattle.usb_file.specs.declared.input.Input.TheVariants as inputs
 use Rattle.usb_file.specs.declared.input_fault.InputFault.{InputFault}
@@ -8,7 +9,7 @@ use Rattle.usb_explain.specs.declared.manner.Manner.{Manner}
 use Rattle.usb_explain.specs.Faults.{fault_text, place_of_fault}
 use Rattle.usb_explain.specs.Standings.{start}
 use Rattle.usb_explain.specs.Subjects.{Subject, broken_subject, findings_in, subject_with}
-use Rattle.usb_explain.specs.Walks.{rest_text, walked}
+use Rattle.usb_explain.specs.Walks.{walked}
 
 -- the name of an input
 abbrev pub input_name : Input → List ℕ
@@ -30,11 +31,11 @@ last_line n = if n == 0 then codes "no findings\n" else count n (codes "finding"
 
 -- what ends the explanation of an input
 abbrev pub whole_end : Subject → ℕ → List ℕ → ℕ → List ℕ
-whole_end subject findings b at = rest_text subject at (drop at b) ++ last_line findings
+whole_end subject findings b at = rest_lines subject.manner.look at (drop at b) ++ last_line findings
 
 -- what ends that of bytes which are none
 abbrev pub broken_end : Subject → InputFault → List ℕ → ℕ → List ℕ
-broken_end subject fault b at = fault_text fault ++ rest_text subject at (drop at b)
+broken_end subject fault b at = fault_text fault ++ rest_lines subject.manner.look at (drop at b)
 
 -- the explanation of an input of this name
 unfoldable pub whole_text : Subject → List ℕ → ℕ → List ℕ → List ℕ

@@ -14,12 +14,12 @@ use Rattle.usb_words.specs.Cut.{descriptors}
 use Rattle.usb_explained_lines.specs.declared.told.Told.{Told}
 use Rattle.usb_explained_lines.specs.declared.told.Told.TheVariants as told
 use Rattle.usb_explained_lines.specs.Findings.{finding_line}
-use Rattle.usb_explain.specs.declared.role.Role.{Role}
-use Rattle.usb_explain.specs.declared.role.Role.TheVariants.{Device, Qualifier, Configuration, Association, Interface, Endpoint}
+use Rattle.usb_explained_lines.specs.declared.role.Role.{Role}
+use Rattle.usb_explained_lines.specs.declared.role.Role.TheVariants.{Device, Qualifier, Configuration, Association, Interface, Endpoint}
 use Rattle.usb_explain.specs.declared.position.SetStanding.{SetStanding}
 use Rattle.usb_explain.specs.declared.position.SettingStanding.{SettingStanding}
 use Rattle.usb_explain.specs.declared.position.Standing.{Standing}
-use Rattle.usb_explain.specs.Kinds.{depth_of}
+use Rattle.usb_explain.specs.Contexts.{depth_of}
 use Rattle.usb_explain.specs.Subjects.{Subject}
 
 -- what is wrong with a device descriptor; that of a dump may be one of SuperSpeed

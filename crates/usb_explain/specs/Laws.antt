@@ -13,21 +13,20 @@ use Rattle.usb_rules.specs.declared.rule.Rule.{Rule}
 use Rattle.usb_rules.specs.declared.rule.Rule.TheVariants as rules
 use Rattle.usb_rules.specs.InOrder.{by_rule}
 use Rattle.usb_explained_lines.specs.declared.told.Told.{Told}
-use Rattle.usb_explained_lines.specs.declared.kind.Kind.{Kind}
-use Rattle.usb_explained_lines.specs.declared.kind.Kind.TheVariants as kinds
-use Rattle.usb_explained_lines.specs.Kinds.{fields, heading, kind_lines}
+use Rattle.usb_explained_lines.specs.declared.context.Context.{Context}
+use Rattle.usb_explained_lines.specs.Descriptors.{field_lines, fields, heading}
+use Rattle.usb_explained_lines.specs.Rest.{rest_fields, rest_heading, rest_line, rest_lines}
 use Rattle.usb_explain.specs.declared.manner.Manner.{Manner}
-use Rattle.usb_explain.specs.declared.role.Role.{Role}
+use Rattle.usb_explained_lines.specs.declared.role.Role.{Role}
 use Rattle.usb_explain.specs.declared.position.Standing.{Standing}
 use Rattle.usb_explain.specs.Explanations.{broken_explanation, broken_name, explanation, first_line, input_name, last_line}
 use Rattle.usb_explain.specs.Faults.{fault_text, place_of_fault}
 use Rattle.usb_explain.specs.Findings.{found_at, is_here, line_of, role_findings, told_at}
-use Rattle.usb_explain.specs.Kinds.{depth_of, kind_of}
+use Rattle.usb_explain.specs.Contexts.{context_of, depth_of}
 use Rattle.usb_explain.specs.Lines.{IsLine, SayFields}
 use Rattle.usb_explain.specs.Slack.{slack}
 use Rattle.usb_explain.specs.Subjects.{Subject, broken_subject, findings_in, subject_with}
 use Rattle.usb_explain.specs.Trees.{OutlineEntry, counts_in, entry, outline}
-use Rattle.usb_explain.specs.Walks.{rest_text}
 
 -- a descriptor of an explanation: where it stands, what it is there, its bytes, and those behind it
 pub record Shown : Type 0 where
@@ -36,17 +35,19 @@ pub record Shown : Type 0 where
   pub bytes : List ℕ
   pub behind : List ℕ
 
+-- what its words depend on there
+abbrev pub context_at : Subject → Shown → Context
+context_at subject d = context_of subject d.standing d.role d.bytes
+
 -- its heading, with the place where it stands and its length, and what it breaks
 abbrev pub head_of : Subject → Shown → List ℕ
 head_of subject d =
-    heading subject.manner.look (depth_of d.standing d.role) (kind_of subject d.standing d.role d.bytes) d.bytes d.standing.at
+    heading subject.manner.look d.role (context_at subject d) d.bytes d.standing.at
     ++ role_findings subject d.standing d.role d.bytes d.behind
 
 -- its lines: behind those the lines of its fields, where they are shown
 abbrev pub lines_of : Subject → Shown → List ℕ
-lines_of subject d =
-    head_of subject d
-    ++ fields subject.manner.look (depth_of d.standing d.role) subject.names (kind_of subject d.standing d.role d.bytes) d.bytes
+lines_of subject d = head_of subject d ++ fields subject.manner.look subject.names d.role (context_at subject d) d.bytes
 
 -- the findings that are told under its heading: those of which each line of its findings is one
 abbrev pub findings_of : Subject → Shown → List Finding
@@ -83,7 +84,7 @@ Cut bytes (d ∷ ds) rest = (bytes ≡ d.bytes ++ d.behind) × (slice_index d.by
 pub record EachByteOnce (subject : Subject) (front bytes first before_rest last text : List ℕ) : Type 0 where
   pub shown : List Shown
   pub end : ℕ
-  pub lines : text ≡ first ++ (flat_map (lines_of subject) shown ++ (before_rest ++ (rest_text subject end (drop end bytes) ++ last)))
+  pub lines : text ≡ first ++ (flat_map (lines_of subject) shown ++ (before_rest ++ (rest_lines subject.manner.look end (drop end bytes) ++ last)))
   pub cut : Cut front shown (drop end front)
   pub parts : bytes ≡ flat_map (λ d. d.bytes) shown ++ drop end bytes
   pub spans : Follow 0 (map span_of shown ++ rest_span end (drop end bytes)) (length bytes)
@@ -189,17 +190,17 @@ without_fields manner = record manner { look = record manner.look { brief = true
 
 -- the lines of its fields
 abbrev pub fields_of : Subject → Shown → List ℕ
-fields_of subject d = kind_lines (depth_of d.standing d.role) subject.names (kind_of subject d.standing d.role d.bytes) d.bytes
+fields_of subject d = field_lines subject.names d.role (context_at subject d) d.bytes
 
 -- the heading of the rest, if bytes are left
 abbrev pub rest_head : Subject → ℕ → List ℕ → List ℕ
 rest_head subject at [] = []
-rest_head subject at (x ∷ rest) = heading subject.manner.look 0 kinds.Rest (x ∷ rest) at
+rest_head subject at (x ∷ rest) = rest_heading subject.manner.look at (x ∷ rest)
 
--- the lines of its fields
-abbrev pub rest_fields : Subject → List ℕ → List ℕ
-rest_fields subject [] = []
-rest_fields subject (x ∷ rest) = kind_lines 0 subject.names kinds.Rest (x ∷ rest)
+-- the line of its bytes
+abbrev pub rest_bytes : List ℕ → List ℕ
+rest_bytes [] = []
+rest_bytes (x ∷ rest) = rest_line (x ∷ rest)
 
 -- Two texts about the same descriptors: the one has their fields, and the other is the one without them. Both have the same
 -- first line, headings and findings, then the same lines before the rest, its heading, and the same last line.
@@ -207,7 +208,7 @@ pub record LeavesOutFields (subject : Subject) (bytes first before_rest last one
   pub shown : List Shown
   pub end : ℕ
   pub has_fields : one ≡ first ++ (flat_map (λ d. head_of subject d ++ fields_of subject d) shown
-      ++ (before_rest ++ ((rest_head subject end (drop end bytes) ++ rest_fields subject (drop end bytes)) ++ last)))
+      ++ (before_rest ++ ((rest_head subject end (drop end bytes) ++ rest_bytes (drop end bytes)) ++ last)))
   pub has_none : other ≡ first ++ (flat_map (head_of subject) shown ++ (before_rest ++ (rest_head subject end (drop end bytes) ++ last)))
 
 -- a brief explanation of an input is the other one without its fields
@@ -224,21 +225,17 @@ BrokenLeavesOutFields =
     LeavesOutFields (broken_subject manner) b (first_line (broken_name b) (length b)) (fault_text fault) []
     (broken_explanation (with_fields manner) fault b) (broken_explanation (without_fields manner) fault b)
 
--- a descriptor of this kind is told in lines: its heading is one, and each of its fields is said in one
-abbrev pub IsInLines : Subject → ℕ → Kind → List ℕ → ℕ → Type 0
-IsInLines subject depth kind b at =
-    IsLine (heading subject.manner.look depth kind b at) × SayFields depth (fields subject.manner.look depth subject.names kind b)
-
--- so it is of a descriptor, and each finding told there has one line
+-- the heading of a descriptor is a line, each of its fields is said in one, and each finding reported there has one
 abbrev pub BlockIsLines : Subject → Shown → Type 0
 BlockIsLines subject d =
-    IsInLines subject (depth_of d.standing d.role) (kind_of subject d.standing d.role d.bytes) d.bytes d.standing.at
+    IsLine (heading subject.manner.look d.role (context_at subject d) d.bytes d.standing.at)
+    × SayFields (depth_of d.standing d.role) (fields subject.manner.look subject.names d.role (context_at subject d) d.bytes)
     × AllByRecursion (λ f. IsLine (line_of subject.is_dump d.standing d.role d.bytes d.behind f)) (findings_of subject d)
 
--- and of the rest, if bytes are left
+-- so it is of the rest, if bytes are left
 abbrev pub RestIsLines : Subject → ℕ → List ℕ → Type 0
 RestIsLines subject at [] = Unit {0}
-RestIsLines subject at (x ∷ rest) = IsInLines subject 0 kinds.Rest (x ∷ rest) at
+RestIsLines subject at (x ∷ rest) = IsLine (rest_heading subject.manner.look at (x ∷ rest)) × SayFields 0 (rest_fields subject.manner.look (x ∷ rest))
 
 -- A text whose parts are lines. The first line is one, and so is that of the fault, before the rest, or the last one.
 pub record InLines (subject : Subject) (front bytes first before_rest last text : List ℕ) : Type 0 where

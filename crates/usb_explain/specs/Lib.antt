@@ -2,7 +2,7 @@ pub mod Subjects
 pub mod Standings
 pub mod Roles
 pub mod SetStart
-pub mod Kinds
+pub mod Contexts
 pub mod Findings
 pub mod Steps
 pub mod Walks

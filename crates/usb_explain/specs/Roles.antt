@@ -3,8 +3,8 @@ use Rattle.std.specs.Prelude.{ℕ, ◌%◌, List, length, slice_index, take, Boo
 use Rattle.std.specs.Option.{option_map}
 use Rattle.usb_base.specs.Bytes.{little_endian_at}
 use Rattle.usb_words.specs.Cut.{descriptor_length}
-use Rattle.usb_explain.specs.declared.role.Role.{Role}
-use Rattle.usb_explain.specs.declared.role.Role.TheVariants.{Device, Qualifier, Configuration, Association, Interface, Endpoint, Raw, Languages, Text}
+use Rattle.usb_explained_lines.specs.declared.role.Role.{Role}
+use Rattle.usb_explained_lines.specs.declared.role.Role.TheVariants.{Device, Qualifier, Configuration, Association, Interface, Endpoint, Raw, Languages, Text}
 use Rattle.usb_explain.specs.declared.position.Standing.{Standing}
 
 -- this role, if it has what the role asks for

@@ -10,8 +10,8 @@ use Rattle.usb_words.specs.declared.survey.Survey.{Survey}
 use Rattle.usb_words.specs.Cut.{descriptors}
 use Rattle.usb_words.specs.SetSpeeds.{other_speed_at, speed_at, speed_by, speed_of_release}
 use Rattle.usb_words.specs.Surveys.{survey_of}
-use Rattle.usb_explain.specs.declared.role.Role.{Role}
-use Rattle.usb_explain.specs.declared.role.Role.TheVariants.{Configuration}
+use Rattle.usb_explained_lines.specs.declared.role.Role.{Role}
+use Rattle.usb_explained_lines.specs.declared.role.Role.TheVariants.{Configuration}
 use Rattle.usb_explain.specs.declared.position.DeviceFacts.{DeviceFacts}
 use Rattle.usb_explain.specs.declared.position.Owner.TheVariants as owners
 use Rattle.usb_explain.specs.declared.position.SetStanding.{SetStanding}

@@ -5,7 +5,7 @@ use Rattle.usb_file.specs.declared.input.Input.{Input}
 use Rattle.usb_file.specs.declared.input.Input.TheVariants as inputs
 use Rattle.usb_rules.specs.declared.finding.Finding.{Finding}
 use Rattle.usb_rules.specs.InOrder.{dump_findings_in_order, findings_in_order, set_findings_in_order}
-use Rattle.usb_explained_lines.specs.declared.kind.StringPlace.{StringPlace}
+use Rattle.usb_explained_lines.specs.declared.context.StringPlace.{StringPlace}
 use Rattle.usb_explained_lines.specs.declared.names.Missing.TheVariants.{NotInInput, NotRead}
 use Rattle.usb_explained_lines.specs.Names.{StringNames, names_of, no_names}
 use Rattle.usb_explain.specs.declared.manner.Manner.{Manner}

@@ -1,12 +1,11 @@
 -- The lines of all descriptors of an input, one after another.
 use Rattle.std.specs.Prelude.{ℕ, zero, suc, List, [], ◌∷◌, ◌+◌, ◌++◌, length, take, drop, unwrap_or}
 use Rattle.std.specs.Option.{option_map}
-use Rattle.usb_explained_lines.specs.declared.kind.Kind.TheVariants as kinds
-use Rattle.usb_explained_lines.specs.Kinds.{fields, heading}
-use Rattle.usb_explain.specs.declared.role.Role.{Role}
+use Rattle.usb_explained_lines.specs.Descriptors.{fields, heading}
+use Rattle.usb_explained_lines.specs.declared.role.Role.{Role}
 use Rattle.usb_explain.specs.declared.position.Standing.{Standing}
 use Rattle.usb_explain.specs.Findings.{found_at, role_findings}
-use Rattle.usb_explain.specs.Kinds.{depth_of, kind_of}
+use Rattle.usb_explain.specs.Contexts.{context_of}
 use Rattle.usb_explain.specs.SetStart.{entered}
 use Rattle.usb_explain.specs.Steps.{passed, with_told}
 use Rattle.usb_explain.specs.Roles.{next_role}
@@ -15,9 +14,9 @@ use Rattle.usb_explain.specs.Subjects.{Subject}
 -- the lines of a descriptor, with the bytes behind it: its heading, what it breaks, and its fields
 unfoldable pub block : Subject → Standing → Role → List ℕ → List ℕ → List ℕ
 block subject s role d behind =
-    heading subject.manner.look (depth_of s role) (kind_of subject s role d) d s.at
+    heading subject.manner.look role (context_of subject s role d) d s.at
     ++ role_findings subject s role d behind
-    ++ fields subject.manner.look (depth_of s role) subject.names (kind_of subject s role d) d
+    ++ fields subject.manner.look subject.names role (context_of subject s role d) d
 
 -- where it stands at the first of these bytes
 abbrev pub here : Subject → Standing → List ℕ → Role × ℕ → Standing
@@ -48,9 +47,3 @@ walked (suc n) subject ending s ahead =
     (option_map (λ next. next_block subject s ahead next ++ walked n subject ending (behind_next subject s ahead next) (drop next.1 ahead))
     (next_role s ahead))
     (ending s.at)
-
--- the lines of the bytes that are left, if there are any
-abbrev pub rest_text : Subject → ℕ → List ℕ → List ℕ
-rest_text subject at [] = []
-rest_text subject at (x ∷ rest) =
-    heading subject.manner.look 0 kinds.Rest (x ∷ rest) at ++ fields subject.manner.look 0 subject.names kinds.Rest (x ∷ rest)

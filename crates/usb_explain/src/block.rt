@@ -4,10 +4,9 @@ ghost use Rattle.usb_explain.specs.Findings.{found_at};
 ghost use Rattle.usb_explain.specs.Walks.{block};
 
 use crate::position::Standing;
-use crate::role::Role;
 use crate::subject::Subject;
 use std::alloc::AllocError;
-use usb_explained_lines::{put_fields, put_heading};
+use usb_explained_lines::{Role, put_fields, put_heading};
 use usb_words::Text;
 
 impl Standing {
@@ -25,12 +24,11 @@ impl Standing {
         ensures lines { OnOk result (text.new ≡ text.old ++ block subject.now self.now role d.now behind.now) }
         ensures told { IfOk result (λ told. told ≡ self.now.told + length (found_at subject.now self.now role d.now behind.now)) }
     {
-        let kind = self.kind(subject, role, d);
-        let depth = self.depth(role);
+        let context = self.context(subject, role, d);
         let look = subject.manner().look;
-        put_heading(text, look, depth, kind, d, self.at)?;
+        put_heading(text, look, role, &context, d, self.at)?;
         let told = self.put_findings(text, subject, role, d, behind)?;
-        put_fields(text, look, depth, subject.names(), kind, d)?;
+        put_fields(text, look, subject.names(), role, &context, d)?;
         Ok(told)
     }
 }

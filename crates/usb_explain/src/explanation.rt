@@ -7,12 +7,12 @@ ghost use Rattle.usb_explain.specs.Explanations.{broken_end, broken_explanation,
 use crate::fault_line::{fault_place, put_fault};
 use crate::found::findings_in;
 use crate::manner::Manner;
-use crate::rest_lines::put_rest;
 use crate::subject::Subject;
 use crate::walk::write_blocks;
 use std::alloc::{AllocError, Global};
 use std::io::Write;
 use usb_base::descriptor_type;
+use usb_explained_lines::put_rest;
 use usb_file::{Input, InputFault};
 use usb_listing::{OutFault, write_all};
 use usb_words::{Text, behind, byte_at, front, put_count};
@@ -71,7 +71,7 @@ fn put_whole_end(
 ) -> Result<(), AllocError>
     ensures { OnOk result (text.new ≡ text.old ++ whole_end subject.now findings bytes.now place) }
 {
-    put_rest(text, subject, behind(bytes, place), place)?;
+    put_rest(text, subject.manner().look, place, behind(bytes, place))?;
     put_last_line(text, findings)
 }
 
@@ -130,7 +130,7 @@ fn put_broken_end(
     ensures { OnOk result (text.new ≡ text.old ++ broken_end subject.now fault bytes.now place) }
 {
     put_fault(text, fault)?;
-    put_rest(text, subject, behind(bytes, place), place)
+    put_rest(text, subject.manner().look, place, behind(bytes, place))
 }
 
 #[tactic(auto, unfolding(crate::specs::Explanations::first_line))]

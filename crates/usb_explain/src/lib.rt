@@ -12,15 +12,14 @@
 #![tactic(auto)]
 
 mod block;
+mod context;
 mod explanation;
 mod fault_line;
 mod found;
-mod kind;
 pub mod laws;
 mod manner;
 mod places;
 mod position;
-mod rest_lines;
 mod role;
 mod set_start;
 mod step;

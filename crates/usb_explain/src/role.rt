@@ -4,21 +4,8 @@ ghost use Rattle.usb_explain.specs.Roles.{inner_role, outer_role, role_if, role_
 
 use crate::position::Standing;
 use usb_base::{descriptor_length, descriptor_type};
+use usb_explained_lines::Role;
 use usb_words::{byte_at, word_at};
-
-/// What a descriptor is at its place.
-#[derive(Clone, Copy)]
-pub(crate) enum Role {
-    Device,
-    Qualifier,
-    Configuration,
-    Association,
-    Interface,
-    Endpoint,
-    Raw,
-    Languages,
-    Text,
-}
 
 impl Standing {
     /// What the descriptor is, where one can be here.

@@ -4,7 +4,7 @@ ghost use Rattle.usb_explain.specs.Steps.{moved, noted, passed, setting_of, with
 ghost use Rattle.usb_explain.specs.inside.Walking.{Counted, endpoints_of};
 
 use crate::position::{DeviceFacts, Owner, SettingStanding, Standing};
-use crate::role::Role;
+use usb_explained_lines::Role;
 use usb_names::ClassCodes;
 use usb_rules::Part;
 use usb_words::{byte_at, word_at};

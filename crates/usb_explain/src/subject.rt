@@ -2,7 +2,7 @@
 ghost use Rattle.std.specs.Prelude.{◌≡◌, ◌<◌, ◌^◌, drop, false, length, IfOk};
 ghost use Rattle.usb_explained_lines.specs.Names.{names_of, no_names};
 ghost use Rattle.usb_explained_lines.specs.declared.names.Missing.TheVariants.{NotInInput};
-ghost use Rattle.usb_explain.specs.Kinds.{place_of};
+ghost use Rattle.usb_explain.specs.Contexts.{place_of};
 ghost use Rattle.usb_explain.specs.Subjects.{broken_subject, subject_with};
 
 use crate::manner::Manner;

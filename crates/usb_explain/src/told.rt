@@ -4,10 +4,9 @@ ghost use Rattle.usb_rules.specs.Places.{finding};
 ghost use Rattle.usb_explain.specs.Findings.{association_told, device_part, device_told, endpoint_told, finding_at, found_at, in_set, in_setting, interface_told, is_same_place, none_told, part_number, qualifier_told, role_findings, set_told, told_at, told_of, wrong_device_told};
 
 use crate::position::{SetStanding, Standing};
-use crate::role::Role;
 use crate::subject::Subject;
 use std::alloc::AllocError;
-use usb_explained_lines::{Told, put_finding};
+use usb_explained_lines::{Role, Told, put_finding};
 use usb_rules::{Finding, Part, Rule};
 use usb_words::{Text, byte_at, endpoint_count, front, word_at};
 

@@ -9,10 +9,10 @@ ghost use Rattle.usb_explain.specs.Walks.{walked};
 ghost use Rattle.usb_explain.specs.inside.Walking.{PutsWalk};
 
 use crate::position::Standing;
-use crate::role::Role;
 use crate::subject::Subject;
 use std::alloc::AllocError;
 use std::io::Write;
+use usb_explained_lines::Role;
 use usb_listing::{OutFault, write_all};
 use usb_words::{Text, behind, descriptor_length, front};
 

@@ -10,6 +10,6 @@ pub mod Endpoints
 pub mod Strings
 pub mod Rest
 pub mod StandardLayouts
-pub mod Kinds
+pub mod Descriptors
 pub mod Findings
 pub mod inside

@@ -3,7 +3,7 @@ use Rattle.std.specs.Prelude.{ℕ, List, ◌++◌, drop, slice_get, slice_index,
 use Rattle.usb_names.specs.declared.codes.ClassCodes.{ClassCodes}
 use Rattle.usb_names.specs.Rows.{Row, first_row, rows_behind}
 use Rattle.usb_words.specs.Numbers.{byte_code}
-use Rattle.usb_explained_lines.specs.declared.layout.Scope.{Scope}
+use Rattle.usb_explained_lines.specs.declared.context.Context.{Context}
 use Rattle.usb_explained_lines.specs.Layouts.{Layout, layout_lines}
 use Rattle.usb_explained_lines.specs.Lines.{digits_line, field_line}
 use Rattle.usb_explained_lines.specs.Names.{StringNames}
@@ -30,12 +30,12 @@ abbrev pub row_layout : Row → Layout
 row_layout row = record { fields = row.fields; group = row.group; rest = codes "bytes" }
 
 -- the lines of the body of a descriptor of this row
-abbrev pub row_lines : Scope → StringNames → Option Row → List ℕ → List ℕ
-row_lines scope strings None b = digits_line scope.depth (codes "bytes") (drop 2 b)
-row_lines scope strings (Some row) b = layout_lines scope strings (row_layout row) b
+abbrev pub row_lines : Context → StringNames → Option Row → List ℕ → List ℕ
+row_lines context strings None b = digits_line context.depth (codes "bytes") (drop 2 b)
+row_lines context strings (Some row) b = layout_lines context strings (row_layout row) b
 
 -- the lines of a descriptor
-unfoldable pub raw_lines : Scope → StringNames → Option ClassCodes → List ℕ → List ℕ
-raw_lines scope strings interface b =
-    field_line scope.depth (codes "bDescriptorType") (byte_code (slice_index b 1))
-    ++ row_lines scope strings (row_of_bytes interface b) b
+unfoldable pub raw_lines : Context → StringNames → List ℕ → List ℕ
+raw_lines context strings b =
+    field_line context.depth (codes "bDescriptorType") (byte_code (slice_index b 1))
+    ++ row_lines context strings (row_of_bytes context.interface b) b

@@ -1,9 +1,10 @@
 -- The fields of the standard's descriptors behind bDescriptorType, each with the form of its number (USB 2.0, 9.6).
-use Rattle.std.specs.Prelude.{ℕ, List, [], ◌∷◌, ◌++◌, codes, ◌==◌, ◌&&◌, Bool, if◌then◌else◌}
+use Rattle.std.specs.Prelude.{ℕ, List, [], ◌∷◌, ◌++◌, codes, ◌==◌, ◌&&◌, Bool, false, Option, Some, None, if◌then◌else◌}
 use Rattle.usb_base.specs.Fields as standard
 use Rattle.usb_fields.specs.Device.{device_fields}
 use Rattle.usb_fields.specs.Qualifier.{qualifier_fields}
 use Rattle.usb_set.specs.Descriptors.{association_fields, configuration_fields, endpoint_fields, interface_fields}
+use Rattle.usb_names.specs.declared.codes.ClassCodes.{ClassCodes}
 use Rattle.usb_names.specs.declared.field.Form.{Form}
 use Rattle.usb_names.specs.declared.field.Form.TheVariants.{Decimal, Hexadecimal, Release, Index, Class, Subclass, Protocol, DevicePacket, Supply, Power, Address, Transfer, PacketSize, Interval}
 use Rattle.usb_names.specs.Rows.{Field, decimal, hexadecimal}
@@ -45,9 +46,14 @@ interface_layout = with_tail (fields_in interface_fields (Decimal ∷ Decimal �
 abbrev pub fields_of_endpoint : List Field
 fields_of_endpoint = fields_in endpoint_fields (Address ∷ Transfer ∷ PacketSize ∷ Interval ∷ [])
 
--- An endpoint of so many bytes. Two bytes behind the fields of an audio endpoint are bRefresh and bSynchAddress (audio 1.0,
+-- the interface is one of an audio device
+abbrev pub is_audio : Option ClassCodes → Bool
+is_audio None = false
+is_audio (Some codes) = codes.class == 1
+
+-- An endpoint of so many bytes, after an interface of these codes. Two bytes behind the fields of an audio endpoint are bRefresh and bSynchAddress (audio 1.0,
 -- 4.6.1.1 and 4.6.2.1).
-abbrev pub endpoint_layout : Bool → ℕ → Layout
-endpoint_layout audio n =
-    if audio && (n == 9) then with_tail (fields_of_endpoint ++ decimal 1 (codes "bRefresh") ∷ hexadecimal 1 (codes "bSynchAddress") ∷ [])
+abbrev pub endpoint_layout : Option ClassCodes → ℕ → Layout
+endpoint_layout interface n =
+    if is_audio interface && (n == 9) then with_tail (fields_of_endpoint ++ decimal 1 (codes "bRefresh") ∷ hexadecimal 1 (codes "bSynchAddress") ∷ [])
     else with_tail fields_of_endpoint

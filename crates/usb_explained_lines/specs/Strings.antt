@@ -4,7 +4,7 @@ use Rattle.std.specs.Fmt.{decimal}
 use Rattle.std.specs.List.{flat_map}
 use Rattle.usb_listing.specs.StringListing.{written_unit}
 use Rattle.usb_words.specs.Numbers.{word_code}
-use Rattle.usb_explained_lines.specs.declared.kind.StringPlace.{StringPlace}
+use Rattle.usb_explained_lines.specs.declared.context.StringPlace.{StringPlace}
 
 -- the units of bytes, each the low byte first
 abbrev pub units_in : List ℕ → List ℕ

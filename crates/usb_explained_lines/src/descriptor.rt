@@ -1,17 +1,16 @@
 //! Headings, and the lines of fields.
-ghost use Rattle.std.specs.Prelude.{◌≡◌, ◌++◌, codes, length, OnOk};
-ghost use Rattle.usb_explained_lines.specs.Kinds.{fields, heading, kind_lines, kind_words};
-ghost use Rattle.usb_explained_lines.specs.Lines.{heading_line};
+ghost use Rattle.std.specs.Prelude.{◌≡◌, ◌++◌, OnOk};
+ghost use Rattle.usb_explained_lines.specs.Descriptors.{field_lines, fields, heading, heading_words};
 
+use crate::context::Context;
 use crate::device::{put_device_words, put_qualifier_words};
 use crate::endpoint::put_endpoint_words;
-use crate::kind::Kind;
-use crate::layout::{Scope, put_layout};
+use crate::layout::put_layout;
 use crate::line::{end_line, put_place};
 use crate::look::Look;
 use crate::names::Names;
 use crate::raw::{put_raw_fields, put_raw_words};
-use crate::rest::put_rest_fields;
+use crate::role::Role;
 use crate::set::{put_association_words, put_configuration_words, put_interface_words};
 use crate::standard_layouts::{
     association_layout, configuration_layout, device_layout, endpoint_layout, interface_layout,
@@ -25,106 +24,99 @@ use usb_words::Text;
 ///
 /// ```rust
 /// let look = Look { brief: false, places: true };
-/// put_heading(&mut text, look, 2, Kind::Interface { association: None }, &interface, 27)?;
+/// put_heading(&mut text, look, Role::Interface, &context, &interface, 27)?;
 /// assert_eq!(rt; text.as_bytes(), b"    interface 0 alternate 0, HID / boot interface / keyboard, 1 endpoint @27+9\n");
 /// ```
 ///
 /// # Errors
 ///
 /// Out of memory.
-#[tactic(auto, unfolding(crate::specs::Kinds::heading, crate::specs::Lines::heading_line))]
+#[tactic(auto, unfolding(crate::specs::Descriptors::heading, crate::specs::Lines::heading_line))]
 pub fn put_heading(
     text: &mut Text,
     look: Look,
-    depth: u8,
-    kind: Kind,
+    role: Role,
+    context: &Context,
     bytes: &[u8],
     at: usize,
 ) -> Result<(), AllocError>
-    ensures { OnOk result (text.new ≡ text.old ++ heading look depth kind bytes.now at) }
+    ensures { OnOk result (text.new ≡ text.old ++ heading look role context.now bytes.now at) }
 {
-    text.put_spaces(2 * usize::from(depth))?;
-    put_words(text, kind, bytes)?;
+    text.put_spaces(2 * usize::from(context.depth))?;
+    put_words(text, role, context, bytes)?;
     put_place(text, look, at, bytes.len())?;
     end_line(text)
 }
 
-#[tactic(auto, unfolding(crate::specs::Kinds::kind_words))]
-fn put_words(text: &mut Text, kind: Kind, bytes: &[u8]) -> Result<(), AllocError>
-    ensures { OnOk result (text.new ≡ text.old ++ kind_words kind bytes.now) }
+#[tactic(auto, unfolding(crate::specs::Descriptors::heading_words))]
+fn put_words(text: &mut Text, role: Role, context: &Context, b: &[u8]) -> Result<(), AllocError>
+    ensures { OnOk result (text.new ≡ text.old ++ heading_words role context.now b.now) }
 {
-    match kind {
-        Kind::Device { .. } => put_device_words(text, bytes),
-        Kind::Qualifier => put_qualifier_words(text, bytes),
-        Kind::Configuration { speed } => put_configuration_words(text, speed, bytes),
-        Kind::Association { number } => put_association_words(text, number, bytes),
-        Kind::Interface { association } => put_interface_words(text, association, bytes),
-        Kind::Endpoint { speed, .. } => put_endpoint_words(text, speed, bytes),
-        Kind::Raw { interface } => put_raw_words(text, interface, bytes),
-        Kind::Languages => put_languages_words(text, bytes),
-        Kind::Text { place } => put_string_words(text, place, bytes),
-        Kind::Rest => text.put("the rest"),
+    match role {
+        Role::Device => put_device_words(text, b),
+        Role::Qualifier => put_qualifier_words(text, b),
+        Role::Configuration => put_configuration_words(text, context.speed, b),
+        Role::Association => put_association_words(text, context.associations, b),
+        Role::Interface => put_interface_words(text, context.association, b),
+        Role::Endpoint => put_endpoint_words(text, context.speed, b),
+        Role::Raw => put_raw_words(text, context.interface, b),
+        Role::Languages => put_languages_words(text, b),
+        Role::Text => put_string_words(text, context.place, b),
     }
 }
 
-/// Puts the lines of the fields of a descriptor of these bytes, whose heading has this depth. A brief explanation has
-/// none.
+/// Puts the lines of the fields of a descriptor of these bytes. A brief explanation has none.
 ///
 /// ```rust
 /// let look = Look { brief: false, places: true };
 /// let names = Names::none(alloc, Missing::NotInInput);
-/// put_fields(&mut text, look, 3, &names, Kind::Raw { interface: None }, &[3, 0x77, 0xab])?;
+/// put_fields(&mut text, look, &names, Role::Raw, &context, &[3, 0x77, 0xab])?;
 /// assert_eq!(rt; text.as_bytes(), b"          bDescriptorType        0x77\n          bytes                  ab\n");
 /// ```
 ///
 /// # Errors
 ///
 /// Out of memory.
-#[tactic(auto, unfolding(crate::specs::Kinds::fields))]
+#[tactic(auto, unfolding(crate::specs::Descriptors::fields))]
 pub fn put_fields(
     text: &mut Text,
     look: Look,
-    depth: u8,
     names: &Names,
-    kind: Kind,
+    role: Role,
+    context: &Context,
     bytes: &[u8],
 ) -> Result<(), AllocError>
-    ensures { OnOk result (text.new ≡ text.old ++ fields look depth names.now kind bytes.now) }
+    ensures { OnOk result (text.new ≡ text.old ++ fields look names.now role context.now bytes.now) }
 {
     if look.brief {
         Ok(())
     } else {
-        put_lines(text, depth, names, kind, bytes)
+        put_lines(text, names, role, context, bytes)
     }
 }
 
-#[tactic(auto, unfolding(crate::specs::Kinds::kind_lines))]
+#[tactic(auto, unfolding(crate::specs::Descriptors::field_lines))]
 fn put_lines(
     text: &mut Text,
-    depth: u8,
     names: &Names,
-    kind: Kind,
-    bytes: &[u8],
+    role: Role,
+    context: &Context,
+    b: &[u8],
 ) -> Result<(), AllocError>
-    ensures { OnOk result (text.new ≡ text.old ++ kind_lines depth names.now kind bytes.now) }
+    ensures { OnOk result (text.new ≡ text.old ++ field_lines names.now role context.now b.now) }
 {
-    let scope = Scope {
-        depth,
-        speed: kind.speed(),
-    };
-    match kind {
-        Kind::Device { .. } => put_layout(text, scope, names, device_layout(), bytes),
-        Kind::Qualifier => put_layout(text, scope, names, qualifier_layout(), bytes),
-        Kind::Configuration { .. } => put_layout(text, scope, names, configuration_layout(), bytes),
-        Kind::Association { .. } => put_layout(text, scope, names, association_layout(), bytes),
-        Kind::Interface { .. } => put_layout(text, scope, names, interface_layout(), bytes),
-        Kind::Endpoint { audio, .. } => {
-            let layout = endpoint_layout(audio, bytes.len());
-            put_layout(text, scope, names, layout, bytes)
+    match role {
+        Role::Device => put_layout(text, context, names, device_layout(), b),
+        Role::Qualifier => put_layout(text, context, names, qualifier_layout(), b),
+        Role::Configuration => put_layout(text, context, names, configuration_layout(), b),
+        Role::Association => put_layout(text, context, names, association_layout(), b),
+        Role::Interface => put_layout(text, context, names, interface_layout(), b),
+        Role::Endpoint => {
+            let layout = endpoint_layout(context.interface, b.len());
+            put_layout(text, context, names, layout, b)
         }
-        Kind::Raw { interface } => put_raw_fields(text, scope, names, interface, bytes),
-        Kind::Languages => Ok(()),
-        Kind::Text { .. } => Ok(()),
-        Kind::Rest => put_rest_fields(text, depth, bytes),
+        Role::Raw => put_raw_fields(text, context, names, b),
+        Role::Languages => Ok(()),
+        Role::Text => Ok(()),
     }
 }

@@ -27,10 +27,10 @@ pub(crate) fn put_form(
     field: &ClassField,
     place: usize,
 ) -> Result<(), AllocError>
-    ensures { OnOk result (text.new ≡ text.old ++ form_words shown.now.scope.speed shown.now.names.now field.now.form field.now.width shown.now.b.now place) }
+    ensures { OnOk result (text.new ≡ text.old ++ form_words shown.now.context.now.speed shown.now.names.now field.now.form field.now.width shown.now.b.now place) }
 {
     let b = shown.b;
-    let speed = shown.scope.speed;
+    let speed = shown.context.speed;
     let byte = byte_at(b, place);
     match field.form {
         Form::Decimal => put_decimal_words(text, bytes_at(b, place, field.width)),

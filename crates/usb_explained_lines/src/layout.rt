@@ -5,12 +5,13 @@ ghost use Rattle.usb_explained_lines.specs.Lines.{digits_line};
 ghost use Rattle.usb_explained_lines.specs.Layouts.{body_lines, group_count, group_lines, groups_lines, layout_lines, line_of, width_of};
 ghost use Rattle.usb_explained_lines.specs.inside.LayoutOf.{layout_of};
 
+use crate::context::Context;
 use crate::form::put_form;
 use crate::line::{begin_field, end_line, put_digits};
 use crate::names::Names;
 use std::alloc::AllocError;
 use usb_names::ClassField;
-use usb_words::{Speed, Text, behind};
+use usb_words::{Text, behind};
 
 /// The fields of a descriptor after bDescriptorType.
 #[derive(Clone, Copy, Debug)]
@@ -23,19 +24,10 @@ pub(crate) struct DescriptorLayout {
     pub rest: &'static str,
 }
 
-/// What the lines of fields depend on beside the bytes of their descriptor and the strings of the input.
-#[derive(Clone, Copy, Debug, PartialEq, Eq, Hash)]
-pub struct Scope {
-    /// How deep the heading stands.
-    pub depth: u8,
-    /// The speed of the set, or of the device.
-    pub speed: Speed,
-}
-
 /// A descriptor whose fields are put: its bytes, and what its lines depend on beside them.
 #[derive(Clone, Copy)]
 pub(crate) struct Shown<'d> {
-    pub(crate) scope: Scope,
+    pub(crate) context: &'d Context,
     pub(crate) names: &'d Names<'d>,
     pub(crate) b: &'d [u8],
 }
@@ -43,14 +35,14 @@ pub(crate) struct Shown<'d> {
 /// Puts the lines of the fields of a descriptor: those of which all bytes are there, and then the bytes that are left.
 pub(crate) fn put_layout(
     text: &mut Text,
-    scope: Scope,
+    context: &Context,
     names: &Names,
     layout: &DescriptorLayout,
     b: &[u8],
 ) -> Result<(), AllocError>
-    ensures { OnOk result (text.new ≡ text.old ++ layout_lines scope names.now (layout_of layout.now) b.now) }
+    ensures { OnOk result (text.new ≡ text.old ++ layout_lines context.now names.now (layout_of layout.now) b.now) }
 {
-    let shown = Shown { scope, names, b };
+    let shown = Shown { context, names, b };
     put_body(text, &shown, layout.fields, layout, 2)
 }
 
@@ -63,7 +55,7 @@ fn put_body(
     layout: &DescriptorLayout,
     place: usize,
 ) -> Result<(), AllocError>
-    ensures { OnOk result (text.new ≡ text.old ++ body_lines shown.now.scope shown.now.names.now (map field_of fields.now) (layout_of layout.now) shown.now.b.now place) }
+    ensures { OnOk result (text.new ≡ text.old ++ body_lines shown.now.context.now shown.now.names.now (map field_of fields.now) (layout_of layout.now) shown.now.b.now place) }
 {
     match fields {
         [] => put_all_groups(text, shown, layout, place),
@@ -112,7 +104,7 @@ fn put_all_groups(
     layout: &DescriptorLayout,
     place: usize,
 ) -> Result<(), AllocError>
-    ensures { OnOk result (text.new ≡ text.old ++ groups_lines shown.now.scope shown.now.names.now (layout_of layout.now) (group_count (width_of (map field_of layout.now.group.now)) (length shown.now.b.now - place)) shown.now.b.now place) }
+    ensures { OnOk result (text.new ≡ text.old ++ groups_lines shown.now.context.now shown.now.names.now (layout_of layout.now) (group_count (width_of (map field_of layout.now.group.now)) (length shown.now.b.now - place)) shown.now.b.now place) }
 {
     let Some(width) = width_of(layout.group) else {
         return Err(AllocError);
@@ -130,7 +122,7 @@ fn put_groups(
     count: usize,
     place: usize,
 ) -> Result<(), AllocError>
-    ensures { OnOk result (text.new ≡ text.old ++ groups_lines shown.now.scope shown.now.names.now (layout_of layout.now) count shown.now.b.now place) }
+    ensures { OnOk result (text.new ≡ text.old ++ groups_lines shown.now.context.now shown.now.names.now (layout_of layout.now) count shown.now.b.now place) }
 {
     if count == 0 {
         return put_left(text, shown, layout, place);
@@ -146,9 +138,14 @@ fn put_left(
     layout: &DescriptorLayout,
     place: usize,
 ) -> Result<(), AllocError>
-    ensures { OnOk result (text.new ≡ text.old ++ digits_line shown.now.scope.depth layout.now.rest.now (drop place shown.now.b.now)) }
+    ensures { OnOk result (text.new ≡ text.old ++ digits_line shown.now.context.now.depth layout.now.rest.now (drop place shown.now.b.now)) }
 {
-    put_digits(text, shown.scope.depth, layout.rest, behind(shown.b, place))
+    put_digits(
+        text,
+        shown.context.depth,
+        layout.rest,
+        behind(shown.b, place),
+    )
 }
 
 /// Puts the fields of a group, and answers the place after it.
@@ -159,7 +156,7 @@ fn put_group(
     fields: &[ClassField],
     place: usize,
 ) -> Result<usize, AllocError>
-    ensures lines { OnOk result (text.new ≡ text.old ++ group_lines shown.now.scope shown.now.names.now (map field_of fields.now) shown.now.b.now place) }
+    ensures lines { OnOk result (text.new ≡ text.old ++ group_lines shown.now.context.now shown.now.names.now (map field_of fields.now) shown.now.b.now place) }
     ensures next { IfOk result (λ next. next ≡ place + width_of (map field_of fields.now)) }
 {
     match fields {
@@ -181,9 +178,9 @@ fn put_field(
     field: &ClassField,
     place: usize,
 ) -> Result<(), AllocError>
-    ensures { OnOk result (text.new ≡ text.old ++ line_of shown.now.scope shown.now.names.now (field_of field.now) shown.now.b.now place) }
+    ensures { OnOk result (text.new ≡ text.old ++ line_of shown.now.context.now shown.now.names.now (field_of field.now) shown.now.b.now place) }
 {
-    begin_field(text, shown.scope.depth, field.name)?;
+    begin_field(text, shown.context.depth, field.name)?;
     put_form(text, shown, field, place)?;
     end_line(text)
 }

@@ -6,7 +6,8 @@ ghost use Rattle.usb_words.specs.Numbers.{byte_code};
 ghost use Rattle.usb_explained_lines.specs.Raws.{raw_lines, raw_words, row_lines, row_of_bytes, row_words, unnamed_words};
 ghost use Rattle.usb_explained_lines.specs.Lines.{field_line};
 
-use crate::layout::{DescriptorLayout, Scope, put_layout};
+use crate::context::Context;
+use crate::layout::{DescriptorLayout, put_layout};
 use crate::line::{begin_field, end_line, put_digits};
 use crate::names::Names;
 use std::alloc::AllocError;
@@ -53,19 +54,18 @@ fn put_unnamed(text: &mut Text, descriptor_type: u8) -> Result<(), AllocError>
     put_byte_code(text, descriptor_type)
 }
 
-/// Puts the fields of a descriptor after an interface of these codes.
+/// Puts the fields of a descriptor.
 #[tactic(auto, unfolding(crate::specs::Raws::raw_lines))]
 pub(crate) fn put_raw_fields(
     text: &mut Text,
-    scope: Scope,
+    context: &Context,
     names: &Names,
-    interface: Option<ClassCodes>,
     b: &[u8],
 ) -> Result<(), AllocError>
-    ensures { OnOk result (text.new ≡ text.old ++ raw_lines scope names.now interface b.now) }
+    ensures { OnOk result (text.new ≡ text.old ++ raw_lines context.now names.now b.now) }
 {
-    put_type(text, scope.depth, byte_at(b, 1))?;
-    put_row(text, scope, names, row_of_bytes(interface, b), b)
+    put_type(text, context.depth, byte_at(b, 1))?;
+    put_row(text, context, names, row_of_bytes(context.interface, b), b)
 }
 
 #[tactic(auto, unfolding(crate::specs::Lines::field_line))]
@@ -79,22 +79,22 @@ fn put_type(text: &mut Text, depth: u8, descriptor_type: u8) -> Result<(), Alloc
 
 fn put_row(
     text: &mut Text,
-    scope: Scope,
+    context: &Context,
     names: &Names,
     row: Option<&'static ClassDescriptor>,
     b: &[u8],
 ) -> Result<(), AllocError>
-    ensures { OnOk result (text.new ≡ text.old ++ row_lines scope names.now (option_map row_of (option_copied row.entry)) b.now) }
+    ensures { OnOk result (text.new ≡ text.old ++ row_lines context.now names.now (option_map row_of (option_copied row.entry)) b.now) }
 {
     match row {
-        None => put_digits(text, scope.depth, "bytes", behind(b, 2)),
+        None => put_digits(text, context.depth, "bytes", behind(b, 2)),
         Some(row) => {
             let layout = DescriptorLayout {
                 fields: row.fields,
                 group: row.group,
                 rest: "bytes",
             };
-            put_layout(text, scope, names, &layout, b)
+            put_layout(text, context, names, &layout, b)
         }
     }
 }

@@ -1,17 +1,55 @@
 //! What is left of an input.
 ghost use Rattle.std.specs.Prelude.{◌≡◌, ◌++◌, OnOk};
-ghost use Rattle.usb_explained_lines.specs.Rest.{more_words, rest_lines};
+ghost use Rattle.usb_explained_lines.specs.Rest.{more_words, rest_fields, rest_heading, rest_line, rest_lines};
 
-use crate::line::{begin_field, end_line};
+use crate::line::{begin_field, end_line, put_place};
+use crate::look::Look;
 use std::alloc::AllocError;
 use usb_words::{Text, front};
 
-/// Puts the first 32 bytes that are left, and how many more there are.
-#[tactic(auto, unfolding(crate::specs::Rest::rest_lines, crate::specs::Lines::field_line))]
-pub(crate) fn put_rest_fields(text: &mut Text, depth: u8, b: &[u8]) -> Result<(), AllocError>
-    ensures { OnOk result (text.new ≡ text.old ++ rest_lines depth b.now) }
+/// Puts the lines of the bytes that are left from this place of the input on, if there are any.
+///
+/// # Errors
+///
+/// Out of memory.
+pub fn put_rest(text: &mut Text, look: Look, at: usize, b: &[u8]) -> Result<(), AllocError>
+    ensures { OnOk result (text.new ≡ text.old ++ rest_lines look at b.now) }
 {
-    begin_field(text, depth, "bytes")?;
+    match b {
+        [] => Ok(()),
+        [_, ..] => {
+            put_rest_heading(text, look, at, b)?;
+            put_rest_fields(text, look, b)
+        }
+    }
+}
+
+#[tactic(auto, unfolding(crate::specs::Rest::rest_heading, crate::specs::Lines::heading_line))]
+fn put_rest_heading(text: &mut Text, look: Look, at: usize, b: &[u8]) -> Result<(), AllocError>
+    ensures { OnOk result (text.new ≡ text.old ++ rest_heading look at b.now) }
+{
+    text.put("the rest")?;
+    put_place(text, look, at, b.len())?;
+    end_line(text)
+}
+
+#[tactic(auto, unfolding(crate::specs::Rest::rest_fields))]
+fn put_rest_fields(text: &mut Text, look: Look, b: &[u8]) -> Result<(), AllocError>
+    ensures { OnOk result (text.new ≡ text.old ++ rest_fields look b.now) }
+{
+    if look.brief {
+        Ok(())
+    } else {
+        put_rest_line(text, b)
+    }
+}
+
+/// Puts the first 32 bytes, and how many more there are.
+#[tactic(auto, unfolding(crate::specs::Rest::rest_line, crate::specs::Lines::field_line))]
+fn put_rest_line(text: &mut Text, b: &[u8]) -> Result<(), AllocError>
+    ensures { OnOk result (text.new ≡ text.old ++ rest_line b.now) }
+{
+    begin_field(text, 0, "bytes")?;
     text.put_digits(front(b, 32))?;
     put_more(text, b.len())?;
     end_line(text)

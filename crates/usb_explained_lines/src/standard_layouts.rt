@@ -1,10 +1,13 @@
 //! The fields of the standard's descriptors, each with the form of its number.
 ghost use Rattle.std.specs.Prelude.{◌≡◌};
 ghost use Rattle.usb_explained_lines.specs.inside.LayoutOf.{layout_of};
-ghost use Rattle.usb_explained_lines.specs.StandardLayouts.{association_layout, configuration_layout, device_layout, endpoint_layout, interface_layout, qualifier_layout};
+ghost use Rattle.usb_explained_lines.specs.StandardLayouts.{association_layout, configuration_layout, device_layout, endpoint_layout, interface_layout, is_audio, qualifier_layout};
 
 use crate::layout::DescriptorLayout;
-use usb_names::{ClassField, Form};
+use usb_names::{ClassCodes, ClassField, Form};
+
+/// The class of audio devices.
+const AUDIO: u8 = 1;
 
 /// The fields after bDescriptorType: name, form and width of each. What follows them is a tail.
 macro_rules! layout {
@@ -52,13 +55,25 @@ pub(crate) fn interface_layout() -> &'static DescriptorLayout
     layout!["bInterfaceNumber" Decimal 1, "bAlternateSetting" Decimal 1, "bNumEndpoints" Decimal 1, "bInterfaceClass" Class 1, "bInterfaceSubClass" Subclass 1, "bInterfaceProtocol" Protocol 1, "iInterface" Index 1]
 }
 
-/// An endpoint of so many bytes (9.6.6). Two bytes after the fields of an audio endpoint have names.
-pub(crate) fn endpoint_layout(audio: bool, length: usize) -> &'static DescriptorLayout
-    ensures { layout_of result.now ≡ endpoint_layout audio length }
+/// An endpoint of so many bytes (9.6.6), after an interface of these codes. Two bytes after the fields of an audio endpoint have names.
+pub(crate) fn endpoint_layout(
+    interface: Option<ClassCodes>,
+    length: usize,
+) -> &'static DescriptorLayout
+    ensures { layout_of result.now ≡ endpoint_layout interface length }
 {
-    if audio && length == 9 {
+    if is_audio(interface) && length == 9 {
         layout!["bEndpointAddress" Address 1, "bmAttributes" Transfer 1, "wMaxPacketSize" PacketSize 2, "bInterval" Interval 1, "bRefresh" Decimal 1, "bSynchAddress" Hexadecimal 1]
     } else {
         layout!["bEndpointAddress" Address 1, "bmAttributes" Transfer 1, "wMaxPacketSize" PacketSize 2, "bInterval" Interval 1]
+    }
+}
+
+fn is_audio(interface: Option<ClassCodes>) -> bool
+    ensures { result ≡ is_audio interface }
+{
+    match interface {
+        None => false,
+        Some(codes) => codes.class == AUDIO,
     }
 }

@@ -4,7 +4,7 @@ ghost use Rattle.std.specs.List.{flat_map};
 ghost use Rattle.usb_listing.specs.StringListing.{written_unit};
 ghost use Rattle.usb_explained_lines.specs.Strings.{language_words, languages_words, string_place_words, string_words, units_in};
 
-use crate::kind::StringPlace;
+use crate::context::StringPlace;
 use crate::quoted::put_unit;
 use std::alloc::AllocError;
 use usb_words::{Text, behind, put_word_code};

@@ -18,11 +18,11 @@ use Rattle.usb_explained_lines.specs.Lines.{spaces}
 use Rattle.usb_explained_lines.specs.declared.told.Told.{Told}
 use Rattle.usb_explained_lines.specs.declared.told.Told.TheVariants as told
 use Rattle.usb_explained_lines.specs.Findings.{counts_words, finding_line, rule_of, told_words}
-use Rattle.usb_explain.specs.declared.role.Role.{Role}
+use Rattle.usb_explained_lines.specs.declared.role.Role.{Role}
 use Rattle.usb_explain.specs.declared.position.Standing.{Standing}
 use Rattle.usb_explain.specs.Faults.{fault_text, fault_words, file_message, numbered, trailing_words}
 use Rattle.usb_explain.specs.Findings.{is_here, line_of, told_of}
-use Rattle.usb_explain.specs.Kinds.{depth_of}
+use Rattle.usb_explain.specs.Contexts.{depth_of}
 use Rattle.usb_listing_reader.proofs.PrintableLemmas.{Printable}
 use Rattle.usb_explain.specs.Lines.{IsLine}
 use Rattle.usb_explain.proofs.plain.Texts.{both_plain, decimal_plain, ended, parts, spaces_plain}

@@ -8,14 +8,15 @@ use Rattle.usb_words.specs.declared.speed.Speed.{Speed}
 use Rattle.usb_listing_reader.proofs.RowLemmas.{bytes_back, bytes_front}
 use Rattle.usb_explained_lines.specs.declared.look.Look.{Look}
 use Rattle.usb_explained_lines.specs.Names.{StringNames}
-use Rattle.usb_explained_lines.specs.declared.kind.Kind.{Kind}
-use Rattle.usb_explained_lines.specs.declared.kind.Kind.TheVariants.{Device, Qualifier, Configuration, Association, Interface, Endpoint, Raw, Languages, Text, Rest}
-use Rattle.usb_explained_lines.specs.declared.kind.StringPlace.{StringPlace}
+use Rattle.usb_explained_lines.specs.declared.context.Context.{Context}
+use Rattle.usb_explained_lines.specs.declared.context.StringPlace.{StringPlace}
+use Rattle.usb_explained_lines.specs.declared.role.Role.{Role}
+use Rattle.usb_explained_lines.specs.declared.role.Role.TheVariants.{Device, Qualifier, Configuration, Association, Interface, Endpoint, Raw, Languages, Text}
 use Rattle.usb_explained_lines.specs.Device.{device_words, ids_words, qualifier_words, version_words}
 use Rattle.usb_explained_lines.specs.Endpoints.{endpoint_words, interval_words}
-use Rattle.usb_explained_lines.specs.Kinds.{fields, heading, kind_lines, kind_words, scope_of}
-use Rattle.usb_explained_lines.specs.StandardLayouts.{association_layout, configuration_layout, device_layout, endpoint_layout, fields_of_endpoint, interface_layout, qualifier_layout, with_tail}
-use Rattle.usb_explained_lines.specs.Rest.{more_words, rest_lines}
+use Rattle.usb_explained_lines.specs.Descriptors.{field_lines, fields, heading, heading_words}
+use Rattle.usb_explained_lines.specs.StandardLayouts.{association_layout, configuration_layout, device_layout, endpoint_layout, fields_of_endpoint, interface_layout, is_audio, qualifier_layout, with_tail}
+use Rattle.usb_explained_lines.specs.Rest.{more_words, rest_fields, rest_heading, rest_line}
 use Rattle.usb_explained_lines.specs.Sets.{association_words, binding_words, bound_words, configuration_words, function_words, interface_words, range_words, set_words, supply_words}
 use Rattle.usb_explained_lines.specs.Strings.{language_words, languages_words, string_place_words, string_words, units_in}
 use Rattle.usb_listing_reader.proofs.PrintableLemmas.{Printable, encoded_printable}
@@ -156,68 +157,68 @@ unfolding string_words
 string_plain place b fit h =
     simp (parts, place_plain place fit, units_plain (units_in (drop 2 b)) (units_are_words (drop 2 b) (bytes_back 2 b h))) refl
 
--- ---- descriptors of each kind
+-- ---- what is left
 
 more_plain : (n : ℕ) → Printable (more_words n)
 more_plain n = simp (parts, decimal_plain) refl
 
-rest_says : (depth : ℕ) (b : List ℕ) → AreBytes b → SayFields depth (rest_lines depth b)
-unfolding rest_lines
-rest_says depth b h =
+rest_says : (b : List ℕ) → AreBytes b → SayFields 0 (rest_line b)
+unfolding rest_line
+rest_says b h =
     let digits = encode_lower (take 32 b) in
     let words = digits ++ more_words (length b) in
-    one_field depth (codes "bytes") words refl
+    one_field 0 (codes "bytes") words refl
     (both_plain digits (more_words (length b)) (encoded_printable (take 32 b) (bytes_front 32 b h)) (more_plain (length b)))
 
--- what a kind says beside its bytes fits
-abbrev pub KindFits : Kind → Type 0
-KindFits (Text place) = PlaceFits place
-KindFits kind = Unit {0}
+pub rest_heading_is_line : (look : Look) (at : ℕ) (b : List ℕ) → IsLine (rest_heading look at b)
+unfolding rest_heading
+rest_heading_is_line look at b = heading_is_line look 0 (codes "the rest") at (length b) refl
 
-words_plain : (kind : Kind) (b : List ℕ) → KindFits kind → AreBytes b → Printable (kind_words kind b)
-unfolding kind_words
-words_plain (Device exponent) b fit h = device_words_plain b h
-words_plain Qualifier b fit h = qualifier_words_plain b h
-words_plain (Configuration speed) b fit h = configuration_words_plain speed b
-words_plain (Association number) b fit h = association_words_plain number b h
-words_plain (Interface association) b fit h = interface_words_plain association b h
-words_plain (Endpoint speed audio) b fit h = endpoint_words_plain speed b h
-words_plain (Raw interface) b fit h = raw_words_plain interface b h
-words_plain Languages b fit h = languages_plain b h
-words_plain (Text place) b fit h = string_plain place b fit h
-words_plain Rest b fit h = refl
+pub rest_fields_say : (look : Look) (b : List ℕ) → AreBytes b → SayFields 0 (rest_fields look b)
+unfolding rest_fields
+rest_fields_say look b h = either_says 0 look.brief [] _ (no_fields 0) (rest_says b h)
+
+-- ---- descriptors
+
+words_plain : (role : Role) (context : Context) (b : List ℕ) → PlaceFits context.place → AreBytes b → Printable (heading_words role context b)
+unfolding heading_words
+words_plain Device context b fit h = device_words_plain b h
+words_plain Qualifier context b fit h = qualifier_words_plain b h
+words_plain Configuration context b fit h = configuration_words_plain context.speed b
+words_plain Association context b fit h = association_words_plain context.associations b h
+words_plain Interface context b fit h = interface_words_plain context.association b h
+words_plain Endpoint context b fit h = endpoint_words_plain context.speed b h
+words_plain Raw context b fit h = raw_words_plain context.interface b h
+words_plain Languages context b fit h = languages_plain b h
+words_plain Text context b fit h = string_plain context.place b fit h
 
 -- the layouts of the standard's descriptors
 endpoint_named : (b : Bool) → IsPlainLayout (if b then with_tail (fields_of_endpoint ++ decimal 1 (codes "bRefresh") ∷ hexadecimal 1 (codes "bSynchAddress") ∷ []) else with_tail fields_of_endpoint)
 endpoint_named true = record { fields = refl; group = refl; rest = refl }
 endpoint_named false = record { fields = refl; group = refl; rest = refl }
 
-kind_says : (depth : ℕ) (strings : StringNames) (kind : Kind) (b : List ℕ) → MaybeFit strings.strings → AreBytes b
-    → SayFields depth (kind_lines depth strings kind b)
-unfolding kind_lines
-kind_says depth strings (Device exponent) b fit h =
-    layout_says (scope_of depth (Device exponent)) strings device_layout b (record { fields = refl; group = refl; rest = refl }) fit h
-kind_says depth strings Qualifier b fit h =
-    layout_says (scope_of depth Qualifier) strings qualifier_layout b (record { fields = refl; group = refl; rest = refl }) fit h
-kind_says depth strings (Configuration speed) b fit h =
-    layout_says (scope_of depth (Configuration speed)) strings configuration_layout b (record { fields = refl; group = refl; rest = refl }) fit h
-kind_says depth strings (Association number) b fit h =
-    layout_says (scope_of depth (Association number)) strings association_layout b (record { fields = refl; group = refl; rest = refl }) fit h
-kind_says depth strings (Interface association) b fit h =
-    layout_says (scope_of depth (Interface association)) strings interface_layout b (record { fields = refl; group = refl; rest = refl }) fit h
-kind_says depth strings (Endpoint speed audio) b fit h =
-    layout_says (scope_of depth (Endpoint speed audio)) strings (endpoint_layout audio (length b)) b (endpoint_named (audio && (length b == 9))) fit h
-kind_says depth strings (Raw interface) b fit h = raw_says (scope_of depth (Raw interface)) strings interface b fit h
-kind_says depth strings Languages b fit h = no_fields depth
-kind_says depth strings (Text place) b fit h = no_fields depth
-kind_says depth strings Rest b fit h = rest_says depth b h
+lines_say : (strings : StringNames) (role : Role) (context : Context) (b : List ℕ) → MaybeFit strings.strings → AreBytes b
+    → SayFields context.depth (field_lines strings role context b)
+unfolding field_lines
+lines_say strings Device context b fit h = layout_says context strings device_layout b (record { fields = refl; group = refl; rest = refl }) fit h
+lines_say strings Qualifier context b fit h = layout_says context strings qualifier_layout b (record { fields = refl; group = refl; rest = refl }) fit h
+lines_say strings Configuration context b fit h = layout_says context strings configuration_layout b (record { fields = refl; group = refl; rest = refl }) fit h
+lines_say strings Association context b fit h = layout_says context strings association_layout b (record { fields = refl; group = refl; rest = refl }) fit h
+lines_say strings Interface context b fit h = layout_says context strings interface_layout b (record { fields = refl; group = refl; rest = refl }) fit h
+lines_say strings Endpoint context b fit h =
+    layout_says context strings (endpoint_layout context.interface (length b)) b (endpoint_named (is_audio context.interface && (length b == 9))) fit h
+lines_say strings Raw context b fit h = raw_says context strings b fit h
+lines_say strings Languages context b fit h = no_fields context.depth
+lines_say strings Text context b fit h = no_fields context.depth
 
-pub heading_of_kind : (look : Look) (depth : ℕ) (kind : Kind) (b : List ℕ) (at : ℕ) → KindFits kind → AreBytes b
-    → IsLine (heading look depth kind b at)
+pub heading_of_role : (look : Look) (role : Role) (context : Context) (b : List ℕ) (at : ℕ) → PlaceFits context.place → AreBytes b
+    → IsLine (heading look role context b at)
 unfolding heading
-heading_of_kind look depth kind b at fit h = heading_is_line look depth (kind_words kind b) at (length b) (words_plain kind b fit h)
+heading_of_role look role context b at fit h =
+    heading_is_line look context.depth (heading_words role context b) at (length b) (words_plain role context b fit h)
 
-pub fields_say : (look : Look) (depth : ℕ) (strings : StringNames) (kind : Kind) (b : List ℕ) → MaybeFit strings.strings → AreBytes b
-    → SayFields depth (fields look depth strings kind b)
+pub fields_say : (look : Look) (strings : StringNames) (role : Role) (context : Context) (b : List ℕ) → MaybeFit strings.strings → AreBytes b
+    → SayFields context.depth (fields look strings role context b)
 unfolding fields
-fields_say look depth strings kind b fit h = either_says depth look.brief [] _ (no_fields depth) (kind_says depth strings kind b fit h)
+fields_say look strings role context b fit h =
+    either_says context.depth look.brief [] _ (no_fields context.depth) (lines_say strings role context b fit h)

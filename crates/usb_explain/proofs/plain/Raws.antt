@@ -6,7 +6,7 @@ use Rattle.usb_names.specs.declared.codes.ClassCodes.{ClassCodes}
 use Rattle.usb_names.specs.Rows.{Row}
 use Rattle.usb_words.specs.Numbers.{byte_code}
 use Rattle.usb_listing_reader.proofs.RowLemmas.{bytes_back}
-use Rattle.usb_explained_lines.specs.declared.layout.Scope.{Scope}
+use Rattle.usb_explained_lines.specs.declared.context.Context.{Context}
 use Rattle.usb_explained_lines.specs.Lines.{field_line}
 use Rattle.usb_explained_lines.specs.Names.{StringNames}
 use Rattle.usb_explained_lines.specs.Raws.{raw_lines, raw_words, row_layout, row_lines, row_of_bytes, row_words, unnamed_words}
@@ -33,20 +33,20 @@ pub raw_words_plain : (interface : Option ClassCodes) (b : List ℕ) → AreByte
 unfolding raw_words
 raw_words_plain interface b h = row_words_plain (slice_index b 1) (row_of_bytes interface b) (byte_fits b 1 h) (row_of_bytes_plain interface b)
 
-row_says : (scope : Scope) (strings : StringNames) (row : Option Row) (b : List ℕ) → MaybePlainRow row → MaybeFit strings.strings
-    → AreBytes b → SayFields scope.depth (row_lines scope strings row b)
-row_says scope strings None b h fit k = digits_say scope.depth (codes "bytes") (drop 2 b) refl (bytes_back 2 b k)
-row_says scope strings (Some row) b h fit k =
-    layout_says scope strings (row_layout row) b (record { fields = h.fields; group = h.group; rest = refl }) fit k
+row_says : (context : Context) (strings : StringNames) (row : Option Row) (b : List ℕ) → MaybePlainRow row → MaybeFit strings.strings
+    → AreBytes b → SayFields context.depth (row_lines context strings row b)
+row_says context strings None b h fit k = digits_say context.depth (codes "bytes") (drop 2 b) refl (bytes_back 2 b k)
+row_says context strings (Some row) b h fit k =
+    layout_says context strings (row_layout row) b (record { fields = h.fields; group = h.group; rest = refl }) fit k
 
-raw_by : (scope : Scope) (strings : StringNames) (type : ℕ) (row : Option Row) (b : List ℕ) → type < 256 → MaybePlainRow row
+raw_by : (context : Context) (strings : StringNames) (type : ℕ) (row : Option Row) (b : List ℕ) → type < 256 → MaybePlainRow row
     → MaybeFit strings.strings → AreBytes b
-    → SayFields scope.depth (field_line scope.depth (codes "bDescriptorType") (byte_code type) ++ row_lines scope strings row b)
-raw_by scope strings type row b lt h fit k =
-    field_first scope.depth (codes "bDescriptorType") (byte_code type) _ refl (byte_code_plain type lt) (row_says scope strings row b h fit k)
+    → SayFields context.depth (field_line context.depth (codes "bDescriptorType") (byte_code type) ++ row_lines context strings row b)
+raw_by context strings type row b lt h fit k =
+    field_first context.depth (codes "bDescriptorType") (byte_code type) _ refl (byte_code_plain type lt) (row_says context strings row b h fit k)
 
-pub raw_says : (scope : Scope) (strings : StringNames) (interface : Option ClassCodes) (b : List ℕ) → MaybeFit strings.strings
-    → AreBytes b → SayFields scope.depth (raw_lines scope strings interface b)
+pub raw_says : (context : Context) (strings : StringNames) (b : List ℕ) → MaybeFit strings.strings
+    → AreBytes b → SayFields context.depth (raw_lines context strings b)
 unfolding raw_lines
-raw_says scope strings interface b fit h =
-    raw_by scope strings (slice_index b 1) (row_of_bytes interface b) b (byte_fits b 1 h) (row_of_bytes_plain interface b) fit h
+raw_says context strings b fit h =
+    raw_by context strings (slice_index b 1) (row_of_bytes context.interface b) b (byte_fits b 1 h) (row_of_bytes_plain context.interface b) fit h

@@ -8,20 +8,19 @@ use Rattle.usb_file_data.proofs.Lists.{bytes_before, bytes_behind}
 use Rattle.usb_words.specs.Numbers.{count}
 use Rattle.usb_listing_reader.proofs.PrintableLemmas.{Printable}
 use Rattle.usb_listing_reader.proofs.RowLemmas.{bytes_back}
-use Rattle.usb_explained_lines.specs.declared.kind.Kind.TheVariants as kinds
-use Rattle.usb_explain.specs.declared.role.Role.{Role}
-use Rattle.usb_explain.specs.declared.role.Role.TheVariants.{Device, Qualifier, Configuration, Association, Interface, Endpoint, Raw, Languages, Text}
+use Rattle.usb_explained_lines.specs.Descriptors.{fields}
+use Rattle.usb_explained_lines.specs.declared.role.Role.{Role}
 use Rattle.usb_explain.specs.declared.position.Standing.{Standing}
 use Rattle.usb_explain.specs.Explanations.{broken_name, first_line, last_line}
-use Rattle.usb_explain.specs.Kinds.{depth_of, kind_of}
-use Rattle.usb_explain.specs.Laws.{BlockIsLines, Cut, EachByteOnce, InLines, RestIsLines, Shown, findings_of}
-use Rattle.usb_explain.specs.Lines.{IsLine}
+use Rattle.usb_explain.specs.Contexts.{context_of, depth_of}
+use Rattle.usb_explain.specs.Laws.{BlockIsLines, Cut, EachByteOnce, InLines, RestIsLines, Shown, context_at, findings_of}
+use Rattle.usb_explain.specs.Lines.{IsLine, SayFields}
 use Rattle.usb_explain.specs.Subjects.{Subject, place_among, place_by}
 use Rattle.usb_explain.proofs.rest.Walks.{tells_own}
 use Rattle.usb_explain.proofs.plain.Texts.{AreWords, IsWord, either_line, ended, parts}
 use Rattle.usb_explain.proofs.plain.Words.{count_plain}
 use Rattle.usb_explain.proofs.plain.Fields.{AreFit, MaybeFit}
-use Rattle.usb_explain.proofs.plain.Lines.{KindFits, PlaceFits, fields_say, heading_of_kind}
+use Rattle.usb_explain.proofs.plain.Lines.{PlaceFits, fields_say, heading_of_role, rest_fields_say, rest_heading_is_line}
 use Rattle.usb_explain.proofs.plain.Findings.{each_told}
 
 -- the strings of a subject have numbers of two bytes
@@ -55,17 +54,14 @@ place_fits : (named : List ℕ) (number : ℕ) (strings : Option Strings) → Ma
 place_fits named number None fit = tt
 place_fits named number (Some strings) fit = among_fits (length named) named strings number fit
 
-kind_fits : (subject : Subject) (s : Standing) (role : Role) (d : List ℕ) → SubjectFits subject → KindFits (kind_of subject s role d)
-unfolding kind_of
-kind_fits subject s Device d fit = tt
-kind_fits subject s Qualifier d fit = tt
-kind_fits subject s Configuration d fit = tt
-kind_fits subject s Association d fit = tt
-kind_fits subject s Interface d fit = tt
-kind_fits subject s Endpoint d fit = tt
-kind_fits subject s Raw d fit = tt
-kind_fits subject s Languages d fit = tt
-kind_fits subject s Text d fit = place_fits subject.names.named s.strings subject.names.strings fit
+context_fits : (subject : Subject) (s : Standing) (role : Role) (d : List ℕ) → SubjectFits subject → PlaceFits (context_of subject s role d).place
+unfolding context_of
+context_fits subject s role d fit = place_fits subject.names.named s.strings subject.names.strings fit
+
+fields_say_here : (subject : Subject) (d : Shown) → SubjectFits subject → AreBytes d.bytes
+    → SayFields (depth_of d.standing d.role) (fields subject.manner.look subject.names d.role (context_at subject d) d.bytes)
+unfolding context_of
+fields_say_here subject d fit h = fields_say subject.manner.look subject.names d.role (context_at subject d) d.bytes fit h
 
 -- ---- descriptors and the rest
 
@@ -75,23 +71,18 @@ pub blocks_are_lines : (subject : Subject) (shown : List Shown) (b rest : List �
 blocks_are_lines subject [] b rest fit cut h = tt
 blocks_are_lines subject (d ∷ ds) b rest fit cut h =
     let parts = subst AreBytes cut.0 h in
-    let bytes = bytes_before d.bytes d.behind parts in
-    let depth = depth_of d.standing d.role in
-    let kind = kind_of subject d.standing d.role d.bytes in (
+    let bytes = bytes_before d.bytes d.behind parts in (
       (
-        (
-          heading_of_kind subject.manner.look depth kind d.bytes d.standing.at (kind_fits subject d.standing d.role d.bytes fit) bytes,
-          fields_say subject.manner.look depth subject.names kind d.bytes fit bytes,
-        ),
+        heading_of_role subject.manner.look d.role (context_at subject d) d.bytes d.standing.at (context_fits subject d.standing d.role d.bytes fit) bytes,
+        fields_say_here subject d fit bytes,
         each_told subject.is_dump d.standing d.role d.bytes d.behind (findings_of subject d) (tells_own subject d),
       ),
       blocks_are_lines subject ds d.behind rest fit cut.2 (bytes_behind d.bytes d.behind parts),
     )
 
-rest_is_lines : (subject : Subject) (at : ℕ) (rest : List ℕ) → SubjectFits subject → AreBytes rest → RestIsLines subject at rest
-rest_is_lines subject at [] fit h = tt
-rest_is_lines subject at (x ∷ rest) fit h =
-    (heading_of_kind subject.manner.look 0 kinds.Rest (x ∷ rest) at tt h, fields_say subject.manner.look 0 subject.names kinds.Rest (x ∷ rest) fit h)
+rest_is_lines : (subject : Subject) (at : ℕ) (rest : List ℕ) → AreBytes rest → RestIsLines subject at rest
+rest_is_lines subject at [] h = tt
+rest_is_lines subject at (x ∷ rest) h = (rest_heading_is_line subject.manner.look at (x ∷ rest), rest_fields_say subject.manner.look (x ∷ rest) h)
 
 -- ---- whole texts
 
@@ -114,6 +105,6 @@ in_lines subject front b first before_rest last text fit h k once first_so last_
   once = once;
   begins = first_so;
   blocks = blocks_are_lines subject once.shown front (drop once.end front) fit once.cut k;
-  rest = rest_is_lines subject once.end (drop once.end b) fit (bytes_back once.end b h);
+  rest = rest_is_lines subject once.end (drop once.end b) (bytes_back once.end b h);
   ends = last_so;
 }

@@ -31,7 +31,7 @@ use Rattle.usb_file.specs.declared.input_fault.InputFault.{InputFault}
 use Rattle.usb_file.specs.declared.input_fault.InputFault.TheVariants as faults
 use Rattle.usb_file.specs.FileFaults.{FileFaulty, NextPart, a_set, a_qualifier, the_languages, a_string, the_end, PartFaulty, SetFaulty, fixed_fault, is_no_string, string_fault}
 use Rattle.usb_file.specs.Inputs.{DeviceRefused, HasFault, InputRefused}
-use Rattle.usb_explain.specs.declared.role.Role.TheVariants as roles
+use Rattle.usb_explained_lines.specs.declared.role.Role.TheVariants as roles
 use Rattle.usb_explain.specs.declared.position.Standing.{Standing}
 use Rattle.usb_explain.specs.Explanations.{broken_end, broken_explanation, broken_name, first_line}
 use Rattle.usb_explain.specs.Faults.{fault_text, place_of_fault}

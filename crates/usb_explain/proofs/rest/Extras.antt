@@ -22,12 +22,12 @@ use Rattle.usb_set.specs.Parts.{association_in}
 use Rattle.usb_set.specs.inside.Trees.{extra_bytes}
 use Rattle.usb_set.proofs.ExtraLemmas.{untyped}
 use Rattle.usb_words.specs.Cut.{descriptor_length}
-use Rattle.usb_explain.specs.declared.role.Role.{Role}
-use Rattle.usb_explain.specs.declared.role.Role.TheVariants as roles
+use Rattle.usb_explained_lines.specs.declared.role.Role.{Role}
+use Rattle.usb_explained_lines.specs.declared.role.Role.TheVariants as roles
 use Rattle.usb_explain.specs.declared.position.Standing.{Standing}
 use Rattle.usb_explained_lines.specs.declared.told.Told.{Told}
 use Rattle.usb_explain.specs.Findings.{finding_at, is_here, is_same_place, part_number, told_at, told_of}
-use Rattle.usb_explain.specs.Kinds.{below, depth_of}
+use Rattle.usb_explain.specs.Contexts.{below, depth_of}
 use Rattle.usb_explain.specs.Steps.{noted}
 use Rattle.usb_explain.specs.Roles.{inner_role, typed_role}
 use Rattle.usb_explain.specs.Subjects.{Subject}

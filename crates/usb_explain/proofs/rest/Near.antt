@@ -18,9 +18,9 @@ use Rattle.usb_set.proofs.Sound.{Sound, sound}
 use Rattle.usb_set.proofs.Stands.{item_within}
 use Rattle.usb_file_data.proofs.Lists.{bytes_behind}
 use Rattle.usb_words.specs.declared.set_speed.RunningSpeed.{RunningSpeed}
-use Rattle.usb_explain.specs.declared.role.Role.{Role}
-use Rattle.usb_explain.specs.declared.role.Role.TheVariants.{Device, Qualifier, Association, Interface, Endpoint, Raw, Languages, Text}
-use Rattle.usb_explain.specs.declared.role.Role.TheVariants as roles
+use Rattle.usb_explained_lines.specs.declared.role.Role.{Role}
+use Rattle.usb_explained_lines.specs.declared.role.Role.TheVariants.{Device, Qualifier, Association, Interface, Endpoint, Raw, Languages, Text}
+use Rattle.usb_explained_lines.specs.declared.role.Role.TheVariants as roles
 use Rattle.usb_explain.specs.declared.position.Standing.{Standing}
 use Rattle.usb_explain.specs.Laws.{Cut, Shown}
 use Rattle.usb_explain.specs.SetStart.{entered}

@@ -8,13 +8,13 @@ use Rattle.usb_rules.specs.declared.finding.Finding.{Finding}
 use Rattle.usb_rules.specs.declared.finding.Part.{Part}
 use Rattle.usb_rules.specs.Places.{when}
 use Rattle.usb_words.specs.Cut.{descriptor_length}
-use Rattle.usb_explain.specs.declared.role.Role.{Role}
+use Rattle.usb_explained_lines.specs.declared.role.Role.{Role}
 use Rattle.usb_explained_lines.specs.declared.told.Told.{Told}
 use Rattle.usb_explain.specs.declared.position.Owner.{Owner}
 use Rattle.usb_explain.specs.declared.position.SettingStanding.{SettingStanding}
 use Rattle.usb_explain.specs.declared.position.Standing.{Standing}
 use Rattle.usb_explain.specs.Findings.{found_at, is_here}
-use Rattle.usb_explain.specs.Kinds.{depth_of}
+use Rattle.usb_explain.specs.Contexts.{depth_of}
 use Rattle.usb_explain.specs.Laws.{counts_at, entry_of}
 use Rattle.usb_explain.specs.SetStart.{entered}
 use Rattle.usb_explain.specs.Steps.{passed, with_told}

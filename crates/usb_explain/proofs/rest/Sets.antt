@@ -29,13 +29,13 @@ use Rattle.usb_words.specs.declared.set_speed.RunningSpeed.{RunningSpeed}
 use Rattle.usb_words.specs.Surveys.{survey_of}
 use Rattle.usb_explained_lines.specs.declared.told.Told.{Told}
 use Rattle.usb_explained_lines.specs.declared.told.Told.TheVariants as told
-use Rattle.usb_explain.specs.declared.role.Role.{Role}
-use Rattle.usb_explain.specs.declared.role.Role.TheVariants as roles
+use Rattle.usb_explained_lines.specs.declared.role.Role.{Role}
+use Rattle.usb_explained_lines.specs.declared.role.Role.TheVariants as roles
 use Rattle.usb_explain.specs.declared.position.Owner.TheVariants as owners
 use Rattle.usb_explain.specs.declared.position.SetStanding.{SetStanding}
 use Rattle.usb_explain.specs.declared.position.Standing.{Standing}
 use Rattle.usb_explain.specs.Findings.{finding_at, is_here, set_told, told_at}
-use Rattle.usb_explain.specs.Kinds.{depth_of}
+use Rattle.usb_explain.specs.Contexts.{depth_of}
 use Rattle.usb_explain.specs.SetStart.{entered, opened}
 use Rattle.usb_explain.specs.Steps.{noted, passed, with_told}
 use Rattle.usb_explain.specs.Roles.{outer_role, role_if, role_of}

@@ -1,6 +1,6 @@
 -- Walks that come to the end of the bytes, and their text.
 use Rattle.std.proofs.Common.{◌≡◌, ◌≤◌, ℕ, zero, suc, List, [], ◌++◌, flat_map, length, map, drop, Some, sym, ap, subst, ◌∙◌, arith, append-nil, length-drop, Bool, true, false, cond, ◌∷◌, refl}
-use Rattle.usb_explain.specs.declared.role.Role.{Role}
+use Rattle.usb_explained_lines.specs.declared.role.Role.{Role}
 use Rattle.usb_explain.specs.declared.position.Standing.{Standing}
 use Rattle.usb_explain.specs.Explanations.{last_line, whole_end}
 use Rattle.usb_explain.specs.Laws.{Cut, EachFindingOnce, Follow, NothingLeft, Shown, TellsItsOwn, counts_at, entry_of, findings_of, lines_of, span_of}
@@ -11,7 +11,8 @@ use Rattle.usb_explain.specs.Roles.{next_role}
 use Rattle.usb_explain.specs.Standings.{start}
 use Rattle.usb_explain.specs.Subjects.{Subject}
 use Rattle.usb_explain.specs.Trees.{counts_in, outline}
-use Rattle.usb_explain.specs.Walks.{behind_next, rest_text, walked}
+use Rattle.usb_explained_lines.specs.Rest.{rest_lines}
+use Rattle.usb_explain.specs.Walks.{behind_next, walked}
 use Rattle.usb_file.specs.declared.input.Input.{Input}
 use Rattle.usb_file.specs.Inputs.{input_findings}
 use Rattle.usb_explain.proofs.Standings.{start_at, start_told}
@@ -53,7 +54,7 @@ nothing_left subject input findings b first text e leaves =
     let parts : b ≡ flat_map (λ d. d.bytes) w.shown ++ [] = cut_parts w.shown b [] cut in
     let left : drop w.end b ≡ [] = left_behind (flat_map (λ d. d.bytes) w.shown) [] b w.end parts ends in
     let total : w.end ≡ length b = sym ends ∙ ap length (sym (parts ∙ append-nil (flat_map (λ d. d.bytes) w.shown))) in
-    let at_end : whole_end subject findings b w.end ≡ last_line findings = ap (λ l. rest_text subject w.end l ++ last_line findings) left in
+    let at_end : whole_end subject findings b w.end ≡ last_line findings = ap (λ l. rest_lines subject.manner.look w.end l ++ last_line findings) left in
     record {
       shown = w.shown;
       lines = e ∙ ap (λ l. first ++ l) (w.lines subject.manner.look (whole_end subject findings b) ∙ ap (λ l. flat_map (lines_of subject) w.shown ++ l) at_end);
@@ -91,7 +92,7 @@ nothing_untold subject input b first text findings e sorts ended =
     let left : drop w.end b ≡ [] = left_behind (flat_map (λ d. d.bytes) w.shown) [] b w.end (cut_parts w.shown b [] cut) ends in
     let many : length subject.found ≡ length findings = sym (as_many subject.found) ∙ ap (λ (l : List Finding). length l) sorts in
     let at_end : whole_end subject (length subject.found) b w.end ≡ last_line (length findings) =
-    ap (λ l. rest_text subject w.end l ++ last_line (length subject.found)) left ∙ ap (λ n. last_line n) many in
+    ap (λ l. rest_lines subject.manner.look w.end l ++ last_line (length subject.found)) left ∙ ap (λ n. last_line n) many in
     let told : flat_map (findings_of subject) w.shown ≡ subject.found =
     sym (append-nil (flat_map (findings_of subject) w.shown)) ∙ ap (λ l. flat_map (findings_of subject) w.shown ++ l) (sym ended.all_told) ∙ w.tells
     ∙ ap (λ k. drop k subject.found) start_told in
