@@ -36,6 +36,8 @@ def read_rows():
     rows = []
     with open(os.path.join(HERE, "data/explain/descriptors.txt"), encoding="ascii") as table:
         for line in table:
+            if line.startswith("#"):
+                continue
             head, fields, group = line.rstrip("\n").split("|")
             words = head.split()
             codes = [None if word == "--" else int(word, 16) for word in words[:5]]

@@ -12,6 +12,19 @@ abbrev pub name_in : List Named → ℕ → Option (List ℕ)
 name_in [] code = None
 name_in (row ∷ rest) code = if row.code == code then Some row.name else name_in rest code
 
+-- a subclass with a protocol, and its name
+pub record NamedProtocol : Type 0 where
+  pub subclass : ℕ
+  pub protocol : ℕ
+  pub name : List ℕ
+
+-- the name of the first row that has both codes
+abbrev pub protocol_in : List NamedProtocol → ℕ → ℕ → Option (List ℕ)
+protocol_in [] subclass protocol = None
+protocol_in (row ∷ rest) subclass protocol =
+    if row.subclass == subclass && (row.protocol == protocol) then Some row.name else protocol_in rest subclass protocol
+
+-- made by tables.py: names
 -- classes
 abbrev pub classes : List Named
 classes =
@@ -121,8 +134,8 @@ diagnostic_subclasses =
     []
 
 -- subclasses of class 224, Wireless controller
-abbrev pub wireless_subclasses : List Named
-wireless_subclasses =
+abbrev pub wireless_controller_subclasses : List Named
+wireless_controller_subclasses =
     record { code = 1; name = codes "radio frequency" } ∷
     record { code = 2; name = codes "wire adapter" } ∷
     []
@@ -137,16 +150,16 @@ miscellaneous_subclasses =
     []
 
 -- subclasses of class 254, Application specific
-abbrev pub application_subclasses : List Named
-application_subclasses =
+abbrev pub application_specific_subclasses : List Named
+application_specific_subclasses =
     record { code = 1; name = codes "firmware upgrade" } ∷
     record { code = 2; name = codes "IrDA bridge" } ∷
     record { code = 3; name = codes "test and measurement" } ∷
     []
 
 -- subclasses of class 255, Vendor specific
-abbrev pub vendor_subclasses : List Named
-vendor_subclasses =
+abbrev pub vendor_specific_subclasses : List Named
+vendor_specific_subclasses =
     record { code = 255; name = codes "vendor specific" } ∷
     []
 
@@ -162,23 +175,11 @@ subclasses class =
     else if class == 14 then video_subclasses
     else if class == 16 then audio_video_subclasses
     else if class == 220 then diagnostic_subclasses
-    else if class == 224 then wireless_subclasses
+    else if class == 224 then wireless_controller_subclasses
     else if class == 239 then miscellaneous_subclasses
-    else if class == 254 then application_subclasses
-    else if class == 255 then vendor_subclasses
+    else if class == 254 then application_specific_subclasses
+    else if class == 255 then vendor_specific_subclasses
     else []
-
--- a subclass with a protocol, and its name
-pub record NamedProtocol : Type 0 where
-  pub subclass : ℕ
-  pub protocol : ℕ
-  pub name : List ℕ
-
--- the name of the first row that has both codes
-abbrev pub protocol_in : List NamedProtocol → ℕ → ℕ → Option (List ℕ)
-protocol_in [] subclass protocol = None
-protocol_in (row ∷ rest) subclass protocol =
-    if row.subclass == subclass && (row.protocol == protocol) then Some row.name else protocol_in rest subclass protocol
 
 -- protocols of class 1, Audio
 abbrev pub audio_protocols : List NamedProtocol
@@ -272,8 +273,8 @@ diagnostic_protocols =
     []
 
 -- protocols of class 224, Wireless controller
-abbrev pub wireless_protocols : List NamedProtocol
-wireless_protocols =
+abbrev pub wireless_controller_protocols : List NamedProtocol
+wireless_controller_protocols =
     record { subclass = 1; protocol = 1; name = codes "Bluetooth" } ∷
     record { subclass = 1; protocol = 2; name = codes "UWB radio control" } ∷
     record { subclass = 1; protocol = 3; name = codes "remote NDIS" } ∷
@@ -304,8 +305,8 @@ miscellaneous_protocols =
     []
 
 -- protocols of class 254, Application specific
-abbrev pub application_protocols : List NamedProtocol
-application_protocols =
+abbrev pub application_specific_protocols : List NamedProtocol
+application_specific_protocols =
     record { subclass = 1; protocol = 1; name = codes "run-time" } ∷
     record { subclass = 1; protocol = 2; name = codes "DFU mode" } ∷
     record { subclass = 3; protocol = 0; name = codes "USBTMC" } ∷
@@ -313,8 +314,8 @@ application_protocols =
     []
 
 -- protocols of class 255, Vendor specific
-abbrev pub vendor_protocols : List NamedProtocol
-vendor_protocols =
+abbrev pub vendor_specific_protocols : List NamedProtocol
+vendor_specific_protocols =
     record { subclass = 255; protocol = 255; name = codes "vendor specific" } ∷
     []
 
@@ -332,8 +333,10 @@ protocols class =
     else if class == 11 then smart_card_protocols
     else if class == 14 then video_protocols
     else if class == 220 then diagnostic_protocols
-    else if class == 224 then wireless_protocols
+    else if class == 224 then wireless_controller_protocols
     else if class == 239 then miscellaneous_protocols
-    else if class == 254 then application_protocols
-    else if class == 255 then vendor_protocols
+    else if class == 254 then application_specific_protocols
+    else if class == 255 then vendor_specific_protocols
     else []
+
+-- end

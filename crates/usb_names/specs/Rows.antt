@@ -51,204 +51,276 @@ row subclass protocol type first name fields group = record {
   group = group;
 }
 
--- bDescriptorSubtype and nothing else by name
-abbrev pub subtype_alone : List Field
-subtype_alone = hexadecimal 1 (codes "bDescriptorSubtype") ∷ []
-
--- standard types of USB 2.0 (9.4, table 9-5), OTG 2.0 and USB 3.2 (9.6.7, 9.6.8), wherever they stand
+-- made by tables.py: rows
+-- standard types of USB 2.0 (9.4, table 9-5), OTG 2.0 and USB 3.2 (9.6.7, 9.6.8), wherever they are
 unfoldable pub standard_rows : List Row
 standard_rows =
-    row None None 1 None (codes "device") [] [] ∷
-    row None None 3 None (codes "string") [] [] ∷
-    row None None 6 None (codes "device qualifier") [] [] ∷
-    row None None 8 None (codes "interface power") [] [] ∷
-    row None None 9 None (codes "OTG") (hexadecimal 1 (codes "bmAttributes") ∷ release (codes "bcdOTG") ∷ []) [] ∷
-    row None None 10 None (codes "debug") (hexadecimal 1 (codes "bDebugInEndpoint") ∷
-    hexadecimal 1 (codes "bDebugOutEndpoint") ∷ []) [] ∷
-    row None None 15 None (codes "BOS") [] [] ∷
-    row None None 16 None (codes "device capability") [] [] ∷
-    row None None 48 None (codes "SuperSpeed endpoint companion") (decimal 1 (codes "bMaxBurst") ∷
-    hexadecimal 1 (codes "bmAttributes") ∷ decimal 2 (codes "wBytesPerInterval") ∷ []) [] ∷
-    row None None 49 None (codes "SuperSpeedPlus isochronous endpoint companion") (hexadecimal 2 (codes "wReserved") ∷
-    decimal 4 (codes "dwBytesPerInterval") ∷ []) [] ∷
+    row None None 1 None (codes "device")
+    [] [] ∷
+    row None None 3 None (codes "string")
+    [] [] ∷
+    row None None 6 None (codes "device qualifier")
+    [] [] ∷
+    row None None 8 None (codes "interface power")
+    [] [] ∷
+    row None None 9 None (codes "OTG")
+    (hexadecimal 1 (codes "bmAttributes") ∷ release (codes "bcdOTG") ∷ []) [] ∷
+    row None None 10 None (codes "debug")
+    (hexadecimal 1 (codes "bDebugInEndpoint") ∷ hexadecimal 1 (codes "bDebugOutEndpoint") ∷ []) [] ∷
+    row None None 15 None (codes "BOS")
+    [] [] ∷
+    row None None 16 None (codes "device capability")
+    [] [] ∷
+    row None None 48 None (codes "SuperSpeed endpoint companion")
+    (decimal 1 (codes "bMaxBurst") ∷ hexadecimal 1 (codes "bmAttributes") ∷ decimal 2 (codes "wBytesPerInterval") ∷ [])
+    [] ∷
+    row None None 49 None (codes "SuperSpeedPlus isochronous endpoint companion")
+    (hexadecimal 2 (codes "wReserved") ∷ decimal 4 (codes "dwBytesPerInterval") ∷ []) [] ∷
     []
 
 -- audio: audio 1.0 and 2.0, MIDI 1.0
 unfoldable pub audio_rows : List Row
 audio_rows =
-    row (Some 1) (Some 32) 36 (Some 1) (codes "audio 2.0 control header") (hexadecimal 1 (codes "bDescriptorSubtype") ∷
-    release (codes "bcdADC") ∷ hexadecimal 1 (codes "bCategory") ∷ decimal 2 (codes "wTotalLength") ∷
-    hexadecimal 1 (codes "bmControls") ∷ []) [] ∷
-    row (Some 1) (Some 32) 36 (Some 2) (codes "audio 2.0 input terminal") subtype_alone [] ∷
-    row (Some 1) (Some 32) 36 (Some 3) (codes "audio 2.0 output terminal") subtype_alone [] ∷
-    row (Some 1) (Some 32) 36 (Some 4) (codes "audio 2.0 mixer unit") subtype_alone [] ∷
-    row (Some 1) (Some 32) 36 (Some 5) (codes "audio 2.0 selector unit") subtype_alone [] ∷
-    row (Some 1) (Some 32) 36 (Some 6) (codes "audio 2.0 feature unit") subtype_alone [] ∷
-    row (Some 1) (Some 32) 36 (Some 7) (codes "audio 2.0 effect unit") subtype_alone [] ∷
-    row (Some 1) (Some 32) 36 (Some 8) (codes "audio 2.0 processing unit") subtype_alone [] ∷
-    row (Some 1) (Some 32) 36 (Some 9) (codes "audio 2.0 extension unit") subtype_alone [] ∷
-    row (Some 1) (Some 32) 36 (Some 10) (codes "audio 2.0 clock source") subtype_alone [] ∷
-    row (Some 1) (Some 32) 36 (Some 11) (codes "audio 2.0 clock selector") subtype_alone [] ∷
-    row (Some 1) (Some 32) 36 (Some 12) (codes "audio 2.0 clock multiplier") subtype_alone [] ∷
-    row (Some 1) (Some 32) 36 (Some 13) (codes "audio 2.0 sample rate converter") subtype_alone [] ∷
-    row (Some 2) (Some 32) 36 (Some 1) (codes "audio 2.0 streaming") subtype_alone [] ∷
-    row (Some 2) (Some 32) 36 (Some 2) (codes "audio 2.0 format type") subtype_alone [] ∷
-    row (Some 2) (Some 32) 37 (Some 1) (codes "audio 2.0 data endpoint") subtype_alone [] ∷
-    row (Some 1) (Some 0) 36 (Some 1) (codes "audio control header") (hexadecimal 1 (codes "bDescriptorSubtype") ∷
-    release (codes "bcdADC") ∷ decimal 2 (codes "wTotalLength") ∷ decimal 1 (codes "bInCollection") ∷ [])
-    (decimal 1 (codes "baInterfaceNr") ∷ []) ∷
-    row (Some 1) (Some 0) 36 (Some 2) (codes "audio input terminal") subtype_alone [] ∷
-    row (Some 1) (Some 0) 36 (Some 3) (codes "audio output terminal") subtype_alone [] ∷
-    row (Some 1) (Some 0) 36 (Some 4) (codes "audio mixer unit") subtype_alone [] ∷
-    row (Some 1) (Some 0) 36 (Some 5) (codes "audio selector unit") subtype_alone [] ∷
-    row (Some 1) (Some 0) 36 (Some 6) (codes "audio feature unit") subtype_alone [] ∷
-    row (Some 1) (Some 0) 36 (Some 7) (codes "audio processing unit") subtype_alone [] ∷
-    row (Some 1) (Some 0) 36 (Some 8) (codes "audio extension unit") subtype_alone [] ∷
-    row (Some 2) (Some 0) 36 (Some 1) (codes "audio streaming") subtype_alone [] ∷
-    row (Some 2) (Some 0) 36 (Some 2) (codes "audio format type") subtype_alone [] ∷
-    row (Some 2) (Some 0) 36 (Some 3) (codes "audio format specific") subtype_alone [] ∷
-    row (Some 2) (Some 0) 37 (Some 1) (codes "audio data endpoint") subtype_alone [] ∷
-    row (Some 3) None 36 (Some 1) (codes "MIDI header") (hexadecimal 1 (codes "bDescriptorSubtype") ∷
-    release (codes "bcdMSC") ∷ decimal 2 (codes "wTotalLength") ∷ []) [] ∷
-    row (Some 3) None 36 (Some 2) (codes "MIDI in jack") subtype_alone [] ∷
-    row (Some 3) None 36 (Some 3) (codes "MIDI out jack") subtype_alone [] ∷
-    row (Some 3) None 36 (Some 4) (codes "MIDI element") subtype_alone [] ∷
-    row (Some 3) None 37 (Some 1) (codes "MIDI data endpoint") subtype_alone [] ∷
-    row None None 36 None (codes "audio class") subtype_alone [] ∷
-    row None None 37 None (codes "audio endpoint") subtype_alone [] ∷
+    row (Some 1) (Some 32) 36 (Some 1) (codes "audio 2.0 control header")
+    (hexadecimal 1 (codes "bDescriptorSubtype") ∷ release (codes "bcdADC") ∷ hexadecimal 1 (codes "bCategory") ∷
+    decimal 2 (codes "wTotalLength") ∷ hexadecimal 1 (codes "bmControls") ∷ []) [] ∷
+    row (Some 1) (Some 32) 36 (Some 2) (codes "audio 2.0 input terminal")
+    (hexadecimal 1 (codes "bDescriptorSubtype") ∷ []) [] ∷
+    row (Some 1) (Some 32) 36 (Some 3) (codes "audio 2.0 output terminal")
+    (hexadecimal 1 (codes "bDescriptorSubtype") ∷ []) [] ∷
+    row (Some 1) (Some 32) 36 (Some 4) (codes "audio 2.0 mixer unit")
+    (hexadecimal 1 (codes "bDescriptorSubtype") ∷ []) [] ∷
+    row (Some 1) (Some 32) 36 (Some 5) (codes "audio 2.0 selector unit")
+    (hexadecimal 1 (codes "bDescriptorSubtype") ∷ []) [] ∷
+    row (Some 1) (Some 32) 36 (Some 6) (codes "audio 2.0 feature unit")
+    (hexadecimal 1 (codes "bDescriptorSubtype") ∷ []) [] ∷
+    row (Some 1) (Some 32) 36 (Some 7) (codes "audio 2.0 effect unit")
+    (hexadecimal 1 (codes "bDescriptorSubtype") ∷ []) [] ∷
+    row (Some 1) (Some 32) 36 (Some 8) (codes "audio 2.0 processing unit")
+    (hexadecimal 1 (codes "bDescriptorSubtype") ∷ []) [] ∷
+    row (Some 1) (Some 32) 36 (Some 9) (codes "audio 2.0 extension unit")
+    (hexadecimal 1 (codes "bDescriptorSubtype") ∷ []) [] ∷
+    row (Some 1) (Some 32) 36 (Some 10) (codes "audio 2.0 clock source")
+    (hexadecimal 1 (codes "bDescriptorSubtype") ∷ []) [] ∷
+    row (Some 1) (Some 32) 36 (Some 11) (codes "audio 2.0 clock selector")
+    (hexadecimal 1 (codes "bDescriptorSubtype") ∷ []) [] ∷
+    row (Some 1) (Some 32) 36 (Some 12) (codes "audio 2.0 clock multiplier")
+    (hexadecimal 1 (codes "bDescriptorSubtype") ∷ []) [] ∷
+    row (Some 1) (Some 32) 36 (Some 13) (codes "audio 2.0 sample rate converter")
+    (hexadecimal 1 (codes "bDescriptorSubtype") ∷ []) [] ∷
+    row (Some 2) (Some 32) 36 (Some 1) (codes "audio 2.0 streaming")
+    (hexadecimal 1 (codes "bDescriptorSubtype") ∷ []) [] ∷
+    row (Some 2) (Some 32) 36 (Some 2) (codes "audio 2.0 format type")
+    (hexadecimal 1 (codes "bDescriptorSubtype") ∷ []) [] ∷
+    row (Some 2) (Some 32) 37 (Some 1) (codes "audio 2.0 data endpoint")
+    (hexadecimal 1 (codes "bDescriptorSubtype") ∷ []) [] ∷
+    row (Some 1) (Some 0) 36 (Some 1) (codes "audio control header")
+    (hexadecimal 1 (codes "bDescriptorSubtype") ∷ release (codes "bcdADC") ∷ decimal 2 (codes "wTotalLength") ∷
+    decimal 1 (codes "bInCollection") ∷ []) (decimal 1 (codes "baInterfaceNr") ∷ []) ∷
+    row (Some 1) (Some 0) 36 (Some 2) (codes "audio input terminal")
+    (hexadecimal 1 (codes "bDescriptorSubtype") ∷ []) [] ∷
+    row (Some 1) (Some 0) 36 (Some 3) (codes "audio output terminal")
+    (hexadecimal 1 (codes "bDescriptorSubtype") ∷ []) [] ∷
+    row (Some 1) (Some 0) 36 (Some 4) (codes "audio mixer unit")
+    (hexadecimal 1 (codes "bDescriptorSubtype") ∷ []) [] ∷
+    row (Some 1) (Some 0) 36 (Some 5) (codes "audio selector unit")
+    (hexadecimal 1 (codes "bDescriptorSubtype") ∷ []) [] ∷
+    row (Some 1) (Some 0) 36 (Some 6) (codes "audio feature unit")
+    (hexadecimal 1 (codes "bDescriptorSubtype") ∷ []) [] ∷
+    row (Some 1) (Some 0) 36 (Some 7) (codes "audio processing unit")
+    (hexadecimal 1 (codes "bDescriptorSubtype") ∷ []) [] ∷
+    row (Some 1) (Some 0) 36 (Some 8) (codes "audio extension unit")
+    (hexadecimal 1 (codes "bDescriptorSubtype") ∷ []) [] ∷
+    row (Some 2) (Some 0) 36 (Some 1) (codes "audio streaming")
+    (hexadecimal 1 (codes "bDescriptorSubtype") ∷ []) [] ∷
+    row (Some 2) (Some 0) 36 (Some 2) (codes "audio format type")
+    (hexadecimal 1 (codes "bDescriptorSubtype") ∷ []) [] ∷
+    row (Some 2) (Some 0) 36 (Some 3) (codes "audio format specific")
+    (hexadecimal 1 (codes "bDescriptorSubtype") ∷ []) [] ∷
+    row (Some 2) (Some 0) 37 (Some 1) (codes "audio data endpoint")
+    (hexadecimal 1 (codes "bDescriptorSubtype") ∷ []) [] ∷
+    row (Some 3) None 36 (Some 1) (codes "MIDI header")
+    (hexadecimal 1 (codes "bDescriptorSubtype") ∷ release (codes "bcdMSC") ∷ decimal 2 (codes "wTotalLength") ∷ []) [] ∷
+    row (Some 3) None 36 (Some 2) (codes "MIDI in jack")
+    (hexadecimal 1 (codes "bDescriptorSubtype") ∷ []) [] ∷
+    row (Some 3) None 36 (Some 3) (codes "MIDI out jack")
+    (hexadecimal 1 (codes "bDescriptorSubtype") ∷ []) [] ∷
+    row (Some 3) None 36 (Some 4) (codes "MIDI element")
+    (hexadecimal 1 (codes "bDescriptorSubtype") ∷ []) [] ∷
+    row (Some 3) None 37 (Some 1) (codes "MIDI data endpoint")
+    (hexadecimal 1 (codes "bDescriptorSubtype") ∷ []) [] ∷
+    row None None 36 None (codes "audio class")
+    (hexadecimal 1 (codes "bDescriptorSubtype") ∷ []) [] ∷
+    row None None 37 None (codes "audio endpoint")
+    (hexadecimal 1 (codes "bDescriptorSubtype") ∷ []) [] ∷
     []
 
 -- communications: CDC 1.2 and its subclasses, NCM 1.0, MBIM 1.0
 unfoldable pub communications_rows : List Row
 communications_rows =
-    row None None 36 (Some 0) (codes "CDC header") (hexadecimal 1 (codes "bDescriptorSubtype") ∷
-    release (codes "bcdCDC") ∷ []) [] ∷
-    row None None 36 (Some 1) (codes "CDC call management") (hexadecimal 1 (codes "bDescriptorSubtype") ∷
-    hexadecimal 1 (codes "bmCapabilities") ∷ decimal 1 (codes "bDataInterface") ∷ []) [] ∷
-    row None None 36 (Some 2) (codes "CDC abstract control") (hexadecimal 1 (codes "bDescriptorSubtype") ∷
-    hexadecimal 1 (codes "bmCapabilities") ∷ []) [] ∷
-    row None None 36 (Some 3) (codes "CDC direct line") (hexadecimal 1 (codes "bDescriptorSubtype") ∷
-    hexadecimal 1 (codes "bmCapabilities") ∷ []) [] ∷
-    row None None 36 (Some 4) (codes "CDC telephone ringer") subtype_alone [] ∷
-    row None None 36 (Some 5) (codes "CDC telephone capabilities") subtype_alone [] ∷
-    row None None 36 (Some 6) (codes "CDC union") (hexadecimal 1 (codes "bDescriptorSubtype") ∷
-    decimal 1 (codes "bControlInterface") ∷ []) (decimal 1 (codes "bSubordinateInterface") ∷ []) ∷
-    row None None 36 (Some 7) (codes "CDC country selection") (hexadecimal 1 (codes "bDescriptorSubtype") ∷
-    decimal 1 (codes "iCountryCodeRelDate") ∷ []) (hexadecimal 2 (codes "wCountryCode") ∷ []) ∷
-    row None None 36 (Some 15) (codes "CDC Ethernet networking") (hexadecimal 1 (codes "bDescriptorSubtype") ∷
-    decimal 1 (codes "iMACAddress") ∷ hexadecimal 4 (codes "bmEthernetStatistics") ∷
-    decimal 2 (codes "wMaxSegmentSize") ∷ hexadecimal 2 (codes "wNumberMCFilters") ∷
-    decimal 1 (codes "bNumberPowerFilters") ∷ []) [] ∷
-    row None None 36 (Some 17) (codes "CDC wireless handset control") (hexadecimal 1 (codes "bDescriptorSubtype") ∷
-    release (codes "bcdVersion") ∷ []) [] ∷
-    row None None 36 (Some 18) (codes "CDC mobile direct line") (hexadecimal 1 (codes "bDescriptorSubtype") ∷
-    release (codes "bcdVersion") ∷ []) [] ∷
-    row None None 36 (Some 19) (codes "CDC mobile direct line detail") subtype_alone [] ∷
-    row None None 36 (Some 20) (codes "CDC device management") (hexadecimal 1 (codes "bDescriptorSubtype") ∷
-    release (codes "bcdVersion") ∷ decimal 2 (codes "wMaxCommand") ∷ []) [] ∷
-    row None None 36 (Some 21) (codes "CDC OBEX") (hexadecimal 1 (codes "bDescriptorSubtype") ∷
-    release (codes "bcdVersion") ∷ []) [] ∷
-    row None None 36 (Some 26) (codes "CDC network control") (hexadecimal 1 (codes "bDescriptorSubtype") ∷
-    release (codes "bcdNcmVersion") ∷ hexadecimal 1 (codes "bmNetworkCapabilities") ∷ []) [] ∷
-    row None None 36 (Some 27) (codes "CDC mobile broadband") (hexadecimal 1 (codes "bDescriptorSubtype") ∷
-    release (codes "bcdMBIMVersion") ∷ decimal 2 (codes "wMaxControlMessage") ∷ decimal 1 (codes "bNumberFilters") ∷
-    decimal 1 (codes "bMaxFilterSize") ∷ decimal 2 (codes "wMaxSegmentSize") ∷
+    row None None 36 (Some 0) (codes "CDC header")
+    (hexadecimal 1 (codes "bDescriptorSubtype") ∷ release (codes "bcdCDC") ∷ []) [] ∷
+    row None None 36 (Some 1) (codes "CDC call management")
+    (hexadecimal 1 (codes "bDescriptorSubtype") ∷ hexadecimal 1 (codes "bmCapabilities") ∷
+    decimal 1 (codes "bDataInterface") ∷ []) [] ∷
+    row None None 36 (Some 2) (codes "CDC abstract control")
+    (hexadecimal 1 (codes "bDescriptorSubtype") ∷ hexadecimal 1 (codes "bmCapabilities") ∷ []) [] ∷
+    row None None 36 (Some 3) (codes "CDC direct line")
+    (hexadecimal 1 (codes "bDescriptorSubtype") ∷ hexadecimal 1 (codes "bmCapabilities") ∷ []) [] ∷
+    row None None 36 (Some 4) (codes "CDC telephone ringer")
+    (hexadecimal 1 (codes "bDescriptorSubtype") ∷ []) [] ∷
+    row None None 36 (Some 5) (codes "CDC telephone capabilities")
+    (hexadecimal 1 (codes "bDescriptorSubtype") ∷ []) [] ∷
+    row None None 36 (Some 6) (codes "CDC union")
+    (hexadecimal 1 (codes "bDescriptorSubtype") ∷ decimal 1 (codes "bControlInterface") ∷ [])
+    (decimal 1 (codes "bSubordinateInterface") ∷ []) ∷
+    row None None 36 (Some 7) (codes "CDC country selection")
+    (hexadecimal 1 (codes "bDescriptorSubtype") ∷ decimal 1 (codes "iCountryCodeRelDate") ∷ [])
+    (hexadecimal 2 (codes "wCountryCode") ∷ []) ∷
+    row None None 36 (Some 15) (codes "CDC Ethernet networking")
+    (hexadecimal 1 (codes "bDescriptorSubtype") ∷ decimal 1 (codes "iMACAddress") ∷
+    hexadecimal 4 (codes "bmEthernetStatistics") ∷ decimal 2 (codes "wMaxSegmentSize") ∷
+    hexadecimal 2 (codes "wNumberMCFilters") ∷ decimal 1 (codes "bNumberPowerFilters") ∷ []) [] ∷
+    row None None 36 (Some 17) (codes "CDC wireless handset control")
+    (hexadecimal 1 (codes "bDescriptorSubtype") ∷ release (codes "bcdVersion") ∷ []) [] ∷
+    row None None 36 (Some 18) (codes "CDC mobile direct line")
+    (hexadecimal 1 (codes "bDescriptorSubtype") ∷ release (codes "bcdVersion") ∷ []) [] ∷
+    row None None 36 (Some 19) (codes "CDC mobile direct line detail")
+    (hexadecimal 1 (codes "bDescriptorSubtype") ∷ []) [] ∷
+    row None None 36 (Some 20) (codes "CDC device management")
+    (hexadecimal 1 (codes "bDescriptorSubtype") ∷ release (codes "bcdVersion") ∷ decimal 2 (codes "wMaxCommand") ∷ [])
+    [] ∷
+    row None None 36 (Some 21) (codes "CDC OBEX")
+    (hexadecimal 1 (codes "bDescriptorSubtype") ∷ release (codes "bcdVersion") ∷ []) [] ∷
+    row None None 36 (Some 26) (codes "CDC network control")
+    (hexadecimal 1 (codes "bDescriptorSubtype") ∷ release (codes "bcdNcmVersion") ∷
     hexadecimal 1 (codes "bmNetworkCapabilities") ∷ []) [] ∷
-    row None None 36 (Some 28) (codes "CDC mobile broadband, extended") (hexadecimal 1 (codes "bDescriptorSubtype") ∷
-    release (codes "bcdMBIMExtendedVersion") ∷ decimal 1 (codes "bMaxOutstandingCommandMessages") ∷
-    decimal 2 (codes "wMTU") ∷ []) [] ∷
-    row None None 36 None (codes "CDC functional") subtype_alone [] ∷
+    row None None 36 (Some 27) (codes "CDC mobile broadband")
+    (hexadecimal 1 (codes "bDescriptorSubtype") ∷ release (codes "bcdMBIMVersion") ∷
+    decimal 2 (codes "wMaxControlMessage") ∷ decimal 1 (codes "bNumberFilters") ∷ decimal 1 (codes "bMaxFilterSize") ∷
+    decimal 2 (codes "wMaxSegmentSize") ∷ hexadecimal 1 (codes "bmNetworkCapabilities") ∷ []) [] ∷
+    row None None 36 (Some 28) (codes "CDC mobile broadband, extended")
+    (hexadecimal 1 (codes "bDescriptorSubtype") ∷ release (codes "bcdMBIMExtendedVersion") ∷
+    decimal 1 (codes "bMaxOutstandingCommandMessages") ∷ decimal 2 (codes "wMTU") ∷ []) [] ∷
+    row None None 36 None (codes "CDC functional")
+    (hexadecimal 1 (codes "bDescriptorSubtype") ∷ []) [] ∷
     []
 
 -- HID: HID 1.11, 6.2.1
 unfoldable pub hid_rows : List Row
 hid_rows =
-    row None None 33 None (codes "HID") (release (codes "bcdHID") ∷ decimal 1 (codes "bCountryCode") ∷
-    decimal 1 (codes "bNumDescriptors") ∷ []) (report_type (codes "bDescriptorType") ∷
-    decimal 2 (codes "wDescriptorLength") ∷ []) ∷
+    row None None 33 None (codes "HID")
+    (release (codes "bcdHID") ∷ decimal 1 (codes "bCountryCode") ∷ decimal 1 (codes "bNumDescriptors") ∷ [])
+    (report_type (codes "bDescriptorType") ∷ decimal 2 (codes "wDescriptorLength") ∷ []) ∷
     []
 
 -- mass storage: USB Attached SCSI
 unfoldable pub mass_storage_rows : List Row
 mass_storage_rows =
-    row (Some 6) (Some 98) 36 None (codes "UAS pipe usage") (decimal 1 (codes "bPipeID") ∷
-    hexadecimal 1 (codes "bReserved") ∷ []) [] ∷
+    row (Some 6) (Some 98) 36 None (codes "UAS pipe usage")
+    (decimal 1 (codes "bPipeID") ∷ hexadecimal 1 (codes "bReserved") ∷ []) [] ∷
     []
 
 -- CDC data: CDC 1.2
 unfoldable pub cdc_data_rows : List Row
 cdc_data_rows =
-    row None None 36 (Some 0) (codes "CDC header") (hexadecimal 1 (codes "bDescriptorSubtype") ∷
-    release (codes "bcdCDC") ∷ []) [] ∷
-    row None None 36 (Some 6) (codes "CDC union") (hexadecimal 1 (codes "bDescriptorSubtype") ∷
-    decimal 1 (codes "bControlInterface") ∷ []) (decimal 1 (codes "bSubordinateInterface") ∷ []) ∷
-    row None None 36 None (codes "CDC functional") subtype_alone [] ∷
+    row None None 36 (Some 0) (codes "CDC header")
+    (hexadecimal 1 (codes "bDescriptorSubtype") ∷ release (codes "bcdCDC") ∷ []) [] ∷
+    row None None 36 (Some 6) (codes "CDC union")
+    (hexadecimal 1 (codes "bDescriptorSubtype") ∷ decimal 1 (codes "bControlInterface") ∷ [])
+    (decimal 1 (codes "bSubordinateInterface") ∷ []) ∷
+    row None None 36 None (codes "CDC functional")
+    (hexadecimal 1 (codes "bDescriptorSubtype") ∷ []) [] ∷
     []
 
 -- smart cards: CCID 1.1
 unfoldable pub smart_card_rows : List Row
 smart_card_rows =
-    row None None 33 None (codes "CCID") (release (codes "bcdCCID") ∷ decimal 1 (codes "bMaxSlotIndex") ∷
-    hexadecimal 1 (codes "bVoltageSupport") ∷ hexadecimal 4 (codes "dwProtocols") ∷ decimal 4 (codes "dwDefaultClock") ∷
-    decimal 4 (codes "dwMaximumClock") ∷ decimal 1 (codes "bNumClockSupported") ∷ decimal 4 (codes "dwDataRate") ∷
-    decimal 4 (codes "dwMaxDataRate") ∷ decimal 1 (codes "bNumDataRatesSupported") ∷ decimal 4 (codes "dwMaxIFSD") ∷
+    row None None 33 None (codes "CCID")
+    (release (codes "bcdCCID") ∷ decimal 1 (codes "bMaxSlotIndex") ∷ hexadecimal 1 (codes "bVoltageSupport") ∷
+    hexadecimal 4 (codes "dwProtocols") ∷ decimal 4 (codes "dwDefaultClock") ∷ decimal 4 (codes "dwMaximumClock") ∷
+    decimal 1 (codes "bNumClockSupported") ∷ decimal 4 (codes "dwDataRate") ∷ decimal 4 (codes "dwMaxDataRate") ∷
+    decimal 1 (codes "bNumDataRatesSupported") ∷ decimal 4 (codes "dwMaxIFSD") ∷
     hexadecimal 4 (codes "dwSynchProtocols") ∷ hexadecimal 4 (codes "dwMechanical") ∷
     hexadecimal 4 (codes "dwFeatures") ∷ decimal 4 (codes "dwMaxCCIDMessageLength") ∷
     hexadecimal 1 (codes "bClassGetResponse") ∷ hexadecimal 1 (codes "bClassEnvelope") ∷
-    hexadecimal 2 (codes "wLcdLayout") ∷ hexadecimal 1 (codes "bPINSupport") ∷
-    decimal 1 (codes "bMaxCCIDBusySlots") ∷ []) [] ∷
+    hexadecimal 2 (codes "wLcdLayout") ∷ hexadecimal 1 (codes "bPINSupport") ∷ decimal 1 (codes "bMaxCCIDBusySlots") ∷
+    []) [] ∷
     []
 
 -- video: UVC 1.5
 unfoldable pub video_rows : List Row
 video_rows =
-    row (Some 1) None 36 (Some 1) (codes "video control header") (hexadecimal 1 (codes "bDescriptorSubtype") ∷
-    release (codes "bcdUVC") ∷ decimal 2 (codes "wTotalLength") ∷ decimal 4 (codes "dwClockFrequency") ∷
-    decimal 1 (codes "bInCollection") ∷ []) (decimal 1 (codes "baInterfaceNr") ∷ []) ∷
-    row (Some 1) None 36 (Some 2) (codes "video input terminal") subtype_alone [] ∷
-    row (Some 1) None 36 (Some 3) (codes "video output terminal") subtype_alone [] ∷
-    row (Some 1) None 36 (Some 4) (codes "video selector unit") subtype_alone [] ∷
-    row (Some 1) None 36 (Some 5) (codes "video processing unit") subtype_alone [] ∷
-    row (Some 1) None 36 (Some 6) (codes "video extension unit") subtype_alone [] ∷
-    row (Some 1) None 36 (Some 7) (codes "video encoding unit") subtype_alone [] ∷
-    row (Some 1) None 37 (Some 3) (codes "video interrupt endpoint") (hexadecimal 1 (codes "bDescriptorSubtype") ∷
-    decimal 2 (codes "wMaxTransferSize") ∷ []) [] ∷
-    row (Some 2) None 36 (Some 1) (codes "video input header") subtype_alone [] ∷
-    row (Some 2) None 36 (Some 2) (codes "video output header") subtype_alone [] ∷
-    row (Some 2) None 36 (Some 3) (codes "video still image") subtype_alone [] ∷
-    row (Some 2) None 36 (Some 4) (codes "video format uncompressed") subtype_alone [] ∷
-    row (Some 2) None 36 (Some 5) (codes "video frame uncompressed") (hexadecimal 1 (codes "bDescriptorSubtype") ∷
-    decimal 1 (codes "bFrameIndex") ∷ hexadecimal 1 (codes "bmCapabilities") ∷ decimal 2 (codes "wWidth") ∷
-    decimal 2 (codes "wHeight") ∷ []) [] ∷
-    row (Some 2) None 36 (Some 6) (codes "video format MJPEG") subtype_alone [] ∷
-    row (Some 2) None 36 (Some 7) (codes "video frame MJPEG") (hexadecimal 1 (codes "bDescriptorSubtype") ∷
-    decimal 1 (codes "bFrameIndex") ∷ hexadecimal 1 (codes "bmCapabilities") ∷ decimal 2 (codes "wWidth") ∷
-    decimal 2 (codes "wHeight") ∷ []) [] ∷
-    row (Some 2) None 36 (Some 10) (codes "video format MPEG-2 TS") subtype_alone [] ∷
-    row (Some 2) None 36 (Some 12) (codes "video format DV") subtype_alone [] ∷
-    row (Some 2) None 36 (Some 13) (codes "video color matching") subtype_alone [] ∷
-    row (Some 2) None 36 (Some 16) (codes "video format frame based") subtype_alone [] ∷
-    row (Some 2) None 36 (Some 17) (codes "video frame, frame based") (hexadecimal 1 (codes "bDescriptorSubtype") ∷
-    decimal 1 (codes "bFrameIndex") ∷ hexadecimal 1 (codes "bmCapabilities") ∷ decimal 2 (codes "wWidth") ∷
-    decimal 2 (codes "wHeight") ∷ []) [] ∷
-    row (Some 2) None 36 (Some 18) (codes "video format stream based") subtype_alone [] ∷
-    row None None 36 None (codes "video class") subtype_alone [] ∷
-    row None None 37 None (codes "video endpoint") subtype_alone [] ∷
+    row (Some 1) None 36 (Some 1) (codes "video control header")
+    (hexadecimal 1 (codes "bDescriptorSubtype") ∷ release (codes "bcdUVC") ∷ decimal 2 (codes "wTotalLength") ∷
+    decimal 4 (codes "dwClockFrequency") ∷ decimal 1 (codes "bInCollection") ∷ []) (decimal 1 (codes "baInterfaceNr") ∷
+    []) ∷
+    row (Some 1) None 36 (Some 2) (codes "video input terminal")
+    (hexadecimal 1 (codes "bDescriptorSubtype") ∷ []) [] ∷
+    row (Some 1) None 36 (Some 3) (codes "video output terminal")
+    (hexadecimal 1 (codes "bDescriptorSubtype") ∷ []) [] ∷
+    row (Some 1) None 36 (Some 4) (codes "video selector unit")
+    (hexadecimal 1 (codes "bDescriptorSubtype") ∷ []) [] ∷
+    row (Some 1) None 36 (Some 5) (codes "video processing unit")
+    (hexadecimal 1 (codes "bDescriptorSubtype") ∷ []) [] ∷
+    row (Some 1) None 36 (Some 6) (codes "video extension unit")
+    (hexadecimal 1 (codes "bDescriptorSubtype") ∷ []) [] ∷
+    row (Some 1) None 36 (Some 7) (codes "video encoding unit")
+    (hexadecimal 1 (codes "bDescriptorSubtype") ∷ []) [] ∷
+    row (Some 1) None 37 (Some 3) (codes "video interrupt endpoint")
+    (hexadecimal 1 (codes "bDescriptorSubtype") ∷ decimal 2 (codes "wMaxTransferSize") ∷ []) [] ∷
+    row (Some 2) None 36 (Some 1) (codes "video input header")
+    (hexadecimal 1 (codes "bDescriptorSubtype") ∷ []) [] ∷
+    row (Some 2) None 36 (Some 2) (codes "video output header")
+    (hexadecimal 1 (codes "bDescriptorSubtype") ∷ []) [] ∷
+    row (Some 2) None 36 (Some 3) (codes "video still image")
+    (hexadecimal 1 (codes "bDescriptorSubtype") ∷ []) [] ∷
+    row (Some 2) None 36 (Some 4) (codes "video format uncompressed")
+    (hexadecimal 1 (codes "bDescriptorSubtype") ∷ []) [] ∷
+    row (Some 2) None 36 (Some 5) (codes "video frame uncompressed")
+    (hexadecimal 1 (codes "bDescriptorSubtype") ∷ decimal 1 (codes "bFrameIndex") ∷
+    hexadecimal 1 (codes "bmCapabilities") ∷ decimal 2 (codes "wWidth") ∷ decimal 2 (codes "wHeight") ∷ []) [] ∷
+    row (Some 2) None 36 (Some 6) (codes "video format MJPEG")
+    (hexadecimal 1 (codes "bDescriptorSubtype") ∷ []) [] ∷
+    row (Some 2) None 36 (Some 7) (codes "video frame MJPEG")
+    (hexadecimal 1 (codes "bDescriptorSubtype") ∷ decimal 1 (codes "bFrameIndex") ∷
+    hexadecimal 1 (codes "bmCapabilities") ∷ decimal 2 (codes "wWidth") ∷ decimal 2 (codes "wHeight") ∷ []) [] ∷
+    row (Some 2) None 36 (Some 10) (codes "video format MPEG-2 TS")
+    (hexadecimal 1 (codes "bDescriptorSubtype") ∷ []) [] ∷
+    row (Some 2) None 36 (Some 12) (codes "video format DV")
+    (hexadecimal 1 (codes "bDescriptorSubtype") ∷ []) [] ∷
+    row (Some 2) None 36 (Some 13) (codes "video color matching")
+    (hexadecimal 1 (codes "bDescriptorSubtype") ∷ []) [] ∷
+    row (Some 2) None 36 (Some 16) (codes "video format frame based")
+    (hexadecimal 1 (codes "bDescriptorSubtype") ∷ []) [] ∷
+    row (Some 2) None 36 (Some 17) (codes "video frame, frame based")
+    (hexadecimal 1 (codes "bDescriptorSubtype") ∷ decimal 1 (codes "bFrameIndex") ∷
+    hexadecimal 1 (codes "bmCapabilities") ∷ decimal 2 (codes "wWidth") ∷ decimal 2 (codes "wHeight") ∷ []) [] ∷
+    row (Some 2) None 36 (Some 18) (codes "video format stream based")
+    (hexadecimal 1 (codes "bDescriptorSubtype") ∷ []) [] ∷
+    row None None 36 None (codes "video class")
+    (hexadecimal 1 (codes "bDescriptorSubtype") ∷ []) [] ∷
+    row None None 37 None (codes "video endpoint")
+    (hexadecimal 1 (codes "bDescriptorSubtype") ∷ []) [] ∷
     []
 
 -- application specific: DFU 1.1
 unfoldable pub application_rows : List Row
 application_rows =
-    row (Some 1) None 33 None (codes "DFU functional") (hexadecimal 1 (codes "bmAttributes") ∷
-    decimal 2 (codes "wDetachTimeOut") ∷ decimal 2 (codes "wTransferSize") ∷ release (codes "bcdDFUVersion") ∷ []) [] ∷
+    row (Some 1) None 33 None (codes "DFU functional")
+    (hexadecimal 1 (codes "bmAttributes") ∷ decimal 2 (codes "wDetachTimeOut") ∷ decimal 2 (codes "wTransferSize") ∷
+    release (codes "bcdDFUVersion") ∷ []) [] ∷
     []
 
 -- class specific types of any class that has no other row
 unfoldable pub other_rows : List Row
 other_rows =
-    row None None 33 None (codes "class specific descriptor") [] [] ∷
-    row None None 36 None (codes "class specific interface") [] [] ∷
-    row None None 37 None (codes "class specific endpoint") [] [] ∷
+    row None None 33 None (codes "class specific descriptor")
+    [] [] ∷
+    row None None 36 None (codes "class specific interface")
+    [] [] ∷
+    row None None 37 None (codes "class specific endpoint")
+    [] [] ∷
     []
 
 -- the rows of a class
@@ -263,6 +335,8 @@ class_rows class =
     else if class == 14 then video_rows
     else if class == 254 then application_rows
     else []
+
+-- end
 
 -- the rows of the class of an interface; before any interface there are none
 abbrev pub rows_of_class : Option ClassCodes → List Row

@@ -1,6 +1,7 @@
 //! Names of classes, subclasses and protocols.
 ghost use Rattle.std.specs.Prelude.{◌≡◌, option_map};
-ghost use Rattle.usb_names.specs.Classes.{application_protocols, application_subclasses, audio_protocols, audio_subclasses, audio_video_subclasses, cdc_data_protocols, classes, communications_protocols, communications_subclasses, diagnostic_protocols, diagnostic_subclasses, hid_protocols, hid_subclasses, hub_protocols, image_protocols, image_subclasses, mass_storage_protocols, mass_storage_subclasses, miscellaneous_protocols, miscellaneous_subclasses, name_in, printer_protocols, printer_subclasses, protocol_in, protocols, smart_card_protocols, subclasses, vendor_protocols, vendor_subclasses, video_protocols, video_subclasses, wireless_protocols, wireless_subclasses};
+ghost use Rattle.usb_names.specs.Classes as tables;
+ghost use Rattle.usb_names.specs.Classes.{classes, name_in, protocol_in, protocols, subclasses};
 
 /// The name of a class code, as bDeviceClass, bInterfaceClass and bFunctionClass have it (USB 2.0, 9.6.1, 9.6.5).
 ///
@@ -12,6 +13,7 @@ pub fn class_name(class: u8) -> Option<&'static str>
     ensures { option_map (λ name. name.now) result ≡ name_in classes class }
 {
     match class {
+        // made by tables.py: classes
         0x00 => Some("by interface"),
         0x01 => Some("Audio"),
         0x02 => Some("Communications"),
@@ -37,6 +39,7 @@ pub fn class_name(class: u8) -> Option<&'static str>
         0xef => Some("Miscellaneous"),
         0xfe => Some("Application specific"),
         0xff => Some("Vendor specific"),
+        // end
         _ => None,
     }
 }
@@ -50,6 +53,7 @@ pub fn subclass_name(class: u8, subclass: u8) -> Option<&'static str>
     ensures { option_map (λ name. name.now) result ≡ name_in (subclasses class) subclass }
 {
     match class {
+        // made by tables.py: subclasses
         0x01 => audio_subclass(subclass),
         0x02 => communications_subclass(subclass),
         0x03 => hid_subclass(subclass),
@@ -59,16 +63,48 @@ pub fn subclass_name(class: u8, subclass: u8) -> Option<&'static str>
         0x0e => video_subclass(subclass),
         0x10 => audio_video_subclass(subclass),
         0xdc => diagnostic_subclass(subclass),
-        0xe0 => wireless_subclass(subclass),
+        0xe0 => wireless_controller_subclass(subclass),
         0xef => miscellaneous_subclass(subclass),
-        0xfe => application_subclass(subclass),
-        0xff => vendor_subclass(subclass),
+        0xfe => application_specific_subclass(subclass),
+        0xff => vendor_specific_subclass(subclass),
+        // end
         _ => None,
     }
 }
 
+/// The name of a protocol code of a class and its subclass.
+///
+/// ```rust
+/// assert_eq!(rt; protocol_name(0x08, 0x06, 0x50), Some("bulk-only"));
+/// ```
+pub fn protocol_name(class: u8, subclass: u8, protocol: u8) -> Option<&'static str>
+    ensures { option_map (λ name. name.now) result ≡ protocol_in (protocols class) subclass protocol }
+{
+    match class {
+        // made by tables.py: protocols
+        0x01 => audio_protocol(subclass, protocol),
+        0x02 => communications_protocol(subclass, protocol),
+        0x03 => hid_protocol(subclass, protocol),
+        0x06 => image_protocol(subclass, protocol),
+        0x07 => printer_protocol(subclass, protocol),
+        0x08 => mass_storage_protocol(subclass, protocol),
+        0x09 => hub_protocol(subclass, protocol),
+        0x0a => cdc_data_protocol(subclass, protocol),
+        0x0b => smart_card_protocol(subclass, protocol),
+        0x0e => video_protocol(subclass, protocol),
+        0xdc => diagnostic_protocol(subclass, protocol),
+        0xe0 => wireless_controller_protocol(subclass, protocol),
+        0xef => miscellaneous_protocol(subclass, protocol),
+        0xfe => application_specific_protocol(subclass, protocol),
+        0xff => vendor_specific_protocol(subclass, protocol),
+        // end
+        _ => None,
+    }
+}
+
+// made by tables.py: names of each class
 fn audio_subclass(subclass: u8) -> Option<&'static str>
-    ensures { option_map (λ name. name.now) result ≡ name_in audio_subclasses subclass }
+    ensures { option_map (λ name. name.now) result ≡ name_in tables.audio_subclasses subclass }
 {
     match subclass {
         0x01 => Some("control"),
@@ -79,7 +115,7 @@ fn audio_subclass(subclass: u8) -> Option<&'static str>
 }
 
 fn communications_subclass(subclass: u8) -> Option<&'static str>
-    ensures { option_map (λ name. name.now) result ≡ name_in communications_subclasses subclass }
+    ensures { option_map (λ name. name.now) result ≡ name_in tables.communications_subclasses subclass }
 {
     match subclass {
         0x01 => Some("direct line"),
@@ -101,7 +137,7 @@ fn communications_subclass(subclass: u8) -> Option<&'static str>
 }
 
 fn hid_subclass(subclass: u8) -> Option<&'static str>
-    ensures { option_map (λ name. name.now) result ≡ name_in hid_subclasses subclass }
+    ensures { option_map (λ name. name.now) result ≡ name_in tables.hid_subclasses subclass }
 {
     match subclass {
         0x01 => Some("boot interface"),
@@ -110,7 +146,7 @@ fn hid_subclass(subclass: u8) -> Option<&'static str>
 }
 
 fn image_subclass(subclass: u8) -> Option<&'static str>
-    ensures { option_map (λ name. name.now) result ≡ name_in image_subclasses subclass }
+    ensures { option_map (λ name. name.now) result ≡ name_in tables.image_subclasses subclass }
 {
     match subclass {
         0x01 => Some("still image capture"),
@@ -119,7 +155,7 @@ fn image_subclass(subclass: u8) -> Option<&'static str>
 }
 
 fn printer_subclass(subclass: u8) -> Option<&'static str>
-    ensures { option_map (λ name. name.now) result ≡ name_in printer_subclasses subclass }
+    ensures { option_map (λ name. name.now) result ≡ name_in tables.printer_subclasses subclass }
 {
     match subclass {
         0x01 => Some("printer"),
@@ -128,7 +164,7 @@ fn printer_subclass(subclass: u8) -> Option<&'static str>
 }
 
 fn mass_storage_subclass(subclass: u8) -> Option<&'static str>
-    ensures { option_map (λ name. name.now) result ≡ name_in mass_storage_subclasses subclass }
+    ensures { option_map (λ name. name.now) result ≡ name_in tables.mass_storage_subclasses subclass }
 {
     match subclass {
         0x01 => Some("RBC"),
@@ -142,7 +178,7 @@ fn mass_storage_subclass(subclass: u8) -> Option<&'static str>
 }
 
 fn video_subclass(subclass: u8) -> Option<&'static str>
-    ensures { option_map (λ name. name.now) result ≡ name_in video_subclasses subclass }
+    ensures { option_map (λ name. name.now) result ≡ name_in tables.video_subclasses subclass }
 {
     match subclass {
         0x01 => Some("control"),
@@ -153,7 +189,7 @@ fn video_subclass(subclass: u8) -> Option<&'static str>
 }
 
 fn audio_video_subclass(subclass: u8) -> Option<&'static str>
-    ensures { option_map (λ name. name.now) result ≡ name_in audio_video_subclasses subclass }
+    ensures { option_map (λ name. name.now) result ≡ name_in tables.audio_video_subclasses subclass }
 {
     match subclass {
         0x01 => Some("control"),
@@ -164,7 +200,7 @@ fn audio_video_subclass(subclass: u8) -> Option<&'static str>
 }
 
 fn diagnostic_subclass(subclass: u8) -> Option<&'static str>
-    ensures { option_map (λ name. name.now) result ≡ name_in diagnostic_subclasses subclass }
+    ensures { option_map (λ name. name.now) result ≡ name_in tables.diagnostic_subclasses subclass }
 {
     match subclass {
         0x01 => Some("reprogrammable"),
@@ -172,8 +208,8 @@ fn diagnostic_subclass(subclass: u8) -> Option<&'static str>
     }
 }
 
-fn wireless_subclass(subclass: u8) -> Option<&'static str>
-    ensures { option_map (λ name. name.now) result ≡ name_in wireless_subclasses subclass }
+fn wireless_controller_subclass(subclass: u8) -> Option<&'static str>
+    ensures { option_map (λ name. name.now) result ≡ name_in tables.wireless_controller_subclasses subclass }
 {
     match subclass {
         0x01 => Some("radio frequency"),
@@ -183,7 +219,7 @@ fn wireless_subclass(subclass: u8) -> Option<&'static str>
 }
 
 fn miscellaneous_subclass(subclass: u8) -> Option<&'static str>
-    ensures { option_map (λ name. name.now) result ≡ name_in miscellaneous_subclasses subclass }
+    ensures { option_map (λ name. name.now) result ≡ name_in tables.miscellaneous_subclasses subclass }
 {
     match subclass {
         0x02 => Some("common class"),
@@ -194,8 +230,8 @@ fn miscellaneous_subclass(subclass: u8) -> Option<&'static str>
     }
 }
 
-fn application_subclass(subclass: u8) -> Option<&'static str>
-    ensures { option_map (λ name. name.now) result ≡ name_in application_subclasses subclass }
+fn application_specific_subclass(subclass: u8) -> Option<&'static str>
+    ensures { option_map (λ name. name.now) result ≡ name_in tables.application_specific_subclasses subclass }
 {
     match subclass {
         0x01 => Some("firmware upgrade"),
@@ -205,8 +241,8 @@ fn application_subclass(subclass: u8) -> Option<&'static str>
     }
 }
 
-fn vendor_subclass(subclass: u8) -> Option<&'static str>
-    ensures { option_map (λ name. name.now) result ≡ name_in vendor_subclasses subclass }
+fn vendor_specific_subclass(subclass: u8) -> Option<&'static str>
+    ensures { option_map (λ name. name.now) result ≡ name_in tables.vendor_specific_subclasses subclass }
 {
     match subclass {
         0xff => Some("vendor specific"),
@@ -214,36 +250,8 @@ fn vendor_subclass(subclass: u8) -> Option<&'static str>
     }
 }
 
-/// The name of a protocol code of a class and its subclass.
-///
-/// ```rust
-/// assert_eq!(rt; protocol_name(0x08, 0x06, 0x50), Some("bulk-only"));
-/// ```
-pub fn protocol_name(class: u8, subclass: u8, protocol: u8) -> Option<&'static str>
-    ensures { option_map (λ name. name.now) result ≡ protocol_in (protocols class) subclass protocol }
-{
-    match class {
-        0x01 => audio_protocol(subclass, protocol),
-        0x02 => communications_protocol(subclass, protocol),
-        0x03 => hid_protocol(subclass, protocol),
-        0x06 => image_protocol(subclass, protocol),
-        0x07 => printer_protocol(subclass, protocol),
-        0x08 => mass_storage_protocol(subclass, protocol),
-        0x09 => hub_protocol(subclass, protocol),
-        0x0a => cdc_data_protocol(subclass, protocol),
-        0x0b => smart_card_protocol(subclass, protocol),
-        0x0e => video_protocol(subclass, protocol),
-        0xdc => diagnostic_protocol(subclass, protocol),
-        0xe0 => wireless_protocol(subclass, protocol),
-        0xef => miscellaneous_protocol(subclass, protocol),
-        0xfe => application_protocol(subclass, protocol),
-        0xff => vendor_protocol(subclass, protocol),
-        _ => None,
-    }
-}
-
 fn audio_protocol(subclass: u8, protocol: u8) -> Option<&'static str>
-    ensures { option_map (λ name. name.now) result ≡ protocol_in audio_protocols subclass protocol }
+    ensures { option_map (λ name. name.now) result ≡ protocol_in tables.audio_protocols subclass protocol }
 {
     match (subclass, protocol) {
         (0x01, 0x20) => Some("version 2.0"),
@@ -255,7 +263,7 @@ fn audio_protocol(subclass: u8, protocol: u8) -> Option<&'static str>
 }
 
 fn communications_protocol(subclass: u8, protocol: u8) -> Option<&'static str>
-    ensures { option_map (λ name. name.now) result ≡ protocol_in communications_protocols subclass protocol }
+    ensures { option_map (λ name. name.now) result ≡ protocol_in tables.communications_protocols subclass protocol }
 {
     match (subclass, protocol) {
         (0x02, 0x01) => Some("AT commands V.250"),
@@ -271,7 +279,7 @@ fn communications_protocol(subclass: u8, protocol: u8) -> Option<&'static str>
 }
 
 fn hid_protocol(subclass: u8, protocol: u8) -> Option<&'static str>
-    ensures { option_map (λ name. name.now) result ≡ protocol_in hid_protocols subclass protocol }
+    ensures { option_map (λ name. name.now) result ≡ protocol_in tables.hid_protocols subclass protocol }
 {
     match (subclass, protocol) {
         (0x00, 0x01) => Some("keyboard"),
@@ -283,7 +291,7 @@ fn hid_protocol(subclass: u8, protocol: u8) -> Option<&'static str>
 }
 
 fn image_protocol(subclass: u8, protocol: u8) -> Option<&'static str>
-    ensures { option_map (λ name. name.now) result ≡ protocol_in image_protocols subclass protocol }
+    ensures { option_map (λ name. name.now) result ≡ protocol_in tables.image_protocols subclass protocol }
 {
     match (subclass, protocol) {
         (0x01, 0x01) => Some("PTP"),
@@ -292,7 +300,7 @@ fn image_protocol(subclass: u8, protocol: u8) -> Option<&'static str>
 }
 
 fn printer_protocol(subclass: u8, protocol: u8) -> Option<&'static str>
-    ensures { option_map (λ name. name.now) result ≡ protocol_in printer_protocols subclass protocol }
+    ensures { option_map (λ name. name.now) result ≡ protocol_in tables.printer_protocols subclass protocol }
 {
     match (subclass, protocol) {
         (0x01, 0x01) => Some("unidirectional"),
@@ -304,7 +312,7 @@ fn printer_protocol(subclass: u8, protocol: u8) -> Option<&'static str>
 }
 
 fn mass_storage_protocol(subclass: u8, protocol: u8) -> Option<&'static str>
-    ensures { option_map (λ name. name.now) result ≡ protocol_in mass_storage_protocols subclass protocol }
+    ensures { option_map (λ name. name.now) result ≡ protocol_in tables.mass_storage_protocols subclass protocol }
 {
     match (subclass, protocol) {
         (0x06, 0x00) => Some("CBI with completion interrupt"),
@@ -316,7 +324,7 @@ fn mass_storage_protocol(subclass: u8, protocol: u8) -> Option<&'static str>
 }
 
 fn hub_protocol(subclass: u8, protocol: u8) -> Option<&'static str>
-    ensures { option_map (λ name. name.now) result ≡ protocol_in hub_protocols subclass protocol }
+    ensures { option_map (λ name. name.now) result ≡ protocol_in tables.hub_protocols subclass protocol }
 {
     match (subclass, protocol) {
         (0x00, 0x01) => Some("single TT"),
@@ -327,7 +335,7 @@ fn hub_protocol(subclass: u8, protocol: u8) -> Option<&'static str>
 }
 
 fn cdc_data_protocol(subclass: u8, protocol: u8) -> Option<&'static str>
-    ensures { option_map (λ name. name.now) result ≡ protocol_in cdc_data_protocols subclass protocol }
+    ensures { option_map (λ name. name.now) result ≡ protocol_in tables.cdc_data_protocols subclass protocol }
 {
     match (subclass, protocol) {
         (0x00, 0x01) => Some("network transfer block"),
@@ -337,7 +345,7 @@ fn cdc_data_protocol(subclass: u8, protocol: u8) -> Option<&'static str>
 }
 
 fn smart_card_protocol(subclass: u8, protocol: u8) -> Option<&'static str>
-    ensures { option_map (λ name. name.now) result ≡ protocol_in smart_card_protocols subclass protocol }
+    ensures { option_map (λ name. name.now) result ≡ protocol_in tables.smart_card_protocols subclass protocol }
 {
     match (subclass, protocol) {
         (0x00, 0x00) => Some("CCID"),
@@ -348,7 +356,7 @@ fn smart_card_protocol(subclass: u8, protocol: u8) -> Option<&'static str>
 }
 
 fn video_protocol(subclass: u8, protocol: u8) -> Option<&'static str>
-    ensures { option_map (λ name. name.now) result ≡ protocol_in video_protocols subclass protocol }
+    ensures { option_map (λ name. name.now) result ≡ protocol_in tables.video_protocols subclass protocol }
 {
     match (subclass, protocol) {
         (0x01, 0x01) => Some("version 1.5"),
@@ -358,7 +366,7 @@ fn video_protocol(subclass: u8, protocol: u8) -> Option<&'static str>
 }
 
 fn diagnostic_protocol(subclass: u8, protocol: u8) -> Option<&'static str>
-    ensures { option_map (λ name. name.now) result ≡ protocol_in diagnostic_protocols subclass protocol }
+    ensures { option_map (λ name. name.now) result ≡ protocol_in tables.diagnostic_protocols subclass protocol }
 {
     match (subclass, protocol) {
         (0x01, 0x01) => Some("USB2 compliance"),
@@ -366,8 +374,8 @@ fn diagnostic_protocol(subclass: u8, protocol: u8) -> Option<&'static str>
     }
 }
 
-fn wireless_protocol(subclass: u8, protocol: u8) -> Option<&'static str>
-    ensures { option_map (λ name. name.now) result ≡ protocol_in wireless_protocols subclass protocol }
+fn wireless_controller_protocol(subclass: u8, protocol: u8) -> Option<&'static str>
+    ensures { option_map (λ name. name.now) result ≡ protocol_in tables.wireless_controller_protocols subclass protocol }
 {
     match (subclass, protocol) {
         (0x01, 0x01) => Some("Bluetooth"),
@@ -382,7 +390,7 @@ fn wireless_protocol(subclass: u8, protocol: u8) -> Option<&'static str>
 }
 
 fn miscellaneous_protocol(subclass: u8, protocol: u8) -> Option<&'static str>
-    ensures { option_map (λ name. name.now) result ≡ protocol_in miscellaneous_protocols subclass protocol }
+    ensures { option_map (λ name. name.now) result ≡ protocol_in tables.miscellaneous_protocols subclass protocol }
 {
     match (subclass, protocol) {
         (0x01, 0x01) => Some("ActiveSync"),
@@ -404,8 +412,8 @@ fn miscellaneous_protocol(subclass: u8, protocol: u8) -> Option<&'static str>
     }
 }
 
-fn application_protocol(subclass: u8, protocol: u8) -> Option<&'static str>
-    ensures { option_map (λ name. name.now) result ≡ protocol_in application_protocols subclass protocol }
+fn application_specific_protocol(subclass: u8, protocol: u8) -> Option<&'static str>
+    ensures { option_map (λ name. name.now) result ≡ protocol_in tables.application_specific_protocols subclass protocol }
 {
     match (subclass, protocol) {
         (0x01, 0x01) => Some("run-time"),
@@ -416,11 +424,12 @@ fn application_protocol(subclass: u8, protocol: u8) -> Option<&'static str>
     }
 }
 
-fn vendor_protocol(subclass: u8, protocol: u8) -> Option<&'static str>
-    ensures { option_map (λ name. name.now) result ≡ protocol_in vendor_protocols subclass protocol }
+fn vendor_specific_protocol(subclass: u8, protocol: u8) -> Option<&'static str>
+    ensures { option_map (λ name. name.now) result ≡ protocol_in tables.vendor_specific_protocols subclass protocol }
 {
     match (subclass, protocol) {
         (0xff, 0xff) => Some("vendor specific"),
         _ => None,
     }
 }
+// end

@@ -1,6 +1,6 @@
 //! The rows of the table of class descriptors.
 ghost use Rattle.std.specs.Prelude.{◌≡◌, map};
-ghost use Rattle.usb_names.specs.Rows.{application_rows, audio_rows, cdc_data_rows, class_rows, communications_rows, hid_rows, mass_storage_rows, other_rows, smart_card_rows, standard_rows, video_rows};
+ghost use Rattle.usb_names.specs.Rows as tables;
 ghost use Rattle.usb_names.specs.Shown.{row_of};
 
 use crate::field::{ClassField, Form};
@@ -32,10 +32,11 @@ macro_rules! row {
     };
 }
 
-/// The standard types.
+// made by tables.py: rows
+/// Standard types of USB 2.0 (9.4, table 9-5), OTG 2.0 and USB 3.2 (9.6.7, 9.6.8), wherever they are.
 #[tactic(auto, unfolding(crate::specs::Rows::standard_rows))]
 pub(crate) fn standard_rows() -> &'static [ClassDescriptor]
-    ensures { map row_of result.now ≡ standard_rows }
+    ensures { map row_of result.now ≡ tables.standard_rows }
 {
     &[
         row!(_ _ 0x01 _ "device" [] []),
@@ -54,7 +55,7 @@ pub(crate) fn standard_rows() -> &'static [ClassDescriptor]
 /// Audio: audio 1.0 and 2.0, MIDI 1.0.
 #[tactic(auto, unfolding(crate::specs::Rows::audio_rows))]
 pub(crate) fn audio_rows() -> &'static [ClassDescriptor]
-    ensures { map row_of result.now ≡ audio_rows }
+    ensures { map row_of result.now ≡ tables.audio_rows }
 {
     &[
         row!(0x01 0x20 0x24 0x01 "audio 2.0 control header" ["bDescriptorSubtype" Hexadecimal 1, "bcdADC" Release 2, "bCategory" Hexadecimal 1, "wTotalLength" Decimal 2, "bmControls" Hexadecimal 1] []),
@@ -98,7 +99,7 @@ pub(crate) fn audio_rows() -> &'static [ClassDescriptor]
 /// Communications: CDC 1.2 and its subclasses, NCM 1.0, MBIM 1.0.
 #[tactic(auto, unfolding(crate::specs::Rows::communications_rows))]
 pub(crate) fn communications_rows() -> &'static [ClassDescriptor]
-    ensures { map row_of result.now ≡ communications_rows }
+    ensures { map row_of result.now ≡ tables.communications_rows }
 {
     &[
         row!(_ _ 0x24 0x00 "CDC header" ["bDescriptorSubtype" Hexadecimal 1, "bcdCDC" Release 2] []),
@@ -125,7 +126,7 @@ pub(crate) fn communications_rows() -> &'static [ClassDescriptor]
 /// HID: HID 1.11, 6.2.1.
 #[tactic(auto, unfolding(crate::specs::Rows::hid_rows))]
 pub(crate) fn hid_rows() -> &'static [ClassDescriptor]
-    ensures { map row_of result.now ≡ hid_rows }
+    ensures { map row_of result.now ≡ tables.hid_rows }
 {
     &[
         row!(_ _ 0x21 _ "HID" ["bcdHID" Release 2, "bCountryCode" Decimal 1, "bNumDescriptors" Decimal 1] ["bDescriptorType" ReportType 1, "wDescriptorLength" Decimal 2]),
@@ -135,7 +136,7 @@ pub(crate) fn hid_rows() -> &'static [ClassDescriptor]
 /// Mass storage: USB Attached SCSI.
 #[tactic(auto, unfolding(crate::specs::Rows::mass_storage_rows))]
 pub(crate) fn mass_storage_rows() -> &'static [ClassDescriptor]
-    ensures { map row_of result.now ≡ mass_storage_rows }
+    ensures { map row_of result.now ≡ tables.mass_storage_rows }
 {
     &[row!(0x06 0x62 0x24 _ "UAS pipe usage" ["bPipeID" Decimal 1, "bReserved" Hexadecimal 1] [])]
 }
@@ -143,7 +144,7 @@ pub(crate) fn mass_storage_rows() -> &'static [ClassDescriptor]
 /// CDC data: CDC 1.2.
 #[tactic(auto, unfolding(crate::specs::Rows::cdc_data_rows))]
 pub(crate) fn cdc_data_rows() -> &'static [ClassDescriptor]
-    ensures { map row_of result.now ≡ cdc_data_rows }
+    ensures { map row_of result.now ≡ tables.cdc_data_rows }
 {
     &[
         row!(_ _ 0x24 0x00 "CDC header" ["bDescriptorSubtype" Hexadecimal 1, "bcdCDC" Release 2] []),
@@ -155,7 +156,7 @@ pub(crate) fn cdc_data_rows() -> &'static [ClassDescriptor]
 /// Smart cards: CCID 1.1.
 #[tactic(auto, unfolding(crate::specs::Rows::smart_card_rows))]
 pub(crate) fn smart_card_rows() -> &'static [ClassDescriptor]
-    ensures { map row_of result.now ≡ smart_card_rows }
+    ensures { map row_of result.now ≡ tables.smart_card_rows }
 {
     &[
         row!(_ _ 0x21 _ "CCID" ["bcdCCID" Release 2, "bMaxSlotIndex" Decimal 1, "bVoltageSupport" Hexadecimal 1, "dwProtocols" Hexadecimal 4, "dwDefaultClock" Decimal 4, "dwMaximumClock" Decimal 4, "bNumClockSupported" Decimal 1, "dwDataRate" Decimal 4, "dwMaxDataRate" Decimal 4, "bNumDataRatesSupported" Decimal 1, "dwMaxIFSD" Decimal 4, "dwSynchProtocols" Hexadecimal 4, "dwMechanical" Hexadecimal 4, "dwFeatures" Hexadecimal 4, "dwMaxCCIDMessageLength" Decimal 4, "bClassGetResponse" Hexadecimal 1, "bClassEnvelope" Hexadecimal 1, "wLcdLayout" Hexadecimal 2, "bPINSupport" Hexadecimal 1, "bMaxCCIDBusySlots" Decimal 1] []),
@@ -165,7 +166,7 @@ pub(crate) fn smart_card_rows() -> &'static [ClassDescriptor]
 /// Video: UVC 1.5.
 #[tactic(auto, unfolding(crate::specs::Rows::video_rows))]
 pub(crate) fn video_rows() -> &'static [ClassDescriptor]
-    ensures { map row_of result.now ≡ video_rows }
+    ensures { map row_of result.now ≡ tables.video_rows }
 {
     &[
         row!(0x01 _ 0x24 0x01 "video control header" ["bDescriptorSubtype" Hexadecimal 1, "bcdUVC" Release 2, "wTotalLength" Decimal 2, "dwClockFrequency" Decimal 4, "bInCollection" Decimal 1] ["baInterfaceNr" Decimal 1]),
@@ -197,17 +198,17 @@ pub(crate) fn video_rows() -> &'static [ClassDescriptor]
 /// Application specific: DFU 1.1.
 #[tactic(auto, unfolding(crate::specs::Rows::application_rows))]
 pub(crate) fn application_rows() -> &'static [ClassDescriptor]
-    ensures { map row_of result.now ≡ application_rows }
+    ensures { map row_of result.now ≡ tables.application_rows }
 {
     &[
         row!(0x01 _ 0x21 _ "DFU functional" ["bmAttributes" Hexadecimal 1, "wDetachTimeOut" Decimal 2, "wTransferSize" Decimal 2, "bcdDFUVersion" Release 2] []),
     ]
 }
 
-/// Class specific types of any class.
+/// Class specific types of any class that has no other row.
 #[tactic(auto, unfolding(crate::specs::Rows::other_rows))]
 pub(crate) fn other_rows() -> &'static [ClassDescriptor]
-    ensures { map row_of result.now ≡ other_rows }
+    ensures { map row_of result.now ≡ tables.other_rows }
 {
     &[
         row!(_ _ 0x21 _ "class specific descriptor" [] []),
@@ -218,7 +219,7 @@ pub(crate) fn other_rows() -> &'static [ClassDescriptor]
 
 /// The rows of a class.
 pub(crate) fn class_rows(class: u8) -> &'static [ClassDescriptor]
-    ensures { map row_of result.now ≡ class_rows class }
+    ensures { map row_of result.now ≡ tables.class_rows class }
 {
     match class {
         0x01 => audio_rows(),
@@ -232,3 +233,4 @@ pub(crate) fn class_rows(class: u8) -> &'static [ClassDescriptor]
         _ => &[],
     }
 }
+// end

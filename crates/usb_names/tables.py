@@ -1,0 +1,238 @@
+#!/usr/bin/env python3
+"""Writes the tables of class names and of class descriptors, the code's and the definitions', from the two files that
+are read as they are by crates/examples/explaining.py: classes.txt and descriptors.txt of the examples. A part of a
+source between the lines `made by tables.py: NAME` and `end` is written anew; all else is left. The gate compares what
+is written (.ci/readings).
+"""
+
+import os
+import re
+
+HERE = os.path.dirname(os.path.abspath(__file__))
+EXPLAIN = os.path.join(HERE, "../examples/data/explain")
+WIDEST = 120
+
+
+def lines_of(name):
+    with open(os.path.join(EXPLAIN, name), encoding="ascii") as table:
+        return [line.rstrip("\n") for line in table]
+
+
+# Names of class codes
+
+
+def class_names():
+    """The names of classes, those of subclasses by class, and those of protocols by class."""
+    classes, subclasses, protocols = [], {}, {}
+    for line in lines_of("classes.txt"):
+        codes, name = re.fullmatch(r"((?:[0-9a-f]{2} )+)(.*)", line).groups()
+        codes = [int(code, 16) for code in codes.split()]
+        if len(codes) == 1:
+            classes.append((codes[0], name))
+        else:
+            {2: subclasses, 3: protocols}[len(codes)].setdefault(codes[0], []).append((*codes[1:], name))
+    return classes, subclasses, protocols
+
+
+def word_of(name):
+    return re.sub(r"\W+", "_", name.lower())
+
+
+def name_arms(rows):
+    for *codes, name in rows:
+        pattern = ", ".join(f"0x{code:02x}" for code in codes)
+        yield f'        {pattern if len(codes) == 1 else f"({pattern})"} => Some("{name}"),'
+
+
+def class_code(classes, subclasses, protocols):
+    word = {code: word_of(name) for code, name in classes}
+    functions = []
+    for code, rows in subclasses.items():
+        functions += [
+            f"fn {word[code]}_subclass(subclass: u8) -> Option<&'static str>",
+            "    ensures { option_map (λ name. name.now) result ≡ name_in tables."
+            f"{word[code]}_subclasses subclass }}",
+            "{\n    match subclass {",
+            *name_arms(rows),
+            "        _ => None,\n    }\n}\n",
+        ]
+    for code, rows in protocols.items():
+        functions += [
+            f"fn {word[code]}_protocol(subclass: u8, protocol: u8) -> Option<&'static str>",
+            "    ensures { option_map (λ name. name.now) result ≡ protocol_in tables."
+            f"{word[code]}_protocols subclass protocol }}",
+            "{\n    match (subclass, protocol) {",
+            *name_arms(rows),
+            "        _ => None,\n    }\n}\n",
+        ]
+    return {
+        "classes": list(name_arms(classes)),
+        "subclasses": [f"        0x{code:02x} => {word[code]}_subclass(subclass)," for code in subclasses],
+        "protocols": [f"        0x{code:02x} => {word[code]}_protocol(subclass, protocol)," for code in protocols],
+        "names of each class": "\n".join(functions).rstrip("\n").split("\n"),
+    }
+
+
+def names_defined(comment, kind, of, keys, rows):
+    yield f"-- {comment}"
+    yield f"abbrev pub {of} : List {kind}"
+    yield f"{of} ="
+    for *codes, name in rows:
+        fields = "; ".join(f"{key} = {code}" for key, code in zip(keys, codes))
+        yield f'    record {{ {fields}; name = codes "{name}" }} ∷'
+    yield "    []\n"
+
+
+def by_class(of, lists):
+    """The list of each class, by its code."""
+    yield f"{of} class ="
+    for i, (code, name) in enumerate(lists):
+        yield f"    {'else if' if i else 'if'} class == {code} then {name}"
+    yield "    else []\n"
+
+
+def class_definitions(classes, subclasses, protocols):
+    words = {code: word_of(name) for code, name in classes}
+    title = dict(classes)
+    lines = list(names_defined("classes", "Named", "classes", ["code"], classes))
+    for code, rows in subclasses.items():
+        comment = f"subclasses of class {code}, {title[code]}"
+        lines += names_defined(comment, "Named", f"{words[code]}_subclasses", ["code"], rows)
+    lines += ["-- the subclasses of a class", "abbrev pub subclasses : ℕ → List Named"]
+    lines += by_class("subclasses", [(code, f"{words[code]}_subclasses") for code in subclasses])
+    for code, rows in protocols.items():
+        comment = f"protocols of class {code}, {title[code]}"
+        of = f"{words[code]}_protocols"
+        lines += names_defined(comment, "NamedProtocol", of, ["subclass", "protocol"], rows)
+    lines += ["-- the protocols of a class", "abbrev pub protocols : ℕ → List NamedProtocol"]
+    lines += by_class("protocols", [(code, f"{words[code]}_protocols") for code in protocols])
+    return {"names": "\n".join(lines).split("\n")}
+
+
+# Rows of class descriptors
+
+
+def row_groups():
+    """The rows of each group: its name, its comment, its class, and its rows."""
+    groups = []
+    for line in lines_of("descriptors.txt"):
+        if line.startswith("# "):
+            name, comment = line[2:].split(" - ")
+            groups.append((word_of(name), comment, []))
+            continue
+        head, fields, again = line.split("|")
+        codes, name = head.split()[:5], " ".join(head.split()[5:])
+        groups[-1][2].append((codes, name, fields.split(), again.split()))
+    return groups
+
+
+def field_parts(field):
+    """A field's name, form and width."""
+    name, form = field.split(":")
+    if form == "bcd":
+        return name, "Release", 2
+    return name, {"hex": "Hexadecimal", "dec": "Decimal", "type": "ReportType"}[form[:-1]], int(form[-1])
+
+
+def row_code(codes, name, fields, again):
+    keys = " ".join("_" if code == "--" else f"0x{code}" for code in codes[1:])
+    lists = []
+    for part in (fields, again):
+        each = ('"{}" {} {}'.format(*field_parts(field)) for field in part)
+        lists.append("[" + ", ".join(each) + "]")
+    return f'row!({keys} "{name}" {" ".join(lists)})'
+
+
+def rows_code(groups):
+    lines = []
+    for group, comment, rows in groups:
+        lines += [
+            f"/// {comment[0].upper()}{comment[1:]}.",
+            f"#[tactic(auto, unfolding(crate::specs::Rows::{group}_rows))]",
+            f"pub(crate) fn {group}_rows() -> &'static [ClassDescriptor]",
+            f"    ensures {{ map row_of result.now ≡ tables.{group}_rows }}",
+            "{",
+        ]
+        codes = [row_code(*row) for row in rows]
+        if len(codes) == 1 and len(codes[0]) <= 93:
+            lines.append(f"    &[{codes[0]}]")
+        else:
+            lines += ["    &[", *(f"        {code}," for code in codes), "    ]"]
+        lines.append("}\n")
+    arms = [f"        0x{rows[0][0][0]} => {group}_rows()," for group, _, rows in groups if rows[0][0][0] != "--"]
+    lines += [
+        "/// The rows of a class.",
+        "pub(crate) fn class_rows(class: u8) -> &'static [ClassDescriptor]",
+        "    ensures { map row_of result.now ≡ tables.class_rows class }",
+        "{\n    match class {",
+        *arms,
+        "        _ => &[],\n    }\n}",
+    ]
+    return {"rows": lines}
+
+
+def field_definition(field):
+    name, form, width = field_parts(field)
+    number = {"Release": "release", "ReportType": "report_type"}.get(form, f"{form.lower()} {width}")
+    return f'{number} (codes "{name}")'
+
+
+def wrapped(pieces):
+    """The pieces in lines as wide as they may be."""
+    lines = [""]
+    for piece in pieces:
+        if len(lines[-1]) + len(piece) + 5 > WIDEST:
+            lines.append("")
+        lines[-1] += (" " if lines[-1] else "") + piece
+    return [f"    {line}" for line in lines]
+
+
+def row_definition(codes, name, fields, again):
+    """A row: a line that says what it is known by, and then its fields."""
+    subclass, protocol, kind, first = ("None" if code == "--" else f"(Some {int(code, 16)})" for code in codes[1:])
+    yield f'    row {subclass} {protocol} {kind[6:-1]} {first} (codes "{name}")'
+    pieces = []
+    for part in (fields, again):
+        each = [field_definition(field) + " ∷" for field in part]
+        pieces += [f"({each[0]}", *each[1:], "[])"] if each else ["[]"]
+    yield from wrapped([*pieces[:-1], pieces[-1] + " ∷"])
+
+
+def rows_definitions(groups):
+    lines = []
+    for group, comment, rows in groups:
+        lines += [f"-- {comment}", f"unfoldable pub {group}_rows : List Row", f"{group}_rows ="]
+        for row in rows:
+            lines += row_definition(*row)
+        lines.append("    []\n")
+    lines += ["-- the rows of a class", "abbrev pub class_rows : ℕ → List Row"]
+    lists = [(int(rows[0][0][0], 16), f"{group}_rows") for group, _, rows in groups if rows[0][0][0] != "--"]
+    lines += by_class("class_rows", lists)
+    return {"rows": "\n".join(lines).split("\n")}
+
+
+def write_parts(path, parts):
+    """Writes the parts of a source anew that it marks."""
+    path = os.path.join(HERE, path)
+    with open(path, encoding="utf-8") as source:
+        text = source.read()
+    for name, lines in parts.items():
+        made = re.compile(rf"(\n *(?://|--) made by tables.py: {name}\n).*?(\n *(?://|--) end\n)", re.DOTALL)
+        text, count = made.subn(lambda found: found[1] + "\n".join(lines) + found[2], text)
+        if count != 1:
+            raise SystemExit(f"tables.py: {path}: {count} parts {name}")
+    with open(path, "w", encoding="utf-8") as source:
+        source.write(text)
+
+
+def main():
+    names = class_names()
+    write_parts("src/class.rt", class_code(*names))
+    write_parts("specs/Classes.antt", class_definitions(*names))
+    groups = row_groups()
+    write_parts("src/rows.rt", rows_code(groups))
+    write_parts("specs/Rows.antt", rows_definitions(groups))
+
+
+if __name__ == "__main__":
+    main()
