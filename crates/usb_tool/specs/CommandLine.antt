@@ -15,6 +15,10 @@ use Rattle.usb_tool.specs.declared.enumerate_options.Options.{Options}
 abbrev pub valued_rule : Text → Rule
 valued_rule name = record (new_rule name) { long = Some name }
 
+-- an option with one value, which help calls by what it may be
+abbrev pub chosen_rule : Text → Rule
+chosen_rule name = record (valued_rule name) { value_names = 1 }
+
 -- an option whose value is a number from `least` to `most`
 abbrev pub number_rule : Text → ℕ → ℕ → Rule
 number_rule name least most = record (valued_rule name) { parser = Some (parsers.Signed (pos least) (pos most)) }
@@ -30,7 +34,7 @@ abbrev pub no_places_rule : Rule
 no_places_rule = flag_rule (codes "no-places")
 
 abbrev pub speed_rule : Rule
-speed_rule = valued_rule (codes "speed")
+speed_rule = chosen_rule (codes "speed")
 
 abbrev pub address_rule : Rule
 address_rule = number_rule (codes "address") 1 127
@@ -42,7 +46,7 @@ abbrev pub attempts_rule : Rule
 attempts_rule = number_rule (codes "attempts") 1 8
 
 abbrev pub fates_rule : Rule
-fates_rule = valued_rule (codes "fates")
+fates_rule = chosen_rule (codes "fates")
 
 abbrev pub log_rule : Rule
 log_rule = flag_rule (codes "log")
@@ -57,6 +61,10 @@ enumerate_app =
 abbrev pub explain_app : App
 explain_app = with_rule (with_rule (with_rule (new_app (codes "explain")) brief_rule) no_places_rule) speed_rule
 
+-- a command that prints its version where it is asked for
+abbrev pub versioned : App → App
+versioned a = record a { top = record a.top { has_version = true } }
+
 -- a command that is called by the name of one of its subcommands
 abbrev pub requiring : App → App
 requiring a = record a { top = record a.top { subcommand_required = true } }
@@ -64,7 +72,7 @@ requiring a = record a { top = record a.top { subcommand_required = true } }
 -- the command `usbdesc` with its subcommands
 abbrev pub usbdesc_app : App
 usbdesc_app =
-    with_subcommand (with_subcommand (with_subcommand (with_subcommand (with_subcommand (requiring (new_app (codes "usbdesc")))
+    with_subcommand (with_subcommand (with_subcommand (with_subcommand (with_subcommand (requiring (versioned (new_app (codes "usbdesc"))))
     (new_app (codes "show")).top) (new_app (codes "check")).top) (new_app (codes "build")).top) explain_app.top) enumerate_app.top
 
 -- a subcommand of this name was found

@@ -27,13 +27,13 @@ use Rattle.usb_tool.specs.declared.settings.Settings.{Settings}
 use Rattle.usb_tool.specs.declared.settings.SettingsFault.{SettingsFault}
 use Rattle.usb_tool.specs.declared.settings.SettingsFault.TheVariants.{Speed}
 
--- the exit status of a line that is no command: 0 where it asks for help, else 2
+-- the exit status of a line that is no command: 0 where it asks for help or the version, else 2
 abbrev pub line_status : ErrorKind → ℕ
 line_status kinds.DisplayHelp = 0
 line_status kinds.DisplayVersion = 0
 line_status _ = 2
 
--- what is printed of a line that is no command goes to standard output only where it asks for help
+-- what is printed of a line that is no command goes to standard output only where it asks for help or the version
 abbrev pub KeepsUnlessHelp : ErrorKind → Held → Held → Type 0
 KeepsUnlessHelp kinds.DisplayHelp held holds = Unit {0}
 KeepsUnlessHelp kinds.DisplayVersion held holds = Unit {0}

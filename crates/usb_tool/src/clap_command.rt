@@ -2,12 +2,13 @@
 ghost use Rattle.std.specs.Prelude.{◌≡◌, IfOk, false};
 ghost use Rattle.clap.specs.Words.{app_of, new_app, rule_of, with_rule, with_subcommand};
 ghost use Rattle.clap.specs.declared.builder.Command.TheViews.{out-Command};
-ghost use Rattle.usb_tool.specs.CommandLine.{address_rule, attempts_rule, enumerate_app, explain_app, fates_rule, flag_rule, log_rule, naks_rule, speed_rule, usbdesc_app, valued_rule};
+ghost use Rattle.usb_tool.specs.CommandLine.{address_rule, attempts_rule, chosen_rule, enumerate_app, explain_app, fates_rule, flag_rule, log_rule, naks_rule, speed_rule, usbdesc_app, valued_rule};
 
 use crate::help::{
     ABOUT, ADDRESS_HELP, ATTEMPTS_HELP, BRIEF_HELP, BUILD_ABOUT, BUILD_HELP, CHECK_ABOUT,
-    CHECK_HELP, ENUMERATE_ABOUT, ENUMERATE_HELP, EXPLAIN_ABOUT, EXPLAIN_HELP, FATES_HELP, LOG_HELP,
-    NAKS_HELP, NO_PLACES_HELP, RAN_AT_HELP, SHOW_ABOUT, SHOW_HELP, SPEED_HELP,
+    CHECK_HELP, ENUMERATE_ABOUT, ENUMERATE_HELP, EXPLAIN_ABOUT, EXPLAIN_HELP, FATES, FATES_HELP,
+    LOG_HELP, NAKS_HELP, NO_PLACES_HELP, RAN_AT_HELP, RUNNING_SPEEDS, SHOW_ABOUT, SHOW_HELP,
+    SPEED_HELP, SPEEDS, VERSION,
 };
 use clap::{Arg, ArgAction, Command, value_parser};
 use std::alloc::{AllocError, Global};
@@ -17,6 +18,7 @@ pub(crate) fn usbdesc<'a>(alloc: Global) -> Result<Command<'a>, AllocError>
     ensures { IfOk result (λ c. app_of c ≡ usbdesc_app) }
 {
     let usbdesc = Command::new(alloc, "usbdesc")
+        .version(VERSION)
         .about(ABOUT)
         .subcommand_required(true);
     let usbdesc = add(alloc, usbdesc, "show", SHOW_ABOUT, SHOW_HELP)?;
@@ -94,6 +96,14 @@ fn valued<'a>(alloc: Global, name: &'a str, help: &'a str) -> Arg<'a>
     Arg::new(alloc, name).long(name).help(help)
 }
 
+/// An option of this name, with one value, which help calls by what it may be.
+fn chosen<'a>(alloc: Global, name: &'a str, values: &'a str, help: &'a str) -> Arg<'a>
+    ensures rule { rule_of result ≡ chosen_rule name.entry.now }
+    ensures local { result.global ≡ false }
+{
+    valued(alloc, name, help).value_name(values)
+}
+
 /// An option of this name, without a value.
 fn flag<'a>(alloc: Global, name: &'a str, help: &'a str) -> Arg<'a>
     ensures rule { rule_of result ≡ flag_rule name.entry.now }
@@ -110,7 +120,7 @@ fn ran_at<'a>(alloc: Global) -> Arg<'a>
     ensures rule { rule_of result ≡ speed_rule }
     ensures local { result.global ≡ false }
 {
-    valued(alloc, "speed", RAN_AT_HELP)
+    chosen(alloc, "speed", RUNNING_SPEEDS, RAN_AT_HELP)
 }
 
 /// The speed of the device that is enumerated.
@@ -118,7 +128,7 @@ fn speed<'a>(alloc: Global) -> Arg<'a>
     ensures rule { rule_of result ≡ speed_rule }
     ensures local { result.global ≡ false }
 {
-    valued(alloc, "speed", SPEED_HELP)
+    chosen(alloc, "speed", SPEEDS, SPEED_HELP)
 }
 
 fn address<'a>(alloc: Global) -> Arg<'a>
@@ -146,7 +156,7 @@ fn fates<'a>(alloc: Global) -> Arg<'a>
     ensures rule { rule_of result ≡ fates_rule }
     ensures local { result.global ≡ false }
 {
-    valued(alloc, "fates", FATES_HELP)
+    chosen(alloc, "fates", FATES, FATES_HELP)
 }
 
 /// Whether a log is written.

@@ -3,6 +3,9 @@
 /// What the program does.
 pub(crate) const ABOUT: &str = "Lists, checks, builds, explains and enumerates USB 2.0 descriptors";
 
+/// The version of the program.
+pub(crate) const VERSION: &str = "0.1.0";
+
 /// What `show` does.
 pub(crate) const SHOW_ABOUT: &str =
     "Lists the configuration set, descriptor file or dump on standard input, a line for each descriptor";
@@ -130,9 +133,12 @@ pub(crate) const BRIEF_HELP: &str = "Leaves the fields out";
 /// What `--no-places` says.
 pub(crate) const NO_PLACES_HELP: &str = "Leaves the places out";
 
+/// The values of `--speed` of `explain`.
+pub(crate) const RUNNING_SPEEDS: &str = "low|full|high|super";
+
 /// What `--speed` of `explain` says.
 pub(crate) const RAN_AT_HELP: &str =
-    "Speed at which the device ran: low, full, high or super [default: what the descriptors say]";
+    "Speed at which the device ran [default: what the descriptors say]";
 
 /// What `enumerate` does.
 pub(crate) const ENUMERATE_ABOUT: &str =
@@ -179,8 +185,11 @@ Exit status:
   2  the command line is invalid, or the value of an option is
   3  reading, the input or writing is at fault; standard error says how";
 
+/// The values of `--speed`.
+pub(crate) const SPEEDS: &str = "low|full|high";
+
 /// What `--speed` says.
-pub(crate) const SPEED_HELP: &str = "Speed of the device: low, full or high [default: full]";
+pub(crate) const SPEED_HELP: &str = "Speed of the device [default: full]";
 
 /// What `--address` says.
 pub(crate) const ADDRESS_HELP: &str = "Address that the device gets, 1 to 127 [default: 1]";
@@ -193,9 +202,12 @@ pub(crate) const NAKS_HELP: &str =
 pub(crate) const ATTEMPTS_HELP: &str =
     "Attempts of the host at most, each from a bus reset, 1 to 8 [default: 3]";
 
+/// The values of `--fates`.
+pub(crate) const FATES: &str = "[.ndua]..";
+
 /// What `--fates` says.
 pub(crate) const FATES_HELP: &str =
-    "What the bus does to each transaction, letters of . n d u a [default: none]";
+    "What the bus does to each transaction, a letter for each [default: none]";
 
 /// What `--log` says.
 pub(crate) const LOG_HELP: &str = "Writes a line for each transaction before the result";

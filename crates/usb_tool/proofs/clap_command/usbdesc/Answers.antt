@@ -2,7 +2,7 @@ use Rattle.std.proofs.Common.{◌≡◌, ◌∙◌, ap, ap₂, codes}
 use Rattle.std.proofs.lemmas.Result.{IfOk-weaker}
 use Rattle.clap.specs.Words.{App, app_of, new_app, with_subcommand}
 use Rattle.clap.specs.Simple.{app_of_fields}
-use Rattle.usb_tool.specs.CommandLine.{requiring}
+use Rattle.usb_tool.specs.CommandLine.{requiring, versioned}
 use Rattle.usb_tool.proofs.clap_command.usbdesc.Goals as goal
 
 -- a command with one more subcommand
@@ -11,8 +11,9 @@ with_app a b = with_subcommand a b.top
 
 pub returns : goal.returns
 returns c =
-    let begun : app_of c.subcommand_required-usbdesc.result ≡ requiring (new_app (codes "usbdesc")) =
-    ap app_of_fields c.subcommand_required-usbdesc.ensures ∙ ap requiring (ap app_of_fields c.about.ensures ∙ c.new.ensures.app) in
+    let begun : app_of c.subcommand_required-usbdesc.result ≡ requiring (versioned (new_app (codes "usbdesc"))) =
+    ap app_of_fields c.subcommand_required-usbdesc.ensures ∙ ap requiring (ap app_of_fields c.about.ensures
+    ∙ (ap app_of_fields c.version.ensures ∙ ap versioned c.new.ensures.app)) in
     let shows = c.in_ok-usbdesc.ensures ∙ ap (λ a. with_app a (new_app (codes "show"))) begun in
     let checks = c.in_ok-usbdesc-2.ensures ∙ ap (λ a. with_app a (new_app (codes "check"))) shows in
     let builds = c.in_ok-usbdesc-3.ensures ∙ ap (λ a. with_app a (new_app (codes "build"))) checks in
