@@ -20,7 +20,15 @@ from enumerating import Device, File, Host, enumerate_device, word  # noqa: E402
 
 KINDS = {1: "device", 2: "configuration", 3: "string", 6: "qualifier", 7: "other-speed configuration"}
 ENDS = {0: "complete", NO_ANSWER: "strike 3: no answer", STALLED: "stalled", TOO_LONG: "too long", UNEXPECTED: "unexpected"}
-WIDTHS = [6, 2, 13, 15, 12, 23, 22, 0]
+CAUSES = [
+    "no answer, three times in a row",
+    "busy for longer than the limit",
+    "the device stalled the request",
+    "more bytes than were asked for",
+    "an answer that cannot follow",
+    "not what was asked for",
+]
+WIDTHS = [6, 2, 13, 15, 12, 23, 22, 9, 0]
 NAMES = """let HID = 09022200010100a032+090400000103010200+092110010001223400+0705810304000a
 let MOUSE = 120110010000004034127856000100000001+HID
 let STEP = d+64*n+.
@@ -95,8 +103,11 @@ class Log:
         host.take(heard)
         sent = f"> {token[0].upper()}" + " lost" * (fate == "d")
         has = self.host(transfer, before, heard, ends[0])
-        columns = [str(host.transactions), fate, sent, *self.answer(reply, fate), has, self.device(device), self.data(reply)]
+        columns = [str(host.transactions), fate, sent, *self.answer(reply, fate), has, self.device(device), *self.data(reply)]
         self.lines.append("  " + "".join(f"{it:<{width}}" for it, width in zip(columns, WIDTHS)).rstrip())
+        number = ends[0] if host.due == "reset" else host.outcome
+        if number:
+            self.lines.append(f"attempt {host.resets} given up: {CAUSES[number - 1]}")
 
     def answer(self, reply, fate):
         if reply == "silence":
@@ -107,7 +118,9 @@ class Log:
         return f"< DATA{int(reply[0])}" + " lost" * (fate == "u"), ack
 
     def data(self, reply):
-        return (reply[1].hex() or "-") if isinstance(reply, tuple) else ""
+        if not isinstance(reply, tuple):
+            return "", ""
+        return f"{len(reply[1])} byte{'s' * (len(reply[1]) != 1)}", reply[1].hex() or "-"
 
     def host(self, transfer, before, heard, end):
         got, strikes, naks = before

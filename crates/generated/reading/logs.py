@@ -10,6 +10,14 @@ from enumerating import BUSY, MALFORMED, NO_ANSWER, STALLED, TOO_LONG, UNEXPECTE
 
 KINDS = {1: "device", 2: "configuration", 3: "string", 6: "qualifier", 7: "other-speed configuration"}
 WIDTHS = [6, 2, 13, 15, 12, 23, 22]
+MESSAGES = {
+    NO_ANSWER: "no answer, three times in a row",
+    BUSY: "busy for longer than the limit",
+    STALLED: "the device stalled the request",
+    TOO_LONG: "more bytes than were asked for",
+    UNEXPECTED: "an answer that cannot follow",
+    MALFORMED: "not what was asked for",
+}
 
 
 def request(setup):
@@ -55,15 +63,12 @@ def going_words(before, after, came):
     return f"strike {after.strikes}"
 
 
-def host_words(host, before, came):
-    """What the host has, after it has taken what came."""
-    after = copy.copy(before)
-    why = after.take(came)
-    host.take(came)
+def host_words(before, after, came, why, outcome):
+    """What the host has, after it has taken what came: why its transfer has ended, and how the enumeration."""
     if why is None:
         return going_words(before, after, came)
     if why == 0:
-        return "complete: malformed" if host.outcome == MALFORMED else "complete"
+        return "complete: malformed" if outcome == MALFORMED else "complete"
     busy = f"NAK {after.naks}: busy"
     return {NO_ANSWER: "strike 3: no answer", BUSY: busy, STALLED: "stalled", TOO_LONG: "too long", UNEXPECTED: "unexpected"}[why]
 
@@ -73,8 +78,14 @@ def device_words(device):
     return f"{device.address}/{device.selected} {stage}"
 
 
-def transaction_line(device, host, number, fate):
-    """One transaction, and its line."""
+def data_words(packet):
+    """How many bytes a data packet has, and the bytes."""
+    count = "1 byte" if len(packet) == 1 else f"{len(packet)} bytes"
+    return f"{count.ljust(8)} {packet.hex() or '-'}"
+
+
+def transaction_lines(device, host, number, fate):
+    """One transaction: its line, and another one where the attempt is given up."""
     before = copy.copy(host.transfer)
     token = before.token()
     answer = "silence" if fate == "d" else device.serve(before.address, token, fate != "n")
@@ -84,10 +95,15 @@ def transaction_line(device, host, number, fate):
     acknowledged = marked("> ACK" if has_data(came) else "", fate == "a")
     sent = marked(f"> {token[0].upper()}", fate == "d")
     columns = [str(number), fate, sent, marked(answer_words(answer), fate == "u"), acknowledged]
-    columns += [host_words(host, before, came), device_words(device)]
-    data = (answer[1].hex() or "-") if has_data(answer) else ""
+    after = copy.copy(before)
+    why = after.take(came)
+    host.take(came)
+    columns += [host_words(before, after, came, why, host.outcome), device_words(device)]
+    data = data_words(answer[1]) if has_data(answer) else ""
     filled = "".join(words.ljust(width - 1) + " " for words, width in zip(columns, WIDTHS))
-    return ("  " + filled + data).rstrip() + "\n"
+    cause = why if host.due == "reset" else host.outcome
+    given_up = f"attempt {host.resets} given up: {MESSAGES[cause]}\n" if cause else ""
+    return ("  " + filled + data).rstrip() + "\n" + given_up
 
 
 def steps(device, host, fates):
@@ -103,4 +119,4 @@ def steps(device, host, fates):
         begun = host.transfer
         fate = fates[number] if number < len(fates) else "."
         number += 1
-        yield line + transaction_line(device, host, number, fate)
+        yield line + transaction_lines(device, host, number, fate)

@@ -64,9 +64,9 @@ HasCause limits used attempts why =
 pub record EndsWell (f : DescriptorFile) (limits : LimitView) (fates : List Fate) (run : Run) : Type 0 where
   -- a success has read the descriptors, and the device is configured
   pub reads : IfOk run.outcome (HasReadAll f limits.address run.state)
-  -- there are at most this many transactions
+  -- there are at most so many transactions
   pub few : run.transactions ≤ most limits
-  -- and as many attempts as the limits allow
+  -- and at most as many attempts as the limits allow
   pub attempts : run.attempts ≤ limits.attempts
   -- any other end has a cause
   pub cause : IfErr run.outcome (λ trouble. HasCause limits (fates_used fates run.transactions) run.attempts trouble.why)

@@ -1,5 +1,5 @@
 -- The lines of a log.
-use Rattle.std.specs.Prelude.{ℕ, suc, List, [], ◌∷◌, ◌++◌, Bool, true, false, Option, Some, None, codes}
+use Rattle.std.specs.Prelude.{ℕ, suc, List, [], ◌∷◌, ◌++◌, ◌==◌, length, if◌then◌else◌, Bool, true, false, Option, Some, None, codes}
 use Rattle.std.specs.Fmt.{decimal}
 use Rattle.hex.specs.Hex.{encode_lower}
 use Rattle.usb_fields.specs.Packet.{Token, SetupToken, InToken, OutToken, Sent, Reply, AckReply, NakReply, StallReply, DataReply, NoReply}
@@ -7,8 +7,10 @@ use Rattle.usb_fields.specs.Setup.{setup_bytes}
 use Rattle.usb_fields.specs.declared.packet.Toggle.{Toggle}
 use Rattle.usb_fields.specs.declared.packet.Toggle.TheVariants.{Data0, Data1}
 use Rattle.usb_words.specs.Columns.{column}
+use Rattle.usb_words.specs.Numbers.{count}
 use Rattle.usb_transfer.specs.declared.why.Why.{Why}
 use Rattle.usb_transfer.specs.declared.why.Why.TheVariants.{NoAnswer, Busy, Stalled, TooLong, Unexpected, Malformed, Memory}
+use Rattle.usb_transfer.specs.Why.{why_message}
 use Rattle.usb_transfer.specs.Transfer.{TransferView, Hearing, Goes, Brings, Completes, Fails, due}
 use Rattle.usb_device.specs.declared.stage.Stage.{Stage}
 use Rattle.usb_device.specs.declared.stage.Stage.TheVariants as stages
@@ -135,12 +137,27 @@ device_words packet d =
     decimal d.state.address ++ codes "/" ++ decimal d.state.selected ++ codes " "
     ++ stage_words (stage_kind d.stage) (acknowledged packet d.stage)
 
--- the bytes of a data packet
+-- a data packet: how many bytes it has, and the bytes
 abbrev pub bytes_words : List ℕ → List ℕ
 bytes_words [] = codes "-"
 bytes_words (byte ∷ bytes) = encode_lower (byte ∷ bytes)
 
--- what the device has, and behind it the data packet that it has sent, if it has
-abbrev pub device_part : List ℕ → Reply → List ℕ
-device_part words (DataReply toggle bytes) = column 22 words ++ bytes_words bytes
-device_part words reply = words
+abbrev pub packet_words : List ℕ → List ℕ
+packet_words bytes = column 9 (count (length bytes) (codes "byte")) ++ bytes_words bytes
+
+-- the data packet that the device has answered, if it has
+abbrev pub data_words : Reply → List ℕ
+data_words (DataReply toggle bytes) = packet_words bytes
+data_words reply = []
+
+-- what the device has, and after it the data packet, if there is one
+abbrev pub device_part : List ℕ → List ℕ → List ℕ
+device_part words packet = if length packet == 0 then words else column 22 words ++ packet
+
+-- an attempt is given up, for this reason
+unfoldable pub given_up_line : ℕ → Why → List ℕ
+given_up_line attempt why = numbered (codes "attempt ") attempt ++ codes " given up: " ++ why_message why ++ codes "\n"
+
+abbrev pub given_up_part : ℕ → Option Why → List ℕ
+given_up_part attempt None = []
+given_up_part attempt (Some why) = given_up_line attempt why

@@ -14,13 +14,13 @@ use Rattle.usb_transfer.specs.Transfer.{TransferView, due, is_untried, taken}
 use Rattle.usb_bus.specs.declared.fate.Fate.{Fate}
 use Rattle.usb_bus.specs.Run.{fate_at}
 use Rattle.usb_host.specs.declared.step.Step.{Step}
-use Rattle.usb_host.specs.Steps.{Wanted, WantsNothing, WantsReset, WantsSent, outcome_of, step_in, transfer_in, wanted}
+use Rattle.usb_host.specs.Steps.{HostPhase, Wanted, WantsNothing, WantsReset, WantsSent, outcome_of, step_in, transfer_in, wanted}
 use Rattle.usb_enumeration.specs.declared.run.Run.{Run}
 use Rattle.usb_enumeration.specs.Run.{Pair, Runs, new_pair}
 use Rattle.usb_enumeration.specs.Stepping.{Moves}
 use Rattle.usb_bus.specs.Bus.{brought}
-use Rattle.usb_enumeration.specs.Exchanges.{answered_in, trouble_why}
-use Rattle.usb_enumeration.specs.Lines.{device_part, device_words, host_words, packets_part, reset_line, transfer_line}
+use Rattle.usb_enumeration.specs.Exchanges.{answered_in, cause_of, trouble_why}
+use Rattle.usb_enumeration.specs.Lines.{data_words, device_part, device_words, given_up_part, host_words, packets_part, reset_line, transfer_line}
 
 -- the line of a transfer, before its first transaction
 abbrev pub transfer_part : Step → TransferView → List ℕ
@@ -31,17 +31,23 @@ transfer_part step t = if is_untried t.stage t.strikes then transfer_line step t
 abbrev pub host_part : TransferView → Reply → Option Why → List ℕ
 host_part t reply why = column 23 (host_words (taken t reply).transfer reply (taken t reply).heard why)
 
--- The line of a transaction: its packets, what the host has then, and what the device has. This was the host's transfer
--- before it, this the device's answer, and so both ends are after it; the device's packets have this size.
-unfoldable pub exchange_line : ℕ → ℕ → Fate → TransferView → Reply → Pair → List ℕ
-exchange_line packet number fate t answer after =
-    packets_part number fate (due t) answer
-    ++ host_part t (brought fate answer) (trouble_why (outcome_of after.host.phase))
-    ++ device_part (device_words packet after.device) answer ++ codes "\n"
+-- what of a transaction's line is known once the host is so: its packets, and what the host has then
+abbrev pub answered_part : ℕ → Fate → TransferView → Reply → HostPhase → List ℕ
+answered_part number fate t answer phase =
+    packets_part number fate (due t) answer ++ host_part t (brought fate answer) (trouble_why (outcome_of phase))
+
+-- The line of a transaction: its packets, what the host has then, what the device has, and its data packet; and another line
+-- where the attempt is given up. This was the host's transfer before it, this the device's answer, and so both ends are after
+-- it; the device's packets have this size.
+unfoldable pub exchange_lines : ℕ → ℕ → Fate → TransferView → Reply → Pair → List ℕ
+exchange_lines packet number fate t answer after =
+    answered_part number fate t answer after.host.phase
+    ++ device_part (device_words packet after.device) (data_words answer) ++ codes "\n"
+    ++ given_up_part after.host.resets (cause_of t (brought fate answer) after.host.phase)
 
 -- The lines of a step: a transaction where a transfer is in work, with this answer, and else a bus reset.
 abbrev pub lines_with : ℕ → ℕ → Fate → Option Step → Option TransferView → Reply → Pair → List ℕ
-lines_with packet number fate (Some step) (Some t) answer after = transfer_part step t ++ exchange_line packet number fate t answer after
+lines_with packet number fate (Some step) (Some t) answer after = transfer_part step t ++ exchange_lines packet number fate t answer after
 lines_with packet number fate step transfer answer after = reset_line after.host.resets
 
 -- the same of a step from one pair to the next, after which there were so many transactions
@@ -58,7 +64,8 @@ count_before (WantsSent sent) n = n - 1
 count_before WantsNothing n = n
 
 -- The log of a run of n transactions over these pairs, the newest first, up to the last one: a line for each reset and each
--- transaction, in their order, and before the first transaction of a transfer a line of that.
+-- transaction, in their order, before the first transaction of a transfer a line of that, and after the last one of an attempt
+-- that is given up a line of that.
 unfoldable pub log_text : DescriptorFile → List Fate → List Pair → ℕ → Pair → List ℕ
 log_text f fates [] n last = []
 log_text f fates (x ∷ earlier) n last =
@@ -80,7 +87,7 @@ pub record WritesLog (f : DescriptorFile) (speed : Speed) (limits : LimitView) (
   pub of_run : IsLogOf f speed limits fates run log
   pub written : Appends held holds log
 
--- what was written of lines: a front, which lacks at least their last byte, and nothing where memory was wanting for them
+-- what was written of lines: a prefix, which lacks at least their last byte, and nothing where memory was wanting for them
 abbrev pub CutsOff : OutFault → Held → Held → List ℕ → Type 0
 CutsOff outs.Write held holds lines = AppendsLess held holds lines
 CutsOff outs.Memory held holds lines = Keeps held holds

@@ -24,7 +24,7 @@ unfoldable pub descriptor_words : ℕ → ℕ → ℕ → List ℕ
 descriptor_words kind index language =
     kind_words kind ++ codes " " ++ decimal index ++ language_words kind index language
 
--- words, and a number behind them
+-- words, and a number after them
 unfoldable pub numbered : List ℕ → ℕ → List ℕ
 numbered words n = words ++ decimal n
 

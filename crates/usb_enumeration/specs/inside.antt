@@ -8,3 +8,4 @@ pub mod Following
 pub mod Described
 pub mod Laws
 pub mod Walking
+pub mod Seeing

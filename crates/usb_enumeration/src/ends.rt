@@ -3,16 +3,16 @@ ghost use Rattle.std.specs.Prelude.{◌≡◌, ◌++◌, codes, OnOk};
 ghost use Rattle.usb_fields.specs.Packet.{reply_of};
 ghost use Rattle.usb_words.specs.Columns.{column};
 ghost use Rattle.usb_transfer.specs.Heard.{heard_of};
-ghost use Rattle.usb_host.specs.Steps.{outcome_of};
-ghost use Rattle.usb_enumeration.specs.Exchanges.{trouble_why};
-ghost use Rattle.usb_enumeration.specs.Lines.{bytes_words, device_part, device_words, failure_words, going_words, heard_words, host_words, stage_words, strike_words};
+ghost use Rattle.usb_host.specs.Steps.{outcome_of, wanted};
+ghost use Rattle.usb_enumeration.specs.Exchanges.{given_up, trouble_why};
+ghost use Rattle.usb_enumeration.specs.Lines.{bytes_words, data_words, device_part, device_words, failure_words, going_words, heard_words, host_words, packet_words, stage_words, strike_words};
 
 use std::alloc::AllocError;
 use usb_device::{Device, DeviceStage};
 use usb_fields::Answer;
-use usb_host::Host;
+use usb_host::{Action, Host};
 use usb_transfer::{Heard, Transfer, Why};
-use usb_words::Text;
+use usb_words::{Text, put_count};
 
 /// Why a host has ended without success, if it has.
 pub(crate) fn trouble_of(host: &Host) -> Option<Why>
@@ -130,23 +130,34 @@ fn put_failure(text: &mut Text, transfer: &Transfer, why: Why) -> Result<(), All
     }
 }
 
-/// Puts what the device has, and after it the data packet that it has answered, if it has.
+/// Why an attempt is given up, if it is: its transfer has heard this, and the host has ended for this reason, if it has.
+pub(crate) fn cause(heard: Heard<'_>, host: &Host, trouble: Option<Why>) -> Option<Why>
+    ensures { result ≡ given_up (heard_of heard.entry) (wanted host.now.phase) trouble }
+{
+    match heard {
+        Heard::Failed(why) => match host.next() {
+            Action::Reset => Some(why),
+            _ => trouble,
+        },
+        _ => trouble,
+    }
+}
+
+/// Puts what the device has, and after it this packet, if there is one.
 pub(crate) fn put_device(
     text: &mut Text,
     device: &Device<'_>,
-    answer: Answer<'_>,
+    packet: &Text,
 ) -> Result<(), AllocError>
-    ensures { OnOk result (text.new ≡ text.old ++ device_part (device_words device.now.description.file.device.packet device.now.device) (reply_of answer.entry)) }
+    ensures { OnOk result (text.new ≡ text.old ++ device_part (device_words device.now.description.file.device.packet device.now.device) packet.now) }
 {
     let start = text.len();
     put_device_words(text, device)?;
-    match answer {
-        Answer::Data(_, bytes) => {
-            text.fill(start, 22)?;
-            put_bytes(text, bytes)
-        }
-        _ => Ok(()),
+    if packet.is_empty() {
+        return Ok(());
     }
+    text.fill(start, 22)?;
+    text.put_bytes(packet.as_bytes())
 }
 
 #[tactic(auto, unfolding(crate::specs::Lines::device_words))]
@@ -175,6 +186,25 @@ fn put_stage(text: &mut Text, stage: DeviceStage, sent: usize) -> Result<(), All
         DeviceStage::Over => text.put("over"),
         DeviceStage::StatusIn => text.put("status in"),
     }
+}
+
+/// Puts the data packet that was answered, if one was.
+pub(crate) fn put_data(text: &mut Text, answer: Answer<'_>) -> Result<(), AllocError>
+    ensures { OnOk result (text.new ≡ text.old ++ data_words (reply_of answer.entry)) }
+{
+    match answer {
+        Answer::Data(_, bytes) => put_packet(text, bytes),
+        _ => Ok(()),
+    }
+}
+
+fn put_packet(text: &mut Text, bytes: &[u8]) -> Result<(), AllocError>
+    ensures { OnOk result (text.new ≡ text.old ++ packet_words bytes.now) }
+{
+    let start = text.len();
+    put_count(text, bytes.len() as u64, "byte")?;
+    text.fill(start, 9)?;
+    put_bytes(text, bytes)
 }
 
 fn put_bytes(text: &mut Text, bytes: &[u8]) -> Result<(), AllocError>

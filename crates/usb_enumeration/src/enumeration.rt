@@ -51,7 +51,8 @@ pub fn step(
     step_seen(host, device, fates, transactions, &mut Nobody)
 }
 
-/// The same [`step`], with an observer, who sees what the device answers where the step is a transaction.
+/// The same [`step`], with an observer, who sees what the device answers where the step is a transaction, and the host
+/// that has taken what came of it.
 #[tactic(auto, using(crate::proofs::EnumerateLemmas::take_falls, crate::proofs::EnumerateLemmas::reset_falls))]
 pub fn step_seen<O: Observer>(
     host: &mut Host,
@@ -66,7 +67,7 @@ pub fn step_seen<O: Observer>(
     ensures falls { IfSome result (λ now. measure host.new < measure host.old) }
     ensures ended { IsNone result → IsSome (outcome_of host.new.phase) × (both host.new device.new.device ≡ both host.old device.old.device) }
     ensures description { device.new.description ≡ device.old.description }
-    ensures seen { (sent : Sent) → wanted host.old.phase ≡ WantsSent sent → O.sees observer.old (answered device.old.description.file device.old.device sent (fate_at fates.now transactions)) observer.new }
+    ensures seen { (sent : Sent) → wanted host.old.phase ≡ WantsSent sent → O.sees observer.old (answered device.old.description.file device.old.device sent (fate_at fates.now transactions)) host.new observer.new }
 {
     match host.next() {
         Action::Reset => {

@@ -27,7 +27,6 @@ mod observer;
 mod packets;
 mod request;
 mod run;
-mod seen;
 mod step_lines;
 mod steps;
 

@@ -1,13 +1,14 @@
-//! The lines of a step.
-ghost use Rattle.std.specs.Prelude.{◌≡◌, ◌++◌, OnOk};
+//! The lines of a step, part by part.
+ghost use Rattle.std.specs.Prelude.{◌≡◌, ◌++◌, codes, IfOk, OnOk};
 ghost use Rattle.usb_fields.specs.Packet.{reply_of};
 ghost use Rattle.usb_transfer.specs.Transfer.{sent_by};
 ghost use Rattle.usb_host.specs.Steps.{step_in, transfer_in};
-ghost use Rattle.usb_enumeration.specs.Stepping.{both};
-ghost use Rattle.usb_enumeration.specs.Lines.{address_words, reset_line, transfer_line};
-ghost use Rattle.usb_enumeration.specs.Log.{exchange_line, lines_with, transfer_part};
+ghost use Rattle.usb_bus.specs.Bus.{brought};
+ghost use Rattle.usb_enumeration.specs.Exchanges.{cause_of};
+ghost use Rattle.usb_enumeration.specs.Lines.{address_words, device_part, device_words, given_up_line, given_up_part, reset_line, transfer_line};
+ghost use Rattle.usb_enumeration.specs.Log.{answered_part, transfer_part};
 
-use crate::ends::{put_device, put_host, trouble_of};
+use crate::ends::{cause, put_device, put_host, trouble_of};
 use crate::packets::put_packets;
 use crate::request::{put_numbered, put_request};
 use std::alloc::{AllocError, Global};
@@ -15,7 +16,7 @@ use usb_bus::Fate;
 use usb_device::Device;
 use usb_fields::{Answer, Transaction};
 use usb_host::{Host, Step};
-use usb_transfer::Transfer;
+use usb_transfer::{Transfer, Why};
 use usb_words::Text;
 
 /// Which transaction it is, counted from 1, and what the bus does to it.
@@ -45,29 +46,9 @@ impl Before {
     }
 }
 
-/// Puts the lines of a step, after which the ends are these: with this answer, where it is a transaction.
-pub(crate) fn put_step(
-    alloc: Global,
-    text: &mut Text,
-    before: Before,
-    answer: Answer<'_>,
-    host: &Host,
-    device: &Device<'_>,
-    turn: Turn,
-) -> Result<(), AllocError>
-    ensures { OnOk result (text.new ≡ text.old ++ lines_with device.now.description.file.device.packet turn.number turn.fate before.step before.transfer (reply_of answer.entry) (both host.now device.now.device)) }
-{
-    match (before.step, before.transfer) {
-        (Some(step), Some(transfer)) => {
-            put_transfer(alloc, text, step, &transfer)?;
-            put_exchange(text, turn, transfer, answer, host, device)
-        }
-        _ => put_reset(text, u64::from(host.attempts())),
-    }
-}
-
+/// Puts the line of a reset.
 #[tactic(auto, unfolding(crate::specs::Lines::reset_line))]
-fn put_reset(text: &mut Text, attempt: u64) -> Result<(), AllocError>
+pub(crate) fn put_reset(text: &mut Text, attempt: u64) -> Result<(), AllocError>
     ensures { OnOk result (text.new ≡ text.old ++ reset_line attempt) }
 {
     put_numbered(text, "attempt ", attempt)?;
@@ -119,23 +100,57 @@ fn put_address(text: &mut Text, sent: Option<Transaction<'static>>) -> Result<()
     }
 }
 
-/// Puts the line of a transaction with this answer, before which the transfer was this one.
-#[tactic(auto, unfolding(crate::specs::Log::exchange_line))]
-fn put_exchange(
+/// Puts what is known of a transaction once the host has taken what came of this answer: the line of its transfer before the
+/// first one, its packets, and what the host has. Answers why the attempt is given up, if it is.
+pub(crate) fn put_answered(
+    alloc: Global,
     text: &mut Text,
-    turn: Turn,
+    step: Step,
     transfer: Transfer,
+    turn: Turn,
     answer: Answer<'_>,
     host: &Host,
-    device: &Device<'_>,
-) -> Result<(), AllocError>
-    ensures { OnOk result (text.new ≡ text.old ++ exchange_line device.now.description.file.device.packet turn.number turn.fate transfer (reply_of answer.entry) (both host.now device.now.device)) }
+) -> Result<Option<Why>, AllocError>
+    ensures lines { OnOk result (text.new ≡ text.old ++ transfer_part step transfer ++ answered_part turn.number turn.fate transfer (reply_of answer.entry) host.now.phase) }
+    ensures cause { IfOk result (λ why. why ≡ cause_of transfer (brought turn.fate (reply_of answer.entry)) host.now.phase) }
 {
+    put_transfer(alloc, text, step, &transfer)?;
+    put_packets(text, turn, transfer.next(), answer)?;
     let came = turn.fate.brought(answer);
     let mut after = transfer;
     let heard = after.take(came);
-    put_packets(text, turn, transfer.next(), answer)?;
-    put_host(text, &after, came, heard, trouble_of(host))?;
-    put_device(text, device, answer)?;
+    let trouble = trouble_of(host);
+    put_host(text, &after, came, heard, trouble)?;
+    Ok(cause(heard, host, trouble))
+}
+
+/// Puts the rest of the lines of a transaction: what the device has, this packet, if there is one, and for which reason the
+/// attempt is given up, if it is.
+pub(crate) fn put_done(
+    alloc: Global,
+    text: &mut Text,
+    packet: &Text,
+    why: Option<Why>,
+    host: &Host,
+    device: &Device<'_>,
+) -> Result<(), AllocError>
+    ensures { OnOk result (text.new ≡ text.old ++ device_part (device_words device.now.description.file.device.packet device.now.device) packet.now ++ codes "\n" ++ given_up_part host.now.resets why) }
+{
+    put_device(text, device, packet)?;
+    text.put("\n")?;
+    match why {
+        None => Ok(()),
+        Some(why) => put_given_up(alloc, text, u64::from(host.attempts()), why),
+    }
+}
+
+#[tactic(auto, unfolding(crate::specs::Lines::given_up_line))]
+fn put_given_up(alloc: Global, text: &mut Text, attempt: u64, why: Why) -> Result<(), AllocError>
+    ensures { OnOk result (text.new ≡ text.old ++ given_up_line attempt why) }
+{
+    let why = why.to_string(alloc)?;
+    put_numbered(text, "attempt ", attempt)?;
+    text.put(" given up: ")?;
+    text.put(&why)?;
     text.put("\n")
 }

@@ -14,7 +14,7 @@ use usb_device::{Description, Device};
 use usb_host::Host;
 use usb_transfer::Limits;
 
-/// Makes the steps of an enumeration, and does something to a `W` beside each.
+/// Makes the steps of an enumeration, and does something to a `W` at each.
 pub(crate) trait Steps<W> {
     ghost use Rattle.std.specs.Prelude.{◌≡◌, ◌<◌, ◌≤◌, ◌+◌, ◌^◌, ℕ, List, IfErr, IfOk, IfSome, IsNone, IsSome};
     ghost use Rattle.usb_file_data.specs.declared.file.DescriptorFile.{DescriptorFile};
@@ -27,11 +27,11 @@ pub(crate) trait Steps<W> {
     /// Why a step may end the enumeration.
     type Fault;
 
-    /// What is done beside a step from one pair to the next, after which there were so many transactions: the `W` was
+    /// What is done at a step from one pair to the next, after which there were so many transactions: the `W` was
     /// this, and is that then.
     ghost does: { DescriptorFile → List Fate → Pair → Pair → ℕ → W → W → Type 0 };
 
-    /// What is done beside a step that ends the enumeration for this reason.
+    /// What is done at a step that ends the enumeration for this reason.
     ghost breaks: { DescriptorFile → List Fate → Pair → Pair → ℕ → W → W → Self.Fault → Type 0 };
 
     /// One [`step`].
@@ -53,7 +53,7 @@ pub(crate) trait Steps<W> {
         ensures breaks { IfErr result (λ fault. (now : ℕ) × Moves device.old.description.file fates.now (both host.old device.old.device) transactions (both host.new device.new.device) now × breaks device.old.description.file fates.now (both host.old device.old.device) (both host.new device.new.device) now w.old w.new fault) };
 }
 
-/// Nothing is done beside.
+/// Nothing is done at a step.
 impl Steps<()> for Nobody {
     type Fault = Infallible;
 

@@ -1,7 +1,6 @@
 -- What holds of a read in work still holds of the one that an answer leads to.
-use Rattle.std.proofs.Common.{◌≡◌, ℕ, ◌+◌, ◌<◌, ◌≤◌, ◌&&◌, Bool, true, false, if◌then◌else◌, nat_lt, length, refl, ap, sym, ◌∙◌, arith, subst, length-append}
+use Rattle.std.proofs.Common.{◌≡◌, ℕ, ◌+◌, ◌<◌, ◌≤◌, ◌&&◌, Bool, false, if◌then◌else◌, nat_lt, length, refl, ap, sym, ◌∙◌, arith, subst, length-append}
 use Rattle.std.specs.Prelude.{Some, None, IsSome, Result}
-use Rattle.std.proofs.lemmas.Bool.Decides.{nat_tests}
 use Rattle.usb_fields.specs.Packet.{Reply as Answer}
 use Rattle.usb_fields.specs.declared.speed.Speed.{Speed}
 use Rattle.usb_set.specs.declared.fault.SetFault.{SetFault}
@@ -134,23 +133,6 @@ settles attempts resets (Text f s named) t k = refl
 settles attempts resets (Configure f) t k = refl
 settles attempts resets (Reported f) t k = refl
 settles attempts resets (Stopped trouble) t k = refl
-
--- what holds of the phase then
-pub phase_holds : (attempts resets : ℕ) (place : Place) (t : TransferView) (k : Kept) → IsStanding (standing place t k) →
-    IsPhase attempts resets (phase_in (is_bus_trouble place && nat_lt resets attempts) place t k)
-phase_holds attempts resets place t k stands = by_test (is_bus_trouble place && nat_lt resets attempts) (left_over (is_bus_trouble place))
-  where
-    left_over : (b : Bool) → (b && nat_lt resets attempts) ≡ true → resets < attempts
-    left_over true e = grind (arith, nat_tests)
-    left_over false e = cc
-
-    by_end : (b : Bool) → IsStanding (if b then Ended place else Reading place t k) → IsPhase attempts resets (if b then Ended place else Reading place t k)
-    by_end true s = tt
-    by_end false s = s
-
-    by_test : (b : Bool) → (b ≡ true → resets < attempts) → IsPhase attempts resets (phase_in b place t k)
-    by_test true below = below refl
-    by_test false below = by_end (is_end place) stands
 
 -- ---- a whole host
 

@@ -38,7 +38,7 @@ pub struct Draft {
 
 impl Draft {
     /// With nothing read.
-    pub fn new(alloc: Global) -> Draft {
+    pub(crate) fn new(alloc: Global) -> Draft {
         Draft {
             file: new_file(alloc, NO_DEVICE),
             strings: no_strings(alloc),
@@ -48,7 +48,7 @@ impl Draft {
 }
 
 /// The file of which the device descriptor alone was read.
-pub fn new_file(alloc: Global, device: DeviceDescriptor) -> DescriptorFile
+pub(crate) fn new_file(alloc: Global, device: DeviceDescriptor) -> DescriptorFile
     ensures { result ≡ record { device = device; sets = []; other = None; strings = None } }
 {
     DescriptorFile {
@@ -60,7 +60,7 @@ pub fn new_file(alloc: Global, device: DeviceDescriptor) -> DescriptorFile
 }
 
 /// Without languages.
-pub fn no_strings(alloc: Global) -> Strings {
+pub(crate) fn no_strings(alloc: Global) -> Strings {
     Strings {
         languages: Sequence::new(alloc),
         texts: Sequence::new(alloc),
@@ -68,7 +68,7 @@ pub fn no_strings(alloc: Global) -> Strings {
 }
 
 /// The index of the next set of this kind, of those that the device declares.
-pub fn index_of(kind: SetKind, file: &DescriptorFile) -> u8
+pub(crate) fn index_of(kind: SetKind, file: &DescriptorFile) -> u8
     requires { length (sets_of kind file.now) < declared_sets kind file.now }
     ensures { result ≡ length (sets_of kind file.now) }
 {
@@ -78,7 +78,7 @@ pub fn index_of(kind: SetKind, file: &DescriptorFile) -> u8
 
 /// The index of the next string, of those that are due.
 #[tactic(auto, using(crate::proofs::PlaceLemmas::column_below))]
-pub fn index_due(strings: &Strings, named: &[u8]) -> u8
+pub(crate) fn index_due(strings: &Strings, named: &[u8]) -> u8
     requires { length strings.now.texts < length strings.now.languages * length named.now }
     ensures { result ≡ index_after named.now (length strings.now.texts) }
 {
@@ -87,7 +87,7 @@ pub fn index_due(strings: &Strings, named: &[u8]) -> u8
 
 /// The language of the next string, of those that are due.
 #[tactic(auto, using(crate::proofs::PlaceLemmas::row_below))]
-pub fn language_due(strings: &Strings, named: &[u8]) -> u16
+pub(crate) fn language_due(strings: &Strings, named: &[u8]) -> u16
     requires { length strings.now.texts < length strings.now.languages * length named.now }
     ensures { result ≡ language_after strings.now.languages named.now (length strings.now.texts) }
 {

@@ -72,7 +72,7 @@ impl Held {
     }
 
     /// The set that was read, where no byte came after its end.
-    pub fn take_set(&mut self, alloc: Global) -> Option<Configuration>
+    pub(crate) fn take_set(&mut self, alloc: Global) -> Option<Configuration>
         ensures { result ≡ set_kept self.old.decoder self.old.over }
     {
         let decoder = mem::replace(&mut self.decoder, Decoder::new(alloc));

@@ -18,7 +18,7 @@ impl Model for KeptBytes {
 
 impl KeptBytes {
     /// No byte.
-    pub fn new() -> KeptBytes
+    pub(crate) fn new() -> KeptBytes
         ensures { result ≡ [] }
     {
         KeptBytes {
@@ -27,21 +27,21 @@ impl KeptBytes {
     }
 
     /// Lets all bytes go.
-    pub fn clear(&mut self)
+    pub(crate) fn clear(&mut self)
         ensures { self.new ≡ [] }
     {
         self.bytes.clear();
     }
 
     /// The bytes.
-    pub fn as_slice(&self) -> &[u8]
+    pub(crate) fn as_slice(&self) -> &[u8]
         ensures { result.now ≡ self.now }
     {
         self.bytes.as_slice()
     }
 
     /// Adds new bytes. With those that are there they are at most 255.
-    pub fn add(&mut self, bytes: &[u8])
+    pub(crate) fn add(&mut self, bytes: &[u8])
         requires { length self.old + length bytes.now ≤ 255 }
         ensures { self.new ≡ self.old ++ bytes.now }
     {

@@ -13,7 +13,7 @@ use usb_file_data::NoMemory;
 use usb_set::SetKind;
 
 /// The first bytes of a device descriptor.
-pub fn first_in(speed: Speed, bytes: &[u8]) -> Option<[u8; 8]>
+pub(crate) fn first_in(speed: Speed, bytes: &[u8]) -> Option<[u8; 8]>
     ensures { result ≡ if is_first speed bytes.now then Some bytes.now else None }
 {
     let Ok(first) = <&[u8; 8]>::try_from(bytes) else {
@@ -42,7 +42,7 @@ fn packet_fits(speed: Speed, packet: u8) -> bool
 
 /// A device descriptor.
 #[tactic(auto, using(crate::proofs::ReadLemmas::device_is, crate::proofs::ReadLemmas::device_not, crate::proofs::ReadLemmas::device_long))]
-pub fn device_in(bytes: &[u8]) -> Option<DeviceDescriptor>
+pub(crate) fn device_in(bytes: &[u8]) -> Option<DeviceDescriptor>
     ensures value { result ≡ device_of bytes.now }
     ensures long { IfSome result (λ d. length bytes.now ≡ 18) }
 {
@@ -54,7 +54,7 @@ pub fn device_in(bytes: &[u8]) -> Option<DeviceDescriptor>
 
 /// Whether the bytes begin with these.
 #[tactic(auto, using(crate::proofs::ReadLemmas::same_or_not))]
-pub fn begins_with(bytes: &[u8], first: &[u8; 8]) -> bool
+pub(crate) fn begins_with(bytes: &[u8], first: &[u8; 8]) -> bool
     requires { 8 ≤ length bytes.now }
     ensures { result ≡ same_bytes (take 8 bytes.now) first.now }
 {
@@ -62,7 +62,7 @@ pub fn begins_with(bytes: &[u8], first: &[u8; 8]) -> bool
 }
 
 /// Whether there may be a second speed (9.6.2).
-pub fn may_have_second(speed: Speed, device: &DeviceDescriptor) -> bool
+pub(crate) fn may_have_second(speed: Speed, device: &DeviceDescriptor) -> bool
     ensures { result ≡ may_have_second_speed speed device.now }
 {
     match speed {
@@ -72,7 +72,7 @@ pub fn may_have_second(speed: Speed, device: &DeviceDescriptor) -> bool
 }
 
 /// wTotalLength of the first descriptor of a set of this kind.
-pub fn total_in(kind: SetKind, bytes: &[u8]) -> Option<u16>
+pub(crate) fn total_in(kind: SetKind, bytes: &[u8]) -> Option<u16>
     ensures { result ≡ total_of (type_number kind) bytes.now }
 {
     if bytes.len() != usize::from(descriptor_length::CONFIGURATION) {
@@ -91,7 +91,7 @@ pub fn total_in(kind: SetKind, bytes: &[u8]) -> Option<u16>
 
 /// A device qualifier.
 #[tactic(auto, using(crate::proofs::ReadLemmas::qualifier_is, crate::proofs::ReadLemmas::qualifier_not))]
-pub fn qualifier_in(bytes: &[u8]) -> Option<Qualifier>
+pub(crate) fn qualifier_in(bytes: &[u8]) -> Option<Qualifier>
     ensures { result ≡ qualifier_of bytes.now }
 {
     match Qualifier::read(bytes) {
@@ -102,7 +102,7 @@ pub fn qualifier_in(bytes: &[u8]) -> Option<Qualifier>
 
 /// The units of a string or of the language list.
 #[tactic(auto, using(crate::proofs::ReadLemmas::units_are, crate::proofs::ReadLemmas::units_refused))]
-pub fn units_in(alloc: Global, bytes: &[u8]) -> Result<Option<Sequence<u16>>, NoMemory>
+pub(crate) fn units_in(alloc: Global, bytes: &[u8]) -> Result<Option<Sequence<u16>>, NoMemory>
     ensures value { IfOk result (λ units. units ≡ units_of bytes.now) }
     ensures few { IfOk result (λ units. IfSome units (λ u. length u ≤ 126)) }
 {

@@ -14,7 +14,7 @@ pub struct Request {
 
 /// GET_DESCRIPTOR of a descriptor of this type and index, of at most `length` bytes (9.4.3). `language` is 0 but for
 /// strings.
-pub fn getting(kind: u8, index: u8, language: u16, length: u16) -> Setup
+pub(crate) fn getting(kind: u8, index: u8, language: u16, length: u16) -> Setup
     ensures { result ≡ get_descriptor kind index language length }
 {
     Setup {
@@ -27,7 +27,7 @@ pub fn getting(kind: u8, index: u8, language: u16, length: u16) -> Setup
 }
 
 /// SET_ADDRESS (9.4.6).
-pub fn addressing(address: u8) -> Setup
+pub(crate) fn addressing(address: u8) -> Setup
     ensures { result ≡ set_address address }
 {
     Setup {
@@ -40,7 +40,7 @@ pub fn addressing(address: u8) -> Setup
 }
 
 /// SET_CONFIGURATION (9.4.7).
-pub fn configuring(value: u8) -> Setup
+pub(crate) fn configuring(value: u8) -> Setup
     ensures { result ≡ set_configuration value }
 {
     Setup {

@@ -7,7 +7,7 @@ use usb_file_data::{DescriptorFile, NoMemory};
 use usb_set::{Configuration, SetKind};
 
 /// How many sets of this kind are there so far.
-pub fn count_sets(kind: SetKind, file: &DescriptorFile) -> usize
+pub(crate) fn count_sets(kind: SetKind, file: &DescriptorFile) -> usize
     ensures { result ≡ length (sets_of kind file.now) }
 {
     match kind {
@@ -20,7 +20,7 @@ pub fn count_sets(kind: SetKind, file: &DescriptorFile) -> usize
 }
 
 /// How many sets of this kind the device declares, bNumConfigurations.
-pub fn count_declared(kind: SetKind, file: &DescriptorFile) -> u8
+pub(crate) fn count_declared(kind: SetKind, file: &DescriptorFile) -> u8
     ensures { result ≡ declared_sets kind file.now }
 {
     match kind {
@@ -33,7 +33,7 @@ pub fn count_declared(kind: SetKind, file: &DescriptorFile) -> u8
 }
 
 /// bConfigurationValue of the first set, 0 where there is none.
-pub fn value_of_first(sets: &[Configuration]) -> u8
+pub(crate) fn value_of_first(sets: &[Configuration]) -> u8
     ensures { result ≡ first_value sets.now }
 {
     match sets {
@@ -43,7 +43,7 @@ pub fn value_of_first(sets: &[Configuration]) -> u8
 }
 
 /// Whether the set would be the device's first one, and can't be selected: its value is 0.
-pub fn is_first_zero(kind: SetKind, file: &DescriptorFile, set: &Configuration) -> bool
+pub(crate) fn is_first_zero(kind: SetKind, file: &DescriptorFile, set: &Configuration) -> bool
     ensures { result ≡ cannot_be_selected kind (sets_of kind file.now) set.now }
 {
     match kind {
@@ -56,7 +56,11 @@ pub fn is_first_zero(kind: SetKind, file: &DescriptorFile, set: &Configuration) 
 }
 
 /// Adds a set of this kind to the file.
-pub fn add_set(file: &mut DescriptorFile, kind: SetKind, set: Configuration) -> Result<(), NoMemory>
+pub(crate) fn add_set(
+    file: &mut DescriptorFile,
+    kind: SetKind,
+    set: Configuration,
+) -> Result<(), NoMemory>
     ensures { OnOk result (file.new ≡ with_set kind set file.old) }
 {
     let added = match kind {

@@ -24,7 +24,7 @@ use Rattle.usb_host.specs.Gathered.{reached}
 use Rattle.usb_host.specs.Steps.{HostPhase, Reading, Ended, Grows, LacksMemory, TakesHeard}
 use Rattle.usb_host.specs.inside.Steady.{FitsPlace}
 
--- What bytes that came in pieces have made of a decoder that was not out of memory, and whether bytes came behind
+-- What bytes that came in pieces have made of a decoder that was not out of memory, and whether bytes came after
 -- the set's last.
 abbrev pub DecodedFrom : List ℕ → Decoding → Bool → Type 0
 DecodedFrom got (gathers s) over = (s ≡ got) × IsOpen got × (over ≡ false)

@@ -44,7 +44,7 @@ addressed_state address = record { address = address; selected = 0; alternates =
 
 -- with this address, and packets of this size
 module _ (address packet : ℕ) where
-  -- each set from this index on: its front, and the whole of it; and what comes after them
+  -- each set from this index on: its prefix, and the whole of it; and what comes after them
   abbrev pub set_script : SetKind → ℕ → List Configuration → List Exchange → List Exchange
   set_script kind i [] more = more
   set_script kind i (c ∷ cs) more =

@@ -10,7 +10,7 @@ use Rattle.usb_transfer.specs.Transfer.{Hearing, Brings, Completes}
 use Rattle.usb_host.specs.declared.kept.Kept.{Kept}
 use Rattle.usb_host.specs.declared.kept.Kept.TheVariants as kept
 use Rattle.usb_host.specs.declared.place.Place.{Place}
-use Rattle.usb_host.specs.declared.place.Place.TheVariants.{Device, Header, Qualifier as SecondSpeed, Languages, Text, Reported, Stopped}
+use Rattle.usb_host.specs.declared.place.Place.TheVariants.{Reported, Stopped}
 use Rattle.usb_host.specs.declared.draft.Draft.{Draft}
 use Rattle.usb_host.specs.declared.due.Due.{Due}
 use Rattle.usb_host.specs.declared.due.Due.TheVariants as dues
