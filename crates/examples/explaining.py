@@ -147,9 +147,11 @@ def row_of(d, codes):
     return None
 
 
-def field_words(form, b):
+def field_words(form, b, index):
+    if form == "index":
+        return index(b[0])
     if form.startswith("hex"):
-        return f"0x{little(b):0{2 * len(b)}x}"
+        return f"0x{little(b):0{2 * len(b)}x}" if len(b) <= 4 else b.hex()
     if form.startswith("dec"):
         return str(little(b))
     if form == "bcd":
@@ -157,23 +159,28 @@ def field_words(form, b):
     return with_meaning(byte(b[0]), {0x22: "report", 0x23: "physical"}.get(b[0]))
 
 
-def raw_fields(d, row):
+def size_of(field):
+    form = field.split(":")[1]
+    return {"bcd": 2, "index": 1}.get(form) or int(form.lstrip("abcdefghijklmnopqrstuvwxyz"))
+
+
+def raw_fields(d, row, index):
     yield "bDescriptorType", byte(d[1])
     _, fields, group = row or (None, [], [])
     rest = d[2:]
     for field in fields:
         name, form = field.split(":")
-        size = 2 if form == "bcd" else int(form[-1])
+        size = size_of(field)
         if size > len(rest):
             break
-        yield name, field_words(form, rest[:size])
+        yield name, field_words(form, rest[:size], index)
         rest = rest[size:]
     else:
-        sizes = [2 if field.endswith("bcd") else int(field[-1]) for field in group]
+        sizes = [size_of(field) for field in group]
         while group and sum(sizes) <= len(rest):
             for field, size in zip(group, sizes):
                 name, form = field.split(":")
-                yield name, field_words(form, rest[:size])
+                yield name, field_words(form, rest[:size], index)
                 rest = rest[size:]
     if rest:
         yield "bytes", rest.hex()
@@ -411,7 +418,7 @@ class Explanation:
     def of_raw(self, d, at, depth, codes):
         row = row_of(d, codes)
         self.heading(depth, row[0] if row else f"descriptor of type {byte(d[1])}", at, len(d))
-        self.fields(depth, raw_fields(d, row))
+        self.fields(depth, raw_fields(d, row, self.index))
 
     def of_string(self, d, at):
         units = [little(d[i : i + 2]) for i in range(2, len(d), 2)]

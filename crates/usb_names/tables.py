@@ -131,7 +131,9 @@ def field_parts(field):
     name, form = field.split(":")
     if form == "bcd":
         return name, "Release", 2
-    return name, {"hex": "Hexadecimal", "dec": "Decimal", "type": "ReportType"}[form[:-1]], int(form[-1])
+    if form == "index":
+        return name, "Index", 1
+    return name, {"hex": "Hexadecimal", "dec": "Decimal", "type": "ReportType"}[form.rstrip("0123456789")], int(re.sub(r"\D", "", form))
 
 
 def row_code(codes, name, fields, again):
@@ -173,7 +175,7 @@ def rows_code(groups):
 
 def field_definition(field):
     name, form, width = field_parts(field)
-    number = {"Release": "release", "ReportType": "report_type"}.get(form, f"{form.lower()} {width}")
+    number = {"Release": "release", "ReportType": "report_type", "Index": "string_index"}.get(form, f"{form.lower()} {width}")
     return f'{number} (codes "{name}")'
 
 

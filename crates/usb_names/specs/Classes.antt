@@ -147,6 +147,8 @@ miscellaneous_subclasses =
     record { code = 3; name = codes "cable based association" } ∷
     record { code = 4; name = codes "RNDIS" } ∷
     record { code = 5; name = codes "USB3 Vision" } ∷
+    record { code = 6; name = codes "STEP" } ∷
+    record { code = 7; name = codes "DVB common interface" } ∷
     []
 
 -- subclasses of class 254, Application specific
@@ -184,6 +186,7 @@ subclasses class =
 -- protocols of class 1, Audio
 abbrev pub audio_protocols : List NamedProtocol
 audio_protocols =
+    record { subclass = 0; protocol = 32; name = codes "version 2.0" } ∷
     record { subclass = 1; protocol = 32; name = codes "version 2.0" } ∷
     record { subclass = 1; protocol = 48; name = codes "version 3.0" } ∷
     record { subclass = 2; protocol = 32; name = codes "version 2.0" } ∷
@@ -206,8 +209,6 @@ communications_protocols =
 -- protocols of class 3, HID
 abbrev pub hid_protocols : List NamedProtocol
 hid_protocols =
-    record { subclass = 0; protocol = 1; name = codes "keyboard" } ∷
-    record { subclass = 0; protocol = 2; name = codes "mouse" } ∷
     record { subclass = 1; protocol = 1; name = codes "keyboard" } ∷
     record { subclass = 1; protocol = 2; name = codes "mouse" } ∷
     []
@@ -230,10 +231,30 @@ printer_protocols =
 -- protocols of class 8, Mass storage
 abbrev pub mass_storage_protocols : List NamedProtocol
 mass_storage_protocols =
+    record { subclass = 1; protocol = 0; name = codes "CBI with completion interrupt" } ∷
+    record { subclass = 1; protocol = 1; name = codes "CBI" } ∷
+    record { subclass = 1; protocol = 80; name = codes "bulk-only" } ∷
+    record { subclass = 1; protocol = 98; name = codes "UAS" } ∷
+    record { subclass = 2; protocol = 0; name = codes "CBI with completion interrupt" } ∷
+    record { subclass = 2; protocol = 1; name = codes "CBI" } ∷
+    record { subclass = 2; protocol = 80; name = codes "bulk-only" } ∷
+    record { subclass = 2; protocol = 98; name = codes "UAS" } ∷
+    record { subclass = 4; protocol = 0; name = codes "CBI with completion interrupt" } ∷
+    record { subclass = 4; protocol = 1; name = codes "CBI" } ∷
+    record { subclass = 4; protocol = 80; name = codes "bulk-only" } ∷
+    record { subclass = 4; protocol = 98; name = codes "UAS" } ∷
     record { subclass = 6; protocol = 0; name = codes "CBI with completion interrupt" } ∷
     record { subclass = 6; protocol = 1; name = codes "CBI" } ∷
     record { subclass = 6; protocol = 80; name = codes "bulk-only" } ∷
     record { subclass = 6; protocol = 98; name = codes "UAS" } ∷
+    record { subclass = 7; protocol = 0; name = codes "CBI with completion interrupt" } ∷
+    record { subclass = 7; protocol = 1; name = codes "CBI" } ∷
+    record { subclass = 7; protocol = 80; name = codes "bulk-only" } ∷
+    record { subclass = 7; protocol = 98; name = codes "UAS" } ∷
+    record { subclass = 8; protocol = 0; name = codes "CBI with completion interrupt" } ∷
+    record { subclass = 8; protocol = 1; name = codes "CBI" } ∷
+    record { subclass = 8; protocol = 80; name = codes "bulk-only" } ∷
+    record { subclass = 8; protocol = 98; name = codes "UAS" } ∷
     []
 
 -- protocols of class 9, Hub
@@ -248,7 +269,6 @@ hub_protocols =
 abbrev pub cdc_data_protocols : List NamedProtocol
 cdc_data_protocols =
     record { subclass = 0; protocol = 1; name = codes "network transfer block" } ∷
-    record { subclass = 0; protocol = 2; name = codes "network transfer block, version 2" } ∷
     []
 
 -- protocols of class 11, Smart card
@@ -302,6 +322,10 @@ miscellaneous_protocols =
     record { subclass = 5; protocol = 0; name = codes "control" } ∷
     record { subclass = 5; protocol = 1; name = codes "event" } ∷
     record { subclass = 5; protocol = 2; name = codes "streaming" } ∷
+    record { subclass = 6; protocol = 1; name = codes "STEP" } ∷
+    record { subclass = 6; protocol = 2; name = codes "STEP RAW" } ∷
+    record { subclass = 7; protocol = 1; name = codes "command interface" } ∷
+    record { subclass = 7; protocol = 2; name = codes "media interface" } ∷
     []
 
 -- protocols of class 254, Application specific

@@ -4,7 +4,7 @@ use Rattle.std.specs.Prelude.{ℕ, List, [], ◌∷◌, ◌++◌, Option, Some, 
 use Rattle.std.specs.List.{find}
 use Rattle.usb_names.specs.declared.codes.ClassCodes.{ClassCodes}
 use Rattle.usb_names.specs.declared.field.Form.{Form}
-use Rattle.usb_names.specs.declared.field.Form.TheVariants.{Decimal, Hexadecimal, Release, ReportType}
+use Rattle.usb_names.specs.declared.field.Form.TheVariants.{Decimal, Hexadecimal, Release, ReportType, Index}
 
 -- a field: its standard name, how many bytes it has, and how its number is written
 pub record Field : Type 0 where
@@ -27,6 +27,10 @@ release name = record { name = name; width = 2; form = Release }
 -- the type of a HID class descriptor
 abbrev pub report_type : List ℕ → Field
 report_type name = record { name = name; width = 1; form = ReportType }
+
+-- the index of a string
+abbrev pub string_index : List ℕ → Field
+string_index name = record { name = name; width = 1; form = Index }
 
 -- a descriptor of a class: the subclass, the protocol and the first byte of the body that it is known by (none: any),
 -- its type, its name, its fields behind bDescriptorType, and the fields that repeat behind those
@@ -85,70 +89,111 @@ audio_rows =
     (hexadecimal 1 (codes "bDescriptorSubtype") ∷ release (codes "bcdADC") ∷ hexadecimal 1 (codes "bCategory") ∷
     decimal 2 (codes "wTotalLength") ∷ hexadecimal 1 (codes "bmControls") ∷ []) [] ∷
     row (Some 1) (Some 32) 36 (Some 2) (codes "audio 2.0 input terminal")
-    (hexadecimal 1 (codes "bDescriptorSubtype") ∷ []) [] ∷
+    (hexadecimal 1 (codes "bDescriptorSubtype") ∷ decimal 1 (codes "bTerminalID") ∷
+    hexadecimal 2 (codes "wTerminalType") ∷ decimal 1 (codes "bAssocTerminal") ∷ decimal 1 (codes "bCSourceID") ∷
+    decimal 1 (codes "bNrChannels") ∷ hexadecimal 4 (codes "bmChannelConfig") ∷ string_index (codes "iChannelNames") ∷
+    hexadecimal 2 (codes "bmControls") ∷ string_index (codes "iTerminal") ∷ []) [] ∷
     row (Some 1) (Some 32) 36 (Some 3) (codes "audio 2.0 output terminal")
-    (hexadecimal 1 (codes "bDescriptorSubtype") ∷ []) [] ∷
+    (hexadecimal 1 (codes "bDescriptorSubtype") ∷ decimal 1 (codes "bTerminalID") ∷
+    hexadecimal 2 (codes "wTerminalType") ∷ decimal 1 (codes "bAssocTerminal") ∷ decimal 1 (codes "bSourceID") ∷
+    decimal 1 (codes "bCSourceID") ∷ hexadecimal 2 (codes "bmControls") ∷ string_index (codes "iTerminal") ∷ []) [] ∷
     row (Some 1) (Some 32) 36 (Some 4) (codes "audio 2.0 mixer unit")
-    (hexadecimal 1 (codes "bDescriptorSubtype") ∷ []) [] ∷
+    (hexadecimal 1 (codes "bDescriptorSubtype") ∷ decimal 1 (codes "bUnitID") ∷ decimal 1 (codes "bNrInPins") ∷ []) [] ∷
     row (Some 1) (Some 32) 36 (Some 5) (codes "audio 2.0 selector unit")
-    (hexadecimal 1 (codes "bDescriptorSubtype") ∷ []) [] ∷
+    (hexadecimal 1 (codes "bDescriptorSubtype") ∷ decimal 1 (codes "bUnitID") ∷ decimal 1 (codes "bNrInPins") ∷ []) [] ∷
     row (Some 1) (Some 32) 36 (Some 6) (codes "audio 2.0 feature unit")
-    (hexadecimal 1 (codes "bDescriptorSubtype") ∷ []) [] ∷
+    (hexadecimal 1 (codes "bDescriptorSubtype") ∷ decimal 1 (codes "bUnitID") ∷ decimal 1 (codes "bSourceID") ∷ [])
+    (hexadecimal 4 (codes "bmaControls") ∷ []) ∷
     row (Some 1) (Some 32) 36 (Some 7) (codes "audio 2.0 effect unit")
-    (hexadecimal 1 (codes "bDescriptorSubtype") ∷ []) [] ∷
+    (hexadecimal 1 (codes "bDescriptorSubtype") ∷ decimal 1 (codes "bUnitID") ∷ hexadecimal 2 (codes "wEffectType") ∷
+    decimal 1 (codes "bSourceID") ∷ []) (hexadecimal 4 (codes "bmaControls") ∷ []) ∷
     row (Some 1) (Some 32) 36 (Some 8) (codes "audio 2.0 processing unit")
-    (hexadecimal 1 (codes "bDescriptorSubtype") ∷ []) [] ∷
+    (hexadecimal 1 (codes "bDescriptorSubtype") ∷ decimal 1 (codes "bUnitID") ∷ hexadecimal 2 (codes "wProcessType") ∷
+    decimal 1 (codes "bNrInPins") ∷ []) [] ∷
     row (Some 1) (Some 32) 36 (Some 9) (codes "audio 2.0 extension unit")
-    (hexadecimal 1 (codes "bDescriptorSubtype") ∷ []) [] ∷
+    (hexadecimal 1 (codes "bDescriptorSubtype") ∷ decimal 1 (codes "bUnitID") ∷ hexadecimal 2 (codes "wExtensionCode") ∷
+    decimal 1 (codes "bNrInPins") ∷ []) [] ∷
     row (Some 1) (Some 32) 36 (Some 10) (codes "audio 2.0 clock source")
-    (hexadecimal 1 (codes "bDescriptorSubtype") ∷ []) [] ∷
+    (hexadecimal 1 (codes "bDescriptorSubtype") ∷ decimal 1 (codes "bClockID") ∷ hexadecimal 1 (codes "bmAttributes") ∷
+    hexadecimal 1 (codes "bmControls") ∷ decimal 1 (codes "bAssocTerminal") ∷ string_index (codes "iClockSource") ∷ [])
+    [] ∷
     row (Some 1) (Some 32) 36 (Some 11) (codes "audio 2.0 clock selector")
-    (hexadecimal 1 (codes "bDescriptorSubtype") ∷ []) [] ∷
+    (hexadecimal 1 (codes "bDescriptorSubtype") ∷ decimal 1 (codes "bClockID") ∷ decimal 1 (codes "bNrInPins") ∷ [])
+    [] ∷
     row (Some 1) (Some 32) 36 (Some 12) (codes "audio 2.0 clock multiplier")
-    (hexadecimal 1 (codes "bDescriptorSubtype") ∷ []) [] ∷
+    (hexadecimal 1 (codes "bDescriptorSubtype") ∷ decimal 1 (codes "bClockID") ∷ decimal 1 (codes "bCSourceID") ∷
+    hexadecimal 1 (codes "bmControls") ∷ string_index (codes "iClockMultiplier") ∷ []) [] ∷
     row (Some 1) (Some 32) 36 (Some 13) (codes "audio 2.0 sample rate converter")
-    (hexadecimal 1 (codes "bDescriptorSubtype") ∷ []) [] ∷
+    (hexadecimal 1 (codes "bDescriptorSubtype") ∷ decimal 1 (codes "bUnitID") ∷ decimal 1 (codes "bSourceID") ∷
+    decimal 1 (codes "bCSourceInID") ∷ decimal 1 (codes "bCSourceOutID") ∷ string_index (codes "iSRC") ∷ []) [] ∷
     row (Some 2) (Some 32) 36 (Some 1) (codes "audio 2.0 streaming")
-    (hexadecimal 1 (codes "bDescriptorSubtype") ∷ []) [] ∷
+    (hexadecimal 1 (codes "bDescriptorSubtype") ∷ decimal 1 (codes "bTerminalLink") ∷
+    hexadecimal 1 (codes "bmControls") ∷ decimal 1 (codes "bFormatType") ∷ hexadecimal 4 (codes "bmFormats") ∷
+    decimal 1 (codes "bNrChannels") ∷ hexadecimal 4 (codes "bmChannelConfig") ∷ string_index (codes "iChannelNames") ∷
+    []) [] ∷
     row (Some 2) (Some 32) 36 (Some 2) (codes "audio 2.0 format type")
-    (hexadecimal 1 (codes "bDescriptorSubtype") ∷ []) [] ∷
+    (hexadecimal 1 (codes "bDescriptorSubtype") ∷ decimal 1 (codes "bFormatType") ∷ []) [] ∷
     row (Some 2) (Some 32) 37 (Some 1) (codes "audio 2.0 data endpoint")
+    (hexadecimal 1 (codes "bDescriptorSubtype") ∷ hexadecimal 1 (codes "bmAttributes") ∷
+    hexadecimal 1 (codes "bmControls") ∷ hexadecimal 1 (codes "bLockDelayUnits") ∷ decimal 2 (codes "wLockDelay") ∷ [])
+    [] ∷
+    row None (Some 32) 36 None (codes "audio 2.0 class")
     (hexadecimal 1 (codes "bDescriptorSubtype") ∷ []) [] ∷
-    row (Some 1) (Some 0) 36 (Some 1) (codes "audio control header")
+    row None (Some 32) 37 None (codes "audio 2.0 endpoint")
+    (hexadecimal 1 (codes "bDescriptorSubtype") ∷ []) [] ∷
+    row None (Some 48) 36 None (codes "audio 3.0 class")
+    (hexadecimal 1 (codes "bDescriptorSubtype") ∷ []) [] ∷
+    row None (Some 48) 37 None (codes "audio 3.0 endpoint")
+    (hexadecimal 1 (codes "bDescriptorSubtype") ∷ []) [] ∷
+    row (Some 1) None 36 (Some 1) (codes "audio control header")
     (hexadecimal 1 (codes "bDescriptorSubtype") ∷ release (codes "bcdADC") ∷ decimal 2 (codes "wTotalLength") ∷
     decimal 1 (codes "bInCollection") ∷ []) (decimal 1 (codes "baInterfaceNr") ∷ []) ∷
-    row (Some 1) (Some 0) 36 (Some 2) (codes "audio input terminal")
-    (hexadecimal 1 (codes "bDescriptorSubtype") ∷ []) [] ∷
-    row (Some 1) (Some 0) 36 (Some 3) (codes "audio output terminal")
-    (hexadecimal 1 (codes "bDescriptorSubtype") ∷ []) [] ∷
-    row (Some 1) (Some 0) 36 (Some 4) (codes "audio mixer unit")
-    (hexadecimal 1 (codes "bDescriptorSubtype") ∷ []) [] ∷
-    row (Some 1) (Some 0) 36 (Some 5) (codes "audio selector unit")
-    (hexadecimal 1 (codes "bDescriptorSubtype") ∷ []) [] ∷
-    row (Some 1) (Some 0) 36 (Some 6) (codes "audio feature unit")
-    (hexadecimal 1 (codes "bDescriptorSubtype") ∷ []) [] ∷
-    row (Some 1) (Some 0) 36 (Some 7) (codes "audio processing unit")
-    (hexadecimal 1 (codes "bDescriptorSubtype") ∷ []) [] ∷
-    row (Some 1) (Some 0) 36 (Some 8) (codes "audio extension unit")
-    (hexadecimal 1 (codes "bDescriptorSubtype") ∷ []) [] ∷
-    row (Some 2) (Some 0) 36 (Some 1) (codes "audio streaming")
-    (hexadecimal 1 (codes "bDescriptorSubtype") ∷ []) [] ∷
-    row (Some 2) (Some 0) 36 (Some 2) (codes "audio format type")
-    (hexadecimal 1 (codes "bDescriptorSubtype") ∷ []) [] ∷
-    row (Some 2) (Some 0) 36 (Some 3) (codes "audio format specific")
-    (hexadecimal 1 (codes "bDescriptorSubtype") ∷ []) [] ∷
-    row (Some 2) (Some 0) 37 (Some 1) (codes "audio data endpoint")
-    (hexadecimal 1 (codes "bDescriptorSubtype") ∷ []) [] ∷
+    row (Some 1) None 36 (Some 2) (codes "audio input terminal")
+    (hexadecimal 1 (codes "bDescriptorSubtype") ∷ decimal 1 (codes "bTerminalID") ∷
+    hexadecimal 2 (codes "wTerminalType") ∷ decimal 1 (codes "bAssocTerminal") ∷ decimal 1 (codes "bNrChannels") ∷
+    hexadecimal 2 (codes "wChannelConfig") ∷ string_index (codes "iChannelNames") ∷ string_index (codes "iTerminal") ∷
+    []) [] ∷
+    row (Some 1) None 36 (Some 3) (codes "audio output terminal")
+    (hexadecimal 1 (codes "bDescriptorSubtype") ∷ decimal 1 (codes "bTerminalID") ∷
+    hexadecimal 2 (codes "wTerminalType") ∷ decimal 1 (codes "bAssocTerminal") ∷ decimal 1 (codes "bSourceID") ∷
+    string_index (codes "iTerminal") ∷ []) [] ∷
+    row (Some 1) None 36 (Some 4) (codes "audio mixer unit")
+    (hexadecimal 1 (codes "bDescriptorSubtype") ∷ decimal 1 (codes "bUnitID") ∷ decimal 1 (codes "bNrInPins") ∷ []) [] ∷
+    row (Some 1) None 36 (Some 5) (codes "audio selector unit")
+    (hexadecimal 1 (codes "bDescriptorSubtype") ∷ decimal 1 (codes "bUnitID") ∷ decimal 1 (codes "bNrInPins") ∷ []) [] ∷
+    row (Some 1) None 36 (Some 6) (codes "audio feature unit")
+    (hexadecimal 1 (codes "bDescriptorSubtype") ∷ decimal 1 (codes "bUnitID") ∷ decimal 1 (codes "bSourceID") ∷
+    decimal 1 (codes "bControlSize") ∷ []) [] ∷
+    row (Some 1) None 36 (Some 7) (codes "audio processing unit")
+    (hexadecimal 1 (codes "bDescriptorSubtype") ∷ decimal 1 (codes "bUnitID") ∷ hexadecimal 2 (codes "wProcessType") ∷
+    decimal 1 (codes "bNrInPins") ∷ []) [] ∷
+    row (Some 1) None 36 (Some 8) (codes "audio extension unit")
+    (hexadecimal 1 (codes "bDescriptorSubtype") ∷ decimal 1 (codes "bUnitID") ∷ hexadecimal 2 (codes "wExtensionCode") ∷
+    decimal 1 (codes "bNrInPins") ∷ []) [] ∷
+    row (Some 2) None 36 (Some 1) (codes "audio streaming")
+    (hexadecimal 1 (codes "bDescriptorSubtype") ∷ decimal 1 (codes "bTerminalLink") ∷ decimal 1 (codes "bDelay") ∷
+    hexadecimal 2 (codes "wFormatTag") ∷ []) [] ∷
+    row (Some 2) None 36 (Some 2) (codes "audio format type")
+    (hexadecimal 1 (codes "bDescriptorSubtype") ∷ decimal 1 (codes "bFormatType") ∷ []) [] ∷
+    row (Some 2) None 36 (Some 3) (codes "audio format specific")
+    (hexadecimal 1 (codes "bDescriptorSubtype") ∷ hexadecimal 2 (codes "wFormatTag") ∷ []) [] ∷
+    row (Some 2) None 37 (Some 1) (codes "audio data endpoint")
+    (hexadecimal 1 (codes "bDescriptorSubtype") ∷ hexadecimal 1 (codes "bmAttributes") ∷
+    hexadecimal 1 (codes "bLockDelayUnits") ∷ decimal 2 (codes "wLockDelay") ∷ []) [] ∷
     row (Some 3) None 36 (Some 1) (codes "MIDI header")
     (hexadecimal 1 (codes "bDescriptorSubtype") ∷ release (codes "bcdMSC") ∷ decimal 2 (codes "wTotalLength") ∷ []) [] ∷
     row (Some 3) None 36 (Some 2) (codes "MIDI in jack")
-    (hexadecimal 1 (codes "bDescriptorSubtype") ∷ []) [] ∷
+    (hexadecimal 1 (codes "bDescriptorSubtype") ∷ hexadecimal 1 (codes "bJackType") ∷ decimal 1 (codes "bJackID") ∷
+    string_index (codes "iJack") ∷ []) [] ∷
     row (Some 3) None 36 (Some 3) (codes "MIDI out jack")
-    (hexadecimal 1 (codes "bDescriptorSubtype") ∷ []) [] ∷
+    (hexadecimal 1 (codes "bDescriptorSubtype") ∷ hexadecimal 1 (codes "bJackType") ∷ decimal 1 (codes "bJackID") ∷
+    decimal 1 (codes "bNrInputPins") ∷ []) [] ∷
     row (Some 3) None 36 (Some 4) (codes "MIDI element")
-    (hexadecimal 1 (codes "bDescriptorSubtype") ∷ []) [] ∷
+    (hexadecimal 1 (codes "bDescriptorSubtype") ∷ decimal 1 (codes "bElementID") ∷ decimal 1 (codes "bNrInputPins") ∷
+    []) [] ∷
     row (Some 3) None 37 (Some 1) (codes "MIDI data endpoint")
-    (hexadecimal 1 (codes "bDescriptorSubtype") ∷ []) [] ∷
+    (hexadecimal 1 (codes "bDescriptorSubtype") ∷ decimal 1 (codes "bNumEmbMIDIJack") ∷ [])
+    (decimal 1 (codes "baAssocJackID") ∷ []) ∷
     row None None 36 None (codes "audio class")
     (hexadecimal 1 (codes "bDescriptorSubtype") ∷ []) [] ∷
     row None None 37 None (codes "audio endpoint")
@@ -168,25 +213,28 @@ communications_rows =
     row None None 36 (Some 3) (codes "CDC direct line")
     (hexadecimal 1 (codes "bDescriptorSubtype") ∷ hexadecimal 1 (codes "bmCapabilities") ∷ []) [] ∷
     row None None 36 (Some 4) (codes "CDC telephone ringer")
-    (hexadecimal 1 (codes "bDescriptorSubtype") ∷ []) [] ∷
+    (hexadecimal 1 (codes "bDescriptorSubtype") ∷ decimal 1 (codes "bRingerVolSteps") ∷
+    decimal 1 (codes "bNumRingerPatterns") ∷ []) [] ∷
     row None None 36 (Some 5) (codes "CDC telephone capabilities")
-    (hexadecimal 1 (codes "bDescriptorSubtype") ∷ []) [] ∷
+    (hexadecimal 1 (codes "bDescriptorSubtype") ∷ hexadecimal 4 (codes "bmCapabilities") ∷ []) [] ∷
     row None None 36 (Some 6) (codes "CDC union")
     (hexadecimal 1 (codes "bDescriptorSubtype") ∷ decimal 1 (codes "bControlInterface") ∷ [])
     (decimal 1 (codes "bSubordinateInterface") ∷ []) ∷
     row None None 36 (Some 7) (codes "CDC country selection")
-    (hexadecimal 1 (codes "bDescriptorSubtype") ∷ decimal 1 (codes "iCountryCodeRelDate") ∷ [])
+    (hexadecimal 1 (codes "bDescriptorSubtype") ∷ string_index (codes "iCountryCodeRelDate") ∷ [])
     (hexadecimal 2 (codes "wCountryCode") ∷ []) ∷
     row None None 36 (Some 15) (codes "CDC Ethernet networking")
-    (hexadecimal 1 (codes "bDescriptorSubtype") ∷ decimal 1 (codes "iMACAddress") ∷
+    (hexadecimal 1 (codes "bDescriptorSubtype") ∷ string_index (codes "iMACAddress") ∷
     hexadecimal 4 (codes "bmEthernetStatistics") ∷ decimal 2 (codes "wMaxSegmentSize") ∷
     hexadecimal 2 (codes "wNumberMCFilters") ∷ decimal 1 (codes "bNumberPowerFilters") ∷ []) [] ∷
     row None None 36 (Some 17) (codes "CDC wireless handset control")
     (hexadecimal 1 (codes "bDescriptorSubtype") ∷ release (codes "bcdVersion") ∷ []) [] ∷
     row None None 36 (Some 18) (codes "CDC mobile direct line")
-    (hexadecimal 1 (codes "bDescriptorSubtype") ∷ release (codes "bcdVersion") ∷ []) [] ∷
+    (hexadecimal 1 (codes "bDescriptorSubtype") ∷ release (codes "bcdVersion") ∷ hexadecimal 16 (codes "bGUID") ∷ [])
+    [] ∷
     row None None 36 (Some 19) (codes "CDC mobile direct line detail")
-    (hexadecimal 1 (codes "bDescriptorSubtype") ∷ []) [] ∷
+    (hexadecimal 1 (codes "bDescriptorSubtype") ∷ hexadecimal 1 (codes "bGuidDescriptorType") ∷ [])
+    (hexadecimal 1 (codes "bDetailData") ∷ []) ∷
     row None None 36 (Some 20) (codes "CDC device management")
     (hexadecimal 1 (codes "bDescriptorSubtype") ∷ release (codes "bcdVersion") ∷ decimal 2 (codes "wMaxCommand") ∷ [])
     [] ∷
@@ -256,48 +304,120 @@ video_rows =
     decimal 4 (codes "dwClockFrequency") ∷ decimal 1 (codes "bInCollection") ∷ []) (decimal 1 (codes "baInterfaceNr") ∷
     []) ∷
     row (Some 1) None 36 (Some 2) (codes "video input terminal")
-    (hexadecimal 1 (codes "bDescriptorSubtype") ∷ []) [] ∷
+    (hexadecimal 1 (codes "bDescriptorSubtype") ∷ decimal 1 (codes "bTerminalID") ∷
+    hexadecimal 2 (codes "wTerminalType") ∷ decimal 1 (codes "bAssocTerminal") ∷ string_index (codes "iTerminal") ∷ [])
+    [] ∷
     row (Some 1) None 36 (Some 3) (codes "video output terminal")
-    (hexadecimal 1 (codes "bDescriptorSubtype") ∷ []) [] ∷
+    (hexadecimal 1 (codes "bDescriptorSubtype") ∷ decimal 1 (codes "bTerminalID") ∷
+    hexadecimal 2 (codes "wTerminalType") ∷ decimal 1 (codes "bAssocTerminal") ∷ decimal 1 (codes "bSourceID") ∷
+    string_index (codes "iTerminal") ∷ []) [] ∷
     row (Some 1) None 36 (Some 4) (codes "video selector unit")
-    (hexadecimal 1 (codes "bDescriptorSubtype") ∷ []) [] ∷
+    (hexadecimal 1 (codes "bDescriptorSubtype") ∷ decimal 1 (codes "bUnitID") ∷ decimal 1 (codes "bNrInPins") ∷ []) [] ∷
     row (Some 1) None 36 (Some 5) (codes "video processing unit")
-    (hexadecimal 1 (codes "bDescriptorSubtype") ∷ []) [] ∷
+    (hexadecimal 1 (codes "bDescriptorSubtype") ∷ decimal 1 (codes "bUnitID") ∷ decimal 1 (codes "bSourceID") ∷
+    decimal 2 (codes "wMaxMultiplier") ∷ decimal 1 (codes "bControlSize") ∷ []) [] ∷
     row (Some 1) None 36 (Some 6) (codes "video extension unit")
-    (hexadecimal 1 (codes "bDescriptorSubtype") ∷ []) [] ∷
+    (hexadecimal 1 (codes "bDescriptorSubtype") ∷ decimal 1 (codes "bUnitID") ∷
+    hexadecimal 16 (codes "guidExtensionCode") ∷ decimal 1 (codes "bNumControls") ∷ decimal 1 (codes "bNrInPins") ∷ [])
+    [] ∷
     row (Some 1) None 36 (Some 7) (codes "video encoding unit")
-    (hexadecimal 1 (codes "bDescriptorSubtype") ∷ []) [] ∷
+    (hexadecimal 1 (codes "bDescriptorSubtype") ∷ decimal 1 (codes "bUnitID") ∷ decimal 1 (codes "bSourceID") ∷
+    string_index (codes "iEncoding") ∷ decimal 1 (codes "bControlSize") ∷ []) [] ∷
     row (Some 1) None 37 (Some 3) (codes "video interrupt endpoint")
     (hexadecimal 1 (codes "bDescriptorSubtype") ∷ decimal 2 (codes "wMaxTransferSize") ∷ []) [] ∷
     row (Some 2) None 36 (Some 1) (codes "video input header")
-    (hexadecimal 1 (codes "bDescriptorSubtype") ∷ []) [] ∷
+    (hexadecimal 1 (codes "bDescriptorSubtype") ∷ decimal 1 (codes "bNumFormats") ∷ decimal 2 (codes "wTotalLength") ∷
+    hexadecimal 1 (codes "bEndpointAddress") ∷ hexadecimal 1 (codes "bmInfo") ∷ decimal 1 (codes "bTerminalLink") ∷
+    decimal 1 (codes "bStillCaptureMethod") ∷ decimal 1 (codes "bTriggerSupport") ∷ decimal 1 (codes "bTriggerUsage") ∷
+    decimal 1 (codes "bControlSize") ∷ []) [] ∷
     row (Some 2) None 36 (Some 2) (codes "video output header")
-    (hexadecimal 1 (codes "bDescriptorSubtype") ∷ []) [] ∷
+    (hexadecimal 1 (codes "bDescriptorSubtype") ∷ decimal 1 (codes "bNumFormats") ∷ decimal 2 (codes "wTotalLength") ∷
+    hexadecimal 1 (codes "bEndpointAddress") ∷ decimal 1 (codes "bTerminalLink") ∷ decimal 1 (codes "bControlSize") ∷
+    []) [] ∷
     row (Some 2) None 36 (Some 3) (codes "video still image")
-    (hexadecimal 1 (codes "bDescriptorSubtype") ∷ []) [] ∷
+    (hexadecimal 1 (codes "bDescriptorSubtype") ∷ hexadecimal 1 (codes "bEndpointAddress") ∷
+    decimal 1 (codes "bNumImageSizePatterns") ∷ []) [] ∷
     row (Some 2) None 36 (Some 4) (codes "video format uncompressed")
-    (hexadecimal 1 (codes "bDescriptorSubtype") ∷ []) [] ∷
+    (hexadecimal 1 (codes "bDescriptorSubtype") ∷ decimal 1 (codes "bFormatIndex") ∷
+    decimal 1 (codes "bNumFrameDescriptors") ∷ hexadecimal 16 (codes "guidFormat") ∷ decimal 1 (codes "bBitsPerPixel") ∷
+    decimal 1 (codes "bDefaultFrameIndex") ∷ decimal 1 (codes "bAspectRatioX") ∷ decimal 1 (codes "bAspectRatioY") ∷
+    hexadecimal 1 (codes "bmInterlaceFlags") ∷ decimal 1 (codes "bCopyProtect") ∷ []) [] ∷
     row (Some 2) None 36 (Some 5) (codes "video frame uncompressed")
     (hexadecimal 1 (codes "bDescriptorSubtype") ∷ decimal 1 (codes "bFrameIndex") ∷
-    hexadecimal 1 (codes "bmCapabilities") ∷ decimal 2 (codes "wWidth") ∷ decimal 2 (codes "wHeight") ∷ []) [] ∷
+    hexadecimal 1 (codes "bmCapabilities") ∷ decimal 2 (codes "wWidth") ∷ decimal 2 (codes "wHeight") ∷
+    decimal 4 (codes "dwMinBitRate") ∷ decimal 4 (codes "dwMaxBitRate") ∷
+    decimal 4 (codes "dwMaxVideoFrameBufferSize") ∷ decimal 4 (codes "dwDefaultFrameInterval") ∷
+    decimal 1 (codes "bFrameIntervalType") ∷ []) (decimal 4 (codes "dwFrameInterval") ∷ []) ∷
     row (Some 2) None 36 (Some 6) (codes "video format MJPEG")
-    (hexadecimal 1 (codes "bDescriptorSubtype") ∷ []) [] ∷
+    (hexadecimal 1 (codes "bDescriptorSubtype") ∷ decimal 1 (codes "bFormatIndex") ∷
+    decimal 1 (codes "bNumFrameDescriptors") ∷ hexadecimal 1 (codes "bmFlags") ∷
+    decimal 1 (codes "bDefaultFrameIndex") ∷ decimal 1 (codes "bAspectRatioX") ∷ decimal 1 (codes "bAspectRatioY") ∷
+    hexadecimal 1 (codes "bmInterlaceFlags") ∷ decimal 1 (codes "bCopyProtect") ∷ []) [] ∷
     row (Some 2) None 36 (Some 7) (codes "video frame MJPEG")
     (hexadecimal 1 (codes "bDescriptorSubtype") ∷ decimal 1 (codes "bFrameIndex") ∷
-    hexadecimal 1 (codes "bmCapabilities") ∷ decimal 2 (codes "wWidth") ∷ decimal 2 (codes "wHeight") ∷ []) [] ∷
+    hexadecimal 1 (codes "bmCapabilities") ∷ decimal 2 (codes "wWidth") ∷ decimal 2 (codes "wHeight") ∷
+    decimal 4 (codes "dwMinBitRate") ∷ decimal 4 (codes "dwMaxBitRate") ∷
+    decimal 4 (codes "dwMaxVideoFrameBufferSize") ∷ decimal 4 (codes "dwDefaultFrameInterval") ∷
+    decimal 1 (codes "bFrameIntervalType") ∷ []) (decimal 4 (codes "dwFrameInterval") ∷ []) ∷
     row (Some 2) None 36 (Some 10) (codes "video format MPEG-2 TS")
-    (hexadecimal 1 (codes "bDescriptorSubtype") ∷ []) [] ∷
+    (hexadecimal 1 (codes "bDescriptorSubtype") ∷ decimal 1 (codes "bFormatIndex") ∷ decimal 1 (codes "bDataOffset") ∷
+    decimal 1 (codes "bPacketLength") ∷ decimal 1 (codes "bStrideLength") ∷ hexadecimal 16 (codes "guidStrideFormat") ∷
+    []) [] ∷
     row (Some 2) None 36 (Some 12) (codes "video format DV")
-    (hexadecimal 1 (codes "bDescriptorSubtype") ∷ []) [] ∷
+    (hexadecimal 1 (codes "bDescriptorSubtype") ∷ decimal 1 (codes "bFormatIndex") ∷
+    decimal 4 (codes "dwMaxVideoFrameBufferSize") ∷ hexadecimal 1 (codes "bFormatType") ∷ []) [] ∷
     row (Some 2) None 36 (Some 13) (codes "video color matching")
-    (hexadecimal 1 (codes "bDescriptorSubtype") ∷ []) [] ∷
+    (hexadecimal 1 (codes "bDescriptorSubtype") ∷ hexadecimal 1 (codes "bColorPrimaries") ∷
+    hexadecimal 1 (codes "bTransferCharacteristics") ∷ hexadecimal 1 (codes "bMatrixCoefficients") ∷ []) [] ∷
     row (Some 2) None 36 (Some 16) (codes "video format frame based")
-    (hexadecimal 1 (codes "bDescriptorSubtype") ∷ []) [] ∷
+    (hexadecimal 1 (codes "bDescriptorSubtype") ∷ decimal 1 (codes "bFormatIndex") ∷
+    decimal 1 (codes "bNumFrameDescriptors") ∷ hexadecimal 16 (codes "guidFormat") ∷ decimal 1 (codes "bBitsPerPixel") ∷
+    decimal 1 (codes "bDefaultFrameIndex") ∷ decimal 1 (codes "bAspectRatioX") ∷ decimal 1 (codes "bAspectRatioY") ∷
+    hexadecimal 1 (codes "bmInterlaceFlags") ∷ decimal 1 (codes "bCopyProtect") ∷ decimal 1 (codes "bVariableSize") ∷
+    []) [] ∷
     row (Some 2) None 36 (Some 17) (codes "video frame, frame based")
     (hexadecimal 1 (codes "bDescriptorSubtype") ∷ decimal 1 (codes "bFrameIndex") ∷
-    hexadecimal 1 (codes "bmCapabilities") ∷ decimal 2 (codes "wWidth") ∷ decimal 2 (codes "wHeight") ∷ []) [] ∷
+    hexadecimal 1 (codes "bmCapabilities") ∷ decimal 2 (codes "wWidth") ∷ decimal 2 (codes "wHeight") ∷
+    decimal 4 (codes "dwMinBitRate") ∷ decimal 4 (codes "dwMaxBitRate") ∷ decimal 4 (codes "dwDefaultFrameInterval") ∷
+    decimal 1 (codes "bFrameIntervalType") ∷ decimal 4 (codes "dwBytesPerLine") ∷ [])
+    (decimal 4 (codes "dwFrameInterval") ∷ []) ∷
     row (Some 2) None 36 (Some 18) (codes "video format stream based")
-    (hexadecimal 1 (codes "bDescriptorSubtype") ∷ []) [] ∷
+    (hexadecimal 1 (codes "bDescriptorSubtype") ∷ decimal 1 (codes "bFormatIndex") ∷
+    hexadecimal 16 (codes "guidFormat") ∷ decimal 4 (codes "dwPacketLength") ∷ []) [] ∷
+    row (Some 2) None 36 (Some 19) (codes "video format H264")
+    (hexadecimal 1 (codes "bDescriptorSubtype") ∷ decimal 1 (codes "bFormatIndex") ∷
+    decimal 1 (codes "bNumFrameDescriptors") ∷ decimal 1 (codes "bDefaultFrameIndex") ∷
+    decimal 1 (codes "bMaxCodecConfigDelay") ∷ hexadecimal 1 (codes "bmSupportedSliceModes") ∷
+    hexadecimal 1 (codes "bmSupportedSyncFrameTypes") ∷ decimal 1 (codes "bResolutionScaling") ∷
+    hexadecimal 1 (codes "Reserved1") ∷ hexadecimal 1 (codes "bmSupportedRateControlModes") ∷
+    decimal 2 (codes "wMaxMBperSecOneResolutionNoScalability") ∷
+    decimal 2 (codes "wMaxMBperSecTwoResolutionsNoScalability") ∷
+    decimal 2 (codes "wMaxMBperSecThreeResolutionsNoScalability") ∷
+    decimal 2 (codes "wMaxMBperSecFourResolutionsNoScalability") ∷
+    decimal 2 (codes "wMaxMBperSecOneResolutionTemporalScalability") ∷
+    decimal 2 (codes "wMaxMBperSecTwoResolutionsTemporalScalability") ∷
+    decimal 2 (codes "wMaxMBperSecThreeResolutionsTemporalScalability") ∷
+    decimal 2 (codes "wMaxMBperSecFourResolutionsTemporalScalability") ∷
+    decimal 2 (codes "wMaxMBperSecOneResolutionTemporalQualityScalability") ∷
+    decimal 2 (codes "wMaxMBperSecTwoResolutionsTemporalQualityScalability") ∷
+    decimal 2 (codes "wMaxMBperSecThreeResolutionsTemporalQualityScalability") ∷
+    decimal 2 (codes "wMaxMBperSecFourResolutionsTemporalQualityScalability") ∷
+    decimal 2 (codes "wMaxMBperSecOneResolutionTemporalSpatialScalability") ∷
+    decimal 2 (codes "wMaxMBperSecTwoResolutionsTemporalSpatialScalability") ∷
+    decimal 2 (codes "wMaxMBperSecThreeResolutionsTemporalSpatialScalability") ∷
+    decimal 2 (codes "wMaxMBperSecFourResolutionsTemporalSpatialScalability") ∷
+    decimal 2 (codes "wMaxMBperSecOneResolutionFullScalability") ∷
+    decimal 2 (codes "wMaxMBperSecTwoResolutionsFullScalability") ∷
+    decimal 2 (codes "wMaxMBperSecThreeResolutionsFullScalability") ∷
+    decimal 2 (codes "wMaxMBperSecFourResolutionsFullScalability") ∷ []) [] ∷
+    row (Some 2) None 36 (Some 20) (codes "video frame H264")
+    (hexadecimal 1 (codes "bDescriptorSubtype") ∷ decimal 1 (codes "bFrameIndex") ∷ decimal 2 (codes "wWidth") ∷
+    decimal 2 (codes "wHeight") ∷ decimal 2 (codes "wSARwidth") ∷ decimal 2 (codes "wSARheight") ∷
+    hexadecimal 2 (codes "wProfile") ∷ decimal 1 (codes "bLevelIDC") ∷ hexadecimal 2 (codes "wConstrainedToolset") ∷
+    hexadecimal 4 (codes "bmSupportedUsages") ∷ hexadecimal 2 (codes "bmCapabilities") ∷
+    hexadecimal 4 (codes "bmSVCCapabilities") ∷ hexadecimal 4 (codes "bmMVCCapabilities") ∷
+    decimal 4 (codes "dwMinBitRate") ∷ decimal 4 (codes "dwMaxBitRate") ∷ decimal 4 (codes "dwDefaultFrameInterval") ∷
+    decimal 1 (codes "bNumFrameIntervals") ∷ []) (decimal 4 (codes "dwFrameInterval") ∷ []) ∷
     row None None 36 None (codes "video class")
     (hexadecimal 1 (codes "bDescriptorSubtype") ∷ []) [] ∷
     row None None 37 None (codes "video endpoint")

@@ -226,6 +226,8 @@ fn miscellaneous_subclass(subclass: u8) -> Option<&'static str>
         0x03 => Some("cable based association"),
         0x04 => Some("RNDIS"),
         0x05 => Some("USB3 Vision"),
+        0x06 => Some("STEP"),
+        0x07 => Some("DVB common interface"),
         _ => None,
     }
 }
@@ -254,6 +256,7 @@ fn audio_protocol(subclass: u8, protocol: u8) -> Option<&'static str>
     ensures { option_map (λ name. name.now) result ≡ protocol_in tables.audio_protocols subclass protocol }
 {
     match (subclass, protocol) {
+        (0x00, 0x20) => Some("version 2.0"),
         (0x01, 0x20) => Some("version 2.0"),
         (0x01, 0x30) => Some("version 3.0"),
         (0x02, 0x20) => Some("version 2.0"),
@@ -282,8 +285,6 @@ fn hid_protocol(subclass: u8, protocol: u8) -> Option<&'static str>
     ensures { option_map (λ name. name.now) result ≡ protocol_in tables.hid_protocols subclass protocol }
 {
     match (subclass, protocol) {
-        (0x00, 0x01) => Some("keyboard"),
-        (0x00, 0x02) => Some("mouse"),
         (0x01, 0x01) => Some("keyboard"),
         (0x01, 0x02) => Some("mouse"),
         _ => None,
@@ -315,10 +316,30 @@ fn mass_storage_protocol(subclass: u8, protocol: u8) -> Option<&'static str>
     ensures { option_map (λ name. name.now) result ≡ protocol_in tables.mass_storage_protocols subclass protocol }
 {
     match (subclass, protocol) {
+        (0x01, 0x00) => Some("CBI with completion interrupt"),
+        (0x01, 0x01) => Some("CBI"),
+        (0x01, 0x50) => Some("bulk-only"),
+        (0x01, 0x62) => Some("UAS"),
+        (0x02, 0x00) => Some("CBI with completion interrupt"),
+        (0x02, 0x01) => Some("CBI"),
+        (0x02, 0x50) => Some("bulk-only"),
+        (0x02, 0x62) => Some("UAS"),
+        (0x04, 0x00) => Some("CBI with completion interrupt"),
+        (0x04, 0x01) => Some("CBI"),
+        (0x04, 0x50) => Some("bulk-only"),
+        (0x04, 0x62) => Some("UAS"),
         (0x06, 0x00) => Some("CBI with completion interrupt"),
         (0x06, 0x01) => Some("CBI"),
         (0x06, 0x50) => Some("bulk-only"),
         (0x06, 0x62) => Some("UAS"),
+        (0x07, 0x00) => Some("CBI with completion interrupt"),
+        (0x07, 0x01) => Some("CBI"),
+        (0x07, 0x50) => Some("bulk-only"),
+        (0x07, 0x62) => Some("UAS"),
+        (0x08, 0x00) => Some("CBI with completion interrupt"),
+        (0x08, 0x01) => Some("CBI"),
+        (0x08, 0x50) => Some("bulk-only"),
+        (0x08, 0x62) => Some("UAS"),
         _ => None,
     }
 }
@@ -339,7 +360,6 @@ fn cdc_data_protocol(subclass: u8, protocol: u8) -> Option<&'static str>
 {
     match (subclass, protocol) {
         (0x00, 0x01) => Some("network transfer block"),
-        (0x00, 0x02) => Some("network transfer block, version 2"),
         _ => None,
     }
 }
@@ -408,6 +428,10 @@ fn miscellaneous_protocol(subclass: u8, protocol: u8) -> Option<&'static str>
         (0x05, 0x00) => Some("control"),
         (0x05, 0x01) => Some("event"),
         (0x05, 0x02) => Some("streaming"),
+        (0x06, 0x01) => Some("STEP"),
+        (0x06, 0x02) => Some("STEP RAW"),
+        (0x07, 0x01) => Some("command interface"),
+        (0x07, 0x02) => Some("media interface"),
         _ => None,
     }
 }
