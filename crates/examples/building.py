@@ -180,6 +180,9 @@ def build(text):
     builder = Builder()
     lines = text.split(b"\n")
     for number, line in enumerate(lines[:-1], 1):
+        line = line.removesuffix(b"\r")
+        if not line or line.startswith(b"#"):
+            continue
         try:
             builder.add(line.decode("latin-1"))
         except Fault as fault:

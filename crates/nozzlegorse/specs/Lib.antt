@@ -19,6 +19,7 @@ pub use Rattle.usb_file.specs.Dumps
 pub use Rattle.usb_listing.specs.Listing
 pub use Rattle.usb_listing.specs.SetListing
 pub use Rattle.usb_listing.specs.Output
+pub use Rattle.usb_listing_reader.specs.Comments
 pub use Rattle.usb_listing_reader.specs.Listings
 pub use Rattle.usb_explain.specs.Explanations
 pub use Rattle.usb_rules.specs.Rules

@@ -51,6 +51,7 @@ pub fn listings_go_round()
 {
     one_file();
     listings::one_file();
+    listings::nothing_dropped();
 }
 
 /// Of all bytes exactly one holds: they are those of a file, or they show one fault at one place.

@@ -8,6 +8,7 @@ use Rattle.usb_listing_reader.specs.declared.word.Word.{Word}
 use Rattle.usb_listing_reader.specs.Words.{first_word, is_printable, word_text}
 use Rattle.usb_listing_reader.specs.Says.{Item, Says, item_word}
 use Rattle.usb_listing_reader.specs.Order.{MayStand, file_items, has_over, items_of}
+use Rattle.usb_listing_reader.specs.Comments.{uncommented}
 use Rattle.usb_listing_reader.specs.Listings.{Begins, FirstLine, IsBegun, ListFaulty, Lists, NoLineGoesOn, RestFaulty, is_whole, lines_of}
 use Rattle.usb_listing_reader.specs.inside.Finding.{word_in}
 use Rattle.usb_listing_reader.specs.inside.Growing.{may_stand}
@@ -68,7 +69,7 @@ walk_begun s begun = walk_within (length (items_of s)) s begun (omega arith)
 
 -- behind them the rest of the text is walked
 pub walk_front : (text : List ℕ) (s : Option DescriptorFile) (rest : List ℕ) (line : ℕ) → Begins text s rest line
-    → walk (going None 0 []) text ≡ walk (going s (length (items_of s)) []) rest
+    → walk (going None 0 []) (uncommented text) ≡ walk (going s (length (items_of s)) []) rest
 walk_front text s rest line b =
     ap (walk (going None 0 [])) b.parts ∙ walk-append (going None 0 []) (lines_of s) rest ∙ ap (λ (w : Walk). walk w rest) (walk_begun s b.begun)
 
@@ -77,7 +78,7 @@ walk_front text s rest line b =
 end_whole : (f : DescriptorFile) (n : ℕ) → is_whole (Some f) ≡ true → file_end (Some f) n ≡ Ok f
 end_whole f n e = ap (λ (b : Bool). cond b (Ok f) (Err (fault_behind n whys.Missing))) e
 
-pub answer_listing : (text : List ℕ) (f : DescriptorFile) → Lists text f → answer_of text ≡ Ok f
+pub answer_listing : (text : List ℕ) (f : DescriptorFile) → Lists text f → answer_of (uncommented text) ≡ Ok f
 unfolding answer_of
 answer_listing text f l =
     ap walk_end (ap (walk (going None 0 [])) l.lines ∙ walk_begun (Some f) (file_begun f l.bytes l.file))
@@ -150,10 +151,8 @@ fault_told s n rest whys.TooLong begun h =
 fault_told s n rest whys.Missing begun (none, due) = ap (λ (xs : List ℕ). walk_end (walk (going s n []) xs)) none ∙ end_missing s n due
 fault_told s n rest whys.Memory begun h = absurd h.fault
 
-pub answer_faulty : (text : List ℕ) (line : ℕ) (why : ListWhy) → ListFaulty text line why → answer_of text ≡ Err (record { line = line; why = why })
+pub answer_faulty : (text : List ℕ) (line : ℕ) (why : ListWhy) → (l : ListFaulty text line why) → answer_of (uncommented text) ≡ Err (fault_behind (length (items_of l.so_far)) why)
 unfolding answer_of
 answer_faulty text line why l =
     let b = l.begins in
-    ap walk_end (walk_front text l.so_far l.rest line b)
-    ∙ fault_told l.so_far (length (items_of l.so_far)) l.rest why b.begun l.fault
-    ∙ ap (λ (k : ℕ). Err (record { line = k; why = why })) (sym b.line_is)
+    ap walk_end (walk_front text l.so_far l.rest line b) ∙ fault_told l.so_far (length (items_of l.so_far)) l.rest why b.begun l.fault

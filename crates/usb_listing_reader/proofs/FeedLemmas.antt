@@ -1,5 +1,5 @@
 -- A line that is found by its line feed.
-use Rattle.std.proofs.Common.{◌≡◌, ◌≢◌, ℕ, ◌+◌, ◌-◌, ◌&&◌, Bool, true, false, cond, List, [], ◌∷◌, ◌++◌, Option, Some, None, Ok, Err, length, take, drop, refl, ap, sym, subst, ◌∙◌, append_assoc, append-nil, arith}
+use Rattle.std.proofs.Common.{◌≡◌, ◌≢◌, ℕ, ◌+◌, ◌-◌, ◌&&◌, Bool, true, false, cond, List, [], ◌∷◌, ◌++◌, Option, Some, None, length, take, drop, refl, ap, sym, subst, ◌∙◌, append_assoc, append-nil, arith}
 use Rattle.std.specs.List.{list_all}
 use Rattle.std.proofs.lemmas.List.{length-drop, take_all}
 use Rattle.memchr.specs.Find.{IsFirstByte, is_byte}
@@ -7,19 +7,14 @@ use Rattle.usb_file_data.specs.declared.file.DescriptorFile.{DescriptorFile}
 use Rattle.usb_listing_reader.specs.declared.draft.Draft.{Draft}
 use Rattle.usb_listing_reader.specs.declared.fault.ListWhy.{ListWhy}
 use Rattle.usb_listing_reader.specs.declared.fault.ListWhy.TheVariants as whys
-use Rattle.usb_listing_reader.specs.declared.word.Word.{Word}
-use Rattle.usb_listing_reader.specs.Words.{first_word, is_printable}
-use Rattle.usb_listing_reader.specs.Says.{Item}
+use Rattle.usb_listing_reader.specs.Words.{is_printable}
+use Rattle.usb_listing_reader.specs.Comments.{is_dropped, lines_before, uncommented, whole_lines, without_return}
 use Rattle.usb_listing_reader.specs.Listings.{IsBegun, LineFaulty, NoLineGoesOn}
-use Rattle.usb_listing_reader.specs.inside.Drafts.{Drafted, Stops, TakesLine, Told, so_far}
-use Rattle.usb_listing_reader.specs.inside.Finding.{word_in}
-use Rattle.usb_listing_reader.specs.inside.Growing.{may_stand}
+use Rattle.usb_listing_reader.specs.inside.Drafts.{Drafted, Stops, Takes, TakesLine, Told, so_far}
 use Rattle.usb_listing_reader.specs.inside.Lines.{Cut, HasNo}
-use Rattle.usb_listing_reader.specs.inside.Rows.{item_of_line}
-use Rattle.usb_listing_reader.specs.inside.Walking.{add_item, add_line, add_word}
-use Rattle.usb_listing_reader.proofs.PrintableLemmas.{said_printable}
+use Rattle.usb_listing_reader.specs.inside.Walking.{add_line}
+use Rattle.usb_listing_reader.proofs.CommentLemmas.{kept_cut, none_before, uncommented_none}
 use Rattle.usb_listing_reader.proofs.ReadingLemmas.{told_line}
-use Rattle.usb_listing_reader.proofs.SaysLemmas.{read_is_said}
 use Rattle.usb_listing_reader.proofs.WalkLemmas.{Printable}
 use Rattle.usb_listing_reader.proofs.WordLemmas.{byte_found, byte_nowhere}
 
@@ -61,8 +56,8 @@ ends (x ∷ text) h = cases (is_printable x) refl (ends text h.1)
         both : (a b : Bool) → a ≡ true → b ≡ true → (a && b) ≡ true
         both a b ea eb = rw (ea, eb) refl
 
-pub no_feed_faulty : (text : List ℕ) → text ≢ [] → HasNo 10 text → LineFaulty text
-no_feed_faulty text some h = let s = ends text h in (s.line, s.more, some, s.parts, s.printable, s.stop)
+pub no_feed_faulty : (text : List ℕ) → text ≢ [] → HasNo 10 text → LineFaulty (uncommented text)
+no_feed_faulty text some h = let s = ends text h in subst LineFaulty (sym (uncommented_none text h)) (s.line, s.more, some, s.parts, s.printable, s.stop)
 
 -- a first line with a byte that no line has
 bad_line : (text line more : List ℕ) → Cut 10 text line more → list_all is_printable line ≡ false → LineFaulty text
@@ -85,35 +80,37 @@ bad_line text line more cut bad = at (ends line cut.none)
 
 -- ---- a line that was read
 
--- it has only bytes that a line may have
-made_printable : (s : Option DescriptorFile) (line : List ℕ) (f : DescriptorFile) → add_line s line ≡ Ok f → Printable line
-unfolding add_line
-made_printable s line f e = by_word (word_in (first_word line)) e
-  where
-    by_item : (o : Option Item) → item_of_line line ≡ o → add_item s o ≡ Ok f → Printable line
-    by_item None eo e = cc
-    by_item (Some item) eo e = said_printable line item (read_is_said line item eo)
+-- ---- a line that was found, without its carriage return
 
-    by_place : (b : Bool) → cond b (add_item s (item_of_line line)) (Err whys.Place) ≡ Ok f → Printable line
-    by_place true e = by_item (item_of_line line) refl e
-    by_place false e = cc
-
-    by_word : (o : Option Word) → add_word s o (item_of_line line) ≡ Ok f → Printable line
-    by_word None e = cc
-    by_word (Some w) e = by_place (may_stand s w) e
-
-pub takes_line : (old new : Option Draft) (text line more : List ℕ) → Cut 10 text line more → Drafted (add_line (so_far old) line) new → TakesLine old text new more
-takes_line old new text line more cut drafted = record {
-  line = line;
-  first = record { parts = cut.parts; printable = made_printable (so_far old) line drafted.file drafted.made };
-  drafted = drafted;
+pub takes_line : (old new : Option Draft) (text raw more line : List ℕ) → Cut 10 text raw more → line ≡ without_return raw → is_dropped line ≡ false
+    → Drafted (add_line (so_far old) line) new → TakesLine old text new more
+takes_line old new text raw more line cut is e drafted = record {
+  line = raw;
+  cut = cut;
+  takes = subst (λ (l : List ℕ). Takes (is_dropped l) old l new) is (subst (λ (b : Bool). Takes b old line new) (sym e) drafted);
 }
 
+pub drops_line : (old : Option Draft) (text raw more line : List ℕ) → Cut 10 text raw more → line ≡ without_return raw → is_dropped line ≡ true → TakesLine old text old more
+drops_line old text raw more line cut is e = record {
+  line = raw;
+  cut = cut;
+  takes = subst (λ (l : List ℕ). Takes (is_dropped l) old l old) is (subst (λ (b : Bool). Takes b old line old) (sym e) refl);
+}
+
+pub kept_first : (text raw more line : List ℕ) → Cut 10 text raw more → line ≡ without_return raw → is_dropped line ≡ false → lines_before (whole_lines text) 0 ≡ 0
+kept_first text raw more line cut is e = none_before text raw more cut (ap is_dropped (sym is) ∙ e)
+
 -- the first reason that holds of a line that was refused
-pub first_told : (s : Option DescriptorFile) (text line more : List ℕ) (why : ListWhy) → IsBegun s → Cut 10 text line more → Stops (add_line s line) why
+first_told : (s : Option DescriptorFile) (text line more : List ℕ) (why : ListWhy) → IsBegun s → Cut 10 text line more → Stops (add_line s line) why
     → Told s text (cond (list_all is_printable line) why whys.Line)
 first_told s text line more why begun cut refused = cases (list_all is_printable line) refl
   where
     cases : (b : Bool) → list_all is_printable line ≡ b → Told s text (cond b why whys.Line)
     cases true e = told_line s text line more why begun (record { parts = cut.parts; printable = e }) refused
     cases false e = bad_line text line more cut e
+
+pub kept_told : (s : Option DescriptorFile) (text raw more line : List ℕ) (why : ListWhy) → IsBegun s → Cut 10 text raw more → line ≡ without_return raw → is_dropped line ≡ false
+    → Stops (add_line s line) why → Told s (uncommented text) (cond (list_all is_printable line) why whys.Line)
+kept_told s text raw more line why begun cut is e refused =
+    first_told s (uncommented text) line (uncommented more) why begun
+    (subst (λ (l : List ℕ). Cut 10 (uncommented text) l (uncommented more)) (sym is) (kept_cut text raw more cut (ap is_dropped (sym is) ∙ e))) refused

@@ -12,10 +12,12 @@ use Rattle.usb_listing_reader.specs.declared.fault.ListFault.{ListFault}
 use Rattle.usb_listing_reader.specs.declared.fault.ListWhy.{ListWhy}
 use Rattle.usb_listing_reader.specs.declared.fault.ListWhy.TheVariants as whys
 use Rattle.usb_listing_reader.specs.ListingOrFault.{ListingOrFault, is_faulty, is_listing}
+use Rattle.usb_listing_reader.specs.Comments.{lines_before, uncommented, whole_lines}
 use Rattle.usb_listing_reader.specs.Listings.{IsBegun, IsLineStart, ListFaulty, ListRefused, Lists, RestFaulty, is_whole, lines_of}
 use Rattle.usb_listing_reader.specs.Order.{items_of}
 use Rattle.usb_listing_reader.specs.inside.Walking.{Walk, add_line, after_line, answer_of, going, stopped, walk, walk_byte, fault_behind, walk_end}
 use Rattle.usb_listing_reader.proofs.AnswerLemmas.{answer_faulty, answer_listing, walk_front}
+use Rattle.usb_listing_reader.proofs.CommentLemmas.{before_grows}
 use Rattle.usb_listing_reader.proofs.ReadingLemmas.{lasting, lines_more}
 use Rattle.usb_listing_reader.proofs.WalkLemmas.{Lasts, Makes, Printable, makes, ordered_of}
 use Rattle.usb_listing_reader.proofs.WholeLemmas.{whole_file}
@@ -28,13 +30,19 @@ one_file text f g lf lg =
 
 pub one_fault : (text : List ℕ) (m n : ℕ) (v w : ListWhy) → ListFaulty text m v → ListFaulty text n w → (m ≡ n) × (v ≡ w)
 one_fault text m n v w lv lw =
-    let same : Err (record { line = m; why = v }) ≡ Err (record { line = n; why = w }) = sym (answer_faulty text m v lv) ∙ answer_faulty text n w lw in
+    let j = length (items_of lv.so_far) in
+    let k = length (items_of lw.so_far) in
+    let same : Err (fault_behind j v) ≡ Err (fault_behind k w) = sym (answer_faulty text m v lv) ∙ answer_faulty text n w lw in
     let fault : Result DescriptorFile ListFault → ListFault = λ r. elim r as (λ q. ListFault) [ Ok h ↦ record { line = m; why = v } | Err e ↦ e ] in
-    (ap (λ (r : Result DescriptorFile ListFault). (fault r).line) same, ap (λ (r : Result DescriptorFile ListFault). (fault r).why) same)
+    let lines : j + 1 ≡ k + 1 = ap (λ (r : Result DescriptorFile ListFault). (fault r).line) same in
+    let line : j ≡ k = omega (arith, lines) in (
+      lv.begins.line_is ∙ ap (λ (i : ℕ). lines_before (whole_lines text) i + 1) line ∙ sym lw.begins.line_is,
+      ap (λ (r : Result DescriptorFile ListFault). (fault r).why) same,
+    )
 
 pub not_both : (text : List ℕ) (f : DescriptorFile) (n : ℕ) (w : ListWhy) → Lists text f → ListFaulty text n w → ⊥
 not_both text f n w l lw =
-    apart (answer_of text) f (record { line = n; why = w }) (answer_listing text f l) (answer_faulty text n w lw)
+    apart (answer_of (uncommented text)) f (fault_behind (length (items_of lw.so_far)) w) (answer_listing text f l) (answer_faulty text n w lw)
   where
     apart : (r : Result DescriptorFile ListFault) (g : DescriptorFile) (e : ListFault) → r ≡ Ok g → r ≡ Err e → ⊥
     apart (Ok h) g e ok err = cc
@@ -42,19 +50,31 @@ not_both text f n w l lw =
 
 -- ---- at least one
 
+-- what was kept of a text has this fault, behind so many lines
+record Faulty (text : List ℕ) (n : ℕ) (why : ListWhy) : Type 0 where
+  pub so_far : Option DescriptorFile
+  pub rest : List ℕ
+  pub begun : IsBegun so_far
+  pub parts : text ≡ lines_of so_far ++ rest
+  pub count : n ≡ length (items_of so_far)
+  pub fault : RestFaulty so_far rest why
+
+faulty : (text : List ℕ) (n : ℕ) (why : ListWhy) → Faulty (uncommented text) n why → ListingOrFault text
+faulty text n why h = is_faulty (lines_before (whole_lines text) n + 1) why (record {
+  so_far = h.so_far;
+  rest = h.rest;
+  begins = record { begun = h.begun; parts = h.parts; line_is = ap (λ (k : ℕ). lines_before (whole_lines text) k + 1) h.count };
+  fault = h.fault;
+})
+
 -- what is so of the bytes that were walked
 abbrev Walked : List ℕ → Walk → Type 0
 Walked text (going s n line) = IsBegun s × (text ≡ lines_of s ++ line) × Printable line × (n ≡ length (items_of s))
-Walked text (stopped n why) = (t : List ℕ) → ListFaulty (text ++ t) (n + 1) why
+Walked text (stopped n why) = (t : List ℕ) → Faulty (text ++ t) n why
 
 fault_behind_lines : (text : List ℕ) (s : Option DescriptorFile) (n : ℕ) (rest : List ℕ) (why : ListWhy) → IsBegun s → text ≡ lines_of s ++ rest → n ≡ length (items_of s)
-    → RestFaulty s rest why → ListFaulty text (n + 1) why
-fault_behind_lines text s n rest why begun parts count fault = record {
-  so_far = s;
-  rest = rest;
-  begins = record { begun = begun; parts = parts; line_is = ap (λ (k : ℕ). k + 1) count };
-  fault = fault;
-}
+    → RestFaulty s rest why → Faulty text n why
+fault_behind_lines text s n rest why begun parts count fault = record { so_far = s; rest = rest; begun = begun; parts = parts; count = count; fault = fault }
 
 -- a fault that lasts is not out of memory
 lasts_on : (s : Option DescriptorFile) (rest t : List ℕ) (why : ListWhy) → Lasts s rest why → RestFaulty s (rest ++ t) why
@@ -84,7 +104,7 @@ walked_line text s n line parts begun count (Err why) h = λ t.
 -- one byte more
 walked_byte : (text : List ℕ) (w : Walk) (x : ℕ) → Walked text w → Walked (text ++ x ∷ []) (walk_byte w x)
 unfolding walk_byte
-walked_byte text (stopped n why) x h = λ t. subst (λ (ys : List ℕ). ListFaulty ys (n + 1) why) (sym (append_assoc text (x ∷ []) t)) (h (x ∷ t))
+walked_byte text (stopped n why) x h = λ t. subst (λ (ys : List ℕ). Faulty ys n why) (sym (append_assoc text (x ∷ []) t)) (h (x ∷ t))
 walked_byte text (going s n line) x (begun, parts, print, count) = cases (is_printable x) (x == 10) refl refl
   where
     cases : (a b : Bool) → is_printable x ≡ a → (x == 10) ≡ b
@@ -113,21 +133,22 @@ walked_all text (x ∷ rest) w h =
     subst (λ (ys : List ℕ). Walked ys (walk (walk_byte w x) rest)) (append_assoc text (x ∷ []) rest) (walked_all (text ++ x ∷ []) rest (walk_byte w x) (walked_byte text w x h))
 
 -- at the end of the text
-walked_end : (text : List ℕ) (w : Walk) → Walked text w → ListingOrFault text
-walked_end text (stopped n why) h = is_faulty (n + 1) why (subst (λ (ys : List ℕ). ListFaulty ys (n + 1) why) (append-nil text) (h []))
+walked_end : (text : List ℕ) (w : Walk) → Walked (uncommented text) w → ListingOrFault text
+walked_end text (stopped n why) h = faulty text n why (subst (λ (ys : List ℕ). Faulty ys n why) (append-nil (uncommented text)) (h []))
 walked_end text (going s n (x ∷ line)) (begun, parts, print, count) =
-    is_faulty (n + 1) whys.Line
-    (fault_behind_lines text s n (x ∷ line) whys.Line begun parts count (x ∷ line, [], (λ e. cc), sym (append-nil (x ∷ line)), print, tt))
+    faulty text n whys.Line
+    (fault_behind_lines (uncommented text) s n (x ∷ line) whys.Line begun parts count (x ∷ line, [], (λ e. cc), sym (append-nil (x ∷ line)), print, tt))
 walked_end text (going None n []) (begun, parts, print, count) =
-    is_faulty (n + 1) whys.Missing (fault_behind_lines text None n [] whys.Missing begun parts count (refl, refl))
+    faulty text n whys.Missing (fault_behind_lines (uncommented text) None n [] whys.Missing begun parts count (refl, refl))
 walked_end text (going (Some f) n []) (begun, parts, print, count) = cases (is_whole (Some f)) refl
   where
     cases : (b : Bool) → is_whole (Some f) ≡ b → ListingOrFault text
     cases true e = is_listing f (record { lines = parts ∙ append-nil (file_lines f); bytes = file_bytes f; file = whole_file f begun e })
-    cases false e = is_faulty (n + 1) whys.Missing (fault_behind_lines text (Some f) n [] whys.Missing begun parts count (refl, e))
+    cases false e = faulty text n whys.Missing (fault_behind_lines (uncommented text) (Some f) n [] whys.Missing begun parts count (refl, e))
 
 pub listing_or_fault : (text : List ℕ) → ListingOrFault text
-listing_or_fault text = walked_end text (walk (going None 0 []) text) (walked_all [] text (going None 0 []) (tt, refl, refl, refl))
+listing_or_fault text =
+    walked_end text (walk (going None 0 []) (uncommented text)) (walked_all [] (uncommented text) (going None 0 []) (tt, refl, refl, refl))
 
 -- ---- a listing is refused out of memory alone
 
@@ -148,25 +169,25 @@ for_memory (Err e) text f l h = want_of_memory text f e.line e.why l h
 -- ---- no line behind the first one at fault is reached
 
 -- how many lines stand before the one in work, or the one at fault
-abbrev lines_before : Walk → ℕ
-lines_before (going s n line) = n
-lines_before (stopped n why) = n
+abbrev lines_walked : Walk → ℕ
+lines_walked (going s n line) = n
+lines_walked (stopped n why) = n
 
-no_fewer : (w : Walk) (x : ℕ) → lines_before w ≤ lines_before (walk_byte w x)
+no_fewer : (w : Walk) (x : ℕ) → lines_walked w ≤ lines_walked (walk_byte w x)
 unfolding walk_byte
 no_fewer (stopped n why) x = omega arith
 no_fewer (going s n line) x = cases (is_printable x) (x == 10)
   where
-    fed : (r : Result DescriptorFile ListWhy) → n ≤ lines_before (after_line n r)
+    fed : (r : Result DescriptorFile ListWhy) → n ≤ lines_walked (after_line n r)
     fed (Ok f) = omega arith
     fed (Err why) = omega arith
 
-    cases : (a b : Bool) → n ≤ lines_before (cond a (going s n (line ++ x ∷ [])) (cond b (after_line n (add_line s line)) (stopped n whys.Line)))
+    cases : (a b : Bool) → n ≤ lines_walked (cond a (going s n (line ++ x ∷ [])) (cond b (after_line n (add_line s line)) (stopped n whys.Line)))
     cases true b = omega arith
     cases false true = fed (add_line s line)
     cases false false = omega arith
 
-none_fewer : (w : Walk) (text : List ℕ) → lines_before w ≤ lines_before (walk w text)
+none_fewer : (w : Walk) (text : List ℕ) → lines_walked w ≤ lines_walked (walk w text)
 none_fewer w [] = omega arith
 none_fewer w (x ∷ text) =
     let one = no_fewer w x in
@@ -178,7 +199,7 @@ abbrev told_line : Result DescriptorFile ListFault → ℕ
 told_line (Ok f) = 0
 told_line (Err e) = e.line
 
-end_told : (w : Walk) (e : ListFault) → walk_end w ≡ Err e → e.line ≡ lines_before w + 1
+end_told : (w : Walk) (e : ListFault) → walk_end w ≡ Err e → e.line ≡ lines_walked w + 1
 end_told (stopped n why) e is = sym (ap told_line is)
 end_told (going s n (x ∷ line)) e is = sym (ap told_line is)
 end_told (going None n []) e is = sym (ap told_line is)
@@ -193,9 +214,12 @@ unfolding answer_of
 reached text m n why start fault =
     let b = start.begins in
     let k = length (items_of start.so_far) in
+    let j = length (items_of fault.so_far) in
     let w = walk (going start.so_far k []) start.rest in
-    let walked : walk (going None 0 []) text ≡ w = walk_front text start.so_far start.rest m b in
-    let told : n ≡ lines_before w + 1 = end_told w (record { line = n; why = why }) (sym (ap walk_end walked) ∙ answer_faulty text n why fault) in
-    let more : k ≤ lines_before w = none_fewer (going start.so_far k []) start.rest in
-    let line = b.line_is in
-    omega (arith, told, more, line)
+    let walked : walk (going None 0 []) (uncommented text) ≡ w = walk_front text start.so_far start.rest m b in
+    let told : j + 1 ≡ lines_walked w + 1 = end_told w (fault_behind j why) (sym (ap walk_end walked) ∙ answer_faulty text n why fault) in
+    let more : k ≤ lines_walked w = none_fewer (going start.so_far k []) start.rest in
+    let grown = before_grows (whole_lines text) k j (omega (arith, told, more)) in
+    let from = b.line_is in
+    let to = fault.begins.line_is in
+    omega (arith, grown, from, to)

@@ -19,6 +19,7 @@ pub mod DraftLemmas
 pub mod CountLemmas
 pub mod WholeLemmas
 pub mod LineLemmas
+pub mod CommentLemmas
 pub mod WalkLemmas
 pub mod ReadingLemmas
 pub mod StepLemmas

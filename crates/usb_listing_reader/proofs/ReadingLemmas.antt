@@ -1,5 +1,5 @@
 -- A listing read line by line.
-use Rattle.std.proofs.Common.{◌≡◌, ◌≢◌, inl, inr, ℕ, ◌+◌, ◌<◌, true, false, List, [], ◌∷◌, ◌++◌, Option, Some, None, Result, Ok, Err, length, refl, ap, sym, subst, ◌∙◌, append_assoc, append-nil, length-append, arith, codes}
+use Rattle.std.proofs.Common.{◌≡◌, ◌≢◌, inl, inr, ℕ, suc, ◌+◌, ◌<◌, ◌≤◌, Bool, true, false, List, [], ◌∷◌, ◌++◌, Option, Some, None, Result, Ok, Err, length, refl, ap, sym, subst, ◌∙◌, append_assoc, append-nil, length-append, zero-add, arith, codes}
 use Rattle.std.specs.List.{flat_map}
 use Rattle.std.specs.Prelude.{IfErr, IfOk}
 use Rattle.std.specs.Result.{IsErrAnd}
@@ -11,14 +11,16 @@ use Rattle.usb_listing_reader.specs.declared.draft.Draft.{Draft}
 use Rattle.usb_listing_reader.specs.declared.fault.ListFault.{ListFault}
 use Rattle.usb_listing_reader.specs.declared.fault.ListWhy.{ListWhy}
 use Rattle.usb_listing_reader.specs.declared.fault.ListWhy.TheVariants as whys
+use Rattle.usb_listing_reader.specs.Comments.{is_dropped, lines_before, uncommented, whole_lines, without_return}
 use Rattle.usb_listing_reader.specs.Says.{Item, Says, item_line}
 use Rattle.usb_listing_reader.specs.Order.{IsOrdered, file_items, items_of}
 use Rattle.usb_listing_reader.specs.Listings.{Begins, FirstFaulty, FirstLine, IsBegun, ListRefused, Lists, is_whole, lines_of}
-use Rattle.usb_listing_reader.specs.inside.Drafts.{AreHeld, Reading, Stops, TakesLine, Told, so_far}
+use Rattle.usb_listing_reader.specs.inside.Drafts.{AreHeld, Reading, Stops, Takes, TakesLine, Told, so_far}
 use Rattle.usb_listing_reader.specs.inside.Walking.{add_line}
+use Rattle.usb_listing_reader.proofs.CommentLemmas.{before_dropped, before_kept, dropped_cut, kept_cut}
 use Rattle.usb_listing_reader.proofs.LineLemmas.{lines_are}
 use Rattle.usb_listing_reader.proofs.MoreLemmas.{AreOrdered}
-use Rattle.usb_listing_reader.proofs.WalkLemmas.{Lasts, Makes, makes, ordered_of}
+use Rattle.usb_listing_reader.proofs.WalkLemmas.{Lasts, Makes, made_printable, makes, ordered_of}
 use Rattle.usb_listing_reader.proofs.WholeLemmas.{whole_file}
 
 lines_of-are : (s : Option DescriptorFile) → AreOrdered s → lines_of s ≡ flat_map item_line (items_of s)
@@ -31,7 +33,8 @@ begun_of (Some d) h = h.begun
 
 pub reading_none : (text : List ℕ) (d : Option Draft) → d ≡ None → Reading text d text 1
 reading_none text d e = subst (λ (x : Option Draft). Reading text x text 1) (sym e) (record {
-  begins = record { begun = tt; parts = refl; line_is = refl };
+  parts = refl;
+  lines = λ k. let none : lines_before (whole_lines text) (0 + k) ≡ lines_before (whole_lines text) k = ap (lines_before (whole_lines text)) (zero-add k) in omega (arith, none);
   holds = tt;
   few = omega arith;
 })
@@ -43,30 +46,55 @@ lines_more s f item line hs hf e says =
     lines_are f hf ∙ ap (flat_map item_line) e ∙ flat_map-snoc item_line (items_of s) item
     ∙ ap (λ (xs : List ℕ). xs ++ item_line item) (sym (lines_of-are s hs)) ∙ ap (λ (xs : List ℕ). lines_of s ++ xs) (sym says.text)
 
-begins_more : (text rest line more : List ℕ) (s : Option DescriptorFile) (f : DescriptorFile) (n : ℕ) → Begins text s rest n → FirstLine rest line more
-    → Makes s line (Ok f) → Begins text (Some f) more (n + 1)
-begins_more text rest line more s f n b first (front, item, items, says) =
-    let p : text ≡ file_lines f ++ more =
-    b.parts ∙ ap (λ (xs : List ℕ). lines_of s ++ xs) (first.parts ∙ sym (append_assoc line (codes "\n") more))
-    ∙ sym (append_assoc (lines_of s) (line ++ codes "\n") more) ∙ ap (λ (xs : List ℕ). xs ++ more) (sym (lines_more s f item line (ordered_of s b.begun) front.0 items says)) in
+-- the parts of a text, with one more line in front of what is left
+parts_more : (text rest line more : List ℕ) (s : Option DescriptorFile) (f : DescriptorFile) → IsBegun s → text ≡ lines_of s ++ rest → rest ≡ line ++ 10 ∷ more
+    → Makes s line (Ok f) → text ≡ file_lines f ++ more
+parts_more text rest line more s f begun parts first (front, item, items, says) =
+    parts ∙ ap (λ (xs : List ℕ). lines_of s ++ xs) (first ∙ sym (append_assoc line (codes "\n") more))
+    ∙ sym (append_assoc (lines_of s) (line ++ codes "\n") more) ∙ ap (λ (xs : List ℕ). xs ++ more) (sym (lines_more s f item line (ordered_of s begun) front.0 items says))
+
+one_more : (s : Option DescriptorFile) (line : List ℕ) (f : DescriptorFile) → Makes s line (Ok f) → length (file_items f) ≡ suc (length (items_of s))
+one_more s line f (front, item, items, says) =
     let count : length (file_items f) ≡ length (items_of s) + 1 = ap length items ∙ length-append (items_of s) (item ∷ []) in
-    let before = b.line_is in
-    record { begun = front; parts = p; line_is = omega (arith, count, before) }
+    omega (arith, count)
 
 pub reading_next : (text rest more : List ℕ) (old new : Option Draft) (n : ℕ) → Reading text old rest n → TakesLine old rest new more → length more < length rest
     → Reading text new more (n + 1)
-reading_next text rest more old new n r t shorter =
-    let s = so_far old in
-    let made = makes s t.line r.begins.begun t.first.printable in
-    let f = t.drafted.file in
-    let made_f : Makes s t.line (Ok f) = subst (Makes s t.line) t.drafted.made made in
-    let b = begins_more text rest t.line more s f n r.begins t.first made_f in
-    let few = r.few in
-    record {
-      begins = subst (λ x. Begins text x more (n + 1)) (sym t.drafted.is) b;
-      holds = t.drafted.holds;
-      few = omega (arith, few, shorter);
-    }
+reading_next text rest more old new n r t shorter = cases (is_dropped (without_return t.line)) refl t.takes
+  where
+    few : n + 1 + length more ≤ length text + 1
+    few = let few = r.few in omega (arith, few, shorter)
+
+    cases : (b : Bool) → is_dropped (without_return t.line) ≡ b → Takes b old (without_return t.line) new → Reading text new more (n + 1)
+    cases true e same = subst (λ (d : Option Draft). Reading text d more (n + 1)) (sym same) (record {
+      parts = r.parts ∙ ap (λ (xs : List ℕ). lines_of (so_far old) ++ xs) (dropped_cut rest t.line more t.cut e);
+      lines = λ k.
+          let was = r.lines k in
+          let one = before_dropped rest t.line more k t.cut e in
+          omega (arith, was, one);
+      holds = r.holds;
+      few = few;
+    })
+    cases false e drafted =
+        let s = so_far old in
+        let line = without_return t.line in
+        let f = drafted.file in
+        let begun = begun_of old r.holds in
+        let cut = kept_cut rest t.line more t.cut e in
+        let print = made_printable s line f drafted.made in
+        let made : Makes s line (Ok f) = subst (Makes s line) drafted.made (makes s line begun print) in
+        let parts : uncommented text ≡ lines_of (Some f) ++ uncommented more = parts_more (uncommented text) (uncommented rest) line (uncommented more) s f begun r.parts cut.parts made in
+        let numbers : (k : ℕ) → lines_before (whole_lines text) (length (items_of (Some f)) + k) + 1 ≡ n + 1 + lines_before (whole_lines more) k = λ k.
+        let count : length (file_items f) + k ≡ length (items_of s) + suc k = (let one = one_more s line f made in omega (arith, one)) in
+        let was = ap (λ (j : ℕ). lines_before (whole_lines text) j + 1) count ∙ r.lines (suc k) in
+        let one = before_kept rest t.line more k t.cut e in
+        omega (arith, was, one) in
+        record {
+          parts = subst (λ (x : Option DescriptorFile). uncommented text ≡ lines_of x ++ uncommented more) (sym drafted.is) parts;
+          lines = subst (λ (x : Option DescriptorFile). (k : ℕ) → lines_before (whole_lines text) (length (items_of x) + k) + 1 ≡ n + 1 + lines_before (whole_lines more) k) (sym drafted.is) numbers;
+          holds = drafted.holds;
+          few = few;
+        }
 
 -- ---- faults
 
@@ -99,27 +127,40 @@ told_line s rest line more why begun first (inr refused) =
     let is : (line ++ 10 ∷ []) ++ more ≡ rest = append_assoc line (10 ∷ []) more ∙ sym first.parts in
     subst (λ (xs : List ℕ). Told s xs why) is (lasting s (line ++ 10 ∷ []) more why made)
 
-pub refused_line : (text rest : List ℕ) (d : Option Draft) (n m : ℕ) (why : ListWhy) → Reading text d rest n → m ≡ n → Told (so_far d) rest why → ListRefused text m why
-refused_line text rest d n m why r e told = subst (λ k. ListRefused text k why) (sym e) (cases why told)
+-- where the next line is kept
+pub begins_at : (text rest : List ℕ) (d : Option Draft) (n : ℕ) → Reading text d rest n → lines_before (whole_lines rest) 0 ≡ 0 → Begins text (so_far d) (uncommented rest) n
+begins_at text rest d n r kept =
+    let here = r.lines 0 in
+    let same : length (items_of (so_far d)) + 0 ≡ length (items_of (so_far d)) = omega arith in
+    let line : lines_before (whole_lines text) (length (items_of (so_far d))) + 1 ≡ n + lines_before (whole_lines rest) 0 =
+    ap (λ (j : ℕ). lines_before (whole_lines text) j + 1) (sym same) ∙ here in
+    record { begun = begun_of d r.holds; parts = r.parts; line_is = omega (arith, line, kept) }
+
+pub refused_line : (text rest : List ℕ) (d : Option Draft) (n m : ℕ) (why : ListWhy) → Reading text d rest n → lines_before (whole_lines rest) 0 ≡ 0 → m ≡ n
+    → Told (so_far d) (uncommented rest) why → ListRefused text m why
+refused_line text rest d n m why r kept e told = subst (λ k. ListRefused text k why) (sym e) (cases why told)
   where
-    cases : (why : ListWhy) → Told (so_far d) rest why → ListRefused text n why
-    cases whys.Line h = record { so_far = so_far d; rest = rest; begins = r.begins; fault = h }
-    cases whys.Word h = record { so_far = so_far d; rest = rest; begins = r.begins; fault = h }
-    cases whys.Place h = record { so_far = so_far d; rest = rest; begins = r.begins; fault = h }
-    cases whys.Field h = record { so_far = so_far d; rest = rest; begins = r.begins; fault = h }
-    cases whys.TooLong h = record { so_far = so_far d; rest = rest; begins = r.begins; fault = h }
-    cases whys.Missing h = record { so_far = so_far d; rest = rest; begins = r.begins; fault = h }
-    cases whys.Memory h = record { so_far = so_far d; rest = rest; begins = r.begins }
+    begins : Begins text (so_far d) (uncommented rest) n
+    begins = begins_at text rest d n r kept
+
+    cases : (why : ListWhy) → Told (so_far d) (uncommented rest) why → ListRefused text n why
+    cases whys.Line h = record { so_far = so_far d; rest = uncommented rest; begins = begins; fault = h }
+    cases whys.Word h = record { so_far = so_far d; rest = uncommented rest; begins = begins; fault = h }
+    cases whys.Place h = record { so_far = so_far d; rest = uncommented rest; begins = begins; fault = h }
+    cases whys.Field h = record { so_far = so_far d; rest = uncommented rest; begins = begins; fault = h }
+    cases whys.TooLong h = record { so_far = so_far d; rest = uncommented rest; begins = begins; fault = h }
+    cases whys.Missing h = record { so_far = so_far d; rest = uncommented rest; begins = begins; fault = h }
+    cases whys.Memory h = record { so_far = so_far d; rest = uncommented rest; begins = begins }
 
 -- ---- the end
 
 pub lists_whole : (text : List ℕ) (d : Option Draft) (n : ℕ) (f : DescriptorFile) → Reading text d [] n → so_far d ≡ Some f → is_whole (Some f) ≡ true → Lists text f
 lists_whole text d n f r e whole =
-    let b : Begins text (Some f) [] n = subst (λ x. Begins text x [] n) e r.begins in
+    let b : Begins text (Some f) [] n = subst (λ x. Begins text x [] n) e (begins_at text [] d n r refl) in
     record { lines = b.parts ∙ append-nil (file_lines f); bytes = file_bytes f; file = whole_file f b.begun whole }
 
 pub missing_end : (text : List ℕ) (d : Option Draft) (n : ℕ) → Reading text d [] n → is_whole (so_far d) ≡ false → ListRefused text n whys.Missing
-missing_end text d n r e = record { so_far = so_far d; rest = []; begins = r.begins; fault = (refl, e) }
+missing_end text d n r e = record { so_far = so_far d; rest = []; begins = begins_at text [] d n r refl; fault = (refl, e) }
 
 pub lists_end : (r : Result DescriptorFile ListFault) (text : List ℕ) (d : Option Draft) (n : ℕ) → Reading text d [] n → IfOk r (λ f. so_far d ≡ Some f)
     → IfOk r (λ f. is_whole (Some f) ≡ true) → IfOk r (λ f. Lists text f)

@@ -15,6 +15,7 @@ use Rattle.usb_listing_reader.specs.inside.Rows.{item_of_line}
 use Rattle.usb_listing_reader.specs.inside.Walking.{Walk, add, add_item, add_line, add_word, after_line, going, grown, stopped, walk, walk_byte}
 use Rattle.usb_listing_reader.proofs.LessLemmas.{may_is}
 use Rattle.usb_listing_reader.proofs.MoreLemmas.{AreOrdered, more}
+use Rattle.usb_listing_reader.proofs.PrintableLemmas.{said_printable}
 use Rattle.usb_listing_reader.proofs.SaysLemmas.{read_is_said, said_is_read, said_word}
 use Rattle.usb_listing_reader.proofs.StandLemmas.{may_then}
 use Rattle.usb_listing_reader.proofs.WordLemmas.{word_again, word_read}
@@ -130,3 +131,20 @@ makes_word s line begun print (Some w) e = cases (may_stand s w) refl
 pub makes : (s : Option DescriptorFile) (line : List ℕ) → IsBegun s → Printable line → Makes s line (add_line s line)
 unfolding add_line
 makes s line begun print = makes_word s line begun print (word_in (first_word line)) refl
+
+-- a line that was read has only bytes that a line may have
+pub made_printable : (s : Option DescriptorFile) (line : List ℕ) (f : DescriptorFile) → add_line s line ≡ Ok f → Printable line
+unfolding add_line
+made_printable s line f e = by_word (word_in (first_word line)) e
+  where
+    by_item : (o : Option Item) → item_of_line line ≡ o → add_item s o ≡ Ok f → Printable line
+    by_item None eo e = cc
+    by_item (Some item) eo e = said_printable line item (read_is_said line item eo)
+
+    by_place : (b : Bool) → cond b (add_item s (item_of_line line)) (Err whys.Place) ≡ Ok f → Printable line
+    by_place true e = by_item (item_of_line line) refl e
+    by_place false e = cc
+
+    by_word : (o : Option Word) → add_word s o (item_of_line line) ≡ Ok f → Printable line
+    by_word None e = cc
+    by_word (Some w) e = by_place (may_stand s w) e

@@ -9,11 +9,12 @@ use Rattle.usb_listing_reader.specs.Words.{first_word, is_printable, word_text}
 use Rattle.usb_listing_reader.specs.Says.{Item, Says}
 use Rattle.usb_listing_reader.specs.declared.fault.ListWhy.{ListWhy}
 use Rattle.usb_listing_reader.specs.declared.fault.ListWhy.TheVariants as whys
+use Rattle.usb_listing_reader.specs.Comments.{lines_before, uncommented, whole_lines}
 use Rattle.usb_listing_reader.specs.Order.{IsOneMore, IsOrdered, MayStand, has_over, items_of}
 
--- The text is the listing of the file, and the file has bytes.
+-- The text is the listing of the file, but for what is dropped, and the file has bytes.
 pub record Lists (text : List ℕ) (f : DescriptorFile) : Type 0 where
-  pub lines : text ≡ file_lines f
+  pub lines : uncommented text ≡ file_lines f
   pub bytes : List ℕ
   pub file : File f bytes
 
@@ -74,11 +75,11 @@ RestFaulty so_far rest whys.Line = LineFaulty rest
 RestFaulty so_far rest whys.Missing = (rest ≡ []) × (is_whole so_far ≡ false)
 RestFaulty so_far rest why = FirstFaulty so_far rest why
 
--- the text begins with right lines, and this is left from this line on, counted from 1
+-- The kept text begins with right lines, and this is left from this line on: of those of the text itself, counted from 1.
 pub record Begins (text : List ℕ) (so_far : Option DescriptorFile) (rest : List ℕ) (line : ℕ) : Type 0 where
   pub begun : IsBegun so_far
-  pub parts : text ≡ lines_of so_far ++ rest
-  pub line_is : line ≡ length (items_of so_far) + 1
+  pub parts : uncommented text ≡ lines_of so_far ++ rest
+  pub line_is : line ≡ lines_before (whole_lines text) (length (items_of so_far)) + 1
 
 -- The first line at fault, and in it the first reason.
 pub record ListFaulty (text : List ℕ) (line : ℕ) (why : ListWhy) : Type 0 where

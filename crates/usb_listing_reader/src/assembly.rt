@@ -2,6 +2,7 @@
 ghost use Rattle.std.specs.Prelude.{◌≡◌, ◌≢◌, ◌<◌, [], if◌then◌else◌, not, IfErr, IfNone, IfOk, IfSome, Some, false, length, true};
 ghost use Rattle.std.specs.List.{list_all};
 ghost use Rattle.usb_listing_reader.specs.Words.{is_printable};
+ghost use Rattle.usb_listing_reader.specs.Comments.{is_dropped, lines_before, uncommented, whole_lines, without_return};
 ghost use Rattle.usb_file_data.specs.File.{has_wrong_count, is_other_miscounted};
 ghost use Rattle.usb_listing_reader.specs.Listings.{ListRefused, Lists, is_whole};
 ghost use Rattle.usb_listing_reader.specs.inside.Drafts.{AreHeld, Holds, Reading, TakesLine, Told, so_far};
@@ -43,6 +44,27 @@ fn cut_line(text: &[u8]) -> Option<(&[u8], &[u8])>
     }
 }
 
+/// The line without the carriage return that it may end with.
+#[tactic(auto, using(crate::proofs::CommentLemmas::return_there, crate::proofs::CommentLemmas::return_elsewhere, crate::proofs::CommentLemmas::return_nowhere))]
+fn without_return(line: &[u8]) -> &[u8]
+    ensures { result.now ≡ without_return line.now }
+{
+    match line.split_last() {
+        Some((last, rest)) if *last == b'\r' => rest,
+        _ => line,
+    }
+}
+
+/// Whether the line is empty or a comment.
+fn is_dropped(line: &[u8]) -> bool
+    ensures { result ≡ is_dropped line.now }
+{
+    match line {
+        [] => true,
+        [first, ..] => *first == b'#',
+    }
+}
+
 /// Of a line that was rejected for this reason, the first reason. A line is looked through for bytes that no
 /// line has only here, since one that says a descriptor has none.
 fn first_reason(line: &[u8], why: ListWhy) -> ListWhy
@@ -55,7 +77,7 @@ fn first_reason(line: &[u8], why: ListWhy) -> ListWhy
     }
 }
 
-/// Reads the first line into the draft, and gives what is after it.
+/// Reads the first line into the draft, or drops it, and gives what is after it.
 fn read_next<'a>(
     alloc: Global,
     draft: &mut Option<Draft>,
@@ -66,7 +88,8 @@ fn read_next<'a>(
     requires some { text.now ≢ [] }
     ensures ok { IfOk result (λ more. TakesLine draft.old text.now draft.new more.now) }
     ensures shorter { IfOk result (λ more. length more.now < length text.now) }
-    ensures err { IfErr result (λ fault. Told (so_far draft.old) text.now fault.why) }
+    ensures err { IfErr result (λ fault. Told (so_far draft.old) (uncommented text.now) fault.why) }
+    ensures kept { IfErr result (λ fault. lines_before (whole_lines text.now) 0 ≡ 0) }
     ensures place { IfErr result (λ fault. fault.line ≡ line) }
 {
     let Some((first, more)) = cut_line(text) else {
@@ -75,6 +98,10 @@ fn read_next<'a>(
             why: ListWhy::Line,
         });
     };
+    let first = without_return(first);
+    if is_dropped(first) {
+        return Ok(more);
+    }
     match step(alloc, draft, first) {
         Ok(()) => Ok(more),
         Err(why) => Err(ListFault {
@@ -160,8 +187,9 @@ fn finish(draft: Option<Draft>, line: usize) -> Result<DescriptorFile, ListFault
     }
 }
 
-/// The file that the text lists, exactly where it is the listing of a file that has bytes. One pass over the text; no
-/// line is copied.
+/// The file that the text lists, exactly where it is the listing of a file that has bytes. Lines that are empty or
+/// begin with `#` are dropped, and so is a carriage return before a line feed. One pass over the text; no line is
+/// copied.
 ///
 /// ```rust
 /// let file = assemble(alloc, b"device 0110 00 00 00 40 1234 5678 0100 00 00 00 00\n")?;

@@ -6,6 +6,7 @@ use Rattle.usb_file_data.specs.File.{File}
 use Rattle.usb_file.specs.declared.laws.TheConstants.{LISTING_LIMIT}
 use Rattle.usb_listing.specs.Listing.{file_lines}
 use Rattle.usb_listing.specs.Output.{Held}
+use Rattle.usb_listing_reader.specs.Comments.{uncommented}
 use Rattle.usb_listing_reader.specs.Listings.{ListFaulty}
 use Rattle.usb_tool.specs.Endings.{AppendsNone, Fails, Refusal, Refuses, Told}
 use Rattle.usb_tool.specs.Input.{Left}
@@ -15,7 +16,7 @@ use Rattle.usb_tool.specs.declared.fault.ToolFault.TheVariants as faults
 -- the bytes are those of the file that the text lists, and are told with status 0
 pub record TellsBytes (text b : List ℕ) (status : ℕ) : Type 0 where
   pub file : DescriptorFile
-  pub listing : text ≡ file_lines file
+  pub listing : uncommented text ≡ file_lines file
   pub layout : File file b
   pub ended : status ≡ 0
 

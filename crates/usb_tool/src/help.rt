@@ -90,7 +90,8 @@ pub(crate) const BUILD_ABOUT: &str =
 pub(crate) const BUILD_HELP: &str = "\
 Input:
   The listing of a descriptor file, as 'show' writes it: a line for each descriptor, in the
-  order of the file. It may have been written or changed by hand.
+  order of the file. It may have been written or changed by hand: a line that is empty or
+  begins with '#' is dropped, and a carriage return at the end of a line.
 
 Faults of a listing, 'usbdesc: listing fault N line LINE', the first line being 1:
   1  no whole line of printable text

@@ -1,5 +1,5 @@
 -- What is kept beside the file so far.
-use Rattle.std.specs.Prelude.{◌≡◌, ℕ, ◌+◌, ◌*◌, ◌≤◌, ◌⊎◌, Result, Ok, Err, length, slice_index, true, false, Option, Some, None, List}
+use Rattle.std.specs.Prelude.{◌≡◌, ℕ, ◌+◌, ◌*◌, ◌≤◌, ◌⊎◌, ◌++◌, Result, Ok, Err, length, slice_index, Bool, true, false, Option, Some, None, List}
 use Rattle.usb_set.specs.declared.tree.Configuration.{Configuration}
 use Rattle.usb_set.specs.Building.{has_setting}
 use Rattle.usb_set.specs.Faults.{is_set_type, is_whole, item_fault}
@@ -13,9 +13,11 @@ use Rattle.usb_listing_reader.specs.declared.word.Word.TheVariants as words
 use Rattle.usb_listing_reader.specs.Says.{IsItem, fields}
 use Rattle.usb_listing_reader.specs.declared.fault.ListWhy.{ListWhy}
 use Rattle.usb_listing_reader.specs.declared.fault.ListWhy.TheVariants as whys
-use Rattle.usb_listing_reader.specs.Order.{has_over}
-use Rattle.usb_listing_reader.specs.Listings.{Begins, FirstLine, IsBegun, RestFaulty}
+use Rattle.usb_listing_reader.specs.Comments.{is_dropped, lines_before, uncommented, whole_lines, without_return}
+use Rattle.usb_listing_reader.specs.Order.{has_over, items_of}
+use Rattle.usb_listing_reader.specs.Listings.{IsBegun, RestFaulty, lines_of}
 use Rattle.usb_listing_reader.specs.inside.Growing.{last_of, length_of, open_sets}
+use Rattle.usb_listing_reader.specs.inside.Lines.{Cut}
 use Rattle.usb_listing_reader.specs.inside.Walking.{add_line}
 
 -- how many strings the file has once it is whole
@@ -96,17 +98,23 @@ pub record Drafted (answer : Result DescriptorFile ListWhy) (new : Option Draft)
 abbrev pub Stops : Result DescriptorFile ListWhy → ListWhy → Type 0
 Stops answer why = (why ≡ whys.Memory) ⊎ (answer ≡ Err why)
 
--- a listing, read up to a line
+-- a listing, read up to a line, kept or dropped
 pub record Reading (text : List ℕ) (draft : Option Draft) (rest : List ℕ) (line : ℕ) : Type 0 where
-  pub begins : Begins text (so_far draft) rest line
+  pub parts : uncommented text ≡ lines_of (so_far draft) ++ uncommented rest
+  pub lines : (k : ℕ) → lines_before (whole_lines text) (length (items_of (so_far draft)) + k) + 1 ≡ line + lines_before (whole_lines rest) k
   pub holds : AreHeld draft
   pub few : line + length rest ≤ length text + 1
 
--- the first line was read into the draft, and this is left
+-- the line was dropped, or read into the draft
+abbrev pub Takes : Bool → Option Draft → List ℕ → Option Draft → Type 0
+Takes true old line new = (new ≡ old)
+Takes false old line new = Drafted (add_line (so_far old) line) new
+
+-- the first line was taken, and this is left
 pub record TakesLine (old : Option Draft) (rest : List ℕ) (new : Option Draft) (more : List ℕ) : Type 0 where
   pub line : List ℕ
-  pub first : FirstLine rest line more
-  pub drafted : Drafted (add_line (so_far old) line) new
+  pub cut : Cut 10 rest line more
+  pub takes : Takes (is_dropped (without_return line)) old (without_return line) new
 
 -- out of memory, or the fault of the text behind the lines so far
 abbrev pub Told : Option DescriptorFile → List ℕ → ListWhy → Type 0

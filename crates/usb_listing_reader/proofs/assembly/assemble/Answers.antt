@@ -12,3 +12,6 @@ returns-in_err-draft-clause-only c =
 pub returns-clause-only : goal.returns-clause-only
 returns-clause-only c =
     λ f l. for_memory c.finish.result c.args.text.now f l (refused_end c.finish.result c.args.text.now _ _ c.in_ok-draft.ensures.ok c.finish.ensures.err c.finish.ensures.place)
+
+pub returns-clause-err : goal.returns-clause-err
+returns-clause-err c = refused_end c.finish.result c.args.text.now _ _ c.in_ok-draft.ensures.ok c.finish.ensures.err c.finish.ensures.place
