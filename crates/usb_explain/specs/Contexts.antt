@@ -28,12 +28,12 @@ abbrev pub speed_of : Option RunningSpeed → Standing → Role → List ℕ →
 speed_of running s Device d = if is_super running (little_endian_at d 2) then speeds.Super else speeds.FullOrHigh
 speed_of running s _ d = s.set.speed
 
--- what the interface is, behind which a descriptor stands
+-- what the interface is that a descriptor follows
 abbrev pub codes_of : Option SettingStanding → Option ClassCodes
 codes_of None = None
 codes_of (Some setting) = Some setting.codes
 
--- where a string stands among those of a file
+-- the place of a string among those of a file
 abbrev pub place_of : Subject → ℕ → Option StringPlace
 place_of subject number =
     let named = subject.names.named in

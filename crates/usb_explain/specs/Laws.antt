@@ -1,5 +1,5 @@
--- What holds of each explanation: its headings stand for each byte once, and of an input no bytes are left for the rest. Each
--- finding is told once, with the counts of its set, and the descriptors are those of the input's tree. A brief one leaves out
+-- What holds of each explanation: its headings have each byte once, and of an input no bytes are left for the rest. Each
+-- finding is reported once, with the counts of its set, and the descriptors are those of the input's tree. A brief one leaves out
 -- the fields alone, and each part of it is printable lines.
 use Rattle.std.specs.Prelude.{◌≡◌, ◌<◌, ◌≤◌, ℕ, true, false, ◌+◌, List, [], ◌∷◌, ◌++◌, length, map, take, drop, flat_map, slice_index, unwrap_or}
 use Rattle.std.specs.List.{AllByRecursion}
@@ -24,11 +24,11 @@ use Rattle.usb_explain.specs.Faults.{fault_text, place_of_fault}
 use Rattle.usb_explain.specs.Findings.{found_at, is_here, line_of, role_findings, told_at}
 use Rattle.usb_explain.specs.Contexts.{context_of, depth_of}
 use Rattle.usb_explain.specs.Lines.{IsLine, SayFields}
-use Rattle.usb_explain.specs.Slack.{slack}
+use Rattle.usb_explain.specs.Uncovered.{most_uncovered}
 use Rattle.usb_explain.specs.Subjects.{Subject, broken_subject, findings_in, subject_with}
 use Rattle.usb_explain.specs.Trees.{OutlineEntry, counts_in, entry, outline}
 
--- a descriptor of an explanation: where it stands, what it is there, its bytes, and those behind it
+-- a descriptor of an explanation: its place, what it is there, its bytes, and those after it
 pub record Shown : Type 0 where
   pub standing : Standing
   pub role : Role
@@ -39,17 +39,17 @@ pub record Shown : Type 0 where
 abbrev pub context_at : Subject → Shown → Context
 context_at subject d = context_of subject d.standing d.role d.bytes
 
--- its heading, with the place where it stands and its length, and what it breaks
+-- its heading, with its place and its length, and what it breaks
 abbrev pub head_of : Subject → Shown → List ℕ
 head_of subject d =
     heading subject.manner.look d.role (context_at subject d) d.bytes d.standing.at
     ++ role_findings subject d.standing d.role d.bytes d.behind
 
--- its lines: behind those the lines of its fields, where they are shown
+-- its lines: after those the lines of its fields, where they are shown
 abbrev pub lines_of : Subject → Shown → List ℕ
 lines_of subject d = head_of subject d ++ fields subject.manner.look subject.names d.role (context_at subject d) d.bytes
 
--- the findings that are told under its heading: those of which each line of its findings is one
+-- the findings that are reported under its heading: those of which each line of its findings is one
 abbrev pub findings_of : Subject → Shown → List Finding
 findings_of subject d = found_at subject d.standing d.role d.bytes d.behind
 
@@ -78,9 +78,9 @@ abbrev pub Cut : List ℕ → List Shown → List ℕ → Type 0
 Cut bytes [] rest = bytes ≡ rest
 Cut bytes (d ∷ ds) rest = (bytes ≡ d.bytes ++ d.behind) × (slice_index d.bytes 0 ≡ length d.bytes) × Cut d.behind ds rest
 
--- A text that stands for each of these bytes once. Behind its first line are the lines of the descriptors into which a front
+-- A text that has each of these bytes once. After its first line are the lines of the descriptors into which a prefix
 -- of the bytes is cut, what comes before the rest, the lines of the rest, and the last line. The descriptors' bytes and the
--- rest are all bytes, and the headings' places are where those stand.
+-- rest are all bytes, and the headings' places are those of their bytes.
 pub record EachByteOnce (subject : Subject) (front bytes first before_rest last text : List ℕ) : Type 0 where
   pub shown : List Shown
   pub end : ℕ
@@ -89,14 +89,14 @@ pub record EachByteOnce (subject : Subject) (front bytes first before_rest last 
   pub parts : bytes ≡ flat_map (λ d. d.bytes) shown ++ drop end bytes
   pub spans : Follow 0 (map span_of shown ++ rest_span end (drop end bytes)) (length bytes)
 
--- a text that stands for these bytes by the headings of descriptors alone: nothing is left for the rest
+-- a text that has these bytes under the headings of descriptors alone: nothing is left for the rest
 pub record NothingLeft (subject : Subject) (bytes first last text : List ℕ) : Type 0 where
   pub shown : List Shown
   pub lines : text ≡ first ++ (flat_map (lines_of subject) shown ++ last)
   pub cut : Cut bytes shown []
   pub spans : Follow 0 (map span_of shown) (length bytes)
 
--- each explanation of an input stands for each byte once
+-- each explanation of an input has each byte once
 abbrev pub WholeEachByteOnce : Type 0
 WholeEachByteOnce =
     (manner : Manner) (input : Input) (b : List ℕ) →
@@ -110,30 +110,30 @@ BrokenEachByteOnce =
     EachByteOnce (broken_subject manner) (take (place_of_fault fault) b) b (first_line (broken_name b) (length b)) (fault_text fault) []
     (broken_explanation manner fault b)
 
--- a text that stands for each byte once, where no more of the front than so many bytes are left for the rest
-pub record ComesUpTo (most : ℕ) (subject : Subject) (front bytes first before_rest last text : List ℕ) : Type 0 where
+-- a text that has each byte once, where no more of the prefix than so many bytes are left for the rest
+pub record CoversUpTo (most : ℕ) (subject : Subject) (front bytes first before_rest last text : List ℕ) : Type 0 where
   pub once : EachByteOnce subject front bytes first before_rest last text
   pub near : length (drop once.end front) ≤ most
 
 -- each explanation of bytes that are no input comes up to the fault with which they are refused
-abbrev pub BrokenComesUpToFault : Type 0
-BrokenComesUpToFault =
+abbrev pub BrokenCoversUpToFault : Type 0
+BrokenCoversUpToFault =
     (manner : Manner) (fault : InputFault) (b : List ℕ) → AreBytes b → InputRefused b fault →
-    ComesUpTo (slack fault) (broken_subject manner) (take (place_of_fault fault) b) b (first_line (broken_name b) (length b)) (fault_text fault) []
+    CoversUpTo (most_uncovered fault) (broken_subject manner) (take (place_of_fault fault) b) b (first_line (broken_name b) (length b)) (fault_text fault) []
     (broken_explanation manner fault b)
 
--- of an input nothing is left: each of its bytes stands under the heading of a descriptor
+-- of an input nothing is left: each of its bytes is under the heading of a descriptor
 abbrev pub WholeHasNoRest : Type 0
 WholeHasNoRest =
     (manner : Manner) (input : Input) (b : List ℕ) → IsInput input b →
     NothingLeft (subject_with manner input (findings_in input)) b (first_line (input_name input) (length b)) (last_line (length (findings_in input)))
     (explanation manner input b)
 
--- under the heading of a descriptor stand findings of its own alone, so that each of them has a line
+-- under the heading of a descriptor are findings of its own alone, so that each of them has a line
 abbrev pub TellsItsOwn : Subject → Shown → Type 0
 TellsItsOwn subject d = AllByRecursion (λ f. is_here subject.is_dump d.standing d.role d.bytes d.behind f ≡ true) (findings_of subject d)
 
--- A text that tells each of these findings once, which are sorted rule by rule: those under the headings of its descriptors
+-- A text that reports each of these findings once, which are sorted rule by rule: those under the headings of its descriptors
 -- are, in their order, all of them. The last line says how many they are.
 pub record EachFindingOnce (subject : Subject) (bytes first : List ℕ) (findings : List Finding) (text : List ℕ) : Type 0 where
   pub shown : List Shown
@@ -142,7 +142,7 @@ pub record EachFindingOnce (subject : Subject) (bytes first : List ℕ) (finding
   pub told : by_rule (flat_map (findings_of subject) shown) ≡ findings
   pub own : AllByRecursion (TellsItsOwn subject) shown
 
--- each explanation of an input tells once what `check` finds in it, each finding under the heading of its descriptor
+-- each explanation of an input reports once what `check` finds in it, each finding under the heading of its descriptor
 abbrev pub WholeTellsFindings : Type 0
 WholeTellsFindings =
     (manner : Manner) (input : Input) (b : List ℕ) → IsInput input b →
@@ -157,7 +157,7 @@ told_there subject d rule = unwrap_or (option_map (λ t. t ∷ []) (told_at subj
 abbrev pub counts_at : Subject → Shown → List Told
 counts_at subject d = told_there subject d rules.V1 ++ told_there subject d rules.V5
 
--- each explanation of an input tells its findings with the counts that its sets have
+-- each explanation of an input reports its findings with the counts that its sets have
 pub record TellsCounts (subject : Subject) (input : Input) (bytes first text : List ℕ) : Type 0 where
   pub tells : EachFindingOnce subject bytes first (input_findings input) text
   pub counts : flat_map (counts_at subject) tells.shown ≡ counts_in input

@@ -9,7 +9,7 @@ pub mod Walks
 pub mod Faults
 pub mod Explanations
 pub mod Lines
-pub mod Slack
+pub mod Uncovered
 pub mod Trees
 pub mod Laws
 pub mod inside

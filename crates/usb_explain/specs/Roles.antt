@@ -1,4 +1,4 @@
--- What a descriptor is where it stands (USB 2.0, table 9-5 and 9.6).
+-- What a descriptor is at its place (USB 2.0, table 9-5 and 9.6).
 use Rattle.std.specs.Prelude.{ℕ, ◌%◌, List, length, slice_index, take, Bool, true, false, nat_le, ◌==◌, ◌&&◌, ◌||◌, Option, Some, None, is_some, option_and_then, if◌then◌else◌}
 use Rattle.std.specs.Option.{option_map}
 use Rattle.usb_base.specs.Bytes.{little_endian_at}
@@ -20,7 +20,7 @@ abbrev pub string_role : Bool → ℕ → Option Role
 string_role true n = role_if (n % 2 == 0) Text
 string_role false n = role_if ((n % 2 == 0) && nat_le 4 n) Languages
 
--- outside of a set: the device at the first byte, a qualifier behind it, the first descriptor of a set, and strings
+-- outside of a set: the device at the first byte, a qualifier after it, the first descriptor of a set, and strings
 unfoldable pub outer_role : Standing → List ℕ → Option Role
 outer_role s d =
     let kind = slice_index d 1 in
@@ -40,7 +40,7 @@ inner_role s d =
     else if kind == 11 then Some (typed_role (nat_le 8 (length d)) Association)
     else Some Raw
 
--- what a descriptor is here; one that ends behind its set can't stand here
+-- what a descriptor is here; one that ends after its set can't be here
 unfoldable pub role_of : Standing → List ℕ → Option Role
 role_of s d =
     if s.left == 0 then outer_role s d

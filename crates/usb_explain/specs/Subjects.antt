@@ -42,7 +42,7 @@ abbrev pub place_by : Option ℕ → Option ℕ → Option StringPlace
 place_by (Some language) (Some index) = Some (record { index = index; language = language })
 place_by _ _ = None
 
--- where the string of this number stands among strings of n named indices: language by language, and in each one for each
+-- the place of the string of this number among strings of n named indices: language by language, and in each one for each
 -- index in ascending order
 abbrev pub place_among : ℕ → List ℕ → Strings → ℕ → Option StringPlace
 place_among zero named strings number = None

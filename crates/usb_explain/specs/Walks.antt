@@ -11,14 +11,14 @@ use Rattle.usb_explain.specs.Steps.{passed, with_told}
 use Rattle.usb_explain.specs.Roles.{next_role}
 use Rattle.usb_explain.specs.Subjects.{Subject}
 
--- the lines of a descriptor, with the bytes behind it: its heading, what it breaks, and its fields
+-- the lines of a descriptor, with the bytes after it: its heading, what it breaks, and its fields
 unfoldable pub block : Subject → Standing → Role → List ℕ → List ℕ → List ℕ
 block subject s role d behind =
     heading subject.manner.look role (context_of subject s role d) d s.at
     ++ role_findings subject s role d behind
     ++ fields subject.manner.look subject.names role (context_of subject s role d) d
 
--- where it stands at the first of these bytes
+-- the state at the first of these bytes
 abbrev pub here : Subject → Standing → List ℕ → Role × ℕ → Standing
 here subject s ahead next = entered next.0 subject.manner.speed ahead s
 
@@ -26,19 +26,19 @@ here subject s ahead next = entered next.0 subject.manner.speed ahead s
 abbrev pub next_block : Subject → Standing → List ℕ → Role × ℕ → List ℕ
 next_block subject s ahead next = block subject (here subject s ahead next) next.0 (take next.1 ahead) (drop next.1 ahead)
 
--- the same with the findings of a descriptor told, behind which these bytes stand
+-- the same with the findings of a descriptor reported, after which these bytes come
 abbrev pub telling : Subject → Role → List ℕ → List ℕ → Standing → Standing
 telling subject role d behind s = with_told (s.told + length (found_at subject s role d behind)) s
 
--- where it stands when its findings are told
+-- the state when its findings are reported
 abbrev pub told_next : Subject → Standing → List ℕ → Role × ℕ → Standing
 told_next subject s ahead next = telling subject next.0 (take next.1 ahead) (drop next.1 ahead) (here subject s ahead next)
 
--- where it stands behind that descriptor
+-- the state after that descriptor
 abbrev pub behind_next : Subject → Standing → List ℕ → Role × ℕ → Standing
 behind_next subject s ahead next = passed next.0 (take next.1 ahead) (told_next subject s ahead next)
 
--- The lines of the descriptors that stand in these bytes, at most so many, and then what ends the text, given the place
+-- The lines of the descriptors in these bytes, at most so many, and then what ends the text, given the place
 -- where they end.
 unfoldable pub walked : ℕ → Subject → (ℕ → List ℕ) → Standing → List ℕ → List ℕ
 walked zero subject ending s ahead = ending s.at

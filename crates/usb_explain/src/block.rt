@@ -11,7 +11,7 @@ use usb_words::Text;
 
 impl Standing {
     /// Puts the lines of a descriptor of this role: its heading, its findings and its fields. Answers how many findings
-    /// are told then.
+    /// are reported then.
     #[tactic(auto, unfolding(crate::specs::Walks::block))]
     pub(crate) fn put_block(
         &self,

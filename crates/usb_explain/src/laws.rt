@@ -1,5 +1,5 @@
 //! What holds of each explanation. The functions of these laws do nothing: their contracts are the laws.
-ghost use Rattle.usb_explain.specs.Laws.{BrokenComesUpToFault, BrokenEachByteOnce, BrokenInLines, BrokenLeavesOutFields, WholeEachByteOnce, WholeHasNoRest, WholeInLines, WholeLeavesOutFields, WholeShowsTree, WholeTellsCounts, WholeTellsFindings};
+ghost use Rattle.usb_explain.specs.Laws.{BrokenCoversUpToFault, BrokenEachByteOnce, BrokenInLines, BrokenLeavesOutFields, WholeEachByteOnce, WholeHasNoRest, WholeInLines, WholeLeavesOutFields, WholeShowsTree, WholeTellsCounts, WholeTellsFindings};
 
 /// Each byte once: the places and lengths in the headings follow each other from 0 to the number of bytes, and each heading
 /// begins the lines of the descriptor there, as long as its bLength. The last one is that of the rest, if bytes
@@ -11,14 +11,14 @@ pub fn each_byte_has_one_heading()
     ensures inputs { WholeHasNoRest }
 {}
 
-/// A broken input is explained up to its fault: of bytes that `read_input` refuses, all before the place of the fault stand
+/// A broken input is explained up to its fault: of bytes that `read_input` refuses, all before the place of the fault are
 /// under headings of descriptors. Where the bytes end in a descriptor, its own bytes do not, which are at most 254; where the
 /// first descriptor of a set is at fault, at most two of its bytes.
 pub fn a_broken_input_is_explained_up_to_its_fault()
-    ensures { BrokenComesUpToFault }
+    ensures { BrokenCoversUpToFault }
 {}
 
-/// Each finding once: the findings under the headings are, in their order, just those that `check` tells of the input, each
+/// Each finding once: the findings under the headings are, in their order, just those that `check` reports of the input, each
 /// under the heading of the descriptor that breaks the rule. The last line says how many they are.
 pub fn each_finding_is_told_once()
     ensures { WholeTellsFindings }

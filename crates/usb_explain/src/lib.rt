@@ -7,7 +7,7 @@
 //! descriptor is `specs/Standings.antt`, its role there `specs/Roles.antt`, and what it breaks `specs/Findings.antt`.
 //!
 //! [`laws`] says what holds of each explanation: every byte of the input is under one heading, every descriptor is shown as
-//! what it is and under its owner, every finding is told once and with the right count, a brief text leaves out fields
+//! what it is and under its owner, every finding is reported once and with the right count, a brief text leaves out fields
 //! alone, and every byte of the text is a line feed or printable.
 #![tactic(auto)]
 

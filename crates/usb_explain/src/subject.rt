@@ -115,7 +115,7 @@ impl<'i> Subject<'i> {
         &self.names
     }
 
-    /// What breaks a rule, without so many findings from the front on.
+    /// What breaks a rule, without the first so many findings.
     pub(crate) fn found_from(&self, told: usize) -> &[Finding]
         ensures found { result.now ≡ drop told self.now.found }
         ensures room { length self.now.found < 2 ^ 63 }

@@ -6,7 +6,7 @@ use Rattle.usb_explained_lines.specs.Forms.{form_words}
 use Rattle.usb_explained_lines.specs.Lines.{digits_line, field_line}
 use Rattle.usb_explained_lines.specs.Names.{StringNames}
 
--- the fields of a descriptor, those that repeat behind them, and what the bytes are called that are left
+-- the fields of a descriptor, those that repeat after them, and what the bytes are called that are left
 pub record Layout : Type 0 where
   pub fields : List Field
   pub group : List Field
@@ -32,7 +32,7 @@ group_lines context strings (field ∷ fields) b place =
 abbrev pub group_count : ℕ → ℕ → ℕ
 group_count width n = if width == 0 then 0 else n / width
 
--- the lines of so many groups, and what is left behind them
+-- the lines of so many groups, and what is left after them
 unfoldable pub groups_lines : Context → StringNames → Layout → ℕ → List ℕ → ℕ → List ℕ
 groups_lines context strings layout zero b place = digits_line context.depth layout.rest (drop place b)
 groups_lines context strings layout (suc n) b place =
@@ -47,6 +47,6 @@ body_lines context strings (field ∷ fields) layout b place =
     if nat_lt (length b) (place + field.width) then digits_line context.depth layout.rest (drop place b)
     else line_of context strings field b place ++ body_lines context strings fields layout b (place + field.width)
 
--- the lines of a descriptor of this layout, which begins behind bDescriptorType
+-- the lines of a descriptor of this layout, which begins after bDescriptorType
 abbrev pub layout_lines : Context → StringNames → Layout → List ℕ → List ℕ
 layout_lines context strings layout b = body_lines context strings layout.fields layout b 2

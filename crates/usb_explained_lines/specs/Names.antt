@@ -42,7 +42,7 @@ abbrev pub missing_words : Missing → List ℕ
 missing_words NotInInput = codes " (not in the input)"
 missing_words NotRead = codes " (not read)"
 
--- the string behind its index
+-- the string after its index
 abbrev pub name_words : Missing → Option (List ℕ) → List ℕ
 name_words missing None = missing_words missing
 name_words missing (Some units) = codes " " ++ quoted units

@@ -12,7 +12,7 @@ use Rattle.usb_explained_lines.specs.Names.{StringNames}
 unfoldable pub unnamed_words : ℕ → List ℕ
 unnamed_words type = codes "descriptor of type " ++ byte_code type
 
--- the row of a descriptor behind an interface of these codes
+-- the row of a descriptor after an interface of these codes
 abbrev pub row_of_bytes : Option ClassCodes → List ℕ → Option Row
 row_of_bytes interface b = first_row (rows_behind interface) interface (slice_index b 1) (slice_get b 2)
 

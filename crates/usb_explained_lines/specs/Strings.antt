@@ -11,7 +11,7 @@ abbrev pub units_in : List ℕ → List ℕ
 units_in (low ∷ high ∷ rest) = (low + 256 * high) ∷ units_in rest
 units_in rest = []
 
--- a language behind those before it
+-- a language after those before it
 abbrev pub language_words : ℕ → List ℕ
 language_words language = codes " " ++ word_code language
 

@@ -35,9 +35,9 @@ use Rattle.usb_explained_lines.specs.declared.role.Role.TheVariants as roles
 use Rattle.usb_explain.specs.declared.position.Standing.{Standing}
 use Rattle.usb_explain.specs.Explanations.{broken_end, broken_explanation, broken_name, first_line}
 use Rattle.usb_explain.specs.Faults.{fault_text, place_of_fault}
-use Rattle.usb_explain.specs.Laws.{BrokenComesUpToFault}
+use Rattle.usb_explain.specs.Laws.{BrokenCoversUpToFault}
 use Rattle.usb_explain.specs.Steps.{noted}
-use Rattle.usb_explain.specs.Slack.{file_slack, set_slack, slack}
+use Rattle.usb_explain.specs.Uncovered.{uncovered_in_file, uncovered_in_set, most_uncovered}
 use Rattle.usb_explain.specs.Standings.{start}
 use Rattle.usb_explain.specs.Subjects.{Subject, broken_subject}
 use Rattle.usb_explain.proofs.plain.Parts.{byte_fits}
@@ -145,11 +145,11 @@ front_few k subject f behind none is onward =
 -- ---- the part at fault
 
 -- a fault of a part is no further on than bytes may be left before it
-abbrev IsSlack : Option (ℕ × FileWhy) → Type 0
-IsSlack None = Unit {0}
-IsSlack (Some fault) = fault.0 ≤ file_slack fault.1
+abbrev IsNear : Option (ℕ × FileWhy) → Type 0
+IsNear None = Unit {0}
+IsNear (Some fault) = fault.0 ≤ uncovered_in_file fault.1
 
-fixed_by : (short wrong : Bool) (n : ℕ) (why : FileWhy) → (short ≡ true → n ≤ 254) → IsSlack (if short then Some (n, files.Truncated) else if wrong then Some (0, why) else None)
+fixed_by : (short wrong : Bool) (n : ℕ) (why : FileWhy) → (short ≡ true → n ≤ 254) → IsNear (if short then Some (n, files.Truncated) else if wrong then Some (0, why) else None)
 fixed_by true wrong n why le = le refl
 fixed_by false true n why le = omega arith
 fixed_by false false n why le = tt
@@ -159,12 +159,12 @@ below n long lt e = grind (arith, nat_tests)
 
 -- that of a descriptor of fixed length
 fixed_few : (subject : Subject) (long : ℕ) (wrong : Bool) (why tells : FileWhy) (b : List ℕ) (place : ℕ) (s : Standing) → TellsNothing subject → long < 256
-    → fixed_fault long wrong why b ≡ Some (place, tells) → Ends (few (file_slack tells)) subject s (take place b)
+    → fixed_fault long wrong why b ≡ Some (place, tells) → Ends (few (uncovered_in_file tells)) subject s (take place b)
 fixed_few subject long wrong why tells b place s none lt e =
-    few_left (file_slack tells) subject s (take place b) none
-    (few_taken (file_slack tells) place b (subst (λ o. IsSlack o) e (fixed_by (nat_lt (length b) long) wrong (length b) why (below (length b) long lt))))
+    few_left (uncovered_in_file tells) subject s (take place b) none
+    (few_taken (uncovered_in_file tells) place b (subst (λ o. IsNear o) e (fixed_by (nat_lt (length b) long) wrong (length b) why (below (length b) long lt))))
 
-string_by : (wrong short : Bool) (n : ℕ) → (short ≡ true → n ≤ 254) → IsSlack (if wrong then Some (0, files.Text) else if short then Some (n, files.Truncated) else None)
+string_by : (wrong short : Bool) (n : ℕ) → (short ≡ true → n ≤ 254) → IsNear (if wrong then Some (0, files.Text) else if short then Some (n, files.Truncated) else None)
 string_by true short n le = omega arith
 string_by false true n le = le refl
 string_by false false n le = tt
@@ -174,15 +174,15 @@ cut_short n len lt e = grind (arith, nat_tests)
 
 -- that of a string
 string_few : (subject : Subject) (least : ℕ) (why : FileWhy) (b : List ℕ) (place : ℕ) (s : Standing) → TellsNothing subject → AreBytes b
-    → string_fault least b ≡ Some (place, why) → Ends (few (file_slack why)) subject s (take place b)
+    → string_fault least b ≡ Some (place, why) → Ends (few (uncovered_in_file why)) subject s (take place b)
 string_few subject least why b place s none h e =
     let len = slice_index b 0 in
-    few_left (file_slack why) subject s (take place b) none
-    (few_taken (file_slack why) place b
-    (subst (λ o. IsSlack o) e (string_by (is_no_string least b) (nat_lt (length b) 2 || nat_lt (length b) len) (length b) (cut_short (length b) len (byte_fits b 0 h)))))
+    few_left (uncovered_in_file why) subject s (take place b) none
+    (few_taken (uncovered_in_file why) place b
+    (subst (λ o. IsNear o) e (string_by (is_no_string least b) (nat_lt (length b) 2 || nat_lt (length b) len) (length b) (cut_short (length b) len (byte_fits b 0 h)))))
 
 -- a set of a file
-set_few : (subject : Subject) (kind : SetKind) (b : List ℕ) (place : ℕ) (why : FileWhy) → TellsNothing subject → AreBytes b → SetFaulty kind b place why → OutFew (file_slack why) subject (take place b)
+set_few : (subject : Subject) (kind : SetKind) (b : List ℕ) (place : ℕ) (why : FileWhy) → TellsNothing subject → AreBytes b → SetFaulty kind b place why → OutFew (uncovered_in_file why) subject (take place b)
 set_few subject kind b place files.Device none h is s outside = absurd is
 set_few subject kind b place (files.Set why) none h is s outside = faulty_few subject b place why none is s outside
 set_few subject kind b place files.SetKind none h is s outside = few_left 1 subject s (take place b) none (few_taken 1 place b (omega (arith, is.4)))
@@ -194,25 +194,25 @@ set_few subject kind b place files.Trailing none h is s outside = absurd is
 set_few subject kind b place files.Memory none h is s outside = absurd is
 
 part_few : (subject : Subject) (part : NextPart) (b : List ℕ) (place : ℕ) (why : FileWhy) → TellsNothing subject → AreBytes b → PartFaulty part b place why
-    → OutFew (file_slack why) subject (take place b)
+    → OutFew (uncovered_in_file why) subject (take place b)
 part_few subject (a_set kind) b place why none h is s outside = set_few subject kind b place why none h is s outside
 part_few subject a_qualifier b place why none h is s outside = fixed_few subject 10 (is_some (qualifier_fault (take 10 b))) files.Qualifier why b place s none (omega arith) is
 part_few subject the_languages b place why none h is s outside = string_few subject 4 why b place s none h is
 part_few subject a_string b place why none h is s outside = string_few subject 2 why b place s none h is
 part_few subject the_end [] place why none h is s outside = absurd is
-part_few subject the_end (x ∷ b) place why none h is s outside = few_left (file_slack why) subject s (take place (x ∷ b)) none (few_taken (file_slack why) place (x ∷ b) (omega (arith, is.0)))
+part_few subject the_end (x ∷ b) place why none h is s outside = few_left (uncovered_in_file why) subject s (take place (x ∷ b)) none (few_taken (uncovered_in_file why) place (x ∷ b) (omega (arith, is.0)))
 
 -- ---- inputs that were refused
 
-file_few : (subject : Subject) (b : List ℕ) (at : ℕ) (why : FileWhy) → TellsNothing subject → AreBytes b → FileFaulty b at why → Ends (few (file_slack why)) subject start (take at b)
+file_few : (subject : Subject) (b : List ℕ) (at : ℕ) (why : FileWhy) → TellsNothing subject → AreBytes b → FileFaulty b at why → Ends (few (uncovered_in_file why)) subject start (take at b)
 file_few subject b at why none h (inl e) = fixed_few subject 18 (is_some (device_fault (take 18 b))) files.Device why b at start none (omega arith) e
 file_few subject b at why none h (inr p) =
     let front = file_bytes p.front in
     let is : take at b ≡ front ++ take p.place p.rest =
     ap (λ l. take at l) p.splits.parts ∙ ap (λ n. take n (front ++ p.rest)) p.at_is ∙ take-append-add front p.rest p.place in
     let behind = bytes_behind front p.rest (subst AreBytes p.splits.parts h) in
-    subst (λ l. Ends (few (file_slack why)) subject start l) (sym is)
-    (front_few (file_slack why) subject p.front (take p.place p.rest) none p.splits.is_front (part_few subject p.part p.rest p.place why none behind p.fault))
+    subst (λ l. Ends (few (uncovered_in_file why)) subject start l) (sym is)
+    (front_few (uncovered_in_file why) subject p.front (take p.place p.rest) none p.splits.is_front (part_few subject p.part p.rest p.place why none behind p.fault))
 
 start_few : (k : ℕ) (subject : Subject) (b : List ℕ) (at : ℕ) → TellsNothing subject → IsPartStart b at → Ends (few k) subject start (take at b)
 start_few k subject b at none p =
@@ -221,7 +221,7 @@ start_few k subject b at none p =
     ap (λ l. take at l) p.splits.parts ∙ ap (λ n. take n (front ++ p.rest)) p.at_is ∙ take-append_seam front p.rest ∙ sym (append-nil front) in
     subst (λ l. Ends (few k) subject start l) (sym is) (front_few k subject p.front [] none p.splits.is_front (λ s e. few_left k subject s [] none (omega arith)))
 
-refused_few : (subject : Subject) (b : List ℕ) (at : ℕ) (why : FileWhy) → TellsNothing subject → AreBytes b → DeviceRefused b at why → Ends (few (file_slack why)) subject start (take at b)
+refused_few : (subject : Subject) (b : List ℕ) (at : ℕ) (why : FileWhy) → TellsNothing subject → AreBytes b → DeviceRefused b at why → Ends (few (uncovered_in_file why)) subject start (take at b)
 refused_few subject b at files.Device none h is = file_few subject b at files.Device none h is.0
 refused_few subject b at (files.Set why) none h is = file_few subject b at (files.Set why) none h is.0
 refused_few subject b at files.SetKind none h is = file_few subject b at files.SetKind none h is.0
@@ -243,22 +243,22 @@ wants_few k subject b at rest none (inl first) = few_left k subject start (take 
 wants_few k subject b at rest none (inr later) = reached_place k subject b later.0 later.1 at rest none later.2 start start_outside
 
 one_set_few : (subject : Subject) (b : List ℕ) (fault : SetFault) → TellsNothing subject → AreBytes b → HasFault b fault ⊎ WantsMemory [] b fault
-    → Ends (few (set_slack fault.why)) subject start (take fault.at b)
+    → Ends (few (uncovered_in_set fault.why)) subject start (take fault.at b)
 one_set_few subject b fault none h (inl (inl is)) = faulty_few subject b fault.at fault.why none is start start_outside
 one_set_few subject b fault none h (inl (inr is)) =
-    subst (λ (f : SetFault). Ends (few (set_slack f.why)) subject start (take f.at b)) (sym is.0)
+    subst (λ (f : SetFault). Ends (few (uncovered_in_set f.why)) subject start (take f.at b)) (sym is.0)
     (subst (λ l. Ends (few 254) subject start l) (sym (take-length b)) (open_few subject b none h is.1 start start_outside))
-one_set_few subject b fault none h (inr wants) = wants_few (set_slack fault.why) subject b fault.at (wants.item ++ wants.rest) none wants.starts
+one_set_few subject b fault none h (inr wants) = wants_few (uncovered_in_set fault.why) subject b fault.at (wants.item ++ wants.rest) none wants.starts
 
 pub input_few : (subject : Subject) (b : List ℕ) (fault : InputFault) → TellsNothing subject → AreBytes b → InputRefused b fault
-    → Ends (few (slack fault)) subject start (take (place_of_fault fault) b)
+    → Ends (few (most_uncovered fault)) subject start (take (place_of_fault fault) b)
 input_few subject b (faults.Set fault) none h is = one_set_few subject b fault none h is.1
 input_few subject b (faults.Trailing at) none h is = layout_few 0 subject is.1.set (take at b) none is.1.layout
 input_few subject b (faults.File fault) none h is = refused_few subject b fault.at fault.why none h is.1
 
-pub broken_comes_up : BrokenComesUpToFault
+pub broken_covers : BrokenCoversUpToFault
 unfolding once_of
-broken_comes_up manner fault b h is =
+broken_covers manner fault b h is =
     let subject = broken_subject manner in
     let front = take (place_of_fault fault) b in
     let ended = input_few subject b fault refl h is (length front) (omega arith) in
@@ -267,5 +267,5 @@ broken_comes_up manner fault b h is =
     record {
       once = once_of subject b front (drop (place_of_fault fault) b) (first_line (broken_name b) (length b)) (fault_text fault) [] (broken_explanation manner fault b)
           (length front) (broken_end subject fault b) (sym (take-append-drop (place_of_fault fault) b)) (broken_ends subject fault b) (broken_is subject fault b) w;
-      near = subst (λ l. length l ≤ slack fault) (sym left) ended.aimed;
+      near = subst (λ l. length l ≤ most_uncovered fault) (sym left) ended.aimed;
     }

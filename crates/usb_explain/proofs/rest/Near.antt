@@ -26,7 +26,7 @@ use Rattle.usb_explain.specs.Laws.{Cut, Shown}
 use Rattle.usb_explain.specs.SetStart.{entered}
 use Rattle.usb_explain.specs.Steps.{noted, passed, with_told}
 use Rattle.usb_explain.specs.Roles.{inner_role, typed_role}
-use Rattle.usb_explain.specs.Slack.{set_slack}
+use Rattle.usb_explain.specs.Uncovered.{uncovered_in_set}
 use Rattle.usb_explain.specs.Subjects.{Subject}
 use Rattle.usb_explain.proofs.Spans.{Aim, walk_shows}
 use Rattle.usb_explain.proofs.rest.Walks.{Ends}
@@ -252,27 +252,27 @@ reached_place k subject b header items place rest none r s outside =
     subst (λ l. Ends (few k) subject s l) (sym is) (reached k subject b header items place rest [] none r (omega arith) s outside)
 
 -- a fault of the first descriptor is no further on than bytes may be left before it
-abbrev IsSlack : Option Fault → Type 0
-IsSlack None = Unit {0}
-IsSlack (Some fault) = fault.0 ≤ set_slack fault.1
+abbrev IsNear : Option Fault → Type 0
+IsNear None = Unit {0}
+IsNear (Some fault) = fault.0 ≤ uncovered_in_set fault.1
 
-first_slack : (a b c : Bool) → IsSlack (if a then Some (0, whys.HeaderLength) else if b then (if c then Some (2, whys.Total) else None) else Some (1, whys.HeaderKind))
-first_slack true b c = omega arith
-first_slack false true true = omega arith
-first_slack false true false = tt
-first_slack false false c = omega arith
+first_near : (a b c : Bool) → IsNear (if a then Some (0, whys.HeaderLength) else if b then (if c then Some (2, whys.Total) else None) else Some (1, whys.HeaderKind))
+first_near true b c = omega arith
+first_near false true true = omega arith
+first_near false true false = tt
+first_near false false c = omega arith
 
-header_slack : (b : List ℕ) → IsSlack (header_fault b)
-header_slack [] = tt
-header_slack (len ∷ []) = first_slack (nat_lt len 9) true false
-header_slack (len ∷ kind ∷ []) = first_slack (nat_lt len 9) (is_set_type kind) false
-header_slack (len ∷ kind ∷ low ∷ []) = first_slack (nat_lt len 9) (is_set_type kind) false
-header_slack (len ∷ kind ∷ low ∷ high ∷ b) = first_slack (nat_lt len 9) (is_set_type kind) (nat_lt (low + 256 * high) len)
+header_near : (b : List ℕ) → IsNear (header_fault b)
+header_near [] = tt
+header_near (len ∷ []) = first_near (nat_lt len 9) true false
+header_near (len ∷ kind ∷ []) = first_near (nat_lt len 9) (is_set_type kind) false
+header_near (len ∷ kind ∷ low ∷ []) = first_near (nat_lt len 9) (is_set_type kind) false
+header_near (len ∷ kind ∷ low ∷ high ∷ b) = first_near (nat_lt len 9) (is_set_type kind) (nat_lt (low + 256 * high) len)
 
-pub faulty_few : (subject : Subject) (b : List ℕ) (place : ℕ) (why : SetWhy) → TellsNothing subject → Faulty b place why → OutFew (set_slack why) subject (take place b)
+pub faulty_few : (subject : Subject) (b : List ℕ) (place : ℕ) (why : SetWhy) → TellsNothing subject → Faulty b place why → OutFew (uncovered_in_set why) subject (take place b)
 faulty_few subject b place why none (inl e) s outside =
-    few_left (set_slack why) subject s (take place b) none (few_taken (set_slack why) place b (subst (λ o. IsSlack o) e (header_slack b)))
-faulty_few subject b place why none (inr h) s outside = reached_place (set_slack why) subject b h.header h.items place h.rest none h.reaches s outside
+    few_left (uncovered_in_set why) subject s (take place b) none (few_taken (uncovered_in_set why) place b (subst (λ o. IsNear o) e (header_near b)))
+faulty_few subject b place why none (inr h) s outside = reached_place (uncovered_in_set why) subject b h.header h.items place h.rest none h.reaches s outside
 
 -- bytes that are open end in a descriptor
 open_by : (subject : Subject) (b : List ℕ) (r : Reading) → TellsNothing subject → AreBytes b → IsOpen b → Sound b r → OutFew 254 subject b

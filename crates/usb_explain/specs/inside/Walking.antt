@@ -26,7 +26,7 @@ pub record Counted (s : Standing) : Type 0 where
 pub record Walked (subject : Subject) (bytes done : List ℕ) (at : ℕ) : Type 0 where
   pub whole : (ending : ℕ → List ℕ) → walked (length bytes) subject ending start bytes ≡ done ++ ending at
 
--- The lines of all descriptors were put at the end of a page, of which the writer gained a front; the page holds the rest.
+-- The lines of all descriptors were put at the end of a page, of which the writer gained a prefix; the page holds the rest.
 -- They end at this place.
 pub record PutsWalk (subject : Subject) (bytes : List ℕ) (old new : Held) (page rest : List ℕ) (at : ℕ) : Type 0 where
   pub done : List ℕ
