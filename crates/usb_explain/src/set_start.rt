@@ -4,7 +4,7 @@ ghost use Rattle.std.specs.Option.{option_map, option_or};
 ghost use Rattle.usb_words.specs.SetSpeeds.{other_speed_at, speed_at, speed_of_release};
 ghost use Rattle.usb_explain.specs.SetStart.{known_in_part, known_speed, opened, packet_in_part, packet_of, part_of, sets_of};
 
-use crate::position::{DeviceFacts, Owner, Standing};
+use crate::position::{DeviceFacts, Owner, SetStanding, Standing};
 use usb_base::descriptor_type;
 use usb_rules::Part;
 use usb_words::{
@@ -24,15 +24,17 @@ impl Standing {
         let known = known_speed(self.device, running, part);
         let packet = packet_of(self.device, self.other_packet, part);
         self.left = total;
-        self.set.part = part;
-        self.set.number = self.sets_of(part);
-        self.set.speed = speed_by(known, packet, survey.spoken);
-        self.set.interfaces = survey.interfaces;
-        self.set.bindings = survey.bindings;
-        self.set.associations = 0;
-        self.set.settings = 0;
-        self.set.setting = None;
-        self.set.owner = Owner::Configuration;
+        self.set = SetStanding {
+            part,
+            number: self.sets_of(part),
+            speed: speed_by(known, packet, survey.spoken),
+            interfaces: survey.interfaces,
+            bindings: survey.bindings,
+            associations: 0,
+            settings: 0,
+            setting: None,
+            owner: Owner::Configuration,
+        };
     }
 
     /// How many sets of the part came.

@@ -27,7 +27,7 @@ pub(crate) fn put_form(
     field: &ClassField,
     place: usize,
 ) -> Result<(), AllocError>
-    ensures { OnOk result (text.new ≡ text.old ++ form_words shown.now.context.now.speed shown.now.names.now field.now.form field.now.width shown.now.b.now place) }
+    ensures { OnOk result (text.new ≡ text.old ++ form_words shown.now.context.speed shown.now.names.now field.now.form field.now.width shown.now.b.now place) }
 {
     let b = shown.b;
     let speed = shown.context.speed;

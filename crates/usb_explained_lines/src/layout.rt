@@ -27,7 +27,7 @@ pub(crate) struct DescriptorLayout {
 /// A descriptor whose fields are put: its bytes, and what its lines depend on beside them.
 #[derive(Clone, Copy)]
 pub(crate) struct Shown<'d> {
-    pub(crate) context: &'d Context,
+    pub(crate) context: Context,
     pub(crate) names: &'d Names<'d>,
     pub(crate) b: &'d [u8],
 }
@@ -42,7 +42,11 @@ pub(crate) fn put_layout(
 ) -> Result<(), AllocError>
     ensures { OnOk result (text.new ≡ text.old ++ layout_lines context.now names.now (layout_of layout.now) b.now) }
 {
-    let shown = Shown { context, names, b };
+    let shown = Shown {
+        context: *context,
+        names,
+        b,
+    };
     put_body(text, &shown, layout.fields, layout, 2)
 }
 
@@ -55,7 +59,7 @@ fn put_body(
     layout: &DescriptorLayout,
     place: usize,
 ) -> Result<(), AllocError>
-    ensures { OnOk result (text.new ≡ text.old ++ body_lines shown.now.context.now shown.now.names.now (map field_of fields.now) (layout_of layout.now) shown.now.b.now place) }
+    ensures { OnOk result (text.new ≡ text.old ++ body_lines shown.now.context shown.now.names.now (map field_of fields.now) (layout_of layout.now) shown.now.b.now place) }
 {
     match fields {
         [] => put_all_groups(text, shown, layout, place),
@@ -104,7 +108,7 @@ fn put_all_groups(
     layout: &DescriptorLayout,
     place: usize,
 ) -> Result<(), AllocError>
-    ensures { OnOk result (text.new ≡ text.old ++ groups_lines shown.now.context.now shown.now.names.now (layout_of layout.now) (group_count (width_of (map field_of layout.now.group.now)) (length shown.now.b.now - place)) shown.now.b.now place) }
+    ensures { OnOk result (text.new ≡ text.old ++ groups_lines shown.now.context shown.now.names.now (layout_of layout.now) (group_count (width_of (map field_of layout.now.group.now)) (length shown.now.b.now - place)) shown.now.b.now place) }
 {
     let Some(width) = width_of(layout.group) else {
         return Err(AllocError);
@@ -122,7 +126,7 @@ fn put_groups(
     count: usize,
     place: usize,
 ) -> Result<(), AllocError>
-    ensures { OnOk result (text.new ≡ text.old ++ groups_lines shown.now.context.now shown.now.names.now (layout_of layout.now) count shown.now.b.now place) }
+    ensures { OnOk result (text.new ≡ text.old ++ groups_lines shown.now.context shown.now.names.now (layout_of layout.now) count shown.now.b.now place) }
 {
     if count == 0 {
         return put_left(text, shown, layout, place);
@@ -138,7 +142,7 @@ fn put_left(
     layout: &DescriptorLayout,
     place: usize,
 ) -> Result<(), AllocError>
-    ensures { OnOk result (text.new ≡ text.old ++ digits_line shown.now.context.now.depth layout.now.rest.now (drop place shown.now.b.now)) }
+    ensures { OnOk result (text.new ≡ text.old ++ digits_line shown.now.context.depth layout.now.rest.now (drop place shown.now.b.now)) }
 {
     put_digits(
         text,
@@ -156,7 +160,7 @@ fn put_group(
     fields: &[ClassField],
     place: usize,
 ) -> Result<usize, AllocError>
-    ensures lines { OnOk result (text.new ≡ text.old ++ group_lines shown.now.context.now shown.now.names.now (map field_of fields.now) shown.now.b.now place) }
+    ensures lines { OnOk result (text.new ≡ text.old ++ group_lines shown.now.context shown.now.names.now (map field_of fields.now) shown.now.b.now place) }
     ensures next { IfOk result (λ next. next ≡ place + width_of (map field_of fields.now)) }
 {
     match fields {
@@ -178,7 +182,7 @@ fn put_field(
     field: &ClassField,
     place: usize,
 ) -> Result<(), AllocError>
-    ensures { OnOk result (text.new ≡ text.old ++ line_of shown.now.context.now shown.now.names.now (field_of field.now) shown.now.b.now place) }
+    ensures { OnOk result (text.new ≡ text.old ++ line_of shown.now.context shown.now.names.now (field_of field.now) shown.now.b.now place) }
 {
     begin_field(text, shown.context.depth, field.name)?;
     put_form(text, shown, field, place)?;

@@ -5,9 +5,6 @@ ghost use Rattle.usb_words.specs.Bindings.{binds, bound_at};
 
 use std::marker::Model;
 
-/// No association, for each interface number. A table that is copied costs less than one that is filled.
-const UNBOUND: &[Option<u64>; 256] = &[None; 256];
-
 /// For each interface number of a set the number of the first association that binds it.
 #[derive(Clone, Debug, Drop, PartialEq, Eq, Hash)]
 pub struct Bindings {
@@ -31,7 +28,9 @@ impl Bindings {
     pub fn new() -> Bindings
         ensures { result ≡ replicate 256 None }
     {
-        Bindings { numbers: *UNBOUND }
+        Bindings {
+            numbers: [None; 256],
+        }
     }
 
     /// The number of the association that binds an interface of this number.
