@@ -1,6 +1,6 @@
 -- The words of marks: a bit for each number.
-use Rattle.std.proofs.Common.{◌≡◌, ℕ, zero, suc, ◌+◌, ◌-◌, ◌*◌, ◌/◌, ◌%◌, ◌^◌, ◌<◌, ◌≤◌, ◌==◌, ◌||◌, List, Bool, true, false, length, refl, ap, sym, ◌∙◌, arith, get_or, replicate, inl, inr, ◌⊎◌, subst, w64}
-use Rattle.std.specs.Prelude.{slice_set, slice_index_or}
+use Rattle.std.proofs.Common.{◌≡◌, ℕ, zero, suc, ◌+◌, ◌-◌, ◌*◌, ◌/◌, ◌%◌, ◌^◌, ◌<◌, ◌≤◌, ◌==◌, ◌||◌, List, [], ◌∷◌, Bool, true, false, length, refl, ap, sym, ◌∙◌, arith, get_or, replicate, inl, inr, ◌⊎◌, subst, w64}
+use Rattle.std.specs.Prelude.{slice_set, slice_index_or, not}
 use Rattle.std.specs.Int.{bit_at, bit_not, trailing_ones}
 use Rattle.std.specs.Int.RustNames.{bit_or}
 use Rattle.std.proofs.lemmas.Bool.{cases_eq, cases_lt}
@@ -8,7 +8,7 @@ use Rattle.std.proofs.lemmas.Bool.Decides.{nat_tests}
 use Rattle.std.proofs.lemmas.Grind.{get_or-set_at}
 use Rattle.std.proofs.lemmas.List.{get_or-set_other}
 use Rattle.std.proofs.lemmas.Nat.{shr_le, trailing_le}
-use Rattle.std.proofs.lemmas.Nat.Bits.{bit_at-zero, bit_at_set_same, bit_at_set_other, bit_at-trailing_ones, bit_at_ones, bit_at_above, bit_at-lt}
+use Rattle.std.proofs.lemmas.Nat.Bits.{bit_at-zero, bit_at_not, bit_at_set_same, bit_at_set_other, bit_at-trailing_ones, bit_at_ones, bit_at_above, bit_at-lt}
 use Rattle.std.specs.Int.Count.{count_trailing_zeros, trailing_of_zero}
 use lib.ListN.{get_or-eq_default}
 use lib.Pow.{shr-shr}
@@ -133,3 +133,37 @@ ends_at words at word ones long is small ones_are (inl none) =
     ap (is_marked words) (sym same)
     ∙ not_marked words at (subst (λ w. w < 2 ^ 64) is small) (sym (ap (λ w. trailing_ones w64 (w / 2 ^ (at % 64))) is) ∙ sym ones_are ∙ none)
 ends_at words at word ones long is small ones_are (inr end) = none_from words (at + ones) (omega (arith, long, end))
+
+-- ---- the words of the other numbers
+
+other_bit : (bit : ℕ) → bit < 2 → (1 - bit == 1) ≡ not (bit == 1)
+other_bit bit h = grind (arith, nat_tests)
+
+in_other : (others words : List ℕ) (word n i : ℕ) → n / 64 ≡ i → get_or others i 0 ≡ bit_not w64 word → word ≡ get_or words i 0 → word < 2 ^ 64
+    → is_marked others n ≡ not (is_marked words n)
+unfolding is_marked
+in_other others words word n i high turned is small =
+    ap (λ k. bit_at (get_or others k 0) (n % 64) == 1) high
+    ∙ ap (λ w. bit_at w (n % 64) == 1) turned
+    ∙ ap (λ bit. bit == 1) (bit_at_not w64 word (n % 64) small (omega arith))
+    ∙ other_bit (bit_at word (n % 64)) (bit_at-lt word (n % 64))
+    ∙ ap (λ w. not (bit_at w (n % 64) == 1)) is
+    ∙ ap (λ k. not (bit_at (get_or words k 0) (n % 64) == 1)) (sym high)
+
+pub other_numbers : (words : List ℕ) (a b c d n : ℕ) → a ≡ get_or words 0 0 → b ≡ get_or words 1 0 → c ≡ get_or words 2 0 → d ≡ get_or words 3 0
+    → a < 2 ^ 64 → b < 2 ^ 64 → c < 2 ^ 64 → d < 2 ^ 64 → n < 256
+    → is_marked (bit_not w64 a ∷ bit_not w64 b ∷ bit_not w64 c ∷ bit_not w64 d ∷ []) n ≡ not (is_marked words n)
+other_numbers words a b c d n is_a is_b is_c is_d small_a small_b small_c small_d most =
+    let others : List ℕ = bit_not w64 a ∷ bit_not w64 b ∷ bit_not w64 c ∷ bit_not w64 d ∷ [] in
+    elim (cases_lt n 64) [
+      | inl first ↦ in_other others words a n 0 (omega (arith, first)) refl is_a small_a
+      | inr past ↦
+          elim (cases_lt n 128) [
+            | inl second ↦ in_other others words b n 1 (omega (arith, past, second)) refl is_b small_b
+            | inr further ↦
+                elim (cases_lt n 192) [
+                  | inl third ↦ in_other others words c n 2 (omega (arith, further, third)) refl is_c small_c
+                  | inr last ↦ in_other others words d n 3 (omega (arith, last, most)) refl is_d small_d
+                ]
+          ]
+    ]

@@ -1,5 +1,5 @@
 //! `Marks`, a set of bytes.
-ghost use Rattle.std.specs.Prelude.{◌≡◌, ◌<◌, ◌/◌, length, slice_index_or};
+ghost use Rattle.std.specs.Prelude.{◌≡◌, ℕ, ◌<◌, ◌/◌, length, not, slice_index_or};
 ghost use Rattle.usb_base.specs.Marks.{IsNextAbsent, unmarked, marked, is_marked};
 
 use std::marker::Model;
@@ -63,6 +63,20 @@ impl Marks {
             if ones == 0 || next > 255 {
                 return next;
             }
+        }
+    }
+
+    /// The other bytes.
+    pub fn complement(&self) -> Marks
+        ensures { (n : ℕ) → n < 256 → is_marked result n ≡ not (is_marked self.now n) }
+    {
+        Marks {
+            words: [
+                !self.word(0),
+                !self.word(64),
+                !self.word(128),
+                !self.word(192),
+            ],
         }
     }
 

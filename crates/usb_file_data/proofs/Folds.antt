@@ -1,11 +1,11 @@
 -- What marks say.
-use Rattle.std.proofs.Common.{◌≡◌, ℕ, ◌+◌, ◌==◌, List, [], ◌∷◌, ◌++◌, Bool, true, false, ◌||◌, cond, refl, ap, ◌∙◌, map}
-use Rattle.std.specs.Prelude.{fold, filter}
+use Rattle.std.proofs.Common.{◌≡◌, ℕ, zero, suc, ◌+◌, ◌-◌, ◌<◌, ◌≤◌, ◌==◌, List, [], ◌∷◌, ◌++◌, Bool, true, false, ◌||◌, cond, refl, ap, sym, ◌∙◌, arith, map}
+use Rattle.std.specs.Prelude.{fold, filter, not}
 use Rattle.std.specs.List.{list_any, range_with_len}
 use Rattle.std.proofs.lemmas.List.{append-nil}
 use Rattle.std.proofs.lemmas.List.FromFn.{filter_of_map_range_with_len_more}
 use Rattle.usb_file_data.specs.Named.{named_among}
-use Rattle.usb_base.specs.Marks.{unmarked, marked}
+use Rattle.usb_base.specs.Marks.{IsNextAbsent, unmarked, marked}
 use Rattle.usb_file_data.specs.inside.Marks.{marked_among}
 
 pub fold_append : {A B : Type 0} (f : B → A → B) (b : B) (xs ys : List A) → fold f b (xs ++ ys) ≡ fold f (fold f b xs) ys
@@ -42,6 +42,50 @@ among_next first n passes h = among_more first n passes ∙ ap (λ b. marked_amo
 pub among_same : (first n : ℕ) (passes : ℕ → Bool) → passes (first + n) ≡ false → marked_among first (n + 1) passes ≡ marked_among first n passes
 among_same first n passes h =
     among_more first n passes ∙ ap (λ b. marked_among first n passes ++ cond b ((first + n) ∷ []) []) h ∙ append-nil (marked_among first n passes)
+
+-- ---- the marked numbers, from one to the next
+
+not_true : (b : Bool) → not b ≡ true → b ≡ false
+not_true false h = refl
+not_true true h = sym h
+
+not_false : (b : Bool) → not b ≡ false → b ≡ true
+not_false true h = refl
+not_false false h = sym h
+
+among_gap : (first n more : ℕ) (passes : ℕ → Bool) → ((k : ℕ) → first + n ≤ k → k < first + n + more → passes k ≡ false)
+    → marked_among first (n + more) passes ≡ marked_among first n passes
+among_gap first n zero passes h = let same : n + 0 ≡ n = omega arith in ap (λ m. marked_among first m passes) same
+among_gap first n (suc more) passes h =
+    let same : n + suc more ≡ (n + more) + 1 = omega arith in
+    ap (λ m. marked_among first m passes) same
+    ∙ among_same first (n + more) passes (h (first + (n + more)) (omega arith) (omega arith))
+    ∙ among_gap first n more passes (λ k from_here below. h k from_here (omega (arith, below)))
+
+-- none is marked from one number to another
+pub among_skip : (marks others : ℕ → Bool) (from next end : ℕ) → ((n : ℕ) → n < 256 → others n ≡ not (marks n)) → IsNextAbsent others from next
+    → 1 ≤ from → from ≤ end → end ≤ next → end ≤ 256 → marked_among 1 (end - 1) marks ≡ marked_among 1 (from - 1) marks
+among_skip marks others from next end other found some least most within =
+    let same : end - 1 ≡ (from - 1) + (end - from) = omega (arith, some, least) in
+    ap (λ m. marked_among 1 m marks) same
+    ∙ among_gap 1 (from - 1) (end - from) marks
+    (λ k from_here below.
+    not_true (marks k) (sym (other k (omega (arith, below, some, least, within))) ∙ found.before k (omega (arith, from_here, some)) (omega (arith, below, some, least, most))))
+
+-- the next marked number
+pub among_found : (marks others : ℕ → Bool) (from next : ℕ) → ((n : ℕ) → n < 256 → others n ≡ not (marks n)) → IsNextAbsent others from next
+    → 1 ≤ from → next < 256 → marked_among 1 next marks ≡ marked_among 1 (from - 1) marks ++ next ∷ []
+among_found marks others from next other found some within =
+    let least = found.least in
+    let last : next ≡ (next - 1) + 1 = omega (arith, some, least) in
+    let here : 1 + (next - 1) ≡ next = omega (arith, some, least) in
+    let is : marks next ≡ true = not_false (marks next) (sym (other next within) ∙ found.absent) in
+    ap (λ m. marked_among 1 m marks) last
+    ∙ among_next 1 (next - 1) marks (ap marks here ∙ is)
+    ∙ ap (λ n. marked_among 1 (next - 1) marks ++ n ∷ []) here
+    ∙ ap (λ ns. ns ++ next ∷ []) (among_skip marks others from next next other found some least (omega arith) (omega (arith, within)))
+
+-- ---- the named indices
 
 or_swap : (a b c : Bool) → (a || (b || c)) ≡ ((b || a) || c)
 or_swap true true c = refl

@@ -60,17 +60,24 @@ pub(crate) fn put_named(f: &DescriptorFile, out: &mut ArrayVec<u8, 255>)
     put_marked(&mark_file(f), out);
 }
 
-/// Fills an empty list with the marked numbers of 1 to 255, ascending.
-#[tactic(auto, using(crate::proofs::Folds::among_none, crate::proofs::Folds::among_next, crate::proofs::Folds::among_same))]
+/// Fills an empty list with the marked numbers of 1 to 255, ascending: it looks for each from the one before on.
+#[tactic(auto, using(crate::proofs::Folds::among_none))]
 fn put_marked(marks: &Marks, out: &mut ArrayVec<u8, 255>)
     requires { out.old.items ≡ [] }
     ensures numbers { out.new.items ≡ marked_among 1 255 (is_marked marks.now) }
     ensures most { length out.new.items ≤ 255 }
 {
-    for i in 0..255u8 {
-        let n = 1 + i;
-        if marks.has(n) {
-            out.push(n);
+    let others = marks.complement();
+    let mut from = 1;
+    'search: loop {
+        let next = others.next_absent(from);
+        if next > 255 {
+            return;
         }
+        out.push(next as u8);
+        if next == 255 {
+            return;
+        }
+        from = next as u8 + 1;
     }
 }
