@@ -218,7 +218,7 @@ attempts_sound plan naks answer cut loose all last d fates f =
 
 -- a plan that a device answers is followed
 module _ (plan : List Reply → Plan) (naks : ℕ) (answer : State → SetupPacket → Outcome) (cut : ℕ) (loose : Bool) (all : List Reply) (last : State) where
-  -- a SET_ADDRESS that comes last is told
+  -- a SET_ADDRESS that comes last is reported
   moves_last : (replies todo : List Reply) (r : Reply) (address packet : ℕ) (q : SetupPacket) → plan replies ≡ Begin address packet q →
       (is_moved_last plan replies (r ∷ todo) ≡ true → loose ≡ true) → is_set_address q ≡ true → todo ≡ [] → loose ≡ true
   moves_last replies [] r address packet q begins told is none = told (ap is_moving begins ∙ is)

@@ -1,7 +1,7 @@
 -- A talk: what its loop keeps, and what holds where it ends.
 use Rattle.std.proofs.Common.{◌≡◌, ℕ, ◌+◌, ◌<◌, ◌≤◌, List, [], ◌∷◌, ◌++◌, length, take, Option, Some, None, Result, Ok, Err, refl, sym, ap, ◌∙◌, arith, subst, append_assoc, length-append}
 use Rattle.std.specs.Option.{is_some}
-use Rattle.std.specs.Prelude.{IfSome, true, false}
+use Rattle.std.specs.Prelude.{IfSome, false}
 use Rattle.std.proofs.lemmas.List.{append-nil, take_all}
 use Rattle.usb_fields.specs.declared.setup.Setup.{Setup as SetupPacket}
 use Rattle.usb_file_data.specs.declared.file.DescriptorFile.{DescriptorFile}
@@ -13,7 +13,7 @@ use Rattle.usb_transfer.specs.Transfer.{due, addressed, token_due}
 use Rattle.usb_device.specs.Requests.{answer}
 use Rattle.usb_device.specs.States.{zero as zero_state}
 use Rattle.usb_device.specs.declared.state.State.{State}
-use Rattle.usb_device.specs.Step.{DeviceView, new_device}
+use Rattle.usb_device.specs.Step.{DeviceView}
 use Rattle.usb_bus.specs.declared.fate.Fate.{Fate}
 use Rattle.usb_transfer.specs.declared.reply.Reply.{Reply}
 use Rattle.usb_bus.specs.declared.talk.Talk.{Talk}
@@ -151,50 +151,6 @@ talk_run requests fates v t =
     let all = subst (λ qs. IsTalkTo fates v qs []) (append-nil requests) (t.goes_on []) in
     (all.points, _, all.count, all.steps, refl, standing_ended v v.talk.stopped, t.state)
 
--- before the first request
-pub talk_new : (fates : List Fate) (v : TalkView) → v.address ≡ 0 → v.talk ≡ record { replies = []; stopped = None; transactions = 0; state = v.device.state } →
-    v.device ≡ new_device → IsTalk [] fates v
-talk_new fates v address talk device =
-    record {
-      goes_on = λ more. record {
-        points = [];
-        count = rw talk refl;
-        steps = rw (talk, address, device) refl;
-        place = λ on. rw (talk, address) refl;
-      };
-      state = rw talk refl;
-      most = rw talk (omega arith);
-      all = rw talk (λ on. refl, λ on. refl);
-    }
-
--- where it stopped, what is to come makes no difference
-stands_still : (v : TalkView) (stopped : Option Why) (why : Why) (a b : List SetupPacket) → stopped ≡ Some why → standing v stopped a ≡ standing v stopped b
-stands_still v None why a b e = absurd (cc)
-stands_still v (Some other) why a b e = refl
-
--- a talk that has stopped stays as it is
-pub talk_stays : (requests : List SetupPacket) (fates : List Fate) (v : TalkView) (q : SetupPacket) (why : Why) → v.talk.stopped ≡ Some why →
-    IsTalk requests fates v → IsTalk (requests ++ q ∷ []) fates v
-talk_stays requests fates v q why e t =
-    let long = length-append requests (q ∷ []) in
-    let most = t.most in
-    record {
-      goes_on = λ more.
-          (let all = (requests ++ q ∷ []) ++ more in
-          let to = subst (λ qs. IsTalkTo fates v qs (q ∷ more)) (sym (append_assoc requests (q ∷ []) more)) (t.goes_on (q ∷ more)) in
-          record {
-            points = to.points;
-            count = to.count;
-            steps = subst (λ p. Steps (talk_plan v.file.device.packet (first_place all)) v.naks (answer v.file) v.file.device.packet fates 0
-                (talk_start v.file.device.packet v.naks all) to.points (record { replies = v.talk.replies; phase = p; device = v.device }))
-                (stands_still v v.talk.stopped why (q ∷ more) more e) to.steps;
-            place = λ on. absurd (let clash = sym on ∙ e in cc);
-          });
-      state = t.state;
-      most = omega arith;
-      all = (λ on. absurd (let clash = sym on ∙ e in cc), λ same. absurd (let less = same in omega arith));
-    }
-
 -- One request more, to which a transfer leads that has ended.
 module _ (requests : List SetupPacket) (fates : List Fate) (v : TalkView) (q : SetupPacket) (on : v.talk.stopped ≡ None) (t : IsTalk requests fates v)
     (now : ℕ) (h : HostEnd) (here : DeviceView)
@@ -270,15 +226,10 @@ module _ (requests : List SetupPacket) (fates : List Fate) (v : TalkView) (q : S
         all = (λ goes. absurd (cc), λ equal. absurd (omega arith));
       }
 
--- a talk of which no reason to stop is told goes on
+-- a talk for which no reason to stop is reported goes on
 pub none_told : (stopped : Option Why) → is_some stopped ≡ false → stopped ≡ None
 none_told None e = refl
 none_told (Some why) e = absurd (cc)
-
-pub some_told : (requests : List SetupPacket) (fates : List Fate) (v : TalkView) (q : SetupPacket) (stopped : Option Why) → v.talk.stopped ≡ stopped → is_some stopped ≡ true →
-    IsTalk requests fates v → IsTalk (requests ++ q ∷ []) fates v
-some_told requests fates v q None e told t = absurd (cc)
-some_told requests fates v q (Some why) e told t = talk_stays requests fates v q why e t
 
 -- where a talk has ended nothing is due
 none_due : (stopped : Option Why) → due_in (end_of stopped) ≡ None

@@ -1,5 +1,5 @@
 -- The transactions of one transfer, as a part of a talk.
-use Rattle.std.proofs.Common.{◌≡◌, ℕ, suc, ◌+◌, List, Option, Some, None, refl, ap, ◌∙◌, arith, zero-add}
+use Rattle.std.proofs.Common.{◌≡◌, ℕ, suc, ◌+◌, List, Option, Some, None, refl, ap, ◌∙◌, arith}
 use Rattle.std.proofs.lemmas.Bool.Decides.{nat_tests}
 use Rattle.usb_fields.specs.Packet.{Sent, Reply as PacketReply}
 use Rattle.usb_fields.specs.declared.setup.Setup.{Setup as SetupPacket}
@@ -26,7 +26,7 @@ failure_in (Brings bytes) = None
 failure_in Completes = None
 failure_in (Fails why) = Some why
 
--- what the caller is told is what the stage says
+-- what is reported to the caller is what the stage says
 pub failure_in-taken : (t : TransferView) (stage : TransferStage) (r : PacketReply) → t.stage ≡ stage →
     failure_in (taken_at t stage r).heard ≡ failure_of (taken_at t stage r).transfer.stage
 failure_in-taken t Setup r e = grind (arith, nat_tests)
@@ -48,11 +48,6 @@ advance-due plan naks replies h StatusOut d address q sent e = refl
 advance-due plan naks replies h StatusIn d address q sent e = refl
 advance-due plan naks replies h Completed d address q sent e = absurd (cc)
 advance-due plan naks replies h (Failed why) d address q sent e = absurd (cc)
-
--- the first transaction of some
-pub Leads-start : (answer : State → SetupPacket → Outcome) (cut : ℕ) (fates : List Fate) (before : ℕ) (h : HostEnd) (d : DeviceView) →
-    h.transfer.stage ≡ Setup → Leads answer cut fates before h d before h d
-Leads-start answer cut fates before h d e = (0, omega arith, λ plan naks replies. (λ i less. absurd (omega arith), λ m. rw (zero-add m, e) refl))
 
 -- one transaction more
 pub Leads-more : (answer : State → SetupPacket → Outcome) (cut : ℕ) (fates : List Fate) (before : ℕ) (h : HostEnd) (d : DeviceView) (now : ℕ)

@@ -33,7 +33,7 @@ module _ (answer : State → SetupPacket → Outcome) (table : IsTable answer) (
           low ∙ ap (λ x. x.address) (sym goes.1)
       by_kind false i = sym ((table.answering s q).stays t e i)
 
-  -- a SET_ADDRESS that comes last is told
+  -- a SET_ADDRESS that comes last is reported
   moves_last : (q : SetupPacket) (qs : List SetupPacket) (s : State) → (ends_with_address (q ∷ qs) ≡ true → loose ≡ true) →
       is_set_address q ≡ true → replies_to answer s qs ≡ [] → loose ≡ true
   moves_last q [] s told is none = told is
