@@ -51,10 +51,15 @@ def parts(data):
     return data[:18], sets, place
 
 
-def is_dump(data):
-    """Whether the bytes, a device descriptor and its sets, lack the strings that they name."""
+def names_of_dump(data):
+    """The indices of strings that the bytes name, a device descriptor and its sets."""
     device, sets, _ = parts(data)
-    return bool(named(device, sets))
+    return named(device, sets)
+
+
+def is_dump(data):
+    """Whether such bytes lack the strings that they name."""
+    return bool(names_of_dump(data))
 
 
 def fronts(data):

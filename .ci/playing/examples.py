@@ -4,7 +4,7 @@ import glob
 import os
 import re
 
-from playing.calls import fronts, is_dump
+from playing.calls import fronts, is_dump, names_of_dump
 from playing.row import Fault
 from playing.run import Run, ends_with
 
@@ -26,6 +26,14 @@ def told_of(name, ending):
     yield Run(["explain"], data, 0, bytes_of(name, ".explain"))
 
 
+def enumerations(name, options, data, text):
+    """The runs that enumerate an input at each speed; after success they list this text."""
+    for line in bytes_of(name, ".enumerate").decode().splitlines():
+        speed, _, result = line.partition(" ")
+        status, listed = (0, text) if result.startswith("success ") else (1, b"")
+        yield Run(["enumerate", *options, "--speed", speed], data, status, f"{result}\n".encode() + listed)
+
+
 def set_(name):
     yield from told_of(name, ".bin")
 
@@ -34,10 +42,7 @@ def file(name):
     yield from told_of(name, ".file")
     yield from listing(name)
     data, text = bytes_of(name, ".file"), bytes_of(name, ".txt")
-    for line in bytes_of(name, ".enumerate").decode().splitlines():
-        speed, _, result = line.partition(" ")
-        status, listed = (0, text) if result.startswith("success ") else (1, b"")
-        yield Run(["enumerate", "--speed", speed], data, status, f"{result}\n".encode() + listed)
+    yield from enumerations(name, [], data, text)
     yield from fronts(data)
 
 
@@ -50,6 +55,9 @@ def dump(name):
         yield ends_with(["enumerate"], data, f"3 usbdesc: file fault 6 at {len(data)}")
     else:
         yield Run(["build"], text, 0, data)
+    strings = "".join(f'string "string {index}"\n' for index in names_of_dump(data))
+    text += f"languages 0409\n{strings}".encode() if strings else b""
+    yield from enumerations(name, ["--with-strings"], data, text)
     yield from fronts(data)
 
 

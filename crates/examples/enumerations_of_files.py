@@ -5,7 +5,8 @@ and of an enumeration (../player/reading/enumerating.py).
 It shares no code with the crates. The gate compares what it writes (.ci/readings).
 
     enumerations_of_files.py FILE..    writes what comes of FILE to the file of that name that ends in .enumerate: a
-                                       line for each speed, with the result line of the program
+                                       line for each speed, with the result line of the program. A FILE that ends in
+                                       .descriptors is a dump, which is completed first (--with-strings)
 """
 
 import os
@@ -14,7 +15,23 @@ import sys
 import checking
 
 sys.path.insert(0, os.path.join(os.path.dirname(os.path.abspath(__file__)), "../player/reading"))
-from enumerating import Device, File, Host, enumerate_device, units, word  # noqa: E402
+from enumerating import Device, File, Host, enumerate_device, named, units, word  # noqa: E402
+
+
+def string(units_written):
+    return bytes([2 + len(units_written), 3]) + units_written
+
+
+def completed(data):
+    """The file that is made of a dump: for each index N that it names the text 'string N', in language 0409 alone."""
+    sets, place = [], 18
+    for _ in range(data[17]):
+        sets.append(data[place : place + word(data, place + 2)])
+        place += len(sets[-1])
+    indices = named(data[:18], sets)
+    if not indices:
+        return data
+    return data + string(b"\x09\x04") + b"".join(string(f"string {index}".encode("utf-16-le")) for index in indices)
 
 
 def refused(data, speed):
@@ -49,6 +66,8 @@ def main(paths):
     for path in paths:
         with open(path, "rb") as source:
             data = source.read()
+        if path.endswith(".descriptors"):
+            data = completed(data)
         with open(os.path.splitext(path)[0] + ".enumerate", "w", encoding="ascii") as target:
             for speed in ("low", "full", "high"):
                 print(speed, result(data, speed), file=target)

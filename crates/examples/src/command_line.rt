@@ -48,6 +48,7 @@ fn command(alloc: Global, line: &Line<'_>) -> Result<String> {
                 ("attempts", options.attempts),
                 ("fates", options.fates),
                 ("log", options.log.then_some("")),
+                ("with-strings", options.with_strings.then_some("")),
             ];
             with_options(alloc, "enumerate", &given)
         }
@@ -126,7 +127,7 @@ fn listed(alloc: Global, fates: &[Fate]) -> Result<String> {
     Ok(text)
 }
 
-/// What the options of a line mean, limits, speed, fates and whether a log is asked for, or the exit status and the
+/// What the options of a line mean, limits, speed, fates and the flags, or the exit status and the
 /// line of the fault.
 pub(crate) fn settings(alloc: Global, words: &[String]) -> Result<String> {
     let words = line_of(alloc, words)?;
@@ -139,13 +140,17 @@ pub(crate) fn settings(alloc: Global, words: &[String]) -> Result<String> {
     };
     let (limits, speed) = (settings.limits, settings.speed);
     let fates = listed(alloc, &settings.fates)?;
-    let log = if settings.log { "log" } else { "" };
+    let log = if settings.log { " log" } else { "" };
+    let strings = if settings.with_strings {
+        " with-strings"
+    } else {
+        ""
+    };
     let told = format!(in alloc;
         "address {} naks {} attempts {} {speed:?} {fates}",
         limits.address(),
         limits.naks(),
         limits.attempts()
     )?;
-    let told = format!(in alloc; "{} {log}", told.as_str().trim_end())?;
-    Ok(String::from_str(alloc, told.as_str().trim_end())?)
+    Ok(format!(in alloc; "{}{log}{strings}", told.as_str().trim_end())?)
 }

@@ -66,6 +66,7 @@ impl Command {
             speed: Speed::Full,
             fates,
             log: matches!(self, Command::Log),
+            with_strings: false,
         }
     }
 

@@ -16,6 +16,7 @@ pub use Rattle.usb_file_data.specs.Named
 pub use Rattle.usb_file.specs.FileFaults
 pub use Rattle.usb_file.specs.Inputs
 pub use Rattle.usb_file.specs.Dumps
+pub use Rattle.usb_file.specs.Completed
 pub use Rattle.usb_listing.specs.Listing
 pub use Rattle.usb_listing.specs.SetListing
 pub use Rattle.usb_listing.specs.Output

@@ -13,4 +13,5 @@ pub mod Unique
 pub mod Paths
 pub mod Complete
 pub mod Dumps
+pub mod CompletedLemmas
 pub mod Inputs

@@ -1,6 +1,7 @@
 pub mod FileFaults
 pub mod FileOrFault
 pub mod Dumps
+pub mod Completed
 pub mod Inputs
 pub mod InputOrFault
 pub mod Numbers

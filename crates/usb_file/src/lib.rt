@@ -17,6 +17,7 @@
 //! - The module [`laws`] states what holds of files and faults, whoever reads them.
 #![tactic(auto)]
 
+mod completed;
 mod device;
 mod fault;
 mod file_reader;
@@ -28,6 +29,7 @@ mod other;
 mod sets;
 mod strings;
 
+pub use completed::read_completed;
 pub use fault::{FileFault, FileWhy};
 pub use file_reader::read_file;
 pub use file_writer::write_file;

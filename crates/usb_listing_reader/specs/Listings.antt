@@ -75,7 +75,8 @@ RestFaulty so_far rest whys.Line = LineFaulty rest
 RestFaulty so_far rest whys.Missing = (rest ≡ []) × (is_whole so_far ≡ false)
 RestFaulty so_far rest why = FirstFaulty so_far rest why
 
--- The kept text begins with right lines, and this is left from this line on: of those of the text itself, counted from 1.
+-- What is kept of the text begins with right lines, and this is left of it. The line that comes next is counted from 1
+-- among all lines of the text.
 pub record Begins (text : List ℕ) (so_far : Option DescriptorFile) (rest : List ℕ) (line : ℕ) : Type 0 where
   pub begun : IsBegun so_far
   pub parts : uncommented text ≡ lines_of so_far ++ rest

@@ -1,21 +1,26 @@
 -- On telling what came of an enumeration.
-use Rattle.std.proofs.Common.{◌≡◌, ◌≢◌, ℕ, List, [], ◌∷◌, ◌++◌, ◌<◌, length, length-append, arith, Some, Result, Ok, Err, refl, sym, ap, ◌∙◌, inl, inr, subst, append_assoc}
+use Rattle.std.proofs.Common.{◌≡◌, ◌≢◌, ℕ, Bool, true, false, List, [], ◌∷◌, ◌++◌, ◌<◌, length, length-append, arith, Some, Result, Ok, Err, refl, sym, ap, ◌∙◌, inl, inr, subst, append_assoc}
 use Rattle.std.specs.Prelude.{IfErr, IfOk}
 use Rattle.std.specs.Io.KnownBytes.{Appends}
 use Rattle.usb_fields.specs.declared.speed.Speed.{Speed}
 use Rattle.usb_file_data.specs.declared.file.DescriptorFile.{DescriptorFile}
-use Rattle.usb_file_data.specs.File.{File}
+use Rattle.usb_file.specs.Dumps.{IsNoDump}
+use Rattle.usb_file.specs.FileFaults.{FileFaulty, ReadRefused}
+use Rattle.usb_file.specs.Inputs.{DeviceRefused}
+use Rattle.usb_file.specs.declared.fault.FileFault.{FileFault}
+use Rattle.usb_file.specs.declared.fault.FileWhy.{FileWhy}
+use Rattle.usb_file.specs.declared.fault.FileWhy.TheVariants as files
 use Rattle.usb_listing.specs.declared.output.OutFault.{OutFault}
 use Rattle.usb_listing.specs.declared.output.OutFault.TheVariants as outs
 use Rattle.usb_listing.specs.Output.{AppendsLess, Held}
-use Rattle.usb_listing.proofs.Pages.{appends_more, appends_nothing, less_is_front, stopped}
+use Rattle.usb_listing.proofs.Pages.{appends_more, appends_nothing, keeps_refl, less_is_front, stopped}
 use Rattle.usb_description.specs.Accepted.{Accepted, Refuses, refusal_of}
 use Rattle.usb_description.specs.declared.fault.DescriptionFault.{DescriptionFault}
 use Rattle.usb_description.specs.declared.fault.DescriptionFault.TheVariants as refusals
 use Rattle.usb_enumeration.specs.declared.run.Run.{Run}
 use Rattle.usb_host.specs.declared.step.Trouble.{Trouble}
-use Rattle.usb_tool.specs.Enumerations.{IsRun, RefusesToEnumerate, StopsShort, Tells, WritesResult, WritesResultFront, run_status, run_text}
-use Rattle.usb_tool.specs.Faults.{fault_of_output}
+use Rattle.usb_tool.specs.Enumerations.{IsNotTaken, IsRun, IsTaken, RefusesToEnumerate, StopsShort, Tells, WritesResult, WritesResultFront, run_status, run_text}
+use Rattle.usb_tool.specs.Faults.{fault_of_file, fault_of_output, file_fault_by_why}
 use Rattle.usb_tool.specs.ResultLines.{refused_line, success_line, trouble_line}
 use Rattle.usb_tool.specs.inside.Telling.{EndsWith, IsCutShort}
 use Rattle.usb_tool.specs.declared.fault.ToolFault.{ToolFault}
@@ -39,18 +44,47 @@ first_reason f s refusals.Speed why known = why
 first_reason f s refusals.Memory why known = absurd (known refl)
 first_reason f s refusals.Unwritable why known = why
 
+-- ---- bytes that are not taken
+
+refused : (b : List ℕ) (at : ℕ) (why : FileWhy) → ReadRefused b at why → why ≢ files.Memory → FileFaulty b at why
+refused b at files.Memory h other = absurd (other refl)
+refused b at why h other = h
+
+refused_both : (b : List ℕ) (at : ℕ) (why : FileWhy) → DeviceRefused b at why → why ≢ files.Memory → FileFaulty b at why × IsNoDump b
+refused_both b at files.Memory h other = absurd (other refl)
+refused_both b at why h other = h
+
+pub no_file : (r : Result DescriptorFile FileFault) (b : List ℕ) (with_strings : Bool) → with_strings ≡ false → IfErr r (λ fault. ReadRefused b fault.at fault.why)
+    → IfErr r (λ fault. fault.why ≢ files.Memory → IsNotTaken with_strings b fault)
+no_file (Ok f) b with_strings is h = tt
+no_file (Err e) b with_strings is h = λ other. subst (λ s. IsNotTaken s b e) (sym is) (refused b e.at e.why h other)
+
+pub no_dump_either : (r : Result DescriptorFile FileFault) (b : List ℕ) (with_strings : Bool) → with_strings ≡ true → IfErr r (λ fault. DeviceRefused b fault.at fault.why)
+    → IfErr r (λ fault. fault.why ≢ files.Memory → IsNotTaken with_strings b fault)
+no_dump_either (Ok f) b with_strings is h = tt
+no_dump_either (Err e) b with_strings is h = λ other. subst (λ s. IsNotTaken s b e) (sym is) (refused_both b e.at e.why h other)
+
+-- and nothing was written
+pub not_taken : (s : Settings) (b : List ℕ) (held : Held) (e : FileFault) → (e.why ≢ files.Memory → IsNotTaken s.with_strings b e)
+    → RefusesToEnumerate s b held held (fault_of_file e)
+not_taken s b held e h = by e.why refl
+  where
+    by : (why : FileWhy) → e.why ≡ why → RefusesToEnumerate s b held held (file_fault_by_why why e)
+    by files.Memory is = inl (keeps_refl held)
+    by why is = (h (λ memory. let same = sym is ∙ memory in cc), keeps_refl held)
+
 -- what is told of a file that no device can be made of
-pub refusal_told : (s : Settings) (f : DescriptorFile) (b : List ℕ) (fault : DescriptionFault) → File f b
+pub refusal_told : (s : Settings) (f : DescriptorFile) (b : List ℕ) (fault : DescriptionFault) → IsTaken s.with_strings f b
     → refusal_of f s.speed ≡ Some fault → Tells s b [] (refused_line fault) 1
-refusal_told s f b fault layout why =
-    record { file = f; layout = layout; told = inl (record { fault = fault; why = why; told = refl; ended = refl }, refl) }
+refusal_told s f b fault taken why =
+    record { file = f; taken = taken; told = inl (record { fault = fault; why = why; told = refl; ended = refl }, refl) }
 
 -- what is told of a run
-pub run_told : (s : Settings) (f : DescriptorFile) (b : List ℕ) (run : Run) (log : List ℕ) → File f b → Accepted f s.speed
+pub run_told : (s : Settings) (f : DescriptorFile) (b : List ℕ) (run : Run) (log : List ℕ) → IsTaken s.with_strings f b → Accepted f s.speed
     → IsRun s.log s f run log → Tells s b log (run_text run.outcome run) (run_status run.outcome)
-run_told s f b run log layout accepted enumerated = record {
+run_told s f b run log taken accepted enumerated = record {
   file = f;
-  layout = layout;
+  taken = taken;
   told = inr (record { run = run; accepted = accepted; enumerated = enumerated; told = refl; ended = refl });
 }
 

@@ -51,11 +51,14 @@ fates_rule = chosen_rule (codes "fates")
 abbrev pub log_rule : Rule
 log_rule = flag_rule (codes "log")
 
+abbrev pub with_strings_rule : Rule
+with_strings_rule = flag_rule (codes "with-strings")
+
 -- the command `enumerate` with its options
 abbrev pub enumerate_app : App
 enumerate_app =
-    with_rule (with_rule (with_rule (with_rule (with_rule (with_rule (new_app (codes "enumerate")) speed_rule) address_rule)
-    naks_rule) attempts_rule) fates_rule) log_rule
+    with_rule (with_rule (with_rule (with_rule (with_rule (with_rule (with_rule (new_app (codes "enumerate")) speed_rule) address_rule)
+    naks_rule) attempts_rule) fates_rule) log_rule) with_strings_rule
 
 -- the command `explain` with its options
 abbrev pub explain_app : App
@@ -94,7 +97,7 @@ pub record HasFlags (o : Explaining) (rows : List Row) : Type 0 where
   pub no_places : o.no_places ≡ is_given (first_of (codes "no-places") rows)
   pub speed : text_of o.speed ≡ first_of (codes "speed") rows
 
--- the text of each option is the one that was found for it, and so is the flag
+-- the text of each option is the one that was found for it, and so are the flags
 pub record HasTexts (o : Options) (rows : List Row) : Type 0 where
   pub speed : text_of o.speed ≡ first_of (codes "speed") rows
   pub address : text_of o.address ≡ first_of (codes "address") rows
@@ -102,6 +105,7 @@ pub record HasTexts (o : Options) (rows : List Row) : Type 0 where
   pub attempts : text_of o.attempts ≡ first_of (codes "attempts") rows
   pub fates : text_of o.fates ≡ first_of (codes "fates") rows
   pub log : o.log ≡ is_given (first_of (codes "log") rows)
+  pub with_strings : o.with_strings ≡ is_given (first_of (codes "with-strings") rows)
 
 -- the line is what the subcommand that was found asks for
 abbrev pub Asks : Line → Option (Text × List Row) → Type 0

@@ -3,7 +3,10 @@ use Rattle.std.specs.Prelude.{◌≡◌, ℕ, ◌⊎◌, Bool, true, false, List
 use Rattle.std.specs.Io.KnownBytes.{Appends, Keeps}
 use Rattle.usb_file_data.specs.declared.file.DescriptorFile.{DescriptorFile}
 use Rattle.usb_file_data.specs.File.{File}
+use Rattle.usb_file.specs.Completed.{IsCompleted}
+use Rattle.usb_file.specs.Dumps.{IsNoDump}
 use Rattle.usb_file.specs.FileFaults.{FileFaulty}
+use Rattle.usb_file.specs.declared.fault.FileFault.{FileFault}
 use Rattle.usb_file.specs.declared.laws.TheConstants.{FILE_LIMIT}
 use Rattle.usb_listing.specs.Listing.{file_lines}
 use Rattle.usb_listing.specs.declared.output.OutFault.{OutFault}
@@ -54,10 +57,15 @@ pub record TellsRun (s : Settings) (f : DescriptorFile) (log text : List ℕ) (s
   pub told : text ≡ run_text run.outcome run
   pub ended : status ≡ run_status run.outcome
 
--- the log, if there is one, and the text behind it tell what comes of the file that has these bytes
+-- the bytes are those of the file, or, where strings are asked for, of a dump of which the file is made
+abbrev pub IsTaken : Bool → DescriptorFile → List ℕ → Type 0
+IsTaken false f b = File f b
+IsTaken true f b = IsCompleted f b
+
+-- the log, if there is one, and the text behind it tell what comes of the file that is taken of these bytes
 pub record Tells (s : Settings) (b log text : List ℕ) (status : ℕ) : Type 0 where
   pub file : DescriptorFile
-  pub layout : File file b
+  pub taken : IsTaken s.with_strings file b
   pub told : (TellsRefusal s file text status × (log ≡ [])) ⊎ TellsRun s file log text status
 
 -- what comes of the bytes was written
@@ -85,15 +93,20 @@ pub record WritesResultFront (s : Settings) (b : List ℕ) (held holds : Held) (
 -- a log is asked for, and a step of the enumeration broke it
 pub record WritesLogFront (s : Settings) (b : List ℕ) (held holds : Held) (fault : OutFault) : Type 0 where
   pub file : DescriptorFile
-  pub layout : File file b
+  pub taken : IsTaken s.with_strings file b
   pub accepted : Accepted file s.speed
   pub asked : s.log ≡ true
   pub written : WritesLogLess file s.speed s.limits s.fates.items held holds fault
 
+-- the bytes show this fault of a file, and are no dump where strings are asked for
+abbrev pub IsNotTaken : Bool → List ℕ → FileFault → Type 0
+IsNotTaken false b fault = FileFaulty b fault.at fault.why
+IsNotTaken true b fault = FileFaulty b fault.at fault.why × IsNoDump b
+
 -- How bytes are not enumerated: nothing was written where they are no file, or where memory was wanting for a device, and
 -- else a front of what comes of them, or of the log so far.
 abbrev pub RefusesToEnumerate : Settings → List ℕ → Held → Held → ToolFault → Type 0
-RefusesToEnumerate s b held holds (faults.File fault) = FileFaulty b fault.at fault.why × Keeps held holds
+RefusesToEnumerate s b held holds (faults.File fault) = IsNotTaken s.with_strings b fault × Keeps held holds
 RefusesToEnumerate s b held holds faults.Write = WritesLogFront s b held holds outs.Write ⊎ WritesResultFront s b held holds outs.Write
 RefusesToEnumerate s b held holds faults.Memory =
     Keeps held holds ⊎ (WritesLogFront s b held holds outs.Memory ⊎ WritesResultFront s b held holds outs.Memory)

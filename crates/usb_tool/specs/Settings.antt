@@ -69,6 +69,7 @@ pub record IsSettled (o : Options) (s : Settings) : Type 0 where
   pub speed : speed_said o ≡ Some s.speed
   pub fates : fates_said o ≡ Some s.fates.items
   pub log : s.log ≡ o.log
+  pub with_strings : s.with_strings ≡ o.with_strings
 
 -- why options are refused: the first of numbers, speed and fates that is at fault, or out of memory as fates are read
 abbrev pub RefusesOptions : Options → SettingsFault → Type 0

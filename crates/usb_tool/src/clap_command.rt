@@ -2,13 +2,13 @@
 ghost use Rattle.std.specs.Prelude.{◌≡◌, IfOk, false};
 ghost use Rattle.clap.specs.Words.{app_of, new_app, rule_of, with_rule, with_subcommand};
 ghost use Rattle.clap.specs.declared.builder.Command.TheViews.{out-Command};
-ghost use Rattle.usb_tool.specs.CommandLine.{address_rule, attempts_rule, chosen_rule, enumerate_app, explain_app, fates_rule, flag_rule, log_rule, naks_rule, speed_rule, usbdesc_app, valued_rule};
+ghost use Rattle.usb_tool.specs.CommandLine.{address_rule, attempts_rule, chosen_rule, enumerate_app, explain_app, fates_rule, flag_rule, log_rule, naks_rule, speed_rule, usbdesc_app, valued_rule, with_strings_rule};
 
 use crate::help::{
     ABOUT, ADDRESS_HELP, ATTEMPTS_HELP, BRIEF_HELP, BUILD_ABOUT, BUILD_HELP, CHECK_ABOUT,
     CHECK_HELP, ENUMERATE_ABOUT, ENUMERATE_HELP, EXPLAIN_ABOUT, EXPLAIN_HELP, FATES, FATES_HELP,
     LOG_HELP, NAKS_HELP, NO_PLACES_HELP, RAN_AT_HELP, RUNNING_SPEEDS, SHOW_ABOUT, SHOW_HELP,
-    SPEED_HELP, SPEEDS, VERSION,
+    SPEED_HELP, SPEEDS, VERSION, WITH_STRINGS_HELP,
 };
 use clap::{Arg, ArgAction, Command, value_parser};
 use std::alloc::{AllocError, Global};
@@ -76,7 +76,8 @@ fn enumerate<'a>(alloc: Global) -> Result<Command<'a>, AllocError>
     let enumerate = add_option(enumerate, naks(alloc))?;
     let enumerate = add_option(enumerate, attempts(alloc))?;
     let enumerate = add_option(enumerate, fates(alloc))?;
-    add_option(enumerate, log(alloc))
+    let enumerate = add_option(enumerate, log(alloc))?;
+    add_option(enumerate, with_strings(alloc))
 }
 
 /// The command with one more option, which its subcommands do not take.
@@ -157,6 +158,14 @@ fn fates<'a>(alloc: Global) -> Arg<'a>
     ensures local { result.global ≡ false }
 {
     chosen(alloc, "fates", FATES, FATES_HELP)
+}
+
+/// Whether a dump is taken.
+fn with_strings<'a>(alloc: Global) -> Arg<'a>
+    ensures rule { rule_of result ≡ with_strings_rule }
+    ensures local { result.global ≡ false }
+{
+    flag(alloc, "with-strings", WITH_STRINGS_HELP)
 }
 
 /// Whether a log is written.

@@ -96,5 +96,6 @@ fn options_of<'a>(matches: &ArgMatches<'a>) -> Options<'a>
         attempts: matches.get_str("attempts"),
         fates: matches.get_str("fates"),
         log: is_given(matches.get_str("log")),
+        with_strings: is_given(matches.get_str("with-strings")),
     }
 }

@@ -1,6 +1,6 @@
 //! The options of `enumerate`, as they are written.
 
-/// The options of `enumerate`: the text of each one that has a value, or `None` where the words lack it, and the flag.
+/// The options of `enumerate`: the text of each one that has a value, or `None` where the words lack it, and the flags.
 #[derive(Clone, Copy, Debug, PartialEq, Eq, Hash)]
 pub struct Options<'a> {
     /// The name of a speed.
@@ -15,4 +15,6 @@ pub struct Options<'a> {
     pub fates: Option<&'a str>,
     /// Whether a log of the transactions is asked for.
     pub log: bool,
+    /// Whether a dump is taken, with a text in each place that names a string.
+    pub with_strings: bool,
 }

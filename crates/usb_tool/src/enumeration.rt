@@ -1,9 +1,10 @@
 //! The command `enumerate`.
-ghost use Rattle.std.specs.Prelude.{◌++◌, IfErr, IfOk};
+ghost use Rattle.std.specs.Prelude.{◌≢◌, ◌++◌, IfErr, IfOk};
 ghost use Rattle.usb_listing.specs.Listing.{file_lines};
-ghost use Rattle.usb_tool.specs.Enumerations.{EnumerateFails, Enumerated, RefusesToEnumerate, WritesResult, run_status, run_text};
+ghost use Rattle.usb_tool.specs.Enumerations.{EnumerateFails, Enumerated, IsNotTaken, IsTaken, RefusesToEnumerate, WritesResult, run_status, run_text};
 ghost use Rattle.usb_tool.specs.ResultLines.{refused_line, success_line, trouble_line};
 ghost use Rattle.usb_tool.specs.inside.Telling.{BreaksRun, EndsWith, IsCutShort, MakesRun};
+ghost use Rattle.usb_file.specs.declared.fault.FileWhy.TheVariants as files;
 
 use crate::fault::ToolFault;
 use crate::input::read_all;
@@ -14,11 +15,12 @@ use std::alloc::Global;
 use std::io::{Read, Write};
 use usb_description::{Description, DescriptionFault};
 use usb_enumeration::{Run, enumerate, enumerate_logged};
-use usb_file::{DescriptorFile, FILE_LIMIT, list, read_file};
+use usb_file::{DescriptorFile, FILE_LIMIT, FileFault, list, read_completed, read_file};
 use usb_host::Trouble;
 use usb_listing::write_all;
 
-/// Reads a descriptor file to its end, and enumerates a device that has these descriptors, as the settings say. It writes
+/// Reads a descriptor file, or where the settings say so a dump, to its end, and enumerates a device that has these
+/// descriptors. It writes
 /// a line of what came of that, and after success the listing of the file that the host has read. Where the settings ask
 /// for a log, a line for each bus reset, each transfer and each transaction comes before, as soon as it is done. The
 /// number in `Ok` is 0 after success. It is 1 where the enumeration had trouble, and where no device of the speed can
@@ -28,7 +30,7 @@ use usb_listing::write_all;
 /// let mut input: &[u8] = &[18, 1, 0, 2, 0, 0, 0, 64, 0x34, 0x12, 0x78, 0x56, 0, 1, 0, 0, 0, 0];
 /// let mut lines = Vec::new(alloc);
 /// let fates = Vec::new(alloc);
-/// let settings = Settings { limits: Limits::new(1, 16, 3)?, speed: Speed::Full, fates, log: false };
+/// let settings = Settings { limits: Limits::new(1, 16, 3)?, speed: Speed::Full, fates, log: false, with_strings: false };
 /// assert_eq!(rt; run_enumerate(alloc, &mut input, &mut lines, &settings)?, 1);
 /// // A device has a configuration.
 /// assert_eq!(rt; lines.as_slice(), b"refused 1 V10 main 0 0 0\n");
@@ -65,7 +67,7 @@ fn enumerate_bytes<W: Write>(
     ensures ok { IfOk result (WritesResult settings.now bytes.now (W.contents w.old) (W.contents w.new)) }
     ensures err { IfErr result (RefusesToEnumerate settings.now bytes.now (W.contents w.old) (W.contents w.new)) }
 {
-    let file = read_file(alloc, bytes)?;
+    let file = file_of(alloc, bytes, settings.with_strings)?;
     let description = match Description::new(alloc, file, settings.speed) {
         Ok(description) => description,
         Err(fault) => {
@@ -77,6 +79,18 @@ fn enumerate_bytes<W: Write>(
     };
     let run = run_over(alloc, &description, settings, w)?;
     tell_run(alloc, &run, w)
+}
+
+/// The file that the bytes are, or, where strings are asked for, the one that is made of a dump.
+fn file_of(alloc: Global, bytes: &[u8], with_strings: bool) -> Result<DescriptorFile, FileFault>
+    ensures ok { IfOk result (λ f. IsTaken with_strings f bytes.now) }
+    ensures err { IfErr result (λ fault. fault.why ≢ files.Memory → IsNotTaken with_strings bytes.now fault) }
+{
+    if with_strings {
+        read_completed(alloc, bytes)
+    } else {
+        read_file(alloc, bytes)
+    }
 }
 
 /// The enumeration of a device, whose speed is the description's, and its log where one is asked for.

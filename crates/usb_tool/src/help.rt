@@ -210,5 +210,9 @@ pub(crate) const FATES: &str = "[.ndua]..";
 pub(crate) const FATES_HELP: &str =
     "What the bus does to each transaction, a letter for each [default: none]";
 
+/// What `--with-strings` says.
+pub(crate) const WITH_STRINGS_HELP: &str =
+    "Takes a dump too, with the text 'string 3' for index 3 and so on, in language 0409";
+
 /// What `--log` says.
 pub(crate) const LOG_HELP: &str = "Writes a line for each transaction before the result";

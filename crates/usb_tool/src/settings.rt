@@ -24,12 +24,14 @@ pub struct Settings {
     pub fates: Vec<Fate>,
     /// Whether a log of the transactions is asked for.
     pub log: bool,
+    /// Whether a dump is taken, with a text in each place that names a string.
+    pub with_strings: bool,
 }
 
 /// The settings that the options give. An absent one is address 1, 16 NAKs, 3 attempts, full speed, or no fates.
 ///
 /// ```rust
-/// let options = Options { speed: Some("high"), address: None, naks: Some("2"), attempts: None, fates: None, log: false };
+/// let options = Options { speed: Some("high"), address: None, naks: Some("2"), attempts: None, fates: None, log: false, with_strings: false };
 /// let settings = settings_of(alloc, &options)?;
 /// assert_eq!(rt; settings.speed, Speed::High);
 /// assert_eq!(rt; settings.limits, Limits::new(1, 2, 3)?);
@@ -56,6 +58,7 @@ pub fn settings_of(alloc: Global, options: &Options<'_>) -> Result<Settings, Set
         speed,
         fates,
         log: options.log,
+        with_strings: options.with_strings,
     })
 }
 

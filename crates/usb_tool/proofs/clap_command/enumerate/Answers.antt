@@ -15,7 +15,8 @@ returns-clause-app c =
     let naks_is = c.in_ok-enumerate-3.ensures.app ∙ ap₂ with_rule address_is c.naks.ensures.rule in
     let attempts_is = c.in_ok-enumerate-4.ensures.app ∙ ap₂ with_rule naks_is c.attempts.ensures.rule in
     let fates_is = c.in_ok-enumerate-5.ensures.app ∙ ap₂ with_rule attempts_is c.fates.ensures.rule in
-    IfOk-weaker c.add_option-6.result _ _ (λ _ added. added ∙ ap₂ with_rule fates_is c.log.ensures.rule) c.add_option-6.ensures.app
+    let log_is = c.in_ok-enumerate-6.ensures.app ∙ ap₂ with_rule fates_is c.log.ensures.rule in
+    IfOk-weaker c.add_option-7.result _ _ (λ _ added. added ∙ ap₂ with_rule log_is c.with_strings.ensures.rule) c.add_option-7.ensures.app
 
 globals_of : Command-F Command → Bool
 globals_of f = f.has_globals
@@ -24,5 +25,5 @@ pub returns-clause-local : goal.returns-clause-local
 unfolding globals_of
 returns-clause-local c =
     let named = ap globals_of c.after_help-enumerate.ensures ∙ (ap globals_of c.about.ensures ∙ c.new.ensures.local) in
-    let added = c.in_ok-enumerate-5.ensures.local ∙ (c.in_ok-enumerate-4.ensures.local ∙ (c.in_ok-enumerate-3.ensures.local ∙ (c.in_ok-enumerate-2.ensures.local ∙ (c.in_ok-enumerate.ensures.local ∙ named)))) in
-    IfOk-weaker c.add_option-6.result _ _ (λ _ kept. kept ∙ added) c.add_option-6.ensures.local
+    let added = c.in_ok-enumerate-6.ensures.local ∙ (c.in_ok-enumerate-5.ensures.local ∙ (c.in_ok-enumerate-4.ensures.local ∙ (c.in_ok-enumerate-3.ensures.local ∙ (c.in_ok-enumerate-2.ensures.local ∙ (c.in_ok-enumerate.ensures.local ∙ named))))) in
+    IfOk-weaker c.add_option-7.result _ _ (λ _ kept. kept ∙ added) c.add_option-7.ensures.local

@@ -14,4 +14,5 @@ returns c =
       attempts = c.get_str-4.ensures ∙ first_value-rows found (codes "attempts");
       fates = c.get_str-5.ensures ∙ first_value-rows found (codes "fates");
       log = c.is_given.ensures ∙ ap is_given (c.get_str-6.ensures ∙ first_value-rows found (codes "log"));
+      with_strings = c.is_given-2.ensures ∙ ap is_given (c.get_str-7.ensures ∙ first_value-rows found (codes "with-strings"));
     }
