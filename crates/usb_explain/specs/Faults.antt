@@ -6,7 +6,7 @@ use Rattle.usb_file.specs.declared.fault.FileWhy.{FileWhy}
 use Rattle.usb_file.specs.declared.fault.FileWhy.TheVariants as files
 use Rattle.usb_file.specs.declared.input_fault.InputFault.{InputFault}
 use Rattle.usb_file.specs.declared.input_fault.InputFault.TheVariants as faults
-use Rattle.usb_file.specs.Numbers.{why_number}
+use Rattle.usb_file.specs.Numbers.{why_message, why_number}
 
 -- the place of the fault in the input
 abbrev pub place_of_fault : InputFault → ℕ
@@ -16,20 +16,14 @@ place_of_fault (faults.File fault) = fault.at
 
 -- what is wrong with the bytes of a file
 abbrev pub file_message : FileWhy → List ℕ
-file_message files.Device = codes "no device descriptor"
-file_message (files.Set why) = codes "in a set, " ++ set_message why
-file_message files.SetKind = codes "a set of the other kind"
-file_message files.Qualifier = codes "no qualifier"
-file_message files.Text = codes "no string descriptor"
-file_message files.Truncated = codes "the bytes end before the file does"
-file_message files.Trailing = codes "bytes after the end of the file"
-file_message files.Memory = codes "out of memory"
+file_message (files.Set why) = why_message (files.Set why) ++ codes ", " ++ set_message why
+file_message why = why_message why
 
 -- a number and a place
 abbrev pub numbered : ℕ → ℕ → List ℕ
 numbered number at = decimal number ++ codes " at " ++ decimal at ++ codes ": "
 
--- bytes behind a set
+-- bytes after a set
 abbrev pub trailing_words : ℕ → List ℕ
 trailing_words at = codes "trailing bytes at " ++ decimal at ++ codes ": bytes after the set"
 

@@ -1,11 +1,9 @@
 //! The line of the fault of a broken input.
 ghost use Rattle.std.specs.Prelude.{◌≡◌, ◌++◌, OnOk};
-ghost use Rattle.usb_set.specs.Numbers.{why_message as set_message};
 ghost use Rattle.usb_explain.specs.Faults.{fault_text, fault_words, file_message, numbered, place_of_fault, trailing_words};
 
 use std::alloc::AllocError;
 use usb_file::{FileWhy, InputFault};
-use usb_set::SetWhy;
 use usb_words::Text;
 
 /// The place of the fault in the input.
@@ -36,7 +34,7 @@ fn put_words(text: &mut Text, fault: InputFault) -> Result<(), AllocError>
         InputFault::Set(fault) => {
             text.put("set fault ")?;
             put_numbered(text, fault.number(), fault.at as usize)?;
-            text.put(set_message(fault.why))
+            text.put(fault.why.message())
         }
         InputFault::Trailing(at) => put_trailing(text, at),
         InputFault::File(fault) => {
@@ -64,38 +62,16 @@ fn put_numbered(text: &mut Text, number: u8, at: usize) -> Result<(), AllocError
     text.put(": ")
 }
 
-/// What is wrong with the bytes of a set.
-fn set_message(why: SetWhy) -> &'static str
-    ensures { result.now ≡ set_message why }
-{
-    match why {
-        SetWhy::HeaderLength => "the first bLength is below 9",
-        SetWhy::HeaderKind => "the first descriptor is no configuration",
-        SetWhy::Total => "wTotalLength is below the first bLength",
-        SetWhy::ItemLength => "a bLength is below 2",
-        SetWhy::Over => "a descriptor ends past wTotalLength",
-        SetWhy::Nested => "a configuration inside a set",
-        SetWhy::ItemShort => "an interface, endpoint or association descriptor is too short",
-        SetWhy::Stray => "an endpoint before any interface",
-        SetWhy::Truncated => "the bytes end before the set does",
-        SetWhy::Memory => "out of memory",
-    }
-}
-
+/// Puts what is wrong with the bytes of a file.
 fn put_file_message(text: &mut Text, why: FileWhy) -> Result<(), AllocError>
     ensures { OnOk result (text.new ≡ text.old ++ file_message why) }
 {
+    text.put(why.message())?;
     match why {
-        FileWhy::Device => text.put("no device descriptor"),
         FileWhy::Set(why) => {
-            text.put("in a set, ")?;
-            text.put(set_message(why))
+            text.put(", ")?;
+            text.put(why.message())
         }
-        FileWhy::SetKind => text.put("a set of the other kind"),
-        FileWhy::Qualifier => text.put("no qualifier"),
-        FileWhy::Text => text.put("no string descriptor"),
-        FileWhy::Truncated => text.put("the bytes end before the file does"),
-        FileWhy::Trailing => text.put("bytes after the end of the file"),
-        FileWhy::Memory => text.put("out of memory"),
+        _ => Ok(()),
     }
 }

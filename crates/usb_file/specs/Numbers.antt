@@ -1,5 +1,6 @@
--- The numbers of the faults.
-use Rattle.std.specs.Prelude.{ℕ}
+-- The numbers of the faults, and their messages.
+use Rattle.std.specs.Prelude.{ℕ, ◌-◌, List, [], get_or, map}
+use Rattle.usb_file.specs.declared.fault.TheConstants.{FILE_MESSAGES}
 use Rattle.usb_file.specs.declared.fault.FileWhy.{FileWhy}
 use Rattle.usb_file.specs.declared.fault.FileWhy.TheVariants as files
 
@@ -13,3 +14,7 @@ why_number files.Text = 5
 why_number files.Truncated = 6
 why_number files.Trailing = 7
 why_number files.Memory = 8
+
+-- the message, for people: of a fault in a set what comes before the message of that
+abbrev pub why_message : FileWhy → List ℕ
+why_message why = get_or (map (λ message. message.now) FILE_MESSAGES) (why_number why - 1) []

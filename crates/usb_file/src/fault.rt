@@ -1,37 +1,30 @@
 //! Why a descriptor file could not be read.
 ghost use Rattle.std.specs.Prelude.{◌≡◌, ◌+◌, ◌<◌, ◌^◌};
-ghost use Rattle.usb_file.specs.Numbers.{why_number};
+ghost use Rattle.usb_file.specs.Numbers.{why_message, why_number};
 
+use std::fmt;
 use thiserror::Error;
 use usb_set::SetWhy;
 
 /// What is wrong with the bytes of a file.
-#[derive(Clone, Copy, Debug, Drop, Error, PartialEq, Eq, Hash)]
+#[derive(Clone, Copy, Debug, Drop, PartialEq, Eq, Hash)]
 pub enum FileWhy {
     /// The first 18 bytes are no device descriptor.
-    #[error("no device descriptor")]
     Device,
     /// The bytes of a configuration set are at fault.
-    #[error("in a set, {0}")]
-    Set(#[source] SetWhy),
+    Set(SetWhy),
     /// A configuration set where an other-speed set is due, or the other way round.
-    #[error("a set of the other kind")]
     SetKind,
     /// Ten bytes that begin as a qualifier are none.
-    #[error("no qualifier")]
     Qualifier,
     /// Where a language list or a string is due there is another descriptor, or a language list with no
     /// language.
-    #[error("no string descriptor")]
     Text,
     /// The bytes end before the file does.
-    #[error("the bytes end before the file does")]
     Truncated,
     /// The bytes go on after the end of the file.
-    #[error("bytes after the end of the file")]
     Trailing,
     /// Out of memory.
-    #[error("out of memory")]
     Memory,
 }
 
@@ -55,7 +48,38 @@ impl FileWhy {
             FileWhy::Memory => 8,
         }
     }
+
+    /// The message, for people: of `Set` what comes before the message of the set's fault.
+    pub fn message(self) -> &'static str
+        ensures { result.now ≡ why_message self }
+    {
+        FILE_MESSAGES[usize::from(self.number()) - 1]
+    }
 }
+
+/// The messages, in the order of the numbers.
+const FILE_MESSAGES: [&str; 8] = [
+    "no device descriptor",
+    "in a set",
+    "a set of the other kind",
+    "no qualifier",
+    "no string descriptor",
+    "the bytes end before the file does",
+    "bytes after the end of the file",
+    "out of memory",
+];
+
+impl fmt::Display for FileWhy {
+    fn fmt<W: fmt::Write>(&self, f: &mut fmt::Formatter<W>) -> fmt::Result {
+        f.write_str(self.message())?;
+        if let FileWhy::Set(why) = self {
+            write!(f, ", {why}")?;
+        }
+        Ok(())
+    }
+}
+
+impl std::error::Error for FileWhy {}
 
 /// A fault of a file, and the place where it is.
 ///
