@@ -1,6 +1,5 @@
 -- What the calls do that put a text into a buffer.
-use Rattle.std.specs.Prelude.{◌≡◌, ℕ, ◌/◌, ◌%◌, ◌⊎◌, ◌==◌, false, List, [], ◌∷◌, ◌++◌, codes, Option, Some, None, if◌then◌else◌}
-use Rattle.std.specs.List.{flat_map}
+use Rattle.std.specs.Prelude.{◌≡◌, ℕ, ◌/◌, ◌%◌, ◌⊎◌, ◌==◌, false, List, Option, Some, None, if◌then◌else◌}
 use Rattle.usb_explain.specs.Explanations.{broken_explanation, explanation}
 use Rattle.usb_explain.specs.declared.manner.Manner.{Manner}
 use Rattle.usb_words.specs.declared.set_speed.RunningSpeed.{RunningSpeed}
@@ -14,8 +13,7 @@ use Rattle.usb_file.specs.declared.input_fault.InputFault.{InputFault}
 use Rattle.usb_listing.specs.Listing.{file_lines}
 use Rattle.usb_listing.specs.SetListing.{set_lines}
 use Rattle.usb_listing_reader.specs.Listings.{ListFaulty, Lists}
-use Rattle.usb_rules.specs.FindingLine.{finding_line}
-use Rattle.usb_rules.specs.declared.finding.Finding.{Finding}
+use Rattle.usb_rules.specs.FindingLine.{check_text}
 use Rattle.usb_calls.specs.declared.answer.Verdict.{Verdict}
 use Rattle.usb_calls.specs.declared.answer.Verdict.TheVariants as verdicts
 use Rattle.usb_calls.specs.Buffers.{Fills}
@@ -27,18 +25,6 @@ abbrev pub input_lines : Input → List ℕ
 input_lines (inputs.Set set) = set_lines set
 input_lines (inputs.File file) = file_lines file
 input_lines (inputs.Dump file) = file_lines file
-
--- the line of a finding, ended by a line feed
-abbrev pub finding_line_end : Finding → List ℕ
-finding_line_end f = finding_line f ++ 10 ∷ []
-
--- the lines of findings, or the line that there is none
-abbrev pub finding_lines : List Finding → List ℕ
-finding_lines found = flat_map finding_line_end found
-
-abbrev pub check_text : List Finding → List ℕ
-check_text [] = codes "no findings" ++ 10 ∷ []
-check_text (f ∷ found) = finding_lines (f ∷ found)
 
 -- the bytes show this fault, or memory is wanting
 abbrev pub Refuses : List ℕ → Verdict → Type 0

@@ -1,13 +1,14 @@
 //! Texts, from a buffer into a buffer: what `usbdesc` writes.
-ghost use Rattle.std.specs.Prelude.{◌≡◌, ◌++◌, List, ℕ, IfOk, OnOk};
+ghost use Rattle.std.specs.Prelude.{◌≡◌, List, ℕ, IfOk};
 ghost use Rattle.usb_explain.specs.Explanations.{explanation};
 ghost use Rattle.usb_file.specs.Inputs.{input_findings};
 ghost use Rattle.usb_file_data.specs.File.{File};
 ghost use Rattle.usb_listing.specs.SetListing.{set_lines};
+ghost use Rattle.usb_rules.specs.FindingLine.{check_text};
 ghost use Rattle.usb_calls.specs.Buffers.{Fills};
 ghost use Rattle.usb_calls.specs.Outcomes.{PutsFile};
 ghost use Rattle.usb_calls.specs.Texts.{ExplainsFault};
-ghost use Rattle.usb_calls.specs.Texts.{Builds, Checks, Explains, Shows, check_text, finding_line_end, finding_lines, input_lines, manner_told, running_speed_told};
+ghost use Rattle.usb_calls.specs.Texts.{Builds, Checks, Explains, Shows, input_lines, manner_told, running_speed_told};
 ghost use Rattle.usb_calls.specs.declared.answer.Verdict.TheVariants as verdicts;
 
 use crate::answer::Verdict;
@@ -16,9 +17,10 @@ use crate::refusal::{refused_input, refused_list, wants_memory};
 use std::alloc::{AllocError, Global};
 use usb_explain::{Look, Manner, RunningSpeed, explain, explain_broken};
 use usb_file::{
-    DescriptorFile, Finding, Input, InputFault, OutFault, WriteFault, assemble, check_input, list,
+    DescriptorFile, Input, InputFault, OutFault, WriteFault, assemble, check_input, list,
     list_set, read_input, write_file,
 };
+use usb_rules::findings_text;
 use usb_set::Configuration;
 
 /// Puts the listing of an input into the buffer: a line for each descriptor.
@@ -87,35 +89,7 @@ fn findings_text(alloc: Global, input: &Input) -> Result<Vec<u8>, AllocError>
     ensures { IfOk result (λ text. text.items ≡ check_text (input_findings input.now)) }
 {
     let found = check_input(alloc, input)?;
-    text_of(alloc, &found)
-}
-
-fn text_of(alloc: Global, found: &[Finding]) -> Result<Vec<u8>, AllocError>
-    ensures { IfOk result (λ text. text.items ≡ check_text found.now) }
-{
-    if found.is_empty() {
-        return Vec::from_slice(alloc, b"no findings\n");
-    }
-    lines_of(alloc, found)
-}
-
-fn lines_of(alloc: Global, found: &[Finding]) -> Result<Vec<u8>, AllocError>
-    ensures { IfOk result (λ text. text.items ≡ finding_lines found.now) }
-{
-    let mut text = Vec::new(alloc);
-    for finding in found {
-        put_line(alloc, &mut text, finding)?;
-    }
-    Ok(text)
-}
-
-fn put_line(alloc: Global, text: &mut Vec<u8>, finding: &Finding) -> Result<(), AllocError>
-    ensures { OnOk result (text.new.items ≡ text.old.items ++ finding_line_end finding.now) }
-{
-    let line = format!(in alloc; "{finding}")?;
-    text.extend_from_slice(line.as_bytes())?;
-    text.push(b'\n')?;
-    Ok(())
+    findings_text(alloc, &found)
 }
 
 /// How an explanation is written.

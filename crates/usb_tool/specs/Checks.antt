@@ -1,29 +1,15 @@
 -- What `check` tells of its input.
-use Rattle.std.specs.Prelude.{◌≡◌, ℕ, List, [], ◌∷◌, ◌++◌, codes}
-use Rattle.std.specs.List.{flat_map}
+use Rattle.std.specs.Prelude.{◌≡◌, ℕ, List, [], ◌∷◌}
 use Rattle.usb_file.specs.Inputs.{IsInput, input_findings}
 use Rattle.usb_file.specs.declared.input.Input.{Input}
 use Rattle.usb_file.specs.declared.laws.TheConstants.{FILE_LIMIT}
 use Rattle.usb_listing.specs.Output.{Held}
-use Rattle.usb_rules.specs.FindingLine.{finding_line}
+use Rattle.usb_rules.specs.FindingLine.{check_text}
 use Rattle.usb_rules.specs.declared.finding.Finding.{Finding}
 use Rattle.usb_tool.specs.Endings.{AppendsNone, Fails, Refusal, Refuses, Told}
 use Rattle.usb_tool.specs.Input.{Left}
 use Rattle.usb_tool.specs.InputFaults.{RefusesInput}
 use Rattle.usb_tool.specs.declared.fault.ToolFault.{ToolFault}
-
--- the line of a finding, ended by a line feed
-abbrev pub finding_line_end : Finding → List ℕ
-finding_line_end f = finding_line f ++ 10 ∷ []
-
--- the lines of findings
-abbrev pub finding_lines : List Finding → List ℕ
-finding_lines found = flat_map finding_line_end found
-
--- the lines of the findings, or the line that there is none
-abbrev pub check_text : List Finding → List ℕ
-check_text [] = codes "no findings" ++ 10 ∷ []
-check_text (f ∷ found) = finding_lines (f ∷ found)
 
 -- the exit status
 abbrev pub check_status : List Finding → ℕ

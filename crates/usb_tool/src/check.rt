@@ -1,15 +1,16 @@
 //! The command `check`.
-ghost use Rattle.std.specs.Prelude.{◌≡◌, ◌++◌, IfErr, IfOk, OnOk};
+ghost use Rattle.std.specs.Prelude.{◌≡◌, IfErr, IfOk};
 ghost use Rattle.std.specs.Io.KnownBytes.{Appends};
 ghost use Rattle.usb_tool.specs.Endings.{Writes};
-ghost use Rattle.usb_tool.specs.Checks.{CheckFails, Checked, RefusesToCheck, TellsFindings, check_status, check_text, finding_line_end, finding_lines};
+ghost use Rattle.usb_tool.specs.Checks.{CheckFails, Checked, RefusesToCheck, TellsFindings, check_status};
 
 use crate::fault::ToolFault;
 use crate::input::read_all;
 use crate::output::write_flushed;
-use std::alloc::{AllocError, Global};
+use std::alloc::Global;
 use std::io::{Read, Write};
 use usb_file::{FILE_LIMIT, Finding, check_input, read_input};
+use usb_rules::findings_text;
 
 /// Reads the input to its end, and writes a line for each thing in it that breaks a rule of chapter 9, or `no findings`.
 /// The input is one configuration set, a descriptor file or a dump, as that of [`run_show`](crate::run_show) is. The number
@@ -43,7 +44,7 @@ fn check_bytes<W: Write>(alloc: Global, bytes: &[u8], w: &mut W) -> Result<u8, T
 {
     let input = read_input(alloc, bytes)?;
     let found = check_input(alloc, &input)?;
-    let text = text_of(alloc, &found)?;
+    let text = findings_text(alloc, &found)?;
     write_flushed(w, &text)?;
     Ok(check_status(&found))
 }
@@ -56,32 +57,4 @@ fn check_status(found: &[Finding]) -> u8
         [] => 0,
         _ => 1,
     }
-}
-
-fn text_of(alloc: Global, found: &[Finding]) -> Result<Vec<u8>, AllocError>
-    ensures { IfOk result (λ text. text.items ≡ check_text found.now) }
-{
-    if found.is_empty() {
-        return Vec::from_slice(alloc, b"no findings\n");
-    }
-    lines_of(alloc, found)
-}
-
-fn lines_of(alloc: Global, found: &[Finding]) -> Result<Vec<u8>, AllocError>
-    ensures { IfOk result (λ text. text.items ≡ finding_lines found.now) }
-{
-    let mut text = Vec::new(alloc);
-    for finding in found {
-        put_line(alloc, &mut text, finding)?;
-    }
-    Ok(text)
-}
-
-fn put_line(alloc: Global, text: &mut Vec<u8>, finding: &Finding) -> Result<(), AllocError>
-    ensures { OnOk result (text.new.items ≡ text.old.items ++ finding_line_end finding.now) }
-{
-    let line = format!(in alloc; "{finding}")?;
-    text.extend_from_slice(line.as_bytes())?;
-    text.push(b'\n')?;
-    Ok(())
 }

@@ -1,5 +1,6 @@
 use Rattle.std.proofs.Common.{rules, ◌≡◌, refl}
-use Rattle.usb_tool.specs.Checks.{TellsFindings, check_status, check_text}
+use Rattle.usb_rules.specs.FindingLine.{check_text}
+use Rattle.usb_tool.specs.Checks.{TellsFindings, check_status}
 use Rattle.usb_tool.specs.Endings.{AppendsNone}
 use Rattle.usb_tool.specs.InputFaults.{RefusesInput}
 use Rattle.usb_tool.proofs.Reading.{when_err}
