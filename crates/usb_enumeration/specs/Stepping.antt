@@ -1,5 +1,5 @@
 -- What one step of an enumeration does, and what falls with it.
-use Rattle.std.specs.Prelude.{◌≡◌, ℕ, suc, ◌+◌, ◌-◌, Bool, List, Option, Some, None, ◌⊎◌}
+use Rattle.std.specs.Prelude.{◌≡◌, ℕ, suc, ◌+◌, ◌-◌, ◌<◌, ◌≤◌, IsSome, Bool, List, Option, Some, None, ◌⊎◌}
 use Rattle.usb_fields.specs.Packet.{NoReply, Reply, Sent}
 use Rattle.usb_file_data.specs.declared.file.DescriptorFile.{DescriptorFile}
 use Rattle.usb_device.specs.Step.{DeviceView}
@@ -8,7 +8,7 @@ use Rattle.usb_bus.specs.declared.fate.Fate.{Fate}
 use Rattle.usb_bus.specs.Bus.{readiness}
 use Rattle.usb_bus.specs.Run.{fate_at}
 use Rattle.usb_host.specs.Cost.{left_to_ask}
-use Rattle.usb_host.specs.Steps.{HostView}
+use Rattle.usb_host.specs.Steps.{HostView, outcome_of}
 use Rattle.usb_enumeration.specs.Run.{Pair, IsReset, IsTransaction}
 
 -- both ends
@@ -31,3 +31,17 @@ Moves f fates x n y now = (IsReset x y × (now ≡ n)) ⊎ (IsTransaction f (fat
 -- What falls with each step: what may still be asked for, and the attempts that are left.
 abbrev pub measure : HostView → ℕ
 measure v = left_to_ask v + (v.limits.attempts - v.resets)
+
+-- What a step says that was made: these ends were so after n transactions, and those are so after `now`.
+pub record IsStep (f : DescriptorFile) (fates : List Fate) (x : Pair) (n : ℕ) (y : Pair) (now : ℕ) : Type 0 where
+  -- it was a reset or a transaction
+  pub moves : Moves f fates x n y now
+  -- with each transaction fewer may still be asked for
+  pub fewer : now + left_to_ask y.host ≤ n + left_to_ask x.host
+  -- and that falls
+  pub falls : measure y.host < measure x.host
+
+-- What a step says where none was left: the host has an outcome, and both ends are as they were.
+pub record NoneIsLeft (x y : Pair) : Type 0 where
+  pub ended : IsSome (outcome_of y.host.phase)
+  pub same : y ≡ x

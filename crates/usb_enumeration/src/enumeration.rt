@@ -1,11 +1,11 @@
 //! An enumeration, from a new host and a new device to its outcome.
-ghost use Rattle.std.specs.Prelude.{◌≡◌, ◌<◌, ◌≤◌, ◌+◌, ◌^◌, IfSome, IsNone, IsSome};
+ghost use Rattle.std.specs.Prelude.{◌≡◌, ◌<◌, ◌+◌, ◌^◌, IfSome, IsNone};
 ghost use Rattle.usb_fields.specs.Packet.{Sent};
 ghost use Rattle.usb_bus.specs.Run.{fate_at};
 ghost use Rattle.usb_host.specs.Cost.{left_to_ask};
-ghost use Rattle.usb_host.specs.Steps.{WantsSent, outcome_of, wanted};
+ghost use Rattle.usb_host.specs.Steps.{WantsSent, wanted};
 ghost use Rattle.usb_enumeration.specs.Enumerate.{EndsWell, IsEnumeration};
-ghost use Rattle.usb_enumeration.specs.Stepping.{Moves, answered, both, measure};
+ghost use Rattle.usb_enumeration.specs.Stepping.{IsStep, NoneIsLeft, answered, both};
 
 use crate::exchange::exchange;
 use crate::observer::{Nobody, Observer};
@@ -42,10 +42,8 @@ pub fn step(
     transactions: u64,
 ) -> Option<u64>
     requires few { transactions + left_to_ask host.old < 2 ^ 64 }
-    ensures moves { IfSome result (λ now. Moves device.old.description.file fates.now (both host.old device.old.device) transactions (both host.new device.new.device) now) }
-    ensures fewer { IfSome result (λ now. now + left_to_ask host.new ≤ transactions + left_to_ask host.old) }
-    ensures falls { IfSome result (λ now. measure host.new < measure host.old) }
-    ensures ended { IsNone result → IsSome (outcome_of host.new.phase) × (both host.new device.new.device ≡ both host.old device.old.device) }
+    ensures made { IfSome result (IsStep device.old.description.file fates.now (both host.old device.old.device) transactions (both host.new device.new.device)) }
+    ensures none { IsNone result → NoneIsLeft (both host.old device.old.device) (both host.new device.new.device) }
     ensures description { device.new.description ≡ device.old.description }
 {
     step_seen(host, device, fates, transactions, &mut Nobody)
@@ -62,10 +60,8 @@ pub fn step_seen<O: Observer>(
     observer: &mut O,
 ) -> Option<u64>
     requires few { transactions + left_to_ask host.old < 2 ^ 64 }
-    ensures moves { IfSome result (λ now. Moves device.old.description.file fates.now (both host.old device.old.device) transactions (both host.new device.new.device) now) }
-    ensures fewer { IfSome result (λ now. now + left_to_ask host.new ≤ transactions + left_to_ask host.old) }
-    ensures falls { IfSome result (λ now. measure host.new < measure host.old) }
-    ensures ended { IsNone result → IsSome (outcome_of host.new.phase) × (both host.new device.new.device ≡ both host.old device.old.device) }
+    ensures made { IfSome result (IsStep device.old.description.file fates.now (both host.old device.old.device) transactions (both host.new device.new.device)) }
+    ensures none { IsNone result → NoneIsLeft (both host.old device.old.device) (both host.new device.new.device) }
     ensures description { device.new.description ≡ device.old.description }
     ensures seen { (sent : Sent) → wanted host.old.phase ≡ WantsSent sent → O.sees observer.old (answered device.old.description.file device.old.device sent (fate_at fates.now transactions)) host.new observer.new }
 {

@@ -16,13 +16,12 @@ use usb_transfer::Limits;
 
 /// Makes the steps of an enumeration, and does something to a `W` at each.
 pub(crate) trait Steps<W> {
-    ghost use Rattle.std.specs.Prelude.{◌≡◌, ◌<◌, ◌≤◌, ◌+◌, ◌^◌, ℕ, List, IfErr, IfOk, IfSome, IsNone, IsSome};
+    ghost use Rattle.std.specs.Prelude.{◌≡◌, ◌<◌, ◌+◌, ◌^◌, ℕ, List, IfErr, IfOk, IfSome, IsNone};
     ghost use Rattle.usb_file_data.specs.declared.file.DescriptorFile.{DescriptorFile};
     ghost use Rattle.usb_bus.specs.declared.fate.Fate.{Fate};
     ghost use Rattle.usb_host.specs.Cost.{left_to_ask};
-    ghost use Rattle.usb_host.specs.Steps.{outcome_of};
     ghost use Rattle.usb_enumeration.specs.Run.{Pair};
-    ghost use Rattle.usb_enumeration.specs.Stepping.{Moves, both, measure};
+    ghost use Rattle.usb_enumeration.specs.Stepping.{IsStep, Moves, NoneIsLeft, both};
 
     /// Why a step may end the enumeration.
     type Fault;
@@ -44,11 +43,9 @@ pub(crate) trait Steps<W> {
         w: &mut W,
     ) -> Result<Option<u64>, Self::Fault>
         requires few { transactions + left_to_ask host.old < 2 ^ 64 }
-        ensures moves { IfOk result (λ o. IfSome o (λ now. Moves device.old.description.file fates.now (both host.old device.old.device) transactions (both host.new device.new.device) now)) }
+        ensures made { IfOk result (λ o. IfSome o (IsStep device.old.description.file fates.now (both host.old device.old.device) transactions (both host.new device.new.device))) }
         ensures does { IfOk result (λ o. IfSome o (λ now. does device.old.description.file fates.now (both host.old device.old.device) (both host.new device.new.device) now w.old w.new)) }
-        ensures fewer { IfOk result (λ o. IfSome o (λ now. now + left_to_ask host.new ≤ transactions + left_to_ask host.old)) }
-        ensures falls { IfOk result (λ o. IfSome o (λ now. measure host.new < measure host.old)) }
-        ensures ended { IfOk result (λ o. IsNone o → IsSome (outcome_of host.new.phase) × (both host.new device.new.device ≡ both host.old device.old.device) × (w.new ≡ w.old)) }
+        ensures none { IfOk result (λ o. IsNone o → NoneIsLeft (both host.old device.old.device) (both host.new device.new.device) × (w.new ≡ w.old)) }
         ensures description { device.new.description ≡ device.old.description }
         ensures breaks { IfErr result (λ fault. (now : ℕ) × Moves device.old.description.file fates.now (both host.old device.old.device) transactions (both host.new device.new.device) now × breaks device.old.description.file fates.now (both host.old device.old.device) (both host.new device.new.device) now w.old w.new fault) };
 }

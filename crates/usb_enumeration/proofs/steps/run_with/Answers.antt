@@ -5,7 +5,7 @@ use Rattle.usb_host.specs.Steps.{new_host}
 use Rattle.usb_host.proofs.LowerLemmas.{asks_less}
 use Rattle.usb_enumeration.specs.declared.run.Run.{Run}
 use Rattle.usb_enumeration.specs.Run.{Pair}
-use Rattle.usb_enumeration.specs.Stepping.{both, Moves}
+use Rattle.usb_enumeration.specs.Stepping.{IsStep, Moves, both}
 use Rattle.usb_enumeration.specs.inside.Walking.{Breaks, Leads, Walks}
 use Rattle.usb_enumeration.proofs.EnumerateLemmas.{most_few}
 use Rattle.usb_enumeration.proofs.LogLemmas.{leads_none, leads_on}
@@ -37,19 +37,19 @@ loop-host-preserved g c =
     let after : Pair = both c.step.new.host c.step.new.device.device in
     let n = c.loop-host.transactions in
     let now = c.in-Some.now in
-    let moves =
-    subst (λ d. Moves d.file c.args.fates.now before n after now) c.loop-host.invariant.description
-    (subst (λ o. IfSome o (λ m. Moves c.loop-host.device.description.file c.args.fates.now before n after m)) c.in-Some.is c.in_ok-now.ensures.moves)
+    let made =
+    subst (λ d. IsStep d.file c.args.fates.now before n after now) c.loop-host.invariant.description
+    (subst (λ o. IfSome o (IsStep c.loop-host.device.description.file c.args.fates.now before n after)) c.in-Some.is c.in_ok-now.ensures.made)
     in
     let did =
     subst (λ d. g.S.Steps.does d.file c.args.fates.now before after now c.loop-host.w c.step.new.w) c.loop-host.invariant.description
     (subst (λ o. IfSome o (λ m. g.S.Steps.does c.loop-host.device.description.file c.args.fates.now before after m c.loop-host.w c.step.new.w)) c.in-Some.is c.in_ok-now.ensures.does)
     in
-    let fewer = subst (λ o. IfSome o (λ m. m + left_to_ask c.step.new.host ≤ n + left_to_ask c.loop-host.host)) c.in-Some.is c.in_ok-now.ensures.fewer in
+    let fewer = made.fewer in
     let few = c.loop-host.invariant.few in
     record {
       leads = leads_on c.args.d.now.file c.args.d.now.speed c.args.limits c.args.fates.now (g.S.Steps.does c.args.d.now.file c.args.fates.now)
-          before after n now c.args.w.now c.loop-host.w c.step.new.w c.loop-host.invariant.leads moves did;
+          before after n now c.args.w.now c.loop-host.w c.step.new.w c.loop-host.invariant.leads made.moves did;
       description = c.in_ok-now.ensures.description ∙ c.loop-host.invariant.description;
       few = omega arith;
     }
@@ -57,7 +57,7 @@ loop-host-preserved g c =
 -- there is an outcome where nothing is wanted
 pub unreachable-requires : goal.unreachable-requires
 unreachable-requires g c =
-    let some = (c.in_ok-now.ensures.ended (subst (λ o. IsNone o) (sym c.in_default.is) refl)).0 in
+    let some = (c.in_ok-now.ensures.none (subst (λ o. IsNone o) (sym c.in_default.is) refl)).0.ended in
     absurd (let none = subst (λ o. IsSome o) (sym c.into_outcome.ensures ∙ c.in-None.is) some in cc)
 
 pub returns-in_err-now-clause-breaks : goal.returns-in_err-now-clause-breaks
@@ -96,15 +96,15 @@ result g c =
 walked : (g : Over) (c : goal.After-state g)
     → Walks c.args.d.now.file c.args.d.now.speed c.args.limits c.args.fates.now (g.S.Steps.does c.args.d.now.file c.args.fates.now) c.args.w.now c.step.new.w (result g c)
 walked g c =
-    let ended = c.in_ok-now.ensures.ended (subst (λ o. IsNone o) (sym c.in_default.is) refl) in
+    let (none, kept) = c.in_ok-now.ensures.none (subst (λ o. IsNone o) (sym c.in_default.is) refl) in
     let last : Pair = both c.step.new.host c.step.new.device.device in
     record {
       last = last;
       leads = subst
           (λ w. Leads c.args.d.now.file c.args.d.now.speed c.args.limits c.args.fates.now (g.S.Steps.does c.args.d.now.file c.args.fates.now) c.loop-host.transactions last c.args.w.now w)
-          (sym ended.2)
+          (sym kept)
           (subst (λ p. Leads c.args.d.now.file c.args.d.now.speed c.args.limits c.args.fates.now (g.S.Steps.does c.args.d.now.file c.args.fates.now) c.loop-host.transactions p c.args.w.now c.loop-host.w)
-          (sym ended.1) c.loop-host.invariant.leads);
+          (sym none.same) c.loop-host.invariant.leads);
       attempts = sym c.attempts-attempts.ensures;
       outcome = sym c.into_outcome.ensures ∙ c.in-Some-into_outcome.is;
       state = sym c.state.ensures;

@@ -25,7 +25,7 @@ returns-in_err-put_done-clause-breaks g c =
     let after = both c.step_seen.new.host c.step_seen.new.device.device in
     let held = g.W.Write.contents c.args.w.now in
     exit_err c.from_residual.result Memory (IsCut c.args.device.now.description.file c.args.fates.now before c.args.transactions after held held)
-    c.from_residual.ensures.1 (c.in-Some.now, c.in-Some.ensures.moves, keeps_refl held)
+    c.from_residual.ensures.1 (c.in-Some.now, c.in-Some.ensures.made.moves, keeps_refl held)
 
 pub returns-in_err-write_all-clause-breaks : goal.returns-in_err-write_all-clause-breaks
 returns-in_err-write_all-clause-breaks g c =
@@ -36,20 +36,20 @@ returns-in_err-write_all-clause-breaks g c =
     let holds = g.W.Write.contents c.write_all.new.w in
     let whole : c.step_seen.new.observer.is_whole ≡ true = search rules in
     let at : c.begin.new.self.turn.fate ≡ fate_at c.args.fates.now c.args.transactions = ap (λ t. t.fate) c.begin.ensures.turn ∙ c.at.ensures ∙ ap (fate_at c.args.fates.now) c.from.ensures in
-    let few = c.in-Some.ensures.fewer in
+    let few = c.in-Some.ensures.made.fewer in
     let within = c.requires.few in
     let kind = c.is_some-is_transaction.ensures ∙ ap is_some c.of-before.ensures.transfer in
     let counted : (c.in-Some.now ≡ suc c.args.transactions) → c.begin.new.self.turn.number ≡ c.in-Some.now =
     λ e. ap (λ t. t.number) c.begin.ensures.turn ∙ omega arith in
     let lines : c.as_bytes.result.now ≡ step_lines f c.args.fates.now c.in-Some.now before after =
     step_put f c.args.fates.now before after c.args.transactions c.in-Some.now c.begin.new.self.turn.number _ c.begin.new.self.turn.fate _ _ _
-    c.begin.new.self.lines _ _ _ c.as_bytes.result.now c.in-Some.ensures.moves (λ sent wants. c.step_seen.ensures.seen sent wants whole)
+    c.begin.new.self.lines _ _ _ c.as_bytes.result.now c.in-Some.ensures.made.moves (λ sent wants. c.step_seen.ensures.seen sent wants whole)
     (c.as_bytes.ensures ∙ c.in_ok-put_done.ensures) kind c.begin.ensures.lines (ap (λ d. d.file.device.packet) c.step_seen.ensures.description) at
     counted (ap (λ b. b.step) c.begin.ensures.before ∙ c.of-before.ensures.step) (ap (λ b. b.transfer) c.begin.ensures.before ∙ c.of-before.ensures.transfer) in
     exit_err c.from_residual-in_err-write_all.result _ (IsCut f c.args.fates.now before c.args.transactions after held holds)
     c.from_residual-in_err-write_all.ensures.1 (
       c.in-Some.now,
-      c.in-Some.ensures.moves,
+      c.in-Some.ensures.made.moves,
       rw c.in_err-write_all.ensures.why (subst (λ l. AppendsLess held holds l) lines c.in_err-write_all.ensures.err),
     )
 
@@ -62,14 +62,14 @@ returns-clause-does g c =
     let holds = g.W.Write.contents c.write_all.new.w in
     let whole : c.step_seen.new.observer.is_whole ≡ true = search rules in
     let at : c.begin.new.self.turn.fate ≡ fate_at c.args.fates.now c.args.transactions = ap (λ t. t.fate) c.begin.ensures.turn ∙ c.at.ensures ∙ ap (fate_at c.args.fates.now) c.from.ensures in
-    let few = c.in-Some.ensures.fewer in
+    let few = c.in-Some.ensures.made.fewer in
     let within = c.requires.few in
     let kind = c.is_some-is_transaction.ensures ∙ ap is_some c.of-before.ensures.transfer in
     let counted : (c.in-Some.now ≡ suc c.args.transactions) → c.begin.new.self.turn.number ≡ c.in-Some.now =
     λ e. ap (λ t. t.number) c.begin.ensures.turn ∙ omega arith in
     let lines : c.as_bytes.result.now ≡ step_lines f c.args.fates.now c.in-Some.now before after =
     step_put f c.args.fates.now before after c.args.transactions c.in-Some.now c.begin.new.self.turn.number _ c.begin.new.self.turn.fate _ _ _
-    c.begin.new.self.lines _ _ _ c.as_bytes.result.now c.in-Some.ensures.moves (λ sent wants. c.step_seen.ensures.seen sent wants whole)
+    c.begin.new.self.lines _ _ _ c.as_bytes.result.now c.in-Some.ensures.made.moves (λ sent wants. c.step_seen.ensures.seen sent wants whole)
     (c.as_bytes.ensures ∙ c.in_ok-put_done.ensures) kind c.begin.ensures.lines (ap (λ d. d.file.device.packet) c.step_seen.ensures.description) at
     counted (ap (λ b. b.step) c.begin.ensures.before ∙ c.of-before.ensures.step) (ap (λ b. b.transfer) c.begin.ensures.before ∙ c.of-before.ensures.transfer) in
     subst (λ l. Appends held holds l) lines c.in_ok-write_all.ensures.ok
