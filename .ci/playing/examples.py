@@ -61,6 +61,25 @@ def dump(name):
     yield from fronts(data)
 
 
+# The speed in a heading by the Mbit/s that Linux recorded beside a dump, and how many dumps have it exactly.
+SPEEDS = {"1.5": "low speed", "12": "full speed", "480": "high speed", "5000": "SuperSpeed"}
+KNOWN = 42
+
+
+def wrong_speeds():
+    """Dumps whose explanation excludes their recorded speed, and a line where fewer than those have it exactly."""
+    rows = re.findall(r"^\| ([\w.-]+) \| [0-9a-f]{4}:.*? \| \d+ \| ([\d.]+) \|", bytes_of("dumps/README", ".md").decode(), flags=re.M)
+    known = 0
+    for name, rate in rows:
+        speed = SPEEDS[rate]
+        told = re.findall(r"^  configuration \d+, ([^,]+), ", bytes_of(f"dumps/{name}", ".explain").decode(), flags=re.M)
+        known += set(told) == {speed}
+        if not told or any(speed.split()[0] not in words.split() for words in told):
+            yield f"dumps/{name}: of {speed}, and its explanation says {', '.join(told)}"
+    if known < KNOWN:
+        yield f"dumps: {known} of {len(rows)} explanations have the recorded speed, and not {KNOWN}"
+
+
 def listing(name):
     yield Run(["build"], bytes_of(name, ".txt"), 0, bytes_of(name, ".file"))
 

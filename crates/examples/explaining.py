@@ -17,7 +17,10 @@ import sys
 import checking
 
 HERE = os.path.dirname(os.path.abspath(__file__))
-LOW_OR_FULL, HIGH, FULL_OR_HIGH, SUPER = "low or full speed", "high speed", "full or high speed", "SuperSpeed"
+LOW, FULL, HIGH, SUPER = "low speed", "full speed", "high speed", "SuperSpeed"
+LOW_OR_FULL, FULL_OR_HIGH = "low or full speed", "full or high speed"
+AT = {"low": LOW, "full": FULL, "high": HIGH, "super": SUPER}
+OTHER_SPEED = {FULL: HIGH, HIGH: FULL}
 TRANSFERS = ("control", "isochronous", "bulk", "interrupt")
 
 
@@ -78,9 +81,17 @@ def class_words(codes):
     return " / ".join(name for name in names if name)
 
 
+def function_class_words(codes):
+    """Class 00 is a device's; of an interface or a function it is reserved."""
+    return class_words(codes) if codes[0] else "reserved class"
+
+
 def class_fields(stem, codes):
     for i, name in enumerate(("Class", "SubClass", "Protocol")):
-        yield f"{stem}{name}", with_meaning(byte(codes[i]), CLASSES.get(tuple(codes[: i + 1])))
+        meaning = CLASSES.get(tuple(codes[: i + 1]))
+        if i == 0 and codes[0] == 0 and stem != "bDevice":
+            meaning = "reserved class"
+        yield f"{stem}{name}", with_meaning(byte(codes[i]), meaning)
 
 
 def quoted(units):
@@ -101,9 +112,9 @@ def attribute_words(a):
     return f"isochronous, {synchronization}, {usage}"
 
 
-def size_words(attributes, size):
+def size_words(attributes, size, speed):
     words, more = count(size % 2048, "byte"), size >> 11 & 3
-    if attributes % 2 == 0 or more == 0:
+    if attributes % 2 == 0 or more == 0 or speed != HIGH:
         return words
     return f"{words}, reserved multiple" if more == 3 else f"{more + 1} x {words} a microframe"
 
@@ -124,16 +135,37 @@ def interval_words(attributes, n, speed):
     else:
         slow = f"{n} ms" if n else "out of range"
     fast = power_of_two(n, 125)
-    return {LOW_OR_FULL: slow, FULL_OR_HIGH: f"{slow}; at high speed {fast}"}.get(speed, fast)
+    return {HIGH: fast, SUPER: fast, FULL_OR_HIGH: f"{slow}; at high speed {fast}"}.get(speed, slow)
 
 
-def voices(d):
-    """Whether an endpoint speaks of high speed, and whether of low or full speed."""
-    attributes, size, interval = d[3], little(d[4:6]), d[6]
-    kind, packet = attributes % 4, size % 2048
-    high = (kind == 2 and packet == 512) or (kind == 3 and packet > 64) or (kind == 1 and packet > 1023)
-    high = high or (kind % 2 == 1 and size >> 11 & 3 != 0)
-    return high, (kind == 2 and packet <= 64) or (kind == 3 and interval > 16)
+def proves_high(kind, size):
+    most = {1: 1023, 3: 64}.get(kind)
+    return (kind == 2 and size % 2048 == 512) or (most is not None and (size % 2048 > most or size & 0x1800 != 0))
+
+
+def speed_by(descriptors, known, packet, other):
+    """The speed of descriptors of a set: what is known of it, bMaxPacketSize0, and the device's other speed if it has
+    one, a speed or None."""
+    ends = [(d[3] % 4, little(d[4:6]), d[6]) for d in descriptors if d[1] == 5 and len(d) >= 7]
+    has_other, other = other
+    if known:
+        speed = known
+    elif packet not in (None, 64):
+        speed = LOW_OR_FULL
+    elif any(d[1] == 0x30 for d in descriptors):
+        speed = SUPER
+    elif any(proves_high(kind, size) for kind, size, _ in ends):
+        speed = HIGH
+    elif any(kind == 2 and size % 2048 <= 64 for kind, size, _ in ends):
+        speed = FULL
+    elif other in OTHER_SPEED:
+        speed = OTHER_SPEED[other]
+    elif any(kind == 3 and interval > 16 for kind, _, interval in ends):
+        speed = LOW_OR_FULL
+    else:
+        speed = FULL_OR_HIGH
+    above_low = has_other or (packet or 0) > 8 or any(kind in (1, 2) or size % 2048 > 8 for kind, size, _ in ends)
+    return FULL if speed == LOW_OR_FULL and above_low else speed
 
 
 def row_of(d, codes):
@@ -197,7 +229,7 @@ class Explanation:
             self.found = {tuple(line.split()) for line in lines if line != "no findings"}
             if kind == "file":
                 self.find_names()
-        self.device, self.qualifier, self.languages = None, None, None
+        self.device, self.qualifier, self.languages, self.other = None, None, None, (False, None)
         self.sets = {"main": 0, "other": 0}
         self.strings = 0
 
@@ -268,16 +300,25 @@ class Explanation:
             return str(n)
         return f"{n} ({count(2 ** n, 'byte')})" if n <= 15 else f"{n} (out of range)"
 
+    def packet_fault(self, packet, is_super):
+        if is_super and self.kind == "dump":
+            return packet != 9, "bMaxPacketSize0 isn't 9"
+        if is_super and packet == 9:
+            return True, "bMaxPacketSize0 is 9, as SuperSpeed has it; USB 2.0 has 8, 16, 32 or 64"
+        return packet not in (8, 16, 32, 64), "bMaxPacketSize0 isn't 8, 16, 32 or 64"
+
+    def subclass_fault(self, codes):
+        return codes[0] == 0 and codes[1] != 0, "there is a subclass without a class"
+
     def of_device(self, d, at):
         self.device = d
+        self.other = self.find_other(self.limit)
         usb, codes = little(d[2:4]), d[4:7]
         text = f"device {little(d[8:10]):04x}:{little(d[10:12]):04x}, USB {bcd(usb)}, {class_words(codes)}"
         self.heading(0, text, at, len(d))
         if d[17] == 0:
             self.findings(0, [(10, "there is no configuration")], "main")
-        sizes = "9" if self.kind == "dump" and usb >= 0x0300 else "8, 16, 32 or 64"
-        wrong = f"bMaxPacketSize0 isn't {sizes}, or there is a subclass without a class"
-        self.findings(0, [(11, wrong)], "device")
+        self.findings(0, [(11, causes(self.packet_fault(d[7], usb >= 0x0300), self.subclass_fault(codes)))], "device")
         fields = [("bcdUSB", f"{word(usb)} ({bcd(usb)})"), *class_fields("bDevice", codes)]
         fields.append(("bMaxPacketSize0", self.device_packet(d[7])))
         fields += [("idVendor", word(little(d[8:10]))), ("idProduct", word(little(d[10:12])))]
@@ -291,30 +332,35 @@ class Explanation:
         self.heading(0, f"qualifier of the other speed, USB {bcd(usb)}, {class_words(codes)}", at, len(d))
         if d[8] == 0:
             self.findings(0, [(10, "there is no configuration")], "other")
-        wrong = "bMaxPacketSize0 isn't 8, 16, 32 or 64, or there is a subclass without a class, or bReserved isn't 0"
+        wrong = causes(self.packet_fault(d[7], False), self.subclass_fault(codes), (d[9] != 0, "bReserved isn't 0"))
         self.findings(0, [(11, wrong)], "other")
         fields = [("bcdUSB", f"{word(usb)} ({bcd(usb)})"), *class_fields("bDevice", codes)]
         self.fields(0, [*fields, ("bMaxPacketSize0", d[7]), ("bNumConfigurations", d[8]), ("bReserved", byte(d[9]))])
 
-    def speed_of(self, part, descriptors):
-        if self.kind == "set":
-            given = {"low": LOW_OR_FULL, "full": LOW_OR_FULL, "high": HIGH, "super": SUPER}.get(self.asked)
-            packet = None
-        elif part == "main":
-            given = {"low": LOW_OR_FULL, "full": LOW_OR_FULL, "high": HIGH, "super": SUPER}.get(self.asked)
-            usb, packet = little(self.device[2:4]), self.device[7]
-            if not given:
-                given = SUPER if usb >= 0x0300 else LOW_OR_FULL if usb < 0x0200 else None
-        else:
-            given = {"full": HIGH, "high": LOW_OR_FULL}.get(self.asked)
-            packet = self.qualifier[7]
-        if given:
-            return given
-        if packet not in (None, 64):
-            return LOW_OR_FULL
-        said = [voices(d) for _, d in descriptors if d[1] == 5 and len(d) >= 7]
-        high, low = any(v[0] for v in said), any(v[1] for v in said)
-        return HIGH if high and not low else LOW_OR_FULL if low and not high else FULL_OR_HIGH
+    def speed_of(self, descriptors):
+        given = AT.get(self.asked)
+        if self.device is None:
+            return speed_by(descriptors, given, None, (False, None))
+        if self.qualifier is not None:
+            return speed_by(descriptors, OTHER_SPEED.get(given), self.qualifier[7], (True, None))
+        usb, class_, protocol, packet = little(self.device[2:4]), self.device[4], self.device[6], self.device[7]
+        if not given and usb >= 0x0300:
+            given = SUPER
+        elif not given and usb < 0x0200:
+            given = LOW_OR_FULL
+        elif not given and class_ == 9 and protocol in (1, 2):
+            given = HIGH
+        return speed_by(descriptors, given, packet, self.other)
+
+    def find_other(self, limit):
+        """Whether a qualifier comes after as many sets as the device has, and the speed that its sets have by their own."""
+        at = 18
+        for _ in range(self.device[17]):
+            at += little(self.data[at + 2 : min(at + 4, limit)])
+        if at + 10 > limit or self.data[at : at + 2] != b"\x0a\x06":
+            return False, None
+        sets = [d for _, d in cut(self.data, at + 10, limit)]
+        return True, speed_by(sets, None, self.data[at + 7], (True, None))
 
     def of_set(self, at, limit):
         """The set at this place, as far as it goes; answers where what is left of the input begins."""
@@ -325,7 +371,7 @@ class Explanation:
         part = "main" if main else "other"
         place = (part, self.sets[part])
         self.sets[part] += 1
-        speed = self.speed_of(part, descriptors)
+        speed = self.speed_of([d for _, d in descriptors])
         associations = [d for _, d in descriptors[1:] if d[1] == 11]
         numbers = {d[2] for _, d in descriptors[1:] if d[1] == 4}
         self.of_configuration(header, at, main, place, speed, len(numbers))
@@ -341,8 +387,8 @@ class Explanation:
                 self.of_endpoint(d, p, place + (setting, endpoint), speed, codes)
                 endpoint += 1
             elif d[1] == 11:
-                self.of_association(d, p, place + (association,), owner + 1)
-                association += 1
+                self.of_association(d, p, place + (association,))
+                owner, association = 1, association + 1
             else:
                 self.of_raw(d, p, owner + 1, codes)
         return descriptors[-1][0] + len(descriptors[-1][1])
@@ -352,11 +398,13 @@ class Explanation:
         current = f"{d[8] * (8 if speed == SUPER else 2)} mA"
         kind = "configuration" if main else "other-speed configuration"
         self.heading(1, f"{kind} {d[5]}, {speed}, {count(d[4], 'interface')}, {power}, {current}", at, len(d))
+        clear, reserved = d[7] < 0x80, d[7] & 0x1F != 0
+        wrong = causes((clear, "bit 7 of bmAttributes isn't one"), (reserved, "bits 4 to 0 of bmAttributes aren't zero"))
         texts = [
             (1, f"bNumInterfaces is {d[4]}, and the set has {count(interfaces, 'interface')}"),
             (2, "the interfaces aren't numbered from 0 without a gap"),
-            (9, "bit 7 of bmAttributes isn't one, or bits 4 to 0 aren't zero"),
-            (10, "bConfigurationValue is 0, or an earlier set has it"),
+            (9, wrong),
+            (10, "an earlier set has this bConfigurationValue" if d[5] else "bConfigurationValue is 0"),
         ]
         self.findings(1, texts, *place)
         wakeup = ", remote wakeup" if d[7] & 0x20 else ""
@@ -370,18 +418,19 @@ class Explanation:
         ]
         self.fields(1, fields + tail(d[9:]))
 
-    def of_association(self, d, at, place, depth):
+    def of_association(self, d, at, place):
         first, n = d[2], d[3]
         bound = "no interface" if n == 0 else f"interface {first}" if n == 1 else f"interfaces {first} to {first + n - 1}"
-        self.heading(depth, f"association {place[2]} of {bound}, {class_words(d[4:7])}", at, len(d))
-        self.findings(depth, [(13, "it binds no interface, or one that the set hasn't")], *place)
+        self.heading(2, f"association {place[2]} of {bound}, {function_class_words(d[4:7])}", at, len(d))
+        wrong = "it binds an interface that the set hasn't" if n else "it binds no interface"
+        self.findings(2, [(13, wrong)], *place)
         fields = [("bFirstInterface", first), ("bInterfaceCount", n), *class_fields("bFunction", d[4:7])]
-        self.fields(depth, [*fields, ("iFunction", self.index(d[7])), *tail(d[8:])])
+        self.fields(2, [*fields, ("iFunction", self.index(d[7])), *tail(d[8:])])
 
     def of_interface(self, d, at, place, associations, endpoints):
         bound = [k for k, a in enumerate(associations) if a[2] <= d[2] < a[2] + a[3]]
         of = f" of association {bound[0]}" if bound else ""
-        text = f"interface {d[2]} alternate {d[3]}{of}, {class_words(d[5:8])}, {count(d[4], 'endpoint')}"
+        text = f"interface {d[2]} alternate {d[3]}{of}, {function_class_words(d[5:8])}, {count(d[4], 'endpoint')}"
         self.heading(2, text, at, len(d))
         texts = [
             (3, "this interface has this alternate setting already"),
@@ -393,11 +442,13 @@ class Explanation:
         self.fields(2, [*fields, *class_fields("bInterface", d[5:8]), ("iInterface", self.index(d[8])), *tail(d[9:])])
 
     def of_endpoint(self, d, at, place, speed, codes):
-        size, interval = size_words(d[3], little(d[4:6])), interval_words(d[3], d[6], speed)
+        size, interval = size_words(d[3], little(d[4:6]), speed), interval_words(d[3], d[6], speed)
         text = f"endpoint {byte(d[2])} ({end(d[2], d[3])}), {attribute_words(d[3])}, {size}"
         self.heading(3, text + (f", {interval}" if interval else ""), at, len(d))
+        zero, reserved = d[2] & 0x0F == 0, d[2] & 0x70 != 0
+        wrong = causes((zero, "the address names endpoint 0"), (reserved, "bits 6 to 4 of the address aren't zero"))
         texts = [
-            (6, "the address names endpoint 0, or bits 6 to 4 of it aren't zero"),
+            (6, wrong),
             (7, "this setting has this address already"),
             (8, "another interface of the set has this address"),
             (12, "bits 15 to 13 of wMaxPacketSize aren't zero"),
@@ -449,8 +500,10 @@ class Explanation:
         if self.fault:
             is_set = self.data[1:2] in (b"\x02", b"\x07")
             names = {self.kind: "broken set" if is_set else "broken file"}
+        if self.kind == "file" and not self.fault and not self.string_places:
+            names["file"] = "file, no strings named"
         self.lines.append(f"{names[self.kind]}, {count(len(self.data), 'byte')}")
-        limit = self.fault[0] if self.fault else len(self.data)
+        limit = self.limit = self.fault[0] if self.fault else len(self.data)
         at = 0
         while True:
             d = next((d for _, d in cut(self.data, at, limit)), None)
@@ -471,6 +524,11 @@ class Explanation:
         if not self.fault:
             self.lines.append(count(len(self.found), "finding") if self.found else "no findings")
         return "".join(line + "\n" for line in self.lines)
+
+
+def causes(*causes):
+    """The causes that hold, of pairs of what holds and its words."""
+    return ", and ".join(words for holds, words in causes if holds)
 
 
 def tail(b):

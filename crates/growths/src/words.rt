@@ -97,7 +97,7 @@ fn put_one(text: &mut Text, putting: Putting) -> Result<(), AllocError> {
         Putting::ClassWords => put_class_words(text, 3, 1, 2),
         Putting::End => put_end(text, 3, 0x81),
         Putting::Attributes => put_attributes(text, 5),
-        Putting::Size => put_size(text, 1, 0x1400),
+        Putting::Size => put_size(text, Speed::High, 1, 0x1400),
         Putting::Speed => put_speed(text, Speed::LowOrFull),
         Putting::Power => put_power(text, Speed::Super, 50),
         Putting::Interval => put_interval(text, Speed::FullOrHigh, 3, 10),

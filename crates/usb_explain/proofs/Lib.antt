@@ -1,4 +1,5 @@
 pub mod Standings
+pub mod SetsAhead
 pub mod Walking
 pub mod Telling
 pub mod Endings

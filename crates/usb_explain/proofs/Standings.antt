@@ -111,7 +111,7 @@ start_told = refl
 pub counted_entered : (role : Role) (running : Option RunningSpeed) (ahead : List ℕ) (s : Standing) → Counted s → Counted (entered role running ahead s)
 unfolding opened
 counted_entered Configuration running ahead s c = record { strings = c.strings; main_sets = c.main_sets; other_sets = c.other_sets; associations = omega arith; settings = omega arith; endpoints = omega arith }
-counted_entered Device running ahead s c = c
+counted_entered Device running ahead s c = record { strings = c.strings; main_sets = c.main_sets; other_sets = c.other_sets; associations = c.associations; settings = c.settings; endpoints = c.endpoints }
 counted_entered Qualifier running ahead s c = c
 counted_entered Association running ahead s c = c
 counted_entered Interface running ahead s c = c

@@ -50,7 +50,7 @@ unfoldable pub depth_of : Standing → Role → ℕ
 depth_of s Configuration = 1
 depth_of s Interface = 2
 depth_of s Endpoint = 3
-depth_of s Association = below s.set.owner
+depth_of s Association = 2
 depth_of s Raw = below s.set.owner
 depth_of s _ = 0
 

@@ -1,5 +1,5 @@
 -- The explanation of an input, and of bytes that are none.
-use Rattle.std.specs.Prelude.{ℕ, List, ◌++◌, length, take, drop, slice_index, codes, ◌==◌, ◌||◌, if◌then◌else◌}
+use Rattle.std.specs.Prelude.{ℕ, List, ◌++◌, length, take, drop, slice_index, codes, is_some, ◌==◌, ◌||◌, if◌then◌else◌}
 use Rattle.usb_words.specs.Numbers.{count}
 use Rattle.usb_explained_lines.specs.Rest.{rest_lines}
 use Rattle.usb_file.specs.declared.input.Input.{Input}
@@ -14,7 +14,7 @@ use Rattle.usb_explain.specs.Walks.{walked}
 -- the name of an input
 abbrev pub input_name : Input → List ℕ
 input_name (inputs.Set set) = codes "set"
-input_name (inputs.File file) = codes "file"
+input_name (inputs.File file) = if is_some file.strings then codes "file" else codes "file, no strings named"
 input_name (inputs.Dump file) = codes "device and its sets without strings"
 
 -- the name of bytes that are none: they are read as a set by their second byte

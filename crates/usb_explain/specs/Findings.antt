@@ -1,5 +1,5 @@
 -- What is told of a descriptor that breaks a rule, right under its heading.
-use Rattle.std.specs.Prelude.{ℕ, ◌-◌, List, length, slice_index, take, drop, flat_map, Bool, nat_le, ◌==◌, ◌&&◌, Option, Some, None, is_some, unwrap_or, [], if◌then◌else◌}
+use Rattle.std.specs.Prelude.{ℕ, ◌-◌, ◌/◌, ◌%◌, List, length, slice_index, take, drop, flat_map, Bool, not, nat_le, ◌==◌, ◌&&◌, Option, Some, None, is_some, unwrap_or, [], if◌then◌else◌}
 use Rattle.std.specs.List.{take_while}
 use Rattle.std.specs.Option.{option_map}
 use Rattle.usb_base.specs.Bytes.{little_endian_at}
@@ -9,8 +9,11 @@ use Rattle.usb_rules.specs.declared.finding.Part.TheVariants as parts
 use Rattle.usb_rules.specs.declared.rule.Rule.{Rule}
 use Rattle.usb_rules.specs.declared.rule.Rule.TheVariants as rules
 use Rattle.usb_rules.specs.Places.{finding}
+use Rattle.usb_rules.specs.Rules.{wrong_packet}
 use Rattle.usb_words.specs.Counts.{endpoints_before_interface}
 use Rattle.usb_words.specs.Cut.{descriptors}
+use Rattle.usb_explained_lines.specs.declared.told.PacketFault.{PacketFault}
+use Rattle.usb_explained_lines.specs.declared.told.PacketFault.TheVariants as packets
 use Rattle.usb_explained_lines.specs.declared.told.Told.{Told}
 use Rattle.usb_explained_lines.specs.declared.told.Told.TheVariants as told
 use Rattle.usb_explained_lines.specs.Findings.{finding_line}
@@ -22,9 +25,28 @@ use Rattle.usb_explain.specs.declared.position.Standing.{Standing}
 use Rattle.usb_explain.specs.Contexts.{depth_of}
 use Rattle.usb_explain.specs.Subjects.{Subject}
 
--- what is wrong with a device descriptor; that of a dump may be one of SuperSpeed
-abbrev pub wrong_device_told : Bool → ℕ → Told
-wrong_device_told is_dump usb = if is_dump && nat_le 0x0300 usb then told.DumpedDevice else told.Device
+-- what is wrong with bMaxPacketSize0 by the table of USB 2.0 (9.6.1 and 9.6.2)
+abbrev pub packet_fault : ℕ → Option PacketFault
+packet_fault packet = if wrong_packet packet then Some packets.NotInTable else None
+
+-- and from bcdUSB 0300 on, where a dump is of SuperSpeed, which has 9; a file of such a device is one of USB 2.0
+abbrev pub late_packet_fault : Bool → ℕ → Option PacketFault
+late_packet_fault is_dump packet =
+    if packet == 9 then (if is_dump then None else Some packets.Nine)
+    else (if is_dump then Some packets.NotNine else packet_fault packet)
+
+-- by bcdUSB
+abbrev pub device_packet_fault : Bool → ℕ → ℕ → Option PacketFault
+device_packet_fault is_dump usb packet = if nat_le 0x0300 usb then late_packet_fault is_dump packet else packet_fault packet
+
+-- there is a subclass without a class
+abbrev pub has_lone_subclass : List ℕ → Bool
+has_lone_subclass d = (slice_index d 4 == 0) && not (slice_index d 5 == 0)
+
+-- what is wrong with a device descriptor
+abbrev pub wrong_device_told : Bool → List ℕ → Told
+wrong_device_told is_dump d =
+    told.Device (device_packet_fault is_dump (little_endian_at d 2) (slice_index d 7)) (has_lone_subclass d)
 
 -- V10 at the descriptor that says how many sets its part has, where it says none
 abbrev pub none_told : ℕ → Option Told
@@ -33,27 +55,35 @@ none_told count = if count == 0 then Some told.NoConfiguration else None
 -- at the device: V10 of a part without a set, and V11
 abbrev pub device_told : Bool → List ℕ → Rule → Option Told
 device_told is_dump d rules.V10 = none_told (slice_index d 17)
-device_told is_dump d rules.V11 = Some (wrong_device_told is_dump (little_endian_at d 2))
+device_told is_dump d rules.V11 = Some (wrong_device_told is_dump d)
 device_told is_dump d _ = None
 
 -- at the qualifier: the same
 abbrev pub qualifier_told : List ℕ → Rule → Option Told
 qualifier_told d rules.V10 = none_told (slice_index d 8)
-qualifier_told d rules.V11 = Some told.Qualifier
+qualifier_told d rules.V11 = Some (told.Qualifier (packet_fault (slice_index d 7)) (has_lone_subclass d) (not (slice_index d 9 == 0)))
 qualifier_told d _ = None
+
+-- V9: what is wrong with bmAttributes of a set
+abbrev pub attributes_told : ℕ → Told
+attributes_told attributes = told.Attributes (attributes / 128 == 0) (not (attributes % 32 == 0))
+
+-- V10: what is wrong with bConfigurationValue
+abbrev pub value_told : ℕ → Told
+value_told value = if value == 0 then told.ZeroValue else told.RepeatedValue
 
 -- at a set: V1, V2, V9 and V10
 abbrev pub set_told : SetStanding → List ℕ → Rule → Option Told
 set_told set d rules.V1 = Some (told.InterfaceCount (slice_index d 4) set.interfaces)
 set_told set d rules.V2 = Some told.NumberGap
-set_told set d rules.V9 = Some told.Attributes
-set_told set d rules.V10 = Some told.Value
+set_told set d rules.V9 = Some (attributes_told (slice_index d 7))
+set_told set d rules.V10 = Some (value_told (slice_index d 5))
 set_told set d _ = None
 
 -- at an association: V13
-abbrev pub association_told : Rule → Option Told
-association_told rules.V13 = Some told.Interfaces
-association_told _ = None
+abbrev pub association_told : List ℕ → Rule → Option Told
+association_told d rules.V13 = Some (if slice_index d 3 == 0 then told.NoInterface else told.MissingInterface)
+association_told d _ = None
 
 -- at an interface, with the bytes of its set behind it: V3, V4 and V5
 abbrev pub interface_told : List ℕ → List ℕ → Rule → Option Told
@@ -62,22 +92,26 @@ interface_told d behind rules.V4 = Some told.NoDefaultSetting
 interface_told d behind rules.V5 = Some (told.EndpointCount (slice_index d 4) (endpoints_before_interface (descriptors behind)))
 interface_told d behind _ = None
 
+-- V6: what is wrong with bEndpointAddress
+abbrev pub address_told : ℕ → Told
+address_told address = told.Address (address % 16 == 0) (not (address / 16 % 8 == 0))
+
 -- at an endpoint: V6, V7, V8 and V12
-abbrev pub endpoint_told : Rule → Option Told
-endpoint_told rules.V6 = Some told.Address
-endpoint_told rules.V7 = Some told.RepeatedAddress
-endpoint_told rules.V8 = Some told.SharedAddress
-endpoint_told rules.V12 = Some told.PacketSize
-endpoint_told _ = None
+abbrev pub endpoint_told : List ℕ → Rule → Option Told
+endpoint_told d rules.V6 = Some (address_told (slice_index d 2))
+endpoint_told d rules.V7 = Some told.RepeatedAddress
+endpoint_told d rules.V8 = Some told.SharedAddress
+endpoint_told d rules.V12 = Some told.PacketSize
+endpoint_told d _ = None
 
 -- what is told at a descriptor of this role, with the bytes behind it, that breaks a rule which one of this role can
 unfoldable pub told_at : Bool → Standing → Role → List ℕ → List ℕ → Rule → Option Told
 told_at is_dump s Device d behind rule = device_told is_dump d rule
 told_at is_dump s Qualifier d behind rule = qualifier_told d rule
 told_at is_dump s Configuration d behind rule = set_told s.set d rule
-told_at is_dump s Association d behind rule = association_told rule
+told_at is_dump s Association d behind rule = association_told d rule
 told_at is_dump s Interface d behind rule = interface_told d (take (s.left - length d) behind) rule
-told_at is_dump s Endpoint d behind rule = endpoint_told rule
+told_at is_dump s Endpoint d behind rule = endpoint_told d rule
 told_at is_dump s _ d behind rule = None
 
 -- the part in which a device descriptor breaks a rule: it stands for the main one, where that has no set

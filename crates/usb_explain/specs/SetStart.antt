@@ -1,17 +1,19 @@
 -- How a set begins.
-use Rattle.std.specs.Prelude.{ℕ, List, slice_index, take, ◌==◌, Option, Some, None, option_and_then, if◌then◌else◌}
+use Rattle.std.specs.Prelude.{ℕ, zero, suc, List, length, slice_index, take, drop, nat_le, ◌==◌, ◌&&◌, Bool, Option, Some, None, option_and_then, if◌then◌else◌}
 use Rattle.std.specs.Option.{option_map, option_or}
 use Rattle.usb_base.specs.Bytes.{little_endian_at}
 use Rattle.usb_rules.specs.declared.finding.Part.{Part}
 use Rattle.usb_rules.specs.declared.finding.Part.TheVariants.{Main, Other}
 use Rattle.usb_words.specs.declared.speed.Speed.{Speed}
+use Rattle.usb_words.specs.declared.speed.Speed.TheVariants.{FullOrHigh}
+use Rattle.usb_words.specs.declared.set_speed.Background.{Background}
 use Rattle.usb_words.specs.declared.set_speed.RunningSpeed.{RunningSpeed}
 use Rattle.usb_words.specs.declared.survey.Survey.{Survey}
 use Rattle.usb_words.specs.Cut.{descriptors}
-use Rattle.usb_words.specs.SetSpeeds.{other_speed_at, speed_at, speed_by, speed_of_release}
+use Rattle.usb_words.specs.SetSpeeds.{other_speed, speed_at, speed_by}
 use Rattle.usb_words.specs.Surveys.{survey_of}
 use Rattle.usb_explained_lines.specs.declared.role.Role.{Role}
-use Rattle.usb_explained_lines.specs.declared.role.Role.TheVariants.{Configuration}
+use Rattle.usb_explained_lines.specs.declared.role.Role.TheVariants.{Configuration, Device}
 use Rattle.usb_explain.specs.declared.position.DeviceFacts.{DeviceFacts}
 use Rattle.usb_explain.specs.declared.position.Owner.TheVariants as owners
 use Rattle.usb_explain.specs.declared.position.SetStanding.{SetStanding}
@@ -26,32 +28,43 @@ abbrev pub sets_of : Standing → Part → ℕ
 sets_of s Other = s.other_sets
 sets_of s _ = s.main_sets
 
--- the speed that is known of a set of the part: that at which the device ran, else what bcdUSB tells
-abbrev pub known_in_part : DeviceFacts → Option RunningSpeed → Part → Option Speed
-known_in_part device running Other = option_and_then other_speed_at running
-known_in_part device running _ = option_or (option_map speed_at running) (speed_of_release device.usb)
+-- what is known of the sets after a qualifier of this bMaxPacketSize0, which are those of the other speed
+unfoldable pub other_background : Option RunningSpeed → ℕ → Background
+other_background running packet =
+    record { known = option_and_then other_speed (option_map speed_at running); packet = Some packet; other = Some FullOrHigh }
 
--- the same of any set; a set without a device is the one that the device ran with
-abbrev pub known_speed : Option DeviceFacts → Option RunningSpeed → Part → Option Speed
-known_speed None running part = option_map speed_at running
-known_speed (Some device) running part = known_in_part device running part
+-- of a set after a device and its qualifier, after a device alone, or alone: the one with which the device ran
+unfoldable pub background_by : Option RunningSpeed → Option DeviceFacts → Option ℕ → Option Speed → Background
+background_by running None qualifier other = record { known = option_map speed_at running; packet = None; other = None }
+background_by running (Some device) None other =
+    record { known = option_or (option_map speed_at running) device.speed; packet = Some device.packet; other = other }
+background_by running (Some device) (Some packet) other = other_background running packet
 
--- bMaxPacketSize0 at the speed of the part
-abbrev pub packet_in_part : DeviceFacts → Option ℕ → Part → Option ℕ
-packet_in_part device other Other = other
-packet_in_part device other _ = Some device.packet
+-- the bytes after so many sets
+unfoldable pub after_sets : ℕ → List ℕ → List ℕ
+after_sets zero b = b
+after_sets (suc n) b = let rest = after_sets n b in drop (little_endian_at rest 2) rest
 
--- the same, where there is a device
-abbrev pub packet_of : Option DeviceFacts → Option ℕ → Part → Option ℕ
-packet_of None other part = None
-packet_of (Some device) other part = packet_in_part device other part
+-- the bytes begin with a qualifier (USB 2.0, 9.6.2)
+unfoldable pub has_qualifier : List ℕ → Bool
+has_qualifier b = nat_le 10 (length b) && (slice_index b 0 == 10) && (slice_index b 1 == 6)
+
+-- the speed of the sets after a qualifier, as far as it and their descriptors say
+abbrev pub speed_after_qualifier : List ℕ → Option Speed
+speed_after_qualifier b =
+    if has_qualifier b then Some (speed_by (other_background None (slice_index b 7)) (survey_of (descriptors (drop 10 b))).spoken)
+    else None
+
+-- the other speed of the device with which these bytes begin
+unfoldable pub other_ahead : List ℕ → Option Speed
+other_ahead ahead = speed_after_qualifier (after_sets (slice_index ahead 17) (drop 18 ahead))
 
 -- a set of this survey, before its first descriptor
 abbrev pub set_by : Standing → Option RunningSpeed → Part → Survey → SetStanding
 set_by s running part survey = record {
   part = part;
   number = sets_of s part;
-  speed = speed_by (known_speed s.device running part) (packet_of s.device s.other_packet part) survey.spoken;
+  speed = speed_by (background_by running s.device s.other_packet s.other_speed) survey.spoken;
   interfaces = survey.interfaces;
   bindings = survey.bindings;
   associations = 0;
@@ -66,7 +79,8 @@ opened running ahead s =
     let total = little_endian_at ahead 2 in
     record s { left = total; set = set_by s running (part_of (slice_index ahead 1)) (survey_of (descriptors (take total ahead))) }
 
--- at a descriptor of this role: the first one of a set opens the set
+-- at a descriptor of this role: the first one of a set opens the set, and the device looks for its other speed
 abbrev pub entered : Role → Option RunningSpeed → List ℕ → Standing → Standing
+entered Device running ahead s = record s { other_speed = other_ahead ahead }
 entered Configuration running ahead s = opened running ahead s
 entered _ running ahead s = s

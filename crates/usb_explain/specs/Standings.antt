@@ -25,6 +25,7 @@ unfoldable pub start : Standing
 start = record {
   at = 0;
   device = None;
+  other_speed = None;
   other_packet = None;
   has_languages = false;
   strings = 0;

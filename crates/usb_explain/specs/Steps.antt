@@ -5,6 +5,7 @@ use Rattle.usb_rules.specs.declared.finding.Part.{Part}
 use Rattle.usb_rules.specs.declared.finding.Part.TheVariants.{Other}
 use Rattle.usb_explained_lines.specs.declared.role.Role.{Role}
 use Rattle.usb_explained_lines.specs.declared.role.Role.TheVariants.{Device, Qualifier, Configuration, Association, Interface, Endpoint, Raw, Languages, Text}
+use Rattle.usb_words.specs.SetSpeeds.{speed_of_device}
 use Rattle.usb_explain.specs.declared.position.Owner.TheVariants as owners
 use Rattle.usb_explain.specs.declared.position.SettingStanding.{SettingStanding}
 use Rattle.usb_explain.specs.declared.position.Standing.{Standing}
@@ -29,10 +30,11 @@ with_endpoint (Some setting) = Some (record setting { endpoints = setting.endpoi
 
 -- what is kept of a descriptor of this role
 unfoldable pub noted : Role → List ℕ → Standing → Standing
-noted Device d s = record s { device = Some (record { usb = little_endian_at d 2; packet = slice_index d 7 }) }
+noted Device d s =
+    record s { device = Some (record { speed = speed_of_device (little_endian_at d 2) (slice_index d 4) (slice_index d 6); packet = slice_index d 7 }) }
 noted Qualifier d s = record s { other_packet = Some (slice_index d 7) }
 noted Configuration d s = with_set s.set.part s
-noted Association d s = record s { set = record s.set { associations = s.set.associations + 1 } }
+noted Association d s = record s { set = record s.set { associations = s.set.associations + 1; owner = owners.Configuration } }
 noted Interface d s =
     record s { set = record s.set { settings = s.set.settings + 1; setting = Some (setting_of s.set.settings d); owner = owners.Interface } }
 noted Endpoint d s = record s { set = record s.set { setting = with_endpoint s.set.setting; owner = owners.Endpoint } }

@@ -38,23 +38,30 @@ abbrev pub extra_role : Extra → Role
 extra_role (extras.Raw raw) = roles.Raw
 extra_role (extras.Association association) = roles.Association
 
--- an extra is one deeper than what it belongs to
-abbrev pub extra_entry : ℕ → Extra → OutlineEntry
-extra_entry depth x = entry (extra_role x) depth (descriptor_bytes (extra_descriptor x))
+-- an association belongs to the configuration, and any other extra is of this depth
+abbrev pub extra_depth : ℕ → Extra → ℕ
+extra_depth depth (extras.Raw raw) = depth
+extra_depth depth (extras.Association association) = 2
+
+-- extras that are one deeper than what they belong to; those after an association belong to the configuration too
+abbrev pub extra_entries : ℕ → List Extra → List OutlineEntry
+extra_entries depth [] = []
+extra_entries depth (x ∷ xs) =
+    entry (extra_role x) (extra_depth depth x) (descriptor_bytes (extra_descriptor x)) ∷ extra_entries (extra_depth depth x) xs
 
 -- an endpoint and its extras
 abbrev pub endpoint_entries : Endpoint → List OutlineEntry
-endpoint_entries e = entry roles.Endpoint 3 (descriptor_bytes (endpoint_descriptor e)) ∷ map (extra_entry 4) e.extras
+endpoint_entries e = entry roles.Endpoint 3 (descriptor_bytes (endpoint_descriptor e)) ∷ extra_entries 4 e.extras
 
 -- a setting, its extras, and its endpoints
 abbrev pub setting_entries : Setting → List OutlineEntry
 setting_entries s =
-    entry roles.Interface 2 (descriptor_bytes (interface_descriptor s)) ∷ map (extra_entry 3) s.extras ++ flat_map endpoint_entries s.endpoints
+    entry roles.Interface 2 (descriptor_bytes (interface_descriptor s)) ∷ extra_entries 3 s.extras ++ flat_map endpoint_entries s.endpoints
 
 -- a set of this wTotalLength, its extras, and its settings
 abbrev pub set_entries_by : Configuration → ℕ → List OutlineEntry
 set_entries_by c total =
-    entry roles.Configuration 1 (descriptor_bytes (configuration_descriptor c total)) ∷ map (extra_entry 2) c.extras ++ flat_map setting_entries c.settings
+    entry roles.Configuration 1 (descriptor_bytes (configuration_descriptor c total)) ∷ extra_entries 2 c.extras ++ flat_map setting_entries c.settings
 
 -- a set, whose wTotalLength is the count of its bytes
 abbrev pub set_entries : Configuration → List OutlineEntry

@@ -44,7 +44,8 @@ impl Standing {
             Role::Configuration => 1,
             Role::Interface => 2,
             Role::Endpoint => 3,
-            Role::Association | Role::Raw => below(self.set.owner),
+            Role::Association => 2,
+            Role::Raw => below(self.set.owner),
             _ => 0,
         }
     }

@@ -160,7 +160,13 @@ fn input_name(input: &Input) -> &'static str
 {
     match input {
         Input::Set(_) => "set",
-        Input::File(_) => "file",
+        Input::File(file) => {
+            if file.strings.is_some() {
+                "file"
+            } else {
+                "file, no strings named"
+            }
+        }
         Input::Dump(_) => "device and its sets without strings",
     }
 }

@@ -10,8 +10,8 @@ use usb_words::{Bindings, Speed};
 /// What of a device descriptor the rest of the input depends on.
 #[derive(Clone, Copy)]
 pub(crate) struct DeviceFacts {
-    /// bcdUSB.
-    pub(crate) usb: u16,
+    /// The speed of its own sets, where its descriptor leaves no choice.
+    pub(crate) speed: Option<Speed>,
     /// bMaxPacketSize0.
     pub(crate) packet: u8,
 }
@@ -23,6 +23,8 @@ pub(crate) struct Standing {
     pub(crate) at: usize,
     /// The device.
     pub(crate) device: Option<DeviceFacts>,
+    /// The device's other speed, where a qualifier comes.
+    pub(crate) other_speed: Option<Speed>,
     /// bMaxPacketSize0 of the qualifier.
     pub(crate) other_packet: Option<u8>,
     /// Whether the language list came.
@@ -93,6 +95,7 @@ impl Standing {
         Standing {
             at: 0,
             device: None,
+            other_speed: None,
             other_packet: None,
             has_languages: false,
             strings: 0,

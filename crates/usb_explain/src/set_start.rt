@@ -1,15 +1,15 @@
 //! How a set begins.
 ghost use Rattle.std.specs.Prelude.{◌≡◌, option_and_then};
-ghost use Rattle.std.specs.Option.{option_map, option_or};
-ghost use Rattle.usb_words.specs.SetSpeeds.{other_speed_at, speed_at, speed_of_release};
-ghost use Rattle.usb_explain.specs.SetStart.{known_in_part, known_speed, opened, packet_in_part, packet_of, part_of, sets_of};
+ghost use Rattle.std.specs.Option.{option_map};
+ghost use Rattle.usb_words.specs.SetSpeeds.{other_speed, speed_at};
+ghost use Rattle.usb_explain.specs.SetStart.{after_sets, background_by, has_qualifier, opened, other_ahead, other_background, part_of, sets_of};
 
 use crate::position::{DeviceFacts, Owner, SetStanding, Standing};
 use usb_base::descriptor_type;
 use usb_rules::Part;
 use usb_words::{
-    RunningSpeed, Speed, Survey, byte_at, front, other_speed_at, speed_at, speed_by,
-    speed_of_release, word_at,
+    Background, RunningSpeed, Speed, Survey, behind, byte_at, front, other_speed, speed_at,
+    speed_by, word_at,
 };
 
 impl Standing {
@@ -21,13 +21,12 @@ impl Standing {
         let total = usize::from(word_at(ahead, 2));
         let survey = Survey::of(front(ahead, total));
         let part = part_of(byte_at(ahead, 1));
-        let known = known_speed(self.device, running, part);
-        let packet = packet_of(self.device, self.other_packet, part);
+        let background = background_of(running, self.device, self.other_packet, self.other_speed);
         self.left = total;
         self.set = SetStanding {
             part,
             number: self.sets_of(part),
-            speed: speed_by(known, packet, survey.spoken),
+            speed: speed_by(background, survey.spoken),
             interfaces: survey.interfaces,
             bindings: survey.bindings,
             associations: 0,
@@ -58,45 +57,24 @@ fn part_of(kind: u8) -> Part
     }
 }
 
-/// The speed of a set of the part, as far as the running speed and bcdUSB determine it.
-fn known_speed(
-    device: Option<DeviceFacts>,
-    running: Option<RunningSpeed>,
-    part: Part,
-) -> Option<Speed>
-    ensures { result ≡ known_speed device running part }
+/// What is known of the sets after a qualifier of this bMaxPacketSize0, which are those of the other speed.
+#[tactic(auto, unfolding(crate::specs::SetStart::other_background))]
+fn other_background(running: Option<RunningSpeed>, packet: u8) -> Background
+    ensures { result ≡ other_background running packet }
 {
-    match device {
-        None => running_speed(running),
-        Some(device) => known_in_part(device, running, part),
+    Background {
+        known: other_running_speed(running),
+        packet: Some(packet),
+        other: Some(Speed::FullOrHigh),
     }
 }
 
-fn known_in_part(device: DeviceFacts, running: Option<RunningSpeed>, part: Part) -> Option<Speed>
-    ensures { result ≡ known_in_part device running part }
+fn other_running_speed(running: Option<RunningSpeed>) -> Option<Speed>
+    ensures { result ≡ option_and_then other_speed (option_map speed_at running) }
 {
-    match part {
-        Part::Other => other_speed(running),
-        _ => main_speed(running, device.usb),
-    }
-}
-
-/// bMaxPacketSize0 at the speed of the part.
-fn packet_of(device: Option<DeviceFacts>, other: Option<u8>, part: Part) -> Option<u8>
-    ensures { result ≡ packet_of device other part }
-{
-    match device {
+    match running_speed(running) {
         None => None,
-        Some(device) => packet_in_part(device, other, part),
-    }
-}
-
-fn packet_in_part(device: DeviceFacts, other: Option<u8>, part: Part) -> Option<u8>
-    ensures { result ≡ packet_in_part device other part }
-{
-    match part {
-        Part::Other => other,
-        _ => Some(device.packet),
+        Some(speed) => other_speed(speed),
     }
 }
 
@@ -109,20 +87,62 @@ fn running_speed(running: Option<RunningSpeed>) -> Option<Speed>
     }
 }
 
-fn other_speed(running: Option<RunningSpeed>) -> Option<Speed>
-    ensures { result ≡ option_and_then other_speed_at running }
+/// What is known of a set beside its descriptors, by its device, which may have a qualifier before the set.
+#[tactic(auto, unfolding(crate::specs::SetStart::background_by))]
+fn background_of(
+    running: Option<RunningSpeed>,
+    device: Option<DeviceFacts>,
+    qualifier: Option<u8>,
+    other: Option<Speed>,
+) -> Background
+    ensures { result ≡ background_by running device qualifier other }
 {
-    match running {
-        None => None,
-        Some(running) => other_speed_at(running),
+    let known = running_speed(running);
+    match (device, qualifier) {
+        (None, _) => Background {
+            known,
+            packet: None,
+            other: None,
+        },
+        (Some(device), None) => Background {
+            known: known.or(device.speed),
+            packet: Some(device.packet),
+            other,
+        },
+        (Some(_), Some(packet)) => other_background(running, packet),
     }
 }
 
-fn main_speed(running: Option<RunningSpeed>, usb: u16) -> Option<Speed>
-    ensures { result ≡ option_or (option_map speed_at running) (speed_of_release usb) }
+/// The other speed of the device with which these bytes begin, as far as its qualifier and the descriptors after that say.
+#[tactic(auto, unfolding(crate::specs::SetStart::other_ahead))]
+pub(crate) fn other_ahead(ahead: &[u8]) -> Option<Speed>
+    ensures { result ≡ other_ahead ahead.now }
 {
-    match running {
-        None => speed_of_release(usb),
-        Some(running) => Some(speed_at(running)),
+    let rest = after_sets(byte_at(ahead, 17), behind(ahead, 18));
+    if has_qualifier(rest) {
+        let survey = Survey::of(behind(rest, 10));
+        let background = other_background(None, byte_at(rest, 7));
+        Some(speed_by(background, survey.spoken))
+    } else {
+        None
     }
+}
+
+/// The bytes after so many sets.
+#[tactic(auto, unfolding(crate::specs::SetStart::after_sets))]
+fn after_sets(count: u8, b: &[u8]) -> &[u8]
+    ensures { result.now ≡ after_sets count b.now }
+{
+    let mut rest = b;
+    for _ in 0..count {
+        rest = behind(rest, usize::from(word_at(rest, 2)));
+    }
+    rest
+}
+
+#[tactic(auto, unfolding(crate::specs::SetStart::has_qualifier))]
+fn has_qualifier(b: &[u8]) -> bool
+    ensures { result ≡ has_qualifier b.now }
+{
+    b.len() >= 10 && byte_at(b, 0) == 10 && byte_at(b, 1) == descriptor_type::DEVICE_QUALIFIER
 }

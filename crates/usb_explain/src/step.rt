@@ -7,7 +7,7 @@ use crate::position::{DeviceFacts, Owner, SettingStanding, Standing};
 use usb_explained_lines::Role;
 use usb_names::ClassCodes;
 use usb_rules::Part;
-use usb_words::{byte_at, word_at};
+use usb_words::{byte_at, speed_of_device, word_at};
 
 impl Standing {
     /// Keeps how many findings are told.
@@ -45,13 +45,16 @@ impl Standing {
         match role {
             Role::Device => {
                 self.device = Some(DeviceFacts {
-                    usb: word_at(d, 2),
+                    speed: speed_of_device(word_at(d, 2), byte_at(d, 4), byte_at(d, 6)),
                     packet: byte_at(d, 7),
                 });
             }
             Role::Qualifier => self.other_packet = Some(byte_at(d, 7)),
             Role::Configuration => self.add_set(self.set.part),
-            Role::Association => self.set.associations += 1,
+            Role::Association => {
+                self.set.associations += 1;
+                self.set.owner = Owner::Configuration;
+            }
             Role::Interface => {
                 self.set.setting = Some(setting_of(self.set.settings, d));
                 self.set.settings += 1;

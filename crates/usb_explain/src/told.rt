@@ -1,12 +1,12 @@
 //! What is reported of a descriptor that breaks a rule.
 ghost use Rattle.std.specs.Prelude.{◌≡◌, ◌+◌, ◌-◌, ◌++◌, length, take, IfOk, OnOk};
 ghost use Rattle.usb_rules.specs.Places.{finding};
-ghost use Rattle.usb_explain.specs.Findings.{association_told, device_part, device_told, endpoint_told, finding_at, found_at, in_set, in_setting, interface_told, is_same_place, none_told, part_number, qualifier_told, role_findings, set_told, told_at, told_of, wrong_device_told};
+ghost use Rattle.usb_explain.specs.Findings.{address_told, association_told, attributes_told, device_packet_fault, device_part, device_told, endpoint_told, finding_at, found_at, has_lone_subclass, in_set, in_setting, interface_told, is_same_place, late_packet_fault, none_told, packet_fault, part_number, qualifier_told, role_findings, set_told, told_at, told_of, value_told, wrong_device_told};
 
 use crate::position::{SetStanding, Standing};
 use crate::subject::Subject;
 use std::alloc::AllocError;
-use usb_explained_lines::{Role, Told, put_finding};
+use usb_explained_lines::{PacketFault, Role, Told, put_finding};
 use usb_rules::{Finding, Part, Rule};
 use usb_words::{Text, byte_at, endpoint_count, front, word_at};
 
@@ -73,9 +73,9 @@ impl Standing {
             Role::Device => device_told(is_dump, d, rule),
             Role::Qualifier => qualifier_told(d, rule),
             Role::Configuration => self.set.told(d, rule),
-            Role::Association => association_told(rule),
+            Role::Association => association_told(d, rule),
             Role::Interface => interface_told(d, self.behind_in_set(d, behind), rule),
-            Role::Endpoint => endpoint_told(rule),
+            Role::Endpoint => endpoint_told(d, rule),
             _ => None,
         }
     }
@@ -135,8 +135,8 @@ impl SetStanding {
                 found: self.interfaces,
             }),
             Rule::V2 => Some(Told::NumberGap),
-            Rule::V9 => Some(Told::Attributes),
-            Rule::V10 => Some(Told::Value),
+            Rule::V9 => Some(attributes_told(byte_at(d, 7))),
+            Rule::V10 => Some(value_told(byte_at(d, 5))),
             _ => None,
         }
     }
@@ -188,7 +188,7 @@ fn device_told(is_dump: bool, d: &[u8], rule: Rule) -> Option<Told>
 {
     match rule {
         Rule::V10 => none_told(byte_at(d, 17)),
-        Rule::V11 => Some(wrong_device(is_dump, word_at(d, 2))),
+        Rule::V11 => Some(wrong_device(is_dump, d)),
         _ => None,
     }
 }
@@ -198,7 +198,11 @@ fn qualifier_told(d: &[u8], rule: Rule) -> Option<Told>
 {
     match rule {
         Rule::V10 => none_told(byte_at(d, 8)),
-        Rule::V11 => Some(Told::Qualifier),
+        Rule::V11 => Some(Told::Qualifier {
+            packet: packet_fault(byte_at(d, 7)),
+            subclass: has_lone_subclass(d),
+            reserved: byte_at(d, 9) != 0,
+        }),
         _ => None,
     }
 }
@@ -214,21 +218,96 @@ fn none_told(count: u8) -> Option<Told>
     }
 }
 
-fn wrong_device(is_dump: bool, usb: u16) -> Told
-    ensures { result ≡ wrong_device_told is_dump usb }
+fn wrong_device(is_dump: bool, d: &[u8]) -> Told
+    ensures { result ≡ wrong_device_told is_dump d.now }
 {
-    if is_dump && usb >= 0x0300 {
-        Told::DumpedDevice
-    } else {
-        Told::Device
+    Told::Device {
+        packet: device_packet_fault(is_dump, word_at(d, 2), byte_at(d, 7)),
+        subclass: has_lone_subclass(d),
     }
 }
 
-fn association_told(rule: Rule) -> Option<Told>
-    ensures { result ≡ association_told rule }
+/// What is wrong with bMaxPacketSize0 of a device. From bcdUSB 0300 on it may be one of SuperSpeed.
+fn device_packet_fault(is_dump: bool, usb: u16, packet: u8) -> Option<PacketFault>
+    ensures { result ≡ device_packet_fault is_dump usb packet }
+{
+    if usb >= 0x0300 {
+        late_packet_fault(is_dump, packet)
+    } else {
+        packet_fault(packet)
+    }
+}
+
+/// What is wrong with it at USB 2.0.
+fn packet_fault(packet: u8) -> Option<PacketFault>
+    ensures { result ≡ packet_fault packet }
+{
+    if packet == 8 || packet == 16 || packet == 32 || packet == 64 {
+        None
+    } else {
+        Some(PacketFault::NotInTable)
+    }
+}
+
+fn late_packet_fault(is_dump: bool, packet: u8) -> Option<PacketFault>
+    ensures { result ≡ late_packet_fault is_dump packet }
+{
+    if packet == 9 {
+        if is_dump {
+            None
+        } else {
+            Some(PacketFault::Nine)
+        }
+    } else if is_dump {
+        Some(PacketFault::NotNine)
+    } else {
+        packet_fault(packet)
+    }
+}
+
+fn has_lone_subclass(d: &[u8]) -> bool
+    ensures { result ≡ has_lone_subclass d.now }
+{
+    byte_at(d, 4) == 0 && byte_at(d, 5) != 0
+}
+
+fn attributes_told(attributes: u8) -> Told
+    ensures { result ≡ attributes_told attributes }
+{
+    Told::Attributes {
+        clear: attributes / 128 == 0,
+        reserved: attributes % 32 != 0,
+    }
+}
+
+fn value_told(value: u8) -> Told
+    ensures { result ≡ value_told value }
+{
+    if value == 0 {
+        Told::ZeroValue
+    } else {
+        Told::RepeatedValue
+    }
+}
+
+fn address_told(address: u8) -> Told
+    ensures { result ≡ address_told address }
+{
+    Told::Address {
+        endpoint_zero: address % 16 == 0,
+        reserved: address / 16 % 8 != 0,
+    }
+}
+
+fn association_told(d: &[u8], rule: Rule) -> Option<Told>
+    ensures { result ≡ association_told d.now rule }
 {
     match rule {
-        Rule::V13 => Some(Told::Interfaces),
+        Rule::V13 => Some(if byte_at(d, 3) == 0 {
+            Told::NoInterface
+        } else {
+            Told::MissingInterface
+        }),
         _ => None,
     }
 }
@@ -248,11 +327,11 @@ fn interface_told(d: &[u8], behind: &[u8], rule: Rule) -> Option<Told>
     }
 }
 
-fn endpoint_told(rule: Rule) -> Option<Told>
-    ensures { result ≡ endpoint_told rule }
+fn endpoint_told(d: &[u8], rule: Rule) -> Option<Told>
+    ensures { result ≡ endpoint_told d.now rule }
 {
     match rule {
-        Rule::V6 => Some(Told::Address),
+        Rule::V6 => Some(address_told(byte_at(d, 2))),
         Rule::V7 => Some(Told::RepeatedAddress),
         Rule::V8 => Some(Told::SharedAddress),
         Rule::V12 => Some(Told::PacketSize),

@@ -9,6 +9,7 @@ ghost use Rattle.usb_explain.specs.Walks.{walked};
 ghost use Rattle.usb_explain.specs.inside.Walking.{PutsWalk};
 
 use crate::position::Standing;
+use crate::set_start::other_ahead;
 use crate::subject::Subject;
 use std::alloc::AllocError;
 use std::io::Write;
@@ -60,11 +61,12 @@ impl Standing {
         }
     }
 
-    /// Opens the set that a descriptor begins.
+    /// Opens the set that a descriptor begins, and looks for the other speed of a device.
     fn enter(&mut self, role: Role, subject: &Subject, ahead: &[u8])
         ensures { self.new ≡ entered role subject.now.manner.speed ahead.now self.old }
     {
         match role {
+            Role::Device => self.other_speed = other_ahead(ahead),
             Role::Configuration => self.open_set(subject.manner().speed, ahead),
             _ => {}
         }

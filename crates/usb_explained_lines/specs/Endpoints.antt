@@ -16,5 +16,5 @@ interval_words speed attributes interval =
 unfoldable pub endpoint_words : Speed → List ℕ → List ℕ
 endpoint_words speed b =
     codes "endpoint " ++ address_value (slice_index b 3) (slice_index b 2) ++ codes ", "
-    ++ attributes_words (slice_index b 3) ++ codes ", " ++ size_words (slice_index b 3) (little_endian_at b 4)
+    ++ attributes_words (slice_index b 3) ++ codes ", " ++ size_words speed (slice_index b 3) (little_endian_at b 4)
     ++ interval_words speed (slice_index b 3) (slice_index b 6)

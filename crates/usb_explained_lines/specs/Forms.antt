@@ -3,9 +3,9 @@ use Rattle.std.specs.Prelude.{ℕ, ◌+◌, ◌-◌, ◌*◌, ◌==◌, List, []
 use Rattle.std.specs.Fmt.{decimal}
 use Rattle.hex.specs.Hex.{encode_lower}
 use Rattle.usb_names.specs.declared.field.Form.{Form}
-use Rattle.usb_names.specs.declared.field.Form.TheVariants.{Decimal, Hexadecimal, Release, ReportType, Index, Class, Subclass, Protocol, DevicePacket, Supply, Power, Address, Transfer, PacketSize, Interval}
+use Rattle.usb_names.specs.declared.field.Form.TheVariants.{Decimal, Hexadecimal, Release, ReportType, Index, Class, FunctionClass, Subclass, Protocol, DevicePacket, Supply, Power, Address, Transfer, PacketSize, Interval}
 use Rattle.usb_words.specs.declared.speed.Speed.{Speed}
-use Rattle.usb_words.specs.Names.{class_field, protocol_field, subclass_field}
+use Rattle.usb_words.specs.Names.{class_field, function_class_field, protocol_field, subclass_field}
 use Rattle.usb_words.specs.Numbers.{byte_code, word_code}
 use Rattle.usb_explained_lines.specs.Names.{StringNames, index_words}
 use Rattle.usb_explained_lines.specs.Values.{address_value, attributes_value, interval_value, packet_value, power_value, release_value, set_attributes, size_value}
@@ -30,9 +30,9 @@ release_words (low ∷ high ∷ []) = release_value (low + 256 * high)
 release_words value = encode_lower value
 
 -- wMaxPacketSize of an endpoint of these attributes
-abbrev pub packet_size_words : ℕ → List ℕ → List ℕ
-packet_size_words attributes (low ∷ high ∷ []) = size_value attributes (low + 256 * high)
-packet_size_words attributes value = encode_lower value
+abbrev pub packet_size_words : Speed → ℕ → List ℕ → List ℕ
+packet_size_words speed attributes (low ∷ high ∷ []) = size_value speed attributes (low + 256 * high)
+packet_size_words speed attributes value = encode_lower value
 
 -- the type of a class descriptor of HID (HID 1.11, 7.1)
 abbrev pub report_words : ℕ → List ℕ
@@ -50,6 +50,7 @@ form_words speed strings Release width b place = release_words (take width (drop
 form_words speed strings ReportType width b place = report_words (slice_index b place)
 form_words speed strings Index width b place = index_words strings (slice_index b place)
 form_words speed strings Class width b place = class_field (slice_index b place)
+form_words speed strings FunctionClass width b place = function_class_field (slice_index b place)
 form_words speed strings Subclass width b place = subclass_field (slice_index b (place - 1)) (slice_index b place)
 form_words speed strings Protocol width b place =
     protocol_field (slice_index b (place - 2)) (slice_index b (place - 1)) (slice_index b place)
@@ -58,5 +59,5 @@ form_words speed strings Supply width b place = set_attributes (slice_index b pl
 form_words speed strings Power width b place = power_value speed (slice_index b place)
 form_words speed strings Address width b place = address_value (slice_index b 3) (slice_index b place)
 form_words speed strings Transfer width b place = attributes_value (slice_index b place)
-form_words speed strings PacketSize width b place = packet_size_words (slice_index b 3) (take width (drop place b))
+form_words speed strings PacketSize width b place = packet_size_words speed (slice_index b 3) (take width (drop place b))
 form_words speed strings Interval width b place = interval_value speed (slice_index b 3) (slice_index b place)

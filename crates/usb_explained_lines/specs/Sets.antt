@@ -4,7 +4,7 @@ use Rattle.std.specs.Prelude.{ℕ, ◌+◌, ◌-◌, ◌==◌, List, [], ◌++�
 use Rattle.std.specs.Fmt.{decimal}
 use Rattle.usb_words.specs.declared.speed.Speed.{Speed}
 use Rattle.usb_words.specs.Numbers.{count}
-use Rattle.usb_words.specs.Names.{class_words}
+use Rattle.usb_words.specs.Names.{function_class_words}
 use Rattle.usb_words.specs.Speeds.{power_words, speed_words}
 use Rattle.usb_explained_lines.specs.Values.{source_words}
 
@@ -36,7 +36,7 @@ bound_words first n =
 -- what an association binds, and its class
 unfoldable pub function_words : List ℕ → List ℕ
 function_words b =
-    bound_words (slice_index b 2) (slice_index b 3) ++ codes ", " ++ class_words (slice_index b 4) (slice_index b 5) (slice_index b 6)
+    bound_words (slice_index b 2) (slice_index b 3) ++ codes ", " ++ function_class_words (slice_index b 4) (slice_index b 5) (slice_index b 6)
 
 -- the number of an association in its set, its interfaces and its class
 unfoldable pub association_words : ℕ → List ℕ → List ℕ
@@ -51,5 +51,5 @@ binding_words (Some number) = codes " of association " ++ decimal number
 unfoldable pub interface_words : Option ℕ → List ℕ → List ℕ
 interface_words association b =
     codes "interface " ++ decimal (slice_index b 2) ++ codes " alternate " ++ decimal (slice_index b 3) ++ binding_words association
-    ++ codes ", " ++ class_words (slice_index b 5) (slice_index b 6) (slice_index b 7) ++ codes ", "
+    ++ codes ", " ++ function_class_words (slice_index b 5) (slice_index b 6) (slice_index b 7) ++ codes ", "
     ++ count (slice_index b 4) (codes "endpoint")

@@ -6,7 +6,7 @@ use Rattle.usb_fields.specs.Qualifier.{qualifier_fields}
 use Rattle.usb_set.specs.Descriptors.{association_fields, configuration_fields, endpoint_fields, interface_fields}
 use Rattle.usb_names.specs.declared.codes.ClassCodes.{ClassCodes}
 use Rattle.usb_names.specs.declared.field.Form.{Form}
-use Rattle.usb_names.specs.declared.field.Form.TheVariants.{Decimal, Hexadecimal, Release, Index, Class, Subclass, Protocol, DevicePacket, Supply, Power, Address, Transfer, PacketSize, Interval}
+use Rattle.usb_names.specs.declared.field.Form.TheVariants.{Decimal, Hexadecimal, Release, Index, Class, FunctionClass, Subclass, Protocol, DevicePacket, Supply, Power, Address, Transfer, PacketSize, Interval}
 use Rattle.usb_names.specs.Rows.{Field, decimal, hexadecimal}
 use Rattle.usb_explained_lines.specs.Layouts.{Layout}
 
@@ -36,11 +36,11 @@ configuration_layout =
 
 -- an interface association (its ECN, 9.X.Y)
 abbrev pub association_layout : Layout
-association_layout = with_tail (fields_in association_fields (Decimal ∷ Decimal ∷ Class ∷ Subclass ∷ Protocol ∷ Index ∷ []))
+association_layout = with_tail (fields_in association_fields (Decimal ∷ Decimal ∷ FunctionClass ∷ Subclass ∷ Protocol ∷ Index ∷ []))
 
 -- an interface (9.6.5)
 abbrev pub interface_layout : Layout
-interface_layout = with_tail (fields_in interface_fields (Decimal ∷ Decimal ∷ Decimal ∷ Class ∷ Subclass ∷ Protocol ∷ Index ∷ []))
+interface_layout = with_tail (fields_in interface_fields (Decimal ∷ Decimal ∷ Decimal ∷ FunctionClass ∷ Subclass ∷ Protocol ∷ Index ∷ []))
 
 -- the fields of an endpoint (9.6.6)
 abbrev pub fields_of_endpoint : List Field

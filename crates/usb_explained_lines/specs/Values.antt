@@ -46,8 +46,8 @@ unfoldable pub attributes_value : ℕ → List ℕ
 attributes_value attributes = byte_code attributes ++ meaning (attributes_words attributes)
 
 -- wMaxPacketSize
-unfoldable pub size_value : ℕ → ℕ → List ℕ
-size_value attributes max_packet = word_code max_packet ++ meaning (size_words attributes max_packet)
+unfoldable pub size_value : Speed → ℕ → ℕ → List ℕ
+size_value speed attributes max_packet = word_code max_packet ++ meaning (size_words speed attributes max_packet)
 
 -- bInterval, which has a meaning for periodic endpoints
 unfoldable pub interval_value : Speed → ℕ → ℕ → List ℕ

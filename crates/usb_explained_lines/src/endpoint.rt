@@ -20,7 +20,7 @@ pub(crate) fn put_endpoint_words(text: &mut Text, speed: Speed, b: &[u8]) -> Res
     text.put(", ")?;
     put_attributes(text, attributes)?;
     text.put(", ")?;
-    put_size(text, attributes, word_at(b, 4))?;
+    put_size(text, speed, attributes, word_at(b, 4))?;
     put_interval_words(text, speed, attributes, byte_at(b, 6))
 }
 

@@ -30,17 +30,18 @@ pub(crate) fn put_attributes_value(text: &mut Text, attributes: u8) -> Result<()
     text.put(")")
 }
 
-/// Puts wMaxPacketSize of an endpoint of these attributes.
+/// Puts wMaxPacketSize of an endpoint of these attributes at a speed.
 #[tactic(auto, unfolding(crate::specs::Values::size_value))]
 pub(crate) fn put_size_value(
     text: &mut Text,
+    speed: Speed,
     attributes: u8,
     max_packet: u16,
 ) -> Result<(), AllocError>
-    ensures { OnOk result (text.new ≡ text.old ++ size_value attributes max_packet) }
+    ensures { OnOk result (text.new ≡ text.old ++ size_value speed attributes max_packet) }
 {
     begin_word_meaning(text, max_packet)?;
-    put_size(text, attributes, max_packet)?;
+    put_size(text, speed, attributes, max_packet)?;
     text.put(")")
 }
 

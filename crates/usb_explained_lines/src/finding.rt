@@ -2,9 +2,9 @@
 ghost use Rattle.std.specs.Prelude.{◌≡◌, ◌++◌, codes, OnOk};
 ghost use Rattle.std.specs.Fmt.{decimal};
 ghost use Rattle.usb_words.specs.Numbers.{count};
-ghost use Rattle.usb_explained_lines.specs.Findings.{counts_words, finding_line, told_words};
+ghost use Rattle.usb_explained_lines.specs.Findings.{caused, causes_words, counts_words, device_words, finding_line, has_more, packet_words, qualifier_words, reserved_words, told_words};
 
-use crate::told::Told;
+use crate::told::{PacketFault, Told};
 use std::alloc::AllocError;
 use usb_words::{Text, put_count};
 
@@ -51,28 +51,118 @@ fn put_told(text: &mut Text, told: Told) -> Result<(), AllocError>
                 "endpoint",
             )
         }
-        Told::Address => {
-            text.put("the address names endpoint 0, or bits 6 to 4 of it aren't zero")
+        Told::Address {
+            endpoint_zero,
+            reserved,
+        } => {
+            let one = "the address names endpoint 0";
+            let other = "bits 6 to 4 of the address aren't zero";
+            put_causes(text, endpoint_zero, one, reserved, other)
         }
         Told::RepeatedAddress => text.put("this setting has this address already"),
         Told::SharedAddress => text.put("another interface of the set has this address"),
-        Told::Attributes => {
-            text.put("bit 7 of bmAttributes isn't one, or bits 4 to 0 aren't zero")
+        Told::Attributes { clear, reserved } => {
+            let one = "bit 7 of bmAttributes isn't one";
+            let other = "bits 4 to 0 of bmAttributes aren't zero";
+            put_causes(text, clear, one, reserved, other)
         }
-        Told::Value => text.put("bConfigurationValue is 0, or an earlier set has it"),
+        Told::ZeroValue => text.put("bConfigurationValue is 0"),
+        Told::RepeatedValue => text.put("an earlier set has this bConfigurationValue"),
         Told::NoConfiguration => text.put("there is no configuration"),
-        Told::Device => text.put(
-            "bMaxPacketSize0 isn't 8, 16, 32 or 64, or there is a subclass without a class",
-        ),
-        Told::DumpedDevice => {
-            text.put("bMaxPacketSize0 isn't 9, or there is a subclass without a class")
-        }
-        Told::Qualifier => text.put(
-            "bMaxPacketSize0 isn't 8, 16, 32 or 64, or there is a subclass without a class, or bReserved isn't 0",
-        ),
+        Told::Device { packet, subclass } => put_device_causes(text, packet, subclass),
+        Told::Qualifier {
+            packet,
+            subclass,
+            reserved,
+        } => put_qualifier_causes(text, packet, subclass, reserved),
         Told::PacketSize => text.put("bits 15 to 13 of wMaxPacketSize aren't zero"),
-        Told::Interfaces => text.put("it binds no interface, or one that the set hasn't"),
+        Told::NoInterface => text.put("it binds no interface"),
+        Told::MissingInterface => text.put("it binds an interface that the set hasn't"),
     }
+}
+
+/// Puts what is wrong with a qualifier: that of a device, and bReserved.
+#[tactic(auto, unfolding(crate::specs::Findings::qualifier_words))]
+fn put_qualifier_causes(
+    text: &mut Text,
+    packet: Option<PacketFault>,
+    subclass: bool,
+    reserved: bool,
+) -> Result<(), AllocError>
+    ensures { OnOk result (text.new ≡ text.old ++ qualifier_words packet subclass reserved) }
+{
+    put_device_causes(text, packet, subclass)?;
+    put_reserved(text, has_more(packet, subclass, reserved), reserved)
+}
+
+/// Puts bReserved, after more causes or alone.
+#[tactic(auto, unfolding(crate::specs::Findings::reserved_words))]
+fn put_reserved(text: &mut Text, more: bool, reserved: bool) -> Result<(), AllocError>
+    ensures { OnOk result (text.new ≡ text.old ++ reserved_words more reserved) }
+{
+    put_caused(text, more, ", and ")?;
+    put_caused(text, reserved, "bReserved isn't 0")
+}
+
+#[tactic(auto, unfolding(crate::specs::Findings::has_more))]
+fn has_more(packet: Option<PacketFault>, subclass: bool, other: bool) -> bool
+    ensures { result ≡ has_more packet subclass other }
+{
+    match packet {
+        None => subclass && other,
+        Some(_) => other,
+    }
+}
+
+/// Puts what is wrong with a device: its bMaxPacketSize0, and that there is a subclass without a class.
+#[tactic(auto, unfolding(crate::specs::Findings::device_words))]
+fn put_device_causes(
+    text: &mut Text,
+    packet: Option<PacketFault>,
+    subclass: bool,
+) -> Result<(), AllocError>
+    ensures { OnOk result (text.new ≡ text.old ++ device_words packet subclass) }
+{
+    let other = "there is a subclass without a class";
+    match packet {
+        None => put_caused(text, subclass, other),
+        Some(packet) => put_causes(text, true, packet_words(packet), subclass, other),
+    }
+}
+
+fn packet_words(packet: PacketFault) -> &'static str
+    ensures { result.now ≡ packet_words packet }
+{
+    match packet {
+        PacketFault::NotInTable => "bMaxPacketSize0 isn't 8, 16, 32 or 64",
+        PacketFault::NotNine => "bMaxPacketSize0 isn't 9",
+        PacketFault::Nine => {
+            "bMaxPacketSize0 is 9, as SuperSpeed has it; USB 2.0 has 8, 16, 32 or 64"
+        }
+    }
+}
+
+/// Puts the causes that hold, of two.
+#[tactic(auto, unfolding(crate::specs::Findings::causes_words))]
+fn put_causes(
+    text: &mut Text,
+    has_one: bool,
+    one: &str,
+    has_other: bool,
+    other: &str,
+) -> Result<(), AllocError>
+    ensures { OnOk result (text.new ≡ text.old ++ causes_words has_one one.now has_other other.now) }
+{
+    put_caused(text, has_one, one)?;
+    put_caused(text, has_one && has_other, ", and ")?;
+    put_caused(text, has_other, other)
+}
+
+/// Puts words where a cause holds.
+fn put_caused(text: &mut Text, holds: bool, words: &str) -> Result<(), AllocError>
+    ensures { OnOk result (text.new ≡ text.old ++ caused holds words.now) }
+{
+    if holds { text.put(words) } else { Ok(()) }
 }
 
 /// Puts a count that a descriptor says, and what there is.

@@ -11,8 +11,8 @@ use crate::value::{put_packet_value, put_power_value, put_release_value, put_set
 use std::alloc::AllocError;
 use usb_names::{ClassField, Form};
 use usb_words::{
-    Text, behind, byte_at, front, put_byte_code, put_class, put_protocol, put_subclass,
-    put_word_code,
+    Speed, Text, behind, byte_at, front, put_byte_code, put_class, put_function_class,
+    put_protocol, put_subclass, put_word_code,
 };
 
 /// The place of bmAttributes in an endpoint descriptor (USB 2.0, 9.6.6).
@@ -39,6 +39,7 @@ pub(crate) fn put_form(
         Form::ReportType => put_report_words(text, byte),
         Form::Index => put_index(text, shown.names, byte),
         Form::Class => put_class(text, byte),
+        Form::FunctionClass => put_function_class(text, byte),
         Form::Subclass => put_subclass(text, byte_before(b, place, 1), byte),
         Form::Protocol => {
             put_protocol(
@@ -55,7 +56,7 @@ pub(crate) fn put_form(
         Form::Transfer => put_attributes_value(text, byte),
         Form::PacketSize => {
             let bytes = bytes_at(b, place, field.width);
-            put_packet_size(text, byte_at(b, ATTRIBUTES), bytes)
+            put_packet_size(text, speed, byte_at(b, ATTRIBUTES), bytes)
         }
         Form::Interval => put_interval_value(text, speed, byte_at(b, ATTRIBUTES), byte),
     }
@@ -115,11 +116,16 @@ fn put_release_words(text: &mut Text, value: &[u8]) -> Result<(), AllocError>
 }
 
 #[inline(never)]
-fn put_packet_size(text: &mut Text, attributes: u8, value: &[u8]) -> Result<(), AllocError>
-    ensures { OnOk result (text.new ≡ text.old ++ packet_size_words attributes value.now) }
+fn put_packet_size(
+    text: &mut Text,
+    speed: Speed,
+    attributes: u8,
+    value: &[u8],
+) -> Result<(), AllocError>
+    ensures { OnOk result (text.new ≡ text.old ++ packet_size_words speed attributes value.now) }
 {
     match value {
-        [low, high] => put_size_value(text, attributes, u16::from_le_bytes([*low, *high])),
+        [low, high] => put_size_value(text, speed, attributes, u16::from_le_bytes([*low, *high])),
         _ => text.put_digits(value),
     }
 }

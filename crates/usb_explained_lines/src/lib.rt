@@ -39,4 +39,4 @@ pub use look::Look;
 pub use names::{Missing, Names};
 pub use rest::put_rest;
 pub use role::Role;
-pub use told::Told;
+pub use told::{PacketFault, Told};

@@ -5,7 +5,7 @@ ghost use Rattle.usb_explained_lines.specs.Sets.{association_words, binding_word
 
 use crate::value::source_words;
 use std::alloc::AllocError;
-use usb_words::{Speed, Text, byte_at, put_class_words, put_count, put_power, put_speed};
+use usb_words::{Speed, Text, byte_at, put_count, put_function_class_words, put_power, put_speed};
 
 /// Puts the words of the heading of a set's first descriptor (USB 2.0, 9.6.3 and 9.6.4).
 #[inline(never)]
@@ -69,7 +69,7 @@ fn put_function(text: &mut Text, b: &[u8]) -> Result<(), AllocError>
 {
     put_bound(text, byte_at(b, 2), byte_at(b, 3))?;
     text.put(", ")?;
-    put_class_words(text, byte_at(b, 4), byte_at(b, 5), byte_at(b, 6))
+    put_function_class_words(text, byte_at(b, 4), byte_at(b, 5), byte_at(b, 6))
 }
 
 /// Puts which interfaces it binds. Their numbers don't wrap: the last may be one that no interface can have.
@@ -114,7 +114,7 @@ pub(crate) fn put_interface_words(
     put_setting(text, byte_at(b, 2), byte_at(b, 3))?;
     put_binding(text, association)?;
     text.put(", ")?;
-    put_class_words(text, byte_at(b, 5), byte_at(b, 6), byte_at(b, 7))?;
+    put_function_class_words(text, byte_at(b, 5), byte_at(b, 6), byte_at(b, 7))?;
     text.put(", ")?;
     put_count(text, u64::from(byte_at(b, 4)), "endpoint")
 }

@@ -45,14 +45,14 @@ pub(crate) fn configuration_layout() -> &'static DescriptorLayout
 pub(crate) fn association_layout() -> &'static DescriptorLayout
     ensures { layout_of result.now ≡ association_layout }
 {
-    layout!["bFirstInterface" Decimal 1, "bInterfaceCount" Decimal 1, "bFunctionClass" Class 1, "bFunctionSubClass" Subclass 1, "bFunctionProtocol" Protocol 1, "iFunction" Index 1]
+    layout!["bFirstInterface" Decimal 1, "bInterfaceCount" Decimal 1, "bFunctionClass" FunctionClass 1, "bFunctionSubClass" Subclass 1, "bFunctionProtocol" Protocol 1, "iFunction" Index 1]
 }
 
 /// An interface (USB 2.0, 9.6.5).
 pub(crate) fn interface_layout() -> &'static DescriptorLayout
     ensures { layout_of result.now ≡ interface_layout }
 {
-    layout!["bInterfaceNumber" Decimal 1, "bAlternateSetting" Decimal 1, "bNumEndpoints" Decimal 1, "bInterfaceClass" Class 1, "bInterfaceSubClass" Subclass 1, "bInterfaceProtocol" Protocol 1, "iInterface" Index 1]
+    layout!["bInterfaceNumber" Decimal 1, "bAlternateSetting" Decimal 1, "bNumEndpoints" Decimal 1, "bInterfaceClass" FunctionClass 1, "bInterfaceSubClass" Subclass 1, "bInterfaceProtocol" Protocol 1, "iInterface" Index 1]
 }
 
 /// An endpoint of so many bytes (9.6.6), after an interface of these codes. Two bytes after the fields of an audio endpoint have names.

@@ -13,8 +13,10 @@ pub enum Form {
     ReportType,
     /// As the index of a string (USB 2.0, 9.6.7).
     Index,
-    /// As a class code.
+    /// As the class code of a device.
     Class,
+    /// As that of an interface or a function.
+    FunctionClass,
     /// As a subclass of the class that stands before it.
     Subclass,
     /// As a protocol of the class and the subclass that stand before it.

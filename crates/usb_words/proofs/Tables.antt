@@ -5,12 +5,13 @@ use Rattle.std.specs.List.{list_any, range_with_len}
 use Rattle.std.specs.Option.{option_or}
 use Rattle.std.proofs.lemmas.List.{ext_get_or}
 use Rattle.std.proofs.lemmas.List.FromFn.{get_or-map-range_with_len, length-map-range_with_len}
-use Rattle.usb_words.specs.declared.speed.Speed.{Speed}
+use Rattle.usb_words.specs.declared.speed_evidence.Evidence.{Evidence}
 use Rattle.usb_words.specs.declared.survey_builder.Gathering.{Gathering}
 use Rattle.usb_words.specs.declared.survey.Survey.{Survey}
 use Rattle.usb_words.specs.Bindings.{binding, bindings, bound_at}
-use Rattle.usb_words.specs.SpeedEvidence.{speaks_high, speaks_low_or_full}
-use Rattle.usb_words.specs.Surveys.{spoken_speed, survey_of}
+use Rattle.usb_words.specs.SpeedEvidence.{evidence_of, excludes_low, hints_slow, is_companion, speaks_full, speaks_high}
+use Rattle.usb_words.specs.Surveys.{survey_of}
+use Rattle.usb_words.specs.inside.Heard.{Hears}
 use Rattle.usb_words.specs.inside.Gathered.{Gathers}
 
 -- the first of two, of which there is one alone
@@ -26,14 +27,22 @@ whole_table all t len same =
     ext_get_or None t (map (λ n. binding n 0 all) (range_with_len 0 256)) (len ∙ sym (length-map-range_with_len (λ n. binding n 0 all) 0 256))
     (λ i within. sym (same i (omega (arith, len))) ∙ sym (get_or-map-range_with_len (λ n. binding n 0 all) 0 256 i i None (omega (arith, len)) (zero-add i)))
 
+-- what was heard of all descriptors is what they say
+heard_all : (all : List (List ℕ)) (e : Evidence) → Hears all e [] → e ≡ evidence_of all
+heard_all all e hears =
+    let companion : list_any is_companion all ≡ e.companion = hears.companion ∙ or-false e.companion in
+    let high : list_any speaks_high all ≡ e.high = hears.high ∙ or-false e.high in
+    let full : list_any speaks_full all ≡ e.full = hears.full ∙ or-false e.full in
+    let above_low : list_any excludes_low all ≡ e.above_low = hears.above_low ∙ or-false e.above_low in
+    let slow : list_any hints_slow all ≡ e.slow = hears.slow ∙ or-false e.slow in
+    rw (companion, high, full, above_low, slow) refl
+
 -- what was gathered of all descriptors is their survey
-pub gathered_all : (all : List (List ℕ)) (g : Gathering) (spoken : Speed) → spoken ≡ spoken_speed g.high g.low_or_full → Gathers all g []
-    → ◌≡◌ {A = Survey} record { spoken = spoken; interfaces = g.interfaces.count; bindings = g.associations.bindings } (survey_of all)
+pub gathered_all : (all : List (List ℕ)) (g : Gathering) → Gathers all g []
+    → ◌≡◌ {A = Survey} record { spoken = g.evidence; interfaces = g.interfaces.count; bindings = g.associations.bindings } (survey_of all)
 unfolding survey_of
-gathered_all all g spoken e gathers =
-    let high : list_any speaks_high all ≡ g.high = gathers.high ∙ or-false g.high in
-    let low : list_any speaks_low_or_full all ≡ g.low_or_full = gathers.low_or_full ∙ or-false g.low_or_full in
+gathered_all all g gathers =
+    let evidence : g.evidence ≡ evidence_of all = heard_all all g.evidence gathers.evidence in
     let count : g.interfaces.count ≡ _ = sym (zero-add g.interfaces.count) ∙ sym gathers.interfaces in
     let table : g.associations.bindings ≡ bindings all = whole_table all g.associations.bindings gathers.cells (λ n within. gathers.bindings n within ∙ or_none (bound_at g.associations.bindings n)) in
-    let words : spoken ≡ spoken_speed (list_any speaks_high all) (list_any speaks_low_or_full all) = rw (high, low, e) refl in
     cc

@@ -1,5 +1,5 @@
 -- What an endpoint descriptor says, in words (USB 2.0, 9.6.6).
-use Rattle.std.specs.Prelude.{ℕ, List, [], ◌++◌, ◌/◌, ◌%◌, ◌==◌, Option, Some, None, codes, if◌then◌else◌}
+use Rattle.std.specs.Prelude.{ℕ, List, [], ◌++◌, ◌/◌, ◌%◌, ◌==◌, Bool, true, false, Option, Some, None, codes, if◌then◌else◌}
 use Rattle.std.specs.Fmt.{decimal}
 use Rattle.usb_base.specs.Directions.{direction_of}
 use Rattle.usb_set.specs.Endpoints.{number_of, packet_size_of, transactions_of, transfer_type_of}
@@ -7,6 +7,8 @@ use Rattle.usb_base.specs.declared.direction.Direction.{Direction}
 use Rattle.usb_base.specs.declared.direction.Direction.TheVariants.{Out, In}
 use Rattle.usb_set.specs.declared.endpoint.TransferType.{TransferType}
 use Rattle.usb_set.specs.declared.endpoint.TransferType.TheVariants.{Control, Isochronous, Bulk, Interrupt}
+use Rattle.usb_words.specs.declared.speed.Speed.{Speed}
+use Rattle.usb_words.specs.declared.speed.Speed.TheVariants.{High}
 use Rattle.usb_words.specs.Numbers.{count}
 
 -- which way the data goes
@@ -59,12 +61,14 @@ packets_words (Some packets) size =
     if packets == 1 then count size (codes "byte")
     else decimal packets ++ codes " x " ++ count size (codes "byte") ++ codes " a microframe"
 
--- wMaxPacketSize: bits 10..0 in bytes, with bits 12..11 for the types that have them
-abbrev pub packet_words : TransferType → ℕ → List ℕ
-packet_words Control max_packet = count (packet_size_of max_packet) (codes "byte")
-packet_words Bulk max_packet = count (packet_size_of max_packet) (codes "byte")
-packet_words _ max_packet = packets_words (transactions_of max_packet) (packet_size_of max_packet)
+-- bits 12..11 of wMaxPacketSize count packets of periodic endpoints at high speed, and are reserved elsewhere
+abbrev pub has_packets : Speed → TransferType → Bool
+has_packets High Isochronous = true
+has_packets High Interrupt = true
+has_packets _ _ = false
 
--- wMaxPacketSize of an endpoint of these attributes
-unfoldable pub size_words : ℕ → ℕ → List ℕ
-size_words attributes max_packet = packet_words (transfer_type_of attributes) max_packet
+-- wMaxPacketSize of an endpoint of these attributes: bits 10..0 in bytes, with bits 12..11 where they count packets
+unfoldable pub size_words : Speed → ℕ → ℕ → List ℕ
+size_words speed attributes max_packet =
+    if has_packets speed (transfer_type_of attributes) then packets_words (transactions_of max_packet) (packet_size_of max_packet)
+    else count (packet_size_of max_packet) (codes "byte")

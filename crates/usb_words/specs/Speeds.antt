@@ -4,10 +4,12 @@ use Rattle.std.specs.Fmt.{decimal}
 use Rattle.usb_set.specs.declared.endpoint.TransferType.{TransferType}
 use Rattle.usb_set.specs.declared.endpoint.TransferType.TheVariants.{Isochronous, Interrupt}
 use Rattle.usb_words.specs.declared.speed.Speed.{Speed}
-use Rattle.usb_words.specs.declared.speed.Speed.TheVariants.{LowOrFull, High, FullOrHigh, Super}
+use Rattle.usb_words.specs.declared.speed.Speed.TheVariants.{Low, Full, LowOrFull, High, FullOrHigh, Super}
 
 -- a speed in words
 abbrev pub speed_words : Speed → List ℕ
+speed_words Low = codes "low speed"
+speed_words Full = codes "full speed"
 speed_words LowOrFull = codes "low or full speed"
 speed_words High = codes "high speed"
 speed_words FullOrHigh = codes "full or high speed"
@@ -58,9 +60,10 @@ high_interval n = period_words microframes (period n)
 
 -- what is known of a speed decides which of the two is meant, or both
 abbrev pub by_speed : Speed → List ℕ → List ℕ → List ℕ
-by_speed LowOrFull full high = full
 by_speed FullOrHigh full high = full ++ codes "; at high speed " ++ high
-by_speed _ full high = high
+by_speed High full high = high
+by_speed Super full high = high
+by_speed _ full high = full
 
 -- bInterval of a periodic endpoint at a speed
 unfoldable pub interval_at : Speed → TransferType → ℕ → List ℕ

@@ -2,10 +2,11 @@
 ghost use Rattle.std.specs.Prelude.{◌≡◌, ◌++◌, codes, OnOk};
 ghost use Rattle.usb_base.specs.Directions.{direction_of};
 ghost use Rattle.usb_set.specs.Endpoints.{transfer_type_of, transactions_of};
-ghost use Rattle.usb_words.specs.Endpoints.{attributes_words, direction_words, end_words, packets_words, size_words, synchronization_words, transfer_words, usage_words, way_words};
+ghost use Rattle.usb_words.specs.Endpoints.{attributes_words, direction_words, end_words, has_packets, packets_words, size_words, synchronization_words, transfer_words, usage_words, way_words};
 ghost use Rattle.usb_words.specs.Numbers.{count};
 
 use crate::numbers::put_count;
+use crate::speed::Speed;
 use crate::text::Text;
 use std::alloc::AllocError;
 use usb_set::TransferType;
@@ -89,22 +90,37 @@ fn usage(attributes: u8) -> &'static str
     }
 }
 
-/// Puts what wMaxPacketSize says of an endpoint of these attributes: `64 bytes`, or `2 x 1024 bytes a microframe`.
+/// Puts what wMaxPacketSize says of an endpoint of these attributes at a speed: `64 bytes`, or `2 x 1024 bytes a
+/// microframe`.
 ///
 /// ```rust
-/// put_size(&mut text, 1, 0x1400)?;
+/// put_size(&mut text, Speed::High, 1, 0x1400)?;
 /// assert_eq!(rt; text.as_bytes(), b"3 x 1024 bytes a microframe");
 /// ```
 #[tactic(auto, unfolding(crate::specs::Endpoints::size_words))]
-pub fn put_size(text: &mut Text, attributes: u8, max_packet: u16) -> Result<(), AllocError>
-    ensures { OnOk result (text.new ≡ text.old ++ size_words attributes max_packet) }
+pub fn put_size(
+    text: &mut Text,
+    speed: Speed,
+    attributes: u8,
+    max_packet: u16,
+) -> Result<(), AllocError>
+    ensures { OnOk result (text.new ≡ text.old ++ size_words speed attributes max_packet) }
 {
     let size = u64::from(max_packet % 2048);
-    match transfer_type(attributes) {
-        TransferType::Control | TransferType::Bulk => put_count(text, size, "byte"),
-        TransferType::Isochronous | TransferType::Interrupt => {
-            put_packets(text, transactions(max_packet), size)
-        }
+    if has_packets(speed, transfer_type(attributes)) {
+        put_packets(text, transactions(max_packet), size)
+    } else {
+        put_count(text, size, "byte")
+    }
+}
+
+/// Whether bits 12..11 of wMaxPacketSize count packets.
+fn has_packets(speed: Speed, transfer: TransferType) -> bool
+    ensures { result ≡ has_packets speed transfer }
+{
+    match (speed, transfer) {
+        (Speed::High, TransferType::Isochronous | TransferType::Interrupt) => true,
+        _ => false,
     }
 }
 

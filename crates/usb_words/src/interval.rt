@@ -35,7 +35,9 @@ pub fn put_interval(
     ensures { OnOk result (text.new ≡ text.old ++ interval_at speed (transfer_type_of attributes) interval) }
 {
     match speed {
-        Speed::LowOrFull => put_full(text, transfer_type(attributes), interval),
+        Speed::Low | Speed::Full | Speed::LowOrFull => {
+            put_full(text, transfer_type(attributes), interval)
+        }
         Speed::FullOrHigh => {
             put_full(text, transfer_type(attributes), interval)?;
             text.put("; at high speed ")?;

@@ -6,9 +6,9 @@
 //! and power `specs/Speeds.antt`.
 //!
 //! A set is cut into descriptors by their first bytes (`specs/Cut.antt`), so that bytes which are no whole set are surveyed
-//! as far as they go. [`Survey::of`] has the speed for which the endpoints speak, the count of interfaces, and the
+//! as far as they go. [`Survey::of`] has what they say of its speed, the count of interfaces, and the
 //! association that binds each (`specs/Surveys.antt`); [`endpoint_count`] counts the endpoints of a setting. The rules for
-//! the speed of a set are [`speed_at`], [`other_speed_at`], [`speed_of_release`] and [`speed_by`] (`specs/SetSpeeds.antt`).
+//! the speed of a set are [`speed_at`], [`speed_of_device`] and [`speed_by`] (`specs/SetSpeeds.antt`).
 #![tactic(auto)]
 
 mod bindings;
@@ -31,11 +31,15 @@ pub use counts::endpoint_count;
 pub use cut::{behind, byte_at, descriptor_length, front, word_at};
 pub use endpoint::{put_attributes, put_end, put_size};
 pub use interval::{is_periodic, put_interval};
-pub use names::{put_class, put_class_words, put_protocol, put_subclass};
+pub use names::{
+    put_class, put_class_words, put_function_class, put_function_class_words, put_protocol,
+    put_subclass,
+};
 pub use numbers::{
     begin_byte_meaning, begin_word_meaning, put_byte_code, put_count, put_release, put_word_code,
 };
-pub use set_speed::{RunningSpeed, other_speed_at, speed_at, speed_by, speed_of_release};
+pub use set_speed::{Background, RunningSpeed, other_speed, speed_at, speed_by, speed_of_device};
 pub use speed::{Speed, put_power, put_speed};
+pub use speed_evidence::Evidence;
 pub use survey::Survey;
 pub use text::Text;

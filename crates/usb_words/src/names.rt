@@ -1,7 +1,7 @@
 //! Class codes in words.
 ghost use Rattle.std.specs.Prelude.{◌≡◌, ◌++◌, option_map, OnOk};
 ghost use Rattle.usb_words.specs.Numbers.{byte_code};
-ghost use Rattle.usb_words.specs.Names.{class_field, class_or_code, class_words, further, named, protocol_field, subclass_field};
+ghost use Rattle.usb_words.specs.Names.{class_field, class_or_code, class_words, function_class_field, function_class_words, further, named, protocol_field, subclass_field};
 
 use crate::numbers::{begin_byte_meaning, put_byte_code};
 use crate::text::Text;
@@ -27,6 +27,23 @@ pub fn put_class_words(
     put_class_name(text, class, class_name(class))?;
     put_further(text, subclass_name(class, subclass))?;
     put_further(text, protocol_name(class, subclass, protocol))
+}
+
+/// Puts the same of an interface or a function: class 0 is `reserved class`.
+#[tactic(auto, unfolding(crate::specs::Names::function_class_words))]
+pub fn put_function_class_words(
+    text: &mut Text,
+    class: u8,
+    subclass: u8,
+    protocol: u8,
+) -> Result<(), AllocError>
+    ensures { OnOk result (text.new ≡ text.old ++ function_class_words class subclass protocol) }
+{
+    if class == 0 {
+        text.put("reserved class")
+    } else {
+        put_class_words(text, class, subclass, protocol)
+    }
 }
 
 fn put_class_name(text: &mut Text, class: u8, name: Option<&'static str>) -> Result<(), AllocError>
@@ -60,6 +77,20 @@ pub fn put_class(text: &mut Text, class: u8) -> Result<(), AllocError>
     ensures { OnOk result (text.new ≡ text.old ++ class_field class) }
 {
     put_code(text, class, class_name(class))
+}
+
+/// Puts the class code of an interface or a function: `0x00 (reserved class)`.
+#[inline(never)]
+#[tactic(auto, unfolding(crate::specs::Names::function_class_field))]
+pub fn put_function_class(text: &mut Text, class: u8) -> Result<(), AllocError>
+    ensures { OnOk result (text.new ≡ text.old ++ function_class_field class) }
+{
+    if class == 0 {
+        put_byte_code(text, class)?;
+        text.put(" (reserved class)")
+    } else {
+        put_class(text, class)
+    }
 }
 
 /// Puts a subclass code, with the name that it has in its class: `0x01 (boot interface)`.

@@ -1,8 +1,9 @@
 //! The speed of a set.
-ghost use Rattle.std.specs.Prelude.{◌≡◌};
-ghost use Rattle.usb_words.specs.SetSpeeds.{other_speed_at, speed_at, speed_by, speed_by_packet, speed_of_release};
+ghost use Rattle.std.specs.Prelude.{◌≡◌, option_and_then};
+ghost use Rattle.usb_words.specs.SetSpeeds.{decided_speed, hinted_speed, is_above_low, is_high_hub, is_packet_above_low, other_speed, proved_speed, speed_at, speed_by, speed_of_device, speed_of_packet, without_low};
 
 use crate::speed::Speed;
+use crate::speed_evidence::Evidence;
 
 /// The speed at which a device runs (USB 2.0, 5.3.1.1; USB 3.2, 3.1).
 #[derive(Clone, Copy, Debug, PartialEq, Eq, Hash)]
@@ -17,64 +18,157 @@ pub enum RunningSpeed {
     Super,
 }
 
+/// What is known of the speed of a set beside its descriptors.
+#[derive(Clone, Copy, Debug, PartialEq, Eq, Hash)]
+pub struct Background {
+    /// The speed, where it is known.
+    pub known: Option<Speed>,
+    /// bMaxPacketSize0 at this speed.
+    pub packet: Option<u8>,
+    /// The other speed of the device, as far as it is known, where it has one.
+    pub other: Option<Speed>,
+}
+
 /// The speed of the sets of a device that runs at this speed.
 pub fn speed_at(running: RunningSpeed) -> Speed
     ensures { result ≡ speed_at running }
 {
     match running {
-        RunningSpeed::Low => Speed::LowOrFull,
-        RunningSpeed::Full => Speed::LowOrFull,
+        RunningSpeed::Low => Speed::Low,
+        RunningSpeed::Full => Speed::Full,
         RunningSpeed::High => Speed::High,
         RunningSpeed::Super => Speed::Super,
     }
 }
 
-/// The speed of its other-speed sets, if it has any: a device of full and high speed runs at one of the two.
-pub fn other_speed_at(running: RunningSpeed) -> Option<Speed>
-    ensures { result ≡ other_speed_at running }
+/// The other speed of a device of full and high speed, which runs at one of the two.
+pub fn other_speed(speed: Speed) -> Option<Speed>
+    ensures { result ≡ other_speed speed }
 {
-    match running {
-        RunningSpeed::Full => Some(Speed::High),
-        RunningSpeed::High => Some(Speed::LowOrFull),
+    match speed {
+        Speed::Full => Some(Speed::High),
+        Speed::High => Some(Speed::Full),
         _ => None,
     }
 }
 
-/// The speed of a device's own sets by its bcdUSB, where that leaves no choice (9.6.1; USB 3.2, 9.6.1).
-pub fn speed_of_release(usb: u16) -> Option<Speed>
-    ensures { result ≡ speed_of_release usb }
+/// The speed of a device's own sets by bcdUSB, bDeviceClass and bDeviceProtocol, where these leave no choice (9.6.1, 11.23.1;
+/// USB 3.2, 9.6.1).
+pub fn speed_of_device(usb: u16, class: u8, protocol: u8) -> Option<Speed>
+    ensures { result ≡ speed_of_device usb class protocol }
 {
     if usb >= 0x0300 {
         Some(Speed::Super)
     } else if usb < 0x0200 {
         Some(Speed::LowOrFull)
+    } else if is_high_hub(class, protocol) {
+        Some(Speed::High)
     } else {
         None
     }
 }
 
-/// The speed of a set: the one that is known, else low or full speed where bMaxPacketSize0 is not 64 (5.5.3), else the one
-/// for which its endpoints speak.
-pub fn speed_by(known: Option<Speed>, packet: Option<u8>, spoken: Speed) -> Speed
-    ensures { result ≡ speed_by known packet spoken }
+/// A hub with transaction translators, by its class and protocol.
+fn is_high_hub(class: u8, protocol: u8) -> bool
+    ensures { result ≡ is_high_hub class protocol }
 {
-    match known {
-        None => speed_by_packet(packet, spoken),
+    class == 9 && (protocol == 1 || protocol == 2)
+}
+
+/// The speed of a set. The first of these decides: the speed that is known; bMaxPacketSize0, which is 64 at high speed; what
+/// its descriptors prove; the device's other speed; an interval. Low or full speed is full speed where low speed is
+/// excluded (5.5.3).
+pub fn speed_by(background: Background, evidence: Evidence) -> Speed
+    ensures { result ≡ speed_by background evidence }
+{
+    without_low(
+        is_above_low(background, evidence),
+        decided_speed(background, evidence),
+    )
+}
+
+fn decided_speed(background: Background, evidence: Evidence) -> Speed
+    ensures { result ≡ decided_speed background evidence }
+{
+    let known = background.known.or(speed_of_packet(background.packet));
+    let decided = known
+        .or(proved_speed(evidence))
+        .or(speed_beside(background.other));
+    match decided {
+        None => hinted_speed(evidence),
         Some(speed) => speed,
     }
 }
 
-fn speed_by_packet(packet: Option<u8>, spoken: Speed) -> Speed
-    ensures { result ≡ speed_by_packet packet spoken }
+/// The speed of a device whose other speed is known.
+fn speed_beside(other: Option<Speed>) -> Option<Speed>
+    ensures { result ≡ option_and_then other_speed other }
+{
+    match other {
+        None => None,
+        Some(speed) => other_speed(speed),
+    }
+}
+
+fn is_above_low(background: Background, evidence: Evidence) -> bool
+    ensures { result ≡ is_above_low background evidence }
+{
+    background.other.is_some() || is_packet_above_low(background.packet) || evidence.above_low
+}
+
+fn is_packet_above_low(packet: Option<u8>) -> bool
+    ensures { result ≡ is_packet_above_low packet }
 {
     match packet {
-        None => spoken,
+        None => false,
+        Some(packet) => packet > 8,
+    }
+}
+
+fn without_low(is_excluded: bool, speed: Speed) -> Speed
+    ensures { result ≡ without_low is_excluded speed }
+{
+    match (is_excluded, speed) {
+        (true, Speed::LowOrFull) => Speed::Full,
+        _ => speed,
+    }
+}
+
+fn speed_of_packet(packet: Option<u8>) -> Option<Speed>
+    ensures { result ≡ speed_of_packet packet }
+{
+    match packet {
+        None => None,
         Some(packet) => {
             if packet == 64 {
-                spoken
+                None
             } else {
-                Speed::LowOrFull
+                Some(Speed::LowOrFull)
             }
         }
+    }
+}
+
+fn proved_speed(evidence: Evidence) -> Option<Speed>
+    ensures { result ≡ proved_speed evidence }
+{
+    if evidence.companion {
+        Some(Speed::Super)
+    } else if evidence.high {
+        Some(Speed::High)
+    } else if evidence.full {
+        Some(Speed::Full)
+    } else {
+        None
+    }
+}
+
+fn hinted_speed(evidence: Evidence) -> Speed
+    ensures { result ≡ hinted_speed evidence }
+{
+    if evidence.slow {
+        Speed::LowOrFull
+    } else {
+        Speed::FullOrHigh
     }
 }

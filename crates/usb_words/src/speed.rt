@@ -8,7 +8,11 @@ use std::alloc::AllocError;
 /// The speed at which a set holds, as far as it is known (USB 2.0, 5.3.1.1; USB 3.2, 3.1).
 #[derive(Clone, Copy, Debug, PartialEq, Eq, Hash)]
 pub enum Speed {
-    /// Low or full speed, where intervals are in frames.
+    /// Low speed.
+    Low,
+    /// Full speed, where intervals are in frames, as at low speed.
+    Full,
+    /// Low or full speed, where nothing distinguishes the two.
     LowOrFull,
     /// High speed, where intervals are in microframes.
     High,
@@ -24,6 +28,8 @@ impl Speed {
         ensures { result.now ≡ speed_words self }
     {
         match self {
+            Speed::Low => "low speed",
+            Speed::Full => "full speed",
             Speed::LowOrFull => "low or full speed",
             Speed::High => "high speed",
             Speed::FullOrHigh => "full or high speed",

@@ -1,22 +1,83 @@
-//! What an endpoint says of the speed of its set.
-ghost use Rattle.std.specs.Prelude.{◌≡◌};
-ghost use Rattle.usb_words.specs.SpeedEvidence.{has_multiple, is_high, is_low_or_full, speaks_high, speaks_low_or_full};
+//! What the descriptors of a set say of its speed.
+ghost use Rattle.std.specs.Prelude.{◌≡◌, ◌∷◌, ℕ, List, false};
+ghost use Rattle.usb_words.specs.SpeedEvidence.{excludes_low, has_multiple, hints_slow, is_above_low, is_companion, is_full, is_high, is_slow, speaks_full, speaks_high};
+ghost use Rattle.usb_words.specs.inside.Heard.{Hears};
 
 use crate::cut::{byte_at, word_at};
 use crate::descriptor_types::is_endpoint;
 use crate::endpoint::transfer_type;
 use usb_set::TransferType;
 
-pub(crate) fn speaks_high(d: &[u8]) -> bool
+/// What the descriptors of a set say of its speed: whether one of them speaks so.
+#[derive(Clone, Copy, Debug, PartialEq, Eq, Hash)]
+pub struct Evidence {
+    /// A SuperSpeed endpoint companion.
+    pub companion: bool,
+    /// An endpoint that only high speed has.
+    pub high: bool,
+    /// An endpoint that only full speed has.
+    pub full: bool,
+    /// An endpoint that low speed can't have.
+    pub above_low: bool,
+    /// An interval that hints at low or full speed.
+    pub slow: bool,
+}
+
+impl Evidence {
+    /// Before the first descriptor.
+    pub(crate) fn none() -> Evidence
+        ensures { result ≡ record { companion = false; high = false; full = false; above_low = false; slow = false } }
+    {
+        Evidence {
+            companion: false,
+            high: false,
+            full: false,
+            above_low: false,
+            slow: false,
+        }
+    }
+
+    /// Adds what a descriptor says.
+    pub(crate) fn add(&mut self, d: &[u8])
+        ensures { (all ds : List (List ℕ)) → Hears all self.old (d.now ∷ ds) → Hears all self.new ds }
+    {
+        self.companion = self.companion || is_companion(d);
+        self.high = self.high || speaks_high(d);
+        self.full = self.full || speaks_full(d);
+        self.above_low = self.above_low || excludes_low(d);
+        self.slow = self.slow || hints_slow(d);
+    }
+}
+
+/// A SuperSpeed endpoint companion (USB 3.2, 9.6.7).
+fn is_companion(d: &[u8]) -> bool
+    ensures { result ≡ is_companion d.now }
+{
+    byte_at(d, 1) == 48
+}
+
+fn speaks_high(d: &[u8]) -> bool
     ensures { result ≡ speaks_high d.now }
 {
     is_endpoint(d) && is_high(transfer_type(byte_at(d, 3)), word_at(d, 4))
 }
 
-pub(crate) fn speaks_low_or_full(d: &[u8]) -> bool
-    ensures { result ≡ speaks_low_or_full d.now }
+fn speaks_full(d: &[u8]) -> bool
+    ensures { result ≡ speaks_full d.now }
 {
-    is_endpoint(d) && is_low_or_full(transfer_type(byte_at(d, 3)), word_at(d, 4), byte_at(d, 6))
+    is_endpoint(d) && is_full(transfer_type(byte_at(d, 3)), word_at(d, 4))
+}
+
+fn excludes_low(d: &[u8]) -> bool
+    ensures { result ≡ excludes_low d.now }
+{
+    is_endpoint(d) && is_above_low(transfer_type(byte_at(d, 3)), word_at(d, 4))
+}
+
+fn hints_slow(d: &[u8]) -> bool
+    ensures { result ≡ hints_slow d.now }
+{
+    is_endpoint(d) && is_slow(transfer_type(byte_at(d, 3)), byte_at(d, 6))
 }
 
 fn is_high(transfer: TransferType, max_packet: u16) -> bool
@@ -37,11 +98,28 @@ fn has_multiple(max_packet: u16) -> bool
     max_packet / 2048 % 4 != 0
 }
 
-fn is_low_or_full(transfer: TransferType, max_packet: u16, interval: u8) -> bool
-    ensures { result ≡ is_low_or_full transfer max_packet interval }
+fn is_full(transfer: TransferType, max_packet: u16) -> bool
+    ensures { result ≡ is_full transfer max_packet }
 {
     match transfer {
         TransferType::Bulk => max_packet % 2048 <= 64,
+        _ => false,
+    }
+}
+
+fn is_above_low(transfer: TransferType, max_packet: u16) -> bool
+    ensures { result ≡ is_above_low transfer max_packet }
+{
+    match transfer {
+        TransferType::Isochronous | TransferType::Bulk => true,
+        TransferType::Control | TransferType::Interrupt => max_packet % 2048 > 8,
+    }
+}
+
+fn is_slow(transfer: TransferType, interval: u8) -> bool
+    ensures { result ≡ is_slow transfer interval }
+{
+    match transfer {
         TransferType::Interrupt => interval > 16,
         _ => false,
     }

@@ -1,23 +1,20 @@
 //! What is gathered of a set, descriptor by descriptor.
-ghost use Rattle.std.specs.Prelude.{◌≡◌, ◌<◌, ◌≤◌, ◌+◌, ◌^◌, ◌∷◌, [], ◌||◌, ℕ, List, length};
-ghost use Rattle.usb_words.specs.SpeedEvidence.{speaks_high, speaks_low_or_full};
+ghost use Rattle.std.specs.Prelude.{◌≡◌, ◌<◌, ◌≤◌, ◌+◌, ◌^◌, ◌∷◌, [], ℕ, List, length};
 ghost use Rattle.usb_words.specs.Surveys.{survey_of};
 ghost use Rattle.usb_words.specs.inside.Gathered.{BindsOn, CountsOn, Gathers};
 
 use crate::bindings::Bindings;
 use crate::cut::byte_at;
 use crate::descriptor_types::{is_association, is_interface};
-use crate::speed_evidence::{speaks_high, speaks_low_or_full};
-use crate::survey::{Survey, spoken_speed};
+use crate::speed_evidence::Evidence;
+use crate::survey::Survey;
 use usb_base::Marks;
 
 /// What the descriptors of a set said so far.
 #[derive(Drop)]
 pub(crate) struct Gathering {
-    /// Whether one spoke for high speed.
-    high: bool,
-    /// Whether one spoke for low or full speed.
-    low_or_full: bool,
+    /// What they said of the speed.
+    evidence: Evidence,
     /// The interfaces.
     interfaces: Numbers,
     /// The associations.
@@ -46,8 +43,7 @@ impl Gathering {
         ensures associations { result.associations.count ≡ 0 }
     {
         Gathering {
-            high: false,
-            low_or_full: false,
+            evidence: Evidence::none(),
             interfaces: Numbers {
                 marks: Marks::new(),
                 count: 0,
@@ -67,8 +63,7 @@ impl Gathering {
         ensures interfaces { self.new.interfaces.count ≤ self.old.interfaces.count + 1 }
         ensures associations { self.new.associations.count ≤ self.old.associations.count + 1 }
     {
-        self.high = self.high || speaks_high(d);
-        self.low_or_full = self.low_or_full || speaks_low_or_full(d);
+        self.evidence.add(d);
         self.interfaces.add(d);
         self.associations.add(d);
     }
@@ -78,7 +73,7 @@ impl Gathering {
         ensures { (all : List (List ℕ)) → Gathers all self [] → result ≡ survey_of all }
     {
         Survey {
-            spoken: spoken_speed(self.high, self.low_or_full),
+            spoken: self.evidence,
             interfaces: self.interfaces.count,
             bindings: self.associations.bindings,
         }

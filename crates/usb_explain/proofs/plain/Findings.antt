@@ -1,5 +1,5 @@
 -- Each finding is told in a line, and so is a fault.
-use Rattle.std.proofs.Common.{◌≡◌, ℕ, ◌+◌, ◌*◌, Bool, true, List, [], ◌∷◌, ◌++◌, Option, Some, None, is_some, unwrap_or, codes, refl}
+use Rattle.std.proofs.Common.{◌≡◌, ℕ, ◌+◌, ◌*◌, ◌&&◌, Bool, true, false, List, [], ◌∷◌, ◌++◌, Option, Some, None, is_some, unwrap_or, codes, refl}
 use Rattle.std.specs.Fmt.{decimal}
 use Rattle.std.specs.List.{AllByRecursion}
 use Rattle.std.specs.Option.{option_map}
@@ -15,9 +15,11 @@ use Rattle.usb_file.specs.Numbers.{why_number}
 use Rattle.usb_rules.specs.declared.finding.Finding.{Finding}
 use Rattle.usb_rules.specs.FindingLine.{rule_number}
 use Rattle.usb_explained_lines.specs.Lines.{spaces}
+use Rattle.usb_explained_lines.specs.declared.told.PacketFault.{PacketFault}
+use Rattle.usb_explained_lines.specs.declared.told.PacketFault.TheVariants as packets
 use Rattle.usb_explained_lines.specs.declared.told.Told.{Told}
 use Rattle.usb_explained_lines.specs.declared.told.Told.TheVariants as told
-use Rattle.usb_explained_lines.specs.Findings.{counts_words, finding_line, rule_of, told_words}
+use Rattle.usb_explained_lines.specs.Findings.{caused, causes_words, counts_words, device_words, finding_line, has_more, packet_words, qualifier_words, reserved_words, rule_of, told_words}
 use Rattle.usb_explained_lines.specs.declared.role.Role.{Role}
 use Rattle.usb_explain.specs.declared.position.Standing.{Standing}
 use Rattle.usb_explain.specs.Faults.{fault_text, fault_words, file_message, numbered, trailing_words}
@@ -35,6 +37,39 @@ counts_plain : (field : List ℕ) (declared : ℕ) (owner : List ℕ) (found : �
 unfolding counts_words
 counts_plain field declared owner found noun h k l = simp (parts, decimal_plain, h, k, count_plain found noun l) refl
 
+caused_plain : (holds : Bool) (words : List ℕ) → Printable words → Printable (caused holds words)
+caused_plain true words h = h
+caused_plain false words h = refl
+
+causes_plain : (one : Bool) (ones : List ℕ) (other : Bool) (others : List ℕ) → Printable ones → Printable others → Printable (causes_words one ones other others)
+unfolding causes_words
+causes_plain one ones other others h k =
+    both_plain (caused one ones ++ caused (one && other) (codes ", and ")) (caused other others)
+    (both_plain (caused one ones) (caused (one && other) (codes ", and ")) (caused_plain one ones h) (caused_plain (one && other) (codes ", and ") refl))
+    (caused_plain other others k)
+
+packet_plain : (packet : PacketFault) → Printable (packet_words packet)
+packet_plain packets.NotInTable = refl
+packet_plain packets.NotNine = refl
+packet_plain packets.Nine = refl
+
+device_plain : (packet : Option PacketFault) (subclass : Bool) → Printable (device_words packet subclass)
+unfolding device_words
+device_plain None subclass = caused_plain subclass (codes "there is a subclass without a class") refl
+device_plain (Some packet) subclass = causes_plain true (packet_words packet) subclass (codes "there is a subclass without a class") (packet_plain packet) refl
+
+reserved_plain : (more reserved : Bool) → Printable (reserved_words more reserved)
+unfolding reserved_words
+reserved_plain more reserved =
+    both_plain (caused more (codes ", and ")) (caused reserved (codes "bReserved isn't 0")) (caused_plain more (codes ", and ") refl)
+    (caused_plain reserved (codes "bReserved isn't 0") refl)
+
+qualifier_plain : (packet : Option PacketFault) (subclass reserved : Bool) → Printable (qualifier_words packet subclass reserved)
+unfolding qualifier_words
+qualifier_plain packet subclass reserved =
+    both_plain (device_words packet subclass) (reserved_words (has_more packet subclass reserved) reserved) (device_plain packet subclass)
+    (reserved_plain (has_more packet subclass reserved) reserved)
+
 words_plain : (what : Told) → Printable (told_words what)
 unfolding told_words
 words_plain (told.InterfaceCount declared found) = counts_plain (codes "bNumInterfaces") declared (codes "set") found (codes "interface") refl refl refl
@@ -42,17 +77,20 @@ words_plain told.NumberGap = refl
 words_plain told.RepeatedSetting = refl
 words_plain told.NoDefaultSetting = refl
 words_plain (told.EndpointCount declared found) = counts_plain (codes "bNumEndpoints") declared (codes "setting") found (codes "endpoint") refl refl refl
-words_plain told.Address = refl
+words_plain (told.Address endpoint_zero reserved) =
+    causes_plain endpoint_zero (codes "the address names endpoint 0") reserved (codes "bits 6 to 4 of the address aren't zero") refl refl
 words_plain told.RepeatedAddress = refl
 words_plain told.SharedAddress = refl
-words_plain told.Attributes = refl
-words_plain told.Value = refl
+words_plain (told.Attributes clear reserved) =
+    causes_plain clear (codes "bit 7 of bmAttributes isn't one") reserved (codes "bits 4 to 0 of bmAttributes aren't zero") refl refl
+words_plain told.ZeroValue = refl
+words_plain told.RepeatedValue = refl
 words_plain told.NoConfiguration = refl
-words_plain told.Device = refl
-words_plain told.DumpedDevice = refl
-words_plain told.Qualifier = refl
+words_plain (told.Device packet subclass) = device_plain packet subclass
+words_plain (told.Qualifier packet subclass reserved) = qualifier_plain packet subclass reserved
 words_plain told.PacketSize = refl
-words_plain told.Interfaces = refl
+words_plain told.NoInterface = refl
+words_plain told.MissingInterface = refl
 
 finding_is_line : (depth : ℕ) (what : Told) → IsLine (finding_line depth what)
 unfolding finding_line

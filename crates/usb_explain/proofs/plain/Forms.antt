@@ -3,10 +3,10 @@ use Rattle.std.proofs.Common.{ℕ, ◌+◌, ◌-◌, ◌*◌, ◌^◌, ◌<◌, 
 use Rattle.std.specs.Fmt.{decimal}
 use Rattle.usb_base.specs.Bytes.{AreBytes}
 use Rattle.usb_names.specs.declared.field.Form.{Form}
-use Rattle.usb_names.specs.declared.field.Form.TheVariants.{Decimal, Hexadecimal, Release, ReportType, Index, Class, Subclass, Protocol, DevicePacket, Supply, Power, Address, Transfer, PacketSize, Interval}
+use Rattle.usb_names.specs.declared.field.Form.TheVariants.{Decimal, Hexadecimal, Release, ReportType, Index, Class, FunctionClass, Subclass, Protocol, DevicePacket, Supply, Power, Address, Transfer, PacketSize, Interval}
 use Rattle.usb_set.specs.Endpoints.{transfer_type_of}
 use Rattle.usb_words.specs.declared.speed.Speed.{Speed}
-use Rattle.usb_words.specs.declared.speed.Speed.TheVariants.{LowOrFull, High, FullOrHigh, Super}
+use Rattle.usb_words.specs.declared.speed.Speed.TheVariants.{Low, Full, LowOrFull, High, FullOrHigh, Super}
 use Rattle.usb_words.specs.Numbers.{meaning}
 use Rattle.usb_listing_reader.proofs.RowLemmas.{bytes_back, bytes_front}
 use Rattle.usb_explained_lines.specs.Forms.{decimal_words, form_words, hexadecimal_words, packet_size_words, release_words, report_words}
@@ -15,7 +15,7 @@ use Rattle.usb_explained_lines.specs.Values.{address_value, attributes_value, in
 use Rattle.usb_listing_reader.proofs.PrintableLemmas.{Printable, encoded_printable}
 use Rattle.usb_explain.proofs.plain.Texts.{both_plain, decimal_plain, parts}
 use Rattle.usb_explain.proofs.plain.Parts.{byte_fits}
-use Rattle.usb_explain.proofs.plain.Words.{attributes_plain, byte_code_plain, class_field_plain, count_plain, end_plain, interval_plain, meaning_plain, power_plain, protocol_field_plain, release_plain, size_plain, subclass_field_plain, word_code_plain}
+use Rattle.usb_explain.proofs.plain.Words.{attributes_plain, byte_code_plain, class_field_plain, count_plain, end_plain, function_class_field_plain, interval_plain, meaning_plain, power_plain, protocol_field_plain, release_plain, size_plain, subclass_field_plain, word_code_plain}
 use Rattle.usb_explain.proofs.plain.Fields.{MaybeFit, index_plain}
 
 -- ---- values
@@ -29,6 +29,8 @@ power_of_two_plain n = simp (parts, count_plain (2 ^ n) (codes "byte") refl) ref
 
 packet_plain : (speed : Speed) (n : ℕ) → Printable (packet_value speed n)
 unfolding packet_value
+packet_plain Low n = decimal_plain n
+packet_plain Full n = decimal_plain n
 packet_plain LowOrFull n = decimal_plain n
 packet_plain High n = decimal_plain n
 packet_plain FullOrHigh n = decimal_plain n
@@ -59,9 +61,9 @@ attributes_value_plain : (attributes : ℕ) → attributes < 256 → Printable (
 unfolding attributes_value
 attributes_value_plain attributes lt = simp (parts, byte_code_plain attributes lt, attributes_plain attributes) refl
 
-size_value_plain : (attributes max_packet : ℕ) → max_packet < 65536 → Printable (size_value attributes max_packet)
+size_value_plain : (speed : Speed) (attributes max_packet : ℕ) → max_packet < 65536 → Printable (size_value speed attributes max_packet)
 unfolding size_value
-size_value_plain attributes max_packet lt = simp (parts, word_code_plain max_packet lt, size_plain attributes max_packet) refl
+size_value_plain speed attributes max_packet lt = simp (parts, word_code_plain max_packet lt, size_plain speed attributes max_packet) refl
 
 interval_value_plain : (speed : Speed) (attributes interval : ℕ) → Printable (interval_value speed attributes interval)
 unfolding interval_value
@@ -91,11 +93,11 @@ release_words_plain (a ∷ []) h = encoded_printable (a ∷ []) h
 release_words_plain (a ∷ b ∷ []) h = release_value_plain (a + 256 * b) (omega (arith, h.0, h.1.0))
 release_words_plain (a ∷ b ∷ c ∷ value) h = encoded_printable (a ∷ b ∷ c ∷ value) h
 
-size_words_plain : (attributes : ℕ) (value : List ℕ) → AreBytes value → Printable (packet_size_words attributes value)
-size_words_plain attributes [] h = encoded_printable [] h
-size_words_plain attributes (a ∷ []) h = encoded_printable (a ∷ []) h
-size_words_plain attributes (a ∷ b ∷ []) h = size_value_plain attributes (a + 256 * b) (omega (arith, h.0, h.1.0))
-size_words_plain attributes (a ∷ b ∷ c ∷ value) h = encoded_printable (a ∷ b ∷ c ∷ value) h
+size_words_plain : (speed : Speed) (attributes : ℕ) (value : List ℕ) → AreBytes value → Printable (packet_size_words speed attributes value)
+size_words_plain speed attributes [] h = encoded_printable [] h
+size_words_plain speed attributes (a ∷ []) h = encoded_printable (a ∷ []) h
+size_words_plain speed attributes (a ∷ b ∷ []) h = size_value_plain speed attributes (a + 256 * b) (omega (arith, h.0, h.1.0))
+size_words_plain speed attributes (a ∷ b ∷ c ∷ value) h = encoded_printable (a ∷ b ∷ c ∷ value) h
 
 report_plain : (type : ℕ) → type < 256 → Printable (report_words type)
 report_plain type lt = simp (parts, byte_code_plain type lt) refl
@@ -113,6 +115,7 @@ form_plain speed strings Release width b place fit h = release_words_plain (take
 form_plain speed strings ReportType width b place fit h = report_plain (slice_index b place) (byte_fits b place h)
 form_plain speed strings Index width b place fit h = index_plain strings (slice_index b place) fit
 form_plain speed strings Class width b place fit h = class_field_plain (slice_index b place) (byte_fits b place h)
+form_plain speed strings FunctionClass width b place fit h = function_class_field_plain (slice_index b place) (byte_fits b place h)
 form_plain speed strings Subclass width b place fit h =
     subclass_field_plain (slice_index b (place - 1)) (slice_index b place) (byte_fits b place h)
 form_plain speed strings Protocol width b place fit h =
@@ -123,5 +126,5 @@ form_plain speed strings Power width b place fit h = power_value_plain speed (sl
 form_plain speed strings Address width b place fit h = address_plain (slice_index b 3) (slice_index b place) (byte_fits b place h)
 form_plain speed strings Transfer width b place fit h = attributes_value_plain (slice_index b place) (byte_fits b place h)
 form_plain speed strings PacketSize width b place fit h =
-    size_words_plain (slice_index b 3) (take width (drop place b)) (bytes_fit width b place h)
+    size_words_plain speed (slice_index b 3) (take width (drop place b)) (bytes_fit width b place h)
 form_plain speed strings Interval width b place fit h = interval_value_plain speed (slice_index b 3) (slice_index b place)

@@ -20,7 +20,7 @@ use Rattle.usb_explain.specs.Laws.{BrokenInLines, WholeInLines}
 use Rattle.usb_explain.specs.Lines.{IsLine}
 use Rattle.usb_explain.specs.Subjects.{broken_subject, findings_in, subject_with}
 use Rattle.usb_explain.proofs.Spans.{broken_once, whole_once}
-use Rattle.usb_explain.proofs.plain.Texts.{AreWords}
+use Rattle.usb_explain.proofs.plain.Texts.{AreWords, parts}
 use Rattle.usb_explain.proofs.plain.Fields.{MaybeFit}
 use Rattle.usb_explain.proofs.plain.Findings.{fault_is_line}
 use Rattle.usb_explain.proofs.plain.Walks.{SubjectFits, broken_name_plain, first_is_line, in_lines, last_is_line}
@@ -58,7 +58,7 @@ subject_fits manner (inputs.Dump file) b is = tt
 
 name_plain : (input : Input) → Printable (input_name input)
 name_plain (inputs.Set set) = refl
-name_plain (inputs.File file) = refl
+name_plain (inputs.File file) = simp parts refl
 name_plain (inputs.Dump file) = refl
 
 pub whole_in_lines : WholeInLines

@@ -23,7 +23,7 @@ use Rattle.usb_listing_reader.proofs.PrintableLemmas.{Printable, encoded_printab
 use Rattle.usb_explain.specs.Lines.{IsLine, SayFields}
 use Rattle.usb_explain.proofs.plain.Texts.{AreWords, IsWord, both_plain, decimal_plain, each_plain, parts, word_digits}
 use Rattle.usb_explain.proofs.plain.Parts.{byte_fits, word_fits}
-use Rattle.usb_explain.proofs.plain.Words.{attributes_plain, class_words_plain, count_plain, interval_plain, power_plain, release_plain, size_plain, speed_plain, word_code_plain}
+use Rattle.usb_explain.proofs.plain.Words.{attributes_plain, class_words_plain, count_plain, function_class_words_plain, interval_plain, power_plain, release_plain, size_plain, speed_plain, word_code_plain}
 use Rattle.usb_explain.proofs.plain.Fields.{MaybeFit, either_says, heading_is_line, no_fields, one_field, units_plain}
 use Rattle.usb_explain.proofs.plain.Forms.{address_plain, source_plain}
 use Rattle.usb_explain.proofs.plain.Layouts.{IsPlainLayout, layout_says}
@@ -89,7 +89,7 @@ function_plain b h =
     simp (
       parts,
       bound_plain (slice_index b 2) (slice_index b 3),
-      class_words_plain (slice_index b 4) (slice_index b 5) (slice_index b 6) (byte_fits b 4 h),
+      function_class_words_plain (slice_index b 4) (slice_index b 5) (slice_index b 6) (byte_fits b 4 h),
     ) refl
 
 association_words_plain : (number : ℕ) (b : List ℕ) → AreBytes b → Printable (association_words number b)
@@ -108,7 +108,7 @@ interface_words_plain association b h =
       parts,
       decimal_plain,
       binding_plain association,
-      class_words_plain (slice_index b 5) (slice_index b 6) (slice_index b 7) (byte_fits b 5 h),
+      function_class_words_plain (slice_index b 5) (slice_index b 6) (slice_index b 7) (byte_fits b 5 h),
       count_plain (slice_index b 4) (codes "endpoint") refl,
     ) refl
 
@@ -125,7 +125,7 @@ endpoint_words_plain speed b h =
       parts,
       address_plain (slice_index b 3) (slice_index b 2) (byte_fits b 2 h),
       attributes_plain (slice_index b 3),
-      size_plain (slice_index b 3) (little_endian_at b 4),
+      size_plain speed (slice_index b 3) (little_endian_at b 4),
       interval_words_plain speed (slice_index b 3) (slice_index b 6),
     ) refl
 

@@ -1,5 +1,5 @@
 -- The words of numbers, class codes, endpoints and speeds are plain.
-use Rattle.std.proofs.Common.{ℕ, ◌/◌, ◌%◌, ◌<◌, List, [], ◌∷◌, ◌++◌, Option, Some, None, codes, refl, arith}
+use Rattle.std.proofs.Common.{ℕ, ◌/◌, ◌%◌, ◌<◌, ◌==◌, List, [], ◌∷◌, ◌++◌, Option, Some, None, codes, refl, arith}
 use Rattle.hex.specs.Hex.{encode_lower}
 use Rattle.usb_base.specs.declared.direction.Direction.{Direction}
 use Rattle.usb_base.specs.declared.direction.Direction.TheVariants.{Out, In}
@@ -9,13 +9,13 @@ use Rattle.usb_set.specs.declared.endpoint.TransferType.TheVariants.{Control, Is
 use Rattle.usb_set.specs.Endpoints.{packet_size_of, transactions_of, transfer_type_of}
 use Rattle.usb_names.specs.Classes.{classes, name_in, protocol_in, protocols, subclasses}
 use Rattle.usb_words.specs.declared.speed.Speed.{Speed}
-use Rattle.usb_words.specs.declared.speed.Speed.TheVariants.{LowOrFull, High, FullOrHigh, Super}
+use Rattle.usb_words.specs.declared.speed.Speed.TheVariants.{Low, Full, LowOrFull, High, FullOrHigh, Super}
 use Rattle.usb_words.specs.Numbers.{byte_code, count, meaning, release, word_code}
-use Rattle.usb_words.specs.Names.{class_field, class_or_code, class_words, further, named, protocol_field, subclass_field}
-use Rattle.usb_words.specs.Endpoints.{attributes_words, direction_words, end_words, packet_words, packets_words, size_words, transfer_words, way_words}
+use Rattle.usb_words.specs.Names.{class_field, class_or_code, class_words, function_class_field, function_class_words, further, named, protocol_field, subclass_field}
+use Rattle.usb_words.specs.Endpoints.{attributes_words, direction_words, end_words, has_packets, packets_words, size_words, transfer_words, way_words}
 use Rattle.usb_words.specs.Speeds.{frames, full_interval, full_period, high_interval, interval_at, microframes, period, period_words, power_words, speed_words}
 use Rattle.usb_listing_reader.proofs.PrintableLemmas.{Printable}
-use Rattle.usb_explain.proofs.plain.Texts.{MaybePlain, byte_digits, decimal_plain, dropped, parts, word_digits}
+use Rattle.usb_explain.proofs.plain.Texts.{MaybePlain, byte_digits, decimal_plain, dropped, either_plain, parts, word_digits}
 use Rattle.usb_explain.proofs.plain.Names.{class_plain, protocol_plain, subclass_plain}
 
 -- ---- numbers
@@ -65,12 +65,21 @@ class_words_plain class subclass protocol lt =
     words_plain class lt (name_in classes class) (name_in (subclasses class) subclass) (protocol_in (protocols class) subclass protocol)
     (class_plain class) (subclass_plain class subclass) (protocol_plain class subclass protocol)
 
+pub function_class_words_plain : (class subclass protocol : ℕ) → class < 256 → Printable (function_class_words class subclass protocol)
+unfolding function_class_words
+function_class_words_plain class subclass protocol lt =
+    either_plain (class == 0) (codes "reserved class") (class_words class subclass protocol) refl (class_words_plain class subclass protocol lt)
+
 code_plain : (code : ℕ) → code < 256 → (name : Option (List ℕ)) → MaybePlain name → Printable (byte_code code ++ named name)
 code_plain code lt name h = simp (parts, byte_code_plain code lt, named_plain name h) refl
 
 pub class_field_plain : (class : ℕ) → class < 256 → Printable (class_field class)
 unfolding class_field
 class_field_plain class lt = code_plain class lt (name_in classes class) (class_plain class)
+
+pub function_class_field_plain : (class : ℕ) → class < 256 → Printable (function_class_field class)
+unfolding function_class_field
+function_class_field_plain class lt = simp (parts, byte_code_plain class lt, class_field_plain class lt) refl
 
 pub subclass_field_plain : (class subclass : ℕ) → subclass < 256 → Printable (subclass_field class subclass)
 unfolding subclass_field
@@ -114,19 +123,17 @@ packets_plain : (packets : Option ℕ) (size : ℕ) → Printable (packets_words
 packets_plain None size = simp (parts, bytes_plain) refl
 packets_plain (Some packets) size = simp (parts, decimal_plain, bytes_plain) refl
 
-packet_plain : (transfer : TransferType) (max_packet : ℕ) → Printable (packet_words transfer max_packet)
-packet_plain Control max_packet = bytes_plain (packet_size_of max_packet)
-packet_plain Bulk max_packet = bytes_plain (packet_size_of max_packet)
-packet_plain Isochronous max_packet = packets_plain (transactions_of max_packet) (packet_size_of max_packet)
-packet_plain Interrupt max_packet = packets_plain (transactions_of max_packet) (packet_size_of max_packet)
-
-pub size_plain : (attributes max_packet : ℕ) → Printable (size_words attributes max_packet)
+pub size_plain : (speed : Speed) (attributes max_packet : ℕ) → Printable (size_words speed attributes max_packet)
 unfolding size_words
-size_plain attributes max_packet = packet_plain (transfer_type_of attributes) max_packet
+size_plain speed attributes max_packet =
+    either_plain (has_packets speed (transfer_type_of attributes)) (packets_words (transactions_of max_packet) (packet_size_of max_packet))
+    (count (packet_size_of max_packet) (codes "byte")) (packets_plain (transactions_of max_packet) (packet_size_of max_packet)) (bytes_plain (packet_size_of max_packet))
 
 -- ---- speeds
 
 pub speed_plain : (speed : Speed) → Printable (speed_words speed)
+speed_plain Low = refl
+speed_plain Full = refl
 speed_plain LowOrFull = refl
 speed_plain High = refl
 speed_plain FullOrHigh = refl
@@ -156,6 +163,8 @@ high_plain n = period_plain microframes microframes_plain (period n)
 
 pub interval_plain : (speed : Speed) (transfer : TransferType) (n : ℕ) → Printable (interval_at speed transfer n)
 unfolding interval_at
+interval_plain Low transfer n = full_plain transfer n
+interval_plain Full transfer n = full_plain transfer n
 interval_plain LowOrFull transfer n = full_plain transfer n
 interval_plain High transfer n = high_plain n
 interval_plain FullOrHigh transfer n = simp (parts, full_plain transfer n, high_plain n) refl

@@ -50,7 +50,7 @@ next_endpoint None j k e = absurd (none-some (j, k) e)
 next_endpoint (Some setting) j k e = ap (λ (o : Option (ℕ × ℕ)). Some ((unwrap_or o (0, 0)).0, (unwrap_or o (0, 0)).1 + 1)) e
 
 here_endpoint : (is_dump : Bool) (s : Standing) (d behind : List ℕ) (rule : Rule) (j k : ℕ) → numbers_of s.set.setting ≡ Some (j, k)
-    → is_some (endpoint_told rule) ≡ true → is_here is_dump s roles.Endpoint d behind (finding rule s.set.part s.set.number j k) ≡ true
+    → is_some (endpoint_told d rule) ≡ true → is_here is_dump s roles.Endpoint d behind (finding rule s.set.part s.set.number j k) ≡ true
 unfolding finding_at told_at
 here_endpoint is_dump s d behind rule j k e h =
     here_is is_dump s roles.Endpoint d behind (finding rule s.set.part s.set.number j k)
@@ -143,7 +143,7 @@ endpoints_go E subject settings j t (e ∷ es) k v behind later typed room onwar
     (four_parts one two rest later) (four_parts d x more behind)
     (endpoint_goes E subject (take j settings) j t k e v (x ++ (more ++ behind)) (two ++ (rest ++ later)) (omega (arith, room, sum))
     (extras_go said subject settings e.extras (at_setting j (k + 1) u) (more ++ behind) (rest ++ later) each.0 (omega (arith, room, sum))
-    (endpoints_go all subject settings j t es (k + 1) (taken (length x) n u) behind later each.1 (omega (arith, room, sum))
+    (λ q. endpoints_go all subject settings j t es (k + 1) (record (taken (length x) n u) { owner = q }) behind later each.1 (omega (arith, room, sum))
     (λ o w. subst (λ v. Goes (adding all (flat_map endpoint_entries es) []) subject (record v { setting = o; owner = w }) later behind)
     (sym (same_taken v (((v.left - length d) - length x) - length more) ((v.associations + n) + m) (length ((d ++ x) ++ more)) (association_count (e.extras ++ flat_map (λ (e : Endpoint). e.extras) es))
     (omega (arith, sum)) (omega (arith, count))))

@@ -24,6 +24,8 @@ use Rattle.usb_set.proofs.ExtraLemmas.{untyped}
 use Rattle.usb_words.specs.Cut.{descriptor_length}
 use Rattle.usb_explained_lines.specs.declared.role.Role.{Role}
 use Rattle.usb_explained_lines.specs.declared.role.Role.TheVariants as roles
+use Rattle.usb_explain.specs.declared.position.Owner.{Owner}
+use Rattle.usb_explain.specs.declared.position.Owner.TheVariants as owners
 use Rattle.usb_explain.specs.declared.position.Standing.{Standing}
 use Rattle.usb_explained_lines.specs.declared.told.Told.{Told}
 use Rattle.usb_explain.specs.Findings.{finding_at, is_here, is_same_place, part_number, told_at, told_of}
@@ -31,7 +33,7 @@ use Rattle.usb_explain.specs.Contexts.{below, depth_of}
 use Rattle.usb_explain.specs.Steps.{noted}
 use Rattle.usb_explain.specs.Roles.{inner_role, typed_role}
 use Rattle.usb_explain.specs.Subjects.{Subject}
-use Rattle.usb_explain.specs.Trees.{entry, extra_entry, extra_role}
+use Rattle.usb_explain.specs.Trees.{entry, extra_depth, extra_entries, extra_role}
 use Rattle.usb_explain.proofs.Spans.{Aim, adding}
 use Rattle.usb_explain.proofs.rest.Steps.{inner_at, length_is}
 use Rattle.usb_explain.proofs.rest.Seen.{Goes, Seen, Step, goes_as, here_both, here_when, one_goes, seen}
@@ -80,6 +82,19 @@ same_taken v left count n c e f =
 
 -- ---- an extra
 
+-- what owns the descriptors after it
+abbrev owner_after : Extra → Owner → Owner
+owner_after (extras.Raw r) o = o
+owner_after (extras.Association a) o = owners.Configuration
+
+below_after : (x : Extra) (o : Owner) → below (owner_after x o) ≡ extra_depth (below o) x
+below_after (extras.Raw r) o = refl
+below_after (extras.Association a) o = refl
+
+-- it is taken
+abbrev after_extra : Extra → Seen → Seen
+after_extra x v = record (taken (length (extra_bytes x)) (length (association_in x)) v) { owner = owner_after x v.owner }
+
 not_eleven : (kind : ℕ) → is_typed kind ≡ false → kind ≡ 11 → ⊥
 not_eleven kind e is = let no : true ≡ false = ap is_typed (sym is) ∙ e in cc
 
@@ -98,7 +113,7 @@ extra_findings part i settings n x = at_each (λ k a. when (binds_missing_interf
 
 extra_step : (subject : Subject) (settings : List Setting) (x : Extra) (behind : List ℕ) (s : Standing) → is_typed_raw x ≡ false → length (extra_bytes x) ≤ s.left
     → Step subject s (extra_role x) (extra_bytes x) behind (extra_findings s.set.part s.set.number settings s.set.associations x)
-    (taken (length (extra_bytes x)) (length (association_in x)) (seen s)) (below s.set.owner) []
+    (after_extra x (seen s)) (extra_depth (below s.set.owner) x) []
 unfolding noted depth_of told_at
 extra_step subject settings (extras.Raw r) behind s e room =
     let same : s.set.associations ≡ s.set.associations + 0 = omega arith in
@@ -123,12 +138,12 @@ extra_step subject settings (extras.Association a) behind s e room =
 
 extra_goes : (E : Aim) (subject : Subject) (settings : List Setting) (x : Extra) (v : Seen) (behind : List ℕ) (later : List Finding) → is_typed_raw x ≡ false
     → length (extra_bytes x) ≤ v.left
-    → Goes (adding E (extra_entry (below v.owner) x ∷ []) []) subject (taken (length (extra_bytes x)) (length (association_in x)) v) later behind
+    → Goes (adding E (entry (extra_role x) (extra_depth (below v.owner) x) (extra_bytes x) ∷ []) []) subject (after_extra x v) later behind
     → Goes E subject v (extra_findings v.part v.number settings v.associations x ++ later) (extra_bytes x ++ behind)
 extra_goes E subject settings x v behind later e room onward =
     let item = extra_descriptor x in
     seen_goes E subject v (λ v. length (extra_bytes x) ≤ v.left) (extra_role x) (extra_bytes x) behind (λ v. extra_findings v.part v.number settings v.associations x)
-    (λ v. taken (length (extra_bytes x)) (length (association_in x)) v) later (λ v. below v.owner) [] (length_is (2 + length item.body) item.kind item.body behind refl)
+    (after_extra x) later (λ v. extra_depth (below v.owner) x) [] (length_is (2 + length item.body) item.kind item.body behind refl)
     (λ s p. extra_step subject settings x behind s e p) room onward
 
 -- ---- extras one after another
@@ -138,10 +153,10 @@ count_append xs ys = ap (λ (l : List Association). length l) (flat_map-append a
 
 pub extras_go : (E : Aim) (subject : Subject) (settings : List Setting) (xs : List Extra) (v : Seen) (behind : List ℕ) (later : List Finding) → list_any is_typed_raw xs ≡ false
     → length (flat_map extra_bytes xs) ≤ v.left
-    → Goes (adding E (map (extra_entry (below v.owner)) xs) []) subject (taken (length (flat_map extra_bytes xs)) (association_count xs) v) later behind
+    → ((o : Owner) → Goes (adding E (extra_entries (below v.owner) xs) []) subject (record (taken (length (flat_map extra_bytes xs)) (association_count xs) v) { owner = o }) later behind)
     → Goes E subject v (at_associations v.part v.number settings v.associations xs ++ later) (flat_map extra_bytes xs ++ behind)
 extras_go E subject settings [] v behind later e room onward =
-    subst (λ w. Goes E subject w later behind) (sym (same_taken v v.left v.associations 0 0 (omega arith) (omega arith))) onward
+    subst (λ w. Goes E subject w later behind) (sym (same_taken v v.left v.associations 0 0 (omega arith) (omega arith))) (onward v.owner)
 extras_go E subject settings (x ∷ xs) v behind later e room onward =
     let each = or_parts (is_typed_raw x) (list_any is_typed_raw xs) e in
     let d = extra_bytes x in
@@ -151,11 +166,13 @@ extras_go E subject settings (x ∷ xs) v behind later e room onward =
     let rest = at_associations v.part v.number settings (v.associations + n) xs in
     let sum : length (d ++ more) ≡ length d + length more = length-append d more in
     let count : association_count (x ∷ xs) ≡ n + association_count xs = length-append (association_in x) (flat_map association_in xs) in
-    let said : Aim = adding E (extra_entry (below v.owner) x ∷ []) [] in
+    let depth = extra_depth (below v.owner) x in
+    let said : Aim = adding E (entry (extra_role x) depth d ∷ []) [] in
     goes_as E subject v (at_associations v.part v.number settings v.associations (x ∷ xs) ++ later) (one ++ (rest ++ later)) ((d ++ more) ++ behind) (d ++ (more ++ behind))
     (ap (λ l. l ++ later) (each_append (λ k a. when (binds_missing_interface settings a) (finding rules.V13 v.part v.number k 0)) v.associations (association_in x) (flat_map association_in xs))
     ∙ append_assoc one rest later) (append_assoc d more behind)
     (extra_goes E subject settings x v (more ++ behind) (rest ++ later) each.0 (omega (arith, room, sum))
-    (extras_go said subject settings xs (taken (length d) n v) behind later each.1 (omega (arith, room, sum))
-    (subst (λ w. Goes (adding said (map (extra_entry (below v.owner)) xs) []) subject w later behind)
-    (sym (same_taken v ((v.left - length d) - length more) ((v.associations + n) + association_count xs) (length (d ++ more)) (association_count (x ∷ xs)) (omega (arith, sum)) (omega (arith, count)))) onward)))
+    (extras_go said subject settings xs (after_extra x v) behind later each.1 (omega (arith, room, sum))
+    (λ o. subst (λ k. Goes (adding said (extra_entries k xs) []) subject (record (taken (length more) (association_count xs) (after_extra x v)) { owner = o }) later behind) (sym (below_after x v.owner))
+    (subst (λ (w : Seen). Goes (adding said (extra_entries depth xs) []) subject (record w { owner = o }) later behind)
+    (sym (same_taken v ((v.left - length d) - length more) ((v.associations + n) + association_count xs) (length (d ++ more)) (association_count (x ∷ xs)) (omega (arith, sum)) (omega (arith, count)))) (onward o)))))

@@ -40,7 +40,7 @@ use Rattle.usb_explain.specs.SetStart.{entered, opened}
 use Rattle.usb_explain.specs.Steps.{noted, passed, with_told}
 use Rattle.usb_explain.specs.Roles.{outer_role, role_if, role_of}
 use Rattle.usb_explain.specs.Subjects.{Subject}
-use Rattle.usb_explain.specs.Trees.{entry, extra_entry, set_counts, set_entries, set_entries_by, setting_count, setting_entries}
+use Rattle.usb_explain.specs.Trees.{entry, extra_entries, set_counts, set_entries, set_entries_by, setting_count, setting_entries}
 use Rattle.usb_explain.proofs.Spans.{Aim, adding}
 use Rattle.usb_explain.proofs.rest.Steps.{length_is}
 use Rattle.usb_explain.proofs.rest.Counts.{four_parts, interfaces_are}
@@ -202,14 +202,14 @@ set_goes E subject c before total v behind later raws all_bytes outside onward =
     let left : (total - length d) - length x ≡ length y = omega (arith, sum) in
     let counts = told.InterfaceCount c.declared_interfaces (length (interface_numbers c.settings)) in
     let said : Aim = adding E (entry roles.Configuration 1 d ∷ []) (counts ∷ []) in
-    let with_extras : Aim = adding said (map (extra_entry 2) c.extras) [] in
+    let with_extras : Aim = adding said (extra_entries 2 c.extras) [] in
     goes_as E subject v (((one ++ two) ++ three n) ++ later) (one ++ (two ++ (three (0 + n) ++ later))) (set_bytes c total ++ behind) (d ++ (x ++ (y ++ behind)))
     (four_parts one two (three n) later ∙ ap (λ k. one ++ (two ++ (three k ++ later))) none) (ap (λ l. l ++ behind) is ∙ four_parts d x y behind)
     (configuration_goes E subject before c total v behind (two ++ (three (0 + n) ++ later)) whole outside
     (extras_go said subject c.settings c.extras first (y ++ behind) (three (0 + n) ++ later) typed.0 (omega (arith, sum))
-    (settings_go with_extras subject c.settings c.settings (taken (length x) n first) behind later typed.1 left
+    (λ q. settings_go with_extras subject c.settings c.settings (record (taken (length x) n first) { owner = q }) behind later typed.1 left
     (λ w e. goes_for (adding E (set_entries_by c total) (set_counts c)) (adding with_extras (flat_map setting_entries c.settings) (map setting_count c.settings)) subject w later behind
-    (λ r l a h. subst (λ k. E r (entry roles.Configuration 1 d ∷ k) (set_counts c ++ a)) (append_assoc (map (extra_entry 2) c.extras) (flat_map setting_entries c.settings) l) h)
+    (λ r l a h. subst (λ k. E r (entry roles.Configuration 1 d ∷ k) (set_counts c ++ a)) (append_assoc (extra_entries 2 c.extras) (flat_map setting_entries c.settings) l) h)
     (onward w (e ∙ begun_out c.kind 0 (total - length d) v ∙ ap (λ k. with_count c.kind (i + 1) (out_at k v)) (sym outside)))))))
 
 -- from each standing of which this is seen

@@ -22,7 +22,7 @@ use Rattle.usb_explain.specs.Contexts.{depth_of}
 use Rattle.usb_explain.specs.Steps.{noted}
 use Rattle.usb_explain.specs.Roles.{inner_role, typed_role}
 use Rattle.usb_explain.specs.Subjects.{Subject}
-use Rattle.usb_explain.specs.Trees.{OutlineEntry, endpoint_entries, entry, extra_entry, setting_count, setting_entries}
+use Rattle.usb_explain.specs.Trees.{OutlineEntry, endpoint_entries, entry, extra_entries, setting_count, setting_entries}
 use Rattle.usb_explain.proofs.Spans.{Aim, adding}
 use Rattle.usb_explain.proofs.rest.Steps.{inner_at, length_is}
 use Rattle.usb_explain.proofs.rest.Counts.{endpoints_are, four_parts}
@@ -121,10 +121,10 @@ five_parts a b c d e = append_assoc ((a ++ b) ++ c) d e ∙ four_parts a b c (d 
 -- descriptors of a setting and of those behind it
 setting_joined : (t : Setting) (ts : List Setting) (c : List OutlineEntry)
     → flat_map setting_entries (t ∷ ts) ++ c
-    ≡ entry roles.Interface 2 (descriptor_bytes (interface_descriptor t)) ∷ (map (extra_entry 3) t.extras ++ (flat_map endpoint_entries t.endpoints ++ (flat_map setting_entries ts ++ c)))
+    ≡ entry roles.Interface 2 (descriptor_bytes (interface_descriptor t)) ∷ (extra_entries 3 t.extras ++ (flat_map endpoint_entries t.endpoints ++ (flat_map setting_entries ts ++ c)))
 setting_joined t ts c =
     let one = entry roles.Interface 2 (descriptor_bytes (interface_descriptor t)) in
-    let x = map (extra_entry 3) t.extras in
+    let x = extra_entries 3 t.extras in
     let y = flat_map endpoint_entries t.endpoints in
     append_assoc (setting_entries t) (flat_map setting_entries ts) c
     ∙ ap (λ l. one ∷ l) (append_assoc x y (flat_map setting_entries ts ++ c))
@@ -156,13 +156,13 @@ settings_go E subject all (t ∷ ts) v behind later typed whole onward =
     let count : v.associations + setting_associations t ≡ (v.associations + n) + m = omega (arith, count_append t.extras inner) in
     let left : ((v.left - length d) - length x) - length y ≡ length more = omega (arith, whole, sum) in
     let said : Aim = adding E (entry roles.Interface 2 d ∷ []) (setting_count t ∷ []) in
-    let with_extras : Aim = adding said (map (extra_entry 3) t.extras) [] in
+    let with_extras : Aim = adding said (extra_entries 3 t.extras) [] in
     let with_endpoints : Aim = adding with_extras (flat_map endpoint_entries t.endpoints) [] in
     goes_as E subject v ((((one ++ two) ++ three) ++ rest) ++ later) (one ++ (two ++ (three ++ (rest ++ later))))
     ((((d ++ x) ++ y) ++ more) ++ behind) (d ++ (x ++ (y ++ (more ++ behind)))) (five_parts one two three rest later) (five_parts d x y more behind)
     (interface_goes E subject all t ts v behind (two ++ (three ++ (rest ++ later))) each.0 whole
     (extras_go said subject all t.extras begun (y ++ (more ++ behind)) (three ++ (rest ++ later)) parts.0 (omega (arith, whole, sum))
-    (endpoints_go with_extras subject all j t t.endpoints 0 passed (more ++ behind) (rest ++ later) parts.1 (omega (arith, whole, sum))
+    (λ q. endpoints_go with_extras subject all j t t.endpoints 0 (record passed { owner = q }) (more ++ behind) (rest ++ later) parts.1 (omega (arith, whole, sum))
     (λ o w. let u : Seen = record (taken (length y) m passed) { setting = o; owner = w } in
     goes_as with_endpoints subject u (rest ++ later) (four ((v.associations + n) + m) ++ later) (more ++ behind) (more ++ behind) (ap (λ k. four k ++ later) count) refl
     (settings_go with_endpoints subject all ts u behind later each.1 left

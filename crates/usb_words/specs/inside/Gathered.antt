@@ -1,14 +1,13 @@
 -- What is gathered of a set, descriptor by descriptor.
-use Rattle.std.specs.Prelude.{◌≡◌, ◌<◌, ℕ, ◌+◌, List, ◌∷◌, length, ◌||◌, Option}
-use Rattle.std.specs.List.{list_any}
+use Rattle.std.specs.Prelude.{◌≡◌, ◌<◌, ℕ, ◌+◌, List, ◌∷◌, length, Option}
 use Rattle.std.specs.Option.{option_or}
 use Rattle.usb_base.specs.Marks.{is_marked, unmarked}
 use Rattle.usb_words.specs.Bindings.{binding, bound_at}
 use Rattle.usb_words.specs.Counts.{interfaces_beyond}
-use Rattle.usb_words.specs.SpeedEvidence.{speaks_high, speaks_low_or_full}
 use Rattle.usb_words.specs.declared.survey_builder.Gathering.{Gathering}
 use Rattle.usb_words.specs.declared.survey_builder.Numbers.{Numbers}
 use Rattle.usb_words.specs.declared.survey_builder.Binders.{Binders}
+use Rattle.usb_words.specs.inside.Heard.{Hears}
 
 -- how many distinct numbers there are with those of these descriptors
 abbrev pub counted : Numbers → List (List ℕ) → ℕ
@@ -29,7 +28,6 @@ BindsOn old new n d ds = bound_with old n (d ∷ ds) ≡ bound_with new n ds
 -- with what was gathered of the descriptors before, these descriptors make up all
 pub record Gathers (all : List (List ℕ)) (g : Gathering) (ds : List (List ℕ)) : Type 0 where
   pub cells : length g.associations.bindings ≡ 256
-  pub high : list_any speaks_high all ≡ g.high || list_any speaks_high ds
-  pub low_or_full : list_any speaks_low_or_full all ≡ g.low_or_full || list_any speaks_low_or_full ds
+  pub evidence : Hears all g.evidence ds
   pub interfaces : interfaces_beyond unmarked all ≡ counted g.interfaces ds
   pub bindings : (n : ℕ) → n < 256 → binding n 0 all ≡ bound_with g.associations n ds
