@@ -11,7 +11,7 @@ use std::alloc::{AllocError, Global};
 use usb_fields::write_units;
 use usb_file::{DescriptorFile, list, read_file};
 use usb_set::{Decoder, Progress, Sequence};
-use usb_words::Text;
+use usb_text::Text;
 
 /// The calls.
 pub(crate) fn calls(alloc: Global) -> [Call; 12] {

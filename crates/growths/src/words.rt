@@ -1,10 +1,10 @@
 //! Calls that put the meaning of numbers in words at the end of a text.
 use crate::answer::{Answer, Call, refused, right};
 use std::alloc::{AllocError, Global};
+use usb_text::{Text, put_byte_code, put_count, put_release, put_word_code};
 use usb_words::{
-    Speed, Text, put_attributes, put_byte_code, put_class, put_class_words, put_count, put_end,
-    put_interval, put_power, put_protocol, put_release, put_size, put_speed, put_subclass,
-    put_word_code,
+    Speed, put_attributes, put_class, put_class_words, put_end, put_interval, put_power,
+    put_protocol, put_size, put_speed, put_subclass,
 };
 
 /// What is put.

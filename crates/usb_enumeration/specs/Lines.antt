@@ -6,8 +6,8 @@ use Rattle.usb_fields.specs.Packet.{Token, SetupToken, InToken, OutToken, Sent, 
 use Rattle.usb_fields.specs.Setup.{setup_bytes}
 use Rattle.usb_fields.specs.declared.packet.Toggle.{Toggle}
 use Rattle.usb_fields.specs.declared.packet.Toggle.TheVariants.{Data0, Data1}
-use Rattle.usb_words.specs.Columns.{column}
-use Rattle.usb_words.specs.Numbers.{count}
+use Rattle.usb_text.specs.Columns.{column}
+use Rattle.usb_text.specs.Numbers.{count}
 use Rattle.usb_transfer.specs.declared.why.Why.{Why}
 use Rattle.usb_transfer.specs.declared.why.Why.TheVariants.{NoAnswer, Busy, Stalled, TooLong, Unexpected, Malformed, Memory}
 use Rattle.usb_transfer.specs.Why.{why_message}

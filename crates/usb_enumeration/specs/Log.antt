@@ -6,7 +6,7 @@ use Rattle.usb_file_data.specs.declared.file.DescriptorFile.{DescriptorFile}
 use Rattle.usb_listing.specs.declared.output.OutFault.{OutFault}
 use Rattle.usb_listing.specs.declared.output.OutFault.TheVariants as outs
 use Rattle.usb_listing.specs.Output.{AppendsLess, Held}
-use Rattle.usb_words.specs.Columns.{column}
+use Rattle.usb_text.specs.Columns.{column}
 use Rattle.usb_fields.specs.Packet.{Reply}
 use Rattle.usb_transfer.specs.declared.why.Why.{Why}
 use Rattle.usb_transfer.specs.Limits.{LimitView}

@@ -2,7 +2,7 @@
 use Rattle.std.specs.Prelude.{ℕ, List, [], ◌++◌, ◌/◌, ◌%◌, ◌==◌, ◌&&◌, nat_lt, codes, if◌then◌else◌}
 use Rattle.std.specs.Fmt.{decimal}
 use Rattle.usb_fields.specs.declared.setup.Setup.{Setup as SetupPacket}
-use Rattle.usb_words.specs.Numbers.{byte_code, count, word_code}
+use Rattle.usb_text.specs.Numbers.{byte_code, count, word_code}
 
 -- a kind of descriptor by bDescriptorType (table 9-5); a host asks for no other ones
 abbrev pub kind_words : ℕ → List ℕ

@@ -1,7 +1,7 @@
 //! What the two ends have after a transaction.
 ghost use Rattle.std.specs.Prelude.{◌≡◌, ◌++◌, codes, OnOk};
 ghost use Rattle.usb_fields.specs.Packet.{reply_of};
-ghost use Rattle.usb_words.specs.Columns.{column};
+ghost use Rattle.usb_text.specs.Columns.{column};
 ghost use Rattle.usb_transfer.specs.Heard.{heard_of};
 ghost use Rattle.usb_host.specs.Steps.{outcome_of, wanted};
 ghost use Rattle.usb_enumeration.specs.Exchanges.{given_up, trouble_why};
@@ -11,8 +11,8 @@ use std::alloc::AllocError;
 use usb_device::{Device, DeviceStage};
 use usb_fields::Answer;
 use usb_host::{Action, Host};
+use usb_text::{Text, put_count};
 use usb_transfer::{Heard, Transfer, Why};
-use usb_words::{Text, put_count};
 
 /// Why a host has ended without success, if it has.
 pub(crate) fn trouble_of(host: &Host) -> Option<Why>

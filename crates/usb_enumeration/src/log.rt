@@ -19,8 +19,8 @@ use usb_device::Device;
 use usb_fields::Answer;
 use usb_host::Host;
 use usb_listing::{OutFault, write_all};
+use usb_text::Text;
 use usb_transfer::{Limits, Why};
-use usb_words::Text;
 
 /// The lines of a step, while they are put.
 #[derive(Drop)]

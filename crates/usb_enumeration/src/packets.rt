@@ -2,7 +2,7 @@
 ghost use Rattle.std.specs.Prelude.{◌≡◌, ◌++◌, OnOk};
 ghost use Rattle.usb_fields.specs.Packet.{reply_of, token_of};
 ghost use Rattle.usb_transfer.specs.Transfer.{sent_by};
-ghost use Rattle.usb_words.specs.Columns.{column};
+ghost use Rattle.usb_text.specs.Columns.{column};
 ghost use Rattle.usb_enumeration.specs.Exchanges.{is_lost_ack, is_lost_down, is_lost_up};
 ghost use Rattle.usb_enumeration.specs.Lines.{ack_words, answer_words, fate_letter, marked, packets_part, sent_words, token_words};
 
@@ -11,7 +11,7 @@ use itoa::Buffer;
 use std::alloc::AllocError;
 use usb_bus::Fate;
 use usb_fields::{Answer, Stage, Toggle, Transaction};
-use usb_words::Text;
+use usb_text::Text;
 
 /// Puts the number of a transaction, its fate, what the host sends, what the device answers, and the host's ACK. The
 /// answer is the device's own, whether it reaches the host or not.

@@ -4,7 +4,7 @@ ghost use Rattle.usb_enumeration.specs.Requests.{descriptor_words, get_descripto
 
 use std::alloc::AllocError;
 use usb_fields::{Setup, descriptor_type, request};
-use usb_words::{Text, put_byte_code, put_count, put_word_code};
+use usb_text::{Text, put_byte_code, put_count, put_word_code};
 
 /// Puts words, and a number after them.
 #[tactic(auto, unfolding(crate::specs::Requests::numbered))]

@@ -16,8 +16,8 @@ use usb_bus::Fate;
 use usb_device::Device;
 use usb_fields::{Answer, Transaction};
 use usb_host::{Host, Step};
+use usb_text::Text;
 use usb_transfer::{Transfer, Why};
-use usb_words::Text;
 
 /// Which transaction it is, counted from 1, and what the bus does to it.
 #[derive(Clone, Copy, Debug)]

@@ -1,5 +1,5 @@
 -- Whole explanations.
-use Rattle.usb_words.specs.Numbers.{count}
+use Rattle.usb_text.specs.Numbers.{count}
 use Rattle.std.proofs.Common.{◌≡◌, ◌<◌, ◌==◌, Bool, true, false, if◌then◌else◌, ℕ, List, ◌++◌, codes, length, sym, ap, subst, ◌∙◌, arith, append_assoc, length-append, take}
 use Rattle.std.specs.Io.KnownBytes.{Appends}
 use Rattle.usb_listing.specs.Output.{AppendsLess, Held}

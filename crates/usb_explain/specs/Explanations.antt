@@ -1,6 +1,6 @@
 -- The explanation of an input, and of bytes that are none.
 use Rattle.std.specs.Prelude.{ℕ, List, ◌++◌, length, take, drop, slice_index, codes, is_some, ◌==◌, ◌||◌, if◌then◌else◌}
-use Rattle.usb_words.specs.Numbers.{count}
+use Rattle.usb_text.specs.Numbers.{count}
 use Rattle.usb_explained_lines.specs.Rest.{rest_lines}
 use Rattle.usb_file.specs.declared.input.Input.{Input}
 use Rattle.usb_file.specs.declared.input.Input.TheVariants as inputs

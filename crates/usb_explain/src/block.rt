@@ -7,7 +7,7 @@ use crate::position::Standing;
 use crate::subject::Subject;
 use std::alloc::AllocError;
 use usb_explained_lines::{Role, put_fields, put_heading};
-use usb_words::Text;
+use usb_text::Text;
 
 impl Standing {
     /// Puts the lines of a descriptor of this role: its heading, its findings and its fields. Answers how many findings

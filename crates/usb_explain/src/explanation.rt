@@ -15,7 +15,8 @@ use usb_base::descriptor_type;
 use usb_explained_lines::put_rest;
 use usb_file::{Input, InputFault};
 use usb_listing::{OutFault, write_all};
-use usb_words::{Text, behind, byte_at, front, put_count};
+use usb_text::{Text, put_count};
+use usb_words::{behind, byte_at, front};
 
 /// Writes the explanation of an input, of which these are the bytes.
 ///

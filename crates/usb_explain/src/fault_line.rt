@@ -4,7 +4,7 @@ ghost use Rattle.usb_explain.specs.Faults.{fault_text, fault_words, file_message
 
 use std::alloc::AllocError;
 use usb_file::{FileWhy, InputFault};
-use usb_words::Text;
+use usb_text::Text;
 
 /// The place of the fault in the input.
 pub(crate) fn fault_place(fault: InputFault) -> usize

@@ -8,7 +8,8 @@ use crate::subject::Subject;
 use std::alloc::AllocError;
 use usb_explained_lines::{PacketFault, Role, Told, put_finding};
 use usb_rules::{Finding, Part, Rule};
-use usb_words::{Text, byte_at, endpoint_count, front, word_at};
+use usb_text::Text;
+use usb_words::{byte_at, endpoint_count, front, word_at};
 
 impl Standing {
     /// Puts a line for each finding of a descriptor of this role, with which those that aren't told yet begin. Answers how

@@ -15,7 +15,8 @@ use std::alloc::AllocError;
 use std::io::Write;
 use usb_explained_lines::Role;
 use usb_listing::{OutFault, write_all};
-use usb_words::{Text, behind, descriptor_length, front};
+use usb_text::Text;
+use usb_words::{behind, descriptor_length, front};
 
 /// A text of so many bytes is passed on to the writer.
 const FULL: usize = 32 * 1024;

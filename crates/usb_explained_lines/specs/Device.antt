@@ -2,7 +2,7 @@
 use Rattle.std.specs.Prelude.{ℕ, List, ◌++◌, slice_index, codes}
 use Rattle.hex.specs.Hex.{encode_lower}
 use Rattle.usb_base.specs.Bytes.{big_endian, little_endian_at}
-use Rattle.usb_words.specs.Numbers.{release}
+use Rattle.usb_text.specs.Numbers.{release}
 use Rattle.usb_words.specs.Names.{class_words}
 
 -- the release of USB, and the class

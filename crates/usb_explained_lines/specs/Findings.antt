@@ -4,7 +4,7 @@ use Rattle.std.specs.Fmt.{decimal}
 use Rattle.usb_rules.specs.declared.rule.Rule.{Rule}
 use Rattle.usb_rules.specs.declared.rule.Rule.TheVariants as rules
 use Rattle.usb_rules.specs.FindingLine.{rule_number}
-use Rattle.usb_words.specs.Numbers.{count}
+use Rattle.usb_text.specs.Numbers.{count}
 use Rattle.usb_explained_lines.specs.declared.told.PacketFault.{PacketFault}
 use Rattle.usb_explained_lines.specs.declared.told.PacketFault.TheVariants.{NotInTable, NotNine, Nine}
 use Rattle.usb_explained_lines.specs.declared.told.Told.{Told}

@@ -6,7 +6,7 @@ use Rattle.usb_names.specs.declared.field.Form.{Form}
 use Rattle.usb_names.specs.declared.field.Form.TheVariants.{Decimal, Hexadecimal, Release, ReportType, Index, Class, FunctionClass, Subclass, Protocol, DevicePacket, Supply, Power, Address, Transfer, PacketSize, Interval}
 use Rattle.usb_words.specs.declared.speed.Speed.{Speed}
 use Rattle.usb_words.specs.Names.{class_field, function_class_field, protocol_field, subclass_field}
-use Rattle.usb_words.specs.Numbers.{byte_code, word_code}
+use Rattle.usb_text.specs.Numbers.{byte_code, word_code}
 use Rattle.usb_explained_lines.specs.Names.{StringNames, index_words}
 use Rattle.usb_explained_lines.specs.Values.{address_value, attributes_value, interval_value, packet_value, power_value, release_value, set_attributes, size_value}
 

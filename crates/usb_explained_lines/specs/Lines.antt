@@ -2,7 +2,7 @@
 use Rattle.std.specs.Prelude.{ℕ, ◌+◌, ◌*◌, List, [], ◌∷◌, ◌++◌, replicate, codes, if◌then◌else◌}
 use Rattle.std.specs.Fmt.{decimal}
 use Rattle.hex.specs.Hex.{encode_lower}
-use Rattle.usb_words.specs.Columns.{column}
+use Rattle.usb_text.specs.Columns.{column}
 use Rattle.usb_explained_lines.specs.declared.look.Look.{Look}
 
 -- so many spaces

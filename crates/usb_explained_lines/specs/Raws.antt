@@ -2,7 +2,7 @@
 use Rattle.std.specs.Prelude.{ℕ, List, ◌++◌, drop, slice_get, slice_index, codes, Option, Some, None}
 use Rattle.usb_names.specs.declared.codes.ClassCodes.{ClassCodes}
 use Rattle.usb_names.specs.Rows.{Row, first_row, rows_behind}
-use Rattle.usb_words.specs.Numbers.{byte_code}
+use Rattle.usb_text.specs.Numbers.{byte_code}
 use Rattle.usb_explained_lines.specs.declared.context.Context.{Context}
 use Rattle.usb_explained_lines.specs.Layouts.{Layout, layout_lines}
 use Rattle.usb_explained_lines.specs.Lines.{digits_line, field_line}

@@ -3,7 +3,7 @@
 use Rattle.std.specs.Prelude.{ℕ, ◌+◌, ◌-◌, ◌==◌, List, [], ◌++◌, slice_index, codes, Option, Some, None, if◌then◌else◌}
 use Rattle.std.specs.Fmt.{decimal}
 use Rattle.usb_words.specs.declared.speed.Speed.{Speed}
-use Rattle.usb_words.specs.Numbers.{count}
+use Rattle.usb_text.specs.Numbers.{count}
 use Rattle.usb_words.specs.Names.{function_class_words}
 use Rattle.usb_words.specs.Speeds.{power_words, speed_words}
 use Rattle.usb_explained_lines.specs.Values.{source_words}

@@ -3,7 +3,7 @@ use Rattle.std.specs.Prelude.{ℕ, ◌+◌, ◌*◌, List, [], ◌∷◌, ◌++�
 use Rattle.std.specs.Fmt.{decimal}
 use Rattle.std.specs.List.{flat_map}
 use Rattle.usb_listing.specs.StringListing.{written_unit}
-use Rattle.usb_words.specs.Numbers.{word_code}
+use Rattle.usb_text.specs.Numbers.{word_code}
 use Rattle.usb_explained_lines.specs.declared.context.StringPlace.{StringPlace}
 
 -- the units of bytes, each the low byte first

@@ -4,7 +4,7 @@ use Rattle.std.specs.Fmt.{decimal}
 use Rattle.usb_set.specs.Endpoints.{transfer_type_of}
 use Rattle.usb_words.specs.declared.speed.Speed.{Speed}
 use Rattle.usb_words.specs.declared.speed.Speed.TheVariants.{Super}
-use Rattle.usb_words.specs.Numbers.{byte_code, count, meaning, release, word_code}
+use Rattle.usb_text.specs.Numbers.{byte_code, count, meaning, release, word_code}
 use Rattle.usb_words.specs.Endpoints.{attributes_words, end_words, size_words}
 use Rattle.usb_words.specs.Speeds.{interval_at, is_periodic, power_words}
 

@@ -18,7 +18,7 @@ use crate::standard_layouts::{
 };
 use crate::string::{put_languages_words, put_string_words};
 use std::alloc::AllocError;
-use usb_words::Text;
+use usb_text::Text;
 
 /// Puts the heading of a descriptor of these bytes, which starts at this place of the input.
 ///

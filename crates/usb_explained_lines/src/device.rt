@@ -3,7 +3,8 @@ ghost use Rattle.std.specs.Prelude.{◌≡◌, ◌++◌, OnOk};
 ghost use Rattle.usb_explained_lines.specs.Device.{device_words, ids_words, qualifier_words, version_words};
 
 use std::alloc::AllocError;
-use usb_words::{Text, byte_at, put_class_words, put_release, word_at};
+use usb_text::{Text, put_release};
+use usb_words::{byte_at, put_class_words, word_at};
 
 /// Puts the words of a device descriptor's heading (USB 2.0, 9.6.1).
 #[tactic(auto, unfolding(crate::specs::Device::device_words))]

@@ -4,9 +4,8 @@ ghost use Rattle.usb_explained_lines.specs.Endpoints.{endpoint_words, interval_w
 
 use crate::endpoint_value::put_address;
 use std::alloc::AllocError;
-use usb_words::{
-    Speed, Text, byte_at, is_periodic, put_attributes, put_interval, put_size, word_at,
-};
+use usb_text::Text;
+use usb_words::{Speed, byte_at, is_periodic, put_attributes, put_interval, put_size, word_at};
 
 /// Puts the words of an endpoint descriptor's heading (USB 2.0, 9.6.6).
 #[inline(never)]

@@ -3,10 +3,8 @@ ghost use Rattle.std.specs.Prelude.{◌≡◌, ◌++◌, OnOk};
 ghost use Rattle.usb_explained_lines.specs.Values.{address_value, attributes_value, interval_value, size_value};
 
 use std::alloc::AllocError;
-use usb_words::{
-    Speed, Text, begin_byte_meaning, begin_word_meaning, is_periodic, put_attributes, put_end,
-    put_interval, put_size,
-};
+use usb_text::{Text, begin_byte_meaning, begin_word_meaning};
+use usb_words::{Speed, is_periodic, put_attributes, put_end, put_interval, put_size};
 
 /// Puts bEndpointAddress of an endpoint of these attributes: `0x81 (EP 1 IN)`.
 #[inline(never)]

@@ -1,12 +1,12 @@
 //! The lines of findings.
 ghost use Rattle.std.specs.Prelude.{◌≡◌, ◌++◌, codes, OnOk};
 ghost use Rattle.std.specs.Fmt.{decimal};
-ghost use Rattle.usb_words.specs.Numbers.{count};
+ghost use Rattle.usb_text.specs.Numbers.{count};
 ghost use Rattle.usb_explained_lines.specs.Findings.{caused, causes_words, counts_words, device_words, finding_line, has_more, packet_words, qualifier_words, reserved_words, told_words};
 
 use crate::told::{PacketFault, Told};
 use std::alloc::AllocError;
-use usb_words::{Text, put_count};
+use usb_text::{Text, put_count};
 
 /// Puts the line of a finding at a descriptor whose heading has this depth.
 ///

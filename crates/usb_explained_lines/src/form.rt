@@ -10,9 +10,9 @@ use crate::layout::Shown;
 use crate::value::{put_packet_value, put_power_value, put_release_value, put_set_attributes};
 use std::alloc::AllocError;
 use usb_names::{ClassField, Form};
+use usb_text::{Text, put_byte_code, put_word_code};
 use usb_words::{
-    Speed, Text, behind, byte_at, front, put_byte_code, put_class, put_function_class,
-    put_protocol, put_subclass, put_word_code,
+    Speed, behind, byte_at, front, put_class, put_function_class, put_protocol, put_subclass,
 };
 
 /// The place of bmAttributes in an endpoint descriptor (USB 2.0, 9.6.6).

@@ -6,7 +6,7 @@ ghost use Rattle.usb_explained_lines.specs.Names.{index_words, missing_words, na
 use crate::names::{Missing, Names};
 use crate::quoted::put_quoted;
 use std::alloc::AllocError;
-use usb_words::Text;
+use usb_text::Text;
 
 /// Puts the index of a string: `0 (none)`, or the number and the string that it names.
 #[inline(never)]

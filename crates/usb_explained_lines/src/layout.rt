@@ -11,7 +11,8 @@ use crate::line::{begin_field, end_line, put_digits};
 use crate::names::Names;
 use std::alloc::AllocError;
 use usb_names::ClassField;
-use usb_words::{Text, behind};
+use usb_text::Text;
+use usb_words::behind;
 
 /// The fields of a descriptor after bDescriptorType.
 #[derive(Clone, Copy, Debug)]

@@ -4,7 +4,7 @@ ghost use Rattle.usb_explained_lines.specs.Lines.{digits_line, field_start, plac
 
 use crate::look::Look;
 use std::alloc::AllocError;
-use usb_words::Text;
+use usb_text::Text;
 
 /// Puts where a descriptor starts in the input, and how many bytes it has, where places are shown.
 #[inline(never)]

@@ -6,7 +6,7 @@ ghost use Rattle.usb_explained_lines.specs.Names.{quoted};
 
 use std::alloc::AllocError;
 use usb_listing::is_plain;
-use usb_words::Text;
+use usb_text::Text;
 
 /// Puts the units of a string between quotes.
 #[tactic(auto, unfolding(crate::specs::Names::quoted))]

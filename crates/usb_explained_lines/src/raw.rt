@@ -2,7 +2,7 @@
 ghost use Rattle.std.specs.Prelude.{◌≡◌, ◌++◌, codes, drop, option_map, OnOk};
 ghost use Rattle.std.specs.Option.{option_copied};
 ghost use Rattle.usb_names.specs.Shown.{row_of};
-ghost use Rattle.usb_words.specs.Numbers.{byte_code};
+ghost use Rattle.usb_text.specs.Numbers.{byte_code};
 ghost use Rattle.usb_explained_lines.specs.Raws.{raw_lines, raw_words, row_lines, row_of_bytes, row_words, unnamed_words};
 ghost use Rattle.usb_explained_lines.specs.Lines.{field_line};
 
@@ -12,7 +12,8 @@ use crate::line::{begin_field, end_line, put_digits};
 use crate::names::Names;
 use std::alloc::AllocError;
 use usb_names::{ClassCodes, ClassDescriptor, class_descriptor};
-use usb_words::{Text, behind, byte_at, put_byte_code};
+use usb_text::{Text, put_byte_code};
+use usb_words::{behind, byte_at};
 
 /// Puts the name of a descriptor after an interface of these codes, or its type where it has no name.
 #[tactic(auto, unfolding(crate::specs::Raws::raw_words))]

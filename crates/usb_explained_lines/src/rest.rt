@@ -5,7 +5,8 @@ ghost use Rattle.usb_explained_lines.specs.Rest.{more_words, rest_fields, rest_h
 use crate::line::{begin_field, end_line, put_place};
 use crate::look::Look;
 use std::alloc::AllocError;
-use usb_words::{Text, front};
+use usb_text::Text;
+use usb_words::front;
 
 /// Puts the lines of the bytes that are left from this place of the input on, if there are any.
 ///

@@ -5,7 +5,8 @@ ghost use Rattle.usb_explained_lines.specs.Sets.{association_words, binding_word
 
 use crate::value::source_words;
 use std::alloc::AllocError;
-use usb_words::{Speed, Text, byte_at, put_count, put_function_class_words, put_power, put_speed};
+use usb_text::{Text, put_count};
+use usb_words::{Speed, byte_at, put_function_class_words, put_power, put_speed};
 
 /// Puts the words of the heading of a set's first descriptor (USB 2.0, 9.6.3 and 9.6.4).
 #[inline(never)]

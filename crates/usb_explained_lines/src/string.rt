@@ -7,7 +7,8 @@ ghost use Rattle.usb_explained_lines.specs.Strings.{language_words, languages_wo
 use crate::context::StringPlace;
 use crate::quoted::put_unit;
 use std::alloc::AllocError;
-use usb_words::{Text, behind, put_word_code};
+use usb_text::{Text, put_word_code};
+use usb_words::behind;
 
 /// Puts the words of the language list's heading (USB 2.0, 9.6.7).
 #[tactic(auto, unfolding(crate::specs::Strings::languages_words))]

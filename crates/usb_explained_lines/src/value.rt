@@ -3,9 +3,8 @@ ghost use Rattle.std.specs.Prelude.{◌≡◌, ◌++◌, OnOk};
 ghost use Rattle.usb_explained_lines.specs.Values.{packet_value, power_of_two_words, power_value, release_value, set_attributes, source_words, wakeup_words};
 
 use std::alloc::AllocError;
-use usb_words::{
-    Speed, Text, begin_byte_meaning, begin_word_meaning, put_count, put_power, put_release,
-};
+use usb_text::{Text, begin_byte_meaning, begin_word_meaning, put_count, put_release};
+use usb_words::{Speed, put_power};
 
 /// Puts a release in hexadecimal digits, and as it is meant.
 #[tactic(auto, unfolding(crate::specs::Values::release_value))]

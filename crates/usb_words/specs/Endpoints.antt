@@ -9,7 +9,7 @@ use Rattle.usb_set.specs.declared.endpoint.TransferType.{TransferType}
 use Rattle.usb_set.specs.declared.endpoint.TransferType.TheVariants.{Control, Isochronous, Bulk, Interrupt}
 use Rattle.usb_words.specs.declared.speed.Speed.{Speed}
 use Rattle.usb_words.specs.declared.speed.Speed.TheVariants.{High}
-use Rattle.usb_words.specs.Numbers.{count}
+use Rattle.usb_text.specs.Numbers.{count}
 
 -- which way the data goes
 abbrev pub direction_words : Direction → List ℕ

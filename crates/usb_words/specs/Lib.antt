@@ -1,8 +1,6 @@
-pub mod Numbers
 pub mod Names
 pub mod Endpoints
 pub mod Speeds
-pub mod Columns
 pub mod Cut
 pub mod DescriptorTypes
 pub mod Bindings

@@ -1,7 +1,7 @@
 -- Class codes in words.
 use Rattle.std.specs.Prelude.{ℕ, List, [], ◌++◌, ◌==◌, Option, Some, None, codes, if◌then◌else◌}
 use Rattle.usb_names.specs.Classes.{classes, name_in, protocol_in, protocols, subclasses}
-use Rattle.usb_words.specs.Numbers.{byte_code, meaning}
+use Rattle.usb_text.specs.Numbers.{byte_code, meaning}
 
 -- a name behind those before it
 abbrev pub further : Option (List ℕ) → List ℕ

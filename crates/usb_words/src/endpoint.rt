@@ -3,13 +3,12 @@ ghost use Rattle.std.specs.Prelude.{◌≡◌, ◌++◌, codes, OnOk};
 ghost use Rattle.usb_base.specs.Directions.{direction_of};
 ghost use Rattle.usb_set.specs.Endpoints.{transfer_type_of, transactions_of};
 ghost use Rattle.usb_words.specs.Endpoints.{attributes_words, direction_words, end_words, has_packets, packets_words, size_words, synchronization_words, transfer_words, usage_words, way_words};
-ghost use Rattle.usb_words.specs.Numbers.{count};
+ghost use Rattle.usb_text.specs.Numbers.{count};
 
-use crate::numbers::put_count;
 use crate::speed::Speed;
-use crate::text::Text;
 use std::alloc::AllocError;
 use usb_set::TransferType;
+use usb_text::{Text, put_count};
 
 /// The transfer type by bits 1..0 of bmAttributes (USB 2.0, 9.6.6).
 pub(crate) fn transfer_type(attributes: u8) -> TransferType

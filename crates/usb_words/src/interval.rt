@@ -5,9 +5,9 @@ ghost use Rattle.usb_words.specs.Speeds.{at_least_one, frames, full_interval, fu
 
 use crate::endpoint::transfer_type;
 use crate::speed::Speed;
-use crate::text::Text;
 use std::alloc::AllocError;
 use usb_set::TransferType;
+use usb_text::Text;
 
 /// Whether an endpoint of these attributes has an interval: isochronous and interrupt ones do (USB 2.0, 5.6 and 5.7).
 pub fn is_periodic(attributes: u8) -> bool

@@ -1,9 +1,8 @@
-//! What descriptors say, in words and as a whole: numbers, class codes, endpoints, speeds, intervals and power, and what
+//! What descriptors say, in words and as a whole: class codes, endpoints, speeds, intervals and power, and what
 //! the bytes of a set tell of its speed, its interfaces and their associations.
 //!
-//! Each function `put_*` puts exactly the text that a definition of `specs/` says at the end of a [`Text`]: those of
-//! `specs/Numbers.antt`, of class codes `specs/Names.antt`, of endpoints `specs/Endpoints.antt`, and of speeds, intervals
-//! and power `specs/Speeds.antt`.
+//! Each function `put_*` puts exactly the text that a definition of `specs/` says at the end of a `Text`: of class codes
+//! `specs/Names.antt`, of endpoints `specs/Endpoints.antt`, and of speeds, intervals and power `specs/Speeds.antt`.
 //!
 //! A set is cut into descriptors by their first bytes (`specs/Cut.antt`), so that bytes which are no whole set are surveyed
 //! as far as they go. [`Survey::of`] has what they say of its speed, the count of interfaces, and the
@@ -18,13 +17,11 @@ mod descriptor_types;
 mod endpoint;
 mod interval;
 mod names;
-mod numbers;
 mod set_speed;
 mod speed;
 mod speed_evidence;
 mod survey;
 mod survey_builder;
-mod text;
 
 pub use bindings::Bindings;
 pub use counts::endpoint_count;
@@ -35,11 +32,7 @@ pub use names::{
     put_class, put_class_words, put_function_class, put_function_class_words, put_protocol,
     put_subclass,
 };
-pub use numbers::{
-    begin_byte_meaning, begin_word_meaning, put_byte_code, put_count, put_release, put_word_code,
-};
 pub use set_speed::{Background, RunningSpeed, other_speed, speed_at, speed_by, speed_of_device};
 pub use speed::{Speed, put_power, put_speed};
 pub use speed_evidence::Evidence;
 pub use survey::Survey;
-pub use text::Text;

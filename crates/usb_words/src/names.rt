@@ -1,12 +1,11 @@
 //! Class codes in words.
 ghost use Rattle.std.specs.Prelude.{◌≡◌, ◌++◌, option_map, OnOk};
-ghost use Rattle.usb_words.specs.Numbers.{byte_code};
+ghost use Rattle.usb_text.specs.Numbers.{byte_code};
 ghost use Rattle.usb_words.specs.Names.{class_field, class_or_code, class_words, function_class_field, function_class_words, further, named, protocol_field, subclass_field};
 
-use crate::numbers::{begin_byte_meaning, put_byte_code};
-use crate::text::Text;
 use std::alloc::AllocError;
 use usb_names::{class_name, protocol_name, subclass_name};
+use usb_text::{Text, begin_byte_meaning, put_byte_code};
 
 /// Puts the names of a class, its subclass and its protocol: `HID / boot interface / mouse`. A class without a name is
 /// put as `class 0x77`.

@@ -2,8 +2,8 @@
 ghost use Rattle.std.specs.Prelude.{◌≡◌, ◌++◌, OnOk};
 ghost use Rattle.usb_words.specs.Speeds.{power_unit, power_words, speed_words};
 
-use crate::text::Text;
 use std::alloc::AllocError;
+use usb_text::Text;
 
 /// The speed at which a set holds, as far as it is known (USB 2.0, 5.3.1.1; USB 3.2, 3.1).
 #[derive(Clone, Copy, Debug, PartialEq, Eq, Hash)]

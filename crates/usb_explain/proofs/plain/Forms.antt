@@ -7,7 +7,7 @@ use Rattle.usb_names.specs.declared.field.Form.TheVariants.{Decimal, Hexadecimal
 use Rattle.usb_set.specs.Endpoints.{transfer_type_of}
 use Rattle.usb_words.specs.declared.speed.Speed.{Speed}
 use Rattle.usb_words.specs.declared.speed.Speed.TheVariants.{Low, Full, LowOrFull, High, FullOrHigh, Super}
-use Rattle.usb_words.specs.Numbers.{meaning}
+use Rattle.usb_text.specs.Numbers.{meaning}
 use Rattle.usb_listing_reader.proofs.RowLemmas.{bytes_back, bytes_front}
 use Rattle.usb_explained_lines.specs.Forms.{decimal_words, form_words, hexadecimal_words, packet_size_words, release_words, report_words}
 use Rattle.usb_explained_lines.specs.Names.{StringNames}

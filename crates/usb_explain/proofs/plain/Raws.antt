@@ -4,7 +4,7 @@ use Rattle.std.specs.Prelude.{slice_get}
 use Rattle.usb_base.specs.Bytes.{AreBytes}
 use Rattle.usb_names.specs.declared.codes.ClassCodes.{ClassCodes}
 use Rattle.usb_names.specs.Rows.{Row}
-use Rattle.usb_words.specs.Numbers.{byte_code}
+use Rattle.usb_text.specs.Numbers.{byte_code}
 use Rattle.usb_listing_reader.proofs.RowLemmas.{bytes_back}
 use Rattle.usb_explained_lines.specs.declared.context.Context.{Context}
 use Rattle.usb_explained_lines.specs.Lines.{field_line}

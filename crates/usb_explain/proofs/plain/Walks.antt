@@ -5,7 +5,7 @@ use Rattle.std.specs.List.{AllByRecursion}
 use Rattle.usb_base.specs.Bytes.{AreBytes}
 use Rattle.usb_file_data.specs.declared.file.Strings.{Strings}
 use Rattle.usb_file_data.proofs.Lists.{bytes_before, bytes_behind}
-use Rattle.usb_words.specs.Numbers.{count}
+use Rattle.usb_text.specs.Numbers.{count}
 use Rattle.usb_listing_reader.proofs.PrintableLemmas.{Printable}
 use Rattle.usb_listing_reader.proofs.RowLemmas.{bytes_back}
 use Rattle.usb_explained_lines.specs.Descriptors.{fields}

@@ -10,7 +10,7 @@ use Rattle.usb_set.specs.Endpoints.{packet_size_of, transactions_of, transfer_ty
 use Rattle.usb_names.specs.Classes.{classes, name_in, protocol_in, protocols, subclasses}
 use Rattle.usb_words.specs.declared.speed.Speed.{Speed}
 use Rattle.usb_words.specs.declared.speed.Speed.TheVariants.{Low, Full, LowOrFull, High, FullOrHigh, Super}
-use Rattle.usb_words.specs.Numbers.{byte_code, count, meaning, release, word_code}
+use Rattle.usb_text.specs.Numbers.{byte_code, count, meaning, release, word_code}
 use Rattle.usb_words.specs.Names.{class_field, class_or_code, class_words, function_class_field, function_class_words, further, named, protocol_field, subclass_field}
 use Rattle.usb_words.specs.Endpoints.{attributes_words, direction_words, end_words, has_packets, packets_words, size_words, transfer_words, way_words}
 use Rattle.usb_words.specs.Speeds.{frames, full_interval, full_period, high_interval, interval_at, microframes, period, period_words, power_words, speed_words}

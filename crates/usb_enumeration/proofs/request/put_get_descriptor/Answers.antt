@@ -1,6 +1,6 @@
 use Rattle.std.proofs.Common.{◌≡◌, ◌/◌, ◌%◌, ◌++◌, OnOk, codes, rules, subst}
 use Rattle.std.proofs.lemmas.Result.{on_ok_weaker}
-use Rattle.usb_words.specs.Numbers.{count}
+use Rattle.usb_text.specs.Numbers.{count}
 use Rattle.usb_enumeration.specs.Requests.{descriptor_words, get_descriptor_words}
 use Rattle.usb_enumeration.proofs.JoinLemmas.{joined}
 use Rattle.usb_enumeration.proofs.request.put_get_descriptor.Goals as goal

@@ -1,6 +1,6 @@
 use Rattle.std.proofs.Common.{◌≡◌, ◌++◌, append_assoc, codes}
 use Rattle.std.proofs.lemmas.Result.{on_ok_weaker}
-use Rattle.usb_words.specs.Numbers.{byte_code}
+use Rattle.usb_text.specs.Numbers.{byte_code}
 use Rattle.usb_explained_lines.specs.Raws.{unnamed_words}
 use Rattle.usb_explained_lines.proofs.raw.put_unnamed.Goals as goal
 

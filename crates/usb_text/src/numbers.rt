@@ -1,6 +1,6 @@
 //! Numbers in words.
 ghost use Rattle.std.specs.Prelude.{◌≡◌, ◌++◌, codes, OnOk};
-ghost use Rattle.usb_words.specs.Numbers.{byte_code, count, release, short_byte, word_code};
+ghost use Rattle.usb_text.specs.Numbers.{byte_code, count, release, short_byte, word_code};
 
 use crate::text::Text;
 use std::alloc::AllocError;
