@@ -19,7 +19,7 @@ OF_LIBRARIES = set(
 def usbdesc(row):
     words = row.words()
     place = words.index("<") if "<" in words else len(words)
-    yield Run(words[:place], change(b"", words[place + 1 :]), int(row.wanted()), row.text(">"), row.text("!"))
+    yield Run(words[:place], change(row.text("|"), words[place + 1 :]), int(row.wanted()), row.text(">"), row.text("!"))
 
 
 def build(row):

@@ -36,6 +36,7 @@ fn command(alloc: Global, line: &Line<'_>) -> Result<String> {
             let given = [
                 ("brief", options.brief.then_some("")),
                 ("no-places", options.no_places.then_some("")),
+                ("hex", options.hex.then_some("")),
                 ("speed", options.speed),
             ];
             with_options(alloc, "explain", &given)

@@ -167,7 +167,7 @@ fn of_others(alloc: Global, name: &str, number: u8) -> Result<String> {
 }
 
 /// All that can go wrong with the program.
-fn tool_faults() -> [ToolFault; 8] {
+fn tool_faults() -> [ToolFault; 9] {
     [
         ToolFault::Read,
         ToolFault::Write,
@@ -189,6 +189,7 @@ fn tool_faults() -> [ToolFault; 8] {
             at: 18,
             why: FileWhy::Memory,
         }),
+        ToolFault::Hex { line: 2, column: 4 },
     ]
 }
 

@@ -81,7 +81,7 @@ impl Command {
         match self {
             Command::Show => run_show(alloc, r, w),
             Command::Check => run_check(alloc, r, w),
-            Command::Explain => run_explain(alloc, r, w, WHOLE),
+            Command::Explain => run_explain(alloc, r, w, WHOLE, false),
             Command::Build => run_build(alloc, r, w),
             Command::Enumerate | Command::Log => run_enumerate(alloc, r, w, settings),
         }

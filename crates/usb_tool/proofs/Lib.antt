@@ -6,3 +6,4 @@ pub mod Written
 pub mod FateLemmas
 pub mod LineLemmas
 pub mod NumberLemmas
+pub mod Hexadecimal

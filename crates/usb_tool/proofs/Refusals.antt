@@ -101,3 +101,4 @@ cut_short tells refuses b text status held holds (faults.File fault) told cut = 
 cut_short tells refuses b text status held holds (faults.List fault) told cut = elim cut [ ]
 cut_short tells refuses b text status held holds (faults.Set fault) told cut = elim cut [ ]
 cut_short tells refuses b text status held holds (faults.Trailing at) told cut = elim cut [ ]
+cut_short tells refuses b text status held holds (faults.Hex line column) told cut = elim cut [ ]

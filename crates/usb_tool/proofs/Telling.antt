@@ -127,6 +127,7 @@ module _ (s : Settings) (b log text : List ℕ) (ended : ℕ) (held between hold
   result_cut (Err (faults.List fault)) some cut = elim cut [ ]
   result_cut (Err (faults.Set fault)) some cut = elim cut [ ]
   result_cut (Err (faults.Trailing at)) some cut = elim cut [ ]
+  result_cut (Err (faults.Hex line column)) some cut = elim cut [ ]
 
 -- the line of a result is there
 success_some : (run : Run) → 0 < length (success_line run)

@@ -33,6 +33,9 @@ brief_rule = flag_rule (codes "brief")
 abbrev pub no_places_rule : Rule
 no_places_rule = flag_rule (codes "no-places")
 
+abbrev pub hex_rule : Rule
+hex_rule = flag_rule (codes "hex")
+
 abbrev pub speed_rule : Rule
 speed_rule = chosen_rule (codes "speed")
 
@@ -62,7 +65,8 @@ enumerate_app =
 
 -- the command `explain` with its options
 abbrev pub explain_app : App
-explain_app = with_rule (with_rule (with_rule (new_app (codes "explain")) brief_rule) no_places_rule) speed_rule
+explain_app =
+    with_rule (with_rule (with_rule (with_rule (new_app (codes "explain")) brief_rule) no_places_rule) hex_rule) speed_rule
 
 -- a command that prints its version where it is asked for
 abbrev pub versioned : App → App
@@ -95,6 +99,7 @@ is_given (Some text) = bytes_eq text (codes "true")
 pub record HasFlags (o : Explaining) (rows : List Row) : Type 0 where
   pub brief : o.brief ≡ is_given (first_of (codes "brief") rows)
   pub no_places : o.no_places ≡ is_given (first_of (codes "no-places") rows)
+  pub hex : o.hex ≡ is_given (first_of (codes "hex") rows)
   pub speed : text_of o.speed ≡ first_of (codes "speed") rows
 
 -- the text of each option is the one that was found for it, and so are the flags

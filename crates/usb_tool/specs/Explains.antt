@@ -1,6 +1,6 @@
 -- What `explain` tells of its input.
-use Rattle.std.specs.Prelude.{◌≡◌, ℕ, ◌⊎◌, List, ◌++◌, codes}
-use Rattle.std.specs.Io.KnownBytes.{Appends}
+use Rattle.std.specs.Prelude.{◌≡◌, ℕ, ◌⊎◌, Bool, true, false, List, [], ◌++◌, length, codes}
+use Rattle.std.specs.Io.KnownBytes.{Appends, Keeps}
 use Rattle.usb_explain.specs.Explanations.{broken_explanation, explanation}
 use Rattle.usb_explain.specs.Faults.{fault_words}
 use Rattle.usb_explain.specs.declared.manner.Manner.{Manner}
@@ -8,48 +8,91 @@ use Rattle.usb_file.specs.Inputs.{InputFaulty, IsInput}
 use Rattle.usb_file.specs.declared.input.Input.{Input}
 use Rattle.usb_file.specs.declared.input_fault.InputFault.{InputFault}
 use Rattle.usb_file.specs.declared.laws.TheConstants.{FILE_LIMIT}
+use Rattle.usb_hex_text.specs.HexText.{HexFaulty, HexText}
+use Rattle.usb_hex_text.specs.declared.fault.HexFault.{HexFault}
+use Rattle.usb_hex_text.specs.declared.fault.HexFault.TheVariants as hexes
 use Rattle.usb_listing.specs.Output.{AppendsLess, Held}
-use Rattle.usb_tool.specs.Endings.{Fails, Refusal, Refuses, Told}
+use Rattle.usb_tool.specs.Endings.{Fails, Refusal, Refuses, Telling, Told}
 use Rattle.usb_tool.specs.Faults.{fault_line, fault_of_input}
 use Rattle.usb_tool.specs.Input.{Left}
 use Rattle.usb_tool.specs.InputFaults.{OfInput}
 use Rattle.usb_tool.specs.declared.fault.ToolFault.{ToolFault}
 use Rattle.usb_tool.specs.declared.fault.ToolFault.TheVariants as tools
+use Rattle.usb_words.specs.Numbers.{count}
 
--- the explanation of the set, the file or the dump that the bytes are is told, with status 0
-pub record TellsExplanation (m : Manner) (b text : List ℕ) (status : ℕ) : Type 0 where
+-- what is before the explanation of so many bytes that were hexadecimal text
+unfoldable pub hexadecimal_words : ℕ → List ℕ
+hexadecimal_words n = codes "hexadecimal text, " ++ count n (codes "byte") ++ codes ": "
+
+-- the explanation of the set, the file or the dump that the bytes are is told after a heading, with status 0
+pub record TellsExplanation (m : Manner) (heading b text : List ℕ) (status : ℕ) : Type 0 where
   pub input : Input
   pub is : IsInput input b
-  pub explains : text ≡ explanation m input b
+  pub explains : text ≡ heading ++ explanation m input b
   pub ended : status ≡ 0
 
 -- bytes that show a fault are explained as far as they go, with status 3
-pub record TellsBroken (m : Manner) (b text : List ℕ) (status : ℕ) : Type 0 where
+pub record TellsBroken (m : Manner) (heading b text : List ℕ) (status : ℕ) : Type 0 where
   pub fault : InputFault
   pub shows : InputFaulty b fault
-  pub explains : text ≡ broken_explanation m fault b
+  pub explains : text ≡ heading ++ broken_explanation m fault b
   pub ended : status ≡ 3
 
 -- one of both
-abbrev pub Explains : Manner → List ℕ → List ℕ → ℕ → Type 0
-Explains m b text status = TellsExplanation m b text status ⊎ TellsBroken m b text status
+abbrev pub Explains : Manner → List ℕ → List ℕ → List ℕ → ℕ → Type 0
+Explains m heading b text status = TellsExplanation m heading b text status ⊎ TellsBroken m heading b text status
 
 -- the bytes show this fault of an input, and were explained as far as they go
-abbrev pub ExplainsFault : Manner → Refusal
-ExplainsFault m b held holds = OfInput (λ fault. InputFaulty b fault × Appends held holds (broken_explanation m fault b))
+abbrev pub ExplainsFault : Manner → List ℕ → Refusal
+ExplainsFault m heading b held holds =
+    OfInput (λ fault. InputFaulty b fault × Appends held holds (heading ++ broken_explanation m fault b))
 
 -- How bytes are not explained as an input: as far as they go where they show a fault, and else a front of their
 -- explanation was written, which is left unfinished out of memory.
-abbrev pub RefusesToExplain : Manner → Refusal
-RefusesToExplain m = Refuses AppendsLess (Explains m) (ExplainsFault m)
+abbrev pub RefusesToExplain : Manner → List ℕ → Refusal
+RefusesToExplain m heading = Refuses AppendsLess (Explains m heading) (ExplainsFault m heading)
+
+-- the bytes that are explained, and their heading: those of a hexadecimal text, and unless it has to be one the bytes
+-- themselves where they are none
+abbrev pub IsReadAs : Bool → List ℕ → List ℕ → List ℕ → Type 0
+IsReadAs hex b bytes heading =
+    (HexText b bytes × (heading ≡ hexadecimal_words (length bytes)))
+    ⊎ ((hex ≡ false) × ((fault : HexFault) × HexFaulty b fault) × (bytes ≡ b) × (heading ≡ []))
+
+-- this is done with them
+pub record DoesWithText (hex : Bool) (b : List ℕ) (does : List ℕ → List ℕ → Type 0) : Type 0 where
+  pub bytes : List ℕ
+  pub heading : List ℕ
+  pub is : IsReadAs hex b bytes heading
+  pub done : does heading bytes
+
+-- their explanation is told
+abbrev pub TellsText : Bool → Manner → Telling
+TellsText hex m b text status = DoesWithText hex b (λ heading bytes. TellsExplanation m heading bytes text status)
+
+-- hexadecimal text has to be, and the bytes are none, or memory is wanting as it is read
+abbrev pub RefusesHex : Bool → List ℕ → ToolFault → Type 0
+RefusesHex hex b (tools.Hex line column) = (hex ≡ true) × HexFaulty b (hexes.Text line column)
+RefusesHex hex b tools.Memory = Unit {0}
+RefusesHex hex b fault = ⊥
+
+-- how bytes are not explained
+abbrev pub RefusesText : Bool → Manner → Refusal
+RefusesText hex m b held holds fault =
+    DoesWithText hex b (λ heading bytes. RefusesToExplain m heading bytes held holds fault)
+    ⊎ (RefusesHex hex b fault × Keeps held holds)
 
 -- all was read, at most what a file can have, and its explanation was written
-abbrev pub Explained : Manner → Left → Left → Held → Held → ℕ → Type 0
-Explained m = Told FILE_LIMIT (TellsExplanation m)
+abbrev pub Explained : Bool → Manner → Left → Left → Held → Held → ℕ → Type 0
+Explained hex m = Told FILE_LIMIT (TellsText hex m)
 
 -- how `explain` fails
-abbrev pub ExplainFails : Manner → Left → Left → Held → Held → ToolFault → Type 0
-ExplainFails m = Fails FILE_LIMIT (RefusesToExplain m)
+abbrev pub ExplainFails : Bool → Manner → Left → Left → Held → Held → ToolFault → Type 0
+ExplainFails hex m = Fails FILE_LIMIT (RefusesText hex m)
+
+-- no set, file or dump is hexadecimal text
+abbrev pub NoInputIsHexadecimal : Type 0
+NoInputIsHexadecimal = (input : Input) (b bytes : List ℕ) → IsInput input b → HexText b bytes → ⊥
 
 -- What an explanation says of a fault is the line that standard error has of it, and then what is wrong there. Out of memory
 -- is a fault of the program, of which nothing is explained.

@@ -30,6 +30,7 @@ fault_number (faults.List fault) = 5
 fault_number (faults.Set fault) = 6
 fault_number (faults.Trailing at) = 7
 fault_number faults.Memory = 8
+fault_number (faults.Hex line column) = 9
 
 -- the line of a fault, without its line feed
 abbrev pub fault_line : ToolFault → List ℕ
@@ -44,6 +45,8 @@ fault_line (faults.Set fault) =
     codes "usbdesc: set fault " ++ decimal (set_why_number fault.why) ++ codes " at " ++ decimal fault.at
 fault_line (faults.Trailing at) = codes "usbdesc: trailing bytes at " ++ decimal at
 fault_line faults.Memory = codes "usbdesc: out of memory"
+fault_line (faults.Hex line column) =
+    codes "usbdesc: hexadecimal fault line " ++ decimal line ++ codes " column " ++ decimal column
 
 -- *out of memory* of a decoder is the program's own, and any other fault is one of the set
 abbrev pub fault_by_why : SetWhy → SetFault → ToolFault

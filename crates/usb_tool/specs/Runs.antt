@@ -74,7 +74,7 @@ pub record OptionsAreRefused (refuses : SettingsFault → Type 0) (from to : Lef
 -- how `explain` ends with these options: the one that is refused is a speed
 abbrev pub EndsExplanation : Explaining → Work
 EndsExplanation o from to held holds status =
-    OptionsAreTaken Manner (IsManner o) (λ m. Ends (Explained m) (ExplainFails m)) from to held holds status
+    OptionsAreTaken Manner (IsManner o) (λ m. Ends (Explained o.hex m) (ExplainFails o.hex m)) from to held holds status
     ⊎ OptionsAreRefused (λ fault. (fault ≡ Speed) × HasBadSpeed o) from to held holds status
 
 -- how `enumerate` ends with these options

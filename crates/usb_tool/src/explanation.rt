@@ -1,28 +1,33 @@
 //! The command `explain`.
-ghost use Rattle.std.specs.Prelude.{IfErr, IfOk, OnOk};
+ghost use Rattle.std.specs.Prelude.{◌≡◌, ◌++◌, IfErr, IfOk, OnErr, OnOk, length};
 ghost use Rattle.std.specs.Io.KnownBytes.{Appends};
 ghost use Rattle.usb_explain.specs.Explanations.{broken_explanation, explanation};
 ghost use Rattle.usb_file.specs.Inputs.{InputRefused, IsInput};
+ghost use Rattle.usb_listing.specs.Output.{AppendsLess};
 ghost use Rattle.usb_tool.specs.Endings.{Writes};
-ghost use Rattle.usb_tool.specs.Explains.{ExplainFails, Explained, RefusesToExplain, SaysLineOfFault, TellsExplanation};
+ghost use Rattle.usb_tool.specs.Explains.{ExplainFails, Explained, NoInputIsHexadecimal, RefusesText, RefusesToExplain, SaysLineOfFault, TellsExplanation, TellsText, hexadecimal_words};
 ghost use Rattle.usb_tool.specs.inside.Telling.{IsCutShort};
 
 use crate::fault::ToolFault;
 use crate::input::read_all;
 use crate::output::finish;
-use std::alloc::Global;
+use std::alloc::{AllocError, Global};
 use std::io::{Read, Write};
 use usb_explain::{Manner, explain, explain_broken};
-use usb_file::{FILE_LIMIT, Input, InputFault, read_input};
+use usb_file::{FILE_LIMIT, Input, InputFault, OutFault, read_input};
+use usb_hex_text::{HexFault, parse};
+use usb_listing::write_all;
+use usb_words::{Text, put_count};
 
 /// Reads the input to its end, and writes what its descriptors mean, in words. The input is one configuration set, a
-/// descriptor file or a dump, as that of [`run_show`](crate::run_show) is. The number in `Ok` is 0, whatever is found.
+/// descriptor file or a dump, as that of [`run_show`](crate::run_show) is, or the hexadecimal text of one, which the first
+/// line then says; `hex` demands that. The number in `Ok` is 0, whatever is found.
 ///
 /// ```rust
 /// let mut input: &[u8] = &[9, 2, 9, 0, 0, 1, 0, 0x80, 0x32];
 /// let mut text = Vec::new(alloc);
 /// let manner = Manner { look: Look { brief: true, places: false }, speed: None };
-/// run_explain(alloc, &mut input, &mut text, manner)?;
+/// run_explain(alloc, &mut input, &mut text, manner, false)?;
 /// assert_eq!(rt; text.as_slice(), b"set, 9 bytes
 ///   configuration 1, full or high speed, 0 interfaces, bus-powered, 100 mA
 /// no findings
@@ -31,7 +36,8 @@ use usb_file::{FILE_LIMIT, Input, InputFault, read_input};
 ///
 /// # Errors
 ///
-/// `Read` where the reader failed, and `TooLarge` at the first byte over [`FILE_LIMIT`]. Nothing is written then. Of a set
+/// `Read` where the reader failed, and `TooLarge` at the first byte over [`FILE_LIMIT`]; `Hex` where hexadecimal text is
+/// demanded and the input is none. Nothing is written then. Of a set
 /// `Set` with the fault of the whole input, and `Trailing` where it goes on after the set; else `File` with the
 /// fault of a file. What is before the fault is explained then. `Write` where the writer or its flush failed; a prefix
 /// of the text is written then, and may be all of it. `Memory` when out of memory; at least the last byte of the text is
@@ -41,30 +47,81 @@ pub fn run_explain<R: Read, W: Write>(
     r: &mut R,
     w: &mut W,
     manner: Manner,
+    hex: bool,
 ) -> Result<u8, ToolFault>
-    ensures explained { IfOk result (Explained manner (R.remaining r.old) (R.remaining r.new) (W.contents w.old) (W.contents w.new)) }
-    ensures err { IfErr result (ExplainFails manner (R.remaining r.old) (R.remaining r.new) (W.contents w.old) (W.contents w.new)) }
+    ensures explained { IfOk result (Explained hex manner (R.remaining r.old) (R.remaining r.new) (W.contents w.old) (W.contents w.new)) }
+    ensures err { IfErr result (ExplainFails hex manner (R.remaining r.old) (R.remaining r.new) (W.contents w.old) (W.contents w.new)) }
 {
     let bytes = read_all(alloc, r, FILE_LIMIT)?;
-    explain_bytes(alloc, &bytes, w, manner)
+    explain_text(alloc, &bytes, w, manner, hex)
 }
 
-/// Writes the explanation of the bytes.
-fn explain_bytes<W: Write>(
+/// Writes the explanation of the bytes, or of those of which they are the hexadecimal text.
+#[tactic(auto, using(crate::proofs::Hexadecimal::no_text, crate::proofs::Hexadecimal::told_of_text, crate::proofs::Hexadecimal::refused_of_text, crate::proofs::Hexadecimal::told_as_is, crate::proofs::Hexadecimal::refused_as_is, crate::proofs::Hexadecimal::text_refused, crate::proofs::Hexadecimal::text_unread))]
+fn explain_text<W: Write>(
+    alloc: Global,
+    bytes: &[u8],
+    w: &mut W,
+    manner: Manner,
+    hex: bool,
+) -> Result<u8, ToolFault>
+    ensures explained { IfOk result (Writes Appends (TellsText hex manner) bytes.now (W.contents w.old) (W.contents w.new)) }
+    ensures err { IfErr result (RefusesText hex manner bytes.now (W.contents w.old) (W.contents w.new)) }
+{
+    match parse(alloc, bytes) {
+        Ok(found) => explain_found(alloc, &found, w, manner),
+        Err(HexFault::Memory) => Err(ToolFault::Memory),
+        Err(HexFault::Text { line, column }) => {
+            if hex {
+                return Err(ToolFault::Hex { line, column });
+            }
+            explain_bytes(alloc, &[], bytes, w, manner)
+        }
+    }
+}
+
+/// Writes the explanation of bytes that were hexadecimal text.
+fn explain_found<W: Write>(
     alloc: Global,
     bytes: &[u8],
     w: &mut W,
     manner: Manner,
 ) -> Result<u8, ToolFault>
-    ensures explained { IfOk result (Writes Appends (TellsExplanation manner) bytes.now (W.contents w.old) (W.contents w.new)) }
-    ensures err { IfErr result (RefusesToExplain manner bytes.now (W.contents w.old) (W.contents w.new)) }
+    ensures explained { IfOk result (Writes Appends (TellsExplanation manner (hexadecimal_words (length bytes.now))) bytes.now (W.contents w.old) (W.contents w.new)) }
+    ensures err { IfErr result (RefusesToExplain manner (hexadecimal_words (length bytes.now)) bytes.now (W.contents w.old) (W.contents w.new)) }
+{
+    let mut heading = Text::new(alloc);
+    put_hexadecimal(&mut heading, bytes.len())?;
+    explain_bytes(alloc, heading.as_bytes(), bytes, w, manner)
+}
+
+/// Puts what is before the explanation of so many bytes that were hexadecimal text.
+#[tactic(auto, unfolding(crate::specs::Explains::hexadecimal_words))]
+fn put_hexadecimal(text: &mut Text, count: usize) -> Result<(), AllocError>
+    ensures { OnOk result (text.new ≡ text.old ++ hexadecimal_words count) }
+{
+    text.put("hexadecimal text, ")?;
+    put_count(text, count as u64, "byte")?;
+    text.put(": ")
+}
+
+/// Writes the explanation of the bytes after a heading.
+fn explain_bytes<W: Write>(
+    alloc: Global,
+    heading: &[u8],
+    bytes: &[u8],
+    w: &mut W,
+    manner: Manner,
+) -> Result<u8, ToolFault>
+    ensures explained { IfOk result (Writes Appends (TellsExplanation manner heading.now) bytes.now (W.contents w.old) (W.contents w.new)) }
+    ensures err { IfErr result (RefusesToExplain manner heading.now bytes.now (W.contents w.old) (W.contents w.new)) }
 {
     match read_input(alloc, bytes) {
         Ok(input) => {
-            explain_input(alloc, bytes, &input, w, manner)?;
+            explain_input(alloc, heading, bytes, &input, w, manner)?;
             Ok(0)
         }
-        Err(fault) => Err(explain_fault(alloc, bytes, fault, w, manner)),
+        Err(fault) => Err(explain_fault(alloc, heading, bytes, fault, w, manner)),
     }
 }
 
@@ -72,34 +129,53 @@ fn explain_bytes<W: Write>(
 #[tactic(auto, using(crate::proofs::Written::flushed, crate::proofs::Written::not_flushed))]
 fn explain_input<W: Write>(
     alloc: Global,
+    heading: &[u8],
     bytes: &[u8],
     input: &Input,
     w: &mut W,
     manner: Manner,
 ) -> Result<(), ToolFault>
-    ensures explained { OnOk result (Appends (W.contents w.old) (W.contents w.new) (explanation manner input.now bytes.now)) }
-    ensures err { IfErr result (IsCutShort (explanation manner input.now bytes.now) (W.contents w.old) (W.contents w.new)) }
+    ensures explained { OnOk result (Appends (W.contents w.old) (W.contents w.new) (heading.now ++ explanation manner input.now bytes.now)) }
+    ensures err { IfErr result (IsCutShort (heading.now ++ explanation manner input.now bytes.now) (W.contents w.old) (W.contents w.new)) }
 {
-    explain(alloc, bytes, input, manner, w)?;
+    write_explained(alloc, heading, bytes, input, w, manner)?;
     finish(w)
+}
+
+/// Writes a heading and the explanation of the input that the bytes are.
+#[tactic(auto, using(usb_listing::proofs::Pages::front_longer, usb_listing::proofs::Pages::appends_more, crate::proofs::Telling::less_after))]
+fn write_explained<W: Write>(
+    alloc: Global,
+    heading: &[u8],
+    bytes: &[u8],
+    input: &Input,
+    w: &mut W,
+    manner: Manner,
+) -> Result<(), OutFault>
+    ensures ok { OnOk result (Appends (W.contents w.old) (W.contents w.new) (heading.now ++ explanation manner input.now bytes.now)) }
+    ensures err { OnErr result (AppendsLess (W.contents w.old) (W.contents w.new) (heading.now ++ explanation manner input.now bytes.now)) }
+{
+    write_all(w, heading)?;
+    explain(alloc, bytes, input, manner, w)
 }
 
 /// Writes the explanation of bytes that are no input, as far as they go, and answers the fault. Out of memory nothing is
 /// known of them.
 fn explain_fault<W: Write>(
     alloc: Global,
+    heading: &[u8],
     bytes: &[u8],
     fault: InputFault,
     w: &mut W,
     manner: Manner,
 ) -> ToolFault
-    ensures { InputRefused bytes.now fault → RefusesToExplain manner bytes.now (W.contents w.old) (W.contents w.new) result }
+    ensures { InputRefused bytes.now fault → RefusesToExplain manner heading.now bytes.now (W.contents w.old) (W.contents w.new) result }
 {
     let told = ToolFault::from(fault);
     if told == ToolFault::Memory {
         return told;
     }
-    match explain_front(alloc, bytes, fault, w, manner) {
+    match explain_front(alloc, heading, bytes, fault, w, manner) {
         Ok(()) => told,
         Err(cut) => cut,
     }
@@ -109,17 +185,40 @@ fn explain_fault<W: Write>(
 #[tactic(auto, using(crate::proofs::Written::flushed, crate::proofs::Written::not_flushed))]
 fn explain_front<W: Write>(
     alloc: Global,
+    heading: &[u8],
     bytes: &[u8],
     fault: InputFault,
     w: &mut W,
     manner: Manner,
 ) -> Result<(), ToolFault>
-    ensures explained { OnOk result (Appends (W.contents w.old) (W.contents w.new) (broken_explanation manner fault bytes.now)) }
-    ensures err { IfErr result (IsCutShort (broken_explanation manner fault bytes.now) (W.contents w.old) (W.contents w.new)) }
+    ensures explained { OnOk result (Appends (W.contents w.old) (W.contents w.new) (heading.now ++ broken_explanation manner fault bytes.now)) }
+    ensures err { IfErr result (IsCutShort (heading.now ++ broken_explanation manner fault bytes.now) (W.contents w.old) (W.contents w.new)) }
 {
-    explain_broken(alloc, bytes, fault, manner, w)?;
+    write_broken(alloc, heading, bytes, fault, w, manner)?;
     finish(w)
 }
+
+/// Writes a heading and the explanation of bytes with this fault, as far as they go.
+#[tactic(auto, using(usb_listing::proofs::Pages::front_longer, usb_listing::proofs::Pages::appends_more, crate::proofs::Telling::less_after))]
+fn write_broken<W: Write>(
+    alloc: Global,
+    heading: &[u8],
+    bytes: &[u8],
+    fault: InputFault,
+    w: &mut W,
+    manner: Manner,
+) -> Result<(), OutFault>
+    ensures ok { OnOk result (Appends (W.contents w.old) (W.contents w.new) (heading.now ++ broken_explanation manner fault bytes.now)) }
+    ensures err { OnErr result (AppendsLess (W.contents w.old) (W.contents w.new) (heading.now ++ broken_explanation manner fault bytes.now)) }
+{
+    write_all(w, heading)?;
+    explain_broken(alloc, bytes, fault, manner, w)
+}
+
+/// No set, file or dump is hexadecimal text, so each of them is explained as it is.
+pub fn no_input_is_hexadecimal_text()
+    ensures { NoInputIsHexadecimal }
+{}
 
 /// What an explanation says of a fault is the line that standard error has of it, a colon, and what is wrong there. It says
 /// nothing of want of memory.

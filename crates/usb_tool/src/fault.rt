@@ -33,10 +33,12 @@ pub enum ToolFault {
     Trailing(usize),
     /// Out of memory.
     Memory,
+    /// The input is no hexadecimal text: the line and the column of what is none.
+    Hex { line: usize, column: usize },
 }
 
 impl ToolFault {
-    /// The fault's number, from 1 to 8.
+    /// The fault's number, from 1 to 9.
     ///
     /// ```rust
     /// assert_eq!(rt; ToolFault::Trailing(34).number(), 7);
@@ -53,6 +55,7 @@ impl ToolFault {
             ToolFault::Set(_) => 6,
             ToolFault::Trailing(_) => 7,
             ToolFault::Memory => 8,
+            ToolFault::Hex { .. } => 9,
         }
     }
 }
@@ -83,6 +86,9 @@ impl fmt::Display for ToolFault {
             }
             ToolFault::Trailing(at) => write!(f, "usbdesc: trailing bytes at {at}"),
             ToolFault::Memory => write!(f, "usbdesc: out of memory"),
+            ToolFault::Hex { line, column } => {
+                write!(f, "usbdesc: hexadecimal fault line {line} column {column}")
+            }
         }
     }
 }

@@ -116,6 +116,8 @@ pub(crate) const EXPLAIN_HELP: &str = "\
 Input:
   A configuration set, a descriptor file or a dump, as of 'show'. One that is broken is
   explained up to its fault.
+  Or hexadecimal text, which no such input is: digits alone or as 0x09 and \\x09, with white
+  space and commas, or as xxd, 'hexdump -C' and Wireshark write it. The first line says so.
 
 Text:
   Each descriptor has a heading, with the place of its first byte and its length. Below it
@@ -126,13 +128,17 @@ Text:
 Exit status:
   0  the text is written, with findings too
   2  the command line is invalid, or '--speed' names no speed
-  3  reading, the input or writing is at fault; standard error says how";
+  3  reading, the input or writing is at fault; standard error says how, and of text that is
+     not hexadecimal the line and the column, from 1";
 
 /// What `--brief` says.
 pub(crate) const BRIEF_HELP: &str = "Leaves the fields out";
 
 /// What `--no-places` says.
 pub(crate) const NO_PLACES_HELP: &str = "Leaves the places out";
+
+/// What `--hex` says.
+pub(crate) const HEX_HELP: &str = "Takes nothing but hexadecimal text";
 
 /// The values of `--speed` of `explain`.
 pub(crate) const RUNNING_SPEEDS: &str = "low|full|high|super";

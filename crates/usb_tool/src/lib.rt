@@ -5,7 +5,8 @@
 //! those that the writer gains, where the two state them: `specs/Shows.antt` says what it does, fault by
 //! fault. What each line says is in the crate `usb_listing`. [`run_check`] writes what breaks a rule of
 //! chapter 9 in such an input (`specs/Checks.antt`), and [`run_build`] reads a listing and writes the bytes of its file
-//! (`specs/Builds.antt`). [`run_explain`] writes what the descriptors of an input mean, in words (`specs/Explains.antt`).
+//! (`specs/Builds.antt`). [`run_explain`] writes what the descriptors of an input mean, in words, also where it
+//! is the hexadecimal text of one (`specs/Explains.antt`).
 //! [`run_enumerate`] enumerates a device that has the descriptors of a file, over a bus that loses
 //! packets and handshakes, and writes what came of that (`specs/Enumerations.antt`), and a log of it where one is asked
 //! for, whose lines are in the crate `usb_enumeration`.
@@ -55,7 +56,9 @@ pub use command_line::{Line, read_line};
 pub use enumerate_options::Options;
 pub use enumeration::run_enumerate;
 pub use explain_options::Explaining;
-pub use explanation::{an_explanation_says_the_line_of_its_fault, run_explain};
+pub use explanation::{
+    an_explanation_says_the_line_of_its_fault, no_input_is_hexadecimal_text, run_explain,
+};
 pub use fates::{FatesFault, read_fates};
 pub use fault::{ToolFault, verdict};
 pub use manner::{manner_of, read_running_speed};

@@ -82,7 +82,7 @@ fn explain_with<R: Read, W: Write, E: Write>(
     ensures { EndsExplanation options.now (R.remaining r.old) (R.remaining r.new) (W.contents w.old) (W.contents w.new) result }
 {
     match manner_of(options) {
-        Ok(manner) => report(&run_explain(alloc, r, w, manner), e),
+        Ok(manner) => report(&run_explain(alloc, r, w, manner, options.hex), e),
         Err(fault) => refuse(fault, e),
     }
 }

@@ -10,5 +10,6 @@ returns c =
     record {
       brief = c.is_given.ensures ∙ ap is_given (c.get_str.ensures ∙ first_value-rows found (codes "brief"));
       no_places = c.is_given-2.ensures ∙ ap is_given (c.get_str-2.ensures ∙ first_value-rows found (codes "no-places"));
-      speed = c.get_str-3.ensures ∙ first_value-rows found (codes "speed");
+      hex = c.is_given-3.ensures ∙ ap is_given (c.get_str-3.ensures ∙ first_value-rows found (codes "hex"));
+      speed = c.get_str-4.ensures ∙ first_value-rows found (codes "speed");
     }

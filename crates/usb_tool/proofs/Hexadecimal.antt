@@ -1,0 +1,61 @@
+-- On bytes that are explained as what their hexadecimal text says, or as they are.
+use Rattle.std.proofs.Common.{◌≡◌, ℕ, Bool, true, false, List, [], length, Result, Ok, Err, refl, inl, inr}
+use Rattle.std.specs.Prelude.{IfErr, IfOk}
+use Rattle.std.specs.Io.KnownBytes.{Appends}
+use Rattle.usb_hex_text.specs.HexText.{HexFaulty, HexRefused, HexText}
+use Rattle.usb_hex_text.specs.declared.fault.HexFault.{HexFault}
+use Rattle.usb_hex_text.specs.declared.fault.HexFault.TheVariants as hexes
+use Rattle.usb_explain.specs.declared.manner.Manner.{Manner}
+use Rattle.usb_listing.specs.Output.{Held}
+use Rattle.usb_listing.proofs.Pages.{keeps_refl}
+use Rattle.usb_tool.specs.Endings.{Writes}
+use Rattle.usb_tool.specs.Explains.{RefusesText, RefusesToExplain, TellsExplanation, TellsText, hexadecimal_words}
+use Rattle.usb_tool.specs.declared.fault.ToolFault.{ToolFault}
+use Rattle.usb_tool.specs.declared.fault.ToolFault.TheVariants as faults
+
+-- a fault at a place is no want of memory
+pub no_text : (b : List ℕ) (line column : ℕ) → HexRefused b (hexes.Text line column) → HexFaulty b (hexes.Text line column)
+no_text b line column (inl memory) = cc
+no_text b line column (inr faulty) = faulty
+
+module _ (hex : Bool) (m : Manner) (b : List ℕ) (held holds : Held) where
+  -- hexadecimal text is explained as its bytes
+  pub told_of_text : (bytes : List ℕ) (r : Result ℕ ToolFault) → HexText b bytes
+      → IfOk r (Writes Appends (TellsExplanation m (hexadecimal_words (length bytes))) bytes held holds)
+      → IfOk r (Writes Appends (TellsText hex m) b held holds)
+  told_of_text bytes (Ok status) text written = record {
+    text = written.text;
+    told = record { bytes = bytes; heading = hexadecimal_words (length bytes); is = inl (text, refl); done = written.told };
+    written = written.written;
+  }
+  told_of_text bytes (Err fault) text written = tt
+
+  pub refused_of_text : (bytes : List ℕ) (r : Result ℕ ToolFault) → HexText b bytes
+      → IfErr r (RefusesToExplain m (hexadecimal_words (length bytes)) bytes held holds) → IfErr r (RefusesText hex m b held holds)
+  refused_of_text bytes (Ok status) text refused = tt
+  refused_of_text bytes (Err fault) text refused =
+      inl (record { bytes = bytes; heading = hexadecimal_words (length bytes); is = inl (text, refl); done = refused })
+
+  -- and other bytes as they are
+  pub told_as_is : (fault : HexFault) (r : Result ℕ ToolFault) → hex ≡ false → HexFaulty b fault
+      → IfOk r (Writes Appends (TellsExplanation m []) b held holds) → IfOk r (Writes Appends (TellsText hex m) b held holds)
+  told_as_is fault (Ok status) free faulty written = record {
+    text = written.text;
+    told = record { bytes = b; heading = []; is = inr (free, (fault, faulty), refl, refl); done = written.told };
+    written = written.written;
+  }
+  told_as_is fault (Err e) free faulty written = tt
+
+  pub refused_as_is : (fault : HexFault) (r : Result ℕ ToolFault) → hex ≡ false → HexFaulty b fault
+      → IfErr r (RefusesToExplain m [] b held holds) → IfErr r (RefusesText hex m b held holds)
+  refused_as_is fault (Ok status) free faulty refused = tt
+  refused_as_is fault (Err e) free faulty refused =
+      inl (record { bytes = b; heading = []; is = inr (free, (fault, faulty), refl, refl); done = refused })
+
+-- where hexadecimal text has to be, other bytes are refused
+pub text_refused : (hex : Bool) (m : Manner) (b : List ℕ) (held : Held) (line column : ℕ) → hex ≡ true → HexFaulty b (hexes.Text line column)
+    → RefusesText hex m b held held (faults.Hex line column)
+text_refused hex m b held line column demanded faulty = inr ((demanded, faulty), keeps_refl held)
+
+pub text_unread : (hex : Bool) (m : Manner) (b : List ℕ) (held : Held) → RefusesText hex m b held held faults.Memory
+text_unread hex m b held = inr (tt, keeps_refl held)
