@@ -6,7 +6,7 @@ use crate::context::Context;
 use crate::device::{put_device_words, put_qualifier_words};
 use crate::endpoint::put_endpoint_words;
 use crate::layout::put_layout;
-use crate::line::{end_line, put_place};
+use crate::line::put_place;
 use crate::look::Look;
 use crate::names::Names;
 use crate::raw::{put_raw_fields, put_raw_words};
@@ -45,7 +45,7 @@ pub fn put_heading(
     text.put_spaces(2 * usize::from(context.depth))?;
     put_words(text, role, context, bytes)?;
     put_place(text, look, at, bytes.len())?;
-    end_line(text)
+    text.put_character(b'\n')
 }
 
 #[tactic(auto, unfolding(crate::specs::Descriptors::heading_words))]

@@ -7,7 +7,7 @@ ghost use Rattle.usb_explained_lines.specs.inside.LayoutOf.{layout_of};
 
 use crate::context::Context;
 use crate::form::put_form;
-use crate::line::{begin_field, end_line, put_digits};
+use crate::line::{begin_field, put_digits};
 use crate::names::Names;
 use std::alloc::AllocError;
 use usb_names::ClassField;
@@ -187,5 +187,5 @@ fn put_field(
 {
     begin_field(text, shown.context.depth, field.name)?;
     put_form(text, shown, field, place)?;
-    end_line(text)
+    text.put_character(b'\n')
 }

@@ -1,5 +1,5 @@
 //! The parts of lines.
-ghost use Rattle.std.specs.Prelude.{◌≡◌, ◌++◌, codes, OnOk};
+ghost use Rattle.std.specs.Prelude.{◌≡◌, ◌++◌, OnOk};
 ghost use Rattle.usb_explained_lines.specs.Lines.{digits_line, field_start, place_words};
 
 use crate::look::Look;
@@ -35,13 +35,6 @@ pub(crate) fn begin_field(text: &mut Text, depth: u8, name: &str) -> Result<(), 
     text.put_column_behind(2 * usize::from(depth) + 4, name, 23)
 }
 
-/// Ends a line.
-pub(crate) fn end_line(text: &mut Text) -> Result<(), AllocError>
-    ensures { OnOk result (text.new ≡ text.old ++ codes "\n") }
-{
-    text.put_character(b'\n')
-}
-
 /// Puts bytes as hexadecimal digits, if there are any.
 #[tactic(auto, unfolding(crate::specs::Lines::digits_line, crate::specs::Lines::field_line))]
 pub(crate) fn put_digits(
@@ -57,7 +50,7 @@ pub(crate) fn put_digits(
         _ => {
             begin_field(text, depth, name)?;
             text.put_digits(bytes)?;
-            end_line(text)
+            text.put_character(b'\n')
         }
     }
 }

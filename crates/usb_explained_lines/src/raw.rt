@@ -8,7 +8,7 @@ ghost use Rattle.usb_explained_lines.specs.Lines.{field_line};
 
 use crate::context::Context;
 use crate::layout::{DescriptorLayout, put_layout};
-use crate::line::{begin_field, end_line, put_digits};
+use crate::line::{begin_field, put_digits};
 use crate::names::Names;
 use std::alloc::AllocError;
 use usb_names::{ClassCodes, ClassDescriptor, class_descriptor};
@@ -75,7 +75,7 @@ fn put_type(text: &mut Text, depth: u8, descriptor_type: u8) -> Result<(), Alloc
 {
     begin_field(text, depth, "bDescriptorType")?;
     put_byte_code(text, descriptor_type)?;
-    end_line(text)
+    text.put_character(b'\n')
 }
 
 fn put_row(

@@ -1,8 +1,8 @@
 //! What is left of an input.
 ghost use Rattle.std.specs.Prelude.{◌≡◌, ◌++◌, OnOk};
-ghost use Rattle.usb_explained_lines.specs.Rest.{more_words, rest_fields, rest_heading, rest_line, rest_lines};
+ghost use Rattle.usb_explained_lines.specs.Rest.{more_words, rest_heading, rest_line, rest_lines};
 
-use crate::line::{begin_field, end_line, put_place};
+use crate::line::{begin_field, put_place};
 use crate::look::Look;
 use std::alloc::AllocError;
 use usb_text::Text;
@@ -13,6 +13,7 @@ use usb_words::front;
 /// # Errors
 ///
 /// Out of memory.
+#[tactic(auto, unfolding(crate::specs::Rest::rest_fields))]
 pub fn put_rest(text: &mut Text, look: Look, at: usize, b: &[u8]) -> Result<(), AllocError>
     ensures { OnOk result (text.new ≡ text.old ++ rest_lines look at b.now) }
 {
@@ -20,7 +21,11 @@ pub fn put_rest(text: &mut Text, look: Look, at: usize, b: &[u8]) -> Result<(), 
         [] => Ok(()),
         [_, ..] => {
             put_rest_heading(text, look, at, b)?;
-            put_rest_fields(text, look, b)
+            if look.brief {
+                Ok(())
+            } else {
+                put_rest_line(text, b)
+            }
         }
     }
 }
@@ -31,18 +36,7 @@ fn put_rest_heading(text: &mut Text, look: Look, at: usize, b: &[u8]) -> Result<
 {
     text.put("the rest")?;
     put_place(text, look, at, b.len())?;
-    end_line(text)
-}
-
-#[tactic(auto, unfolding(crate::specs::Rest::rest_fields))]
-fn put_rest_fields(text: &mut Text, look: Look, b: &[u8]) -> Result<(), AllocError>
-    ensures { OnOk result (text.new ≡ text.old ++ rest_fields look b.now) }
-{
-    if look.brief {
-        Ok(())
-    } else {
-        put_rest_line(text, b)
-    }
+    text.put_character(b'\n')
 }
 
 /// Puts the first 32 bytes, and how many more there are.
@@ -53,7 +47,7 @@ fn put_rest_line(text: &mut Text, b: &[u8]) -> Result<(), AllocError>
     begin_field(text, 0, "bytes")?;
     text.put_digits(front(b, 32))?;
     put_more(text, b.len())?;
-    end_line(text)
+    text.put_character(b'\n')
 }
 
 fn put_more(text: &mut Text, count: usize) -> Result<(), AllocError>

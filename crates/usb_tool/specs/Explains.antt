@@ -18,7 +18,7 @@ use Rattle.usb_tool.specs.Input.{Left}
 use Rattle.usb_tool.specs.InputFaults.{OfInput}
 use Rattle.usb_tool.specs.declared.fault.ToolFault.{ToolFault}
 use Rattle.usb_tool.specs.declared.fault.ToolFault.TheVariants as tools
-use Rattle.usb_words.specs.Numbers.{count}
+use Rattle.usb_text.specs.Numbers.{count}
 
 -- what is before the explanation of so many bytes that were hexadecimal text
 unfoldable pub hexadecimal_words : ℕ → List ℕ

@@ -17,7 +17,7 @@ use usb_explain::{Manner, explain, explain_broken};
 use usb_file::{FILE_LIMIT, Input, InputFault, OutFault, read_input};
 use usb_hex_text::{HexFault, parse};
 use usb_listing::write_all;
-use usb_words::{Text, put_count};
+use usb_text::{Text, put_count};
 
 /// Reads the input to its end, and writes what its descriptors mean, in words. The input is one configuration set, a
 /// descriptor file or a dump, as that of [`run_show`](crate::run_show) is, or the hexadecimal text of one, which the first

@@ -1,6 +1,6 @@
 use Rattle.std.proofs.Common.{◌≡◌, ℕ, ◌++◌, List, codes, Result, Ok, Err, ap, ◌∙◌, append_assoc}
 use Rattle.std.specs.Prelude.{OnOk}
-use Rattle.usb_words.specs.Numbers.{count}
+use Rattle.usb_text.specs.Numbers.{count}
 use Rattle.usb_tool.specs.Explains.{hexadecimal_words}
 use Rattle.usb_tool.proofs.explanation.put_hexadecimal.Goals as goal
 
