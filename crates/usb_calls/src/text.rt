@@ -17,8 +17,8 @@ use crate::refusal::{refused_input, refused_list, wants_memory};
 use std::alloc::{AllocError, Global};
 use usb_explain::{Look, Manner, RunningSpeed, explain, explain_broken};
 use usb_file::{
-    DescriptorFile, Input, InputFault, OutFault, WriteFault, assemble, check_input, list,
-    list_set, read_input, write_file,
+    DescriptorFile, Input, InputFault, OutFault, WriteFault, assemble, check_input, list, list_set,
+    read_input, write_file,
 };
 use usb_rules::findings_text;
 use usb_set::Configuration;
@@ -79,13 +79,13 @@ pub fn check(alloc: Global, bytes: &[u8], out: &mut [u8]) -> Verdict
 fn check_whole(alloc: Global, input: &Input, out: &mut [u8]) -> Verdict
     ensures { Fills verdicts.Done (check_text (input_findings input.now)) out.old out.new result }
 {
-    match findings_text(alloc, input) {
+    match check_text(alloc, input) {
         Ok(text) => fill_done(text.as_slice(), out),
         Err(_) => Verdict::NoMemory,
     }
 }
 
-fn findings_text(alloc: Global, input: &Input) -> Result<Vec<u8>, AllocError>
+fn check_text(alloc: Global, input: &Input) -> Result<Vec<u8>, AllocError>
     ensures { IfOk result (λ text. text.items ≡ check_text (input_findings input.now)) }
 {
     let found = check_input(alloc, input)?;
