@@ -14,6 +14,7 @@ import building  # noqa: E402
 import checking  # noqa: E402
 import enumerations_of_files  # noqa: E402
 import explaining  # noqa: E402
+import hexadecimal  # noqa: E402
 import logs  # noqa: E402
 import reading  # noqa: E402
 from enumerating import Device, Host, enumerate_device  # noqa: E402
@@ -229,6 +230,18 @@ def message(b, line):
 
 
 def explain(b):
+    """Bytes that are no input may be hexadecimal text."""
+    if form(b)[0]:
+        try:
+            data = hexadecimal.read(b)
+        except hexadecimal.Fault:
+            return explain_bytes(b)
+        status, text, fault = explain_bytes(data)
+        return status, f"hexadecimal text, {explaining.count(len(data), 'byte')}: ".encode() + text, fault
+    return explain_bytes(b)
+
+
+def explain_bytes(b):
     fault, kind = form(b)
     if not fault:
         return 0, explaining.Explanation(kind, b).text().encode(), ""
