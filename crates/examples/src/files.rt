@@ -4,7 +4,8 @@ use crate::tree::file_of;
 use crate::words::bytes_of;
 use anyhow::{Result, ensure};
 use std::alloc::Global;
-use usb_file::{DescriptorFile, FileWhy, assemble, named, read_file, write_file};
+use usb_file::{DescriptorFile, FileWhy, named, read_file, write_file};
+use usb_listing_reader::assemble;
 
 /// The named indices of the file that the bytes are, or their fault. A file gives its bytes again.
 pub(crate) fn file(alloc: Global, words: &[String]) -> Result<String> {

@@ -1,7 +1,8 @@
 //! Calls that look what breaks a rule.
 use crate::answer::{Answer, right};
 use std::alloc::Global;
-use usb_file::{DescriptorFile, check, check_dump, check_set};
+use usb_file::DescriptorFile;
+use usb_rules::{check, check_dump, check_set};
 use usb_set::Configuration;
 
 /// What is looked at.

@@ -4,7 +4,7 @@ use crate::longest::{SET_LENGTH, SET_TEXT_LENGTH, fill_set, is_front_of_set_text
 use crate::onto::{Added, add_twice};
 use std::alloc::Global;
 use std::io::Cursor;
-use usb_file::{OutFault, list_set};
+use usb_listing::{OutFault, list_set};
 use usb_set::{Configuration, Decoder, SetFault, SetWhy, read_set};
 use usb_set_encoder::{EncodeFault, encode, refusal};
 

@@ -29,18 +29,18 @@ pub mod descriptors {
 /// All descriptors of a device in a file; their listing for people, which is read back to the same file; and what they
 /// mean, in words.
 pub mod files {
-    pub use usb_explain::{Look, Manner, RunningSpeed, explain, explain_broken};
+    pub use usb_explain::{Look, Manner, SetSpeed, explain, explain_broken};
     pub use usb_file::{
-        DescriptorFile, FILE_LIMIT, FileFault, FileWhy, Input, InputFault, LISTING_LIMIT,
-        ListFault, ListWhy, NoMemory, Other, OutFault, Strings, WriteFault, assemble, list,
-        list_set, named, read_file, read_input, write_file, write_refusal,
+        DescriptorFile, FILE_LIMIT, FileFault, FileWhy, Input, InputFault, NoMemory, Other,
+        Strings, WriteFault, named, read_file, read_input, write_file, write_refusal,
     };
+    pub use usb_listing::{LISTING_LIMIT, OutFault, list, list_set};
+    pub use usb_listing_reader::{ListFault, ListWhy, assemble};
 }
 
 /// What breaks a rule of chapter 9.
 pub mod rules {
-    pub use usb_file::check_input;
-    pub use usb_rules::{Finding, Part, Rule, check, check_dump, check_set};
+    pub use usb_rules::{Finding, Part, Rule, check, check_dump, check_input, check_set};
 }
 
 /// The device's end of a control pipe (USB 2.0, 8.5.3 and 9.4).

@@ -6,8 +6,9 @@ use crate::words::read_speed;
 use anyhow::Result;
 use std::alloc::{AllocError, Global};
 use usb_fields::Speed;
-use usb_file::{DescriptorFile, list};
+use usb_file::DescriptorFile;
 use usb_host::{Action, Host, Trouble};
+use usb_listing::list;
 use usb_transfer::{LimitFault, Limits};
 
 /// A host.

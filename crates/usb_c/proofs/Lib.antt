@@ -3,4 +3,7 @@ mod DeviceValues
 mod Due
 mod Faults
 mod HostValues
+mod InputFaults
 mod LooseValues
+mod Reasons
+mod Replies

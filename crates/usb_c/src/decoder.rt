@@ -1,12 +1,14 @@
 //! A set in pieces, by a handle.
 ghost use Rattle.std.specs.Prelude.{◌≡◌, None};
-ghost use Rattle.usb_calls.specs.Answers.{AnswersOn};
+ghost use Rattle.usb_c.specs.Answers.{AnswersOn};
 ghost use Rattle.usb_c.specs.Decoders.{Feeds, Lists, OpensNew, told};
 
+use crate::answer::{Answer, Verdict};
 use crate::decoder_handle::UsbDecoder;
+use crate::refusal::refused_set;
+use crate::text::fill_set;
 use std::alloc::Global;
 use std::mem::replace;
-use usb_calls::{Answer, Verdict, fill_set, refused_set};
 use usb_set::{Decoder, Progress, SetFault};
 
 /// Opens a decoder that has taken no byte. One that is held already is freed.

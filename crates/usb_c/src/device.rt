@@ -4,18 +4,18 @@ ghost use Rattle.std.specs.Option.{option_and_then, option_map};
 ghost use Rattle.usb_device.specs.Beside.{carried_out_in, refused_in, room_size, unfit_bytes, unfit_status, Gives, Does};
 ghost use Rattle.usb_device.specs.Step.{new_device};
 ghost use Rattle.usb_device.specs.View.{acked_by};
-ghost use Rattle.usb_calls.specs.Answers.{AnswersOn, answer_of};
+ghost use Rattle.usb_c.specs.Answers.{AnswersOn, answer_of};
 ghost use Rattle.usb_c.specs.Devices.{Opens, OpensAt, Serves, answer_told, answered_for, setup_told, state_numbers, state_told};
-ghost use Rattle.usb_calls.specs.Ends.{after};
-ghost use Rattle.usb_calls.specs.Transactions.{sent_told, speed_told};
+ghost use Rattle.usb_c.specs.Ends.{after};
+ghost use Rattle.usb_c.specs.Transactions.{sent_told, speed_told};
 
+use crate::answer::{Answer, Verdict};
 use crate::device_handle::UsbDevice;
+use crate::owned_device::OwnedDevice;
+use crate::refusal::{refused_description, refused_file};
+use crate::transaction::{UsbPacket, UsbTransaction, sent, speed_of};
 use std::alloc::Global;
 use std::mem::replace;
-use usb_calls::{
-    Answer, OwnedDevice, UsbPacket, UsbTransaction, Verdict, refused_description, refused_file,
-    sent, speed_of,
-};
 use usb_device::{Description, State};
 use usb_fields::{Setup, Speed};
 use usb_file::read_file;

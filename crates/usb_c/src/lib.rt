@@ -1,19 +1,31 @@
 //! Descriptors, devices and hosts of USB 2.0 for callers in C: `callers/c/usb.h` declares what this library exports.
 //!
 //! A slice is a pointer and a length, lent for the call. No export has a `requires`: each takes any bytes, any numbers
-//! and any order of calls. A text or bytes go into the caller's buffer whole, or the buffer is left as it was. What the
-//! calls do is in the crate usb_calls; here are the exports and the three handles.
+//! and any order of calls. A text or bytes go into the caller's buffer whole, or the buffer is left as it was:
+//! `specs/Texts.antt`, `specs/Enumerations.antt`.
+//!
+//! Each call comes to a `Verdict`, which is given as the numbers of an [`Answer`]. [`UsbTransaction`], [`UsbPacket`],
+//! [`UsbOutcome`] and [`UsbTrouble`] are transactions and outcomes as numbers.
 #![tactic(auto)]
 
+mod answer;
+mod buffer;
 mod decoder;
 mod decoder_handle;
 mod device;
 mod device_handle;
+mod enumeration;
 mod host;
 mod host_handle;
+mod input;
 mod loose;
+mod outcome;
+mod owned_device;
+mod refusal;
 mod text;
+mod transaction;
 
+pub use answer::Answer;
 pub use decoder::{usb_decoder_close, usb_decoder_feed, usb_decoder_list, usb_decoder_open};
 pub use decoder_handle::UsbDecoder;
 pub use device::{
@@ -22,9 +34,12 @@ pub use device::{
     usb_device_reset, usb_device_serve, usb_device_state,
 };
 pub use device_handle::UsbDevice;
+pub use enumeration::UsbOutcome;
 pub use host::{
     usb_host_attempts, usb_host_close, usb_host_next, usb_host_open, usb_host_outcome,
     usb_host_reset_done, usb_host_take,
 };
 pub use host_handle::UsbHost;
-pub use text::{usb_build, usb_check, usb_enumerate, usb_explain, usb_show};
+pub use input::{usb_build, usb_check, usb_enumerate, usb_explain, usb_show};
+pub use outcome::UsbTrouble;
+pub use transaction::{UsbPacket, UsbTransaction};

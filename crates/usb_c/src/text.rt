@@ -1,66 +1,197 @@
 //! Texts, from a buffer into a buffer: what `usbdesc` writes.
-ghost use Rattle.usb_calls.specs.Answers.{AnswersOn};
-ghost use Rattle.usb_calls.specs.Enumerations.{Enumerates};
-ghost use Rattle.usb_calls.specs.Texts.{Builds, Checks, Explains, Shows, manner_told};
-ghost use Rattle.usb_calls.specs.Transactions.{speed_told};
+ghost use Rattle.std.specs.Prelude.{◌≡◌, List, ℕ, IfOk};
+ghost use Rattle.usb_explain.specs.Explanations.{explanation};
+ghost use Rattle.usb_rules.specs.Findings.{input_findings};
+ghost use Rattle.usb_file_data.specs.File.{File};
+ghost use Rattle.usb_listing.specs.SetListing.{set_lines};
+ghost use Rattle.usb_rules.specs.FindingLine.{check_text};
+ghost use Rattle.usb_c.specs.Buffers.{Fills};
+ghost use Rattle.usb_c.specs.Outcomes.{PutsFile};
+ghost use Rattle.usb_c.specs.Texts.{ExplainsFault};
+ghost use Rattle.usb_c.specs.Texts.{Builds, Checks, Explains, Shows, input_lines, manner_told, running_speed_told};
+ghost use Rattle.usb_c.specs.declared.answer.Verdict.TheVariants as verdicts;
 
-use std::alloc::Global;
-use usb_calls::{Answer, UsbOutcome, build, check, enumerate_bytes, explain_bytes, manner, show};
+use crate::answer::Verdict;
+use crate::buffer::{fill_broken, fill_done};
+use crate::refusal::{refused_input, refused_list, wants_memory};
+use std::alloc::{AllocError, Global};
+use usb_explain::{Look, Manner, SetSpeed, explain, explain_broken};
+use usb_file::{DescriptorFile, Input, InputFault, WriteFault, read_input, write_file};
+use usb_listing::{OutFault, list, list_set};
+use usb_listing_reader::assemble;
+use usb_rules::{check_input, findings_text};
+use usb_set::Configuration;
 
 /// Puts the listing of an input into the buffer: a line for each descriptor.
-#[unsafe(no_mangle)]
-pub extern "C" fn usb_show(alloc: Global, bytes: &[u8], text: &mut [u8]) -> Answer
-    ensures { AnswersOn (Shows bytes.now text.old text.new) result }
+#[tactic(auto, using(crate::proofs::InputFaults::input_refuses))]
+pub(crate) fn show(alloc: Global, bytes: &[u8], out: &mut [u8]) -> Verdict
+    ensures { Shows bytes.now out.old out.new result }
 {
-    show(alloc, bytes, text).answer()
+    match read_input(alloc, bytes) {
+        Ok(input) => show_input(alloc, &input, out),
+        Err(fault) => refused_input(fault),
+    }
+}
+
+/// Puts the listing of a set into the buffer.
+pub(crate) fn fill_set(alloc: Global, set: &Configuration, out: &mut [u8]) -> Verdict
+    ensures { Fills verdicts.Done (set_lines set.now) out.old out.new result }
+{
+    let mut text = Vec::new(alloc);
+    match list_set(alloc, set, &mut text) {
+        Ok(()) => fill_done(text.as_slice(), out),
+        Err(_) => Verdict::NoMemory,
+    }
+}
+
+fn show_input(alloc: Global, input: &Input, out: &mut [u8]) -> Verdict
+    ensures { Fills verdicts.Done (input_lines input.now) out.old out.new result }
+{
+    match lines_of_input(alloc, input) {
+        Ok(text) => fill_done(text.as_slice(), out),
+        Err(_) => Verdict::NoMemory,
+    }
+}
+
+fn lines_of_input(alloc: Global, input: &Input) -> Result<Vec<u8>, OutFault>
+    ensures { IfOk result (λ text. text.items ≡ input_lines input.now) }
+{
+    let mut text = Vec::new(alloc);
+    match input {
+        Input::Set(set) => list_set(alloc, set, &mut text)?,
+        Input::File(file) | Input::Dump(file) => list(alloc, file, &mut text)?,
+    }
+    Ok(text)
 }
 
 /// Puts a line for each finding in an input into the buffer, or `no findings`.
-#[unsafe(no_mangle)]
-pub extern "C" fn usb_check(alloc: Global, bytes: &[u8], text: &mut [u8]) -> Answer
-    ensures { AnswersOn (Checks bytes.now text.old text.new) result }
+#[tactic(auto, using(crate::proofs::InputFaults::input_refuses))]
+pub(crate) fn check(alloc: Global, bytes: &[u8], out: &mut [u8]) -> Verdict
+    ensures { Checks bytes.now out.old out.new result }
 {
-    check(alloc, bytes, text).answer()
+    match read_input(alloc, bytes) {
+        Ok(input) => check_whole(alloc, &input, out),
+        Err(fault) => refused_input(fault),
+    }
+}
+
+fn check_whole(alloc: Global, input: &Input, out: &mut [u8]) -> Verdict
+    ensures { Fills verdicts.Done (check_text (input_findings input.now)) out.old out.new result }
+{
+    match check_text(alloc, input) {
+        Ok(text) => fill_done(text.as_slice(), out),
+        Err(_) => Verdict::NoMemory,
+    }
+}
+
+fn check_text(alloc: Global, input: &Input) -> Result<Vec<u8>, AllocError>
+    ensures { IfOk result (λ text. text.items ≡ check_text (input_findings input.now)) }
+{
+    let found = check_input(alloc, input)?;
+    findings_text(alloc, &found)
+}
+
+/// How an explanation is written.
+pub(crate) fn manner(options: u32, speed: u8) -> Manner
+    ensures { result ≡ manner_told options speed }
+{
+    Manner {
+        look: Look {
+            brief: options % 2 == 1,
+            places: options / 2 % 2 == 1,
+        },
+        speed: running_speed(speed),
+    }
+}
+
+fn running_speed(number: u8) -> Option<SetSpeed>
+    ensures { result ≡ running_speed_told number }
+{
+    match number {
+        1 => Some(SetSpeed::Low),
+        2 => Some(SetSpeed::Full),
+        3 => Some(SetSpeed::High),
+        4 => Some(SetSpeed::Super),
+        _ => None,
+    }
 }
 
 /// Puts the explanation of bytes into the buffer: of an input all of it, else what is before the fault, the fault and
 /// the rest. Options: bit 0 leaves out the fields, bit 1 gives each field its place. A speed: 1 low, 2 full, 3 high,
 /// 4 super; any other says nothing of it.
-#[unsafe(no_mangle)]
-pub extern "C" fn usb_explain(
+#[tactic(auto, using(crate::proofs::InputFaults::fault_explained))]
+pub(crate) fn explain_bytes(alloc: Global, bytes: &[u8], manner: Manner, out: &mut [u8]) -> Verdict
+    ensures { Explains manner bytes.now out.old out.new result }
+{
+    match read_input(alloc, bytes) {
+        Ok(input) => explain_input(alloc, bytes, &input, manner, out),
+        Err(fault) => explain_fault(alloc, bytes, fault, manner, out),
+    }
+}
+
+fn explain_input(
     alloc: Global,
     bytes: &[u8],
-    options: u32,
-    speed: u8,
-    text: &mut [u8],
-) -> Answer
-    ensures { AnswersOn (Explains (manner_told options speed) bytes.now text.old text.new) result }
+    input: &Input,
+    manner: Manner,
+    out: &mut [u8],
+) -> Verdict
+    ensures { Fills verdicts.Done (explanation manner input.now bytes.now) out.old out.new result }
 {
-    explain_bytes(alloc, bytes, manner(options, speed), text).answer()
+    let mut text = Vec::new(alloc);
+    match explain(alloc, bytes, input, manner, &mut text) {
+        Ok(()) => fill_done(text.as_slice(), out),
+        Err(_) => Verdict::NoMemory,
+    }
+}
+
+fn explain_fault(
+    alloc: Global,
+    bytes: &[u8],
+    fault: InputFault,
+    manner: Manner,
+    out: &mut [u8],
+) -> Verdict
+    ensures { ExplainsFault manner fault bytes.now out.old out.new result }
+{
+    if wants_memory(fault) {
+        return Verdict::NoMemory;
+    }
+    let mut text = Vec::new(alloc);
+    match explain_broken(alloc, bytes, fault, manner, &mut text) {
+        Ok(()) => fill_broken(fault, text.as_slice(), out),
+        Err(_) => Verdict::NoMemory,
+    }
 }
 
 /// Puts the bytes of the file that a text lists into the buffer.
-#[unsafe(no_mangle)]
-pub extern "C" fn usb_build(alloc: Global, text: &[u8], bytes: &mut [u8]) -> Answer
-    ensures { AnswersOn (Builds text.now bytes.old bytes.new) result }
+#[tactic(auto, using(crate::proofs::InputFaults::list_refuses))]
+pub(crate) fn build(alloc: Global, text: &[u8], out: &mut [u8]) -> Verdict
+    ensures { Builds text.now out.old out.new result }
 {
-    build(alloc, text, bytes).answer()
+    match assemble(alloc, text) {
+        Ok(file) => build_file(alloc, &file, out),
+        Err(fault) => refused_list(fault),
+    }
 }
 
-/// Enumerates a device with the descriptors of a file, and puts the listing of what was read into the buffer. A fate is
-/// one byte a transaction: `.` passes, `n` busy, `d` lost down, `u` lost up, `a` lost ACK.
-#[unsafe(no_mangle)]
-pub extern "C" fn usb_enumerate(
-    alloc: Global,
-    bytes: &[u8],
-    speed: u8,
-    naks: u16,
-    attempts: u8,
-    fates: &[u8],
-    outcome: &mut UsbOutcome,
-    text: &mut [u8],
-) -> Answer
-    ensures { AnswersOn (Enumerates bytes.now (speed_told speed) naks attempts fates.now outcome.old outcome.new text.old text.new) result }
+fn build_file(alloc: Global, file: &DescriptorFile, out: &mut [u8]) -> Verdict
+    requires { (b : List ℕ) × File file.now b }
+    ensures { PutsFile file.now out.old out.new result }
 {
-    enumerate_bytes(alloc, bytes, speed, naks, attempts, fates, outcome, text).answer()
+    match bytes_of(alloc, file) {
+        Ok(bytes) => fill_done(bytes.as_slice(), out),
+        Err(_) => Verdict::NoMemory,
+    }
+}
+
+fn bytes_of(alloc: Global, file: &DescriptorFile) -> Result<Vec<u8>, AllocError>
+    requires { (b : List ℕ) × File file.now b }
+    ensures { IfOk result (λ b. File file.now b.items) }
+{
+    match write_file(alloc, file) {
+        Ok(bytes) => Ok(bytes),
+        Err(WriteFault::Memory) => Err(AllocError),
+        Err(_) => unreachable!(),
+    }
 }

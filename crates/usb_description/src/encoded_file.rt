@@ -1,7 +1,7 @@
 //! The descriptors of a file, each judged and encoded once.
 ghost use Rattle.std.specs.Prelude.{◌≡◌, ◌++◌, ◌∷◌, [], length, map, false, IfErr, IfOk, IfSome, OnOk, OnSome};
 ghost use Rattle.std.specs.List.{list_any};
-ghost use Rattle.usb_fields.specs.declared.speed.Speed.{Speed};
+ghost use Rattle.usb_base.specs.declared.speed.Speed.{Speed};
 ghost use Rattle.usb_fields.specs.Qualifier.{qualifier_bytes};
 ghost use Rattle.usb_fields.specs.Units.{units_bytes};
 ghost use Rattle.usb_file_data.specs.File.{has_long_string, has_no_layout, is_long_string, whole_set};

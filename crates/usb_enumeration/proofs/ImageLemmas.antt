@@ -1,7 +1,7 @@
 -- A host that keeps a cursor and a decoder goes as one that keeps all replies and all bytes.
 use Rattle.std.proofs.Common.{◌≡◌, ℕ, ◌+◌, ◌==◌, Bool, true, false, nat_lt, if◌then◌else◌, List, [], ◌∷◌, ◌++◌, length, ◌⊎◌, inl, inr, refl, ap, sym, ◌∙◌, subst, length-append}
 use Rattle.std.specs.Prelude.{Result, Option}
-use Rattle.usb_fields.specs.declared.speed.Speed.{Speed}
+use Rattle.usb_base.specs.declared.speed.Speed.{Speed}
 use Rattle.usb_fields.specs.declared.packet.Toggle.{Toggle}
 use Rattle.usb_fields.specs.declared.packet.Toggle.TheVariants.{Data0, Data1}
 use Rattle.usb_fields.specs.Packets.{is_same_toggle}

@@ -1,6 +1,6 @@
 -- What an enumeration promises.
 use Rattle.std.specs.Prelude.{◌≡◌, ℕ, suc, ◌+◌, ◌/◌, ◌<◌, ◌≤◌, Bool, true, false, List, [], ◌∷◌, Some, ◌⊎◌, IfErr, IfOk}
-use Rattle.usb_fields.specs.declared.speed.Speed.{Speed}
+use Rattle.usb_base.specs.declared.speed.Speed.{Speed}
 use Rattle.usb_file_data.specs.declared.file.DescriptorFile.{DescriptorFile}
 use Rattle.usb_transfer.specs.declared.why.Why.{Why}
 use Rattle.usb_transfer.specs.declared.why.Why.TheVariants.{Memory}

@@ -2,7 +2,7 @@
 use Rattle.std.specs.Prelude.{◌≡◌, ℕ, ◌≤◌, List}
 use Rattle.usb_base.specs.Bytes.{AreBytes}
 use Rattle.usb_fields.specs.declared.setup.Setup.{Setup}
-use Rattle.usb_fields.specs.declared.speed.Speed.{Speed}
+use Rattle.usb_base.specs.declared.speed.Speed.{Speed}
 use Rattle.usb_file_data.specs.declared.file.DescriptorFile.{DescriptorFile}
 use Rattle.usb_file_data.specs.File.{file_bytes}
 use Rattle.usb_transfer.specs.Limits.{LimitView, IsInRange}

@@ -2,7 +2,7 @@
 use Rattle.std.proofs.Common.{◌≡◌, ◌≤◌, ℕ, ◌+◌, List, Option, Some, None, refl, arith}
 use Rattle.usb_rules.specs.declared.finding.Part.{Part}
 use Rattle.usb_rules.specs.declared.finding.Part.TheVariants as parts
-use Rattle.usb_words.specs.declared.set_speed.RunningSpeed.{RunningSpeed}
+use Rattle.usb_words.specs.declared.speed.SetSpeed.{SetSpeed}
 use Rattle.usb_explained_lines.specs.declared.role.Role.{Role}
 use Rattle.usb_explained_lines.specs.declared.role.Role.TheVariants.{Device, Qualifier, Configuration, Association, Interface, Endpoint, Raw, Languages, Text}
 use Rattle.usb_explain.specs.declared.position.SettingStanding.{SettingStanding}
@@ -36,7 +36,7 @@ noted_at Languages d s = refl
 noted_at Text d s = refl
 
 -- opening a set doesn't move either
-pub entered_at : (role : Role) (running : Option RunningSpeed) (ahead : List ℕ) (s : Standing) → (entered role running ahead s).at ≡ s.at
+pub entered_at : (role : Role) (running : Option SetSpeed) (ahead : List ℕ) (s : Standing) → (entered role running ahead s).at ≡ s.at
 unfolding opened
 entered_at Configuration running ahead s = refl
 entered_at Device running ahead s = refl
@@ -74,7 +74,7 @@ pub counted_told : (n : ℕ) (s : Standing) → Counted s → Counted (with_told
 counted_told n s c = record { strings = c.strings; main_sets = c.main_sets; other_sets = c.other_sets; associations = c.associations; settings = c.settings; endpoints = c.endpoints }
 
 -- what is told changes at findings alone
-pub told_entered : (role : Role) (running : Option RunningSpeed) (ahead : List ℕ) (s : Standing) → (entered role running ahead s).told ≡ s.told
+pub told_entered : (role : Role) (running : Option SetSpeed) (ahead : List ℕ) (s : Standing) → (entered role running ahead s).told ≡ s.told
 unfolding opened
 told_entered Configuration running ahead s = refl
 told_entered Device running ahead s = refl
@@ -108,7 +108,7 @@ pub start_told : start.told ≡ 0
 unfolding start
 start_told = refl
 
-pub counted_entered : (role : Role) (running : Option RunningSpeed) (ahead : List ℕ) (s : Standing) → Counted s → Counted (entered role running ahead s)
+pub counted_entered : (role : Role) (running : Option SetSpeed) (ahead : List ℕ) (s : Standing) → Counted s → Counted (entered role running ahead s)
 unfolding opened
 counted_entered Configuration running ahead s c = record { strings = c.strings; main_sets = c.main_sets; other_sets = c.other_sets; associations = omega arith; settings = omega arith; endpoints = omega arith }
 counted_entered Device running ahead s c = record { strings = c.strings; main_sets = c.main_sets; other_sets = c.other_sets; associations = c.associations; settings = c.settings; endpoints = c.endpoints }

@@ -2,10 +2,8 @@
 use Rattle.std.specs.Prelude.{ℕ, List, length, slice_index, Bool, true, false, nat_le, Option, Some, None, option_and_then, if◌then◌else◌}
 use Rattle.usb_base.specs.Bytes.{little_endian_at}
 use Rattle.usb_names.specs.declared.codes.ClassCodes.{ClassCodes}
-use Rattle.usb_words.specs.declared.speed.Speed.{Speed}
-use Rattle.usb_words.specs.declared.speed.Speed.TheVariants as speeds
-use Rattle.usb_words.specs.declared.set_speed.RunningSpeed.{RunningSpeed}
-use Rattle.usb_words.specs.declared.set_speed.RunningSpeed.TheVariants.{Super}
+use Rattle.usb_words.specs.declared.speed.SetSpeed.{SetSpeed}
+use Rattle.usb_words.specs.declared.speed.SetSpeed.TheVariants.{FullOrHigh, Super}
 use Rattle.usb_words.specs.Bindings.{bound_at}
 use Rattle.usb_explained_lines.specs.declared.context.Context.{Context}
 use Rattle.usb_explained_lines.specs.declared.context.StringPlace.{StringPlace}
@@ -18,14 +16,14 @@ use Rattle.usb_explain.specs.declared.position.Standing.{Standing}
 use Rattle.usb_explain.specs.Subjects.{Subject, place_among}
 
 -- a device of SuperSpeed: it ran so, or bcdUSB is 0300 or more
-abbrev pub is_super : Option RunningSpeed → ℕ → Bool
+abbrev pub is_super : Option SetSpeed → ℕ → Bool
 is_super None usb = nat_le 0x0300 usb
 is_super (Some Super) usb = true
 is_super (Some running) usb = false
 
 -- the speed on which its words depend: that of the device, or of the set
-abbrev pub speed_of : Option RunningSpeed → Standing → Role → List ℕ → Speed
-speed_of running s Device d = if is_super running (little_endian_at d 2) then speeds.Super else speeds.FullOrHigh
+abbrev pub speed_of : Option SetSpeed → Standing → Role → List ℕ → SetSpeed
+speed_of running s Device d = if is_super running (little_endian_at d 2) then Super else FullOrHigh
 speed_of running s _ d = s.set.speed
 
 -- what the interface is that a descriptor follows

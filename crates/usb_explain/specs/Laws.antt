@@ -5,9 +5,10 @@ use Rattle.std.specs.Prelude.{◌≡◌, ◌<◌, ◌≤◌, ℕ, true, false, �
 use Rattle.std.specs.List.{AllByRecursion}
 use Rattle.std.specs.Option.{option_map}
 use Rattle.usb_base.specs.Bytes.{AreBytes}
-use Rattle.usb_file.specs.declared.input.Input.{Input}
+use Rattle.usb_file_data.specs.declared.input.Input.{Input}
 use Rattle.usb_file.specs.declared.input_fault.InputFault.{InputFault}
-use Rattle.usb_file.specs.Inputs.{InputRefused, IsInput, input_findings}
+use Rattle.usb_file.specs.Inputs.{InputRefused, IsInput}
+use Rattle.usb_rules.specs.Findings.{input_findings}
 use Rattle.usb_rules.specs.declared.finding.Finding.{Finding}
 use Rattle.usb_rules.specs.declared.rule.Rule.{Rule}
 use Rattle.usb_rules.specs.declared.rule.Rule.TheVariants as rules

@@ -1,16 +1,15 @@
 -- How a set begins.
 use Rattle.std.specs.Prelude.{ℕ, zero, suc, List, length, slice_index, take, drop, nat_le, ◌==◌, ◌&&◌, Bool, Option, Some, None, option_and_then, if◌then◌else◌}
-use Rattle.std.specs.Option.{option_map, option_or}
+use Rattle.std.specs.Option.{option_or}
 use Rattle.usb_base.specs.Bytes.{little_endian_at}
 use Rattle.usb_rules.specs.declared.finding.Part.{Part}
 use Rattle.usb_rules.specs.declared.finding.Part.TheVariants.{Main, Other}
-use Rattle.usb_words.specs.declared.speed.Speed.{Speed}
-use Rattle.usb_words.specs.declared.speed.Speed.TheVariants.{FullOrHigh}
+use Rattle.usb_words.specs.declared.speed.SetSpeed.{SetSpeed}
+use Rattle.usb_words.specs.declared.speed.SetSpeed.TheVariants.{FullOrHigh}
 use Rattle.usb_words.specs.declared.set_speed.Background.{Background}
-use Rattle.usb_words.specs.declared.set_speed.RunningSpeed.{RunningSpeed}
 use Rattle.usb_words.specs.declared.survey.Survey.{Survey}
 use Rattle.usb_words.specs.Cut.{descriptors}
-use Rattle.usb_words.specs.SetSpeeds.{other_speed, speed_at, speed_by}
+use Rattle.usb_words.specs.SetSpeeds.{other_speed, speed_by}
 use Rattle.usb_words.specs.Surveys.{survey_of}
 use Rattle.usb_explained_lines.specs.declared.role.Role.{Role}
 use Rattle.usb_explained_lines.specs.declared.role.Role.TheVariants.{Configuration, Device}
@@ -29,15 +28,15 @@ sets_of s Other = s.other_sets
 sets_of s _ = s.main_sets
 
 -- what is known of the sets after a qualifier of this bMaxPacketSize0, which are those of the other speed
-unfoldable pub other_background : Option RunningSpeed → ℕ → Background
+unfoldable pub other_background : Option SetSpeed → ℕ → Background
 other_background running packet =
-    record { known = option_and_then other_speed (option_map speed_at running); packet = Some packet; other = Some FullOrHigh }
+    record { known = option_and_then other_speed running; packet = Some packet; other = Some FullOrHigh }
 
 -- of a set after a device and its qualifier, after a device alone, or alone: the one with which the device ran
-unfoldable pub background_by : Option RunningSpeed → Option DeviceFacts → Option ℕ → Option Speed → Background
-background_by running None qualifier other = record { known = option_map speed_at running; packet = None; other = None }
+unfoldable pub background_by : Option SetSpeed → Option DeviceFacts → Option ℕ → Option SetSpeed → Background
+background_by running None qualifier other = record { known = running; packet = None; other = None }
 background_by running (Some device) None other =
-    record { known = option_or (option_map speed_at running) device.speed; packet = Some device.packet; other = other }
+    record { known = option_or running device.speed; packet = Some device.packet; other = other }
 background_by running (Some device) (Some packet) other = other_background running packet
 
 -- the bytes after so many sets
@@ -50,17 +49,17 @@ unfoldable pub has_qualifier : List ℕ → Bool
 has_qualifier b = nat_le 10 (length b) && (slice_index b 0 == 10) && (slice_index b 1 == 6)
 
 -- the speed of the sets after a qualifier, as far as it and their descriptors say
-abbrev pub speed_after_qualifier : List ℕ → Option Speed
+abbrev pub speed_after_qualifier : List ℕ → Option SetSpeed
 speed_after_qualifier b =
     if has_qualifier b then Some (speed_by (other_background None (slice_index b 7)) (survey_of (descriptors (drop 10 b))).spoken)
     else None
 
 -- the other speed of the device with which these bytes begin
-unfoldable pub other_ahead : List ℕ → Option Speed
+unfoldable pub other_ahead : List ℕ → Option SetSpeed
 other_ahead ahead = speed_after_qualifier (after_sets (slice_index ahead 17) (drop 18 ahead))
 
 -- a set of this survey, before its first descriptor
-abbrev pub set_by : Standing → Option RunningSpeed → Part → Survey → SetStanding
+abbrev pub set_by : Standing → Option SetSpeed → Part → Survey → SetStanding
 set_by s running part survey = record {
   part = part;
   number = sets_of s part;
@@ -74,13 +73,13 @@ set_by s running part survey = record {
 }
 
 -- at the first descriptor of a set: what its bytes say, as far as they are there
-unfoldable pub opened : Option RunningSpeed → List ℕ → Standing → Standing
+unfoldable pub opened : Option SetSpeed → List ℕ → Standing → Standing
 opened running ahead s =
     let total = little_endian_at ahead 2 in
     record s { left = total; set = set_by s running (part_of (slice_index ahead 1)) (survey_of (descriptors (take total ahead))) }
 
 -- at a descriptor of this role: the first one of a set opens the set, and the device looks for its other speed
-abbrev pub entered : Role → Option RunningSpeed → List ℕ → Standing → Standing
+abbrev pub entered : Role → Option SetSpeed → List ℕ → Standing → Standing
 entered Device running ahead s = record s { other_speed = other_ahead ahead }
 entered Configuration running ahead s = opened running ahead s
 entered _ running ahead s = s

@@ -1,8 +1,8 @@
 -- What is explained, and what is known of the whole of it.
 use Rattle.std.specs.Prelude.{ℕ, zero, ◌/◌, ◌%◌, List, [], slice_get, Bool, true, false, Option, Some, None}
 use Rattle.usb_file_data.specs.declared.file.Strings.{Strings}
-use Rattle.usb_file.specs.declared.input.Input.{Input}
-use Rattle.usb_file.specs.declared.input.Input.TheVariants as inputs
+use Rattle.usb_file_data.specs.declared.input.Input.{Input}
+use Rattle.usb_file_data.specs.declared.input.Input.TheVariants as inputs
 use Rattle.usb_rules.specs.declared.finding.Finding.{Finding}
 use Rattle.usb_rules.specs.InOrder.{dump_findings_in_order, findings_in_order, set_findings_in_order}
 use Rattle.usb_explained_lines.specs.declared.context.StringPlace.{StringPlace}

@@ -4,9 +4,10 @@ ghost use Rattle.usb_explain.specs.Contexts.{below, codes_of, context_of, depth_
 
 use crate::position::{Owner, SettingStanding, Standing};
 use crate::subject::Subject;
+use usb_base::{byte_at, word_at};
 use usb_explained_lines::{Context, Role};
 use usb_names::ClassCodes;
-use usb_words::{RunningSpeed, Speed, byte_at, word_at};
+use usb_words::SetSpeed;
 
 impl Standing {
     /// What the words of a descriptor of this role depend on.
@@ -25,12 +26,12 @@ impl Standing {
     }
 
     /// The speed of the device or of the set.
-    fn speed(&self, running: Option<RunningSpeed>, role: Role, d: &[u8]) -> Speed
+    fn speed(&self, running: Option<SetSpeed>, role: Role, d: &[u8]) -> SetSpeed
         ensures { result ≡ speed_of running self.now role d.now }
     {
         match role {
-            Role::Device if is_super(running, word_at(d, 2)) => Speed::Super,
-            Role::Device => Speed::FullOrHigh,
+            Role::Device if is_super(running, word_at(d, 2)) => SetSpeed::Super,
+            Role::Device => SetSpeed::FullOrHigh,
             _ => self.set.speed,
         }
     }
@@ -73,12 +74,12 @@ fn codes_of(setting: Option<SettingStanding>) -> Option<ClassCodes>
 }
 
 /// Whether a device of this bcdUSB is one of SuperSpeed.
-fn is_super(running: Option<RunningSpeed>, usb: u16) -> bool
+fn is_super(running: Option<SetSpeed>, usb: u16) -> bool
     ensures { result ≡ is_super running usb }
 {
     match running {
         None => usb >= 0x0300,
-        Some(RunningSpeed::Super) => true,
+        Some(SetSpeed::Super) => true,
         Some(_) => false,
     }
 }

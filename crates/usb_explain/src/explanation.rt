@@ -11,12 +11,11 @@ use crate::subject::Subject;
 use crate::walk::write_blocks;
 use std::alloc::{AllocError, Global};
 use std::io::Write;
-use usb_base::descriptor_type;
+use usb_base::{after, byte_at, descriptor_type, prefix};
 use usb_explained_lines::put_rest;
 use usb_file::{Input, InputFault};
 use usb_listing::{OutFault, write_all};
 use usb_text::{Text, put_count};
-use usb_words::{behind, byte_at, front};
 
 /// Writes the explanation of an input, of which these are the bytes.
 ///
@@ -72,7 +71,7 @@ fn put_whole_end(
 ) -> Result<(), AllocError>
     ensures { OnOk result (text.new ≡ text.old ++ whole_end subject.now findings bytes.now place) }
 {
-    put_rest(text, subject.manner().look, place, behind(bytes, place))?;
+    put_rest(text, subject.manner().look, place, after(bytes, place))?;
     put_last_line(text, findings)
 }
 
@@ -113,7 +112,7 @@ fn write_broken<W: Write>(
     ensures ok { OnOk result (Appends (W.contents w.old) (W.contents w.new) (broken_text subject.now fault bytes.now)) }
     ensures err { OnErr result (AppendsLess (W.contents w.old) (W.contents w.new) (broken_text subject.now fault bytes.now)) }
 {
-    let whole = front(bytes, fault_place(fault));
+    let whole = prefix(bytes, fault_place(fault));
     let mut text = Text::new(alloc);
     put_first_line(&mut text, broken_name(bytes), bytes)?;
     let place = write_blocks(&mut text, subject, whole, w)?;
@@ -131,7 +130,7 @@ fn put_broken_end(
     ensures { OnOk result (text.new ≡ text.old ++ broken_end subject.now fault bytes.now place) }
 {
     put_fault(text, fault)?;
-    put_rest(text, subject.manner().look, place, behind(bytes, place))
+    put_rest(text, subject.manner().look, place, after(bytes, place))
 }
 
 #[tactic(auto, unfolding(crate::specs::Explanations::first_line))]

@@ -30,4 +30,4 @@ mod walk;
 pub use explanation::{explain, explain_broken};
 pub use manner::Manner;
 pub use usb_explained_lines::Look;
-pub use usb_words::RunningSpeed;
+pub use usb_words::SetSpeed;

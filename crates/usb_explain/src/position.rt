@@ -5,13 +5,13 @@ ghost use Rattle.usb_explain.specs.inside.Walking.{Counted};
 
 use usb_names::ClassCodes;
 use usb_rules::Part;
-use usb_words::{Bindings, Speed};
+use usb_words::{Bindings, SetSpeed};
 
 /// What of a device descriptor the rest of the input depends on.
 #[derive(Clone, Copy)]
 pub(crate) struct DeviceFacts {
     /// The speed of its own sets, where its descriptor leaves no choice.
-    pub(crate) speed: Option<Speed>,
+    pub(crate) speed: Option<SetSpeed>,
     /// bMaxPacketSize0.
     pub(crate) packet: u8,
 }
@@ -24,7 +24,7 @@ pub(crate) struct Standing {
     /// The device.
     pub(crate) device: Option<DeviceFacts>,
     /// The device's other speed, where a qualifier comes.
-    pub(crate) other_speed: Option<Speed>,
+    pub(crate) other_speed: Option<SetSpeed>,
     /// bMaxPacketSize0 of the qualifier.
     pub(crate) other_packet: Option<u8>,
     /// Whether the language list came.
@@ -51,7 +51,7 @@ pub(crate) struct SetStanding {
     /// The number of the set in its part.
     pub(crate) number: usize,
     /// Its speed.
-    pub(crate) speed: Speed,
+    pub(crate) speed: SetSpeed,
     /// How many distinct interface numbers the whole set has.
     pub(crate) interfaces: u64,
     /// Which association of the whole set binds each interface.
@@ -106,7 +106,7 @@ impl Standing {
             set: SetStanding {
                 part: Part::Main,
                 number: 0,
-                speed: Speed::FullOrHigh,
+                speed: SetSpeed::FullOrHigh,
                 interfaces: 0,
                 bindings: Bindings::new(),
                 associations: 0,

@@ -1,25 +1,21 @@
 //! How a set begins.
 ghost use Rattle.std.specs.Prelude.{◌≡◌, option_and_then};
-ghost use Rattle.std.specs.Option.{option_map};
-ghost use Rattle.usb_words.specs.SetSpeeds.{other_speed, speed_at};
+ghost use Rattle.usb_words.specs.SetSpeeds.{other_speed};
 ghost use Rattle.usb_explain.specs.SetStart.{after_sets, background_by, has_qualifier, opened, other_ahead, other_background, part_of, sets_of};
 
 use crate::position::{DeviceFacts, Owner, SetStanding, Standing};
-use usb_base::descriptor_type;
+use usb_base::{after, byte_at, descriptor_type, prefix, word_at};
 use usb_rules::Part;
-use usb_words::{
-    Background, RunningSpeed, Speed, Survey, behind, byte_at, front, other_speed, speed_at,
-    speed_by, word_at,
-};
+use usb_words::{Background, SetSpeed, Survey, other_speed, speed_by};
 
 impl Standing {
     /// At the first descriptor of a set, of whose bytes and those after it these are there.
     #[tactic(auto, unfolding(crate::specs::SetStart::opened))]
-    pub(crate) fn open_set(&mut self, running: Option<RunningSpeed>, ahead: &[u8])
+    pub(crate) fn open_set(&mut self, running: Option<SetSpeed>, ahead: &[u8])
         ensures { self.new ≡ opened running ahead.now self.old }
     {
         let total = usize::from(word_at(ahead, 2));
-        let survey = Survey::of(front(ahead, total));
+        let survey = Survey::of(prefix(ahead, total));
         let part = part_of(byte_at(ahead, 1));
         let background = background_of(running, self.device, self.other_packet, self.other_speed);
         self.left = total;
@@ -59,53 +55,43 @@ fn part_of(kind: u8) -> Part
 
 /// What is known of the sets after a qualifier of this bMaxPacketSize0, which are those of the other speed.
 #[tactic(auto, unfolding(crate::specs::SetStart::other_background))]
-fn other_background(running: Option<RunningSpeed>, packet: u8) -> Background
+fn other_background(running: Option<SetSpeed>, packet: u8) -> Background
     ensures { result ≡ other_background running packet }
 {
     Background {
-        known: other_running_speed(running),
+        known: other_speed_of(running),
         packet: Some(packet),
-        other: Some(Speed::FullOrHigh),
+        other: Some(SetSpeed::FullOrHigh),
     }
 }
 
-fn other_running_speed(running: Option<RunningSpeed>) -> Option<Speed>
-    ensures { result ≡ option_and_then other_speed (option_map speed_at running) }
-{
-    match running_speed(running) {
-        None => None,
-        Some(speed) => other_speed(speed),
-    }
-}
-
-fn running_speed(running: Option<RunningSpeed>) -> Option<Speed>
-    ensures { result ≡ option_map speed_at running }
+fn other_speed_of(running: Option<SetSpeed>) -> Option<SetSpeed>
+    ensures { result ≡ option_and_then other_speed running }
 {
     match running {
         None => None,
-        Some(running) => Some(speed_at(running)),
+        Some(speed) => other_speed(speed),
     }
 }
 
 /// What is known of a set beside its descriptors, by its device, which may have a qualifier before the set.
 #[tactic(auto, unfolding(crate::specs::SetStart::background_by))]
 fn background_of(
-    running: Option<RunningSpeed>,
+    running: Option<SetSpeed>,
     device: Option<DeviceFacts>,
     qualifier: Option<u8>,
-    other: Option<Speed>,
+    other: Option<SetSpeed>,
 ) -> Background
     ensures { result ≡ background_by running device qualifier other }
 {
-    let known = running_speed(running);
     match (device, qualifier) {
         (None, _) => Background {
-            known,
+            known: running,
             packet: None,
             other: None,
         },
         (Some(device), None) => Background {
-            known: known.or(device.speed),
+            known: running.or(device.speed),
             packet: Some(device.packet),
             other,
         },
@@ -115,12 +101,12 @@ fn background_of(
 
 /// The other speed of the device with which these bytes begin, as far as its qualifier and the descriptors after that say.
 #[tactic(auto, unfolding(crate::specs::SetStart::other_ahead))]
-pub(crate) fn other_ahead(ahead: &[u8]) -> Option<Speed>
+pub(crate) fn other_ahead(ahead: &[u8]) -> Option<SetSpeed>
     ensures { result ≡ other_ahead ahead.now }
 {
-    let rest = after_sets(byte_at(ahead, 17), behind(ahead, 18));
+    let rest = after_sets(byte_at(ahead, 17), after(ahead, 18));
     if has_qualifier(rest) {
-        let survey = Survey::of(behind(rest, 10));
+        let survey = Survey::of(after(rest, 10));
         let background = other_background(None, byte_at(rest, 7));
         Some(speed_by(background, survey.spoken))
     } else {
@@ -135,7 +121,7 @@ fn after_sets(count: u8, b: &[u8]) -> &[u8]
 {
     let mut rest = b;
     for _ in 0..count {
-        rest = behind(rest, usize::from(word_at(rest, 2)));
+        rest = after(rest, usize::from(word_at(rest, 2)));
     }
     rest
 }

@@ -4,10 +4,11 @@ ghost use Rattle.usb_explain.specs.Steps.{moved, noted, passed, setting_of, with
 ghost use Rattle.usb_explain.specs.inside.Walking.{Counted, endpoints_of};
 
 use crate::position::{DeviceFacts, Owner, SettingStanding, Standing};
+use usb_base::{byte_at, word_at};
 use usb_explained_lines::Role;
 use usb_names::ClassCodes;
 use usb_rules::Part;
-use usb_words::{byte_at, speed_of_device, word_at};
+use usb_words::speed_of_device;
 
 impl Standing {
     /// Keeps how many findings are told.

@@ -6,10 +6,11 @@ ghost use Rattle.usb_explain.specs.Findings.{address_told, association_told, att
 use crate::position::{SetStanding, Standing};
 use crate::subject::Subject;
 use std::alloc::AllocError;
+use usb_base::{byte_at, prefix, word_at};
 use usb_explained_lines::{PacketFault, Role, Told, put_finding};
 use usb_rules::{Finding, Part, Rule};
 use usb_text::Text;
-use usb_words::{byte_at, endpoint_count, front, word_at};
+use usb_words::endpoint_count;
 
 impl Standing {
     /// Puts a line for each finding of a descriptor of this role, with which those that aren't told yet begin. Answers how
@@ -100,7 +101,7 @@ impl Standing {
     fn behind_in_set<'b>(&self, d: &[u8], behind: &'b [u8]) -> &'b [u8]
         ensures { result.now ≡ take (self.now.left - length d.now) behind.now }
     {
-        front(behind, self.left.saturating_sub(d.len()))
+        prefix(behind, self.left.saturating_sub(d.len()))
     }
 }
 

@@ -13,10 +13,11 @@ use crate::set_start::other_ahead;
 use crate::subject::Subject;
 use std::alloc::AllocError;
 use std::io::Write;
+use usb_base::{after, prefix};
 use usb_explained_lines::Role;
 use usb_listing::{OutFault, write_all};
 use usb_text::Text;
-use usb_words::{behind, descriptor_length, front};
+use usb_words::descriptor_length;
 
 /// A text of so many bytes is passed on to the writer.
 const FULL: usize = 32 * 1024;
@@ -35,12 +36,12 @@ pub(crate) fn write_blocks<W: Write>(
     let mut ahead = bytes;
     while let Some((role, length)) = standing.next_role(ahead) {
         standing.enter(role, subject, ahead);
-        let d = front(ahead, length);
-        let told = standing.put_block(text, subject, role, d, behind(ahead, length))?;
+        let d = prefix(ahead, length);
+        let told = standing.put_block(text, subject, role, d, after(ahead, length))?;
         pass_on(text, w)?;
         standing.tell(told);
         standing.pass(role, d);
-        ahead = behind(ahead, length);
+        ahead = after(ahead, length);
     }
     Ok(standing.at)
 }
@@ -55,7 +56,7 @@ impl Standing {
     {
         match descriptor_length(ahead) {
             None => None,
-            Some(length) => match self.role(front(ahead, length)) {
+            Some(length) => match self.role(prefix(ahead, length)) {
                 None => None,
                 Some(role) => Some((role, length)),
             },

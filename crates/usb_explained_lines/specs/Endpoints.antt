@@ -2,18 +2,18 @@
 use Rattle.std.specs.Prelude.{ℕ, List, [], ◌++◌, slice_index, codes, if◌then◌else◌}
 use Rattle.usb_base.specs.Bytes.{little_endian_at}
 use Rattle.usb_set.specs.Endpoints.{transfer_type_of}
-use Rattle.usb_words.specs.declared.speed.Speed.{Speed}
+use Rattle.usb_words.specs.declared.speed.SetSpeed.{SetSpeed}
 use Rattle.usb_words.specs.Endpoints.{attributes_words, size_words}
 use Rattle.usb_words.specs.Speeds.{interval_at, is_periodic}
 use Rattle.usb_explained_lines.specs.Values.{address_value}
 
 -- the interval of a periodic endpoint behind the other words
-unfoldable pub interval_words : Speed → ℕ → ℕ → List ℕ
+unfoldable pub interval_words : SetSpeed → ℕ → ℕ → List ℕ
 interval_words speed attributes interval =
     if is_periodic (transfer_type_of attributes) then codes ", " ++ interval_at speed (transfer_type_of attributes) interval else []
 
 -- address, attributes, size and interval of an endpoint
-unfoldable pub endpoint_words : Speed → List ℕ → List ℕ
+unfoldable pub endpoint_words : SetSpeed → List ℕ → List ℕ
 endpoint_words speed b =
     codes "endpoint " ++ address_value (slice_index b 3) (slice_index b 2) ++ codes ", "
     ++ attributes_words (slice_index b 3) ++ codes ", " ++ size_words speed (slice_index b 3) (little_endian_at b 4)

@@ -4,7 +4,7 @@ use Rattle.std.specs.Fmt.{decimal}
 use Rattle.hex.specs.Hex.{encode_lower}
 use Rattle.usb_names.specs.declared.field.Form.{Form}
 use Rattle.usb_names.specs.declared.field.Form.TheVariants.{Decimal, Hexadecimal, Release, ReportType, Index, Class, FunctionClass, Subclass, Protocol, DevicePacket, Supply, Power, Address, Transfer, PacketSize, Interval}
-use Rattle.usb_words.specs.declared.speed.Speed.{Speed}
+use Rattle.usb_words.specs.declared.speed.SetSpeed.{SetSpeed}
 use Rattle.usb_words.specs.Names.{class_field, function_class_field, protocol_field, subclass_field}
 use Rattle.usb_text.specs.Numbers.{byte_code, word_code}
 use Rattle.usb_explained_lines.specs.Names.{StringNames, index_words}
@@ -30,7 +30,7 @@ release_words (low ∷ high ∷ []) = release_value (low + 256 * high)
 release_words value = encode_lower value
 
 -- wMaxPacketSize of an endpoint of these attributes
-abbrev pub packet_size_words : Speed → ℕ → List ℕ → List ℕ
+abbrev pub packet_size_words : SetSpeed → ℕ → List ℕ → List ℕ
 packet_size_words speed attributes (low ∷ high ∷ []) = size_value speed attributes (low + 256 * high)
 packet_size_words speed attributes value = encode_lower value
 
@@ -43,7 +43,7 @@ report_words type =
 
 -- The words of a field of this form and this width at a place of a descriptor. A subclass stands behind its class and before
 -- its protocol, and bmAttributes of an endpoint at 3 (USB 2.0, 9.6). A byte that isn't there is read as 0.
-unfoldable pub form_words : Speed → StringNames → Form → ℕ → List ℕ → ℕ → List ℕ
+unfoldable pub form_words : SetSpeed → StringNames → Form → ℕ → List ℕ → ℕ → List ℕ
 form_words speed strings Decimal width b place = decimal_words (take width (drop place b))
 form_words speed strings Hexadecimal width b place = hexadecimal_words (take width (drop place b))
 form_words speed strings Release width b place = release_words (take width (drop place b))

@@ -2,7 +2,7 @@
 -- ECN on interface associations, 9.X.Y).
 use Rattle.std.specs.Prelude.{ℕ, ◌+◌, ◌-◌, ◌==◌, List, [], ◌++◌, slice_index, codes, Option, Some, None, if◌then◌else◌}
 use Rattle.std.specs.Fmt.{decimal}
-use Rattle.usb_words.specs.declared.speed.Speed.{Speed}
+use Rattle.usb_words.specs.declared.speed.SetSpeed.{SetSpeed}
 use Rattle.usb_text.specs.Numbers.{count}
 use Rattle.usb_words.specs.Names.{function_class_words}
 use Rattle.usb_words.specs.Speeds.{power_words, speed_words}
@@ -13,11 +13,11 @@ unfoldable pub set_words : ℕ → List ℕ
 set_words kind = if kind == 7 then codes "other-speed configuration " else codes "configuration "
 
 -- how much power of where a set takes
-unfoldable pub supply_words : Speed → ℕ → ℕ → List ℕ
+unfoldable pub supply_words : SetSpeed → ℕ → ℕ → List ℕ
 supply_words speed attributes power = source_words attributes ++ codes ", " ++ power_words speed power
 
 -- value, speed, interfaces and power of a set
-unfoldable pub configuration_words : Speed → List ℕ → List ℕ
+unfoldable pub configuration_words : SetSpeed → List ℕ → List ℕ
 configuration_words speed b =
     set_words (slice_index b 1) ++ decimal (slice_index b 5) ++ codes ", " ++ speed_words speed ++ codes ", "
     ++ count (slice_index b 4) (codes "interface") ++ codes ", " ++ supply_words speed (slice_index b 7) (slice_index b 8)

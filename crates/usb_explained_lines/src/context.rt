@@ -1,6 +1,6 @@
 //! What the words of a descriptor depend on beside its bytes.
 use usb_names::ClassCodes;
-use usb_words::Speed;
+use usb_words::SetSpeed;
 
 /// The place of a string among those of a file.
 #[derive(Clone, Copy, Debug, PartialEq, Eq, Hash)]
@@ -17,7 +17,7 @@ pub struct Context {
     /// How deep its heading is.
     pub depth: u8,
     /// The speed of its set, or of the device. bMaxPacketSize0 of a device of SuperSpeed is an exponent (USB 3.2, 9.6.1).
-    pub speed: Speed,
+    pub speed: SetSpeed,
     /// How many associations of its set came before it.
     pub associations: u64,
     /// The number of the first association of its set that binds an interface of its number.

@@ -3,8 +3,9 @@ ghost use Rattle.std.specs.Prelude.{◌≡◌, ◌++◌, OnOk};
 ghost use Rattle.usb_explained_lines.specs.Device.{device_words, ids_words, qualifier_words, version_words};
 
 use std::alloc::AllocError;
+use usb_base::{byte_at, word_at};
 use usb_text::{Text, put_release};
-use usb_words::{byte_at, put_class_words, word_at};
+use usb_words::put_class_words;
 
 /// Puts the words of a device descriptor's heading (USB 2.0, 9.6.1).
 #[tactic(auto, unfolding(crate::specs::Device::device_words))]

@@ -4,13 +4,18 @@ ghost use Rattle.usb_explained_lines.specs.Endpoints.{endpoint_words, interval_w
 
 use crate::endpoint_value::put_address;
 use std::alloc::AllocError;
+use usb_base::{byte_at, word_at};
 use usb_text::Text;
-use usb_words::{Speed, byte_at, is_periodic, put_attributes, put_interval, put_size, word_at};
+use usb_words::{SetSpeed, is_periodic, put_attributes, put_interval, put_size};
 
 /// Puts the words of an endpoint descriptor's heading (USB 2.0, 9.6.6).
 #[inline(never)]
 #[tactic(auto, unfolding(crate::specs::Endpoints::endpoint_words))]
-pub(crate) fn put_endpoint_words(text: &mut Text, speed: Speed, b: &[u8]) -> Result<(), AllocError>
+pub(crate) fn put_endpoint_words(
+    text: &mut Text,
+    speed: SetSpeed,
+    b: &[u8],
+) -> Result<(), AllocError>
     ensures { OnOk result (text.new ≡ text.old ++ endpoint_words speed b.now) }
 {
     let attributes = byte_at(b, 3);
@@ -26,7 +31,7 @@ pub(crate) fn put_endpoint_words(text: &mut Text, speed: Speed, b: &[u8]) -> Res
 #[tactic(auto, unfolding(crate::specs::Endpoints::interval_words))]
 fn put_interval_words(
     text: &mut Text,
-    speed: Speed,
+    speed: SetSpeed,
     attributes: u8,
     interval: u8,
 ) -> Result<(), AllocError>

@@ -4,7 +4,7 @@ ghost use Rattle.usb_explained_lines.specs.Values.{address_value, attributes_val
 
 use std::alloc::AllocError;
 use usb_text::{Text, begin_byte_meaning, begin_word_meaning};
-use usb_words::{Speed, is_periodic, put_attributes, put_end, put_interval, put_size};
+use usb_words::{SetSpeed, is_periodic, put_attributes, put_end, put_interval, put_size};
 
 /// Puts bEndpointAddress of an endpoint of these attributes: `0x81 (EP 1 IN)`.
 #[inline(never)]
@@ -32,7 +32,7 @@ pub(crate) fn put_attributes_value(text: &mut Text, attributes: u8) -> Result<()
 #[tactic(auto, unfolding(crate::specs::Values::size_value))]
 pub(crate) fn put_size_value(
     text: &mut Text,
-    speed: Speed,
+    speed: SetSpeed,
     attributes: u8,
     max_packet: u16,
 ) -> Result<(), AllocError>
@@ -48,7 +48,7 @@ pub(crate) fn put_size_value(
 #[tactic(auto, unfolding(crate::specs::Values::interval_value))]
 pub(crate) fn put_interval_value(
     text: &mut Text,
-    speed: Speed,
+    speed: SetSpeed,
     attributes: u8,
     interval: u8,
 ) -> Result<(), AllocError>

@@ -9,11 +9,10 @@ use crate::index::put_index;
 use crate::layout::Shown;
 use crate::value::{put_packet_value, put_power_value, put_release_value, put_set_attributes};
 use std::alloc::AllocError;
+use usb_base::{after, byte_at, prefix};
 use usb_names::{ClassField, Form};
 use usb_text::{Text, put_byte_code, put_word_code};
-use usb_words::{
-    Speed, behind, byte_at, front, put_class, put_function_class, put_protocol, put_subclass,
-};
+use usb_words::{SetSpeed, put_class, put_function_class, put_protocol, put_subclass};
 
 /// The place of bmAttributes in an endpoint descriptor (USB 2.0, 9.6.6).
 const ATTRIBUTES: usize = 3;
@@ -66,7 +65,7 @@ pub(crate) fn put_form(
 fn bytes_at(b: &[u8], place: usize, width: u8) -> &[u8]
     ensures { result.now ≡ take width (drop place b.now) }
 {
-    front(behind(b, place), usize::from(width))
+    prefix(after(b, place), usize::from(width))
 }
 
 /// The byte so many before a place.
@@ -118,7 +117,7 @@ fn put_release_words(text: &mut Text, value: &[u8]) -> Result<(), AllocError>
 #[inline(never)]
 fn put_packet_size(
     text: &mut Text,
-    speed: Speed,
+    speed: SetSpeed,
     attributes: u8,
     value: &[u8],
 ) -> Result<(), AllocError>

@@ -10,9 +10,9 @@ use crate::form::put_form;
 use crate::line::{begin_field, put_digits};
 use crate::names::Names;
 use std::alloc::AllocError;
+use usb_base::after;
 use usb_names::ClassField;
 use usb_text::Text;
-use usb_words::behind;
 
 /// The fields of a descriptor after bDescriptorType.
 #[derive(Clone, Copy, Debug)]
@@ -149,7 +149,7 @@ fn put_left(
         text,
         shown.context.depth,
         layout.rest,
-        behind(shown.b, place),
+        after(shown.b, place),
     )
 }
 

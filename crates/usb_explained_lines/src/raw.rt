@@ -11,9 +11,9 @@ use crate::layout::{DescriptorLayout, put_layout};
 use crate::line::{begin_field, put_digits};
 use crate::names::Names;
 use std::alloc::AllocError;
+use usb_base::{after, byte_at};
 use usb_names::{ClassCodes, ClassDescriptor, class_descriptor};
 use usb_text::{Text, put_byte_code};
-use usb_words::{behind, byte_at};
 
 /// Puts the name of a descriptor after an interface of these codes, or its type where it has no name.
 #[tactic(auto, unfolding(crate::specs::Raws::raw_words))]
@@ -88,7 +88,7 @@ fn put_row(
     ensures { OnOk result (text.new ≡ text.old ++ row_lines context.now names.now (option_map row_of (option_copied row.entry)) b.now) }
 {
     match row {
-        None => put_digits(text, context.depth, "bytes", behind(b, 2)),
+        None => put_digits(text, context.depth, "bytes", after(b, 2)),
         Some(row) => {
             let layout = DescriptorLayout {
                 fields: row.fields,

@@ -5,8 +5,8 @@ ghost use Rattle.usb_explained_lines.specs.Rest.{more_words, rest_heading, rest_
 use crate::line::{begin_field, put_place};
 use crate::look::Look;
 use std::alloc::AllocError;
+use usb_base::prefix;
 use usb_text::Text;
-use usb_words::front;
 
 /// Puts the lines of the bytes that are left from this place of the input on, if there are any.
 ///
@@ -45,7 +45,7 @@ fn put_rest_line(text: &mut Text, b: &[u8]) -> Result<(), AllocError>
     ensures { OnOk result (text.new ≡ text.old ++ rest_line b.now) }
 {
     begin_field(text, 0, "bytes")?;
-    text.put_digits(front(b, 32))?;
+    text.put_digits(prefix(b, 32))?;
     put_more(text, b.len())?;
     text.put_character(b'\n')
 }

@@ -5,15 +5,16 @@ ghost use Rattle.usb_explained_lines.specs.Sets.{association_words, binding_word
 
 use crate::value::source_words;
 use std::alloc::AllocError;
+use usb_base::byte_at;
 use usb_text::{Text, put_count};
-use usb_words::{Speed, byte_at, put_function_class_words, put_power, put_speed};
+use usb_words::{SetSpeed, put_function_class_words, put_power, put_speed};
 
 /// Puts the words of the heading of a set's first descriptor (USB 2.0, 9.6.3 and 9.6.4).
 #[inline(never)]
 #[tactic(auto, unfolding(crate::specs::Sets::configuration_words))]
 pub(crate) fn put_configuration_words(
     text: &mut Text,
-    speed: Speed,
+    speed: SetSpeed,
     b: &[u8],
 ) -> Result<(), AllocError>
     ensures { OnOk result (text.new ≡ text.old ++ configuration_words speed b.now) }
@@ -29,7 +30,7 @@ pub(crate) fn put_configuration_words(
 }
 
 #[tactic(auto, unfolding(crate::specs::Sets::supply_words))]
-fn put_supply(text: &mut Text, speed: Speed, attributes: u8, power: u8) -> Result<(), AllocError>
+fn put_supply(text: &mut Text, speed: SetSpeed, attributes: u8, power: u8) -> Result<(), AllocError>
     ensures { OnOk result (text.new ≡ text.old ++ supply_words speed attributes power) }
 {
     text.put(source_words(attributes))?;

@@ -7,8 +7,8 @@ ghost use Rattle.usb_explained_lines.specs.Strings.{language_words, languages_wo
 use crate::context::StringPlace;
 use crate::quoted::put_unit;
 use std::alloc::AllocError;
+use usb_base::after;
 use usb_text::{Text, put_word_code};
-use usb_words::behind;
 
 /// Puts the words of the language list's heading (USB 2.0, 9.6.7).
 #[tactic(auto, unfolding(crate::specs::Strings::languages_words))]
@@ -16,7 +16,7 @@ pub(crate) fn put_languages_words(text: &mut Text, b: &[u8]) -> Result<(), Alloc
     ensures { OnOk result (text.new ≡ text.old ++ languages_words b.now) }
 {
     text.put("languages")?;
-    put_languages(text, behind(b, 2))
+    put_languages(text, after(b, 2))
 }
 
 fn put_languages(text: &mut Text, b: &[u8]) -> Result<(), AllocError>
@@ -44,7 +44,7 @@ pub(crate) fn put_string_words(
     text.put("string")?;
     put_string_place(text, place)?;
     text.put(" \"")?;
-    put_units_in(text, behind(b, 2))?;
+    put_units_in(text, after(b, 2))?;
     text.put("\"")
 }
 

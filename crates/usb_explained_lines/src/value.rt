@@ -4,7 +4,7 @@ ghost use Rattle.usb_explained_lines.specs.Values.{packet_value, power_of_two_wo
 
 use std::alloc::AllocError;
 use usb_text::{Text, begin_byte_meaning, begin_word_meaning, put_count, put_release};
-use usb_words::{Speed, put_power};
+use usb_words::{SetSpeed, put_power};
 
 /// Puts a release in hexadecimal digits, and as it is meant.
 #[tactic(auto, unfolding(crate::specs::Values::release_value))]
@@ -19,12 +19,12 @@ pub(crate) fn put_release_value(text: &mut Text, release: u16) -> Result<(), All
 /// Puts bMaxPacketSize0 of a device, which is an exponent at SuperSpeed.
 #[inline(never)]
 #[tactic(auto, unfolding(crate::specs::Values::packet_value))]
-pub(crate) fn put_packet_value(text: &mut Text, speed: Speed, size: u8) -> Result<(), AllocError>
+pub(crate) fn put_packet_value(text: &mut Text, speed: SetSpeed, size: u8) -> Result<(), AllocError>
     ensures { OnOk result (text.new ≡ text.old ++ packet_value speed size) }
 {
     text.put_decimal(u64::from(size))?;
     match speed {
-        Speed::Super => {
+        SetSpeed::Super => {
             text.put(" (")?;
             put_power_of_two(text, size)?;
             text.put(")")
@@ -81,7 +81,7 @@ pub(crate) fn put_set_attributes(text: &mut Text, attributes: u8) -> Result<(), 
 /// Puts bMaxPower of a set.
 #[inline(never)]
 #[tactic(auto, unfolding(crate::specs::Values::power_value))]
-pub(crate) fn put_power_value(text: &mut Text, speed: Speed, power: u8) -> Result<(), AllocError>
+pub(crate) fn put_power_value(text: &mut Text, speed: SetSpeed, power: u8) -> Result<(), AllocError>
     ensures { OnOk result (text.new ≡ text.old ++ power_value speed power) }
 {
     text.put_decimal(u64::from(power))?;

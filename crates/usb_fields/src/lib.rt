@@ -27,7 +27,6 @@ pub mod laws;
 mod packet;
 mod qualifier;
 mod setup;
-mod speed;
 mod text;
 mod units;
 
@@ -36,7 +35,8 @@ pub use fault::{FieldFault, UnitFault};
 pub use packet::{Answer, Stage, Toggle, Transaction};
 pub use qualifier::{QUALIFIER_NAMES, QUALIFIER_WIDTHS, Qualifier};
 pub use setup::{Class, Recipient, Setup};
-pub use speed::Speed;
 pub use text::text_of;
 pub use units::{MOST_UNITS, read_units, write_units, write_units_onto};
-pub use usb_base::{Direction, descriptor_length, descriptor_type, feature, request, request_type};
+pub use usb_base::{
+    Direction, Speed, descriptor_length, descriptor_type, feature, request, request_type,
+};

@@ -26,7 +26,7 @@ use Rattle.usb_file.specs.inside.PartLaws.{PartLaws}
 use Rattle.usb_file.specs.inside.Reading.{ReadSoFar, SetsRead, Behind, SetRefused, ReadsSets, SetsRefused, ReadsQualifier, ReadsOther, OtherRefused, no_qualifier, no_set, ReadsString, StringRefused, ReadsDueStrings, ReadsStrings, StringsRefused, ends_as_dump, no_languages, no_string}
 use Rattle.usb_base.specs.Bytes.{AreBytes}
 use Rattle.usb_file_data.proofs.Lists.{behind_main, behind_other, drop_more}
-use Rattle.usb_file.proofs.Units.{length-units_bytes}
+use Rattle.usb_file_data.proofs.Units.{length-units_bytes}
 use Rattle.usb_file_data.proofs.Fronts.{Grown, grow_qualifier, grow_languages, grow_strings}
 use Rattle.usb_file_data.specs.Front.{with_strings}
 use Rattle.usb_file.proofs.Next.{right_count, right_none, right_strings, not_none}

@@ -22,8 +22,9 @@ use Rattle.usb_file_data.proofs.Lists.{bytes_before, bytes_behind}
 use Rattle.usb_file.specs.inside.PartLaws.{PartLaws}
 use Rattle.usb_file_data.proofs.Fronts.{Grown, string_with, grow_main, grow_other, grow_qualifier, grow_languages, grow_string}
 use Rattle.usb_file.proofs.Due.{due_main, due_other, due_qualifier, due_strings}
-use Rattle.usb_file.proofs.Units.{length-units_bytes}
-use Rattle.usb_file.proofs.Next.{all_sets, all_strings, follows, is_next, next_end, next_is}
+use Rattle.usb_file_data.proofs.Units.{length-units_bytes}
+use Rattle.usb_file_data.proofs.Counts.{all_sets, all_strings}
+use Rattle.usb_file.proofs.Next.{follows, is_next, next_end, next_is}
 use Rattle.usb_file.proofs.Ends as ends
 use Rattle.usb_file.proofs.Unique.{PartIs, IsText, told_same, part_faults}
 use Rattle.usb_file.proofs.Paths.{two_fronts, stuck_by_fault, stuck_at_end, device_first, behind, begun}

@@ -19,8 +19,8 @@ use Rattle.usb_file_data.specs.File.{File}
 use Rattle.usb_file_data.specs.Front.{Splits}
 use Rattle.usb_file.specs.declared.fault.FileWhy.{FileWhy}
 use Rattle.usb_file.specs.declared.fault.FileWhy.TheVariants as files
-use Rattle.usb_file.specs.declared.input.Input.{Input}
-use Rattle.usb_file.specs.declared.input.Input.TheVariants as inputs
+use Rattle.usb_file_data.specs.declared.input.Input.{Input}
+use Rattle.usb_file_data.specs.declared.input.Input.TheVariants as inputs
 use Rattle.usb_file.specs.declared.input_fault.InputFault.{InputFault}
 use Rattle.usb_file.specs.declared.input_fault.InputFault.TheVariants as faults
 use Rattle.usb_file.specs.Dumps.{Dump, IsNoDump}

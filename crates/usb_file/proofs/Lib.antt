@@ -1,10 +1,7 @@
 pub mod Exits
 pub mod Between
-pub mod Units
 pub mod Due
 pub mod Next
-pub mod Longest
-pub mod ListingLengthLemmas
 pub mod Ends
 pub mod SetFaults
 pub mod Rows

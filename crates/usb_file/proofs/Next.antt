@@ -7,6 +7,7 @@ use Rattle.usb_file_data.specs.declared.file.Other.{Other}
 use Rattle.usb_file_data.specs.declared.file.Strings.{Strings}
 use Rattle.usb_file_data.specs.Named.{named_indices}
 use Rattle.usb_file_data.specs.File.{has_long_string, has_wrong_count, are_wrong_strings, is_other_miscounted}
+use Rattle.usb_file_data.proofs.Counts.{AllStrings, all_sets, all_strings}
 use Rattle.usb_file_data.specs.Front.{AllSets, StringsFollow, IsInOrder, IsFront}
 use Rattle.usb_file.specs.FileFaults.{NextPart, a_set, a_qualifier, the_languages, a_string, the_end, begins_qualifier, IsNext, NoQualifierIsNext, MissesSet, MissesString}
 use Rattle.usb_file.specs.inside.Next.{next_string, next_part}
@@ -17,12 +18,6 @@ use Rattle.usb_file.proofs.Due.{due_main, due_other, due_qualifier, due_strings}
 counted : (n m : ℕ) → n ≡ m → not (n == m) ≡ false
 counted n m h = not_from_true (n == m) (eq-eqb n m h)
 
-same_by_test : (n m : ℕ) → not (n == m) ≡ false → n ≡ m
-same_by_test n m h = eqb-true n m (not-false (n == m) h)
-
-some_by_test : (n : ℕ) → (n == 0) ≡ false → 0 < n
-some_by_test n h = elim (cases_eq n 0) [ inl e ↦ absurd (eqb-false n 0 h e) | inr e ↦ omega arith ]
-
 -- all sets are there where the counts are right
 pub right_count : (f : DescriptorFile) → AllSets f f.other → has_wrong_count f ≡ false
 right_count f all = cases f.other all
@@ -31,30 +26,7 @@ right_count f all = cases f.other all
     cases None h = or_from _ _ (counted _ _ h) refl
     cases (Some o) h = or_from _ _ (counted _ _ h.0) (counted _ _ h.1)
 
-pub all_sets : (f : DescriptorFile) → has_wrong_count f ≡ false → AllSets f f.other
-all_sets f h = cases f.other (or_parts (not (length f.sets == f.device.configurations)) (is_other_miscounted f.other) h)
-  where
-    cases : (o : Option Other) → (not (length f.sets == f.device.configurations) ≡ false) × (is_other_miscounted o ≡ false) → AllSets f o
-    cases None h = same_by_test _ _ h.0
-    cases (Some o) h = (same_by_test _ _ h.0, same_by_test _ _ h.1)
-
 -- ---- strings
-
--- strings that are those of so many named indices
-pub record AllStrings (count : ℕ) (s : Strings) : Type 0 where
-  pub follow : StringsFollow count s
-  pub whole : length s.texts ≡ length s.languages * count
-
-pub all_strings : (count : ℕ) (s : Strings) → are_wrong_strings count (Some s) ≡ false → AllStrings count s
-all_strings count s h =
-    let x = or_parts ((count == 0) || (length s.languages == 0) || has_long_string (Some s)) (not (length s.texts == length s.languages * count)) h in
-    let y = or_parts ((count == 0) || (length s.languages == 0)) (has_long_string (Some s)) x.0 in
-    let z = or_parts (count == 0) (length s.languages == 0) y.0 in
-    let whole = same_by_test (length s.texts) (length s.languages * count) x.1 in
-    record {
-      follow = record { named = some_by_test count z.0; spoken = some_by_test (length s.languages) z.1; few = omega arith; short = y.1 };
-      whole = whole;
-    }
 
 pub right_strings : (count : ℕ) (s : Strings) → AllStrings count s → are_wrong_strings count (Some s) ≡ false
 right_strings count s h =

@@ -15,7 +15,7 @@ use Rattle.usb_file.specs.declared.fault.FileWhy.TheVariants as files
 use Rattle.usb_file_data.specs.File.{is_other_kind, is_long_string}
 use Rattle.usb_file_data.proofs.Fronts.{string_with}
 use Rattle.usb_file.specs.inside.PartLaws.{PartLaws}
-use Rattle.usb_file.proofs.Units.{length-units_bytes}
+use Rattle.usb_file_data.proofs.Units.{length-units_bytes}
 use Rattle.usb_file.specs.FileFaults.{NextPart, a_set, a_qualifier, the_languages, a_string, the_end, is_no_string, string_fault, fixed_fault, SetFaulty, PartFaulty}
 use Rattle.usb_file_data.specs.Front.{with_set, with_qualifier, with_strings}
 

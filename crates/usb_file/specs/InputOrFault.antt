@@ -1,6 +1,6 @@
 -- What bytes are as an input.
 use Rattle.std.specs.Prelude.{ℕ, List}
-use Rattle.usb_file.specs.declared.input.Input.{Input}
+use Rattle.usb_file_data.specs.declared.input.Input.{Input}
 use Rattle.usb_file.specs.declared.input_fault.InputFault.{InputFault}
 use Rattle.usb_file.specs.Inputs.{InputFaulty, IsInput}
 

@@ -1,4 +1,4 @@
--- What the bytes of an input are, what is wrong with those that are nothing, and what breaks a rule in an input.
+-- What the bytes of an input are, and what is wrong with those that are nothing.
 use Rattle.std.specs.Prelude.{◌≡◌, ℕ, ◌<◌, ◌⊎◌, List, [], ◌∷◌, length, take, Bool, true, false}
 use Rattle.usb_set.specs.declared.tree.Configuration.{Configuration}
 use Rattle.usb_set.specs.declared.fault.SetFault.{SetFault}
@@ -8,12 +8,10 @@ use Rattle.usb_set.specs.Feeding.{WantsMemory}
 use Rattle.usb_set.specs.Layout.{Layout}
 use Rattle.usb_file_data.specs.File.{File}
 use Rattle.usb_file_data.specs.Front.{IsPartStart}
-use Rattle.usb_rules.specs.Findings.{dump_findings, findings, set_findings}
-use Rattle.usb_rules.specs.declared.finding.Finding.{Finding}
 use Rattle.usb_file.specs.declared.fault.FileWhy.{FileWhy}
 use Rattle.usb_file.specs.declared.fault.FileWhy.TheVariants as files
-use Rattle.usb_file.specs.declared.input.Input.{Input}
-use Rattle.usb_file.specs.declared.input.Input.TheVariants as inputs
+use Rattle.usb_file_data.specs.declared.input.Input.{Input}
+use Rattle.usb_file_data.specs.declared.input.Input.TheVariants as inputs
 use Rattle.usb_file.specs.declared.input_fault.InputFault.{InputFault}
 use Rattle.usb_file.specs.declared.input_fault.InputFault.TheVariants as faults
 use Rattle.usb_file.specs.Dumps.{Dump, IsNoDump}
@@ -60,9 +58,3 @@ abbrev pub InputRefused : List ℕ → InputFault → Type 0
 InputRefused b (faults.Set fault) = (is_one_set b ≡ true) × (HasFault b fault ⊎ WantsMemory [] b fault)
 InputRefused b (faults.Trailing at) = (is_one_set b ≡ true) × GoesOn b at
 InputRefused b (faults.File fault) = (is_one_set b ≡ false) × DeviceRefused b fault.at fault.why
-
--- what breaks a rule in an input: in a set alone, in a file, or in a dump, whose device may be one of SuperSpeed
-abbrev pub input_findings : Input → List Finding
-input_findings (inputs.Set set) = set_findings set
-input_findings (inputs.File file) = findings file
-input_findings (inputs.Dump file) = dump_findings file

@@ -1,41 +1,23 @@
-//! An input: one set, a descriptor file, or a dump of Linux.
+//! The input that bytes are: one set, a descriptor file, or a dump of Linux.
 ghost use Rattle.std.specs.Prelude.{◌≡◌, IfErr, IfOk, true};
 ghost use Rattle.usb_set.specs.Layout.{Layout};
-ghost use Rattle.usb_file.specs.Inputs.{InputRefused, IsInput, input_findings, is_one_set};
+ghost use Rattle.usb_file.specs.Inputs.{InputRefused, IsInput, is_one_set};
 
 use crate::file_reader::{Form, read_file_or_dump};
 use crate::input_fault::InputFault;
-use std::alloc::{AllocError, Global};
+use std::alloc::Global;
 use usb_base::descriptor_type::{CONFIGURATION, OTHER_SPEED_CONFIGURATION};
-use usb_file_data::DescriptorFile;
-use usb_rules::{Finding, check, check_dump, check_set};
+use usb_file_data::Input;
 use usb_set::{Configuration, read_set};
-
-/// What a program is given of a device, in one of three forms.
-///
-/// ```rust
-/// match read_input(alloc, &bytes)? {
-///     Input::Set(set) => println!(rt; "configuration {}", set.value)?,
-///     Input::File(file) | Input::Dump(file) => println!(rt; "{} configurations", file.sets.len())?,
-/// }
-/// ```
-#[derive(Clone, Debug, Drop, PartialEq, Eq, Hash)]
-pub enum Input {
-    /// One configuration set (USB 2.0, 9.4.3).
-    Set(Configuration),
-    /// A descriptor file.
-    File(DescriptorFile),
-    /// What Linux gives as `/sys/bus/usb/devices/*/descriptors`: the device descriptor and its configuration
-    /// sets. It has no other speed, and no strings though it names some, so that it is no file.
-    Dump(DescriptorFile),
-}
 
 /// The set, the file or the dump that the bytes are, exactly where they are one. They are read as one set where the
 /// second byte is 2 or 7, the type of a configuration descriptor or of an other-speed one (USB 2.0, table 9-5).
 ///
 /// ```rust
-/// let input = read_input(alloc, &[9, 2, 9, 0, 0, 1, 0, 0x80, 0x32])?;
-/// assert!(rt; matches!(&input, Input::Set(_)));
+/// match read_input(alloc, &[9, 2, 9, 0, 0, 1, 0, 0x80, 0x32])? {
+///     Input::Set(set) => println!(rt; "configuration {}", set.value)?, // configuration 1
+///     Input::File(file) | Input::Dump(file) => println!(rt; "{} configurations", file.sets.len())?,
+/// }
 /// ```
 ///
 /// # Errors
@@ -53,28 +35,6 @@ pub fn read_input(alloc: Global, b: &[u8]) -> Result<Input, InputFault>
     match form {
         Form::File => Ok(Input::File(file)),
         Form::Dump => Ok(Input::Dump(file)),
-    }
-}
-
-/// Everything in an input that breaks a rule of chapter 9: [`check_set`] of a set, [`check`] of a file and
-/// [`check_dump`] of a dump.
-///
-/// ```rust
-/// for finding in &check_input(alloc, &read_input(alloc, &bytes)?)? {
-///     println!(rt; "{finding}")?;
-/// }
-/// ```
-///
-/// # Errors
-///
-/// Out of memory.
-pub fn check_input(alloc: Global, input: &Input) -> Result<Vec<Finding>, AllocError>
-    ensures { IfOk result (λ findings. findings.items ≡ input_findings input.now) }
-{
-    match input {
-        Input::Set(set) => check_set(alloc, set),
-        Input::File(file) => check(alloc, file),
-        Input::Dump(file) => check_dump(alloc, file),
     }
 }
 

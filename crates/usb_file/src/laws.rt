@@ -1,6 +1,6 @@
 //! What holds of files and faults, whoever reads the bytes. Each law is the contract of a function that
 //! does nothing.
-ghost use Rattle.std.specs.Prelude.{◌≡◌, ◌≤◌, ℕ, List, length};
+ghost use Rattle.std.specs.Prelude.{◌≡◌, ℕ, List, length};
 ghost use Rattle.usb_base.specs.Bytes.{AreBytes};
 ghost use Rattle.usb_file_data.specs.File.{File};
 ghost use Rattle.usb_file.specs.FileFaults.{FileFaulty};
@@ -9,15 +9,13 @@ ghost use Rattle.usb_file.specs.FileOrFault.{FileOrFault};
 ghost use Rattle.usb_file.specs.Dumps.{Dump};
 ghost use Rattle.usb_file.specs.Inputs.{InputFaulty, IsInput};
 ghost use Rattle.usb_file.specs.InputOrFault.{InputOrFault};
-ghost use Rattle.usb_file.specs.declared.input.Input.{Input};
+ghost use Rattle.usb_file_data.specs.declared.input.Input.{Input};
 ghost use Rattle.usb_file.specs.declared.input_fault.InputFault.{InputFault};
 ghost use Rattle.usb_file.specs.declared.fault.FileWhy.TheVariants as files;
 ghost use Rattle.usb_file_data.specs.declared.file.DescriptorFile.{DescriptorFile};
 ghost use Rattle.usb_file.specs.declared.fault.FileWhy.{FileWhy};
-ghost use Rattle.usb_listing.specs.Listing.{file_lines};
 
 use usb_fields::laws::{device_descriptor_round_trip, qualifier_round_trip, units_round_trip};
-use usb_listing_reader::laws as listings;
 use usb_set::laws::{one_judgement, one_layout};
 
 /// Bytes are those of one file at most, and a file has one list of bytes at most.
@@ -26,32 +24,6 @@ pub fn one_file()
     ensures written { (f : DescriptorFile) (b d : List ℕ) → File f b → File f d → b ≡ d }
 {
     part_laws();
-}
-
-/// The most bytes that a file has: the device descriptor, 255 sets of either speed, the qualifier, the
-/// language list, and a string for each of 126 languages and 255 indices, each as long as it can be.
-pub const FILE_LIMIT: usize = 18 + 2 * 255 * 65_535 + 10 + 254 + 126 * 255 * 254;
-
-/// No file has more bytes than the limit.
-pub fn longest_file()
-    ensures { (f : DescriptorFile) (b : List ℕ) → File f b → length b ≤ FILE_LIMIT }
-{}
-
-/// The most bytes of a text that is read back: no file's listing has more.
-pub const LISTING_LIMIT: usize = 268_435_456;
-
-/// Each file that has bytes has a listing within the limit.
-pub fn listings_fit()
-    ensures { (f : DescriptorFile) (b : List ℕ) → File f b → length (file_lines f) ≤ LISTING_LIMIT }
-{}
-
-/// Files with one listing have the same bytes: what is listed of a file is parsed to the bytes of that file.
-pub fn listings_go_round()
-    ensures { (f g : DescriptorFile) (b d : List ℕ) → File f b → File g d → file_lines f ≡ file_lines g → b ≡ d }
-{
-    one_file();
-    listings::one_file();
-    listings::nothing_dropped();
 }
 
 /// Of all bytes exactly one holds: they are those of a file, or they show one fault at one place.

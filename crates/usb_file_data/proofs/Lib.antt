@@ -3,4 +3,7 @@ pub mod ExtraMarks
 pub mod Lists
 pub mod WholeSets
 pub mod Fronts
+pub mod Counts
+pub mod Units
+pub mod Longest
 pub mod Copies

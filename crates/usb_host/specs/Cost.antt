@@ -16,7 +16,7 @@ use Rattle.usb_host.specs.Steps.{HostPhase, ResetDue, Reading, Ended, HostView}
 abbrev pub strings_cost : ℕ
 strings_cost = 34 + 126 * 255 * 34 + 3
 
--- after the sets of a kind: the qualifier and 255 sets of the other speed, each with its front
+-- after the sets of a kind: the qualifier and 255 sets of the other speed, each with its header
 abbrev pub cost_after : SetKind → ℕ
 cost_after kinds.Configuration = 4 + 255 * 8198 + strings_cost
 cost_after kinds.OtherSpeed = strings_cost

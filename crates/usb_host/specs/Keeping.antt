@@ -22,7 +22,7 @@ abbrev pub WantsMemory : Result Progress SetFault → Type 0
 WantsMemory (Ok progress) = ⊥
 WantsMemory (Err fault) = fault.why ≡ Memory
 
--- whether bytes came behind the set's last, after a piece of so many
+-- whether bytes came after the set's last, after a piece of so many
 abbrev pub is_over : Bool → Result Progress SetFault → ℕ → Bool
 is_over over (Ok More) count = over
 is_over over (Ok (Done used)) count = over || nat_lt used count
@@ -35,7 +35,7 @@ Keeps (Bytes bytes) piece result (Set d over) = ⊥
 Keeps (Set d over) piece result (Bytes new) = ⊥
 Keeps (Set d over) piece result (Set new now) = Answers d piece result new × (now ≡ is_over over result (length piece))
 
--- the set that a decoder has, where no byte came behind its end
+-- the set that a decoder has, where no byte came after its end
 abbrev pub set_kept : Decoding → Bool → Option Configuration
 set_kept (has c) false = Some c
 set_kept (has c) true = None

@@ -1,7 +1,7 @@
 -- What holds of every enumeration, whatever is answered.
 use Rattle.std.specs.Prelude.{◌≡◌, ℕ, suc, ◌<◌, ◌≤◌, ◌⊎◌, List, [], ◌∷◌, Option, Some, IsSome, Ok}
 use Rattle.usb_base.specs.Bytes.{AreBytes}
-use Rattle.usb_fields.specs.declared.speed.Speed.{Speed}
+use Rattle.usb_base.specs.declared.speed.Speed.{Speed}
 use Rattle.usb_fields.specs.Packet.{Reply as Answer, Sent}
 use Rattle.usb_set.specs.declared.tree.Configuration.{Configuration}
 use Rattle.usb_set.specs.Layout.{Layout}

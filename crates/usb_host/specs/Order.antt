@@ -1,6 +1,6 @@
 -- The order of the reads of an enumeration, and where each leads to (USB 2.0, 9.1.2, 9.4 and 9.6).
 use Rattle.std.specs.Prelude.{ℕ, ◌*◌, ◌/◌, ◌%◌, ◌==◌, ◌&&◌, not, nat_lt, Bool, false, if◌then◌else◌, List, [], ◌∷◌, ◌++◌, length, take, slice_index, Option, Some, None}
-use Rattle.usb_fields.specs.declared.speed.Speed.{Speed}
+use Rattle.usb_base.specs.declared.speed.Speed.{Speed}
 use Rattle.usb_fields.specs.declared.device.DeviceDescriptor.{DeviceDescriptor}
 use Rattle.usb_fields.specs.declared.qualifier.Qualifier.{Qualifier}
 use Rattle.usb_set.specs.declared.tree.SetKind.{SetKind}
@@ -58,7 +58,7 @@ index_due named k = slice_index named (k % length named)
 abbrev pub language_due : List ℕ → List ℕ → ℕ → ℕ
 language_due languages named k = slice_index languages (k / length named)
 
--- the step of the front of a set of this kind, by its index
+-- the step of the header of a set of this kind, by its index
 abbrev pub header_step : SetKind → ℕ → Step
 header_step kinds.Configuration i = steps.Header i
 header_step kinds.OtherSpeed i = steps.OtherHeader i
@@ -128,12 +128,12 @@ device_leads speed place first b (Some d) =
     then sets_due speed kinds.Configuration (record { device = d; sets = []; other = None; strings = None })
     else stopped place Malformed
 
--- after the front of a set
+-- after the header of a set
 abbrev pub header_leads : Place → SetKind → DescriptorFile → Option ℕ → Place
 header_leads place kind f None = stopped place Malformed
 header_leads place kind f (Some total) = Set kind f total
 
--- after a set of so many bytes: just those that its front announced, of its kind, and the first one can be selected
+-- after a set of so many bytes: just those that its header announced, of its kind, and the first one can be selected
 abbrev pub set_leads : Speed → Place → SetKind → DescriptorFile → ℕ → ℕ → Option Configuration → Place
 set_leads speed place kind f total count None = stopped place Malformed
 set_leads speed place kind f total count (Some c) =

@@ -1,8 +1,8 @@
 -- What the bytes of a read say.
 use Rattle.std.specs.Prelude.{ℕ, ◌+◌, ◌*◌, ◌==◌, ◌&&◌, ◌||◌, not, nat_lt, Bool, true, false, if◌then◌else◌, List, [], ◌∷◌, length, slice_index, Option, Some, None}
 use Rattle.usb_base.specs.Bytes.{little_endian_at}
-use Rattle.usb_fields.specs.declared.speed.Speed.{Speed}
-use Rattle.usb_fields.specs.declared.speed.Speed.TheVariants.{Low, Full, High}
+use Rattle.usb_base.specs.declared.speed.Speed.{Speed}
+use Rattle.usb_base.specs.declared.speed.Speed.TheVariants.{Low, Full, High}
 use Rattle.usb_fields.specs.declared.device.DeviceDescriptor.{DeviceDescriptor}
 use Rattle.usb_fields.specs.declared.qualifier.Qualifier.{Qualifier}
 use Rattle.usb_fields.specs.Device.{device_bytes}
@@ -56,7 +56,7 @@ abbrev pub pairs : List ℕ → List ℕ
 pairs (low ∷ high ∷ b) = (low + 256 * high) ∷ pairs b
 pairs _ = []
 
--- the units behind bLength and bDescriptorType (9.6.7)
+-- the units after bLength and bDescriptorType (9.6.7)
 abbrev pub unit_fields : List ℕ → List ℕ
 unit_fields (len ∷ kind ∷ b) = pairs b
 unit_fields _ = []
@@ -89,11 +89,11 @@ may_have_second Low d = false
 may_have_second Full d = not (nat_lt d.usb 0x0200)
 may_have_second High d = not (nat_lt d.usb 0x0200)
 
--- wTotalLength, where a front of so many bytes has this bLength and type and is that of a set of this type (9.6.3)
+-- wTotalLength, where a header of so many bytes has this bLength and type and is that of a set of this type (9.6.3)
 abbrev pub total_said : ℕ → ℕ → ℕ → ℕ → ℕ → Option ℕ
 total_said kind count length_said kind_said total =
     if (count == 9) && nat_lt 8 length_said && (kind_said == kind) && not (nat_lt total length_said) then Some total else None
 
--- wTotalLength of the front of a set of this type, where it is well formed
+-- wTotalLength of the header of a set of this type, where it is well formed
 abbrev pub total_in : ℕ → List ℕ → Option ℕ
 total_in kind b = total_said kind (length b) (slice_index b 0) (slice_index b 1) (little_endian_at b 2)

@@ -3,3 +3,4 @@ pub mod Rows
 pub mod Lines
 pub mod HasBytes
 pub mod LineLemmas
+pub mod ListingLengthLemmas

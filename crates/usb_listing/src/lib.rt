@@ -4,7 +4,8 @@
 //!
 //! What a listing is is `specs/Listing.antt`, with the lines of a set in `specs/SetListing.antt`, those of
 //! the strings in `specs/StringListing.antt`, the form of a line in `specs/Lines.antt`, and the table of lines
-//! in `specs/Table.antt`. The module [`laws`] says that a set's lines are those of its descriptors.
+//! in `specs/Table.antt`. The module [`laws`] says that a set's lines are those of its descriptors, and how
+//! long a listing can be.
 #![tactic(auto)]
 
 mod extra_word;
@@ -18,6 +19,7 @@ mod string_listing;
 mod unit;
 
 pub use extra_word::{EXTRA_WORDS, ExtraWord, RAW_WIDTHS};
+pub use laws::LISTING_LIMIT;
 pub use listing::list;
 pub use output::{OutFault, write_all};
 pub use set_listing::list_set;

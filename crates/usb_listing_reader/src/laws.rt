@@ -23,6 +23,14 @@ pub fn nothing_dropped()
     ensures written { (f : DescriptorFile) (b : List ℕ) → File f b → IsUncommented (file_lines f) }
 {}
 
+/// Files with one listing have the same bytes: what is listed of a file is parsed to the bytes of that file.
+pub fn listings_go_round()
+    ensures { (f g : DescriptorFile) (b d : List ℕ) → File f b → File g d → file_lines f ≡ file_lines g → b ≡ d }
+{
+    one_file();
+    nothing_dropped();
+}
+
 /// Of all texts exactly one holds: they are the listing of a file, or they show one fault at one line.
 pub fn one_answer()
     ensures some { (text : List ℕ) → ListingOrFault text }

@@ -7,6 +7,8 @@ use Rattle.usb_set.specs.declared.tree.Configuration.{Configuration}
 use Rattle.usb_set.specs.Parts.{associations_of}
 use Rattle.usb_file_data.specs.declared.file.DescriptorFile.{DescriptorFile}
 use Rattle.usb_file_data.specs.declared.file.Other.{Other}
+use Rattle.usb_file_data.specs.declared.input.Input.{Input}
+use Rattle.usb_file_data.specs.declared.input.Input.TheVariants as inputs
 use Rattle.usb_rules.specs.declared.finding.Part.{Part}
 use Rattle.usb_rules.specs.declared.finding.Part.TheVariants as parts
 use Rattle.usb_rules.specs.declared.finding.Finding.{Finding}
@@ -148,3 +150,9 @@ part_findings part sets =
 -- what `check` reports of a set alone: it is the only set of its part
 abbrev pub set_findings : Configuration → List Finding
 set_findings c = part_findings (part_of_kind c.kind) (c ∷ [])
+
+-- what breaks a rule in an input: in a set alone, in a file, or in a dump, whose device may be one of SuperSpeed
+abbrev pub input_findings : Input → List Finding
+input_findings (inputs.Set set) = set_findings set
+input_findings (inputs.File file) = findings file
+input_findings (inputs.Dump file) = dump_findings file

@@ -1,6 +1,6 @@
 //! All findings of a file, of a dump, and of a set alone.
 ghost use Rattle.std.specs.Prelude.{◌≡◌, ◌++◌, IfOk, OnOk};
-ghost use Rattle.usb_rules.specs.Findings.{dump_findings, findings, part_of_kind, set_findings};
+ghost use Rattle.usb_rules.specs.Findings.{dump_findings, findings, input_findings, part_of_kind, set_findings};
 ghost use Rattle.usb_rules.specs.InOrder.{dump_findings_in_order, file_in_order, findings_in_order, part_in_order, set_findings_in_order};
 
 use crate::device::{check_device, check_qualifier, is_wrong_device, is_wrong_dumped_device};
@@ -12,7 +12,7 @@ use crate::value::check_any_set;
 use std::alloc::{AllocError, Global};
 use std::slice;
 use usb_base::Marks;
-use usb_file_data::DescriptorFile;
+use usb_file_data::{DescriptorFile, Input};
 use usb_set::{Configuration, SetKind};
 
 /// Out of memory, as std has it.
@@ -74,6 +74,28 @@ pub fn check_set(alloc: Global, c: &Configuration) -> Result<Vec<Finding>, NoMem
     ensures { IfOk result (λ v. v.items ≡ set_findings c.now) }
 {
     walk_set(alloc, c)?.by_rule(alloc)
+}
+
+/// Everything in an input that breaks a rule of chapter 9: [`check_set`] of a set, [`check`] of a file and
+/// [`check_dump`] of a dump.
+///
+/// ```rust
+/// for finding in &check_input(alloc, &Input::Set(set))? {
+///     println!(rt; "{finding}")?;
+/// }
+/// ```
+///
+/// # Errors
+///
+/// Out of memory.
+pub fn check_input(alloc: Global, input: &Input) -> Result<Vec<Finding>, NoMemory>
+    ensures { IfOk result (λ findings. findings.items ≡ input_findings input.now) }
+{
+    match input {
+        Input::Set(set) => check_set(alloc, set),
+        Input::File(file) => check(alloc, file),
+        Input::Dump(file) => check_dump(alloc, file),
+    }
 }
 
 /// What [`check`] finds in a file, in the order of its bytes: at each descriptor the rules that it breaks.

@@ -2,7 +2,7 @@
 //!
 //! A file can be parsed and yet be wrong: counts that do not match, settings that occur twice, addresses
 //! that two interfaces claim. [`check`] reports all of that at once, each [`Finding`] at its place. [`check_dump`] and
-//! [`check_set`] do so of what is less than a file.
+//! [`check_set`] do so of what is less than a file, and [`check_input`] of any of the three.
 //!
 //! They come rule by rule, or from [`findings_in_order`] and its like in the order of the bytes.
 //!
@@ -32,7 +32,7 @@ mod shared_address;
 mod value;
 
 pub use all_findings::{
-    NoMemory, check, check_dump, check_set, dump_findings_in_order, findings_in_order,
+    NoMemory, check, check_dump, check_input, check_set, dump_findings_in_order, findings_in_order,
     set_findings_in_order,
 };
 pub use finding::{Finding, Part};

@@ -3,7 +3,7 @@ use Rattle.std.specs.Prelude.{◌≡◌, ℕ, List}
 use Rattle.std.specs.Io.KnownBytes.{Keeps}
 use Rattle.usb_file_data.specs.declared.file.DescriptorFile.{DescriptorFile}
 use Rattle.usb_file_data.specs.File.{File}
-use Rattle.usb_file.specs.declared.laws.TheConstants.{LISTING_LIMIT}
+use Rattle.usb_listing.specs.declared.laws.TheConstants.{LISTING_LIMIT}
 use Rattle.usb_listing.specs.Listing.{file_lines}
 use Rattle.usb_listing.specs.Output.{Held}
 use Rattle.usb_listing_reader.specs.Comments.{uncommented}

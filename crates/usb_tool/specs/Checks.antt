@@ -1,8 +1,9 @@
 -- What `check` tells of its input.
 use Rattle.std.specs.Prelude.{◌≡◌, ℕ, List, [], ◌∷◌}
-use Rattle.usb_file.specs.Inputs.{IsInput, input_findings}
-use Rattle.usb_file.specs.declared.input.Input.{Input}
-use Rattle.usb_file.specs.declared.laws.TheConstants.{FILE_LIMIT}
+use Rattle.usb_file.specs.Inputs.{IsInput}
+use Rattle.usb_rules.specs.Findings.{input_findings}
+use Rattle.usb_file_data.specs.declared.input.Input.{Input}
+use Rattle.usb_file_data.specs.declared.laws.TheConstants.{FILE_LIMIT}
 use Rattle.usb_listing.specs.Output.{Held}
 use Rattle.usb_rules.specs.FindingLine.{check_text}
 use Rattle.usb_rules.specs.declared.finding.Finding.{Finding}

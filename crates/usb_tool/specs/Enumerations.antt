@@ -7,7 +7,7 @@ use Rattle.usb_file.specs.Completed.{IsCompleted}
 use Rattle.usb_file.specs.Dumps.{IsNoDump}
 use Rattle.usb_file.specs.FileFaults.{FileFaulty}
 use Rattle.usb_file.specs.declared.fault.FileFault.{FileFault}
-use Rattle.usb_file.specs.declared.laws.TheConstants.{FILE_LIMIT}
+use Rattle.usb_file_data.specs.declared.laws.TheConstants.{FILE_LIMIT}
 use Rattle.usb_listing.specs.Listing.{file_lines}
 use Rattle.usb_listing.specs.declared.output.OutFault.{OutFault}
 use Rattle.usb_listing.specs.declared.output.OutFault.TheVariants as outs

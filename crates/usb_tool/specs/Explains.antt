@@ -5,9 +5,9 @@ use Rattle.usb_explain.specs.Explanations.{broken_explanation, explanation}
 use Rattle.usb_explain.specs.Faults.{fault_words}
 use Rattle.usb_explain.specs.declared.manner.Manner.{Manner}
 use Rattle.usb_file.specs.Inputs.{InputFaulty, IsInput}
-use Rattle.usb_file.specs.declared.input.Input.{Input}
+use Rattle.usb_file_data.specs.declared.input.Input.{Input}
 use Rattle.usb_file.specs.declared.input_fault.InputFault.{InputFault}
-use Rattle.usb_file.specs.declared.laws.TheConstants.{FILE_LIMIT}
+use Rattle.usb_file_data.specs.declared.laws.TheConstants.{FILE_LIMIT}
 use Rattle.usb_hex_text.specs.HexText.{HexFaulty, HexText}
 use Rattle.usb_hex_text.specs.declared.fault.HexFault.{HexFault}
 use Rattle.usb_hex_text.specs.declared.fault.HexFault.TheVariants as hexes

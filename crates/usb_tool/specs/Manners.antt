@@ -3,12 +3,12 @@ use Rattle.std.specs.Prelude.{◌≡◌, ℕ, List, not, Option, Some, None, opt
 use Rattle.std.specs.Borrow.{Bor}
 use Rattle.std.specs.Str.{bytes_eq}
 use Rattle.usb_explain.specs.declared.manner.Manner.{Manner}
-use Rattle.usb_words.specs.declared.set_speed.RunningSpeed.{RunningSpeed}
-use Rattle.usb_words.specs.declared.set_speed.RunningSpeed.TheVariants.{Low, Full, High, Super}
+use Rattle.usb_words.specs.declared.speed.SetSpeed.{SetSpeed}
+use Rattle.usb_words.specs.declared.speed.SetSpeed.TheVariants.{Low, Full, High, Super}
 use Rattle.usb_tool.specs.declared.explain_options.Explaining.{Explaining}
 
 -- the speed of a name
-abbrev pub running_speed_of : List ℕ → Option RunningSpeed
+abbrev pub running_speed_of : List ℕ → Option SetSpeed
 running_speed_of name =
     if bytes_eq name (codes "low") then Some Low
     else if bytes_eq name (codes "full") then Some Full
@@ -17,7 +17,7 @@ running_speed_of name =
     else None
 
 -- the speed that an option says: none where it is absent, and no answer where no speed has the name
-abbrev pub running_said : Option (Bor (List ℕ)) → Option (Option RunningSpeed)
+abbrev pub running_said : Option (Bor (List ℕ)) → Option (Option SetSpeed)
 running_said None = Some None
 running_said (Some name) = option_map (λ speed. Some speed) (running_speed_of name.now)
 

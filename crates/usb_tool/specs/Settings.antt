@@ -4,8 +4,8 @@ use Rattle.std.specs.Borrow.{Bor}
 use Rattle.std.specs.Char.{digit_value}
 use Rattle.std.specs.List.{list_all}
 use Rattle.std.specs.Str.Parse.{digits_value, without_leading_plus}
-use Rattle.usb_fields.specs.declared.speed.Speed.{Speed}
-use Rattle.usb_fields.specs.declared.speed.Speed.TheVariants.{Full}
+use Rattle.usb_base.specs.declared.speed.Speed.{Speed}
+use Rattle.usb_base.specs.declared.speed.Speed.TheVariants.{Full}
 use Rattle.usb_bus.specs.declared.fate.Fate.{Fate}
 use Rattle.usb_transfer.specs.Limits.{LimitView, limit_fault}
 use Rattle.usb_tool.specs.OptionValues.{RefusesFates, fates_of, speed_of}

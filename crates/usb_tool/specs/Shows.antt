@@ -1,9 +1,9 @@
 -- What `show` tells of its input.
 use Rattle.std.specs.Prelude.{◌≡◌, ℕ, List}
 use Rattle.usb_file.specs.Inputs.{IsInput}
-use Rattle.usb_file.specs.declared.input.Input.{Input}
-use Rattle.usb_file.specs.declared.input.Input.TheVariants as inputs
-use Rattle.usb_file.specs.declared.laws.TheConstants.{FILE_LIMIT}
+use Rattle.usb_file_data.specs.declared.input.Input.{Input}
+use Rattle.usb_file_data.specs.declared.input.Input.TheVariants as inputs
+use Rattle.usb_file_data.specs.declared.laws.TheConstants.{FILE_LIMIT}
 use Rattle.usb_listing.specs.Listing.{file_lines}
 use Rattle.usb_listing.specs.Output.{AppendsLess, Held}
 use Rattle.usb_listing.specs.SetListing.{set_lines}

@@ -10,7 +10,9 @@ use crate::input::read_all;
 use crate::output::write_flushed;
 use std::alloc::{AllocError, Global};
 use std::io::{Read, Write};
-use usb_file::{DescriptorFile, LISTING_LIMIT, WriteFault, assemble, write_file};
+use usb_file::{DescriptorFile, WriteFault, write_file};
+use usb_listing::LISTING_LIMIT;
+use usb_listing_reader::assemble;
 
 /// Reads a listing of a descriptor file to its end, and writes the bytes of that file. The number in `Ok` is 0.
 ///

@@ -9,8 +9,8 @@ use crate::input::read_all;
 use crate::output::write_flushed;
 use std::alloc::Global;
 use std::io::{Read, Write};
-use usb_file::{FILE_LIMIT, Finding, check_input, read_input};
-use usb_rules::findings_text;
+use usb_file::{FILE_LIMIT, read_input};
+use usb_rules::{Finding, check_input, findings_text};
 
 /// Reads the input to its end, and writes a line for each thing in it that breaks a rule of chapter 9, or `no findings`.
 /// The input is one configuration set, a descriptor file or a dump, as that of [`run_show`](crate::run_show) is. The number

@@ -15,9 +15,9 @@ use std::alloc::Global;
 use std::io::{Read, Write};
 use usb_description::{Description, DescriptionFault};
 use usb_enumeration::{Run, enumerate, enumerate_logged};
-use usb_file::{DescriptorFile, FILE_LIMIT, FileFault, list, read_completed, read_file};
+use usb_file::{DescriptorFile, FILE_LIMIT, FileFault, read_completed, read_file};
 use usb_host::Trouble;
-use usb_listing::write_all;
+use usb_listing::{list, write_all};
 
 /// Reads a descriptor file, or where the settings say so a dump, to its end, and enumerates a device that has these
 /// descriptors. It writes

@@ -14,9 +14,9 @@ use crate::output::finish;
 use std::alloc::{AllocError, Global};
 use std::io::{Read, Write};
 use usb_explain::{Manner, explain, explain_broken};
-use usb_file::{FILE_LIMIT, Input, InputFault, OutFault, read_input};
+use usb_file::{FILE_LIMIT, Input, InputFault, read_input};
 use usb_hex_text::{HexFault, parse};
-use usb_listing::write_all;
+use usb_listing::{OutFault, write_all};
 use usb_text::{Text, put_count};
 
 /// Reads the input to its end, and writes what its descriptors mean, in words. The input is one configuration set, a

@@ -6,7 +6,9 @@ ghost use Rattle.usb_tool.specs.declared.fault.ToolFault.TheVariants.{Memory};
 use std::alloc::AllocError;
 use std::error::Error;
 use std::fmt;
-use usb_file::{FileFault, FileWhy, InputFault, ListFault, ListWhy, OutFault};
+use usb_file::{FileFault, FileWhy, InputFault};
+use usb_listing::OutFault;
+use usb_listing_reader::{ListFault, ListWhy};
 use usb_set::{SetFault, SetWhy};
 
 /// Why a command did not do its work.

@@ -70,5 +70,5 @@ pub use speed::read_speed;
 pub use usb_bus::{Fate, Reply, Talk, converse, laws};
 pub use usb_enumeration;
 pub use usb_enumeration::{Run, enumerate};
-pub use usb_explain::{Look, Manner, RunningSpeed};
-pub use usb_file::LISTING_LIMIT;
+pub use usb_explain::{Look, Manner, SetSpeed};
+pub use usb_listing::LISTING_LIMIT;

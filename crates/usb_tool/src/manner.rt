@@ -6,7 +6,7 @@ ghost use Rattle.usb_tool.specs.declared.settings.SettingsFault.TheVariants.{Spe
 
 use crate::explain_options::Explaining;
 use crate::settings::SettingsFault;
-use usb_explain::{Look, Manner, RunningSpeed};
+use usb_explain::{Look, Manner, SetSpeed};
 
 /// What the options of `explain` mean. Fields and places are written unless they are left out, and without a speed the
 /// descriptors say it.
@@ -14,7 +14,7 @@ use usb_explain::{Look, Manner, RunningSpeed};
 /// ```rust
 /// let manner = manner_of(&Explaining { brief: true, no_places: false, speed: Some("high") })?;
 /// assert_eq!(rt; manner.look, Look { brief: true, places: true });
-/// assert_eq!(rt; manner.speed, Some(RunningSpeed::High));
+/// assert_eq!(rt; manner.speed, Some(SetSpeed::High));
 /// ```
 ///
 /// # Errors
@@ -37,7 +37,7 @@ pub fn manner_of(explaining: &Explaining<'_>) -> Result<Manner, SettingsFault>
 }
 
 /// The speed that is named, if one is; `None` where no speed has the name.
-fn speed_of(name: Option<&str>) -> Option<Option<RunningSpeed>>
+fn speed_of(name: Option<&str>) -> Option<Option<SetSpeed>>
     ensures { result ≡ running_said name.entry }
 {
     match name {
@@ -49,17 +49,17 @@ fn speed_of(name: Option<&str>) -> Option<Option<RunningSpeed>>
 /// The speed of a name: `low`, `full`, `high` or `super`.
 ///
 /// ```rust
-/// assert_eq!(rt; read_running_speed("super"), Some(RunningSpeed::Super));
+/// assert_eq!(rt; read_running_speed("super"), Some(SetSpeed::Super));
 /// assert_eq!(rt; read_running_speed("Super"), None);
 /// ```
-pub fn read_running_speed(name: &str) -> Option<RunningSpeed>
+pub fn read_running_speed(name: &str) -> Option<SetSpeed>
     ensures { result ≡ running_speed_of name.now }
 {
     match name {
-        "low" => Some(RunningSpeed::Low),
-        "full" => Some(RunningSpeed::Full),
-        "high" => Some(RunningSpeed::High),
-        "super" => Some(RunningSpeed::Super),
+        "low" => Some(SetSpeed::Low),
+        "full" => Some(SetSpeed::Full),
+        "high" => Some(SetSpeed::High),
+        "super" => Some(SetSpeed::Super),
         _ => None,
     }
 }

@@ -11,7 +11,8 @@ use crate::input::read_all;
 use crate::output::finish;
 use std::alloc::Global;
 use std::io::{Read, Write};
-use usb_file::{FILE_LIMIT, Input, OutFault, list, list_set, read_input};
+use usb_file::{FILE_LIMIT, Input, read_input};
+use usb_listing::{OutFault, list, list_set};
 
 /// Reads the input to its end, and writes its listing: a line for each descriptor, in the order of the
 /// input. The input is one configuration set where its second byte is 2 or 7, the type of a

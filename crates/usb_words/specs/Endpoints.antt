@@ -7,8 +7,8 @@ use Rattle.usb_base.specs.declared.direction.Direction.{Direction}
 use Rattle.usb_base.specs.declared.direction.Direction.TheVariants.{Out, In}
 use Rattle.usb_set.specs.declared.endpoint.TransferType.{TransferType}
 use Rattle.usb_set.specs.declared.endpoint.TransferType.TheVariants.{Control, Isochronous, Bulk, Interrupt}
-use Rattle.usb_words.specs.declared.speed.Speed.{Speed}
-use Rattle.usb_words.specs.declared.speed.Speed.TheVariants.{High}
+use Rattle.usb_words.specs.declared.speed.SetSpeed.{SetSpeed}
+use Rattle.usb_words.specs.declared.speed.SetSpeed.TheVariants.{High}
 use Rattle.usb_text.specs.Numbers.{count}
 
 -- which way the data goes
@@ -62,13 +62,13 @@ packets_words (Some packets) size =
     else decimal packets ++ codes " x " ++ count size (codes "byte") ++ codes " a microframe"
 
 -- bits 12..11 of wMaxPacketSize count packets of periodic endpoints at high speed, and are reserved elsewhere
-abbrev pub has_packets : Speed → TransferType → Bool
+abbrev pub has_packets : SetSpeed → TransferType → Bool
 has_packets High Isochronous = true
 has_packets High Interrupt = true
 has_packets _ _ = false
 
 -- wMaxPacketSize of an endpoint of these attributes: bits 10..0 in bytes, with bits 12..11 where they count packets
-unfoldable pub size_words : Speed → ℕ → ℕ → List ℕ
+unfoldable pub size_words : SetSpeed → ℕ → ℕ → List ℕ
 size_words speed attributes max_packet =
     if has_packets speed (transfer_type_of attributes) then packets_words (transactions_of max_packet) (packet_size_of max_packet)
     else count (packet_size_of max_packet) (codes "byte")

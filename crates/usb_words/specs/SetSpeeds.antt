@@ -1,22 +1,13 @@
 -- The speed of a set (USB 2.0, 5.3.1.1, 5.5.3, 9.6.1 and 9.6.2).
 use Rattle.std.specs.Prelude.{ℕ, Bool, true, false, nat_le, nat_lt, ◌==◌, ◌&&◌, ◌||◌, Option, Some, None, is_some, option_and_then, unwrap_or, if◌then◌else◌}
 use Rattle.std.specs.Option.{option_or}
-use Rattle.usb_words.specs.declared.speed.Speed.{Speed}
-use Rattle.usb_words.specs.declared.speed.Speed.TheVariants as speeds
+use Rattle.usb_words.specs.declared.speed.SetSpeed.{SetSpeed}
+use Rattle.usb_words.specs.declared.speed.SetSpeed.TheVariants as speeds
 use Rattle.usb_words.specs.declared.speed_evidence.Evidence.{Evidence}
 use Rattle.usb_words.specs.declared.set_speed.Background.{Background}
-use Rattle.usb_words.specs.declared.set_speed.RunningSpeed.{RunningSpeed}
-use Rattle.usb_words.specs.declared.set_speed.RunningSpeed.TheVariants.{Low, Full, High, Super}
-
--- the speed of the sets of a device that runs at this speed
-abbrev pub speed_at : RunningSpeed → Speed
-speed_at Low = speeds.Low
-speed_at Full = speeds.Full
-speed_at High = speeds.High
-speed_at Super = speeds.Super
 
 -- the speed of its other-speed sets: a device of full and high speed runs at one of the two
-abbrev pub other_speed : Speed → Option Speed
+abbrev pub other_speed : SetSpeed → Option SetSpeed
 other_speed speeds.Full = Some speeds.High
 other_speed speeds.High = Some speeds.Full
 other_speed _ = None
@@ -26,7 +17,7 @@ abbrev pub is_high_hub : ℕ → ℕ → Bool
 is_high_hub class protocol = (class == 9) && ((protocol == 1) || (protocol == 2))
 
 -- the speed of a device's own sets by its descriptor: high speed came with bcdUSB 2.00, and 3.00 is SuperSpeed
-abbrev pub speed_of_device : ℕ → ℕ → ℕ → Option Speed
+abbrev pub speed_of_device : ℕ → ℕ → ℕ → Option SetSpeed
 speed_of_device usb class protocol =
     if nat_le 0x0300 usb then Some speeds.Super
     else if nat_lt usb 0x0200 then Some speeds.LowOrFull
@@ -34,12 +25,12 @@ speed_of_device usb class protocol =
     else None
 
 -- bMaxPacketSize0 is 64 at high speed
-abbrev pub speed_of_packet : Option ℕ → Option Speed
+abbrev pub speed_of_packet : Option ℕ → Option SetSpeed
 speed_of_packet None = None
 speed_of_packet (Some packet) = if packet == 64 then None else Some speeds.LowOrFull
 
 -- the speed that a set's descriptors prove
-abbrev pub proved_speed : Evidence → Option Speed
+abbrev pub proved_speed : Evidence → Option SetSpeed
 proved_speed evidence =
     if evidence.companion then Some speeds.Super
     else if evidence.high then Some speeds.High
@@ -47,11 +38,11 @@ proved_speed evidence =
     else None
 
 -- the speed at which they hint, where nothing is proved
-abbrev pub hinted_speed : Evidence → Speed
+abbrev pub hinted_speed : Evidence → SetSpeed
 hinted_speed evidence = if evidence.slow then speeds.LowOrFull else speeds.FullOrHigh
 
 -- the first of these that decides: what is known, bMaxPacketSize0, proof, the device's other speed, a hint
-abbrev pub decided_speed : Background → Evidence → Speed
+abbrev pub decided_speed : Background → Evidence → SetSpeed
 decided_speed background evidence =
     unwrap_or
     (option_or (option_or (option_or background.known (speed_of_packet background.packet)) (proved_speed evidence))
@@ -68,10 +59,10 @@ abbrev pub is_above_low : Background → Evidence → Bool
 is_above_low background evidence = is_some background.other || is_packet_above_low background.packet || evidence.above_low
 
 -- low or full speed is full speed where low speed is excluded
-abbrev pub without_low : Bool → Speed → Speed
+abbrev pub without_low : Bool → SetSpeed → SetSpeed
 without_low true speeds.LowOrFull = speeds.Full
 without_low _ speed = speed
 
 -- the speed of a set
-abbrev pub speed_by : Background → Evidence → Speed
+abbrev pub speed_by : Background → Evidence → SetSpeed
 speed_by background evidence = without_low (is_above_low background evidence) (decided_speed background evidence)

@@ -3,11 +3,11 @@ use Rattle.std.specs.Prelude.{ℕ, List, ◌++◌, ◌-◌, ◌*◌, ◌/◌, �
 use Rattle.std.specs.Fmt.{decimal}
 use Rattle.usb_set.specs.declared.endpoint.TransferType.{TransferType}
 use Rattle.usb_set.specs.declared.endpoint.TransferType.TheVariants.{Isochronous, Interrupt}
-use Rattle.usb_words.specs.declared.speed.Speed.{Speed}
-use Rattle.usb_words.specs.declared.speed.Speed.TheVariants.{Low, Full, LowOrFull, High, FullOrHigh, Super}
+use Rattle.usb_words.specs.declared.speed.SetSpeed.{SetSpeed}
+use Rattle.usb_words.specs.declared.speed.SetSpeed.TheVariants.{Low, Full, LowOrFull, High, FullOrHigh, Super}
 
 -- a speed in words
-abbrev pub speed_words : Speed → List ℕ
+abbrev pub speed_words : SetSpeed → List ℕ
 speed_words Low = codes "low speed"
 speed_words Full = codes "full speed"
 speed_words LowOrFull = codes "low or full speed"
@@ -16,12 +16,12 @@ speed_words FullOrHigh = codes "full or high speed"
 speed_words Super = codes "SuperSpeed"
 
 -- the unit of bMaxPower in milliamperes (USB 2.0, 9.6.3, and USB 3.2, 9.6.3)
-abbrev pub power_unit : Speed → ℕ
+abbrev pub power_unit : SetSpeed → ℕ
 power_unit Super = 8
 power_unit _ = 2
 
 -- bMaxPower in milliamperes: `100 mA`
-unfoldable pub power_words : Speed → ℕ → List ℕ
+unfoldable pub power_words : SetSpeed → ℕ → List ℕ
 power_words speed power = decimal (power_unit speed * power) ++ codes " mA"
 
 -- frames of 1 ms
@@ -59,14 +59,14 @@ unfoldable pub high_interval : ℕ → List ℕ
 high_interval n = period_words microframes (period n)
 
 -- what is known of a speed decides which of the two is meant, or both
-abbrev pub by_speed : Speed → List ℕ → List ℕ → List ℕ
+abbrev pub by_speed : SetSpeed → List ℕ → List ℕ → List ℕ
 by_speed FullOrHigh full high = full ++ codes "; at high speed " ++ high
 by_speed High full high = high
 by_speed Super full high = high
 by_speed _ full high = full
 
 -- bInterval of a periodic endpoint at a speed
-unfoldable pub interval_at : Speed → TransferType → ℕ → List ℕ
+unfoldable pub interval_at : SetSpeed → TransferType → ℕ → List ℕ
 interval_at speed transfer n = by_speed speed (full_interval transfer n) (high_interval n)
 
 -- bulk and control endpoints have no interval (5.5 and 5.8)

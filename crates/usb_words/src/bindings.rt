@@ -6,21 +6,20 @@ ghost use Rattle.usb_words.specs.Bindings.{binds, bound_at};
 use std::marker::Model;
 
 /// For each interface number of a set the number of the first association that binds it.
-#[derive(Clone, Debug, Drop, PartialEq, Eq, Hash)]
+#[derive(Clone, Debug, Drop)]
 pub struct Bindings {
-    numbers: [Option<u64>; 256],
+    /// There is no table before the first association, so that a set without one fills none.
+    numbers: Option<[Option<u64>; 256]>,
 }
 
 impl Model for Bindings {
-    ghost use Rattle.std.specs.Prelude.{◌≡◌, List, ℕ, Option, length};
+    ghost use Rattle.std.specs.Prelude.{◌≡◌, IfSome, List, ℕ, None, Option, length, replicate, unwrap_or};
 
     ghost Value = { List (Option ℕ) };
 
-    ghost view = { λ b. b.numbers };
+    ghost view = { λ b. unwrap_or b.numbers (replicate 256 None) };
 
-    ghost invariant = { λ b. length b.numbers ≡ 256 };
-
-    ghost inverse = { λ numbers. record { numbers = numbers } };
+    ghost invariant = { λ b. IfSome b.numbers (λ numbers. length numbers ≡ 256) };
 }
 
 impl Bindings {
@@ -28,16 +27,17 @@ impl Bindings {
     pub fn new() -> Bindings
         ensures { result ≡ replicate 256 None }
     {
-        Bindings {
-            numbers: [None; 256],
-        }
+        Bindings { numbers: None }
     }
 
     /// The number of the association that binds an interface of this number.
     pub fn of(&self, interface: u8) -> Option<u64>
         ensures { result ≡ bound_at self.now interface }
     {
-        self.numbers[usize::from(interface)]
+        match &self.numbers {
+            None => None,
+            Some(numbers) => numbers[usize::from(interface)],
+        }
     }
 
     /// Binds those of so many numbers that no earlier association binds.
@@ -45,11 +45,19 @@ impl Bindings {
         ensures cells { length self.new ≡ 256 }
         ensures bound { (n : ℕ) → n < 256 → bound_at self.new n ≡ option_or (bound_at self.old n) (if binds first count n then Some association else None) }
     {
-        let end = (usize::from(first) + usize::from(count)).min(256);
-        for number in usize::from(first)..end {
-            if self.numbers[number].is_none() {
-                self.numbers[number] = Some(association);
-            }
+        let numbers = self.numbers.get_or_insert([None; 256]);
+        bind_numbers(numbers, association, first, count);
+    }
+}
+
+fn bind_numbers(numbers: &mut [Option<u64>; 256], association: u64, first: u8, count: u8)
+    ensures cells { length numbers.new ≡ 256 }
+    ensures bound { (n : ℕ) → n < 256 → bound_at numbers.new n ≡ option_or (bound_at numbers.old n) (if binds first count n then Some association else None) }
+{
+    let end = (usize::from(first) + usize::from(count)).min(256);
+    for number in usize::from(first)..end {
+        if numbers[number].is_none() {
+            numbers[number] = Some(association);
         }
     }
 }

@@ -3,8 +3,9 @@ ghost use Rattle.std.specs.Prelude.{◌≡◌};
 ghost use Rattle.usb_words.specs.Cut.{descriptors};
 ghost use Rattle.usb_words.specs.Counts.{endpoints_before_interface};
 
-use crate::cut::{behind, descriptor_length, front};
+use crate::cut::descriptor_length;
 use crate::descriptor_types::{is_endpoint, is_interface};
+use usb_base::{after, prefix};
 
 /// The count of endpoints before the next interface, where these are the bytes of a set after an interface.
 ///
@@ -17,12 +18,12 @@ pub fn endpoint_count(setting: &[u8]) -> u64
     let mut rest = setting;
     let mut count = 0;
     while let Some(length) = descriptor_length(rest) {
-        let d = front(rest, length);
+        let d = prefix(rest, length);
         if is_interface(d) {
             return count;
         }
         count += u64::from(is_endpoint(d));
-        rest = behind(rest, length);
+        rest = after(rest, length);
     }
     count
 }

@@ -2,8 +2,7 @@
 ghost use Rattle.std.specs.Prelude.{◌≡◌};
 ghost use Rattle.usb_words.specs.DescriptorTypes.{is_association, is_endpoint, is_interface, is_of_type};
 
-use crate::cut::byte_at;
-use usb_base::{descriptor_length, descriptor_type};
+use usb_base::{byte_at, descriptor_length, descriptor_type};
 
 fn is_of_type(kind: u8, least: u8, d: &[u8]) -> bool
     ensures { result ≡ is_of_type kind least d.now }

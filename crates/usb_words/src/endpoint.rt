@@ -5,7 +5,7 @@ ghost use Rattle.usb_set.specs.Endpoints.{transfer_type_of, transactions_of};
 ghost use Rattle.usb_words.specs.Endpoints.{attributes_words, direction_words, end_words, has_packets, packets_words, size_words, synchronization_words, transfer_words, usage_words, way_words};
 ghost use Rattle.usb_text.specs.Numbers.{count};
 
-use crate::speed::Speed;
+use crate::speed::SetSpeed;
 use std::alloc::AllocError;
 use usb_set::TransferType;
 use usb_text::{Text, put_count};
@@ -93,13 +93,13 @@ fn usage(attributes: u8) -> &'static str
 /// microframe`.
 ///
 /// ```rust
-/// put_size(&mut text, Speed::High, 1, 0x1400)?;
+/// put_size(&mut text, SetSpeed::High, 1, 0x1400)?;
 /// assert_eq!(rt; text.as_bytes(), b"3 x 1024 bytes a microframe");
 /// ```
 #[tactic(auto, unfolding(crate::specs::Endpoints::size_words))]
 pub fn put_size(
     text: &mut Text,
-    speed: Speed,
+    speed: SetSpeed,
     attributes: u8,
     max_packet: u16,
 ) -> Result<(), AllocError>
@@ -114,11 +114,11 @@ pub fn put_size(
 }
 
 /// Whether bits 12..11 of wMaxPacketSize count packets.
-fn has_packets(speed: Speed, transfer: TransferType) -> bool
+fn has_packets(speed: SetSpeed, transfer: TransferType) -> bool
     ensures { result ≡ has_packets speed transfer }
 {
     match (speed, transfer) {
-        (Speed::High, TransferType::Isochronous | TransferType::Interrupt) => true,
+        (SetSpeed::High, TransferType::Isochronous | TransferType::Interrupt) => true,
         _ => false,
     }
 }

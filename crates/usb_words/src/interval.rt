@@ -4,7 +4,7 @@ ghost use Rattle.usb_set.specs.Endpoints.{transfer_type_of};
 ghost use Rattle.usb_words.specs.Speeds.{at_least_one, frames, full_interval, full_period, high_interval, interval_at, is_periodic, microframes, period, period_words};
 
 use crate::endpoint::transfer_type;
-use crate::speed::Speed;
+use crate::speed::SetSpeed;
 use std::alloc::AllocError;
 use usb_set::TransferType;
 use usb_text::Text;
@@ -22,28 +22,28 @@ pub fn is_periodic(attributes: u8) -> bool
 /// Puts the interval of a periodic endpoint of these attributes at a speed: `10 ms`, or `10 ms; at high speed 64 ms`.
 ///
 /// ```rust
-/// put_interval(&mut text, Speed::High, 3, 4)?;
+/// put_interval(&mut text, SetSpeed::High, 3, 4)?;
 /// assert_eq!(rt; text.as_bytes(), b"1 ms");
 /// ```
 #[tactic(auto, unfolding(crate::specs::Speeds::interval_at))]
 pub fn put_interval(
     text: &mut Text,
-    speed: Speed,
+    speed: SetSpeed,
     attributes: u8,
     interval: u8,
 ) -> Result<(), AllocError>
     ensures { OnOk result (text.new ≡ text.old ++ interval_at speed (transfer_type_of attributes) interval) }
 {
     match speed {
-        Speed::Low | Speed::Full | Speed::LowOrFull => {
+        SetSpeed::Low | SetSpeed::Full | SetSpeed::LowOrFull => {
             put_full(text, transfer_type(attributes), interval)
         }
-        Speed::FullOrHigh => {
+        SetSpeed::FullOrHigh => {
             put_full(text, transfer_type(attributes), interval)?;
             text.put("; at high speed ")?;
             put_high(text, interval)
         }
-        Speed::High | Speed::Super => put_high(text, interval),
+        SetSpeed::High | SetSpeed::Super => put_high(text, interval),
     }
 }
 

@@ -7,7 +7,7 @@
 //! A set is cut into descriptors by their first bytes (`specs/Cut.antt`), so that bytes which are no whole set are surveyed
 //! as far as they go. [`Survey::of`] has what they say of its speed, the count of interfaces, and the
 //! association that binds each (`specs/Surveys.antt`); [`endpoint_count`] counts the endpoints of a setting. The rules for
-//! the speed of a set are [`speed_at`], [`speed_of_device`] and [`speed_by`] (`specs/SetSpeeds.antt`).
+//! the speed of a set are [`speed_of_device`] and [`speed_by`] (`specs/SetSpeeds.antt`).
 #![tactic(auto)]
 
 mod bindings;
@@ -25,14 +25,14 @@ mod survey_builder;
 
 pub use bindings::Bindings;
 pub use counts::endpoint_count;
-pub use cut::{behind, byte_at, descriptor_length, front, word_at};
+pub use cut::descriptor_length;
 pub use endpoint::{put_attributes, put_end, put_size};
 pub use interval::{is_periodic, put_interval};
 pub use names::{
     put_class, put_class_words, put_function_class, put_function_class_words, put_protocol,
     put_subclass,
 };
-pub use set_speed::{Background, RunningSpeed, other_speed, speed_at, speed_by, speed_of_device};
-pub use speed::{Speed, put_power, put_speed};
+pub use set_speed::{Background, other_speed, speed_by, speed_of_device};
+pub use speed::{SetSpeed, put_power, put_speed};
 pub use speed_evidence::Evidence;
 pub use survey::Survey;

@@ -1,68 +1,43 @@
 //! The speed of a set.
 ghost use Rattle.std.specs.Prelude.{◌≡◌, option_and_then};
-ghost use Rattle.usb_words.specs.SetSpeeds.{decided_speed, hinted_speed, is_above_low, is_high_hub, is_packet_above_low, other_speed, proved_speed, speed_at, speed_by, speed_of_device, speed_of_packet, without_low};
+ghost use Rattle.usb_words.specs.SetSpeeds.{decided_speed, hinted_speed, is_above_low, is_high_hub, is_packet_above_low, other_speed, proved_speed, speed_by, speed_of_device, speed_of_packet, without_low};
 
-use crate::speed::Speed;
+use crate::speed::SetSpeed;
 use crate::speed_evidence::Evidence;
-
-/// The speed at which a device runs (USB 2.0, 5.3.1.1; USB 3.2, 3.1).
-#[derive(Clone, Copy, Debug, PartialEq, Eq, Hash)]
-pub enum RunningSpeed {
-    /// 1.5 Mb/s.
-    Low,
-    /// 12 Mb/s.
-    Full,
-    /// 480 Mb/s.
-    High,
-    /// 5 Gb/s and more.
-    Super,
-}
 
 /// What is known of the speed of a set beside its descriptors.
 #[derive(Clone, Copy, Debug, PartialEq, Eq, Hash)]
 pub struct Background {
     /// The speed, where it is known.
-    pub known: Option<Speed>,
+    pub known: Option<SetSpeed>,
     /// bMaxPacketSize0 at this speed.
     pub packet: Option<u8>,
     /// The other speed of the device, as far as it is known, where it has one.
-    pub other: Option<Speed>,
-}
-
-/// The speed of the sets of a device that runs at this speed.
-pub fn speed_at(running: RunningSpeed) -> Speed
-    ensures { result ≡ speed_at running }
-{
-    match running {
-        RunningSpeed::Low => Speed::Low,
-        RunningSpeed::Full => Speed::Full,
-        RunningSpeed::High => Speed::High,
-        RunningSpeed::Super => Speed::Super,
-    }
+    pub other: Option<SetSpeed>,
 }
 
 /// The other speed of a device of full and high speed, which runs at one of the two.
-pub fn other_speed(speed: Speed) -> Option<Speed>
+pub fn other_speed(speed: SetSpeed) -> Option<SetSpeed>
     ensures { result ≡ other_speed speed }
 {
     match speed {
-        Speed::Full => Some(Speed::High),
-        Speed::High => Some(Speed::Full),
+        SetSpeed::Full => Some(SetSpeed::High),
+        SetSpeed::High => Some(SetSpeed::Full),
         _ => None,
     }
 }
 
 /// The speed of a device's own sets by bcdUSB, bDeviceClass and bDeviceProtocol, where these leave no choice (9.6.1, 11.23.1;
 /// USB 3.2, 9.6.1).
-pub fn speed_of_device(usb: u16, class: u8, protocol: u8) -> Option<Speed>
+pub fn speed_of_device(usb: u16, class: u8, protocol: u8) -> Option<SetSpeed>
     ensures { result ≡ speed_of_device usb class protocol }
 {
     if usb >= 0x0300 {
-        Some(Speed::Super)
+        Some(SetSpeed::Super)
     } else if usb < 0x0200 {
-        Some(Speed::LowOrFull)
+        Some(SetSpeed::LowOrFull)
     } else if is_high_hub(class, protocol) {
-        Some(Speed::High)
+        Some(SetSpeed::High)
     } else {
         None
     }
@@ -78,7 +53,7 @@ fn is_high_hub(class: u8, protocol: u8) -> bool
 /// The speed of a set. The first of these decides: the speed that is known; bMaxPacketSize0, which is 64 at high speed; what
 /// its descriptors prove; the device's other speed; an interval. Low or full speed is full speed where low speed is
 /// excluded (5.5.3).
-pub fn speed_by(background: Background, evidence: Evidence) -> Speed
+pub fn speed_by(background: Background, evidence: Evidence) -> SetSpeed
     ensures { result ≡ speed_by background evidence }
 {
     without_low(
@@ -87,7 +62,7 @@ pub fn speed_by(background: Background, evidence: Evidence) -> Speed
     )
 }
 
-fn decided_speed(background: Background, evidence: Evidence) -> Speed
+fn decided_speed(background: Background, evidence: Evidence) -> SetSpeed
     ensures { result ≡ decided_speed background evidence }
 {
     let known = background.known.or(speed_of_packet(background.packet));
@@ -101,7 +76,7 @@ fn decided_speed(background: Background, evidence: Evidence) -> Speed
 }
 
 /// The speed of a device whose other speed is known.
-fn speed_beside(other: Option<Speed>) -> Option<Speed>
+fn speed_beside(other: Option<SetSpeed>) -> Option<SetSpeed>
     ensures { result ≡ option_and_then other_speed other }
 {
     match other {
@@ -125,16 +100,16 @@ fn is_packet_above_low(packet: Option<u8>) -> bool
     }
 }
 
-fn without_low(is_excluded: bool, speed: Speed) -> Speed
+fn without_low(is_excluded: bool, speed: SetSpeed) -> SetSpeed
     ensures { result ≡ without_low is_excluded speed }
 {
     match (is_excluded, speed) {
-        (true, Speed::LowOrFull) => Speed::Full,
+        (true, SetSpeed::LowOrFull) => SetSpeed::Full,
         _ => speed,
     }
 }
 
-fn speed_of_packet(packet: Option<u8>) -> Option<Speed>
+fn speed_of_packet(packet: Option<u8>) -> Option<SetSpeed>
     ensures { result ≡ speed_of_packet packet }
 {
     match packet {
@@ -143,32 +118,32 @@ fn speed_of_packet(packet: Option<u8>) -> Option<Speed>
             if packet == 64 {
                 None
             } else {
-                Some(Speed::LowOrFull)
+                Some(SetSpeed::LowOrFull)
             }
         }
     }
 }
 
-fn proved_speed(evidence: Evidence) -> Option<Speed>
+fn proved_speed(evidence: Evidence) -> Option<SetSpeed>
     ensures { result ≡ proved_speed evidence }
 {
     if evidence.companion {
-        Some(Speed::Super)
+        Some(SetSpeed::Super)
     } else if evidence.high {
-        Some(Speed::High)
+        Some(SetSpeed::High)
     } else if evidence.full {
-        Some(Speed::Full)
+        Some(SetSpeed::Full)
     } else {
         None
     }
 }
 
-fn hinted_speed(evidence: Evidence) -> Speed
+fn hinted_speed(evidence: Evidence) -> SetSpeed
     ensures { result ≡ hinted_speed evidence }
 {
     if evidence.slow {
-        Speed::LowOrFull
+        SetSpeed::LowOrFull
     } else {
-        Speed::FullOrHigh
+        SetSpeed::FullOrHigh
     }
 }

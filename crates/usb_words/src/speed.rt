@@ -7,7 +7,7 @@ use usb_text::Text;
 
 /// The speed at which a set holds, as far as it is known (USB 2.0, 5.3.1.1; USB 3.2, 3.1).
 #[derive(Clone, Copy, Debug, PartialEq, Eq, Hash)]
-pub enum Speed {
+pub enum SetSpeed {
     /// Low speed.
     Low,
     /// Full speed, where intervals are in frames, as at low speed.
@@ -22,18 +22,18 @@ pub enum Speed {
     Super,
 }
 
-impl Speed {
+impl SetSpeed {
     /// The speed in words: `low or full speed`.
     pub(crate) fn words(self) -> &'static str
         ensures { result.now ≡ speed_words self }
     {
         match self {
-            Speed::Low => "low speed",
-            Speed::Full => "full speed",
-            Speed::LowOrFull => "low or full speed",
-            Speed::High => "high speed",
-            Speed::FullOrHigh => "full or high speed",
-            Speed::Super => "SuperSpeed",
+            SetSpeed::Low => "low speed",
+            SetSpeed::Full => "full speed",
+            SetSpeed::LowOrFull => "low or full speed",
+            SetSpeed::High => "high speed",
+            SetSpeed::FullOrHigh => "full or high speed",
+            SetSpeed::Super => "SuperSpeed",
         }
     }
 
@@ -42,14 +42,14 @@ impl Speed {
         ensures { result ≡ power_unit self }
     {
         match self {
-            Speed::Super => 8,
+            SetSpeed::Super => 8,
             _ => 2,
         }
     }
 }
 
 /// Puts a speed: `low or full speed`.
-pub fn put_speed(text: &mut Text, speed: Speed) -> Result<(), AllocError>
+pub fn put_speed(text: &mut Text, speed: SetSpeed) -> Result<(), AllocError>
     ensures { OnOk result (text.new ≡ text.old ++ speed_words speed) }
 {
     text.put(speed.words())
@@ -57,7 +57,7 @@ pub fn put_speed(text: &mut Text, speed: Speed) -> Result<(), AllocError>
 
 /// Puts bMaxPower in milliamperes: `100 mA` of 50, and at SuperSpeed `400 mA`.
 #[tactic(auto, unfolding(crate::specs::Speeds::power_words))]
-pub fn put_power(text: &mut Text, speed: Speed, power: u8) -> Result<(), AllocError>
+pub fn put_power(text: &mut Text, speed: SetSpeed, power: u8) -> Result<(), AllocError>
     ensures { OnOk result (text.new ≡ text.old ++ power_words speed power) }
 {
     text.put_decimal(speed.power_unit() * u64::from(power))?;

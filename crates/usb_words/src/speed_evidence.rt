@@ -3,9 +3,9 @@ ghost use Rattle.std.specs.Prelude.{◌≡◌, ◌∷◌, ℕ, List, false};
 ghost use Rattle.usb_words.specs.SpeedEvidence.{excludes_low, has_multiple, hints_slow, is_above_low, is_companion, is_full, is_high, is_slow, speaks_full, speaks_high};
 ghost use Rattle.usb_words.specs.inside.Heard.{Hears};
 
-use crate::cut::{byte_at, word_at};
 use crate::descriptor_types::is_endpoint;
 use crate::endpoint::transfer_type;
+use usb_base::{byte_at, word_at};
 use usb_set::TransferType;
 
 /// What the descriptors of a set say of its speed: whether one of them speaks so.

@@ -4,12 +4,13 @@ ghost use Rattle.usb_words.specs.Cut.{descriptors};
 ghost use Rattle.usb_words.specs.Surveys.{survey_of};
 
 use crate::bindings::Bindings;
-use crate::cut::{behind, descriptor_length, front};
+use crate::cut::descriptor_length;
 use crate::speed_evidence::Evidence;
 use crate::survey_builder::Gathering;
+use usb_base::{after, prefix};
 
 /// What is known of a set before its descriptors are gone over one by one.
-#[derive(Clone, Debug, Drop, PartialEq, Eq, Hash)]
+#[derive(Clone, Debug, Drop)]
 pub struct Survey {
     /// What its descriptors say of its speed.
     pub spoken: Evidence,
@@ -32,8 +33,8 @@ impl Survey {
         let mut gathered = Gathering::new();
         let mut rest = set;
         while let Some(length) = descriptor_length(rest) {
-            gathered.add(front(rest, length));
-            rest = behind(rest, length);
+            gathered.add(prefix(rest, length));
+            rest = after(rest, length);
         }
         gathered.survey()
     }

@@ -4,11 +4,10 @@ ghost use Rattle.usb_words.specs.Surveys.{survey_of};
 ghost use Rattle.usb_words.specs.inside.Gathered.{BindsOn, CountsOn, Gathers};
 
 use crate::bindings::Bindings;
-use crate::cut::byte_at;
 use crate::descriptor_types::{is_association, is_interface};
 use crate::speed_evidence::Evidence;
 use crate::survey::Survey;
-use usb_base::Marks;
+use usb_base::{Marks, byte_at};
 
 /// What the descriptors of a set said so far.
 #[derive(Drop)]

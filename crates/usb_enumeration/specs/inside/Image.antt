@@ -1,6 +1,6 @@
 -- A host that keeps a place and hands the packets of a set to a decoder, against one that keeps all replies and all bytes.
 use Rattle.std.specs.Prelude.{◌≡◌, ℕ, nat_lt, List, length, Option, Result, ◌⊎◌, Bool, false}
-use Rattle.usb_fields.specs.declared.speed.Speed.{Speed}
+use Rattle.usb_base.specs.declared.speed.Speed.{Speed}
 use Rattle.usb_fields.specs.Packet.{Reply as Answer}
 use Rattle.usb_set.specs.declared.tree.Configuration.{Configuration}
 use Rattle.usb_set.specs.declared.fault.SetFault.{SetFault}

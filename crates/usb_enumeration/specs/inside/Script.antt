@@ -1,7 +1,7 @@
 -- The script of an enumeration in which nothing is lost: each request, and the reply to it (USB 2.0, 9.1.2 and 9.4).
 use Rattle.std.specs.Prelude.{ℕ, suc, Bool, true, false, List, [], ◌∷◌, length, take, Option, Some, None}
 use Rattle.usb_fields.specs.declared.setup.Setup.{Setup as SetupPacket}
-use Rattle.usb_fields.specs.declared.speed.Speed.{Speed}
+use Rattle.usb_base.specs.declared.speed.Speed.{Speed}
 use Rattle.usb_fields.specs.Device.{device_bytes}
 use Rattle.usb_fields.specs.Qualifier.{qualifier_bytes}
 use Rattle.usb_fields.specs.Units.{units_bytes}

@@ -1,6 +1,6 @@
 -- A run, and what is done at each of its steps.
 use Rattle.std.specs.Prelude.{◌≡◌, ℕ, List, [], ◌∷◌, Some}
-use Rattle.usb_fields.specs.declared.speed.Speed.{Speed}
+use Rattle.usb_base.specs.declared.speed.Speed.{Speed}
 use Rattle.usb_file_data.specs.declared.file.DescriptorFile.{DescriptorFile}
 use Rattle.usb_transfer.specs.Limits.{LimitView}
 use Rattle.usb_bus.specs.declared.fate.Fate.{Fate}

@@ -5,8 +5,8 @@ use Rattle.usb_base.specs.Bytes.{AreBytes}
 use Rattle.usb_names.specs.declared.field.Form.{Form}
 use Rattle.usb_names.specs.declared.field.Form.TheVariants.{Decimal, Hexadecimal, Release, ReportType, Index, Class, FunctionClass, Subclass, Protocol, DevicePacket, Supply, Power, Address, Transfer, PacketSize, Interval}
 use Rattle.usb_set.specs.Endpoints.{transfer_type_of}
-use Rattle.usb_words.specs.declared.speed.Speed.{Speed}
-use Rattle.usb_words.specs.declared.speed.Speed.TheVariants.{Low, Full, LowOrFull, High, FullOrHigh, Super}
+use Rattle.usb_words.specs.declared.speed.SetSpeed.{SetSpeed}
+use Rattle.usb_words.specs.declared.speed.SetSpeed.TheVariants.{Low, Full, LowOrFull, High, FullOrHigh, Super}
 use Rattle.usb_text.specs.Numbers.{meaning}
 use Rattle.usb_listing_reader.proofs.RowLemmas.{bytes_back, bytes_front}
 use Rattle.usb_explained_lines.specs.Forms.{decimal_words, form_words, hexadecimal_words, packet_size_words, release_words, report_words}
@@ -27,7 +27,7 @@ release_value_plain n lt = simp (parts, word_code_plain n lt, release_plain n lt
 power_of_two_plain : (n : ℕ) → Printable (power_of_two_words n)
 power_of_two_plain n = simp (parts, count_plain (2 ^ n) (codes "byte") refl) refl
 
-packet_plain : (speed : Speed) (n : ℕ) → Printable (packet_value speed n)
+packet_plain : (speed : SetSpeed) (n : ℕ) → Printable (packet_value speed n)
 unfolding packet_value
 packet_plain Low n = decimal_plain n
 packet_plain Full n = decimal_plain n
@@ -49,7 +49,7 @@ set_attributes_plain : (attributes : ℕ) → attributes < 256 → Printable (se
 unfolding set_attributes
 set_attributes_plain attributes lt = simp (parts, byte_code_plain attributes lt, source_plain attributes, wakeup_plain attributes) refl
 
-power_value_plain : (speed : Speed) (power : ℕ) → Printable (power_value speed power)
+power_value_plain : (speed : SetSpeed) (power : ℕ) → Printable (power_value speed power)
 unfolding power_value
 power_value_plain speed power = simp (parts, decimal_plain, power_plain speed power) refl
 
@@ -61,11 +61,11 @@ attributes_value_plain : (attributes : ℕ) → attributes < 256 → Printable (
 unfolding attributes_value
 attributes_value_plain attributes lt = simp (parts, byte_code_plain attributes lt, attributes_plain attributes) refl
 
-size_value_plain : (speed : Speed) (attributes max_packet : ℕ) → max_packet < 65536 → Printable (size_value speed attributes max_packet)
+size_value_plain : (speed : SetSpeed) (attributes max_packet : ℕ) → max_packet < 65536 → Printable (size_value speed attributes max_packet)
 unfolding size_value
 size_value_plain speed attributes max_packet lt = simp (parts, word_code_plain max_packet lt, size_plain speed attributes max_packet) refl
 
-interval_value_plain : (speed : Speed) (attributes interval : ℕ) → Printable (interval_value speed attributes interval)
+interval_value_plain : (speed : SetSpeed) (attributes interval : ℕ) → Printable (interval_value speed attributes interval)
 unfolding interval_value
 interval_value_plain speed attributes interval = simp (parts, decimal_plain, interval_plain speed (transfer_type_of attributes) interval) refl
 
@@ -93,7 +93,7 @@ release_words_plain (a ∷ []) h = encoded_printable (a ∷ []) h
 release_words_plain (a ∷ b ∷ []) h = release_value_plain (a + 256 * b) (omega (arith, h.0, h.1.0))
 release_words_plain (a ∷ b ∷ c ∷ value) h = encoded_printable (a ∷ b ∷ c ∷ value) h
 
-size_words_plain : (speed : Speed) (attributes : ℕ) (value : List ℕ) → AreBytes value → Printable (packet_size_words speed attributes value)
+size_words_plain : (speed : SetSpeed) (attributes : ℕ) (value : List ℕ) → AreBytes value → Printable (packet_size_words speed attributes value)
 size_words_plain speed attributes [] h = encoded_printable [] h
 size_words_plain speed attributes (a ∷ []) h = encoded_printable (a ∷ []) h
 size_words_plain speed attributes (a ∷ b ∷ []) h = size_value_plain speed attributes (a + 256 * b) (omega (arith, h.0, h.1.0))
@@ -106,7 +106,7 @@ report_plain type lt = simp (parts, byte_code_plain type lt) refl
 bytes_fit : (width : ℕ) (b : List ℕ) (place : ℕ) → AreBytes b → AreBytes (take width (drop place b))
 bytes_fit width b place h = bytes_front width (drop place b) (bytes_back place b h)
 
-pub form_plain : (speed : Speed) (strings : StringNames) (form : Form) (width : ℕ) (b : List ℕ) (place : ℕ) → MaybeFit strings.strings → AreBytes b
+pub form_plain : (speed : SetSpeed) (strings : StringNames) (form : Form) (width : ℕ) (b : List ℕ) (place : ℕ) → MaybeFit strings.strings → AreBytes b
     → Printable (form_words speed strings form width b place)
 unfolding form_words
 form_plain speed strings Decimal width b place fit h = decimal_words_plain (take width (drop place b)) (bytes_fit width b place h)

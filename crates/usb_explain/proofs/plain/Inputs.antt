@@ -8,8 +8,8 @@ use Rattle.usb_file_data.specs.declared.file.DescriptorFile.{DescriptorFile}
 use Rattle.usb_file_data.specs.declared.file.Strings.{Strings}
 use Rattle.usb_file_data.specs.File.{each_string_bytes, file_bytes, other_bytes, sets_bytes, strings_bytes}
 use Rattle.usb_file_data.proofs.Lists.{bytes_before, bytes_behind}
-use Rattle.usb_file.specs.declared.input.Input.{Input}
-use Rattle.usb_file.specs.declared.input.Input.TheVariants as inputs
+use Rattle.usb_file_data.specs.declared.input.Input.{Input}
+use Rattle.usb_file_data.specs.declared.input.Input.TheVariants as inputs
 use Rattle.usb_file.specs.Inputs.{IsInput}
 use Rattle.usb_listing_reader.proofs.PrintableLemmas.{Printable}
 use Rattle.usb_listing_reader.proofs.RowLemmas.{bytes_front}

@@ -4,7 +4,7 @@ use Rattle.hex.specs.Hex.{encode_lower}
 use Rattle.usb_base.specs.Bytes.{AreBytes, little_endian_at}
 use Rattle.usb_names.specs.Rows.{decimal, hexadecimal}
 use Rattle.usb_set.specs.Endpoints.{transfer_type_of}
-use Rattle.usb_words.specs.declared.speed.Speed.{Speed}
+use Rattle.usb_words.specs.declared.speed.SetSpeed.{SetSpeed}
 use Rattle.usb_listing_reader.proofs.RowLemmas.{bytes_back, bytes_front}
 use Rattle.usb_explained_lines.specs.declared.look.Look.{Look}
 use Rattle.usb_explained_lines.specs.Names.{StringNames}
@@ -59,11 +59,11 @@ set_words_plain : (kind : ℕ) → Printable (set_words kind)
 unfolding set_words
 set_words_plain kind = simp parts refl
 
-supply_plain : (speed : Speed) (attributes power : ℕ) → Printable (supply_words speed attributes power)
+supply_plain : (speed : SetSpeed) (attributes power : ℕ) → Printable (supply_words speed attributes power)
 unfolding supply_words
 supply_plain speed attributes power = simp (parts, source_plain attributes, power_plain speed power) refl
 
-configuration_words_plain : (speed : Speed) (b : List ℕ) → Printable (configuration_words speed b)
+configuration_words_plain : (speed : SetSpeed) (b : List ℕ) → Printable (configuration_words speed b)
 unfolding configuration_words
 configuration_words_plain speed b =
     simp (
@@ -114,11 +114,11 @@ interface_words_plain association b h =
 
 -- ---- endpoints
 
-interval_words_plain : (speed : Speed) (attributes interval : ℕ) → Printable (interval_words speed attributes interval)
+interval_words_plain : (speed : SetSpeed) (attributes interval : ℕ) → Printable (interval_words speed attributes interval)
 unfolding interval_words
 interval_words_plain speed attributes interval = simp (parts, interval_plain speed (transfer_type_of attributes) interval) refl
 
-endpoint_words_plain : (speed : Speed) (b : List ℕ) → AreBytes b → Printable (endpoint_words speed b)
+endpoint_words_plain : (speed : SetSpeed) (b : List ℕ) → AreBytes b → Printable (endpoint_words speed b)
 unfolding endpoint_words
 endpoint_words_plain speed b h =
     simp (

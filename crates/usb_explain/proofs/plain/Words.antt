@@ -8,8 +8,8 @@ use Rattle.usb_set.specs.declared.endpoint.TransferType.{TransferType}
 use Rattle.usb_set.specs.declared.endpoint.TransferType.TheVariants.{Control, Isochronous, Bulk, Interrupt}
 use Rattle.usb_set.specs.Endpoints.{packet_size_of, transactions_of, transfer_type_of}
 use Rattle.usb_names.specs.Classes.{classes, name_in, protocol_in, protocols, subclasses}
-use Rattle.usb_words.specs.declared.speed.Speed.{Speed}
-use Rattle.usb_words.specs.declared.speed.Speed.TheVariants.{Low, Full, LowOrFull, High, FullOrHigh, Super}
+use Rattle.usb_words.specs.declared.speed.SetSpeed.{SetSpeed}
+use Rattle.usb_words.specs.declared.speed.SetSpeed.TheVariants.{Low, Full, LowOrFull, High, FullOrHigh, Super}
 use Rattle.usb_text.specs.Numbers.{byte_code, count, meaning, release, word_code}
 use Rattle.usb_words.specs.Names.{class_field, class_or_code, class_words, function_class_field, function_class_words, further, named, protocol_field, subclass_field}
 use Rattle.usb_words.specs.Endpoints.{attributes_words, direction_words, end_words, has_packets, packets_words, size_words, transfer_words, way_words}
@@ -123,7 +123,7 @@ packets_plain : (packets : Option ℕ) (size : ℕ) → Printable (packets_words
 packets_plain None size = simp (parts, bytes_plain) refl
 packets_plain (Some packets) size = simp (parts, decimal_plain, bytes_plain) refl
 
-pub size_plain : (speed : Speed) (attributes max_packet : ℕ) → Printable (size_words speed attributes max_packet)
+pub size_plain : (speed : SetSpeed) (attributes max_packet : ℕ) → Printable (size_words speed attributes max_packet)
 unfolding size_words
 size_plain speed attributes max_packet =
     either_plain (has_packets speed (transfer_type_of attributes)) (packets_words (transactions_of max_packet) (packet_size_of max_packet))
@@ -131,7 +131,7 @@ size_plain speed attributes max_packet =
 
 -- ---- speeds
 
-pub speed_plain : (speed : Speed) → Printable (speed_words speed)
+pub speed_plain : (speed : SetSpeed) → Printable (speed_words speed)
 speed_plain Low = refl
 speed_plain Full = refl
 speed_plain LowOrFull = refl
@@ -139,7 +139,7 @@ speed_plain High = refl
 speed_plain FullOrHigh = refl
 speed_plain Super = refl
 
-pub power_plain : (speed : Speed) (power : ℕ) → Printable (power_words speed power)
+pub power_plain : (speed : SetSpeed) (power : ℕ) → Printable (power_words speed power)
 unfolding power_words
 power_plain speed power = simp (parts, decimal_plain) refl
 
@@ -161,7 +161,7 @@ high_plain : (n : ℕ) → Printable (high_interval n)
 unfolding high_interval
 high_plain n = period_plain microframes microframes_plain (period n)
 
-pub interval_plain : (speed : Speed) (transfer : TransferType) (n : ℕ) → Printable (interval_at speed transfer n)
+pub interval_plain : (speed : SetSpeed) (transfer : TransferType) (n : ℕ) → Printable (interval_at speed transfer n)
 unfolding interval_at
 interval_plain Low transfer n = full_plain transfer n
 interval_plain Full transfer n = full_plain transfer n

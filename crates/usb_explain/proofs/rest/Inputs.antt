@@ -30,14 +30,15 @@ use Rattle.usb_file_data.specs.declared.file.Other.{Other}
 use Rattle.usb_file_data.specs.declared.file.Strings.{Strings}
 use Rattle.usb_file_data.specs.File.{File, are_wrong_strings, each_string_bytes, file_bytes, has_no_layout, is_other_kind, is_other_miscounted, other_bytes, sets_bytes, strings_bytes}
 use Rattle.usb_file_data.specs.Named.{named_indices, other_sets}
-use Rattle.usb_file.specs.declared.input.Input.{Input}
-use Rattle.usb_file.specs.declared.input.Input.TheVariants as inputs
+use Rattle.usb_file_data.specs.declared.input.Input.{Input}
+use Rattle.usb_file_data.specs.declared.input.Input.TheVariants as inputs
 use Rattle.usb_file.specs.Dumps.{Dump}
-use Rattle.usb_file.specs.Inputs.{IsInput, input_findings}
-use Rattle.usb_file.proofs.Next.{all_strings}
-use Rattle.usb_file.proofs.Units.{length-units_bytes}
+use Rattle.usb_file.specs.Inputs.{IsInput}
+use Rattle.usb_rules.specs.Findings.{input_findings}
+use Rattle.usb_file_data.proofs.Counts.{all_strings}
+use Rattle.usb_file_data.proofs.Units.{length-units_bytes}
 use Rattle.usb_words.specs.Cut.{descriptor_length}
-use Rattle.usb_words.specs.declared.set_speed.RunningSpeed.{RunningSpeed}
+use Rattle.usb_words.specs.declared.speed.SetSpeed.{SetSpeed}
 use Rattle.usb_explain.specs.declared.manner.Manner.{Manner}
 use Rattle.usb_explained_lines.specs.declared.role.Role.{Role}
 use Rattle.usb_explained_lines.specs.declared.role.Role.TheVariants as roles
@@ -116,7 +117,7 @@ device_after d ahead subject told = let none : 0 - length d ≡ 0 = omega arith 
 abbrev device_findings : Bool → List Configuration → List Finding
 device_findings wrong sets = without_sets parts.Main sets ++ when wrong (finding rules.V11 parts.Device 0 0 0)
 
-device_depth : (running : Option RunningSpeed) (ahead : List ℕ) → depth_of (entered roles.Device running ahead start) roles.Device ≡ 0
+device_depth : (running : Option SetSpeed) (ahead : List ℕ) → depth_of (entered roles.Device running ahead start) roles.Device ≡ 0
 unfolding depth_of
 device_depth running ahead = refl
 

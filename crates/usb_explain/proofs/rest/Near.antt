@@ -17,7 +17,7 @@ use Rattle.usb_set.proofs.ByteByByte.{header_long, whole_length}
 use Rattle.usb_set.proofs.Sound.{Sound, sound}
 use Rattle.usb_set.proofs.Stands.{item_within}
 use Rattle.usb_file_data.proofs.Lists.{bytes_behind}
-use Rattle.usb_words.specs.declared.set_speed.RunningSpeed.{RunningSpeed}
+use Rattle.usb_words.specs.declared.speed.SetSpeed.{SetSpeed}
 use Rattle.usb_explained_lines.specs.declared.role.Role.{Role}
 use Rattle.usb_explained_lines.specs.declared.role.Role.TheVariants.{Device, Qualifier, Association, Interface, Endpoint, Raw, Languages, Text}
 use Rattle.usb_explained_lines.specs.declared.role.Role.TheVariants as roles
@@ -109,7 +109,7 @@ inner s len kind body e =
     (typed_stays nine Interface tt) (typed_stays seven Endpoint tt) (typed_stays eight Association tt) in
     record { role = one.0; is = cond-false (is_set_type kind) None _ e ∙ one.1; stays = one.2 }
 
-left_behind : (role : Role) → Stays role → (running : Option RunningSpeed) (d ahead : List ℕ) (s : Standing) (told : ℕ)
+left_behind : (role : Role) → Stays role → (running : Option SetSpeed) (d ahead : List ℕ) (s : Standing) (told : ℕ)
     → (passed role d (with_told told (entered role running ahead s))).left ≡ s.left - length d
 unfolding noted
 left_behind Device h running d ahead s told = absurd h

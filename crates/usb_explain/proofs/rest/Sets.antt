@@ -25,7 +25,7 @@ use Rattle.usb_set.proofs.Sets.{length-set_bytes}
 use Rattle.usb_set.proofs.Trees.{set_bytes_is, typed_parts}
 use Rattle.usb_file_data.specs.File.{has_no_layout, is_other_kind, sets_bytes, whole_set}
 use Rattle.usb_file_data.proofs.WholeSets.{no_some}
-use Rattle.usb_words.specs.declared.set_speed.RunningSpeed.{RunningSpeed}
+use Rattle.usb_words.specs.declared.speed.SetSpeed.{SetSpeed}
 use Rattle.usb_words.specs.Surveys.{survey_of}
 use Rattle.usb_explained_lines.specs.declared.told.Told.{Told}
 use Rattle.usb_explained_lines.specs.declared.told.Told.TheVariants as told
@@ -89,14 +89,14 @@ begun_out : (kind : SetKind) (k n : ℕ) (v : Seen) → out_at k (begun kind n v
 begun_out kinds.Configuration k n v = refl
 begun_out kinds.OtherSpeed k n v = refl
 
-pub set_after : (kind : SetKind) (running : Option RunningSpeed) (len : ℕ) (body behind : List ℕ) (s : Standing) (told : ℕ)
+pub set_after : (kind : SetKind) (running : Option SetSpeed) (len : ℕ) (body behind : List ℕ) (s : Standing) (told : ℕ)
     → (let d : List ℕ = len ∷ type_number kind ∷ body in
     seen (passed roles.Configuration d (with_told told (entered roles.Configuration running (d ++ behind) s))) ≡ begun kind (little_endian_at (d ++ behind) 2 - length d) (seen s))
 unfolding noted opened
 set_after kinds.Configuration running len body behind s told = refl
 set_after kinds.OtherSpeed running len body behind s told = refl
 
-here_set : (kind : SetKind) (is_dump : Bool) (running : Option RunningSpeed) (s : Standing) (len : ℕ) (body behind : List ℕ) (rule : Rule)
+here_set : (kind : SetKind) (is_dump : Bool) (running : Option SetSpeed) (s : Standing) (len : ℕ) (body behind : List ℕ) (rule : Rule)
     → ((set : SetStanding) → is_some (set_told set (len ∷ type_number kind ∷ body) rule) ≡ true)
     → (let d : List ℕ = len ∷ type_number kind ∷ body in
     is_here is_dump (entered roles.Configuration running (d ++ behind) s) roles.Configuration d behind (finding rule (part_of_kind kind) (count_in kind (out (seen s))) 0 0) ≡ true)
@@ -133,7 +133,7 @@ whole_sum c total whole =
     let y = flat_map setting_bytes c.settings in
     sym (length-append (d ++ x) y ∙ ap (λ n. n + length y) (length-append d x)) ∙ whole.length_is
 
-first_counted : (running : Option RunningSpeed) (s : Standing) (c : Configuration) (total : ℕ) (behind : List ℕ) → IsWhole c total
+first_counted : (running : Option SetSpeed) (s : Standing) (c : Configuration) (total : ℕ) (behind : List ℕ) → IsWhole c total
     → (let d : List ℕ = descriptor_bytes (configuration_descriptor c total) in
     set_told (opened running (d ++ behind_first c behind) s).set d rules.V1 ≡ Some (told.InterfaceCount c.declared_interfaces (length (interface_numbers c.settings))))
 unfolding opened survey_of

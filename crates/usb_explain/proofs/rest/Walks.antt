@@ -13,8 +13,8 @@ use Rattle.usb_explain.specs.Subjects.{Subject}
 use Rattle.usb_explain.specs.Trees.{counts_in, outline}
 use Rattle.usb_explained_lines.specs.Rest.{rest_lines}
 use Rattle.usb_explain.specs.Walks.{behind_next, walked}
-use Rattle.usb_file.specs.declared.input.Input.{Input}
-use Rattle.usb_file.specs.Inputs.{input_findings}
+use Rattle.usb_file_data.specs.declared.input.Input.{Input}
+use Rattle.usb_rules.specs.Findings.{input_findings}
 use Rattle.usb_explain.proofs.Standings.{start_at, start_told}
 use Rattle.usb_rules.specs.declared.finding.Finding.{Finding}
 use Rattle.usb_rules.specs.InOrder.{by_rule}

@@ -1,6 +1,6 @@
 -- What may still be asked for falls with each answer.
 use Rattle.std.specs.Prelude.{◌≡◌, ◌<◌, ◌≤◌}
-use Rattle.usb_fields.specs.declared.speed.Speed.{Speed}
+use Rattle.usb_base.specs.declared.speed.Speed.{Speed}
 use Rattle.usb_fields.specs.Packet.{Reply as Answer}
 use Rattle.usb_transfer.specs.Limits.{LimitView}
 use Rattle.usb_transfer.specs.Transfer.{TransferView, taken}

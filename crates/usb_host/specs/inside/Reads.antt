@@ -2,7 +2,7 @@
 use Rattle.std.specs.Prelude.{◌≡◌, ◌≤◌, false, if◌then◌else◌, length, Option, Some, None, Result}
 use Rattle.usb_set.specs.declared.fault.SetFault.{SetFault}
 use Rattle.usb_set.specs.declared.decoder.Progress.{Progress}
-use Rattle.usb_fields.specs.declared.speed.Speed.{Speed}
+use Rattle.usb_base.specs.declared.speed.Speed.{Speed}
 use Rattle.usb_transfer.specs.declared.why.Why.TheVariants.{Stalled, Memory}
 use Rattle.usb_transfer.specs.declared.stage.TransferStage.{TransferStage}
 use Rattle.usb_transfer.specs.declared.stage.TransferStage.TheVariants as stages

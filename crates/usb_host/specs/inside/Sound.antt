@@ -13,7 +13,7 @@ use Rattle.usb_host.specs.declared.place.Place.{Place}
 use Rattle.usb_host.specs.declared.place.Place.TheVariants.{First, Address, Device, Header, Set, Qualifier, Languages, Text, Configure, Reported, Stopped}
 use Rattle.usb_host.specs.Order.{sets_of, declared_sets}
 
--- the bytes so far are those of the front of a file
+-- the bytes so far are a prefix of a file
 pub record IsRead (f : DescriptorFile) (b : List ℕ) : Type 0 where
   pub is_front : IsFront f
   pub bytes : b ≡ file_bytes f

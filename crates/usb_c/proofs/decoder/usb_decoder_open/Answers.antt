@@ -1,6 +1,6 @@
 use Rattle.std.proofs.Common.{rules, ◌≡◌, [], Some, refl}
 use Rattle.usb_set.specs.Decoding.{gathers}
-use Rattle.usb_calls.specs.declared.answer.Verdict.TheVariants as verdicts
+use Rattle.usb_c.specs.declared.answer.Verdict.TheVariants as verdicts
 use Rattle.usb_c.proofs.decoder.usb_decoder_open.Goals as goal
 
 pub returns-in-Ok : goal.returns-in-Ok

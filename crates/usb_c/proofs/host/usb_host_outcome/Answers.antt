@@ -1,6 +1,6 @@
 use Rattle.std.proofs.Common.{rules, ◌≡◌, None, Option, refl, subst}
 use Rattle.usb_host.specs.Steps.{HostView}
-use Rattle.usb_calls.specs.declared.answer.Verdict.TheVariants as verdicts
+use Rattle.usb_c.specs.declared.answer.Verdict.TheVariants as verdicts
 use Rattle.usb_c.specs.Hosts.{Ends}
 use Rattle.usb_c.proofs.host.usb_host_outcome.Goals as goal
 

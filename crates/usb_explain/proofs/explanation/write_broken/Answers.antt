@@ -13,20 +13,20 @@ returns-in_err-put_first_line-clause-err g c = on_err _ (not_begun _ [] _ (broke
 pub returns-in_err-place-clause-err : goal.returns-in_err-place-clause-err
 returns-in_err-place-clause-err g c =
     let first : c.put_first_line.new.text ≡ first_line (broken_name c.args.bytes.now) (length c.args.bytes.now) = c.in_ok-put_first_line.ensures ∙ ap (λ l. l ++ first_line c.broken_name.result.now (length c.args.bytes.now)) c.new-text.ensures ∙ ap (λ name. first_line name (length c.args.bytes.now)) c.broken_name.ensures in
-    let front : c.front-whole.result.now ≡ take (place_of_fault c.args.fault) c.args.bytes.now = c.front-whole.ensures ∙ ap (λ n. take n c.args.bytes.now) c.fault_place.ensures in
-    on_err _ (broken_walk_broken _ _ c.args.subject.now c.args.fault c.args.bytes.now c.front-whole.result.now c.put_first_line.new.text first front c.in_err-place.ensures.err)
+    let front : c.prefix-whole.result.now ≡ take (place_of_fault c.args.fault) c.args.bytes.now = c.prefix-whole.ensures ∙ ap (λ n. take n c.args.bytes.now) c.fault_place.ensures in
+    on_err _ (broken_walk_broken _ _ c.args.subject.now c.args.fault c.args.bytes.now c.prefix-whole.result.now c.put_first_line.new.text first front c.in_err-place.ensures.err)
 
 pub returns-in_err-put_broken_end-clause-err : goal.returns-in_err-put_broken_end-clause-err
 returns-in_err-put_broken_end-clause-err g c =
     let first : c.put_first_line.new.text ≡ first_line (broken_name c.args.bytes.now) (length c.args.bytes.now) = c.in_ok-put_first_line.ensures ∙ ap (λ l. l ++ first_line c.broken_name.result.now (length c.args.bytes.now)) c.new-text.ensures ∙ ap (λ name. first_line name (length c.args.bytes.now)) c.broken_name.ensures in
-    let front : c.front-whole.result.now ≡ take (place_of_fault c.args.fault) c.args.bytes.now = c.front-whole.ensures ∙ ap (λ n. take n c.args.bytes.now) c.fault_place.ensures in
+    let front : c.prefix-whole.result.now ≡ take (place_of_fault c.args.fault) c.args.bytes.now = c.prefix-whole.ensures ∙ ap (λ n. take n c.args.bytes.now) c.fault_place.ensures in
     let walk : PutsWalk c.args.subject.now (take (place_of_fault c.args.fault) c.args.bytes.now) (g.W.Write.contents c.args.w.now) (g.W.Write.contents c.write_blocks.new.w) c.put_first_line.new.text c.write_blocks.new.text c.in_ok-place.place = subst (λ f. PutsWalk c.args.subject.now f (g.W.Write.contents c.args.w.now) (g.W.Write.contents c.write_blocks.new.w) c.put_first_line.new.text c.write_blocks.new.text c.in_ok-place.place) front c.in_ok-place.ensures.ok in
     on_err _ (parts_unwritten _ _ (first_line (broken_name c.args.bytes.now) (length c.args.bytes.now)) c.put_first_line.new.text c.write_blocks.new.text walk.done (broken_end c.args.subject.now c.args.fault c.args.bytes.now c.in_ok-place.place) _ first (broken_parts c.args.subject.now c.args.fault c.in_ok-place.place c.args.bytes.now walk.done walk.whole) walk.puts (broken_end_has c.args.subject.now c.args.fault c.args.bytes.now c.in_ok-place.place))
 
 pub returns-clause-ok : goal.returns-clause-ok
 returns-clause-ok g c =
     let first : c.put_first_line.new.text ≡ first_line (broken_name c.args.bytes.now) (length c.args.bytes.now) = c.in_ok-put_first_line.ensures ∙ ap (λ l. l ++ first_line c.broken_name.result.now (length c.args.bytes.now)) c.new-text.ensures ∙ ap (λ name. first_line name (length c.args.bytes.now)) c.broken_name.ensures in
-    let front : c.front-whole.result.now ≡ take (place_of_fault c.args.fault) c.args.bytes.now = c.front-whole.ensures ∙ ap (λ n. take n c.args.bytes.now) c.fault_place.ensures in
+    let front : c.prefix-whole.result.now ≡ take (place_of_fault c.args.fault) c.args.bytes.now = c.prefix-whole.ensures ∙ ap (λ n. take n c.args.bytes.now) c.fault_place.ensures in
     let walk : PutsWalk c.args.subject.now (take (place_of_fault c.args.fault) c.args.bytes.now) (g.W.Write.contents c.args.w.now) (g.W.Write.contents c.write_blocks.new.w) c.put_first_line.new.text c.write_blocks.new.text c.in_ok-place.place = subst (λ f. PutsWalk c.args.subject.now f (g.W.Write.contents c.args.w.now) (g.W.Write.contents c.write_blocks.new.w) c.put_first_line.new.text c.write_blocks.new.text c.in_ok-place.place) front c.in_ok-place.ensures.ok in
     let last : c.as_bytes.result.now ≡ c.write_blocks.new.text ++ broken_end c.args.subject.now c.args.fault c.args.bytes.now c.in_ok-place.place = c.as_bytes.ensures ∙ c.in_ok-put_broken_end.ensures in
     on_ok_weaker c.write_all.result (parts_written _ _ _ (first_line (broken_name c.args.bytes.now) (length c.args.bytes.now)) c.put_first_line.new.text c.write_blocks.new.text walk.done (broken_end c.args.subject.now c.args.fault c.args.bytes.now c.in_ok-place.place) c.as_bytes.result.now _ first (broken_parts c.args.subject.now c.args.fault c.in_ok-place.place c.args.bytes.now walk.done walk.whole) walk.puts last) c.write_all.ensures.ok
@@ -34,7 +34,7 @@ returns-clause-ok g c =
 pub returns-clause-err : goal.returns-clause-err
 returns-clause-err g c =
     let first : c.put_first_line.new.text ≡ first_line (broken_name c.args.bytes.now) (length c.args.bytes.now) = c.in_ok-put_first_line.ensures ∙ ap (λ l. l ++ first_line c.broken_name.result.now (length c.args.bytes.now)) c.new-text.ensures ∙ ap (λ name. first_line name (length c.args.bytes.now)) c.broken_name.ensures in
-    let front : c.front-whole.result.now ≡ take (place_of_fault c.args.fault) c.args.bytes.now = c.front-whole.ensures ∙ ap (λ n. take n c.args.bytes.now) c.fault_place.ensures in
+    let front : c.prefix-whole.result.now ≡ take (place_of_fault c.args.fault) c.args.bytes.now = c.prefix-whole.ensures ∙ ap (λ n. take n c.args.bytes.now) c.fault_place.ensures in
     let walk : PutsWalk c.args.subject.now (take (place_of_fault c.args.fault) c.args.bytes.now) (g.W.Write.contents c.args.w.now) (g.W.Write.contents c.write_blocks.new.w) c.put_first_line.new.text c.write_blocks.new.text c.in_ok-place.place = subst (λ f. PutsWalk c.args.subject.now f (g.W.Write.contents c.args.w.now) (g.W.Write.contents c.write_blocks.new.w) c.put_first_line.new.text c.write_blocks.new.text c.in_ok-place.place) front c.in_ok-place.ensures.ok in
     let last : c.as_bytes.result.now ≡ c.write_blocks.new.text ++ broken_end c.args.subject.now c.args.fault c.args.bytes.now c.in_ok-place.place = c.as_bytes.ensures ∙ c.in_ok-put_broken_end.ensures in
     on_err_weaker c.write_all.result (parts_cut _ _ _ (first_line (broken_name c.args.bytes.now) (length c.args.bytes.now)) c.put_first_line.new.text c.write_blocks.new.text walk.done (broken_end c.args.subject.now c.args.fault c.args.bytes.now c.in_ok-place.place) c.as_bytes.result.now _ first (broken_parts c.args.subject.now c.args.fault c.in_ok-place.place c.args.bytes.now walk.done walk.whole) walk.puts last) c.write_all.ensures.err

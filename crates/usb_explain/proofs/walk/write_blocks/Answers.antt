@@ -31,7 +31,7 @@ pub returns-in_err-pass_on-clause-err : goal.returns-in_err-pass_on-clause-err
 returns-in_err-pass_on-clause-err g c =
     let found : next_role c.loop-role.standing c.loop-role.ahead.now ≡ Some (c.in-Some.role, c.in-Some.length) = sym c.next_role.ensures.next ∙ c.in-Some.is in
     let put : c.put_block.new.text ≡ c.loop-role.text ++ next_block c.args.subject.now c.loop-role.standing c.loop-role.ahead.now (c.in-Some.role, c.in-Some.length) =
-    rw (sym c.front-d.ensures, sym c.behind.ensures, sym c.enter.ensures) c.in_ok-told.ensures.lines in
+    rw (sym c.prefix-d.ensures, sym c.after.ensures, sym c.enter.ensures) c.in_ok-told.ensures.lines in
     on_err _ (walks_stopped c.args.subject.now c.args.bytes.now c.loop-role.standing c.loop-role.ahead.now _ _ _ c.args.text.now c.loop-role.text (c.in-Some.role, c.in-Some.length)
     c.loop-role.invariant found c.in-Some.ensures.least c.in-Some.ensures.most (block_broken _ _ c.loop-role.text c.put_block.new.text _ put c.in_err-pass_on.ensures.err))
 
@@ -42,17 +42,17 @@ pass-requires-clause-counted g c =
 pub pass-requires-clause-room : goal.pass-requires-clause-room
 pass-requires-clause-room g c =
     let same : c.tell.new.self.at ≡ c.loop-role.standing.at = ap (λ (s : Standing). s.at) (c.tell.ensures ∙ ap (λ s. with_told c.in_ok-told.told s) c.enter.ensures) ∙ entered_at c.in-Some.role c.args.subject.now.manner.speed c.loop-role.ahead.now c.loop-role.standing in
-    let taken : length c.front-d.result.now ≡ c.in-Some.length = ap length c.front-d.ensures ∙ length-take-le c.in-Some.length c.loop-role.ahead.now c.in-Some.ensures.most in
+    let taken : length c.prefix-d.result.now ≡ c.in-Some.length = ap length c.prefix-d.ensures ∙ length-take-le c.in-Some.length c.loop-role.ahead.now c.in-Some.ensures.most in
     omega (arith, same, taken, c.loop-role.invariant.room, c.in-Some.ensures.most)
 
 pub loop-role-preserved : goal.loop-role-preserved
 loop-role-preserved g c =
     let found : next_role c.loop-role.standing c.loop-role.ahead.now ≡ Some (c.in-Some.role, c.in-Some.length) = sym c.next_role.ensures.next ∙ c.in-Some.is in
     let put : c.put_block.new.text ≡ c.loop-role.text ++ next_block c.args.subject.now c.loop-role.standing c.loop-role.ahead.now (c.in-Some.role, c.in-Some.length) =
-    rw (sym c.front-d.ensures, sym c.behind.ensures, sym c.enter.ensures) c.in_ok-told.ensures.lines in
+    rw (sym c.prefix-d.ensures, sym c.after.ensures, sym c.enter.ensures) c.in_ok-told.ensures.lines in
     let onward = walks_next c.args.subject.now c.args.bytes.now c.loop-role.standing c.loop-role.ahead.now _ _ _ c.args.text.now c.loop-role.text c.put_block.new.text c.pass_on.new.text (c.in-Some.role, c.in-Some.length)
     c.loop-role.invariant found c.in-Some.ensures.least c.in-Some.ensures.most put c.in_ok-pass_on.ensures.ok in
-    rw (c.behind-ahead.ensures, c.pass.ensures, c.tell.ensures, c.in_ok-told.ensures.told, c.behind.ensures, c.enter.ensures, c.front-d.ensures) onward
+    rw (c.after-ahead.ensures, c.pass.ensures, c.tell.ensures, c.in_ok-told.ensures.told, c.after.ensures, c.enter.ensures, c.prefix-d.ensures) onward
 
 pub returns-clause-ok : goal.returns-clause-ok
 returns-clause-ok g c = walks_end c.args.subject.now c.args.bytes.now c.loop-role.standing c.loop-role.ahead.now _ _ c.args.text.now c.loop-role.text c.loop-role.invariant (sym c.next_role.ensures.next ∙ c.in_default.is)

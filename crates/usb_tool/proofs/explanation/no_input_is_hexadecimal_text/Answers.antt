@@ -2,7 +2,7 @@ use Rattle.std.proofs.Common.{◌≡◌, ℕ, List, slice_index, ap}
 use Rattle.usb_set.specs.declared.tree.SetKind.{SetKind}
 use Rattle.usb_set.specs.declared.tree.SetKind.TheVariants as kinds
 use Rattle.usb_set.specs.Descriptors.{type_number}
-use Rattle.usb_file.specs.declared.input.Input.TheVariants as inputs
+use Rattle.usb_file_data.specs.declared.input.Input.TheVariants as inputs
 use Rattle.usb_hex_text.specs.Laws.{IsApart}
 use Rattle.usb_hex_text.proofs.Apart.{apart}
 use Rattle.usb_tool.specs.Explains.{NoInputIsHexadecimal}

@@ -18,10 +18,10 @@ loop-length-preserved c =
     let n : ℕ = c.in-Some.length in
     let step : descriptors rest ≡ take n rest ∷ descriptors (drop n rest) = descriptors_step rest n found in
     let left : length (drop n rest) ≡ length rest - n = length-drop n rest in
-    let before : Gathers (descriptors c.args.set.now) c.loop-length.gathered (c.front.result.now ∷ descriptors c.behind-rest.result.now) =
-    rw (c.front.ensures, c.behind-rest.ensures) (rw step at c.loop-length.invariant.gathers) in
+    let before : Gathers (descriptors c.args.set.now) c.loop-length.gathered (c.prefix.result.now ∷ descriptors c.after-rest.result.now) =
+    rw (c.prefix.ensures, c.after-rest.ensures) (rw step at c.loop-length.invariant.gathers) in
     record {
-      gathers = c.add.ensures.gathers (descriptors c.args.set.now) (descriptors c.behind-rest.result.now) before;
-      interfaces = rw c.behind-rest.ensures (omega (arith, c.add.ensures.interfaces, left, c.in-Some.ensures.least, c.in-Some.ensures.most, c.loop-length.invariant.interfaces));
-      associations = rw c.behind-rest.ensures (omega (arith, c.add.ensures.associations, left, c.in-Some.ensures.least, c.in-Some.ensures.most, c.loop-length.invariant.associations));
+      gathers = c.add.ensures.gathers (descriptors c.args.set.now) (descriptors c.after-rest.result.now) before;
+      interfaces = rw c.after-rest.ensures (omega (arith, c.add.ensures.interfaces, left, c.in-Some.ensures.least, c.in-Some.ensures.most, c.loop-length.invariant.interfaces));
+      associations = rw c.after-rest.ensures (omega (arith, c.add.ensures.associations, left, c.in-Some.ensures.least, c.in-Some.ensures.most, c.loop-length.invariant.associations));
     }

@@ -1,0 +1,76 @@
+-- How faults are told: want of memory is no fault of the bytes.
+use Rattle.std.specs.Prelude.{◌≡◌, ℕ, Bool, true, false, List, Some}
+use Rattle.usb_base.specs.declared.speed.Speed.{Speed}
+use Rattle.usb_file_data.specs.File.{File}
+use Rattle.usb_file_data.specs.declared.file.DescriptorFile.{DescriptorFile}
+use Rattle.usb_set.specs.declared.fault.SetFault.{SetFault}
+use Rattle.usb_set.specs.declared.fault.SetWhy.{SetWhy}
+use Rattle.usb_set.specs.declared.fault.SetWhy.TheVariants as sets
+use Rattle.usb_file.specs.declared.fault.FileFault.{FileFault}
+use Rattle.usb_file.specs.declared.fault.FileWhy.{FileWhy}
+use Rattle.usb_file.specs.declared.fault.FileWhy.TheVariants as files
+use Rattle.usb_file.specs.declared.input_fault.InputFault.{InputFault}
+use Rattle.usb_file.specs.declared.input_fault.InputFault.TheVariants as inputs
+use Rattle.usb_listing_reader.specs.declared.fault.ListFault.{ListFault}
+use Rattle.usb_listing_reader.specs.declared.fault.ListWhy.{ListWhy}
+use Rattle.usb_listing_reader.specs.declared.fault.ListWhy.TheVariants as lists
+use Rattle.usb_description.specs.Accepted.{refusal_of}
+use Rattle.usb_description.specs.declared.fault.DescriptionFault.{DescriptionFault}
+use Rattle.usb_description.specs.declared.fault.DescriptionFault.TheVariants as descriptions
+use Rattle.usb_c.specs.declared.answer.Verdict.{Verdict}
+use Rattle.usb_c.specs.declared.answer.Verdict.TheVariants as verdicts
+
+-- that of a set, by its reason
+abbrev pub set_by : SetWhy → SetFault → Verdict
+set_by sets.Memory fault = verdicts.NoMemory
+set_by why fault = verdicts.Broken (inputs.Set fault) 0
+
+abbrev pub refused_set : SetFault → Verdict
+refused_set fault = set_by fault.why fault
+
+-- of a file
+abbrev pub file_by : FileWhy → FileFault → Verdict
+file_by files.Memory fault = verdicts.NoMemory
+file_by why fault = verdicts.Broken (inputs.File fault) 0
+
+abbrev pub refused_file : FileFault → Verdict
+refused_file fault = file_by fault.why fault
+
+-- of an input
+abbrev pub refused_input : InputFault → Verdict
+refused_input (inputs.Set fault) = refused_set fault
+refused_input (inputs.Trailing at) = verdicts.Broken (inputs.Trailing at) 0
+refused_input (inputs.File fault) = refused_file fault
+
+-- of a listing
+abbrev pub list_by : ListWhy → ListFault → Verdict
+list_by lists.Memory fault = verdicts.NoMemory
+list_by why fault = verdicts.List fault
+
+abbrev pub refused_list : ListFault → Verdict
+refused_list fault = list_by fault.why fault
+
+-- of a description
+abbrev pub refused_description : DescriptionFault → Verdict
+refused_description descriptions.Memory = verdicts.NoMemory
+refused_description fault = verdicts.Description fault
+
+-- whether memory was wanting
+abbrev pub set_wants : SetWhy → Bool
+set_wants sets.Memory = true
+set_wants why = false
+
+abbrev pub file_wants : FileWhy → Bool
+file_wants files.Memory = true
+file_wants why = false
+
+abbrev pub wants_memory : InputFault → Bool
+wants_memory (inputs.Set fault) = set_wants fault.why
+wants_memory (inputs.Trailing at) = false
+wants_memory (inputs.File fault) = file_wants fault.why
+
+-- the bytes are those of a file, and this stands against it
+pub record RefusesFile (b : List ℕ) (speed : Speed) (fault : DescriptionFault) : Type 0 where
+  pub file : DescriptorFile
+  pub layout : File file b
+  pub why : refusal_of file speed ≡ Some fault

@@ -1,0 +1,98 @@
+-- What the calls do that put a text into a buffer.
+use Rattle.std.specs.Prelude.{◌≡◌, ℕ, ◌/◌, ◌%◌, ◌⊎◌, ◌==◌, false, List, Option, Some, None, if◌then◌else◌}
+use Rattle.usb_explain.specs.Explanations.{broken_explanation, explanation}
+use Rattle.usb_explain.specs.declared.manner.Manner.{Manner}
+use Rattle.usb_words.specs.declared.speed.SetSpeed.{SetSpeed}
+use Rattle.usb_words.specs.declared.speed.SetSpeed.TheVariants as speeds
+use Rattle.usb_file_data.specs.File.{File}
+use Rattle.usb_file_data.specs.declared.file.DescriptorFile.{DescriptorFile}
+use Rattle.usb_file.specs.Inputs.{InputFaulty, IsInput}
+use Rattle.usb_rules.specs.Findings.{input_findings}
+use Rattle.usb_file_data.specs.declared.input.Input.{Input}
+use Rattle.usb_file_data.specs.declared.input.Input.TheVariants as inputs
+use Rattle.usb_file.specs.declared.input_fault.InputFault.{InputFault}
+use Rattle.usb_listing.specs.Listing.{file_lines}
+use Rattle.usb_listing.specs.SetListing.{set_lines}
+use Rattle.usb_listing_reader.specs.Listings.{ListFaulty, Lists}
+use Rattle.usb_rules.specs.FindingLine.{check_text}
+use Rattle.usb_c.specs.declared.answer.Verdict.{Verdict}
+use Rattle.usb_c.specs.declared.answer.Verdict.TheVariants as verdicts
+use Rattle.usb_c.specs.Buffers.{Fills}
+use Rattle.usb_c.specs.Outcomes.{PutsFile}
+use Rattle.usb_c.specs.Refusals.{wants_memory}
+
+-- the lines of an input: a dump has those of its device and its sets
+abbrev pub input_lines : Input → List ℕ
+input_lines (inputs.Set set) = set_lines set
+input_lines (inputs.File file) = file_lines file
+input_lines (inputs.Dump file) = file_lines file
+
+-- the bytes show this fault, or memory is wanting
+abbrev pub Refuses : List ℕ → Verdict → Type 0
+Refuses b (verdicts.Broken fault length) = InputFaulty b fault × (length ≡ 0)
+Refuses b verdicts.NoMemory = Unit {0}
+Refuses b verdict = ⊥
+
+-- a text of the input that the bytes are is in the buffer
+pub record TellsInput (text_of : Input → List ℕ) (b old new : List ℕ) (verdict : Verdict) : Type 0 where
+  pub input : Input
+  pub is : IsInput input b
+  pub fills : Fills verdicts.Done (text_of input) old new verdict
+
+-- or the bytes are refused, and the buffer is as it was
+abbrev pub TellsOf : (Input → List ℕ) → List ℕ → List ℕ → List ℕ → Verdict → Type 0
+TellsOf text_of b old new verdict = TellsInput text_of b old new verdict ⊎ (Refuses b verdict × (new ≡ old))
+
+-- the listing of the bytes, and what is found in them
+abbrev pub Shows : List ℕ → List ℕ → List ℕ → Verdict → Type 0
+Shows = TellsOf input_lines
+
+abbrev pub Checks : List ℕ → List ℕ → List ℕ → Verdict → Type 0
+Checks = TellsOf (λ input. check_text (input_findings input))
+
+-- the speed of a number, if it is one
+abbrev pub running_speed_told : ℕ → Option SetSpeed
+running_speed_told number =
+    if number == 1 then Some speeds.Low
+    else if number == 2 then Some speeds.Full
+    else if number == 3 then Some speeds.High
+    else if number == 4 then Some speeds.Super
+    else None
+
+-- how an explanation is written: bit 0 leaves the fields out, bit 1 gives each its place
+abbrev pub manner_told : ℕ → ℕ → Manner
+manner_told options speed =
+    record { look = record { brief = options % 2 == 1; places = (options / 2) % 2 == 1 }; speed = running_speed_told speed }
+
+-- the explanation of bytes that show this fault is in the buffer, and both are told
+pub record TellsBroken (m : Manner) (b old new : List ℕ) (verdict : Verdict) : Type 0 where
+  pub fault : InputFault
+  pub shows : InputFaulty b fault
+  pub fills : Fills (verdicts.Broken fault) (broken_explanation m fault b) old new verdict
+
+-- the bytes are explained: as an input, or as far as they go; or memory is wanting
+abbrev pub Explains : Manner → List ℕ → List ℕ → List ℕ → Verdict → Type 0
+Explains m b old new verdict =
+    TellsInput (λ input. explanation m input b) b old new verdict
+    ⊎ (TellsBroken m b old new verdict ⊎ ((verdict ≡ verdicts.NoMemory) × (new ≡ old)))
+
+-- bytes with this fault are explained as far as they go, or memory was wanting before or is now
+abbrev pub ExplainsFault : Manner → InputFault → List ℕ → List ℕ → List ℕ → Verdict → Type 0
+ExplainsFault m fault b old new verdict =
+    ((wants_memory fault ≡ false) × Fills (verdicts.Broken fault) (broken_explanation m fault b) old new verdict)
+    ⊎ ((verdict ≡ verdicts.NoMemory) × (new ≡ old))
+
+-- the bytes of the file that the text lists are in the buffer
+pub record TellsListed (text old new : List ℕ) (verdict : Verdict) : Type 0 where
+  pub file : DescriptorFile
+  pub lists : Lists text file
+  pub puts : PutsFile file old new verdict
+
+-- or the text has this fault
+abbrev pub RefusesList : List ℕ → Verdict → Type 0
+RefusesList text (verdicts.List fault) = ListFaulty text fault.line fault.why
+RefusesList text verdicts.NoMemory = Unit {0}
+RefusesList text verdict = ⊥
+
+abbrev pub Builds : List ℕ → List ℕ → List ℕ → Verdict → Type 0
+Builds text old new verdict = TellsListed text old new verdict ⊎ (RefusesList text verdict × (new ≡ old))

@@ -1,0 +1,99 @@
+//! What a call answers, as numbers.
+ghost use Rattle.std.specs.Prelude.{◌≡◌};
+ghost use Rattle.usb_c.specs.Answers.{broken_answer, numbers};
+
+use usb_description::DescriptionFault;
+use usb_device::Unanswered;
+use usb_file::{InputFault, WriteFault};
+use usb_host::Trouble;
+use usb_listing_reader::ListFault;
+
+/// What a call answers, as C sees it. Four numbers, so that of broken bytes both the fault and the length of their
+/// explanation are reported.
+#[repr(C)]
+pub struct Answer {
+    /// 0 done, 1 open, 2 a fault of a set, 3 of a file, 4 of a listing, 5 of a description, 6 bytes after the set, 7 no
+    /// room, 8 no memory, 9 closed, 10 a bad argument, 11 trouble, 12 an answer that isn't taken, 13 no bytes.
+    pub status: u32,
+    /// The number of the fault.
+    pub number: u32,
+    /// The place of the fault, in bytes; of a listing its line.
+    pub place: usize,
+    /// How many bytes were taken or written, or are wanted.
+    pub length: usize,
+}
+
+/// What a call answers.
+#[derive(Clone, Copy)]
+pub enum Verdict {
+    /// All went well, and this many bytes were taken or written.
+    Done(usize),
+    /// The bytes so far, this many of them new, are a prefix of a set; or a host has not ended.
+    Open(usize),
+    /// The bytes are no input. This many bytes of an explanation were written.
+    Broken(InputFault, usize),
+    /// The text is no listing.
+    List(ListFault),
+    /// No device of the speed has these descriptors.
+    Description(DescriptionFault),
+    /// The buffer is too short: this many bytes are wanted.
+    NoRoom(usize),
+    /// A growth was refused.
+    NoMemory,
+    /// The handle holds nothing.
+    Closed,
+    /// A number has no meaning: 1 the address, 2 the attempts, 3 the speed, 4 a fate.
+    BadArgument(u8),
+    /// The enumeration ended without success.
+    Trouble(Trouble),
+    /// The device doesn't take this answer to a request.
+    Unanswered(Unanswered),
+    /// The file has no bytes. That of a host always has some: `usb_host::laws`.
+    Unwritten(WriteFault),
+}
+
+/// Four numbers, the third of them a place.
+fn numbers(status: u32, number: u8, place: usize, length: usize) -> Answer
+    ensures { result ≡ numbers status number place length }
+{
+    Answer {
+        status,
+        number: u32::from(number),
+        place,
+        length,
+    }
+}
+
+fn broken(fault: InputFault, length: usize) -> Answer
+    ensures { result ≡ broken_answer fault length }
+{
+    match fault {
+        InputFault::Set(fault) => numbers(2, fault.why.number(), fault.at as usize, length),
+        InputFault::File(fault) => numbers(3, fault.why.number(), fault.at, length),
+        InputFault::Trailing(at) => numbers(6, 0, at, length),
+    }
+}
+
+impl Verdict {
+    ghost use Rattle.usb_c.specs.Answers.{answer_of};
+
+    /// The same as numbers.
+    pub(crate) fn answer(self) -> Answer
+        ensures { result ≡ answer_of self }
+    {
+        match self {
+            Verdict::Done(length) => numbers(0, 0, 0, length),
+            Verdict::Open(length) => numbers(1, 0, 0, length),
+            Verdict::Broken(fault, length) => broken(fault, length),
+            Verdict::List(fault) => numbers(4, fault.why.number(), fault.line, 0),
+            Verdict::Description(fault) => numbers(5, fault.number(), 0, 0),
+            Verdict::NoRoom(length) => numbers(7, 0, 0, length),
+            Verdict::NoMemory => numbers(8, 0, 0, 0),
+            Verdict::Closed => numbers(9, 0, 0, 0),
+            Verdict::BadArgument(number) => numbers(10, number, 0, 0),
+            Verdict::Trouble(trouble) => numbers(11, trouble.why.number(), 0, 0),
+            Verdict::Unanswered(why) => numbers(12, why.number(), 0, 0),
+            Verdict::Unwritten(why) => numbers(13, why.number(), 0, 0),
+        }
+    }
+}

@@ -1,0 +1,68 @@
+//! Texts, from a buffer into a buffer: what `usbdesc` writes.
+ghost use Rattle.usb_c.specs.Answers.{AnswersOn};
+ghost use Rattle.usb_c.specs.Enumerations.{Enumerates};
+ghost use Rattle.usb_c.specs.Texts.{Builds, Checks, Explains, Shows, manner_told};
+ghost use Rattle.usb_c.specs.Transactions.{speed_told};
+
+use crate::answer::Answer;
+use crate::enumeration::{UsbOutcome, enumerate_bytes};
+use crate::text::{build, check, explain_bytes, manner, show};
+use std::alloc::Global;
+
+/// Puts the listing of an input into the buffer: a line for each descriptor.
+#[unsafe(no_mangle)]
+pub extern "C" fn usb_show(alloc: Global, bytes: &[u8], text: &mut [u8]) -> Answer
+    ensures { AnswersOn (Shows bytes.now text.old text.new) result }
+{
+    show(alloc, bytes, text).answer()
+}
+
+/// Puts a line for each finding in an input into the buffer, or `no findings`.
+#[unsafe(no_mangle)]
+pub extern "C" fn usb_check(alloc: Global, bytes: &[u8], text: &mut [u8]) -> Answer
+    ensures { AnswersOn (Checks bytes.now text.old text.new) result }
+{
+    check(alloc, bytes, text).answer()
+}
+
+/// Puts the explanation of bytes into the buffer: of an input all of it, else what is before the fault, the fault and
+/// the rest. Options: bit 0 leaves out the fields, bit 1 gives each field its place. A speed: 1 low, 2 full, 3 high,
+/// 4 super; any other says nothing of it.
+#[unsafe(no_mangle)]
+pub extern "C" fn usb_explain(
+    alloc: Global,
+    bytes: &[u8],
+    options: u32,
+    speed: u8,
+    text: &mut [u8],
+) -> Answer
+    ensures { AnswersOn (Explains (manner_told options speed) bytes.now text.old text.new) result }
+{
+    explain_bytes(alloc, bytes, manner(options, speed), text).answer()
+}
+
+/// Puts the bytes of the file that a text lists into the buffer.
+#[unsafe(no_mangle)]
+pub extern "C" fn usb_build(alloc: Global, text: &[u8], bytes: &mut [u8]) -> Answer
+    ensures { AnswersOn (Builds text.now bytes.old bytes.new) result }
+{
+    build(alloc, text, bytes).answer()
+}
+
+/// Enumerates a device with the descriptors of a file, and puts the listing of what was read into the buffer. A fate is
+/// one byte a transaction: `.` passes, `n` busy, `d` lost down, `u` lost up, `a` lost ACK.
+#[unsafe(no_mangle)]
+pub extern "C" fn usb_enumerate(
+    alloc: Global,
+    bytes: &[u8],
+    speed: u8,
+    naks: u16,
+    attempts: u8,
+    fates: &[u8],
+    outcome: &mut UsbOutcome,
+    text: &mut [u8],
+) -> Answer
+    ensures { AnswersOn (Enumerates bytes.now (speed_told speed) naks attempts fates.now outcome.old outcome.new text.old text.new) result }
+{
+    enumerate_bytes(alloc, bytes, speed, naks, attempts, fates, outcome, text).answer()
+}

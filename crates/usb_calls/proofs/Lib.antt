@@ -1,3 +1,0 @@
-mod InputFaults
-mod Reasons
-mod Replies

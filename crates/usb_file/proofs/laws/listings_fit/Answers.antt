@@ -1,6 +1,0 @@
-use Rattle.std.proofs.Common.{arith}
-use Rattle.usb_file.proofs.ListingLengthLemmas.{lines_at_most}
-use Rattle.usb_file.proofs.laws.listings_fit.Goals as goal
-
-pub returns : goal.returns
-returns c = λ f b h. omega (arith, lines_at_most f b h)

@@ -1,5 +1,0 @@
-use Rattle.usb_file.proofs.Longest.{at_most}
-use Rattle.usb_file.proofs.laws.longest_file.Goals as goal
-
-pub returns : goal.returns
-returns c = at_most
