@@ -13,13 +13,13 @@ use Rattle.usb_description.specs.declared.fault.DescriptionFault.{DescriptionFau
 use Rattle.usb_description.specs.declared.fault.DescriptionFault.TheVariants as faults
 
 -- whether the number is in the list
-abbrev pub stands_in : List ℕ → ℕ → Bool
-stands_in numbers n = list_any (λ other. other == n) numbers
+abbrev pub is_among : List ℕ → ℕ → Bool
+is_among numbers n = list_any (λ other. other == n) numbers
 
 -- whether a number stands twice in the list
 abbrev pub repeats : List ℕ → Bool
 repeats [] = false
-repeats (n ∷ numbers) = stands_in numbers n || repeats numbers
+repeats (n ∷ numbers) = is_among numbers n || repeats numbers
 
 -- whether a language is twice in the language list, so that its second strings could not be asked for (9.6.7)
 abbrev pub repeats_language : Option Strings → Bool

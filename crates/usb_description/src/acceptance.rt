@@ -2,7 +2,7 @@
 ghost use Rattle.std.specs.Prelude.{◌≡◌, ◌≤◌, length, OnOk, IfErr, false};
 ghost use Rattle.std.specs.List.{list_any};
 ghost use Rattle.usb_file_data.specs.Named.{named_indices};
-ghost use Rattle.usb_description.specs.Accepted.{has_early_second_speed, has_other_packets, has_wrong_sets, has_wrong_speed, has_wrong_strings, refusal_of, repeats, repeats_language, stands_in, Accepted, Refuses};
+ghost use Rattle.usb_description.specs.Accepted.{has_early_second_speed, has_other_packets, has_wrong_sets, has_wrong_speed, has_wrong_strings, refusal_of, repeats, repeats_language, is_among, Accepted, Refuses};
 
 use crate::fault::DescriptionFault;
 use std::alloc::Global;
@@ -74,12 +74,12 @@ fn repeats(numbers: &[u16]) -> bool
 {
     match numbers {
         [] => false,
-        [first, rest @ ..] => stands_in(rest, *first) || repeats(rest),
+        [first, rest @ ..] => is_among(rest, *first) || repeats(rest),
     }
 }
 
-fn stands_in(numbers: &[u16], n: u16) -> bool
-    ensures { result ≡ stands_in numbers.now n }
+fn is_among(numbers: &[u16], n: u16) -> bool
+    ensures { result ≡ is_among numbers.now n }
 {
     numbers.iter().any(|other| *other == n)
 }

@@ -7,12 +7,12 @@ use Rattle.std.proofs.Math.Nat.{mod-lt, div-add-mod}
 use Rattle.usb_file_data.specs.declared.file.DescriptorFile.{DescriptorFile}
 use Rattle.usb_file_data.specs.declared.file.Strings.{Strings}
 use Rattle.usb_file_data.specs.Named.{named_among, named_indices, string_indices}
-use Rattle.usb_description.specs.Accepted.{stands_in, repeats}
+use Rattle.usb_description.specs.Accepted.{is_among, repeats}
 use Rattle.usb_file_data.specs.StringPlaces.{units_at}
 use Rattle.usb_host.specs.Order.{index_due, language_due}
 
 -- two places of a list in which no number stands twice have two numbers
-stands_at : (xs : List ℕ) (n i : ℕ) → i < length xs → stands_in xs n ≡ false → (get_or xs i 0 == n) ≡ false
+stands_at : (xs : List ℕ) (n i : ℕ) → i < length xs → is_among xs n ≡ false → (get_or xs i 0 == n) ≡ false
 stands_at [] n i within none = absurd (omega arith)
 stands_at (x ∷ xs) n zero within none = grind (arith, nat_tests)
 stands_at (x ∷ xs) n (suc i) within none = stands_at xs n i (omega arith) (grind (arith, nat_tests))
@@ -52,11 +52,11 @@ filtered_from p a (suc n) fits =
     by_test_from (p a) a (filter p (range_with_len (a + 1) n)) (omega arith)
     (from_later a (a + 1) (filter p (range_with_len (a + 1) n)) (omega arith) (filtered_from p (a + 1) n (omega arith)))
 
-not_in : (a : ℕ) (xs : List ℕ) → AreFrom (a + 1) xs → stands_in xs a ≡ false
+not_in : (a : ℕ) (xs : List ℕ) → AreFrom (a + 1) xs → is_among xs a ≡ false
 not_in a [] h = refl
 not_in a (x ∷ xs) h = (let first = h.0 in let rest = not_in a xs h.2 in grind (arith, nat_tests))
 
-by_test_once : (t : Bool) (a : ℕ) (rest : List ℕ) → stands_in rest a ≡ false → repeats rest ≡ false → repeats (if t then a ∷ rest else rest) ≡ false
+by_test_once : (t : Bool) (a : ℕ) (rest : List ℕ) → is_among rest a ≡ false → repeats rest ≡ false → repeats (if t then a ∷ rest else rest) ≡ false
 by_test_once true a rest none once = grind (arith, nat_tests)
 by_test_once false a rest none once = once
 

@@ -65,7 +65,7 @@ fn put_body(
     match fields {
         [] => put_all_groups(text, shown, layout, place),
         [field, more @ ..] => {
-            let next = place_behind(place, field.width)?;
+            let next = place_after(place, field.width)?;
             if shown.b.len() < next {
                 return put_left(text, shown, layout, place);
             }
@@ -76,7 +76,7 @@ fn put_body(
 }
 
 /// The place so many bytes later. There is one in all that a memory holds.
-fn place_behind(place: usize, width: u8) -> Result<usize, AllocError>
+fn place_after(place: usize, width: u8) -> Result<usize, AllocError>
     ensures { IfOk result (λ next. next ≡ place + width) }
 {
     match place.checked_add(usize::from(width)) {
@@ -167,7 +167,7 @@ fn put_group(
     match fields {
         [] => Ok(place),
         [field, more @ ..] => {
-            let next = place_behind(place, field.width)?;
+            let next = place_after(place, field.width)?;
             put_field(text, shown, field, place)?;
             put_group(text, shown, more, next)
         }

@@ -32,7 +32,7 @@ pub(crate) fn put_place(
 pub(crate) fn begin_field(text: &mut Text, depth: u8, name: &str) -> Result<(), AllocError>
     ensures { OnOk result (text.new ≡ text.old ++ field_start depth name.now) }
 {
-    text.put_column_behind(2 * usize::from(depth) + 4, name, 23)
+    text.put_indented_column(2 * usize::from(depth) + 4, name, 23)
 }
 
 /// Puts bytes as hexadecimal digits, if there are any.

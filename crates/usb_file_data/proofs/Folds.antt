@@ -98,13 +98,13 @@ or-false true = refl
 or-false false = refl
 
 -- whether the number is in the list
-abbrev stands_in : List ℕ → ℕ → Bool
-stands_in xs n = list_any (λ x. x == n) xs
+abbrev is_among : List ℕ → ℕ → Bool
+is_among xs n = list_any (λ x. x == n) xs
 
-marks_hold : (marks : ℕ → Bool) (xs : List ℕ) (k : ℕ) → fold marked marks xs k ≡ (stands_in xs k || marks k)
+marks_hold : (marks : ℕ → Bool) (xs : List ℕ) (k : ℕ) → fold marked marks xs k ≡ (is_among xs k || marks k)
 unfolding marked
 marks_hold marks [] k = refl
-marks_hold marks (x ∷ xs) k = marks_hold (marked marks x) xs k ∙ or_swap (stands_in xs k) (x == k) (marks k)
+marks_hold marks (x ∷ xs) k = marks_hold (marked marks x) xs k ∙ or_swap (is_among xs k) (x == k) (marks k)
 
 filter_along : (p q : ℕ → Bool) (xs : List ℕ) → ((k : ℕ) → p k ≡ q k) → filter p xs ≡ filter q xs
 filter_along p q [] h = refl
@@ -113,4 +113,4 @@ filter_along p q (x ∷ xs) h = let here = h x in let rest = filter_along p q xs
 pub among_marks : (xs : List ℕ) → marked_among 1 255 (fold marked unmarked xs) ≡ named_among xs
 unfolding marked_among named_among
 among_marks xs =
-    filter_along (fold marked unmarked xs) (stands_in xs) (range_with_len 1 255) (λ k. marks_hold unmarked xs k ∙ or-false (stands_in xs k))
+    filter_along (fold marked unmarked xs) (is_among xs) (range_with_len 1 255) (λ k. marks_hold unmarked xs k ∙ or-false (is_among xs k))

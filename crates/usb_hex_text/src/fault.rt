@@ -24,7 +24,7 @@ pub(crate) fn fault_at(text: &[u8], left: &[u8]) -> HexFault
     }
 }
 
-/// The line of what is behind a text, from 1.
+/// The line of what is after a text, from 1.
 fn line_after(text: &[u8]) -> usize
     ensures { result ≡ 1 + count_by is_line_feed text.now }
 {
@@ -37,7 +37,7 @@ fn line_after(text: &[u8]) -> usize
     line
 }
 
-/// The column of what is behind a text, from 1.
+/// The column of what is after a text, from 1.
 #[tactic(auto, unfolding(crate::specs::HexText::column_after))]
 fn column_after(text: &[u8]) -> usize
     ensures { result ≡ column_after 1 text.now }

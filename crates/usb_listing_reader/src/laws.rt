@@ -39,6 +39,6 @@ pub fn one_answer()
 {}
 
 /// No line after the first one at fault is reached: out of memory is reported at it or at one before it.
-pub fn none_behind_the_fault()
+pub fn none_after_the_fault()
     ensures { (text : List ℕ) (m n : ℕ) (why : ListWhy) → IsLineStart text m → ListFaulty text n why → m ≤ n }
 {}

@@ -21,7 +21,7 @@ use Rattle.usb_rules.specs.declared.finding.Part.TheVariants as parts
 use Rattle.usb_rules.specs.declared.rule.Rule.{Rule}
 use Rattle.usb_rules.specs.declared.rule.Rule.TheVariants as rules
 use Rattle.usb_rules.specs.FindingLine.{rule_number}
-use Rattle.usb_rules.specs.Places.{at_each, at_each_counted, finding, in_other, in_parts, in_sets, stands_in, when}
+use Rattle.usb_rules.specs.Places.{at_each, at_each_counted, finding, in_other, in_parts, in_sets, is_among, when}
 use Rattle.usb_rules.specs.Findings.{addresses, associations, attributes, descriptors, endpoint_counts, findings_where, part_findings, interface_counts, missing_default_settings, number_gaps, of_qualifier, packet_sizes, repeated_addresses, repeated_settings, shared_addresses, values}
 use Rattle.usb_rules.specs.InOrder.{association_count, at_associations, at_configuration, at_endpoint, at_interface, by_rule, endpoint_associations, endpoint_in_order, file_in_order, of_rule, other_in_order, part_in_order, set_in_order, setting_associations, setting_in_order, without_sets}
 use Rattle.usb_rules.specs.Rules.{binds_missing_interface, has_number_gap, lacks_default_setting, repeats_address, repeats_setting, shares_address, wrong_address, wrong_attributes, wrong_endpoint_count, wrong_interface_count, wrong_packet_size, wrong_qualifier, wrong_value}
@@ -39,9 +39,9 @@ none_left : {A : Type 0} (here later : Bool) (x : A) (rest : List A) → (here |
 none_left true later x rest h none = grind arith
 none_left false later x rest h none = none h
 
-pub none_of : {A : Type 0} (key : A → ℕ) (n : ℕ) (xs : List A) → stands_in (map key xs) n ≡ false → filter (λ x. key x == n) xs ≡ []
+pub none_of : {A : Type 0} (key : A → ℕ) (n : ℕ) (xs : List A) → is_among (map key xs) n ≡ false → filter (λ x. key x == n) xs ≡ []
 none_of key n [] h = refl
-none_of key n (x ∷ xs) h = none_left (key x == n) (stands_in (map key xs) n) x (filter (λ x. key x == n) xs) h (none_of key n xs)
+none_of key n (x ∷ xs) h = none_left (key x == n) (is_among (map key xs) n) x (filter (λ x. key x == n) xs) h (none_of key n xs)
 
 pub each_along : {A B : Type 0} (f g : ℕ → A → List B) → ((i : ℕ) (x : A) → f i x ≡ g i x) → (i : ℕ) (xs : List A) → at_each f i xs ≡ at_each g i xs
 each_along f g h i [] = refl
@@ -447,7 +447,7 @@ as_many (x ∷ found) = one_more x.rule x.part x.set x.setting x.endpoint found 
 
 -- no finding is of a rule after this number
 abbrev pub EndsAt : ℕ → List Finding → Type 0
-EndsAt n found = (m : ℕ) → n < m → stands_in (map (λ f. rule_number f.rule) found) m ≡ false
+EndsAt n found = (m : ℕ) → n < m → is_among (map (λ f. rule_number f.rule) found) m ≡ false
 
 -- the findings of these rules, after others
 abbrev of_rules : List Finding → List Finding → List Rule → List Finding
@@ -520,8 +520,8 @@ above marks n m h none = grind (arith, nat_tests)
 pub ends_next : (xs : List Finding) (i n k : ℕ) (x : Finding) → i < length xs → k ≡ rule_number (get_or xs i x).rule → n ≤ k → EndsAt n (take i xs) → EndsAt k (take (i + 1) xs)
 ends_next xs i n k x below is up ends m h =
     ap (λ marks. marks m) (stands_more (λ f. rule_number f.rule) xs i (get_or xs i x) below (get_or_default xs i _ _ below))
-    ∙ ap (λ l. marked (stands_in (map (λ f. rule_number f.rule) (take i xs))) l m) (sym is)
-    ∙ above (stands_in (map (λ f. rule_number f.rule) (take i xs))) k m h (ends m (omega (arith, up, h)))
+    ∙ ap (λ l. marked (is_among (map (λ f. rule_number f.rule) (take i xs))) l m) (sym is)
+    ∙ above (is_among (map (λ f. rule_number f.rule) (take i xs))) k m h (ends m (omega (arith, up, h)))
 
 pub in_order_next : (xs : List Finding) (i n k : ℕ) (x : Finding) → i < length xs → k ≡ rule_number (get_or xs i x).rule → n ≤ k → EndsAt n (take i xs)
     → by_rule (take i xs) ≡ take i xs → by_rule (take (i + 1) xs) ≡ take (i + 1) xs
@@ -531,5 +531,5 @@ in_order_next xs i n k x below is up ends same =
     let new = ends_next xs i n k x below is up ends in
     ap by_rule more
     ∙ rule_after f.rule f.part f.set f.setting f.endpoint (take i xs) (λ m h. ends m (omega (arith, up, is, h)))
-    (λ m h. ap (λ ys. stands_in (map (λ g. rule_number g.rule) ys) m) (sym more) ∙ new m (omega (arith, is, h)))
+    (λ m h. ap (λ ys. is_among (map (λ g. rule_number g.rule) ys) m) (sym more) ∙ new m (omega (arith, is, h)))
     ∙ ap (λ ys. ys ++ f ∷ []) same ∙ sym more

@@ -12,7 +12,7 @@ use Rattle.usb_set.specs.declared.extra.Association.{Association}
 use Rattle.usb_set.specs.declared.tree.Endpoint.{Endpoint}
 use Rattle.usb_set.specs.declared.tree.Setting.{Setting}
 use Rattle.usb_rules.specs.declared.rule.Rule.TheVariants as rules
-use Rattle.usb_rules.specs.Places.{at_each, at_each_counted, stands_in, when}
+use Rattle.usb_rules.specs.Places.{at_each, at_each_counted, is_among, when}
 use Rattle.usb_rules.specs.InOrder.{association_count, endpoint_associations, setting_associations}
 use Rattle.usb_set.specs.declared.extra.Extra.{Extra}
 use Rattle.usb_set.specs.Parts.{association_in}
@@ -107,16 +107,16 @@ any_more p (y ∷ xs) x = ap (λ b. p y || b) (any_more p xs x) ∙ or_turn (p y
 
 -- one key more
 pub stands_more : {A : Type 0} (key : A → ℕ) (xs : List A) (i : ℕ) (x : A) → i < length xs → x ≡ get_or xs i x
-    → stands_in (map key (take (i + 1) xs)) ≡ marked (stands_in (map key (take i xs))) (key x)
+    → is_among (map key (take (i + 1) xs)) ≡ marked (is_among (map key (take i xs))) (key x)
 unfolding marked
 stands_more key xs i x below is =
-    ap (λ ys. stands_in (map key ys)) (take_more xs i x below is)
-    ∙ ap stands_in (map-append key (take i xs) (x ∷ []))
+    ap (λ ys. is_among (map key ys)) (take_more xs i x below is)
+    ∙ ap is_among (map-append key (take i xs) (x ∷ []))
     ∙ funext _ _ (λ n. any_more (λ k. k == n) (map key (take i xs)) (key x))
 
 -- the same where an element is looked up and its key is marked
 pub stands_next : {A : Type 0} (key : A → ℕ) (xs : List A) (i n : ℕ) (x : A) (old new : ℕ → Bool) → i < length xs → n ≡ key (get_or xs i x)
-    → old ≡ stands_in (map key (take i xs)) → new ≡ marked old n → new ≡ stands_in (map key (take (i + 1) xs))
+    → old ≡ is_among (map key (take i xs)) → new ≡ marked old n → new ≡ is_among (map key (take (i + 1) xs))
 stands_next key xs i n x old new below is here more =
     more ∙ ap (marked old) is ∙ ap (λ marks. marked marks (key (get_or xs i x))) here
     ∙ sym (stands_more key xs i (get_or xs i x) below (get_or_default xs i _ _ below))
@@ -154,7 +154,7 @@ unfolding owned owned_at marked
 owned_more n t endpoints k e below is =
     funext _ _ (λ b. funext _ _ (λ m.
     ap (λ f. (not (n == m) && f b) || t b m) (stands_more address_of endpoints k e below is)
-    ∙ sym (owned_by (not (n == m)) (stands_in (map address_of (take k endpoints)) b) (e.address == b) (t b m))))
+    ∙ sym (owned_by (not (n == m)) (is_among (map address_of (take k endpoints)) b) (e.address == b) (t b m))))
 
 none_or : (a t : Bool) → ((a && false) || t) ≡ t
 none_or true t = refl
@@ -235,19 +235,19 @@ neither true default h = refl
 neither false default h = ap not h
 
 -- a setting is in its set
-its_number : (settings : List Setting) (j : ℕ) (s : Setting) → j < length settings → s ≡ get_or settings j s → stands_in (map number_of settings) s.number ≡ true
+its_number : (settings : List Setting) (j : ℕ) (s : Setting) → j < length settings → s ≡ get_or settings j s → is_among (map number_of settings) s.number ≡ true
 its_number settings j s below is =
     list_any_at (λ n. n == s.number) (map number_of settings) j s.number (omega (arith, below, length-map settings number_of))
     (ap (λ n. n == s.number) (get_or-map number_of settings j s s.number below ∙ ap number_of (sym is)) ∙ (let e : (s.number == s.number) ≡ true = grind (arith, nat_tests) in e))
 
 pub interface_seen : (may_break : Bool) (at : Place) (settings : List Setting) (j : ℕ) (s : Setting) (e : Entered) → j < length settings → s ≡ get_or settings j s
-    → (may_break ≡ true → e.numbers ≡ stands_in (map number_of (take j settings))) → (may_break ≡ true → e.alternates ≡ has_alternate (take j settings)) → (may_break ≡ false → NoneBreaksV3OrV4 settings)
-    → in_interface at (has_alternate settings) (compared_with may_break e).numbers (compared_with may_break e).alternates s ≡ in_interface at (has_alternate settings) (stands_in (map number_of (take j settings))) (has_alternate (take j settings)) s
+    → (may_break ≡ true → e.numbers ≡ is_among (map number_of (take j settings))) → (may_break ≡ true → e.alternates ≡ has_alternate (take j settings)) → (may_break ≡ false → NoneBreaksV3OrV4 settings)
+    → in_interface at (has_alternate settings) (compared_with may_break e).numbers (compared_with may_break e).alternates s ≡ in_interface at (has_alternate settings) (is_among (map number_of (take j settings))) (has_alternate (take j settings)) s
 interface_seen true at settings j s e below is numbers alternates keep =
-    ap (λ f. in_interface at (has_alternate settings) f e.alternates s) (numbers refl) ∙ ap (λ f. in_interface at (has_alternate settings) (stands_in (map number_of (take j settings))) f s) (alternates refl)
+    ap (λ f. in_interface at (has_alternate settings) f e.alternates s) (numbers refl) ∙ ap (λ f. in_interface at (has_alternate settings) (is_among (map number_of (take j settings))) f s) (alternates refl)
 interface_seen false at settings j s e below is numbers alternates keep =
     let none = keep refl in
-    let before = stands_in (map number_of (take j settings)) s.number in
+    let before = is_among (map number_of (take j settings)) s.number in
     let count = when (wrong_endpoint_count s) (broken rules.V5 at) in
     let v4 = neither before (has_alternate settings s.number 0) (none.defaults s.number (its_number settings j s below is)) in
     ap (λ b. when b (broken rules.V3 at) ++ when (not true && not (has_alternate settings s.number 0)) (broken rules.V4 at) ++ count) (sym (none.repeated j below s is))

@@ -10,8 +10,8 @@ use Rattle.usb_rules.specs.declared.finding.Finding.{Finding}
 use Rattle.usb_rules.specs.declared.rule.Rule.{Rule}
 
 -- whether the number is in the list
-abbrev pub stands_in : List ℕ → ℕ → Bool
-stands_in xs n = list_any (λ x. x == n) xs
+abbrev pub is_among : List ℕ → ℕ → Bool
+is_among xs n = list_any (λ x. x == n) xs
 
 -- x alone where the test holds, and else nothing
 abbrev pub when : {A : Type 0} → Bool → A → List A

@@ -7,7 +7,7 @@ use Rattle.usb_set.specs.declared.extra.Association.{Association}
 use Rattle.usb_set.specs.declared.tree.Endpoint.{Endpoint}
 use Rattle.usb_set.specs.declared.tree.Setting.{Setting}
 use Rattle.usb_set.specs.declared.tree.Configuration.{Configuration}
-use Rattle.usb_rules.specs.Places.{stands_in, when, at_each_after}
+use Rattle.usb_rules.specs.Places.{is_among, when, at_each_after}
 
 -- the interface number of a setting (bInterfaceNumber)
 abbrev pub number_of : Setting → ℕ
@@ -23,7 +23,7 @@ value_of c = c.value
 
 -- the setting is the first of its interface number, given those before it
 abbrev pub is_first : List Setting → Setting → Bool
-is_first before s = not (stands_in (map number_of before) s.number)
+is_first before s = not (is_among (map number_of before) s.number)
 
 -- the interface numbers of the settings, each once, in the order in which they come first
 abbrev pub interface_numbers : List Setting → List ℕ
@@ -38,7 +38,7 @@ wrong_interface_count c = not (c.declared_interfaces == length (interface_number
 -- is missing (9.6.5, bInterfaceNumber).
 abbrev pub has_number_gap : Configuration → Bool
 has_number_gap c =
-    list_any (λ n. not (stands_in (map number_of c.settings) n)) (range_with_len 0 (length (interface_numbers c.settings)))
+    list_any (λ n. not (is_among (map number_of c.settings) n)) (range_with_len 0 (length (interface_numbers c.settings)))
 
 -- both settings have this number and this alternate
 abbrev pub is_same_setting : Setting → Setting → Bool
@@ -69,11 +69,11 @@ wrong_address address = (bit_and address 0x0f == 0) || not (bit_and address 0x70
 
 -- V7. Two endpoints of one setting have the same address (9.6.5 and 9.6.6).
 abbrev pub repeats_address : List Endpoint → Endpoint → Bool
-repeats_address before e = stands_in (map address_of before) e.address
+repeats_address before e = is_among (map address_of before) e.address
 
 -- the setting is one of another interface, and has an endpoint with this address
 abbrev pub has_elsewhere : ℕ → ℕ → Setting → Bool
-has_elsewhere number address s = not (s.number == number) && stands_in (map address_of s.endpoints) address
+has_elsewhere number address s = not (s.number == number) && is_among (map address_of s.endpoints) address
 
 -- V8. Two interfaces of one set claim the same endpoint address. The alternate settings of one interface may
 -- (9.6.5: the endpoints of an interface are its own within a configuration).
@@ -87,7 +87,7 @@ wrong_attributes c = (bit_and c.attributes 0x80 == 0) || not (bit_and c.attribut
 -- V10, for a set. SET_CONFIGURATION can't select it: bConfigurationValue is 0, which deconfigures, or that of an
 -- earlier set of its part (9.6.3 and 9.4.7).
 abbrev pub wrong_value : List Configuration → Configuration → Bool
-wrong_value before c = (c.value == 0) || stands_in (map value_of before) c.value
+wrong_value before c = (c.value == 0) || is_among (map value_of before) c.value
 
 -- the packet of endpoint zero has a size that the standard doesn't know
 abbrev pub wrong_packet : ℕ → Bool
@@ -120,4 +120,4 @@ wrong_packet_size max_packet = not (bit_and max_packet 0xe000 == 0)
 -- wrap at 256 (engineering change notice on interface association descriptors, table 9-Z).
 abbrev pub binds_missing_interface : List Setting → Association → Bool
 binds_missing_interface settings a =
-    (a.count == 0) || list_any (λ n. not (stands_in (map number_of settings) n)) (range_with_len a.first a.count)
+    (a.count == 0) || list_any (λ n. not (is_among (map number_of settings) n)) (range_with_len a.first a.count)

@@ -3,7 +3,7 @@ ghost use Rattle.std.specs.Prelude.{◌≡◌, ◌++◌, [], map, true, IfOk, On
 ghost use Rattle.usb_base.specs.Marks.{is_marked};
 ghost use Rattle.usb_rules.specs.FindingLine.{rule_number};
 ghost use Rattle.usb_rules.specs.InOrder.{by_rule};
-ghost use Rattle.usb_rules.specs.Places.{stands_in};
+ghost use Rattle.usb_rules.specs.Places.{is_among};
 
 use crate::finding::Finding;
 use crate::place::Place;
@@ -83,7 +83,7 @@ impl Found {
 
     /// Copies the findings of a rule, if it is one of the broken.
     fn copy_of(&self, rule: Rule, numbers: &Marks, out: &mut Vec<Finding>) -> Result<(), AllocError>
-        requires { is_marked numbers.now ≡ stands_in (map (λ f. rule_number f.rule) self.now) }
+        requires { is_marked numbers.now ≡ is_among (map (λ f. rule_number f.rule) self.now) }
         ensures { OnOk result (out.new.items ≡ out.old.items ++ of_rule rule self.now) }
     {
         if !numbers.has(rule.number()) {
@@ -115,7 +115,7 @@ fn is_by_rule(findings: &[Finding]) -> bool
 
 /// The numbers of the rules that are broken.
 fn broken_rules(findings: &[Finding]) -> Marks
-    ensures { is_marked result ≡ stands_in (map (λ f. rule_number f.rule) findings.now) }
+    ensures { is_marked result ≡ is_among (map (λ f. rule_number f.rule) findings.now) }
 {
     let mut numbers = Marks::new();
     for finding in findings {

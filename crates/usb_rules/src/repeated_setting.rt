@@ -12,7 +12,7 @@ use crate::rule::Rule;
 use std::alloc::AllocError;
 use usb_set::Setting;
 
-/// Enters the setting among those that were passed.
+/// Enters the setting among those before it.
 pub(crate) fn check_repeated_setting(
     found: &mut Found,
     interfaces: &mut Interfaces,

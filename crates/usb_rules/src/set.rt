@@ -30,14 +30,14 @@ use usb_set::{Configuration, Endpoint, Setting};
 pub(crate) struct Known {
     /// The interfaces of the whole set.
     whole: Interfaces,
-    passed: Passed,
+    earlier: Earlier,
 }
 
 impl Known {
     pub(crate) fn new(alloc: Global) -> Known {
         Known {
             whole: Interfaces::new(alloc),
-            passed: Passed {
+            earlier: Earlier {
                 interfaces: Interfaces::new(alloc),
                 addresses: Addresses::new(),
             },
@@ -45,9 +45,9 @@ impl Known {
     }
 }
 
-/// What is kept of the settings that the walk has passed.
+/// What is kept of the settings before.
 #[derive(Drop)]
-struct Passed {
+struct Earlier {
     interfaces: Interfaces,
     addresses: Addresses,
 }
@@ -66,15 +66,15 @@ pub(crate) fn check_set_at(
     let may_break = enter_all(&mut known.whole, &c.settings)?;
     let whole = &known.whole;
     check_configuration(found, whole, values, place, c)?;
-    let passed = &mut known.passed;
-    passed.interfaces.clear();
-    passed.addresses.clear();
+    let earlier = &mut known.earlier;
+    earlier.interfaces.clear();
+    earlier.addresses.clear();
     let mut number = check_extras(found, whole, &place, 0, &c.extras)?;
     for (setting, s) in c.settings.iter().enumerate() {
         number = check_setting(
             found,
             whole,
-            passed,
+            earlier,
             may_break,
             place.at_setting(setting),
             number,
@@ -120,22 +120,27 @@ fn check_configuration(
 fn check_setting(
     found: &mut Found,
     whole: &Interfaces,
-    passed: &mut Passed,
+    earlier: &mut Earlier,
     may_break: bool,
     place: Place,
     number: usize,
     s: &Setting,
 ) -> Result<usize, AllocError>
-    ensures reported { OnOk result (found.new ≡ found.old ++ in_setting place (entries whole.now).numbers (entries whole.now).alternates (compared_with may_break (entries passed.old.interfaces)).numbers (compared_with may_break (entries passed.old.interfaces)).alternates (claims passed.old.addresses).elsewhere number s.now) }
-    ensures interfaces { OnOk result (may_break ≡ true → entries passed.new.interfaces ≡ entered place.setting s.now (entries passed.old.interfaces)) }
-    ensures addresses { OnOk result ((claims passed.new.addresses).elsewhere ≡ owned s.now.number s.now.endpoints (claims passed.old.addresses).elsewhere) }
+    ensures reported { OnOk result (found.new ≡ found.old ++ in_setting place (entries whole.now).numbers (entries whole.now).alternates (compared_with may_break (entries earlier.old.interfaces)).numbers (compared_with may_break (entries earlier.old.interfaces)).alternates (claims earlier.old.addresses).elsewhere number s.now) }
+    ensures interfaces { OnOk result (may_break ≡ true → entries earlier.new.interfaces ≡ entered place.setting s.now (entries earlier.old.interfaces)) }
+    ensures addresses { OnOk result ((claims earlier.new.addresses).elsewhere ≡ owned s.now.number s.now.endpoints (claims earlier.old.addresses).elsewhere) }
     ensures next { IfOk result (λ next. next ≡ number + setting_associations s.now) }
 {
-    check_interface(found, whole, &mut passed.interfaces, may_break, place, s)?;
+    check_interface(found, whole, &mut earlier.interfaces, may_break, place, s)?;
     let mut next = check_extras(found, whole, &place, number, &s.extras)?;
-    passed.addresses.begin(s.number);
+    earlier.addresses.begin(s.number);
     for (endpoint, e) in s.endpoints.iter().enumerate() {
-        check_endpoint(found, &mut passed.addresses, place.at_endpoint(endpoint), e)?;
+        check_endpoint(
+            found,
+            &mut earlier.addresses,
+            place.at_endpoint(endpoint),
+            e,
+        )?;
         next = check_extras(found, whole, &place, next, &e.extras)?;
     }
     Ok(next)

@@ -25,6 +25,6 @@ short_byte n = if nat_lt n 16 then drop 1 (encode_lower (n ∷ [])) else encode_
 unfoldable pub release : ℕ → List ℕ
 release n = short_byte (n / 256) ++ codes "." ++ encode_lower (n % 256 ∷ [])
 
--- what a number means, behind it in parentheses
+-- what a number means, after it in parentheses
 abbrev pub meaning : List ℕ → List ℕ
 meaning words = codes " (" ++ words ++ codes ")"

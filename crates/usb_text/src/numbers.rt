@@ -28,7 +28,7 @@ pub fn put_byte_code(text: &mut Text, code: u8) -> Result<(), AllocError>
     text.put_bytes(&digits)
 }
 
-/// Puts a code of one byte, behind which its meaning begins: `0x81 (`.
+/// Puts a code of one byte, after which its meaning begins: `0x81 (`.
 #[tactic(auto, unfolding(crate::specs::Numbers::byte_code))]
 pub fn begin_byte_meaning(text: &mut Text, code: u8) -> Result<(), AllocError>
     ensures { OnOk result (text.new ≡ text.old ++ byte_code code ++ codes " (") }
@@ -50,7 +50,7 @@ pub fn put_word_code(text: &mut Text, code: u16) -> Result<(), AllocError>
     text.put_bytes(&digits)
 }
 
-/// Puts a code of two bytes, behind which its meaning begins: `0x0040 (`.
+/// Puts a code of two bytes, after which its meaning begins: `0x0040 (`.
 #[tactic(auto, unfolding(crate::specs::Numbers::word_code))]
 pub fn begin_word_meaning(text: &mut Text, code: u16) -> Result<(), AllocError>
     ensures { OnOk result (text.new ≡ text.old ++ word_code code ++ codes " (") }

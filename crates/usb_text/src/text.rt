@@ -192,18 +192,18 @@ impl Text {
     pub fn put_column(&mut self, words: &str, width: usize) -> Result<(), AllocError>
         ensures { OnOk result (self.new ≡ self.old ++ column width words.now) }
     {
-        self.put_column_behind(0, words, width)
+        self.put_indented_column(0, words, width)
     }
 
     /// Puts so many spaces, and words in a column of this width.
     ///
     /// ```rust
-    /// text.put_column_behind(2, "> IN", 7)?;
+    /// text.put_indented_column(2, "> IN", 7)?;
     /// assert_eq!(rt; text.as_bytes(), b"  > IN   ");
     /// ```
     #[inline(always)]
     #[tactic(auto, using(crate::proofs::Columns::fewer_spaces, crate::proofs::Columns::length_with_spaces, crate::proofs::Columns::column_within))]
-    pub fn put_column_behind(
+    pub fn put_indented_column(
         &mut self,
         indent: usize,
         words: &str,

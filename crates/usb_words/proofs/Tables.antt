@@ -9,7 +9,7 @@ use Rattle.usb_words.specs.declared.speed_evidence.Evidence.{Evidence}
 use Rattle.usb_words.specs.declared.survey_builder.Gathering.{Gathering}
 use Rattle.usb_words.specs.declared.survey.Survey.{Survey}
 use Rattle.usb_words.specs.Bindings.{binding, bindings, bound_at}
-use Rattle.usb_words.specs.SpeedEvidence.{evidence_of, excludes_low, hints_slow, is_companion, speaks_full, speaks_high}
+use Rattle.usb_words.specs.SpeedEvidence.{evidence_of, excludes_low, hints_low_or_full, is_companion, proves_full, proves_high}
 use Rattle.usb_words.specs.Surveys.{survey_of}
 use Rattle.usb_words.specs.inside.Heard.{Hears}
 use Rattle.usb_words.specs.inside.Gathered.{Gathers}
@@ -31,10 +31,10 @@ whole_table all t len same =
 heard_all : (all : List (List ℕ)) (e : Evidence) → Hears all e [] → e ≡ evidence_of all
 heard_all all e hears =
     let companion : list_any is_companion all ≡ e.companion = hears.companion ∙ or-false e.companion in
-    let high : list_any speaks_high all ≡ e.high = hears.high ∙ or-false e.high in
-    let full : list_any speaks_full all ≡ e.full = hears.full ∙ or-false e.full in
+    let high : list_any proves_high all ≡ e.high = hears.high ∙ or-false e.high in
+    let full : list_any proves_full all ≡ e.full = hears.full ∙ or-false e.full in
     let above_low : list_any excludes_low all ≡ e.above_low = hears.above_low ∙ or-false e.above_low in
-    let slow : list_any hints_slow all ≡ e.slow = hears.slow ∙ or-false e.slow in
+    let slow : list_any hints_low_or_full all ≡ e.slow = hears.slow ∙ or-false e.slow in
     rw (companion, high, full, above_low, slow) refl
 
 -- what was gathered of all descriptors is their survey

@@ -50,13 +50,13 @@ decided_speed background evidence =
     (hinted_speed evidence)
 
 -- bMaxPacketSize0 is 8 at low speed
-abbrev pub is_packet_above_low : Option ℕ → Bool
-is_packet_above_low None = false
-is_packet_above_low (Some packet) = nat_lt 8 packet
+abbrev pub packet_excludes_low : Option ℕ → Bool
+packet_excludes_low None = false
+packet_excludes_low (Some packet) = nat_lt 8 packet
 
 -- a device of low speed has no other one
-abbrev pub is_above_low : Background → Evidence → Bool
-is_above_low background evidence = is_some background.other || is_packet_above_low background.packet || evidence.above_low
+abbrev pub low_is_excluded : Background → Evidence → Bool
+low_is_excluded background evidence = is_some background.other || packet_excludes_low background.packet || evidence.above_low
 
 -- low or full speed is full speed where low speed is excluded
 abbrev pub without_low : Bool → SetSpeed → SetSpeed
@@ -65,4 +65,4 @@ without_low _ speed = speed
 
 -- the speed of a set
 abbrev pub speed_by : Background → Evidence → SetSpeed
-speed_by background evidence = without_low (is_above_low background evidence) (decided_speed background evidence)
+speed_by background evidence = without_low (low_is_excluded background evidence) (decided_speed background evidence)

@@ -41,27 +41,27 @@ is_slow Interrupt interval = nat_lt 16 interval
 is_slow _ interval = false
 
 -- a descriptor that speaks for high speed
-abbrev pub speaks_high : List ℕ → Bool
-speaks_high d = is_endpoint d && is_high (transfer_type_of (slice_index d 3)) (little_endian_at d 4)
+abbrev pub proves_high : List ℕ → Bool
+proves_high d = is_endpoint d && is_high (transfer_type_of (slice_index d 3)) (little_endian_at d 4)
 
 -- one that speaks for full speed
-abbrev pub speaks_full : List ℕ → Bool
-speaks_full d = is_endpoint d && is_full (transfer_type_of (slice_index d 3)) (little_endian_at d 4)
+abbrev pub proves_full : List ℕ → Bool
+proves_full d = is_endpoint d && is_full (transfer_type_of (slice_index d 3)) (little_endian_at d 4)
 
 -- one that low speed can't have
 abbrev pub excludes_low : List ℕ → Bool
 excludes_low d = is_endpoint d && is_above_low (transfer_type_of (slice_index d 3)) (little_endian_at d 4)
 
 -- one that hints at low or full speed by its interval
-abbrev pub hints_slow : List ℕ → Bool
-hints_slow d = is_endpoint d && is_slow (transfer_type_of (slice_index d 3)) (slice_index d 6)
+abbrev pub hints_low_or_full : List ℕ → Bool
+hints_low_or_full d = is_endpoint d && is_slow (transfer_type_of (slice_index d 3)) (slice_index d 6)
 
 -- what descriptors say together
 abbrev pub evidence_of : List (List ℕ) → Evidence
 evidence_of ds = record {
   companion = list_any is_companion ds;
-  high = list_any speaks_high ds;
-  full = list_any speaks_full ds;
+  high = list_any proves_high ds;
+  full = list_any proves_full ds;
   above_low = list_any excludes_low ds;
-  slow = list_any hints_slow ds;
+  slow = list_any hints_low_or_full ds;
 }

@@ -1,6 +1,6 @@
 //! The speed of a set.
 ghost use Rattle.std.specs.Prelude.{◌≡◌, option_and_then};
-ghost use Rattle.usb_words.specs.SetSpeeds.{decided_speed, hinted_speed, is_above_low, is_high_hub, is_packet_above_low, other_speed, proved_speed, speed_by, speed_of_device, speed_of_packet, without_low};
+ghost use Rattle.usb_words.specs.SetSpeeds.{decided_speed, hinted_speed, low_is_excluded, is_high_hub, packet_excludes_low, other_speed, proved_speed, speed_by, speed_of_device, speed_of_packet, without_low};
 
 use crate::speed::SetSpeed;
 use crate::speed_evidence::Evidence;
@@ -57,7 +57,7 @@ pub fn speed_by(background: Background, evidence: Evidence) -> SetSpeed
     ensures { result ≡ speed_by background evidence }
 {
     without_low(
-        is_above_low(background, evidence),
+        low_is_excluded(background, evidence),
         decided_speed(background, evidence),
     )
 }
@@ -85,14 +85,14 @@ fn speed_beside(other: Option<SetSpeed>) -> Option<SetSpeed>
     }
 }
 
-fn is_above_low(background: Background, evidence: Evidence) -> bool
-    ensures { result ≡ is_above_low background evidence }
+fn low_is_excluded(background: Background, evidence: Evidence) -> bool
+    ensures { result ≡ low_is_excluded background evidence }
 {
-    background.other.is_some() || is_packet_above_low(background.packet) || evidence.above_low
+    background.other.is_some() || packet_excludes_low(background.packet) || evidence.above_low
 }
 
-fn is_packet_above_low(packet: Option<u8>) -> bool
-    ensures { result ≡ is_packet_above_low packet }
+fn packet_excludes_low(packet: Option<u8>) -> bool
+    ensures { result ≡ packet_excludes_low packet }
 {
     match packet {
         None => false,
@@ -100,10 +100,10 @@ fn is_packet_above_low(packet: Option<u8>) -> bool
     }
 }
 
-fn without_low(is_excluded: bool, speed: SetSpeed) -> SetSpeed
-    ensures { result ≡ without_low is_excluded speed }
+fn without_low(is_low_excluded: bool, speed: SetSpeed) -> SetSpeed
+    ensures { result ≡ without_low is_low_excluded speed }
 {
-    match (is_excluded, speed) {
+    match (is_low_excluded, speed) {
         (true, SetSpeed::LowOrFull) => SetSpeed::Full,
         _ => speed,
     }

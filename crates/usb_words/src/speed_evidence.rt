@@ -1,6 +1,6 @@
 //! What the descriptors of a set say of its speed.
 ghost use Rattle.std.specs.Prelude.{◌≡◌, ◌∷◌, ℕ, List, false};
-ghost use Rattle.usb_words.specs.SpeedEvidence.{excludes_low, has_multiple, hints_slow, is_above_low, is_companion, is_full, is_high, is_slow, speaks_full, speaks_high};
+ghost use Rattle.usb_words.specs.SpeedEvidence.{excludes_low, has_multiple, hints_low_or_full, is_above_low, is_companion, is_full, is_high, is_slow, proves_full, proves_high};
 ghost use Rattle.usb_words.specs.inside.Heard.{Hears};
 
 use crate::descriptor_types::is_endpoint;
@@ -42,10 +42,10 @@ impl Evidence {
         ensures { (all ds : List (List ℕ)) → Hears all self.old (d.now ∷ ds) → Hears all self.new ds }
     {
         self.companion = self.companion || is_companion(d);
-        self.high = self.high || speaks_high(d);
-        self.full = self.full || speaks_full(d);
+        self.high = self.high || proves_high(d);
+        self.full = self.full || proves_full(d);
         self.above_low = self.above_low || excludes_low(d);
-        self.slow = self.slow || hints_slow(d);
+        self.slow = self.slow || hints_low_or_full(d);
     }
 }
 
@@ -56,14 +56,14 @@ fn is_companion(d: &[u8]) -> bool
     byte_at(d, 1) == 48
 }
 
-fn speaks_high(d: &[u8]) -> bool
-    ensures { result ≡ speaks_high d.now }
+fn proves_high(d: &[u8]) -> bool
+    ensures { result ≡ proves_high d.now }
 {
     is_endpoint(d) && is_high(transfer_type(byte_at(d, 3)), word_at(d, 4))
 }
 
-fn speaks_full(d: &[u8]) -> bool
-    ensures { result ≡ speaks_full d.now }
+fn proves_full(d: &[u8]) -> bool
+    ensures { result ≡ proves_full d.now }
 {
     is_endpoint(d) && is_full(transfer_type(byte_at(d, 3)), word_at(d, 4))
 }
@@ -74,8 +74,8 @@ fn excludes_low(d: &[u8]) -> bool
     is_endpoint(d) && is_above_low(transfer_type(byte_at(d, 3)), word_at(d, 4))
 }
 
-fn hints_slow(d: &[u8]) -> bool
-    ensures { result ≡ hints_slow d.now }
+fn hints_low_or_full(d: &[u8]) -> bool
+    ensures { result ≡ hints_low_or_full d.now }
 {
     is_endpoint(d) && is_slow(transfer_type(byte_at(d, 3)), byte_at(d, 6))
 }

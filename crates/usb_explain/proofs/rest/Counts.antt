@@ -4,7 +4,7 @@ use Rattle.std.specs.List.{list_any}
 use Rattle.std.proofs.Math.Seq.{drop-append_seam, drop-cons, take-append_seam}
 use Rattle.std.proofs.lemmas.Bool.{le-leb, ne_eqb, not-false, or_parts}
 use Rattle.usb_base.specs.Marks.{marked, unmarked}
-use Rattle.usb_rules.specs.Places.{at_each, stands_in, when}
+use Rattle.usb_rules.specs.Places.{at_each, is_among, when}
 use Rattle.usb_rules.specs.Rules.{interface_numbers, is_first, number_of}
 use Rattle.usb_rules.proofs.Entering.{stands_again}
 use Rattle.usb_rules.proofs.Walking.{stands_more}
@@ -211,17 +211,17 @@ when_counted false n ns one none e same = e ∙ same refl
 
 -- they are the interface numbers
 numbers_are : (all ts : List Setting) (j : ℕ) → drop j all ≡ ts
-    → length (at_each (λ i s. when (is_first (take i all) s) s.number) j ts) ≡ numbers_beyond (stands_in (map number_of (take j all))) ts
+    → length (at_each (λ i s. when (is_first (take i all) s) s.number) j ts) ≡ numbers_beyond (is_among (map number_of (take j all))) ts
 numbers_are all [] j e = refl
 numbers_are all (t ∷ ts) j e =
-    let stood = stands_in (map number_of (take j all)) in
+    let stood = is_among (map number_of (take j all)) in
     let many : length (drop j all) ≡ length (t ∷ ts) = ap (λ (l : List Setting). length l) e in
     let below : j < length all = omega (arith, many, length-drop j all) in
     let on : suc j ≡ j + 1 = omega arith in
     let next : t ∷ ts ≡ get_or all j t ∷ drop (j + 1) all = sym e ∙ drop-cons all j t below ∙ ap (λ k. get_or all j t ∷ drop k all) on in
     let is : t ≡ get_or all j t = ap (λ (l : List Setting). get_or l 0 t) next in
     let rest : drop (j + 1) all ≡ ts = sym (ap (λ (l : List Setting). drop 1 l) next) in
-    let more : stands_in (map number_of (take (j + 1) all)) ≡ marked stood t.number = stands_more number_of all j t below is in
+    let more : is_among (map number_of (take (j + 1) all)) ≡ marked stood t.number = stands_more number_of all j t below is in
     when_counted (not (stood t.number)) t.number (at_each (λ i s. when (is_first (take i all) s) s.number) (j + 1) ts)
     (numbers_beyond (marked stood t.number) ts) (numbers_beyond stood ts)
     (numbers_are all ts (j + 1) rest ∙ ap (λ f. numbers_beyond f ts) more)

@@ -1,7 +1,7 @@
 -- Which interface numbers have an address.
 use Rattle.std.specs.Prelude.{ℕ, ◌==◌, ◌&&◌, ◌||◌, not, Bool, true, false, List, map, slice_index_or}
 use Rattle.usb_set.specs.declared.tree.Endpoint.{Endpoint}
-use Rattle.usb_rules.specs.Places.{stands_in}
+use Rattle.usb_rules.specs.Places.{is_among}
 use Rattle.usb_rules.specs.Rules.{address_of}
 use Rattle.usb_base.specs.Marks.{marked, unmarked, is_marked}
 use Rattle.usb_rules.specs.declared.addresses.Owner.{Owner}
@@ -37,7 +37,7 @@ claimed a t = record t { here = marked t.here a; elsewhere = owned_at t.number t
 
 -- the number has the addresses of these endpoints too
 unfoldable pub owned : ℕ → List Endpoint → (ℕ → ℕ → Bool) → ℕ → ℕ → Bool
-owned n endpoints t b m = (not (n == m) && stands_in (map address_of endpoints) b) || t b m
+owned n endpoints t b m = (not (n == m) && is_among (map address_of endpoints) b) || t b m
 
 -- the fields of a value that keeps this
 pub record Table : Type 0 where

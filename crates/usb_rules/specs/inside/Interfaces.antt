@@ -5,7 +5,7 @@ use Rattle.usb_base.specs.Marks.{marked, is_marked}
 use Rattle.usb_set.specs.declared.extra.Association.{Association}
 use Rattle.usb_set.specs.declared.tree.Setting.{Setting}
 use Rattle.usb_rules.specs.declared.interfaces.Interface.{Interface}
-use Rattle.usb_rules.specs.Places.{at_each, stands_in, when}
+use Rattle.usb_rules.specs.Places.{at_each, is_among, when}
 use Rattle.usb_rules.specs.Rules.{is_first, number_of}
 
 -- which interface numbers there are, with which alternates, and where each comes first
@@ -52,7 +52,7 @@ has_alternate settings n a = list_any (λ t. (t.number == n) && (t.alternate == 
 
 -- just these settings were entered
 pub record AreEntered (settings : List Setting) (e : Entered) : Type 0 where
-  pub numbers : e.numbers ≡ stands_in (map number_of settings)
+  pub numbers : e.numbers ≡ is_among (map number_of settings)
   pub alternates : e.alternates ≡ has_alternate settings
   pub firsts : e.firsts ≡ firsts_of settings
 
@@ -67,7 +67,7 @@ AreNew settings i = (j : ℕ) → j < i → (s : Setting) → s ≡ get_or setti
 -- no setting breaks V3 or V4
 pub record NoneBreaksV3OrV4 (settings : List Setting) : Type 0 where
   pub repeated : AreNew settings (length settings)
-  pub defaults : (n : ℕ) → stands_in (map number_of settings) n ≡ true → has_alternate settings n 0 ≡ true
+  pub defaults : (n : ℕ) → is_among (map number_of settings) n ≡ true → has_alternate settings n 0 ≡ true
 
 -- the numbers and alternates that V3 and V4 compare a setting with: those before it, where one may break a rule, and
 -- else such that none does

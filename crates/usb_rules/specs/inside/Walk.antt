@@ -11,7 +11,7 @@ use Rattle.usb_rules.specs.declared.finding.Finding.{Finding}
 use Rattle.usb_rules.specs.declared.place.Place.{Place}
 use Rattle.usb_rules.specs.declared.rule.Rule.{Rule}
 use Rattle.usb_rules.specs.declared.rule.Rule.TheVariants as rules
-use Rattle.usb_rules.specs.Places.{at_each, at_each_counted, finding, stands_in, when}
+use Rattle.usb_rules.specs.Places.{at_each, at_each_counted, finding, is_among, when}
 use Rattle.usb_rules.specs.Rules.{address_of, has_elsewhere, has_number_gap, number_of, value_of, wrong_address, wrong_attributes, wrong_endpoint_count, wrong_interface_count, wrong_packet_size}
 use Rattle.usb_rules.specs.InOrder.{association_count, endpoint_associations, setting_associations}
 use Rattle.usb_rules.specs.inside.Interfaces.{misses_some, has_alternate}
@@ -43,7 +43,7 @@ in_endpoint at here elsewhere e =
 -- at an endpoint of a setting and its extras, by its place and how many associations come before
 abbrev pub endpoint_at : Place → (ℕ → Bool) → (ℕ → ℕ → Bool) → Setting → ℕ → ℕ → Endpoint → List Finding
 endpoint_at at stands elsewhere s k n e =
-    in_endpoint (place at.part at.set at.setting k) (stands_in (map address_of (take k s.endpoints))) (λ b. elsewhere b s.number) e
+    in_endpoint (place at.part at.set at.setting k) (is_among (map address_of (take k s.endpoints))) (λ b. elsewhere b s.number) e
     ++ in_extras at stands n e.extras
 
 -- at an interface, given whether the whole set has an alternate, which numbers and alternates come before
@@ -64,8 +64,8 @@ in_setting at stands whole numbers alternates elsewhere n s =
 -- at a setting of a set, by its place and how many associations come before
 abbrev pub setting_at : Place → List Setting → ℕ → ℕ → Setting → List Finding
 setting_at at settings j n s =
-    in_setting (place at.part at.set j 0) (stands_in (map number_of settings)) (has_alternate settings)
-    (stands_in (map number_of (take j settings))) (has_alternate (take j settings)) (shared_with (take j settings)) n s
+    in_setting (place at.part at.set j 0) (is_among (map number_of settings)) (has_alternate settings)
+    (is_among (map number_of (take j settings))) (has_alternate (take j settings)) (shared_with (take j settings)) n s
 
 -- at the first descriptor of a set, by the values of those before it in its part
 abbrev pub in_configuration : Place → (ℕ → Bool) → Configuration → List Finding
@@ -79,9 +79,9 @@ in_configuration at values c =
 abbrev pub in_set : Place → (ℕ → Bool) → Configuration → List Finding
 in_set at values c =
     in_configuration at values c
-    ++ in_extras at (stands_in (map number_of c.settings)) 0 c.extras
+    ++ in_extras at (is_among (map number_of c.settings)) 0 c.extras
     ++ at_each_counted setting_associations (setting_at at c.settings) 0 (association_count c.extras) c.settings
 
 -- in a set of a part, by its place
 abbrev pub set_at : Part → List Configuration → ℕ → Configuration → List Finding
-set_at part sets i c = in_set (place part i 0 0) (stands_in (map value_of (take i sets))) c
+set_at part sets i c = in_set (place part i 0 0) (is_among (map value_of (take i sets))) c

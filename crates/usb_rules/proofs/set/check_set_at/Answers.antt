@@ -1,6 +1,6 @@
 use Rattle.std.proofs.Common.{◌≡◌, ◌<◌, ◌+◌, ◌++◌, ◌∙◌, false, length, map, get_or, take, ap, sym, subst, arith}
 use Rattle.usb_base.specs.Marks.{marked}
-use Rattle.usb_rules.specs.Places.{at_each_counted, stands_in}
+use Rattle.usb_rules.specs.Places.{at_each_counted, is_among}
 use Rattle.usb_rules.specs.Rules.{number_of}
 use Rattle.usb_rules.specs.InOrder.{association_count, endpoint_associations, setting_associations}
 use Rattle.usb_rules.specs.inside.Addresses.{owned, kept as claims}
@@ -21,10 +21,10 @@ loop-setting-preserved c =
     let all : AreEntered settings whole = subst (λ xs. AreEntered xs whole) c.deref.ensures c.in_ok-may_break.ensures.entered in
     let may_break = c.in_ok-may_break.may_break in
     let keep : may_break ≡ false → NoneBreaksV3OrV4 settings = λ none. subst NoneBreaksV3OrV4 c.deref.ensures (c.in_ok-may_break.ensures.keep none) in
-    let stands = stands_in (map number_of settings) in
-    let before = stands_in (map number_of (take j settings)) in
-    let now = entries c.loop-setting.passed.interfaces in
-    let other = (claims c.loop-setting.passed.addresses).elsewhere in
+    let stands = is_among (map number_of settings) in
+    let before = is_among (map number_of (take j settings)) in
+    let now = entries c.loop-setting.earlier.interfaces in
+    let other = (claims c.loop-setting.earlier.addresses).elsewhere in
     let inv = c.loop-setting.invariant in
     let done = c.in_ok-number-2.ensures in
     let same = c.deref-s-items.ensures in

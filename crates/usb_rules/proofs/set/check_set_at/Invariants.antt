@@ -1,6 +1,6 @@
 use Rattle.std.proofs.Common.{◌≡◌, ◌++◌, true, drop, take, map}
 use Rattle.usb_base.specs.Marks.{is_marked}
-use Rattle.usb_rules.specs.Places.{at_each_counted, stands_in}
+use Rattle.usb_rules.specs.Places.{at_each_counted, is_among}
 use Rattle.usb_rules.specs.Rules.{number_of}
 use Rattle.usb_rules.specs.InOrder.{setting_associations}
 use Rattle.usb_rules.specs.inside.Addresses.{kept as claims}
@@ -11,7 +11,7 @@ use Rattle.usb_rules.proofs.set.check_set_at.Given as goal
 abbrev pub invariant-loop-setting : goal.invariant-loop-setting
 invariant-loop-setting l = record {
   found : l.found ++ at_each_counted setting_associations (setting_at l.place l.c.settings) l.setting l.number (drop l.setting l.c.settings) ≡ l.fn.found ++ in_set l.place (is_marked l.fn.values) l.c;
-  numbers : l.may_break ≡ true → (entries l.passed.interfaces).numbers ≡ stands_in (map number_of (take l.setting l.c.settings));
-  alternates : l.may_break ≡ true → (entries l.passed.interfaces).alternates ≡ has_alternate (take l.setting l.c.settings);
-  elsewhere : (claims l.passed.addresses).elsewhere ≡ shared_with (take l.setting l.c.settings);
+  numbers : l.may_break ≡ true → (entries l.earlier.interfaces).numbers ≡ is_among (map number_of (take l.setting l.c.settings));
+  alternates : l.may_break ≡ true → (entries l.earlier.interfaces).alternates ≡ has_alternate (take l.setting l.c.settings);
+  elsewhere : (claims l.earlier.addresses).elsewhere ≡ shared_with (take l.setting l.c.settings);
 }

@@ -1,7 +1,7 @@
 use Rattle.std.proofs.Common.{◌≡◌, ◌<◌, ◌+◌, ◌++◌, ◌∙◌, length, map, get_or, take, ap, sym, arith, append_assoc}
 use Rattle.usb_base.specs.Marks.{marked}
 use Rattle.usb_base.proofs.Cells.{funext}
-use Rattle.usb_rules.specs.Places.{at_each_counted, stands_in}
+use Rattle.usb_rules.specs.Places.{at_each_counted, is_among}
 use Rattle.usb_rules.specs.Rules.{address_of}
 use Rattle.usb_rules.specs.InOrder.{association_count, endpoint_associations}
 use Rattle.usb_rules.specs.inside.Addresses.{owned, owned_at, kept as claims}
@@ -15,8 +15,8 @@ loop-endpoint-init c =
     let s = c.args.s.now in
     let old = c.args.found.now in
     let stands = (entries c.args.whole.now).numbers in
-    let before = compared_with c.args.may_break (entries c.args.passed.now.interfaces) in
-    let other = (claims c.args.passed.now.addresses).elsewhere in
+    let before = compared_with c.args.may_break (entries c.args.earlier.now.interfaces) in
+    let other = (claims c.args.earlier.now.addresses).elsewhere in
     let at = in_interface c.args.place (entries c.args.whole.now).alternates before.numbers before.alternates s in
     let extras = in_extras c.args.place stands c.args.number s.extras in
     let next : c.in_ok-next.next ≡ c.args.number + association_count s.extras = c.in_ok-next.ensures.next in
@@ -38,11 +38,11 @@ loop-endpoint-preserved c =
     let e = c.e-item.result in
     let old = c.loop-endpoint.found in
     let stands = (entries c.args.whole.now).numbers in
-    let other = (claims c.args.passed.now.addresses).elsewhere in
-    let now = claims c.loop-endpoint.passed.addresses in
+    let other = (claims c.args.earlier.now.addresses).elsewhere in
+    let now = claims c.loop-endpoint.earlier.addresses in
     let inv = c.loop-endpoint.invariant in
     let p = place c.args.place.part c.args.place.set c.args.place.setting k in
-    let here = stands_in (map address_of (take k s.endpoints)) in
+    let here = is_among (map address_of (take k s.endpoints)) in
     let same = c.deref-e-items.ensures in
     let long = ap length same in
     let below : k < length s.endpoints = omega (arith, long, c.loop-endpoint-test.true) in

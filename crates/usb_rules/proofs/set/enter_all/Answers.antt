@@ -1,6 +1,6 @@
 use Rattle.std.proofs.Common.{◌<◌, ◌++◌, ◌∙◌, not, length, map, ap, sym, arith}
 use Rattle.usb_base.specs.Marks.{marked}
-use Rattle.usb_rules.specs.Places.{stands_in, when}
+use Rattle.usb_rules.specs.Places.{is_among, when}
 use Rattle.usb_rules.specs.Rules.{number_of}
 use Rattle.usb_rules.specs.inside.Interfaces.{first_at, pair_too, kept as entries, has_alternate}
 use Rattle.usb_rules.proofs.Walking.{at_each_next, new_more, stands_more, alternate_more, take_all}
@@ -33,5 +33,5 @@ returns-else-again-clause-keep c = λ none.
       repeated = λ j below. inv.keep c.if-again.false j (omega (arith, below, c.loop-setting-test.false));
       defaults = λ n there.
           sym (ap (λ f. f n 0) (inv.alternates ∙ ap has_alternate all))
-          ∙ c.lacks_default.ensures none n (ap (λ f. f n) (inv.numbers ∙ ap (λ xs. stands_in (map number_of xs)) all) ∙ there);
+          ∙ c.lacks_default.ensures none n (ap (λ f. f n) (inv.numbers ∙ ap (λ xs. is_among (map number_of xs)) all) ∙ there);
     }

@@ -1,12 +1,12 @@
 use Rattle.std.proofs.Common.{◌≡◌, ◌++◌, false, drop, take, map}
-use Rattle.usb_rules.specs.Places.{at_each, stands_in}
+use Rattle.usb_rules.specs.Places.{at_each, is_among}
 use Rattle.usb_rules.specs.Rules.{number_of}
 use Rattle.usb_rules.specs.inside.Interfaces.{AreNew, first_at, firsts_of, kept as entries, has_alternate}
 use Rattle.usb_rules.proofs.set.enter_all.Given as goal
 
 abbrev pub invariant-loop-setting : goal.invariant-loop-setting
 invariant-loop-setting l = record {
-  numbers : (entries l.interfaces).numbers ≡ stands_in (map number_of (take l.setting l.settings));
+  numbers : (entries l.interfaces).numbers ≡ is_among (map number_of (take l.setting l.settings));
   alternates : (entries l.interfaces).alternates ≡ has_alternate (take l.setting l.settings);
   firsts : (entries l.interfaces).firsts ++ at_each (first_at l.settings) l.setting (drop l.setting l.settings) ≡ firsts_of l.settings;
   keep : l.again ≡ false → AreNew l.settings l.setting;
