@@ -12,6 +12,7 @@ compares what it writes (.ci/readings).
 """
 
 import os
+import re
 import sys
 
 import checking
@@ -21,6 +22,9 @@ LOW, FULL, HIGH, SUPER = "low speed", "full speed", "high speed", "SuperSpeed"
 LOW_OR_FULL, FULL_OR_HIGH = "low or full speed", "full or high speed"
 AT = {"low": LOW, "full": FULL, "high": HIGH, "super": SUPER}
 OTHER_SPEED = {FULL: HIGH, HIGH: FULL}
+TEXT = "\t\n\r" + "".join(map(chr, range(0x20, 0x7F)))
+# Two items, each with one byte of data or two: a Usage Page, and a Usage.
+REPORT = re.compile(rb"(\x05.|\x06..)(\x09.|\x0a..)", re.DOTALL)
 TRANSFERS = ("control", "isochronous", "bulk", "interrupt")
 
 
@@ -495,6 +499,27 @@ class Explanation:
             or (d[1] == 3 and len(d) % 2 == 0 and (len(d) >= 4 or self.languages is not None))
         )
 
+    # What a broken input looks like
+
+    def likeness(self):
+        """What bytes that are no input look like, which are not read as a set: in words, if they look like anything."""
+        b, (place, line) = self.data, self.fault
+        if b[1:2] in (b"\x02", b"\x07"):
+            return
+        if not b:
+            yield "there are no bytes"
+        elif all(chr(x) in TEXT for x in b):
+            yield "this is text; explain reads the bytes of descriptors, or their hexadecimal digits"
+        elif line.startswith("file fault 5 ") and is_dump(b[:place]):
+            follow = len(b) - place
+            yield f"the dump ends here, and {count(follow, 'byte')} follow{'s' if follow == 1 else ''}"
+        elif len(b) >= 5 and b[:2] == bytes([5, 15]):
+            yield "this looks like a BOS descriptor alone"
+        elif b[:2] == bytes([len(b) % 256, 3]) and len(b) < 256 and len(b) % 2 == 0:
+            yield "this looks like a string descriptor alone"
+        elif REPORT.match(b):
+            yield "this looks like a report descriptor"
+
     def text(self):
         names = {"set": "set", "file": "file", "dump": "device and its sets without strings"}
         if self.fault:
@@ -516,6 +541,7 @@ class Explanation:
             at += len(d)
         if self.fault:
             self.lines.append(f"  ! {self.fault[1]}")
+            self.lines += [f"  ? {words}" for words in self.likeness()]
         rest = self.data[at:]
         if rest:
             self.heading(0, "the rest", at, len(rest))
@@ -524,6 +550,13 @@ class Explanation:
         if not self.fault:
             self.lines.append(count(len(self.found), "finding") if self.found else "no findings")
         return "".join(line + "\n" for line in self.lines)
+
+
+def is_dump(data):
+    """Whether bytes that end where a string descriptor is due are a dump, and none of its strings."""
+    reader = checking.reading.Reader(data, True)
+    reader.dump()
+    return reader.at == len(data) and bool(reader.named)
 
 
 def causes(*causes):

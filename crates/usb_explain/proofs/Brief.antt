@@ -11,7 +11,7 @@ use Rattle.usb_explain.specs.declared.manner.Manner.{Manner}
 use Rattle.usb_explained_lines.specs.declared.role.Role.{Role}
 use Rattle.usb_explain.specs.declared.position.Standing.{Standing}
 use Rattle.usb_explain.specs.Explanations.{broken_end, broken_explanation, broken_name, explanation, first_line, input_name, last_line, whole_end, whole_text}
-use Rattle.usb_explain.specs.Faults.{fault_text, place_of_fault}
+use Rattle.usb_explain.specs.Faults.{fault_lines, place_of_fault}
 use Rattle.usb_explain.specs.Findings.{found_at, role_findings}
 use Rattle.usb_explain.specs.Contexts.{context_of}
 use Rattle.usb_explain.specs.Laws.{BrokenLeavesOutFields, LeavesOutFields, Shown, WholeLeavesOutFields, context_at, fields_of, head_of, lines_of, rest_bytes, rest_head, with_fields, without_fields}
@@ -158,7 +158,7 @@ broken_leaves_out manner fault b =
     let subject = broken_subject manner in
     let long = with_look (brief_if false manner.look) subject in
     let short = with_look (brief_if true manner.look) subject in
-    leaves_out subject b (take (place_of_fault fault) b) (first_line (broken_name b) (length b)) (fault_text fault) []
+    leaves_out subject b (take (place_of_fault fault) b) (first_line (broken_name b) (length b)) (fault_lines fault b) []
     (broken_explanation (with_fields manner) fault b) (broken_explanation (without_fields manner) fault b) (length (take (place_of_fault fault) b))
     (broken_end long fault b) (broken_end short fault b) (broken_ends long fault b) (broken_ends short fault b)
     (broken_is long fault b) (broken_is short fault b)

@@ -1,5 +1,5 @@
 -- The lines of all descriptors of an input, one after another.
-use Rattle.std.specs.Prelude.{ℕ, zero, suc, List, [], ◌∷◌, ◌+◌, ◌++◌, length, take, drop, unwrap_or}
+use Rattle.std.specs.Prelude.{ℕ, zero, suc, List, ◌+◌, ◌++◌, length, take, drop, unwrap_or}
 use Rattle.std.specs.Option.{option_map}
 use Rattle.usb_explained_lines.specs.Descriptors.{fields, heading}
 use Rattle.usb_explained_lines.specs.declared.role.Role.{Role}

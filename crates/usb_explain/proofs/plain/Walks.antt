@@ -99,12 +99,11 @@ pub broken_name_plain : (b : List ℕ) → Printable (broken_name b)
 broken_name_plain b = simp parts refl
 
 pub in_lines : (subject : Subject) (front b first before_rest last text : List ℕ) → SubjectFits subject → AreBytes b → AreBytes front
-    → EachByteOnce subject front b first before_rest last text → IsLine first → IsLine (before_rest ++ last)
+    → EachByteOnce subject front b first before_rest last text → IsLine first
     → InLines subject front b first before_rest last text
-in_lines subject front b first before_rest last text fit h k once first_so last_so = record {
+in_lines subject front b first before_rest last text fit h k once first_so = record {
   once = once;
   begins = first_so;
   blocks = blocks_are_lines subject once.shown front (drop once.end front) fit once.cut k;
   rest = rest_is_lines subject once.end (drop once.end b) (bytes_back once.end b h);
-  ends = last_so;
 }
