@@ -11,7 +11,7 @@ use usb_set::TransferType;
 use usb_text::{Text, put_count};
 
 /// The transfer type by bits 1..0 of bmAttributes (USB 2.0, 9.6.6).
-pub(crate) fn transfer_type(attributes: u8) -> TransferType
+pub fn transfer_type(attributes: u8) -> TransferType
     ensures { result ≡ transfer_type_of attributes }
 {
     match attributes % 4 {

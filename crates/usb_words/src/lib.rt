@@ -26,7 +26,7 @@ mod survey_builder;
 pub use bindings::Bindings;
 pub use counts::endpoint_count;
 pub use cut::descriptor_length;
-pub use endpoint::{put_attributes, put_end, put_size};
+pub use endpoint::{put_attributes, put_end, put_size, transfer_type};
 pub use interval::{is_periodic, put_interval};
 pub use names::{
     put_class, put_class_words, put_function_class, put_function_class_words, put_protocol,
