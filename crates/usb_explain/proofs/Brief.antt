@@ -7,6 +7,7 @@ use Rattle.usb_explained_lines.specs.declared.context.Context.{Context}
 use Rattle.usb_explained_lines.specs.declared.look.Look.{Look}
 use Rattle.usb_explained_lines.specs.Descriptors.{field_lines, fields, heading}
 use Rattle.usb_explained_lines.specs.Lines.{heading_line}
+use Rattle.usb_remarks.specs.Lines.{remark_lines}
 use Rattle.usb_explain.specs.declared.manner.Manner.{Manner}
 use Rattle.usb_explained_lines.specs.declared.role.Role.{Role}
 use Rattle.usb_explain.specs.declared.position.Standing.{Standing}
@@ -50,15 +51,15 @@ findings_same : (look : Look) (subject : Subject) (s : Standing) (role : Role) (
 unfolding role_findings found_at
 findings_same look subject s role d behind = refl
 
--- the lines of a descriptor are its heading and findings, and then its fields
+-- the lines of a descriptor are its heading, findings and remarks, and then its fields
 head_same : (brief : Bool) (subject : Subject) (d : Shown)
     → head_of (with_look (brief_if brief subject.manner.look) subject) d ≡ head_of subject d
 head_same brief subject d =
-    ap (λ context. heading (brief_if brief subject.manner.look) d.role context d.bytes d.standing.at ++ role_findings (with_look (brief_if brief subject.manner.look) subject) d.standing d.role d.bytes d.behind)
+    ap (λ context. heading (brief_if brief subject.manner.look) d.role context d.bytes d.standing.at ++ role_findings (with_look (brief_if brief subject.manner.look) subject) d.standing d.role d.bytes d.behind ++ remark_lines d.role context d.bytes)
     (context_same (brief_if brief subject.manner.look) subject d.standing d.role d.bytes)
-    ∙ ap (λ l. l ++ role_findings (with_look (brief_if brief subject.manner.look) subject) d.standing d.role d.bytes d.behind)
+    ∙ ap (λ l. l ++ role_findings (with_look (brief_if brief subject.manner.look) subject) d.standing d.role d.bytes d.behind ++ remark_lines d.role (context_at subject d) d.bytes)
     (heading_same brief subject.manner.look d.role (context_at subject d) d.bytes d.standing.at)
-    ∙ ap (λ l. heading subject.manner.look d.role (context_at subject d) d.bytes d.standing.at ++ l)
+    ∙ ap (λ l. heading subject.manner.look d.role (context_at subject d) d.bytes d.standing.at ++ l ++ remark_lines d.role (context_at subject d) d.bytes)
     (findings_same (brief_if brief subject.manner.look) subject d.standing d.role d.bytes d.behind)
 
 lines_are : (subject : Subject) (d : Shown)

@@ -18,6 +18,9 @@ use Rattle.usb_explained_lines.specs.declared.told.Told.{Told}
 use Rattle.usb_explained_lines.specs.declared.context.Context.{Context}
 use Rattle.usb_explained_lines.specs.Descriptors.{field_lines, fields, heading}
 use Rattle.usb_explained_lines.specs.Rest.{rest_fields, rest_heading, rest_line, rest_lines}
+use Rattle.usb_remarks.specs.declared.remark.Remark.{Remark}
+use Rattle.usb_remarks.specs.Lines.{remark_line, remark_lines}
+use Rattle.usb_remarks.specs.Remarks.{remarks_on}
 use Rattle.usb_explain.specs.declared.manner.Manner.{Manner}
 use Rattle.usb_explained_lines.specs.declared.role.Role.{Role}
 use Rattle.usb_explain.specs.declared.position.Standing.{Standing}
@@ -41,11 +44,16 @@ pub record Shown : Type 0 where
 abbrev pub context_at : Subject → Shown → Context
 context_at subject d = context_of subject d.standing d.role d.bytes
 
--- its heading, with its place and its length, and what it breaks
+-- what is remarked of it
+abbrev pub remarks_of : Subject → Shown → List Remark
+remarks_of subject d = remarks_on d.role (context_at subject d).speed d.bytes
+
+-- its heading, with its place and its length, what it breaks, and what is remarked of it
 abbrev pub head_of : Subject → Shown → List ℕ
 head_of subject d =
     heading subject.manner.look d.role (context_at subject d) d.bytes d.standing.at
     ++ role_findings subject d.standing d.role d.bytes d.behind
+    ++ remark_lines d.role (context_at subject d) d.bytes
 
 -- its lines: after those the lines of its fields, where they are shown
 abbrev pub lines_of : Subject → Shown → List ℕ
@@ -205,7 +213,7 @@ rest_bytes [] = []
 rest_bytes (x ∷ rest) = rest_line (x ∷ rest)
 
 -- Two texts about the same descriptors: the one has their fields, and the other is the one without them. Both have the same
--- first line, headings and findings, then the same lines before the rest, its heading, and the same last line.
+-- first line, headings, findings and remarks, then the same lines before the rest, its heading, and the same last line.
 pub record LeavesOutFields (subject : Subject) (bytes first before_rest last one other : List ℕ) : Type 0 where
   pub shown : List Shown
   pub end : ℕ
@@ -227,12 +235,14 @@ BrokenLeavesOutFields =
     LeavesOutFields (broken_subject manner) b (first_line (broken_name b) (length b)) (fault_lines fault b) []
     (broken_explanation (with_fields manner) fault b) (broken_explanation (without_fields manner) fault b)
 
--- the heading of a descriptor is a line, each of its fields is said in one, and each finding reported there has one
+-- the heading of a descriptor is a line, each of its fields is said in one, and each finding reported there has one, as has
+-- each remark
 abbrev pub BlockIsLines : Subject → Shown → Type 0
 BlockIsLines subject d =
     IsLine (heading subject.manner.look d.role (context_at subject d) d.bytes d.standing.at)
     × SayFields (depth_of d.standing d.role) (fields subject.manner.look subject.names d.role (context_at subject d) d.bytes)
     × AllByRecursion (λ f. IsLine (line_of subject.is_dump d.standing d.role d.bytes d.behind f)) (findings_of subject d)
+    × AllByRecursion (λ r. IsLine (remark_line (context_at subject d).depth r)) (remarks_of subject d)
 
 -- so it is of the rest, if bytes are left
 abbrev pub RestIsLines : Subject → ℕ → List ℕ → Type 0

@@ -13,7 +13,7 @@ use Rattle.usb_explained_lines.specs.declared.role.Role.{Role}
 use Rattle.usb_explain.specs.declared.position.Standing.{Standing}
 use Rattle.usb_explain.specs.Explanations.{broken_name, first_line, last_line}
 use Rattle.usb_explain.specs.Contexts.{context_of, depth_of}
-use Rattle.usb_explain.specs.Laws.{BlockIsLines, Cut, EachByteOnce, InLines, RestIsLines, Shown, context_at, findings_of}
+use Rattle.usb_explain.specs.Laws.{BlockIsLines, Cut, EachByteOnce, InLines, RestIsLines, Shown, context_at, findings_of, remarks_of}
 use Rattle.usb_explain.specs.Lines.{IsLine, SayFields}
 use Rattle.usb_explain.specs.Subjects.{Subject, place_among, place_by}
 use Rattle.usb_explain.proofs.rest.Walks.{tells_own}
@@ -22,6 +22,7 @@ use Rattle.usb_explain.proofs.plain.Words.{count_plain}
 use Rattle.usb_explain.proofs.plain.Fields.{AreFit, MaybeFit}
 use Rattle.usb_explain.proofs.plain.Lines.{PlaceFits, fields_say, heading_of_role, rest_fields_say, rest_heading_is_line}
 use Rattle.usb_explain.proofs.plain.Findings.{each_told}
+use Rattle.usb_explain.proofs.plain.Remarks.{each_remarked}
 
 -- the strings of a subject have numbers of two bytes
 abbrev pub SubjectFits : Subject → Type 0
@@ -76,6 +77,7 @@ blocks_are_lines subject (d ∷ ds) b rest fit cut h =
         heading_of_role subject.manner.look d.role (context_at subject d) d.bytes d.standing.at (context_fits subject d.standing d.role d.bytes fit) bytes,
         fields_say_here subject d fit bytes,
         each_told subject.is_dump d.standing d.role d.bytes d.behind (findings_of subject d) (tells_own subject d),
+        each_remarked (context_at subject d).depth (remarks_of subject d),
       ),
       blocks_are_lines subject ds d.behind rest fit cut.2 (bytes_behind d.bytes d.behind parts),
     )
