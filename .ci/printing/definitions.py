@@ -8,7 +8,7 @@ from . import sources
 STANDARD = """
 usb_base/Bytes usb_base/Directions usb_base/Fields usb_fields/Fault usb_fields/Device usb_fields/Qualifier usb_fields/Units
 usb_fields/Setup usb_fields/Packet usb_fields/Packets usb_set/Descriptors usb_set/Parts usb_set/Owners usb_set/Layout
-usb_set/Endpoints usb_file_data/Named usb_file_data/StringPlaces usb_rules/Places usb_rules/Rules usb_description/Descriptors
+usb_set/Endpoints usb_remarks/Remarks usb_file_data/Named usb_file_data/StringPlaces usb_rules/Places usb_rules/Rules usb_description/Descriptors
 usb_description/Described usb_device/States usb_device/Requests usb_device/Step usb_device/Beside usb_device/View
 usb_transfer/Transfer usb_host/Requests usb_host/Read usb_host/Order
 """.split()

@@ -12,6 +12,7 @@ compares what it writes (.ci/readings).
 """
 
 import os
+import re
 import sys
 
 import checking
@@ -21,7 +22,24 @@ LOW, FULL, HIGH, SUPER = "low speed", "full speed", "high speed", "SuperSpeed"
 LOW_OR_FULL, FULL_OR_HIGH = "low or full speed", "full or high speed"
 AT = {"low": LOW, "full": FULL, "high": HIGH, "super": SUPER}
 OTHER_SPEED = {FULL: HIGH, HIGH: FULL}
+TEXT = "\t\n\r" + "".join(map(chr, range(0x20, 0x7F)))
+# Two items, each with one byte of data or two: a Usage Page, and a Usage.
+REPORT = re.compile(rb"(\x05.|\x06..)(\x09.|\x0a..)", re.DOTALL)
 TRANSFERS = ("control", "isochronous", "bulk", "interrupt")
+# The speeds that may be meant, where there are two.
+OPEN = {LOW_OR_FULL: (LOW, FULL), FULL_OR_HIGH: (FULL, HIGH)}
+# The sizes of packets and the intervals of each type at each speed.
+SMALL = (8, 16, 32, 64)
+SIZES = {
+    "control": {LOW: (8,), FULL: SMALL, HIGH: (64,)},
+    "isochronous": {LOW: (), FULL: range(1024), HIGH: range(1025)},
+    "bulk": {LOW: (), FULL: SMALL, HIGH: (512,)},
+    "interrupt": {LOW: range(9), FULL: range(65), HIGH: range(1025)},
+}
+INTERVALS = {
+    "isochronous": dict.fromkeys((FULL, HIGH, SUPER), range(1, 17)),
+    "interrupt": {LOW: range(10, 256), FULL: range(1, 256), HIGH: range(1, 17), SUPER: range(1, 17)},
+}
 
 
 def read_classes():
@@ -49,6 +67,10 @@ def read_rows():
 
 
 CLASSES, ROWS = read_classes(), read_rows()
+
+
+def with_article(noun):
+    return f"an {noun}" if noun[0] in "aeiou" else f"a {noun}"
 
 
 def count(n, noun):
@@ -136,6 +158,58 @@ def interval_words(attributes, n, speed):
         slow = f"{n} ms" if n else "out of range"
     fast = power_of_two(n, 125)
     return {HIGH: fast, SUPER: fast, FULL_OR_HIGH: f"{slow}; at high speed {fast}"}.get(speed, slow)
+
+
+def wrong_at(table, n, speed):
+    """The values that are right at a speed, or at one of two, where n is none of them; None where there is nothing wrong."""
+    right = [table.get(one) for one in OPEN.get(speed, (speed,))]
+    if any(values is None or n in values for values in right):
+        return None
+    return sorted(set().union(*right))
+
+
+def interval_remark(transfer, n, speed):
+    right = wrong_at(INTERVALS.get(transfer, {}), n, speed)
+    return right and f"{with_article(transfer)} interval is {right[0]} to {right[-1]} at {speed}"
+
+
+def size_remark(transfer, n, speed):
+    right = wrong_at(SIZES[transfer], n, speed)
+    if right is None:
+        return None
+    if not right:
+        return f"{speed} has no {transfer} endpoints"
+    first = ", ".join(map(str, right[:-1]))
+    words = f"at most {right[-1]}" if right[0] == 0 else f"{first} or {right[-1]}" if first else right[-1]
+    return f"{with_article(transfer)} packet is {words} bytes at {speed}"
+
+
+def multiple_remark(transfer, more, speed):
+    """Of bits 12 to 11 of wMaxPacketSize."""
+    if HIGH in OPEN.get(speed, (speed,)) and transfer in INTERVALS:
+        return "3 in bits 12 to 11 of wMaxPacketSize is reserved" if more == 3 else None
+    return "bits 12 to 11 of wMaxPacketSize are reserved here" if more else None
+
+
+def attributes_remark(transfer, a, speed):
+    if transfer == "isochronous":
+        if a & 0x30 == 0x30:
+            return "usage 3 is reserved"
+    elif a & (0x2C if (transfer, speed) == ("interrupt", SUPER) else 0x3C):
+        return "bits 5 to 2 of bmAttributes are reserved here"
+    return "bits 7 to 6 of bmAttributes are reserved" if a & 0xC0 else None
+
+
+def endpoint_remarks(d, speed):
+    transfer, size = TRANSFERS[d[3] % 4], little(d[4:6])
+    yield interval_remark(transfer, d[6], speed)
+    yield size_remark(transfer, size & 0x7FF, speed)
+    yield multiple_remark(transfer, size >> 11 & 3, speed)
+    yield attributes_remark(transfer, d[3], speed)
+
+
+def class_remarks(class_):
+    return ["class 0x00 is reserved for future use"] if class_ == 0 else []
 
 
 def proves_high(kind, size):
@@ -276,6 +350,11 @@ class Explanation:
 
     def finding(self, depth, rule, text):
         self.lines.append(" " * (2 * depth + 2) + f"! V{rule} {text}")
+
+    def remarks(self, depth, texts):
+        for text in texts:
+            if text:
+                self.lines.append(" " * (2 * depth + 2) + f"? {text}")
 
     def fields(self, depth, fields):
         if not self.brief:
@@ -424,6 +503,7 @@ class Explanation:
         self.heading(2, f"association {place[2]} of {bound}, {function_class_words(d[4:7])}", at, len(d))
         wrong = "it binds an interface that the set hasn't" if n else "it binds no interface"
         self.findings(2, [(13, wrong)], *place)
+        self.remarks(2, class_remarks(d[4]))
         fields = [("bFirstInterface", first), ("bInterfaceCount", n), *class_fields("bFunction", d[4:7])]
         self.fields(2, [*fields, ("iFunction", self.index(d[7])), *tail(d[8:])])
 
@@ -438,6 +518,7 @@ class Explanation:
             (5, f"bNumEndpoints is {d[4]}, and the setting has {count(endpoints, 'endpoint')}"),
         ]
         self.findings(2, texts, *place)
+        self.remarks(2, class_remarks(d[5]))
         fields = [("bInterfaceNumber", d[2]), ("bAlternateSetting", d[3]), ("bNumEndpoints", d[4])]
         self.fields(2, [*fields, *class_fields("bInterface", d[5:8]), ("iInterface", self.index(d[8])), *tail(d[9:])])
 
@@ -454,6 +535,7 @@ class Explanation:
             (12, "bits 15 to 13 of wMaxPacketSize aren't zero"),
         ]
         self.findings(3, texts, *place)
+        self.remarks(3, endpoint_remarks(d, speed))
         fields = [
             ("bEndpointAddress", f"{byte(d[2])} ({end(d[2], d[3])})"),
             ("bmAttributes", f"{byte(d[3])} ({attribute_words(d[3])})"),
@@ -495,6 +577,27 @@ class Explanation:
             or (d[1] == 3 and len(d) % 2 == 0 and (len(d) >= 4 or self.languages is not None))
         )
 
+    # What a broken input looks like
+
+    def likeness(self):
+        """What bytes that are no input look like, which are not read as a set: in words, if they look like anything."""
+        b, (place, line) = self.data, self.fault
+        if b[1:2] in (b"\x02", b"\x07"):
+            return
+        if not b:
+            yield "there are no bytes"
+        elif all(chr(x) in TEXT for x in b):
+            yield "this is text; explain reads the bytes of descriptors, or their hexadecimal digits"
+        elif line.startswith("file fault 5 ") and is_dump(b[:place]):
+            follow = len(b) - place
+            yield f"the dump ends here, and {count(follow, 'byte')} follow{'s' if follow == 1 else ''}"
+        elif len(b) >= 5 and b[:2] == bytes([5, 15]):
+            yield "this looks like a BOS descriptor alone"
+        elif b[:2] == bytes([len(b) % 256, 3]) and len(b) < 256 and len(b) % 2 == 0:
+            yield "this looks like a string descriptor alone"
+        elif REPORT.match(b):
+            yield "this looks like a report descriptor"
+
     def text(self):
         names = {"set": "set", "file": "file", "dump": "device and its sets without strings"}
         if self.fault:
@@ -516,6 +619,7 @@ class Explanation:
             at += len(d)
         if self.fault:
             self.lines.append(f"  ! {self.fault[1]}")
+            self.lines += [f"  ? {words}" for words in self.likeness()]
         rest = self.data[at:]
         if rest:
             self.heading(0, "the rest", at, len(rest))
@@ -524,6 +628,13 @@ class Explanation:
         if not self.fault:
             self.lines.append(count(len(self.found), "finding") if self.found else "no findings")
         return "".join(line + "\n" for line in self.lines)
+
+
+def is_dump(data):
+    """Whether bytes that end where a string descriptor is due are a dump, and none of its strings."""
+    reader = checking.reading.Reader(data, True)
+    reader.dump()
+    return reader.at == len(data) and bool(reader.named)
 
 
 def causes(*causes):

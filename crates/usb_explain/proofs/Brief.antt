@@ -7,11 +7,12 @@ use Rattle.usb_explained_lines.specs.declared.context.Context.{Context}
 use Rattle.usb_explained_lines.specs.declared.look.Look.{Look}
 use Rattle.usb_explained_lines.specs.Descriptors.{field_lines, fields, heading}
 use Rattle.usb_explained_lines.specs.Lines.{heading_line}
+use Rattle.usb_remarks.specs.Lines.{remark_lines}
 use Rattle.usb_explain.specs.declared.manner.Manner.{Manner}
 use Rattle.usb_explained_lines.specs.declared.role.Role.{Role}
 use Rattle.usb_explain.specs.declared.position.Standing.{Standing}
 use Rattle.usb_explain.specs.Explanations.{broken_end, broken_explanation, broken_name, explanation, first_line, input_name, last_line, whole_end, whole_text}
-use Rattle.usb_explain.specs.Faults.{fault_text, place_of_fault}
+use Rattle.usb_explain.specs.Faults.{fault_lines, place_of_fault}
 use Rattle.usb_explain.specs.Findings.{found_at, role_findings}
 use Rattle.usb_explain.specs.Contexts.{context_of}
 use Rattle.usb_explain.specs.Laws.{BrokenLeavesOutFields, LeavesOutFields, Shown, WholeLeavesOutFields, context_at, fields_of, head_of, lines_of, rest_bytes, rest_head, with_fields, without_fields}
@@ -50,15 +51,15 @@ findings_same : (look : Look) (subject : Subject) (s : Standing) (role : Role) (
 unfolding role_findings found_at
 findings_same look subject s role d behind = refl
 
--- the lines of a descriptor are its heading and findings, and then its fields
+-- the lines of a descriptor are its heading, findings and remarks, and then its fields
 head_same : (brief : Bool) (subject : Subject) (d : Shown)
     → head_of (with_look (brief_if brief subject.manner.look) subject) d ≡ head_of subject d
 head_same brief subject d =
-    ap (λ context. heading (brief_if brief subject.manner.look) d.role context d.bytes d.standing.at ++ role_findings (with_look (brief_if brief subject.manner.look) subject) d.standing d.role d.bytes d.behind)
+    ap (λ context. heading (brief_if brief subject.manner.look) d.role context d.bytes d.standing.at ++ role_findings (with_look (brief_if brief subject.manner.look) subject) d.standing d.role d.bytes d.behind ++ remark_lines d.role context d.bytes)
     (context_same (brief_if brief subject.manner.look) subject d.standing d.role d.bytes)
-    ∙ ap (λ l. l ++ role_findings (with_look (brief_if brief subject.manner.look) subject) d.standing d.role d.bytes d.behind)
+    ∙ ap (λ l. l ++ role_findings (with_look (brief_if brief subject.manner.look) subject) d.standing d.role d.bytes d.behind ++ remark_lines d.role (context_at subject d) d.bytes)
     (heading_same brief subject.manner.look d.role (context_at subject d) d.bytes d.standing.at)
-    ∙ ap (λ l. heading subject.manner.look d.role (context_at subject d) d.bytes d.standing.at ++ l)
+    ∙ ap (λ l. heading subject.manner.look d.role (context_at subject d) d.bytes d.standing.at ++ l ++ remark_lines d.role (context_at subject d) d.bytes)
     (findings_same (brief_if brief subject.manner.look) subject d.standing d.role d.bytes d.behind)
 
 lines_are : (subject : Subject) (d : Shown)
@@ -158,7 +159,7 @@ broken_leaves_out manner fault b =
     let subject = broken_subject manner in
     let long = with_look (brief_if false manner.look) subject in
     let short = with_look (brief_if true manner.look) subject in
-    leaves_out subject b (take (place_of_fault fault) b) (first_line (broken_name b) (length b)) (fault_text fault) []
+    leaves_out subject b (take (place_of_fault fault) b) (first_line (broken_name b) (length b)) (fault_lines fault b) []
     (broken_explanation (with_fields manner) fault b) (broken_explanation (without_fields manner) fault b) (length (take (place_of_fault fault) b))
     (broken_end long fault b) (broken_end short fault b) (broken_ends long fault b) (broken_ends short fault b)
     (broken_is long fault b) (broken_is short fault b)

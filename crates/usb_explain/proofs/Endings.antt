@@ -60,7 +60,7 @@ pub whole_end_has : (subject : Subject) (n : ℕ) (b : List ℕ) (at : ℕ) → 
 whole_end_has subject n b at = simp length-append (omega (arith, last_has n))
 
 pub broken_end_has : (subject : Subject) (fault : InputFault) (b : List ℕ) (at : ℕ) → 0 < length (broken_end subject fault b at)
-broken_end_has subject fault b at = longer _ _ (fault_has fault)
+broken_end_has subject fault b at = longer _ _ (longer _ _ (fault_has fault))
 
 -- the whole text of an input, where the walk ended
 pub whole_parts : (subject : Subject) (name : List ℕ) (n at : ℕ) (b done : List ℕ) → Walked subject b done at

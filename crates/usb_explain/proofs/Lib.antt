@@ -1,5 +1,4 @@
 pub mod Standings
-pub mod SetsAhead
 pub mod Walking
 pub mod Telling
 pub mod Endings

@@ -11,7 +11,7 @@ use Rattle.usb_explained_lines.specs.declared.look.Look.{Look}
 use Rattle.usb_explained_lines.specs.declared.role.Role.{Role}
 use Rattle.usb_explain.specs.declared.position.Standing.{Standing}
 use Rattle.usb_explain.specs.Explanations.{broken_end, broken_explanation, broken_name, broken_text, explanation, first_line, input_name, last_line, whole_end, whole_text}
-use Rattle.usb_explain.specs.Faults.{fault_text, place_of_fault}
+use Rattle.usb_explain.specs.Faults.{fault_lines, place_of_fault}
 use Rattle.usb_explain.specs.Findings.{found_at}
 use Rattle.usb_explain.specs.Laws.{BrokenEachByteOnce, Cut, EachByteOnce, Follow, Shown, Span, WholeEachByteOnce, counts_at, entry_of, findings_of, lines_of, rest_span, span_of}
 use Rattle.usb_explain.specs.Trees.{OutlineEntry}
@@ -191,8 +191,8 @@ abbrev pub end_by : Subject → List ℕ → List ℕ → List ℕ → ℕ → L
 end_by subject b before_rest last at = before_rest ++ (rest_lines subject.manner.look at (drop at b) ++ last)
 
 -- nothing behind the rest
-pub broken_ends : (subject : Subject) (fault : InputFault) (b : List ℕ) (at : ℕ) → broken_end subject fault b at ≡ end_by subject b (fault_text fault) [] at
-broken_ends subject fault b at = ap (λ l. fault_text fault ++ l) (sym (append-nil (rest_lines subject.manner.look at (drop at b))))
+pub broken_ends : (subject : Subject) (fault : InputFault) (b : List ℕ) (at : ℕ) → broken_end subject fault b at ≡ end_by subject b (fault_lines fault b) [] at
+broken_ends subject fault b at = ap (λ l. fault_lines fault b ++ l) (sym (append-nil (rest_lines subject.manner.look at (drop at b))))
 
 -- a text made of a walk over the front of these bytes
 unfoldable pub once_of : (subject : Subject) (b front tail first before_rest last text : List ℕ) (n : ℕ) (ending : ℕ → List ℕ) → b ≡ front ++ tail
@@ -242,5 +242,5 @@ pub broken_once : BrokenEachByteOnce
 broken_once manner fault b =
     let subject = broken_subject manner in
     let front = take (place_of_fault fault) b in
-    once_by subject b front (drop (place_of_fault fault) b) (first_line (broken_name b) (length b)) (fault_text fault) [] (broken_explanation manner fault b)
+    once_by subject b front (drop (place_of_fault fault) b) (first_line (broken_name b) (length b)) (fault_lines fault b) [] (broken_explanation manner fault b)
     (length front) (broken_end subject fault b) (sym (take-append-drop (place_of_fault fault) b)) (broken_ends subject fault b) (broken_is subject fault b)

@@ -41,7 +41,7 @@ heading_has look role context b at = simp length-append (omega arith)
 
 pub block_has : (subject : Subject) (s : Standing) (role : Role) (d behind : List ℕ) → 0 < length (block subject s role d behind)
 unfolding block
-block_has subject s role d behind = longer _ _ (longer _ _ (heading_has _ _ _ _ _))
+block_has subject s role d behind = longer _ _ (longer _ _ (longer _ _ (heading_has _ _ _ _ _)))
 
 -- The walk as far as it came: what was put, and what is left to be put from here on.
 pub record WalksOn (subject : Subject) (bytes : List ℕ) (s : Standing) (ahead : List ℕ) (old new : Held) (page text : List ℕ) : Type 0 where

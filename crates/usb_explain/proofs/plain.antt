@@ -8,5 +8,6 @@ pub mod Layouts
 pub mod Raws
 pub mod Lines
 pub mod Findings
+pub mod Remarks
 pub mod Walks
 pub mod Inputs

@@ -6,7 +6,7 @@ use Rattle.usb_file_data.specs.declared.input.Input.{Input}
 use Rattle.usb_file_data.specs.declared.input.Input.TheVariants as inputs
 use Rattle.usb_file.specs.declared.input_fault.InputFault.{InputFault}
 use Rattle.usb_explain.specs.declared.manner.Manner.{Manner}
-use Rattle.usb_explain.specs.Faults.{fault_text, place_of_fault}
+use Rattle.usb_explain.specs.Faults.{fault_lines, place_of_fault}
 use Rattle.usb_explain.specs.Standings.{start}
 use Rattle.usb_explain.specs.Subjects.{Subject, broken_subject, findings_in, subject_with}
 use Rattle.usb_explain.specs.Walks.{walked}
@@ -35,7 +35,7 @@ whole_end subject findings b at = rest_lines subject.manner.look at (drop at b) 
 
 -- what ends that of bytes which are none
 abbrev pub broken_end : Subject → InputFault → List ℕ → ℕ → List ℕ
-broken_end subject fault b at = fault_text fault ++ rest_lines subject.manner.look at (drop at b)
+broken_end subject fault b at = fault_lines fault b ++ rest_lines subject.manner.look at (drop at b)
 
 -- the explanation of an input of this name
 unfoldable pub whole_text : Subject → List ℕ → ℕ → List ℕ → List ℕ
@@ -52,6 +52,6 @@ broken_text subject fault b =
     let whole = take (place_of_fault fault) b in
     first_line (broken_name b) (length b) ++ walked (length whole) subject (broken_end subject fault b) start whole
 
--- that of bytes that are no input: what stands before the place of their fault, the fault, and the rest
+-- that of bytes that are no input: what comes before the place of their fault, the fault and what they look like, and the rest
 abbrev pub broken_explanation : Manner → InputFault → List ℕ → List ℕ
 broken_explanation manner fault b = broken_text (broken_subject manner) fault b

@@ -1,11 +1,14 @@
--- The line of the fault of a broken input.
-use Rattle.std.specs.Prelude.{ℕ, List, ◌++◌, codes}
+-- The lines of the fault of a broken input: what is wrong, and what its bytes look like.
+use Rattle.std.specs.Prelude.{ℕ, List, [], ◌++◌, codes, ◌==◌, Option, Some, None, if◌then◌else◌}
 use Rattle.std.specs.Fmt.{decimal}
 use Rattle.usb_set.specs.Numbers.{why_number as set_why_number, why_message as set_message}
 use Rattle.usb_file.specs.declared.fault.FileWhy.{FileWhy}
 use Rattle.usb_file.specs.declared.fault.FileWhy.TheVariants as files
 use Rattle.usb_file.specs.declared.input_fault.InputFault.{InputFault}
 use Rattle.usb_file.specs.declared.input_fault.InputFault.TheVariants as faults
+use Rattle.usb_file.specs.declared.likeness.Likeness.{Likeness}
+use Rattle.usb_file.specs.declared.likeness.Likeness.TheVariants as likes
+use Rattle.usb_file.specs.Likeness.{likeness_of}
 use Rattle.usb_file.specs.Numbers.{why_message, why_number}
 
 -- the place of the fault in the input
@@ -36,3 +39,25 @@ fault_words (faults.File fault) = codes "file fault " ++ numbered (why_number fa
 -- its line
 unfoldable pub fault_text : InputFault → List ℕ
 fault_text fault = codes "  ! " ++ fault_words fault ++ codes "\n"
+
+-- so many bytes follow
+unfoldable pub following_words : ℕ → List ℕ
+following_words n = if n == 1 then codes "1 byte follows" else decimal n ++ codes " bytes follow"
+
+-- what bytes look like
+abbrev pub likeness_words : Likeness → List ℕ
+likeness_words likes.Nothing = codes "there are no bytes"
+likeness_words likes.Text = codes "this is text; explain reads the bytes of descriptors, or their hexadecimal digits"
+likeness_words (likes.DumpAndMore n) = codes "the dump ends here, and " ++ following_words n
+likeness_words likes.Bos = codes "this looks like a BOS descriptor alone"
+likeness_words likes.StringDescriptor = codes "this looks like a string descriptor alone"
+likeness_words likes.Report = codes "this looks like a report descriptor"
+
+-- the line that says so, if they look like anything
+unfoldable pub likeness_text : Option Likeness → List ℕ
+likeness_text None = []
+likeness_text (Some likeness) = codes "  ? " ++ likeness_words likeness ++ codes "\n"
+
+-- both lines
+abbrev pub fault_lines : InputFault → List ℕ → List ℕ
+fault_lines fault b = fault_text fault ++ likeness_text (likeness_of fault b)

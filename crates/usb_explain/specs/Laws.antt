@@ -8,6 +8,7 @@ use Rattle.usb_base.specs.Bytes.{AreBytes}
 use Rattle.usb_file_data.specs.declared.input.Input.{Input}
 use Rattle.usb_file.specs.declared.input_fault.InputFault.{InputFault}
 use Rattle.usb_file.specs.Inputs.{InputRefused, IsInput}
+use Rattle.usb_file.specs.Likeness.{likeness_of}
 use Rattle.usb_rules.specs.Findings.{input_findings}
 use Rattle.usb_rules.specs.declared.finding.Finding.{Finding}
 use Rattle.usb_rules.specs.declared.rule.Rule.{Rule}
@@ -17,14 +18,17 @@ use Rattle.usb_explained_lines.specs.declared.told.Told.{Told}
 use Rattle.usb_explained_lines.specs.declared.context.Context.{Context}
 use Rattle.usb_explained_lines.specs.Descriptors.{field_lines, fields, heading}
 use Rattle.usb_explained_lines.specs.Rest.{rest_fields, rest_heading, rest_line, rest_lines}
+use Rattle.usb_remarks.specs.declared.remark.Remark.{Remark}
+use Rattle.usb_remarks.specs.Lines.{remark_line, remark_lines}
+use Rattle.usb_remarks.specs.Remarks.{remarks_on}
 use Rattle.usb_explain.specs.declared.manner.Manner.{Manner}
 use Rattle.usb_explained_lines.specs.declared.role.Role.{Role}
 use Rattle.usb_explain.specs.declared.position.Standing.{Standing}
 use Rattle.usb_explain.specs.Explanations.{broken_explanation, broken_name, explanation, first_line, input_name, last_line}
-use Rattle.usb_explain.specs.Faults.{fault_text, place_of_fault}
+use Rattle.usb_explain.specs.Faults.{fault_lines, fault_text, likeness_text, place_of_fault}
 use Rattle.usb_explain.specs.Findings.{found_at, is_here, line_of, role_findings, told_at}
 use Rattle.usb_explain.specs.Contexts.{context_of, depth_of}
-use Rattle.usb_explain.specs.Lines.{IsLine, SayFields}
+use Rattle.usb_explain.specs.Lines.{IsLine, IsLineIfAny, SayFields}
 use Rattle.usb_explain.specs.Uncovered.{most_uncovered}
 use Rattle.usb_explain.specs.Subjects.{Subject, broken_subject, findings_in, subject_with}
 use Rattle.usb_explain.specs.Trees.{OutlineEntry, counts_in, entry, outline}
@@ -40,11 +44,16 @@ pub record Shown : Type 0 where
 abbrev pub context_at : Subject → Shown → Context
 context_at subject d = context_of subject d.standing d.role d.bytes
 
--- its heading, with its place and its length, and what it breaks
+-- what is remarked of it
+abbrev pub remarks_of : Subject → Shown → List Remark
+remarks_of subject d = remarks_on d.role (context_at subject d).speed d.bytes
+
+-- its heading, with its place and its length, what it breaks, and what is remarked of it
 abbrev pub head_of : Subject → Shown → List ℕ
 head_of subject d =
     heading subject.manner.look d.role (context_at subject d) d.bytes d.standing.at
     ++ role_findings subject d.standing d.role d.bytes d.behind
+    ++ remark_lines d.role (context_at subject d) d.bytes
 
 -- its lines: after those the lines of its fields, where they are shown
 abbrev pub lines_of : Subject → Shown → List ℕ
@@ -108,7 +117,7 @@ WholeEachByteOnce =
 abbrev pub BrokenEachByteOnce : Type 0
 BrokenEachByteOnce =
     (manner : Manner) (fault : InputFault) (b : List ℕ) →
-    EachByteOnce (broken_subject manner) (take (place_of_fault fault) b) b (first_line (broken_name b) (length b)) (fault_text fault) []
+    EachByteOnce (broken_subject manner) (take (place_of_fault fault) b) b (first_line (broken_name b) (length b)) (fault_lines fault b) []
     (broken_explanation manner fault b)
 
 -- a text that has each byte once, where no more of the prefix than so many bytes are left for the rest
@@ -120,7 +129,7 @@ pub record CoversUpTo (most : ℕ) (subject : Subject) (front bytes first before
 abbrev pub BrokenCoversUpToFault : Type 0
 BrokenCoversUpToFault =
     (manner : Manner) (fault : InputFault) (b : List ℕ) → AreBytes b → InputRefused b fault →
-    CoversUpTo (most_uncovered fault) (broken_subject manner) (take (place_of_fault fault) b) b (first_line (broken_name b) (length b)) (fault_text fault) []
+    CoversUpTo (most_uncovered fault) (broken_subject manner) (take (place_of_fault fault) b) b (first_line (broken_name b) (length b)) (fault_lines fault b) []
     (broken_explanation manner fault b)
 
 -- of an input nothing is left: each of its bytes is under the heading of a descriptor
@@ -204,7 +213,7 @@ rest_bytes [] = []
 rest_bytes (x ∷ rest) = rest_line (x ∷ rest)
 
 -- Two texts about the same descriptors: the one has their fields, and the other is the one without them. Both have the same
--- first line, headings and findings, then the same lines before the rest, its heading, and the same last line.
+-- first line, headings, findings and remarks, then the same lines before the rest, its heading, and the same last line.
 pub record LeavesOutFields (subject : Subject) (bytes first before_rest last one other : List ℕ) : Type 0 where
   pub shown : List Shown
   pub end : ℕ
@@ -223,39 +232,43 @@ WholeLeavesOutFields =
 abbrev pub BrokenLeavesOutFields : Type 0
 BrokenLeavesOutFields =
     (manner : Manner) (fault : InputFault) (b : List ℕ) →
-    LeavesOutFields (broken_subject manner) b (first_line (broken_name b) (length b)) (fault_text fault) []
+    LeavesOutFields (broken_subject manner) b (first_line (broken_name b) (length b)) (fault_lines fault b) []
     (broken_explanation (with_fields manner) fault b) (broken_explanation (without_fields manner) fault b)
 
--- the heading of a descriptor is a line, each of its fields is said in one, and each finding reported there has one
+-- the heading of a descriptor is a line, each of its fields is said in one, and each finding reported there has one, as has
+-- each remark
 abbrev pub BlockIsLines : Subject → Shown → Type 0
 BlockIsLines subject d =
     IsLine (heading subject.manner.look d.role (context_at subject d) d.bytes d.standing.at)
     × SayFields (depth_of d.standing d.role) (fields subject.manner.look subject.names d.role (context_at subject d) d.bytes)
     × AllByRecursion (λ f. IsLine (line_of subject.is_dump d.standing d.role d.bytes d.behind f)) (findings_of subject d)
+    × AllByRecursion (λ r. IsLine (remark_line (context_at subject d).depth r)) (remarks_of subject d)
 
 -- so it is of the rest, if bytes are left
 abbrev pub RestIsLines : Subject → ℕ → List ℕ → Type 0
 RestIsLines subject at [] = Unit {0}
 RestIsLines subject at (x ∷ rest) = IsLine (rest_heading subject.manner.look at (x ∷ rest)) × SayFields 0 (rest_fields subject.manner.look (x ∷ rest))
 
--- A text whose parts are lines. The first line is one, and so is that of the fault, before the rest, or the last one.
+-- A text whose parts are lines. The first line is one; what ends the text is lines by itself.
 pub record InLines (subject : Subject) (front bytes first before_rest last text : List ℕ) : Type 0 where
   pub once : EachByteOnce subject front bytes first before_rest last text
   pub begins : IsLine first
   pub blocks : AllByRecursion (BlockIsLines subject) once.shown
   pub rest : RestIsLines subject once.end (drop once.end bytes)
-  pub ends : IsLine (before_rest ++ last)
 
--- each explanation of an input is in lines
+-- each explanation of an input is in lines, and so is its last line
 abbrev pub WholeInLines : Type 0
 WholeInLines =
     (manner : Manner) (input : Input) (b : List ℕ) → IsInput input b →
     InLines (subject_with manner input (findings_in input)) b b (first_line (input_name input) (length b)) [] (last_line (length (findings_in input)))
     (explanation manner input b)
+    × IsLine (last_line (length (findings_in input)))
 
--- so is that of any bytes with any fault
+-- so is that of any bytes with any fault: before the rest are the line of the fault, and one line more or none
 abbrev pub BrokenInLines : Type 0
 BrokenInLines =
     (manner : Manner) (fault : InputFault) (b : List ℕ) → AreBytes b →
-    InLines (broken_subject manner) (take (place_of_fault fault) b) b (first_line (broken_name b) (length b)) (fault_text fault) []
+    InLines (broken_subject manner) (take (place_of_fault fault) b) b (first_line (broken_name b) (length b)) (fault_lines fault b) []
     (broken_explanation manner fault b)
+    × IsLine (fault_text fault)
+    × IsLineIfAny (likeness_text (likeness_of fault b))

@@ -1,5 +1,5 @@
 -- Lines of printable ASCII.
-use Rattle.std.specs.Prelude.{◌≡◌, ℕ, true, List, [], ◌∷◌, ◌++◌}
+use Rattle.std.specs.Prelude.{◌≡◌, ◌⊎◌, ℕ, true, List, [], ◌∷◌, ◌++◌}
 use Rattle.std.specs.List.{AllByRecursion, flat_map, list_all}
 use Rattle.usb_listing_reader.specs.Words.{is_printable}
 use Rattle.usb_explained_lines.specs.Lines.{field_line}
@@ -9,6 +9,10 @@ pub record IsLine (text : List ℕ) : Type 0 where
   pub words : List ℕ
   pub printable : list_all is_printable words ≡ true
   pub ends : text ≡ words ++ 10 ∷ []
+
+-- one line, or nothing
+abbrev pub IsLineIfAny : List ℕ → Type 0
+IsLineIfAny text = (text ≡ []) ⊎ IsLine text
 
 -- what a line says of a field
 pub record Said : Type 0 where

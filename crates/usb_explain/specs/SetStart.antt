@@ -1,7 +1,8 @@
 -- How a set begins.
-use Rattle.std.specs.Prelude.{ℕ, zero, suc, List, length, slice_index, take, drop, nat_le, ◌==◌, ◌&&◌, Bool, Option, Some, None, option_and_then, if◌then◌else◌}
+use Rattle.std.specs.Prelude.{ℕ, List, length, slice_index, take, drop, nat_le, ◌==◌, ◌&&◌, Bool, Option, Some, None, option_and_then, if◌then◌else◌}
 use Rattle.std.specs.Option.{option_or}
 use Rattle.usb_base.specs.Bytes.{little_endian_at}
+use Rattle.usb_file.specs.Likeness.{after_sets}
 use Rattle.usb_rules.specs.declared.finding.Part.{Part}
 use Rattle.usb_rules.specs.declared.finding.Part.TheVariants.{Main, Other}
 use Rattle.usb_words.specs.declared.speed.SetSpeed.{SetSpeed}
@@ -38,11 +39,6 @@ background_by running None qualifier other = record { known = running; packet = 
 background_by running (Some device) None other =
     record { known = option_or running device.speed; packet = Some device.packet; other = other }
 background_by running (Some device) (Some packet) other = other_background running packet
-
--- the bytes after so many sets
-unfoldable pub after_sets : ℕ → List ℕ → List ℕ
-after_sets zero b = b
-after_sets (suc n) b = let rest = after_sets n b in drop (little_endian_at rest 2) rest
 
 -- the bytes begin with a qualifier (USB 2.0, 9.6.2)
 unfoldable pub has_qualifier : List ℕ → Bool

@@ -1,8 +1,9 @@
 -- The lines of all descriptors of an input, one after another.
-use Rattle.std.specs.Prelude.{ℕ, zero, suc, List, [], ◌∷◌, ◌+◌, ◌++◌, length, take, drop, unwrap_or}
+use Rattle.std.specs.Prelude.{ℕ, zero, suc, List, ◌+◌, ◌++◌, length, take, drop, unwrap_or}
 use Rattle.std.specs.Option.{option_map}
 use Rattle.usb_explained_lines.specs.Descriptors.{fields, heading}
 use Rattle.usb_explained_lines.specs.declared.role.Role.{Role}
+use Rattle.usb_remarks.specs.Lines.{remark_lines}
 use Rattle.usb_explain.specs.declared.position.Standing.{Standing}
 use Rattle.usb_explain.specs.Findings.{found_at, role_findings}
 use Rattle.usb_explain.specs.Contexts.{context_of}
@@ -11,11 +12,13 @@ use Rattle.usb_explain.specs.Steps.{passed, with_told}
 use Rattle.usb_explain.specs.Roles.{next_role}
 use Rattle.usb_explain.specs.Subjects.{Subject}
 
--- the lines of a descriptor, with the bytes after it: its heading, what it breaks, and its fields
+-- the lines of a descriptor, with the bytes after it: its heading, what it breaks, what is remarked of it, and
+-- its fields
 unfoldable pub block : Subject → Standing → Role → List ℕ → List ℕ → List ℕ
 block subject s role d behind =
     heading subject.manner.look role (context_of subject s role d) d s.at
     ++ role_findings subject s role d behind
+    ++ remark_lines role (context_of subject s role d) d
     ++ fields subject.manner.look subject.names role (context_of subject s role d) d
 
 -- the state at the first of these bytes

@@ -7,11 +7,12 @@ use crate::position::Standing;
 use crate::subject::Subject;
 use std::alloc::AllocError;
 use usb_explained_lines::{Role, put_fields, put_heading};
+use usb_remarks::put_remarks;
 use usb_text::Text;
 
 impl Standing {
-    /// Puts the lines of a descriptor of this role: its heading, its findings and its fields. Answers how many findings
-    /// are reported then.
+    /// Puts the lines of a descriptor of this role: its heading, its findings, its remarks and its fields. Answers how
+    /// many findings are reported then.
     #[tactic(auto, unfolding(crate::specs::Walks::block))]
     pub(crate) fn put_block(
         &self,
@@ -28,6 +29,7 @@ impl Standing {
         let look = subject.manner().look;
         put_heading(text, look, role, &context, d, self.at)?;
         let told = self.put_findings(text, subject, role, d, behind)?;
+        put_remarks(text, role, &context, d)?;
         put_fields(text, look, subject.names(), role, &context, d)?;
         Ok(told)
     }

@@ -4,7 +4,7 @@ ghost use Rattle.std.specs.Io.KnownBytes.{Appends};
 ghost use Rattle.usb_listing.specs.Output.{AppendsLess};
 ghost use Rattle.usb_explain.specs.Explanations.{broken_end, broken_explanation, broken_name, broken_text, explanation, first_line, input_name, last_line, whole_end, whole_text};
 
-use crate::fault_line::{fault_place, put_fault};
+use crate::fault_line::{fault_place, put_fault, put_likeness};
 use crate::found::findings_in;
 use crate::manner::Manner;
 use crate::subject::Subject;
@@ -13,7 +13,7 @@ use std::alloc::{AllocError, Global};
 use std::io::Write;
 use usb_base::{after, byte_at, descriptor_type, prefix};
 use usb_explained_lines::put_rest;
-use usb_file::{Input, InputFault};
+use usb_file::{Input, InputFault, likeness_of};
 use usb_listing::{OutFault, write_all};
 use usb_text::{Text, put_count};
 
@@ -130,6 +130,7 @@ fn put_broken_end(
     ensures { OnOk result (text.new ≡ text.old ++ broken_end subject.now fault bytes.now place) }
 {
     put_fault(text, fault)?;
+    put_likeness(text, likeness_of(fault, bytes))?;
     put_rest(text, subject.manner().look, place, after(bytes, place))
 }
 

@@ -1,9 +1,9 @@
-//! The line of the fault of a broken input.
+//! The lines of the fault of a broken input: what is wrong, and what its bytes look like.
 ghost use Rattle.std.specs.Prelude.{◌≡◌, ◌++◌, OnOk};
-ghost use Rattle.usb_explain.specs.Faults.{fault_text, fault_words, file_message, numbered, place_of_fault, trailing_words};
+ghost use Rattle.usb_explain.specs.Faults.{fault_text, fault_words, file_message, following_words, likeness_text, likeness_words, numbered, place_of_fault, trailing_words};
 
 use std::alloc::AllocError;
-use usb_file::{FileWhy, InputFault};
+use usb_file::{FileWhy, InputFault, Likeness};
 use usb_text::Text;
 
 /// The place of the fault in the input.
@@ -73,5 +73,51 @@ fn put_file_message(text: &mut Text, why: FileWhy) -> Result<(), AllocError>
             text.put(why.message())
         }
         _ => Ok(()),
+    }
+}
+
+/// Puts the line of what bytes look like, if they look like anything.
+#[tactic(auto, unfolding(crate::specs::Faults::likeness_text))]
+pub(crate) fn put_likeness(text: &mut Text, likeness: Option<Likeness>) -> Result<(), AllocError>
+    ensures { OnOk result (text.new ≡ text.old ++ likeness_text likeness) }
+{
+    match likeness {
+        None => Ok(()),
+        Some(likeness) => {
+            text.put("  ? ")?;
+            put_likeness_words(text, likeness)?;
+            text.put("\n")
+        }
+    }
+}
+
+fn put_likeness_words(text: &mut Text, likeness: Likeness) -> Result<(), AllocError>
+    ensures { OnOk result (text.new ≡ text.old ++ likeness_words likeness) }
+{
+    match likeness {
+        Likeness::Nothing => text.put("there are no bytes"),
+        Likeness::Text => text.put(
+            "this is text; explain reads the bytes of descriptors, or their hexadecimal digits",
+        ),
+        Likeness::DumpAndMore(count) => {
+            text.put("the dump ends here, and ")?;
+            put_following(text, count)
+        }
+        Likeness::Bos => text.put("this looks like a BOS descriptor alone"),
+        Likeness::StringDescriptor => text.put("this looks like a string descriptor alone"),
+        Likeness::Report => text.put("this looks like a report descriptor"),
+    }
+}
+
+/// Puts that so many bytes follow.
+#[tactic(auto, unfolding(crate::specs::Faults::following_words))]
+fn put_following(text: &mut Text, count: usize) -> Result<(), AllocError>
+    ensures { OnOk result (text.new ≡ text.old ++ following_words count) }
+{
+    if count == 1 {
+        text.put("1 byte follows")
+    } else {
+        text.put_decimal(count as u64)?;
+        text.put(" bytes follow")
     }
 }

@@ -4,7 +4,8 @@
 //! as they go. Both go over the bytes descriptor by descriptor, each as long as its first byte says.
 //!
 //! What the whole text is is `specs/Explanations.antt`, and the walk over the bytes `specs/Walks.antt`. The place of a
-//! descriptor is `specs/Standings.antt`, its role there `specs/Roles.antt`, and what it breaks `specs/Findings.antt`.
+//! descriptor is `specs/Standings.antt`, its role there `specs/Roles.antt`, and what it breaks `specs/Findings.antt`. What
+//! is remarked of it beside that is of `usb_remarks`, and no finding.
 //!
 //! [`laws`] says what holds of each explanation: every byte of the input is under one heading, every descriptor is shown as
 //! what it is and under its owner, every finding is reported once and with the right count, a brief text leaves out fields

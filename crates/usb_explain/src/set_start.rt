@@ -1,10 +1,11 @@
 //! How a set begins.
 ghost use Rattle.std.specs.Prelude.{◌≡◌, option_and_then};
 ghost use Rattle.usb_words.specs.SetSpeeds.{other_speed};
-ghost use Rattle.usb_explain.specs.SetStart.{after_sets, background_by, has_qualifier, opened, other_ahead, other_background, part_of, sets_of};
+ghost use Rattle.usb_explain.specs.SetStart.{background_by, has_qualifier, opened, other_ahead, other_background, part_of, sets_of};
 
 use crate::position::{DeviceFacts, Owner, SetStanding, Standing};
 use usb_base::{after, byte_at, descriptor_type, prefix, word_at};
+use usb_file::after_sets;
 use usb_rules::Part;
 use usb_words::{Background, SetSpeed, Survey, other_speed, speed_by};
 
@@ -112,18 +113,6 @@ pub(crate) fn other_ahead(ahead: &[u8]) -> Option<SetSpeed>
     } else {
         None
     }
-}
-
-/// The bytes after so many sets.
-#[tactic(auto, unfolding(crate::specs::SetStart::after_sets))]
-fn after_sets(count: u8, b: &[u8]) -> &[u8]
-    ensures { result.now ≡ after_sets count b.now }
-{
-    let mut rest = b;
-    for _ in 0..count {
-        rest = after(rest, usize::from(word_at(rest, 2)));
-    }
-    rest
 }
 
 #[tactic(auto, unfolding(crate::specs::SetStart::has_qualifier))]

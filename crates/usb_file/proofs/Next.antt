@@ -1,12 +1,12 @@
 -- What comes next after a prefix of a file.
-use Rattle.std.proofs.Common.{◌≡◌, ℕ, ltb, ◌*◌, ◌<◌, inl, inr, false, not, ◌||◌, ◌==◌, List, length, Option, Some, None, refl, ap, sym, subst, ◌∙◌, arith}
-use Rattle.std.proofs.lemmas.Bool.{eq-eqb, eqb-true, eqb-false, ne_eqb, lt-ltb, le-ltb, not-false, or_from, or_parts, cond-true, cond-false, cases_Bool, cases_eq, cases_lt, not_from_true}
+use Rattle.std.proofs.Common.{◌≡◌, ℕ, ltb, ◌*◌, inl, inr, false, not, ◌||◌, ◌==◌, List, length, Option, Some, None, refl, ap, sym, subst, ◌∙◌, arith}
+use Rattle.std.proofs.lemmas.Bool.{eq-eqb, ne_eqb, lt-ltb, le-ltb, not-false, or_from, cond-true, cond-false, cases_Bool, cases_eq, cases_lt, not_from_true}
 use Rattle.usb_set.specs.declared.tree.SetKind.TheVariants as kinds
 use Rattle.usb_file_data.specs.declared.file.DescriptorFile.{DescriptorFile}
 use Rattle.usb_file_data.specs.declared.file.Other.{Other}
 use Rattle.usb_file_data.specs.declared.file.Strings.{Strings}
 use Rattle.usb_file_data.specs.Named.{named_indices}
-use Rattle.usb_file_data.specs.File.{has_long_string, has_wrong_count, are_wrong_strings, is_other_miscounted}
+use Rattle.usb_file_data.specs.File.{has_wrong_count, are_wrong_strings, is_other_miscounted}
 use Rattle.usb_file_data.proofs.Counts.{AllStrings, all_sets, all_strings}
 use Rattle.usb_file_data.specs.Front.{AllSets, StringsFollow, IsInOrder, IsFront}
 use Rattle.usb_file.specs.FileFaults.{NextPart, a_set, a_qualifier, the_languages, a_string, the_end, begins_qualifier, IsNext, NoQualifierIsNext, MissesSet, MissesString}

@@ -4,5 +4,6 @@ pub mod Dumps
 pub mod Completed
 pub mod Inputs
 pub mod InputOrFault
+pub mod Likeness
 pub mod Numbers
 pub mod inside

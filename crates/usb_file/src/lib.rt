@@ -21,6 +21,7 @@ mod file_writer;
 mod input;
 mod input_fault;
 pub mod laws;
+mod likeness;
 mod other;
 mod sets;
 mod strings;
@@ -31,6 +32,7 @@ pub use file_reader::read_file;
 pub use file_writer::write_file;
 pub use input::read_input;
 pub use input_fault::InputFault;
+pub use likeness::{Likeness, after_sets, likeness_of};
 pub use usb_file_data::{
     DescriptorFile, FILE_LIMIT, Input, NoMemory, Other, Strings, WriteFault, named,
 };

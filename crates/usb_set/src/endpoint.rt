@@ -19,6 +19,21 @@ pub enum TransferType {
     Interrupt,
 }
 
+impl TransferType {
+    /// The type by bits 1..0 of bmAttributes.
+    #[inline]
+    pub fn of(attributes: u8) -> TransferType
+        ensures { result ≡ transfer_type_of attributes }
+    {
+        match attributes % 4 {
+            0 => TransferType::Control,
+            1 => TransferType::Isochronous,
+            2 => TransferType::Bulk,
+            _ => TransferType::Interrupt,
+        }
+    }
+}
+
 impl Endpoint {
     /// Bit 7 of bEndpointAddress. A control endpoint goes both ways, whatever this bit is.
     pub fn direction(&self) -> Direction
@@ -38,12 +53,7 @@ impl Endpoint {
     pub fn transfer_type(&self) -> TransferType
         ensures { result ≡ transfer_type_of self.now.attributes }
     {
-        match self.attributes % 4 {
-            0 => TransferType::Control,
-            1 => TransferType::Isochronous,
-            2 => TransferType::Bulk,
-            _ => TransferType::Interrupt,
-        }
+        TransferType::of(self.attributes)
     }
 
     /// Bits 10..0 of wMaxPacketSize: the most bytes of data that a packet of the endpoint has.

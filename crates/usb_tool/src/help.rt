@@ -121,7 +121,9 @@ Input:
 
 Text:
   Each descriptor has a heading, with the place of its first byte and its length. Below it
-  are the broken rules of chapter 9, a line with a '!' for each finding, and its fields.
+  are the broken rules of chapter 9, a line with a '!' for each finding; then remarks, a line
+  with a '?' for each value that can't be at the speed of the set or that is reserved; and
+  its fields.
   Units of intervals and of bMaxPower depend on the speed, which is in the heading of each
   set: that of '--speed', or what the descriptors say of it.
 

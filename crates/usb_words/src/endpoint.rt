@@ -1,26 +1,15 @@
 //! What an endpoint descriptor says, in words.
 ghost use Rattle.std.specs.Prelude.{◌≡◌, ◌++◌, codes, OnOk};
 ghost use Rattle.usb_base.specs.Directions.{direction_of};
-ghost use Rattle.usb_set.specs.Endpoints.{transfer_type_of, transactions_of};
+ghost use Rattle.usb_set.specs.Endpoints.{transactions_of};
 ghost use Rattle.usb_words.specs.Endpoints.{attributes_words, direction_words, end_words, has_packets, packets_words, size_words, synchronization_words, transfer_words, usage_words, way_words};
 ghost use Rattle.usb_text.specs.Numbers.{count};
 
 use crate::speed::SetSpeed;
 use std::alloc::AllocError;
+use usb_base::Direction;
 use usb_set::TransferType;
 use usb_text::{Text, put_count};
-
-/// The transfer type by bits 1..0 of bmAttributes (USB 2.0, 9.6.6).
-pub(crate) fn transfer_type(attributes: u8) -> TransferType
-    ensures { result ≡ transfer_type_of attributes }
-{
-    match attributes % 4 {
-        0 => TransferType::Control,
-        1 => TransferType::Isochronous,
-        2 => TransferType::Bulk,
-        _ => TransferType::Interrupt,
-    }
-}
 
 /// Puts the end that bEndpointAddress names: `EP 1 IN`. A control endpoint goes both ways: `EP 1`.
 #[tactic(auto, unfolding(crate::specs::Endpoints::end_words))]
@@ -29,7 +18,7 @@ pub fn put_end(text: &mut Text, attributes: u8, address: u8) -> Result<(), Alloc
 {
     text.put("EP ")?;
     text.put_decimal(u64::from(address % 16))?;
-    put_way(text, transfer_type(attributes), address)
+    put_way(text, TransferType::of(attributes), address)
 }
 
 fn put_way(text: &mut Text, transfer: TransferType, address: u8) -> Result<(), AllocError>
@@ -44,9 +33,9 @@ fn put_way(text: &mut Text, transfer: TransferType, address: u8) -> Result<(), A
 fn put_direction(text: &mut Text, address: u8) -> Result<(), AllocError>
     ensures { OnOk result (text.new ≡ text.old ++ direction_words (direction_of address)) }
 {
-    match address / 128 {
-        0 => text.put(" OUT"),
-        _ => text.put(" IN"),
+    match Direction::of(address) {
+        Direction::Out => text.put(" OUT"),
+        Direction::In => text.put(" IN"),
     }
 }
 
@@ -55,7 +44,7 @@ fn put_direction(text: &mut Text, address: u8) -> Result<(), AllocError>
 pub fn put_attributes(text: &mut Text, attributes: u8) -> Result<(), AllocError>
     ensures { OnOk result (text.new ≡ text.old ++ attributes_words attributes) }
 {
-    match transfer_type(attributes) {
+    match TransferType::of(attributes) {
         TransferType::Control => text.put("control"),
         TransferType::Isochronous => {
             text.put("isochronous")?;
@@ -106,7 +95,7 @@ pub fn put_size(
     ensures { OnOk result (text.new ≡ text.old ++ size_words speed attributes max_packet) }
 {
     let size = u64::from(max_packet % 2048);
-    if has_packets(speed, transfer_type(attributes)) {
+    if has_packets(speed, TransferType::of(attributes)) {
         put_packets(text, transactions(max_packet), size)
     } else {
         put_count(text, size, "byte")

@@ -3,7 +3,6 @@ ghost use Rattle.std.specs.Prelude.{◌≡◌, ◌++◌, OnOk};
 ghost use Rattle.usb_set.specs.Endpoints.{transfer_type_of};
 ghost use Rattle.usb_words.specs.Speeds.{at_least_one, frames, full_interval, full_period, high_interval, interval_at, is_periodic, microframes, period, period_words};
 
-use crate::endpoint::transfer_type;
 use crate::speed::SetSpeed;
 use std::alloc::AllocError;
 use usb_set::TransferType;
@@ -13,7 +12,7 @@ use usb_text::Text;
 pub fn is_periodic(attributes: u8) -> bool
     ensures { result ≡ is_periodic (transfer_type_of attributes) }
 {
-    match transfer_type(attributes) {
+    match TransferType::of(attributes) {
         TransferType::Control | TransferType::Bulk => false,
         TransferType::Isochronous | TransferType::Interrupt => true,
     }
@@ -36,10 +35,10 @@ pub fn put_interval(
 {
     match speed {
         SetSpeed::Low | SetSpeed::Full | SetSpeed::LowOrFull => {
-            put_full(text, transfer_type(attributes), interval)
+            put_full(text, TransferType::of(attributes), interval)
         }
         SetSpeed::FullOrHigh => {
-            put_full(text, transfer_type(attributes), interval)?;
+            put_full(text, TransferType::of(attributes), interval)?;
             text.put("; at high speed ")?;
             put_high(text, interval)
         }

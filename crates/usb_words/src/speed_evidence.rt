@@ -4,7 +4,6 @@ ghost use Rattle.usb_words.specs.SpeedEvidence.{excludes_low, has_multiple, hint
 ghost use Rattle.usb_words.specs.inside.Heard.{Hears};
 
 use crate::descriptor_types::is_endpoint;
-use crate::endpoint::transfer_type;
 use usb_base::{byte_at, word_at};
 use usb_set::TransferType;
 
@@ -59,25 +58,25 @@ fn is_companion(d: &[u8]) -> bool
 fn proves_high(d: &[u8]) -> bool
     ensures { result ≡ proves_high d.now }
 {
-    is_endpoint(d) && is_high(transfer_type(byte_at(d, 3)), word_at(d, 4))
+    is_endpoint(d) && is_high(TransferType::of(byte_at(d, 3)), word_at(d, 4))
 }
 
 fn proves_full(d: &[u8]) -> bool
     ensures { result ≡ proves_full d.now }
 {
-    is_endpoint(d) && is_full(transfer_type(byte_at(d, 3)), word_at(d, 4))
+    is_endpoint(d) && is_full(TransferType::of(byte_at(d, 3)), word_at(d, 4))
 }
 
 fn excludes_low(d: &[u8]) -> bool
     ensures { result ≡ excludes_low d.now }
 {
-    is_endpoint(d) && is_above_low(transfer_type(byte_at(d, 3)), word_at(d, 4))
+    is_endpoint(d) && is_above_low(TransferType::of(byte_at(d, 3)), word_at(d, 4))
 }
 
 fn hints_low_or_full(d: &[u8]) -> bool
     ensures { result ≡ hints_low_or_full d.now }
 {
-    is_endpoint(d) && is_slow(transfer_type(byte_at(d, 3)), byte_at(d, 6))
+    is_endpoint(d) && is_slow(TransferType::of(byte_at(d, 3)), byte_at(d, 6))
 }
 
 fn is_high(transfer: TransferType, max_packet: u16) -> bool

@@ -1,5 +1,5 @@
 -- Each finding is told in a line, and so is a fault.
-use Rattle.std.proofs.Common.{◌≡◌, ℕ, ◌+◌, ◌*◌, ◌&&◌, Bool, true, false, List, [], ◌∷◌, ◌++◌, Option, Some, None, is_some, unwrap_or, codes, refl}
+use Rattle.std.proofs.Common.{◌≡◌, ℕ, ◌+◌, ◌*◌, ◌&&◌, Bool, true, false, List, [], ◌∷◌, ◌++◌, Option, Some, None, is_some, unwrap_or, codes, refl, inl, inr, ◌==◌}
 use Rattle.std.specs.Fmt.{decimal}
 use Rattle.std.specs.List.{AllByRecursion}
 use Rattle.std.specs.Option.{option_map}
@@ -11,6 +11,8 @@ use Rattle.usb_file.specs.declared.fault.FileWhy.{FileWhy}
 use Rattle.usb_file.specs.declared.fault.FileWhy.TheVariants as files
 use Rattle.usb_file.specs.declared.input_fault.InputFault.{InputFault}
 use Rattle.usb_file.specs.declared.input_fault.InputFault.TheVariants as faults
+use Rattle.usb_file.specs.declared.likeness.Likeness.{Likeness}
+use Rattle.usb_file.specs.declared.likeness.Likeness.TheVariants as likes
 use Rattle.usb_file.specs.Numbers.{why_number}
 use Rattle.usb_rules.specs.declared.finding.Finding.{Finding}
 use Rattle.usb_rules.specs.FindingLine.{rule_number}
@@ -22,12 +24,12 @@ use Rattle.usb_explained_lines.specs.declared.told.Told.TheVariants as told
 use Rattle.usb_explained_lines.specs.Findings.{caused, causes_words, counts_words, device_words, finding_line, has_more, packet_words, qualifier_words, reserved_words, rule_of, told_words}
 use Rattle.usb_explained_lines.specs.declared.role.Role.{Role}
 use Rattle.usb_explain.specs.declared.position.Standing.{Standing}
-use Rattle.usb_explain.specs.Faults.{fault_text, fault_words, file_message, numbered, trailing_words}
+use Rattle.usb_explain.specs.Faults.{fault_text, fault_words, file_message, following_words, likeness_text, likeness_words, numbered, trailing_words}
 use Rattle.usb_explain.specs.Findings.{is_here, line_of, told_of}
 use Rattle.usb_explain.specs.Contexts.{depth_of}
 use Rattle.usb_listing_reader.proofs.PrintableLemmas.{Printable}
-use Rattle.usb_explain.specs.Lines.{IsLine}
-use Rattle.usb_explain.proofs.plain.Texts.{both_plain, decimal_plain, ended, parts, spaces_plain}
+use Rattle.usb_explain.specs.Lines.{IsLine, IsLineIfAny}
+use Rattle.usb_explain.proofs.plain.Texts.{both_plain, decimal_plain, either_plain, ended, parts, spaces_plain}
 use Rattle.usb_explain.proofs.plain.Words.{count_plain}
 
 -- ---- findings
@@ -150,3 +152,20 @@ fault_words_plain (faults.File fault) = message_plain (why_number fault.why) fau
 pub fault_is_line : (fault : InputFault) → IsLine (fault_text fault)
 unfolding fault_text
 fault_is_line fault = ended (codes "  ! " ++ fault_words fault) (fault_words_plain fault)
+
+following_plain : (n : ℕ) → Printable (following_words n)
+unfolding following_words
+following_plain n = either_plain (n == 1) (codes "1 byte follows") (decimal n ++ codes " bytes follow") refl (both_plain (decimal n) (codes " bytes follow") (decimal_plain n) refl)
+
+likeness_plain : (likeness : Likeness) → Printable (likeness_words likeness)
+likeness_plain likes.Nothing = refl
+likeness_plain likes.Text = refl
+likeness_plain (likes.DumpAndMore n) = both_plain (codes "the dump ends here, and ") (following_words n) refl (following_plain n)
+likeness_plain likes.Bos = refl
+likeness_plain likes.StringDescriptor = refl
+likeness_plain likes.Report = refl
+
+pub likeness_is_line : (likeness : Option Likeness) → IsLineIfAny (likeness_text likeness)
+unfolding likeness_text
+likeness_is_line None = inl refl
+likeness_is_line (Some likeness) = inr (ended (codes "  ? " ++ likeness_words likeness) (likeness_plain likeness))

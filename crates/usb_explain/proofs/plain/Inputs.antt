@@ -1,5 +1,5 @@
 -- Inputs are bytes, and their strings have numbers of two bytes: so their explanations are in lines.
-use Rattle.std.proofs.Common.{ℕ, List, [], ◌∷◌, ◌++◌, Option, Some, None, length, take, refl, sym, subst, arith, append-nil}
+use Rattle.std.proofs.Common.{ℕ, List, [], ◌∷◌, ◌++◌, Option, Some, None, length, take, refl, subst, arith}
 use Rattle.std.specs.List.{AllByRecursion, flat_map}
 use Rattle.usb_base.specs.Bytes.{AreBytes, little_endian}
 use Rattle.usb_fields.specs.Device.{device_bytes}
@@ -11,18 +11,18 @@ use Rattle.usb_file_data.proofs.Lists.{bytes_before, bytes_behind}
 use Rattle.usb_file_data.specs.declared.input.Input.{Input}
 use Rattle.usb_file_data.specs.declared.input.Input.TheVariants as inputs
 use Rattle.usb_file.specs.Inputs.{IsInput}
+use Rattle.usb_file.specs.Likeness.{likeness_of}
 use Rattle.usb_listing_reader.proofs.PrintableLemmas.{Printable}
 use Rattle.usb_listing_reader.proofs.RowLemmas.{bytes_front}
 use Rattle.usb_explain.specs.declared.manner.Manner.{Manner}
 use Rattle.usb_explain.specs.Explanations.{broken_explanation, broken_name, explanation, first_line, input_name, last_line}
-use Rattle.usb_explain.specs.Faults.{fault_text, place_of_fault}
+use Rattle.usb_explain.specs.Faults.{fault_lines, place_of_fault}
 use Rattle.usb_explain.specs.Laws.{BrokenInLines, WholeInLines}
-use Rattle.usb_explain.specs.Lines.{IsLine}
 use Rattle.usb_explain.specs.Subjects.{broken_subject, findings_in, subject_with}
 use Rattle.usb_explain.proofs.Spans.{broken_once, whole_once}
 use Rattle.usb_explain.proofs.plain.Texts.{AreWords, parts}
 use Rattle.usb_explain.proofs.plain.Fields.{MaybeFit}
-use Rattle.usb_explain.proofs.plain.Findings.{fault_is_line}
+use Rattle.usb_explain.proofs.plain.Findings.{fault_is_line, likeness_is_line}
 use Rattle.usb_explain.proofs.plain.Walks.{SubjectFits, broken_name_plain, first_is_line, in_lines, last_is_line}
 
 units_are_words : (us : List ℕ) → AreBytes (flat_map little_endian us) → AreWords us
@@ -64,13 +64,17 @@ name_plain (inputs.Dump file) = refl
 pub whole_in_lines : WholeInLines
 whole_in_lines manner input b is =
     let subject = subject_with manner input (findings_in input) in
-    let last = last_line (length (findings_in input)) in
-    in_lines subject b b (first_line (input_name input) (length b)) [] last (explanation manner input b) (subject_fits manner input b is)
-    (are_bytes input b is) (are_bytes input b is) (whole_once manner input b) (first_is_line (input_name input) (length b) (name_plain input))
-    (last_is_line (length (findings_in input)))
+    let last = last_line (length (findings_in input)) in (
+      in_lines subject b b (first_line (input_name input) (length b)) [] last (explanation manner input b) (subject_fits manner input b is)
+          (are_bytes input b is) (are_bytes input b is) (whole_once manner input b) (first_is_line (input_name input) (length b) (name_plain input)),
+      last_is_line (length (findings_in input)),
+    )
 
 pub broken_in_lines : BrokenInLines
-broken_in_lines manner fault b are =
-    in_lines (broken_subject manner) (take (place_of_fault fault) b) b (first_line (broken_name b) (length b)) (fault_text fault) []
-    (broken_explanation manner fault b) tt are (bytes_front (place_of_fault fault) b are) (broken_once manner fault b)
-    (first_is_line (broken_name b) (length b) (broken_name_plain b)) (subst IsLine (sym (append-nil (fault_text fault))) (fault_is_line fault))
+broken_in_lines manner fault b are = (
+  in_lines (broken_subject manner) (take (place_of_fault fault) b) b (first_line (broken_name b) (length b)) (fault_lines fault b) []
+      (broken_explanation manner fault b) tt are (bytes_front (place_of_fault fault) b are) (broken_once manner fault b)
+      (first_is_line (broken_name b) (length b) (broken_name_plain b)),
+  fault_is_line fault,
+  likeness_is_line (likeness_of fault b),
+)

@@ -13,7 +13,7 @@ use Rattle.usb_explained_lines.specs.declared.role.Role.{Role}
 use Rattle.usb_explain.specs.declared.position.Standing.{Standing}
 use Rattle.usb_explain.specs.Explanations.{broken_name, first_line, last_line}
 use Rattle.usb_explain.specs.Contexts.{context_of, depth_of}
-use Rattle.usb_explain.specs.Laws.{BlockIsLines, Cut, EachByteOnce, InLines, RestIsLines, Shown, context_at, findings_of}
+use Rattle.usb_explain.specs.Laws.{BlockIsLines, Cut, EachByteOnce, InLines, RestIsLines, Shown, context_at, findings_of, remarks_of}
 use Rattle.usb_explain.specs.Lines.{IsLine, SayFields}
 use Rattle.usb_explain.specs.Subjects.{Subject, place_among, place_by}
 use Rattle.usb_explain.proofs.rest.Walks.{tells_own}
@@ -22,6 +22,7 @@ use Rattle.usb_explain.proofs.plain.Words.{count_plain}
 use Rattle.usb_explain.proofs.plain.Fields.{AreFit, MaybeFit}
 use Rattle.usb_explain.proofs.plain.Lines.{PlaceFits, fields_say, heading_of_role, rest_fields_say, rest_heading_is_line}
 use Rattle.usb_explain.proofs.plain.Findings.{each_told}
+use Rattle.usb_explain.proofs.plain.Remarks.{each_remarked}
 
 -- the strings of a subject have numbers of two bytes
 abbrev pub SubjectFits : Subject → Type 0
@@ -76,6 +77,7 @@ blocks_are_lines subject (d ∷ ds) b rest fit cut h =
         heading_of_role subject.manner.look d.role (context_at subject d) d.bytes d.standing.at (context_fits subject d.standing d.role d.bytes fit) bytes,
         fields_say_here subject d fit bytes,
         each_told subject.is_dump d.standing d.role d.bytes d.behind (findings_of subject d) (tells_own subject d),
+        each_remarked (context_at subject d).depth (remarks_of subject d),
       ),
       blocks_are_lines subject ds d.behind rest fit cut.2 (bytes_behind d.bytes d.behind parts),
     )
@@ -99,12 +101,11 @@ pub broken_name_plain : (b : List ℕ) → Printable (broken_name b)
 broken_name_plain b = simp parts refl
 
 pub in_lines : (subject : Subject) (front b first before_rest last text : List ℕ) → SubjectFits subject → AreBytes b → AreBytes front
-    → EachByteOnce subject front b first before_rest last text → IsLine first → IsLine (before_rest ++ last)
+    → EachByteOnce subject front b first before_rest last text → IsLine first
     → InLines subject front b first before_rest last text
-in_lines subject front b first before_rest last text fit h k once first_so last_so = record {
+in_lines subject front b first before_rest last text fit h k once first_so = record {
   once = once;
   begins = first_so;
   blocks = blocks_are_lines subject once.shown front (drop once.end front) fit once.cut k;
   rest = rest_is_lines subject once.end (drop once.end b) (bytes_back once.end b h);
-  ends = last_so;
 }

@@ -34,7 +34,7 @@ use Rattle.usb_file.specs.Inputs.{DeviceRefused, HasFault, InputRefused}
 use Rattle.usb_explained_lines.specs.declared.role.Role.TheVariants as roles
 use Rattle.usb_explain.specs.declared.position.Standing.{Standing}
 use Rattle.usb_explain.specs.Explanations.{broken_end, broken_explanation, broken_name, first_line}
-use Rattle.usb_explain.specs.Faults.{fault_text, place_of_fault}
+use Rattle.usb_explain.specs.Faults.{fault_lines, place_of_fault}
 use Rattle.usb_explain.specs.Laws.{BrokenCoversUpToFault}
 use Rattle.usb_explain.specs.Steps.{noted}
 use Rattle.usb_explain.specs.Uncovered.{uncovered_in_file, uncovered_in_set, most_uncovered}
@@ -265,7 +265,7 @@ broken_covers manner fault b h is =
     let w = ended.walk in
     let left : drop w.end front ≡ w.rest = left_behind (flat_map (λ d. d.bytes) w.shown) w.rest front w.end (cut_parts w.shown front w.rest w.cut) (ends_at w.shown w.end w.spans) in
     record {
-      once = once_of subject b front (drop (place_of_fault fault) b) (first_line (broken_name b) (length b)) (fault_text fault) [] (broken_explanation manner fault b)
+      once = once_of subject b front (drop (place_of_fault fault) b) (first_line (broken_name b) (length b)) (fault_lines fault b) [] (broken_explanation manner fault b)
           (length front) (broken_end subject fault b) (sym (take-append-drop (place_of_fault fault) b)) (broken_ends subject fault b) (broken_is subject fault b) w;
       near = subst (λ l. length l ≤ most_uncovered fault) (sym left) ended.aimed;
     }

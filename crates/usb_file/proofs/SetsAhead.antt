@@ -1,7 +1,7 @@
 -- Past a set more.
 use Rattle.std.proofs.Common.{◌≡◌, ℕ, ◌+◌, List, add-one, ap, drop}
 use Rattle.usb_base.specs.Bytes.{little_endian_at}
-use Rattle.usb_explain.specs.SetStart.{after_sets}
+use Rattle.usb_file.specs.Likeness.{after_sets}
 
 -- the bytes after one set more
 pub one_more : (n : ℕ) (b : List ℕ) → after_sets (n + 1) b ≡ drop (little_endian_at (after_sets n b) 2) (after_sets n b)

@@ -1,5 +1,0 @@
-use Rattle.usb_explain.proofs.SetsAhead.{one_more}
-use Rattle.usb_explain.proofs.set_start.after_sets.Goals as goal
-
-pub loop-preserved : goal.loop-preserved
-loop-preserved c = cc (one_more c.loop.counter c.args.b.now)

@@ -1,0 +1,68 @@
+//! The lines of the remarks on a descriptor.
+ghost use Rattle.std.specs.Prelude.{◌≡◌, ◌++◌, OnOk};
+ghost use Rattle.std.specs.List.{flat_map};
+ghost use Rattle.usb_remarks.specs.Lines.{remark_line, remark_lines};
+ghost use Rattle.usb_remarks.specs.Remarks.{typed_remarks};
+
+use crate::bits::{attributes_remark, class_remark, multiple_remark};
+use crate::interval::interval_remark;
+use crate::line::put_remark;
+use crate::packet::size_remark;
+use std::alloc::AllocError;
+use usb_base::{byte_at, word_at};
+use usb_explained_lines::{Context, Role};
+use usb_set::TransferType;
+use usb_text::Text;
+use usb_words::SetSpeed;
+
+/// Puts the lines of the remarks on a descriptor of these bytes.
+///
+/// ```rust
+/// put_remarks(&mut text, Role::Endpoint, &at_high_speed, &[7, 5, 0x81, 3, 8, 0, 17])?;
+/// assert_eq!(rt; text.as_bytes(), b"        ? an interrupt interval is 1 to 16 at high speed\n");
+/// ```
+///
+/// # Errors
+///
+/// Out of memory.
+#[tactic(auto, unfolding(crate::specs::Lines::remark_lines, crate::specs::Remarks::remarks_on))]
+pub fn put_remarks(
+    text: &mut Text,
+    role: Role,
+    context: &Context,
+    bytes: &[u8],
+) -> Result<(), AllocError>
+    ensures { OnOk result (text.new ≡ text.old ++ remark_lines role context.now bytes.now) }
+{
+    match role {
+        Role::Association => put_remark(text, context.depth, class_remark(byte_at(bytes, 4))),
+        Role::Interface => put_remark(text, context.depth, class_remark(byte_at(bytes, 5))),
+        Role::Endpoint => {
+            let transfer = TransferType::of(byte_at(bytes, 3));
+            put_endpoint_remarks(text, context.depth, context.speed, transfer, bytes)
+        }
+        _ => Ok(()),
+    }
+}
+
+/// Puts those on an endpoint of this transfer type.
+#[tactic(auto, using(crate::proofs::Parts::four_parts), unfolding(crate::specs::Remarks::typed_remarks))]
+fn put_endpoint_remarks(
+    text: &mut Text,
+    depth: u8,
+    speed: SetSpeed,
+    transfer: TransferType,
+    b: &[u8],
+) -> Result<(), AllocError>
+    ensures { OnOk result (text.new ≡ text.old ++ flat_map (remark_line depth) (typed_remarks speed transfer b.now)) }
+{
+    let max_packet = word_at(b, 4);
+    put_remark(text, depth, interval_remark(speed, transfer, byte_at(b, 6)))?;
+    put_remark(text, depth, size_remark(speed, transfer, max_packet % 2048))?;
+    put_remark(text, depth, multiple_remark(speed, transfer, max_packet))?;
+    put_remark(
+        text,
+        depth,
+        attributes_remark(speed, transfer, byte_at(b, 3)),
+    )
+}
