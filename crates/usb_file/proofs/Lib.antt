@@ -13,3 +13,4 @@ pub mod Dumps
 pub mod CompletedLemmas
 pub mod Inputs
 pub mod SetsAhead
+pub mod DumpEnds

@@ -1,7 +1,8 @@
 -- What bytes that are no input look like.
-use Rattle.std.specs.Prelude.{ℕ, zero, suc, ◌%◌, List, [], ◌∷◌, length, drop, slice_index, Bool, false, nat_le, ◌==◌, ◌&&◌, ◌||◌, Option, Some, None, if◌then◌else◌}
+use Rattle.std.specs.Prelude.{◌≡◌, ℕ, zero, suc, ◌+◌, ◌%◌, List, [], ◌∷◌, length, take, drop, slice_index, Bool, false, nat_le, ◌==◌, ◌&&◌, ◌||◌, Option, Some, None, if◌then◌else◌}
 use Rattle.std.specs.List.{list_all}
-use Rattle.usb_base.specs.Bytes.{little_endian_at}
+use Rattle.usb_base.specs.Bytes.{AreBytes, little_endian_at}
+use Rattle.usb_file_data.specs.declared.file.DescriptorFile.{DescriptorFile}
 use Rattle.usb_file.specs.declared.fault.FileFault.{FileFault}
 use Rattle.usb_file.specs.declared.fault.FileWhy.{FileWhy}
 use Rattle.usb_file.specs.declared.fault.FileWhy.TheVariants as files
@@ -9,6 +10,8 @@ use Rattle.usb_file.specs.declared.input_fault.InputFault.{InputFault}
 use Rattle.usb_file.specs.declared.input_fault.InputFault.TheVariants as faults
 use Rattle.usb_file.specs.declared.likeness.Likeness.{Likeness}
 use Rattle.usb_file.specs.declared.likeness.Likeness.TheVariants as likes
+use Rattle.usb_file.specs.Dumps.{Dump}
+use Rattle.usb_file.specs.FileFaults.{FileFaulty}
 
 -- a byte of text: printable ASCII, a tab, a line feed or a carriage return
 abbrev pub is_of_text : ℕ → Bool
@@ -63,3 +66,21 @@ file_likeness fault (x ∷ rest) =
 abbrev pub likeness_of : InputFault → List ℕ → Option Likeness
 likeness_of (faults.File fault) b = file_likeness fault b
 likeness_of fault b = None
+
+-- the bytes before this place are a dump, and so many follow
+pub record DumpGoesOn (b : List ℕ) (at n : ℕ) : Type 0 where
+  pub file : DescriptorFile
+  pub dump : Dump file (take at b)
+  pub more : length b ≡ at + n
+
+-- bytes that look like a dump and more are one up to the place of the fault that they show
+abbrev pub DumpsEndAtFaults : Type 0
+DumpsEndAtFaults =
+    (b : List ℕ) (fault : FileFault) (n : ℕ) → AreBytes b → FileFaulty b fault.at fault.why → likeness_of (faults.File fault) b ≡ Some (likes.DumpAndMore n) →
+    DumpGoesOn b fault.at n
+
+-- each dump that is followed by no string descriptor is seen
+abbrev pub DumpsAreSeen : Type 0
+DumpsAreSeen =
+    (f : DescriptorFile) (b : List ℕ) (at : ℕ) → Dump f (take at b) →
+    likeness_of (faults.File (record { at = at; why = files.Text })) b ≡ Some (likes.DumpAndMore (length (drop at b)))

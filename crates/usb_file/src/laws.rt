@@ -9,6 +9,7 @@ ghost use Rattle.usb_file.specs.FileOrFault.{FileOrFault};
 ghost use Rattle.usb_file.specs.Dumps.{Dump};
 ghost use Rattle.usb_file.specs.Inputs.{InputFaulty, IsInput};
 ghost use Rattle.usb_file.specs.InputOrFault.{InputOrFault};
+ghost use Rattle.usb_file.specs.Likeness.{DumpsAreSeen, DumpsEndAtFaults};
 ghost use Rattle.usb_file_data.specs.declared.input.Input.{Input};
 ghost use Rattle.usb_file.specs.declared.input_fault.InputFault.{InputFault};
 ghost use Rattle.usb_file.specs.declared.fault.FileWhy.TheVariants as files;
@@ -52,6 +53,13 @@ pub fn no_dump_is_a_file()
 {
     part_laws();
 }
+
+/// Bytes that look like a dump and more are a dump up to the place of their fault, and as many follow as are said. Each dump
+/// is seen after which a string descriptor is due and isn't there.
+pub fn a_dump_ends_at_its_fault()
+    ensures ends { DumpsEndAtFaults }
+    ensures seen { DumpsAreSeen }
+{}
 
 /// The laws of the parts of a file, from the crates that read and write these.
 pub(crate) fn part_laws()

@@ -1,0 +1,269 @@
+-- Where bytes look like a dump and more, those before their fault are a dump.
+use Rattle.std.proofs.Common.{◌≡◌, ℕ, zero, suc, ◌+◌, ◌==◌, ◌||◌, Bool, true, false, if◌then◌else◌, List, [], ◌∷◌, ◌++◌, length, take, drop, slice_index, Option, Some, None, refl, ap, sym, subst, ◌∙◌, arith, inl, inr, ◌⊎◌, append_assoc, append-nil, length-append}
+use Rattle.std.specs.Prelude.{is_some, nat_lt}
+use Rattle.std.specs.List.{list_all}
+use Rattle.std.proofs.Math.Seq.{drop-append_seam, take-append_seam}
+use Rattle.std.proofs.lemmas.List.{take-append-drop}
+use Rattle.std.proofs.lemmas.Bool.Decides.{nat_tests}
+use Rattle.usb_base.specs.Bytes.{AreBytes, little_endian_at}
+use Rattle.usb_fields.specs.Device.{device_bytes, device_fault}
+use Rattle.usb_fields.specs.Qualifier.{qualifier_fault}
+use Rattle.usb_set.specs.declared.tree.Configuration.{Configuration}
+use Rattle.usb_set.specs.Encoding.{set_length}
+use Rattle.usb_set.proofs.Items.{two_bytes}
+use Rattle.usb_set.proofs.Sets.{length-set_bytes}
+use Rattle.usb_file_data.specs.declared.file.DescriptorFile.{DescriptorFile}
+use Rattle.usb_file_data.specs.declared.file.Other.{Other}
+use Rattle.usb_file_data.specs.declared.file.Strings.{Strings}
+use Rattle.usb_file_data.specs.Named.{named_indices}
+use Rattle.usb_file_data.specs.File.{file_bytes, other_bytes, sets_bytes, strings_bytes, whole_set}
+use Rattle.usb_file_data.specs.Front.{AllSets, IsInOrder, Splits}
+use Rattle.usb_file_data.proofs.Lists.{bytes_before}
+use Rattle.usb_file.specs.declared.fault.FileWhy.{FileWhy}
+use Rattle.usb_file.specs.declared.fault.FileWhy.TheVariants as files
+use Rattle.usb_file.specs.declared.fault.FileFault.{FileFault}
+use Rattle.usb_file.specs.declared.likeness.Likeness.{Likeness}
+use Rattle.usb_file.specs.declared.likeness.Likeness.TheVariants as likes
+use Rattle.usb_file.specs.Dumps.{Dump}
+use Rattle.usb_file.specs.FileFaults.{FaultyPart, FileFaulty, IsNext, LanguagesAreNext, MissesString, NextPart, PartFaulty, a_qualifier, a_set, a_string, is_no_string, the_end, the_languages}
+use Rattle.usb_file.specs.Likeness.{DumpGoesOn, DumpsAreSeen, DumpsEndAtFaults, after_sets, file_likeness, goes_on_after_dump, is_bos, is_of_text, is_report, is_string}
+use Rattle.usb_file.proofs.Dumps.{is_dump}
+use Rattle.usb_file.proofs.Paths.{behind, device_first}
+
+-- ---- past sets
+
+-- the bytes after one set
+abbrev pub past : List ℕ → List ℕ
+past b = drop (little_endian_at b 2) b
+
+-- one set first
+first_set : (n : ℕ) (b : List ℕ) → after_sets (suc n) b ≡ after_sets n (past b)
+unfolding after_sets
+first_set zero b = refl
+first_set (suc n) b = ap past (first_set n b)
+
+none_past : (b : List ℕ) → after_sets 0 b ≡ b
+unfolding after_sets
+none_past b = refl
+
+-- wTotalLength of a whole set is the count of its bytes
+total_of : (c : Configuration) (more : List ℕ) → little_endian_at (whole_set c ++ more) 2 ≡ length (whole_set c)
+unfolding whole_set
+total_of c more = two_bytes (set_length c) ∙ sym (length-set_bytes c (set_length c) 0)
+
+past_set : (c : Configuration) (more : List ℕ) → past (whole_set c ++ more) ≡ more
+past_set c more = ap (λ n. drop n (whole_set c ++ more)) (total_of c more) ∙ drop-append_seam (whole_set c) more
+
+past_sets : (sets : List Configuration) (more : List ℕ) → after_sets (length sets) (sets_bytes sets ++ more) ≡ more
+past_sets [] more = none_past more
+past_sets (c ∷ sets) more =
+    first_set (length sets) (sets_bytes (c ∷ sets) ++ more)
+    ∙ ap (λ l. after_sets (length sets) (past l)) (append_assoc (whole_set c) (sets_bytes sets) more)
+    ∙ ap (λ l. after_sets (length sets) l) (past_set c (sets_bytes sets ++ more))
+    ∙ past_sets sets more
+
+-- ---- which part is at fault
+
+-- strings are there
+abbrev pub HasStrings : DescriptorFile → Type 0
+HasStrings f = f.strings ≡ None → ⊥
+
+-- a string descriptor was due, and the fault is where it should begin
+record TextIsDue (f : DescriptorFile) (rest : List ℕ) (place : ℕ) : Type 0 where
+  at_start : place ≡ 0
+  due : LanguagesAreNext f rest ⊎ HasStrings f
+
+-- the fault of a descriptor of fixed length, and that of a string, by what they depend on
+abbrev pub fixed_by : Bool → Bool → ℕ → FileWhy → Option (ℕ × FileWhy)
+fixed_by short wrong n why = if short then Some (n, files.Truncated) else if wrong then Some (0, why) else None
+
+abbrev pub string_by : Bool → Bool → ℕ → Option (ℕ × FileWhy)
+string_by wrong short n = if wrong then Some (0, files.Text) else if short then Some (n, files.Truncated) else None
+
+-- the place of a fault, and why
+abbrev place_in : Option (ℕ × FileWhy) → ℕ
+place_in None = 0
+place_in (Some fault) = fault.0
+
+abbrev why_in : Option (ℕ × FileWhy) → FileWhy
+why_in None = files.Memory
+why_in (Some fault) = fault.1
+
+truncated_apart : files.Truncated ≡ files.Text → ⊥
+truncated_apart e = cc
+
+memory_apart : files.Memory ≡ files.Text → ⊥
+memory_apart e = cc
+
+no_fixed_text : (short wrong : Bool) (n place : ℕ) (why : FileWhy) → (why ≡ files.Text → ⊥) → fixed_by short wrong n why ≡ Some (place, files.Text) → ⊥
+no_fixed_text true wrong n place why apart e = truncated_apart (ap why_in e)
+no_fixed_text false true n place why apart e = apart (ap why_in e)
+no_fixed_text false false n place why apart e = memory_apart (ap why_in e)
+
+text_at : (wrong short : Bool) (n place : ℕ) → string_by wrong short n ≡ Some (place, files.Text) → place ≡ 0
+text_at true short n place e = sym (ap place_in e)
+text_at false true n place e = absurd (truncated_apart (ap why_in e))
+text_at false false n place e = absurd (memory_apart (ap why_in e))
+
+device_apart : files.Device ≡ files.Text → ⊥
+device_apart e = cc
+
+qualifier_apart : files.Qualifier ≡ files.Text → ⊥
+qualifier_apart e = cc
+
+some_strings : (count : ℕ) (strings : Option Strings) → MissesString count strings → strings ≡ None → ⊥
+some_strings count None misses e = misses
+some_strings count (Some s) misses e = cc
+
+text_due : (part : NextPart) (f : DescriptorFile) (rest : List ℕ) (place : ℕ) → IsNext part f rest → PartFaulty part rest place files.Text → TextIsDue f rest place
+text_due (a_set kind) f rest place next fault = absurd fault
+text_due a_qualifier f rest place next fault =
+    absurd (no_fixed_text (nat_lt (length rest) 10) (is_some (qualifier_fault (take 10 rest))) (length rest) place files.Qualifier qualifier_apart fault)
+text_due the_languages f rest place next fault = record {
+  at_start = text_at (is_no_string 4 rest) (nat_lt (length rest) 2 || nat_lt (length rest) (slice_index rest 0)) (length rest) place fault;
+  due = inl next;
+}
+text_due a_string f rest place next fault = record {
+  at_start = text_at (is_no_string 2 rest) (nat_lt (length rest) 2 || nat_lt (length rest) (slice_index rest 0)) (length rest) place fault;
+  due = inr (some_strings (length (named_indices f)) f.strings next);
+}
+text_due the_end f [] place next fault = absurd fault
+text_due the_end f (x ∷ rest) place next fault = absurd (no_text fault.1)
+  where
+    no_text : files.Text ≡ files.Trailing → ⊥
+    no_text e = cc
+
+-- ---- all sets of the device are there
+
+all_of : (f : DescriptorFile) (other : Option Other) → AllSets f other → length f.sets ≡ f.device.configurations
+all_of f None all = all
+all_of f (Some o) all = all.0
+
+all_before : (f : DescriptorFile) (other : Option Other) (strings : Option Strings) → IsInOrder f other strings → (strings ≡ None → ⊥) → length f.sets ≡ f.device.configurations
+all_before f other None order some = absurd (some refl)
+all_before f None (Some s) order some = order.0
+all_before f (Some o) (Some s) order some = order.0
+
+all_due : (f : DescriptorFile) (rest : List ℕ) → IsInOrder f f.other f.strings → LanguagesAreNext f rest ⊎ HasStrings f → length f.sets ≡ f.device.configurations
+all_due f rest order (inl next) = all_of f f.other next.all
+all_due f rest order (inr some) = all_before f f.other f.strings order some
+
+-- ---- nothing else is before the fault
+
+no_other : (other : Option Other) → length (other_bytes other) ≡ 0 → other ≡ None
+no_other None e = refl
+no_other (Some o) e = absurd (omega (arith, e))
+
+no_strings : (strings : Option Strings) → length (strings_bytes strings) ≡ 0 → strings ≡ None
+no_strings None e = refl
+no_strings (Some s) e = absurd (omega (arith, e))
+
+-- what follows the device descriptor and its sets
+sets_behind : (f : DescriptorFile) (rest : List ℕ) → length f.sets ≡ f.device.configurations
+    → (let b = device_bytes f.device ++ behind f rest in after_sets (slice_index b 17) (drop 18 b) ≡ other_bytes f.other ++ (strings_bytes f.strings ++ rest))
+sets_behind f rest all =
+    ap (λ n. after_sets n (behind f rest)) (sym all) ∙ past_sets f.sets (other_bytes f.other ++ (strings_bytes f.strings ++ rest))
+
+same_numbers : (m n : ℕ) → (m == n) ≡ true → m ≡ n
+same_numbers m n e = grind (arith, nat_tests)
+
+no_length : (a b c : List ℕ) → length c ≡ length (a ++ (b ++ c)) → (length a ≡ 0) × (length b ≡ 0)
+no_length a b c e =
+    let sum : length (a ++ (b ++ c)) ≡ length a + (length b + length c) = length-append a (b ++ c) ∙ ap (λ n. length a + n) (length-append b c) in
+    (omega (arith, e, sum), omega (arith, e, sum))
+
+dump_of : (f : DescriptorFile) (b rest : List ℕ) → AreBytes b → Splits b f rest → LanguagesAreNext f rest ⊎ HasStrings f → f.other ≡ None → f.strings ≡ None
+    → Dump f (file_bytes f)
+dump_of f b rest fits splits (inr some) bare none = absurd (some none)
+dump_of f b rest fits splits (inl next) bare none =
+    is_dump f (file_bytes f) (bytes_before (file_bytes f) rest (subst AreBytes splits.parts fits))
+    (record { is_front = splits.is_front; parts = sym (append-nil (file_bytes f)) })
+    (record { all = next.all; no_strings = next.no_strings; no_qualifier = λ _ _. refl; named = next.named })
+    bare
+
+dump_before : (f : DescriptorFile) (b rest : List ℕ) (at : ℕ) → AreBytes b → Splits b f rest → at ≡ length (file_bytes f) → LanguagesAreNext f rest ⊎ HasStrings f
+    → goes_on_after_dump files.Text at b ≡ true → DumpGoesOn b at (length (drop at b))
+dump_before f b rest at fits splits at_is due goes =
+    let all = all_due f rest splits.is_front.order due in
+    let is : b ≡ device_bytes f.device ++ behind f rest = splits.parts ∙ device_first f rest in
+    let left : drop at b ≡ rest = ap (λ n. drop n b) at_is ∙ ap (λ l. drop (length (file_bytes f)) l) splits.parts ∙ drop-append_seam (file_bytes f) rest in
+    let before : take at b ≡ file_bytes f = ap (λ n. take n b) at_is ∙ ap (λ l. take (length (file_bytes f)) l) splits.parts ∙ take-append_seam (file_bytes f) rest in
+    let sets : after_sets (slice_index b 17) (drop 18 b) ≡ other_bytes f.other ++ (strings_bytes f.strings ++ rest) =
+    ap (λ l. after_sets (slice_index l 17) (drop 18 l)) is ∙ sets_behind f rest all in
+    let nothing = no_length (other_bytes f.other) (strings_bytes f.strings) rest
+    (ap length (sym left) ∙ same_numbers (length (drop at b)) (length (after_sets (slice_index b 17) (drop 18 b))) goes ∙ ap length sets) in
+    record {
+      file = f;
+      dump = subst (λ l. Dump f l) (sym before) (dump_of f b rest fits splits due (no_other f.other nothing.0) (no_strings f.strings nothing.1));
+      more = ap length splits.parts ∙ length-append (file_bytes f) rest ∙ ap (λ n. n + length rest) (sym at_is) ∙ ap (λ l. at + length l) (sym left);
+    }
+
+part_goes_on : (b : List ℕ) (at : ℕ) → AreBytes b → FaultyPart b at files.Text → goes_on_after_dump files.Text at b ≡ true → DumpGoesOn b at (length (drop at b))
+part_goes_on b at fits y goes =
+    let due = text_due y.part y.front y.rest y.place y.next y.fault in
+    dump_before y.front b y.rest at fits y.splits (omega (arith, y.at_is, due.at_start)) due.due goes
+
+-- ---- the likeness
+
+chosen : (t g k s r : Bool) (m n : ℕ)
+    → (if t then Some likes.Text else if g then Some (likes.DumpAndMore m) else if k then Some likes.Bos else if s then Some likes.StringDescriptor else if r then Some likes.Report else None) ≡ Some (likes.DumpAndMore n)
+    → (g ≡ true) × (m ≡ n)
+chosen true g k s r m n e = absurd (text_apart e)
+  where
+    text_apart : Some likes.Text ≡ Some (likes.DumpAndMore n) → ⊥
+    text_apart e = cc
+chosen false true k s r m n e = (refl, cc)
+chosen false false true s r m n e = (cc, cc)
+chosen false false false true r m n e = (cc, cc)
+chosen false false false false true m n e = (cc, cc)
+chosen false false false false false m n e = (cc, cc)
+
+likened : (fault : FileFault) (b : List ℕ) (n : ℕ) → file_likeness fault b ≡ Some (likes.DumpAndMore n)
+    → (goes_on_after_dump fault.why fault.at b ≡ true) × (length (drop fault.at b) ≡ n)
+likened fault [] n e = absurd (nothing_apart e)
+  where
+    nothing_apart : Some likes.Nothing ≡ Some (likes.DumpAndMore n) → ⊥
+    nothing_apart e = cc
+likened fault (x ∷ rest) n e =
+    let b = x ∷ rest in
+    chosen (list_all is_of_text b) (goes_on_after_dump fault.why fault.at b) (is_bos b) (is_string b) (is_report b) (length (drop fault.at b)) n e
+
+untrue : false ≡ true → ⊥
+untrue e = cc
+
+file_goes_on : (b : List ℕ) (at : ℕ) (why : FileWhy) → AreBytes b → FileFaulty b at why → goes_on_after_dump why at b ≡ true → DumpGoesOn b at (length (drop at b))
+file_goes_on b at files.Text fits (inl device) goes =
+    absurd (no_fixed_text (nat_lt (length b) 18) (is_some (device_fault (take 18 b))) (length b) at files.Device device_apart device)
+file_goes_on b at files.Text fits (inr part) goes = part_goes_on b at fits part goes
+file_goes_on b at files.Device fits faulty goes = absurd (untrue goes)
+file_goes_on b at (files.Set why) fits faulty goes = absurd (untrue goes)
+file_goes_on b at files.SetKind fits faulty goes = absurd (untrue goes)
+file_goes_on b at files.Qualifier fits faulty goes = absurd (untrue goes)
+file_goes_on b at files.Truncated fits faulty goes = absurd (untrue goes)
+file_goes_on b at files.Trailing fits faulty goes = absurd (untrue goes)
+file_goes_on b at files.Memory fits faulty goes = absurd (untrue goes)
+
+pub dumps_end : DumpsEndAtFaults
+dumps_end b fault n fits faulty e =
+    let is = likened fault b n e in
+    subst (λ n. DumpGoesOn b fault.at n) is.1 (file_goes_on b fault.at fault.why fits faulty is.0)
+
+-- ---- a dump is seen
+
+goes_where : (at : ℕ) (d rest : List ℕ) (goes : Bool) (more : Option Likeness) → goes ≡ true → (if goes then Some (likes.DumpAndMore (length (drop at d))) else more) ≡ Some (likes.DumpAndMore (length (drop at d)))
+goes_where at d rest true more e = refl
+goes_where at d rest false more e = absurd (untrue e)
+
+equal_numbers : (m n : ℕ) → m ≡ n → (m == n) ≡ true
+equal_numbers m n e = grind (arith, nat_tests)
+
+pub dumps_are_seen : DumpsAreSeen
+dumps_are_seen f b at dump =
+    let rest = drop at b in
+    let more = sets_bytes f.sets ++ rest in
+    let l = device_bytes f.device ++ more in
+    let is : b ≡ l = sym (take-append-drop at b) ∙ ap (λ a. a ++ rest) dump.bytes ∙ append_assoc (device_bytes f.device) (sets_bytes f.sets) rest in
+    let left : after_sets f.device.configurations more ≡ rest = ap (λ n. after_sets n more) (sym dump.counts) ∙ past_sets f.sets rest in
+    let same : length (drop at l) ≡ length (after_sets f.device.configurations more) = ap (λ a. length (drop at a)) (sym is) ∙ ap length (sym left) in
+    subst (λ a. file_likeness (record { at = at; why = files.Text }) a ≡ Some (likes.DumpAndMore (length (drop at a)))) (sym is)
+    (goes_where at l rest (length (drop at l) == length (after_sets f.device.configurations more)) _ (equal_numbers (length (drop at l)) (length (after_sets f.device.configurations more)) same))
