@@ -11,6 +11,14 @@ import re
 HERE = os.path.dirname(os.path.abspath(__file__))
 EXPLAIN = os.path.join(HERE, "../examples/data/explain")
 WIDEST = 120
+# The definition of a field of each form that has one width.
+WITH_A_WIDTH = {
+    "Release": "release",
+    "ReportType": "report_type",
+    "Index": "string_index",
+    "FrameInterval": "frame_interval",
+    "Guid": "guid",
+}
 
 
 def lines_of(name):
@@ -133,6 +141,10 @@ def field_parts(field):
         return name, "Release", 2
     if form == "index":
         return name, "Index", 1
+    if form == "interval":
+        return name, "FrameInterval", 4
+    if form == "guid":
+        return name, "Guid", 16
     return name, {"hex": "Hexadecimal", "dec": "Decimal", "type": "ReportType"}[form.rstrip("0123456789")], int(re.sub(r"\D", "", form))
 
 
@@ -175,7 +187,7 @@ def rows_code(groups):
 
 def field_definition(field):
     name, form, width = field_parts(field)
-    number = {"Release": "release", "ReportType": "report_type", "Index": "string_index"}.get(form, f"{form.lower()} {width}")
+    number = f"{form.lower()} {width}" if form in ("Decimal", "Hexadecimal") else WITH_A_WIDTH[form]
     return f'{number} (codes "{name}")'
 
 

@@ -3,8 +3,10 @@ use Rattle.std.specs.Prelude.{ℕ, ◌+◌, ◌-◌, ◌*◌, ◌==◌, List, []
 use Rattle.std.specs.Fmt.{decimal}
 use Rattle.hex.specs.Hex.{encode_lower}
 use Rattle.usb_names.specs.declared.field.Form.{Form}
-use Rattle.usb_names.specs.declared.field.Form.TheVariants.{Decimal, Hexadecimal, Release, ReportType, Index, Class, FunctionClass, Subclass, Protocol, DevicePacket, Supply, Power, Address, Transfer, PacketSize, Interval}
+use Rattle.usb_names.specs.declared.field.Form.TheVariants.{Decimal, Hexadecimal, Release, ReportType, Index, FrameInterval, Guid, Class, FunctionClass, Subclass, Protocol, DevicePacket, Supply, Power, Address, Transfer, PacketSize, Interval}
 use Rattle.usb_words.specs.declared.speed.SetSpeed.{SetSpeed}
+use Rattle.usb_class_words.specs.FrameIntervals.{frame_interval}
+use Rattle.usb_class_words.specs.Guids.{guid_words}
 use Rattle.usb_words.specs.Names.{class_field, function_class_field, protocol_field, subclass_field}
 use Rattle.usb_text.specs.Numbers.{byte_code, word_code}
 use Rattle.usb_explained_lines.specs.Names.{StringNames, index_words}
@@ -49,6 +51,8 @@ form_words speed strings Hexadecimal width b place = hexadecimal_words (take wid
 form_words speed strings Release width b place = release_words (take width (drop place b))
 form_words speed strings ReportType width b place = report_words (slice_index b place)
 form_words speed strings Index width b place = index_words strings (slice_index b place)
+form_words speed strings FrameInterval width b place = frame_interval (take width (drop place b))
+form_words speed strings Guid width b place = guid_words (take width (drop place b))
 form_words speed strings Class width b place = class_field (slice_index b place)
 form_words speed strings FunctionClass width b place = function_class_field (slice_index b place)
 form_words speed strings Subclass width b place = subclass_field (slice_index b (place - 1)) (slice_index b place)

@@ -10,6 +10,7 @@ use crate::layout::Shown;
 use crate::value::{put_packet_value, put_power_value, put_release_value, put_set_attributes};
 use std::alloc::AllocError;
 use usb_base::{after, byte_at, prefix};
+use usb_class_words::{put_frame_interval, put_guid};
 use usb_names::{ClassField, Form};
 use usb_text::{Text, put_byte_code, put_word_code};
 use usb_words::{SetSpeed, put_class, put_function_class, put_protocol, put_subclass};
@@ -37,6 +38,8 @@ pub(crate) fn put_form(
         Form::Release => put_release_words(text, bytes_at(b, place, field.width)),
         Form::ReportType => put_report_words(text, byte),
         Form::Index => put_index(text, shown.names, byte),
+        Form::FrameInterval => put_frame_interval(text, bytes_at(b, place, field.width)),
+        Form::Guid => put_guid(text, bytes_at(b, place, field.width)),
         Form::Class => put_class(text, byte),
         Form::FunctionClass => put_function_class(text, byte),
         Form::Subclass => put_subclass(text, byte_before(b, place, 1), byte),

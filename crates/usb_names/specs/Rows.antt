@@ -4,7 +4,7 @@ use Rattle.std.specs.Prelude.{ℕ, List, [], ◌∷◌, ◌++◌, Option, Some, 
 use Rattle.std.specs.List.{find}
 use Rattle.usb_names.specs.declared.codes.ClassCodes.{ClassCodes}
 use Rattle.usb_names.specs.declared.field.Form.{Form}
-use Rattle.usb_names.specs.declared.field.Form.TheVariants.{Decimal, Hexadecimal, Release, ReportType, Index}
+use Rattle.usb_names.specs.declared.field.Form.TheVariants.{Decimal, Hexadecimal, Release, ReportType, Index, FrameInterval, Guid}
 
 -- a field: its standard name, how many bytes it has, and how its number is written
 pub record Field : Type 0 where
@@ -31,6 +31,14 @@ report_type name = record { name = name; width = 1; form = ReportType }
 -- the index of a string
 abbrev pub string_index : List ℕ → Field
 string_index name = record { name = name; width = 1; form = Index }
+
+-- a frame interval of video
+abbrev pub frame_interval : List ℕ → Field
+frame_interval name = record { name = name; width = 4; form = FrameInterval }
+
+-- a GUID
+abbrev pub guid : List ℕ → Field
+guid name = record { name = name; width = 16; form = Guid }
 
 -- a descriptor of a class: the subclass, the protocol and the first byte of the body that it is known by (none: any),
 -- its type, its name, its fields behind bDescriptorType, and the fields that repeat behind those
@@ -230,8 +238,7 @@ communications_rows =
     row None None 36 (Some 17) (codes "CDC wireless handset control")
     (hexadecimal 1 (codes "bDescriptorSubtype") ∷ release (codes "bcdVersion") ∷ []) [] ∷
     row None None 36 (Some 18) (codes "CDC mobile direct line")
-    (hexadecimal 1 (codes "bDescriptorSubtype") ∷ release (codes "bcdVersion") ∷ hexadecimal 16 (codes "bGUID") ∷ [])
-    [] ∷
+    (hexadecimal 1 (codes "bDescriptorSubtype") ∷ release (codes "bcdVersion") ∷ guid (codes "bGUID") ∷ []) [] ∷
     row None None 36 (Some 19) (codes "CDC mobile direct line detail")
     (hexadecimal 1 (codes "bDescriptorSubtype") ∷ hexadecimal 1 (codes "bGuidDescriptorType") ∷ [])
     (hexadecimal 1 (codes "bDetailData") ∷ []) ∷
@@ -317,9 +324,8 @@ video_rows =
     (hexadecimal 1 (codes "bDescriptorSubtype") ∷ decimal 1 (codes "bUnitID") ∷ decimal 1 (codes "bSourceID") ∷
     decimal 2 (codes "wMaxMultiplier") ∷ decimal 1 (codes "bControlSize") ∷ []) [] ∷
     row (Some 1) None 36 (Some 6) (codes "video extension unit")
-    (hexadecimal 1 (codes "bDescriptorSubtype") ∷ decimal 1 (codes "bUnitID") ∷
-    hexadecimal 16 (codes "guidExtensionCode") ∷ decimal 1 (codes "bNumControls") ∷ decimal 1 (codes "bNrInPins") ∷ [])
-    [] ∷
+    (hexadecimal 1 (codes "bDescriptorSubtype") ∷ decimal 1 (codes "bUnitID") ∷ guid (codes "guidExtensionCode") ∷
+    decimal 1 (codes "bNumControls") ∷ decimal 1 (codes "bNrInPins") ∷ []) [] ∷
     row (Some 1) None 36 (Some 7) (codes "video encoding unit")
     (hexadecimal 1 (codes "bDescriptorSubtype") ∷ decimal 1 (codes "bUnitID") ∷ decimal 1 (codes "bSourceID") ∷
     string_index (codes "iEncoding") ∷ decimal 1 (codes "bControlSize") ∷ []) [] ∷
@@ -339,15 +345,15 @@ video_rows =
     decimal 1 (codes "bNumImageSizePatterns") ∷ []) [] ∷
     row (Some 2) None 36 (Some 4) (codes "video format uncompressed")
     (hexadecimal 1 (codes "bDescriptorSubtype") ∷ decimal 1 (codes "bFormatIndex") ∷
-    decimal 1 (codes "bNumFrameDescriptors") ∷ hexadecimal 16 (codes "guidFormat") ∷ decimal 1 (codes "bBitsPerPixel") ∷
+    decimal 1 (codes "bNumFrameDescriptors") ∷ guid (codes "guidFormat") ∷ decimal 1 (codes "bBitsPerPixel") ∷
     decimal 1 (codes "bDefaultFrameIndex") ∷ decimal 1 (codes "bAspectRatioX") ∷ decimal 1 (codes "bAspectRatioY") ∷
     hexadecimal 1 (codes "bmInterlaceFlags") ∷ decimal 1 (codes "bCopyProtect") ∷ []) [] ∷
     row (Some 2) None 36 (Some 5) (codes "video frame uncompressed")
     (hexadecimal 1 (codes "bDescriptorSubtype") ∷ decimal 1 (codes "bFrameIndex") ∷
     hexadecimal 1 (codes "bmCapabilities") ∷ decimal 2 (codes "wWidth") ∷ decimal 2 (codes "wHeight") ∷
     decimal 4 (codes "dwMinBitRate") ∷ decimal 4 (codes "dwMaxBitRate") ∷
-    decimal 4 (codes "dwMaxVideoFrameBufferSize") ∷ decimal 4 (codes "dwDefaultFrameInterval") ∷
-    decimal 1 (codes "bFrameIntervalType") ∷ []) (decimal 4 (codes "dwFrameInterval") ∷ []) ∷
+    decimal 4 (codes "dwMaxVideoFrameBufferSize") ∷ frame_interval (codes "dwDefaultFrameInterval") ∷
+    decimal 1 (codes "bFrameIntervalType") ∷ []) (frame_interval (codes "dwFrameInterval") ∷ []) ∷
     row (Some 2) None 36 (Some 6) (codes "video format MJPEG")
     (hexadecimal 1 (codes "bDescriptorSubtype") ∷ decimal 1 (codes "bFormatIndex") ∷
     decimal 1 (codes "bNumFrameDescriptors") ∷ hexadecimal 1 (codes "bmFlags") ∷
@@ -357,12 +363,11 @@ video_rows =
     (hexadecimal 1 (codes "bDescriptorSubtype") ∷ decimal 1 (codes "bFrameIndex") ∷
     hexadecimal 1 (codes "bmCapabilities") ∷ decimal 2 (codes "wWidth") ∷ decimal 2 (codes "wHeight") ∷
     decimal 4 (codes "dwMinBitRate") ∷ decimal 4 (codes "dwMaxBitRate") ∷
-    decimal 4 (codes "dwMaxVideoFrameBufferSize") ∷ decimal 4 (codes "dwDefaultFrameInterval") ∷
-    decimal 1 (codes "bFrameIntervalType") ∷ []) (decimal 4 (codes "dwFrameInterval") ∷ []) ∷
+    decimal 4 (codes "dwMaxVideoFrameBufferSize") ∷ frame_interval (codes "dwDefaultFrameInterval") ∷
+    decimal 1 (codes "bFrameIntervalType") ∷ []) (frame_interval (codes "dwFrameInterval") ∷ []) ∷
     row (Some 2) None 36 (Some 10) (codes "video format MPEG-2 TS")
     (hexadecimal 1 (codes "bDescriptorSubtype") ∷ decimal 1 (codes "bFormatIndex") ∷ decimal 1 (codes "bDataOffset") ∷
-    decimal 1 (codes "bPacketLength") ∷ decimal 1 (codes "bStrideLength") ∷ hexadecimal 16 (codes "guidStrideFormat") ∷
-    []) [] ∷
+    decimal 1 (codes "bPacketLength") ∷ decimal 1 (codes "bStrideLength") ∷ guid (codes "guidStrideFormat") ∷ []) [] ∷
     row (Some 2) None 36 (Some 12) (codes "video format DV")
     (hexadecimal 1 (codes "bDescriptorSubtype") ∷ decimal 1 (codes "bFormatIndex") ∷
     decimal 4 (codes "dwMaxVideoFrameBufferSize") ∷ hexadecimal 1 (codes "bFormatType") ∷ []) [] ∷
@@ -371,19 +376,19 @@ video_rows =
     hexadecimal 1 (codes "bTransferCharacteristics") ∷ hexadecimal 1 (codes "bMatrixCoefficients") ∷ []) [] ∷
     row (Some 2) None 36 (Some 16) (codes "video format frame based")
     (hexadecimal 1 (codes "bDescriptorSubtype") ∷ decimal 1 (codes "bFormatIndex") ∷
-    decimal 1 (codes "bNumFrameDescriptors") ∷ hexadecimal 16 (codes "guidFormat") ∷ decimal 1 (codes "bBitsPerPixel") ∷
+    decimal 1 (codes "bNumFrameDescriptors") ∷ guid (codes "guidFormat") ∷ decimal 1 (codes "bBitsPerPixel") ∷
     decimal 1 (codes "bDefaultFrameIndex") ∷ decimal 1 (codes "bAspectRatioX") ∷ decimal 1 (codes "bAspectRatioY") ∷
     hexadecimal 1 (codes "bmInterlaceFlags") ∷ decimal 1 (codes "bCopyProtect") ∷ decimal 1 (codes "bVariableSize") ∷
     []) [] ∷
     row (Some 2) None 36 (Some 17) (codes "video frame, frame based")
     (hexadecimal 1 (codes "bDescriptorSubtype") ∷ decimal 1 (codes "bFrameIndex") ∷
     hexadecimal 1 (codes "bmCapabilities") ∷ decimal 2 (codes "wWidth") ∷ decimal 2 (codes "wHeight") ∷
-    decimal 4 (codes "dwMinBitRate") ∷ decimal 4 (codes "dwMaxBitRate") ∷ decimal 4 (codes "dwDefaultFrameInterval") ∷
-    decimal 1 (codes "bFrameIntervalType") ∷ decimal 4 (codes "dwBytesPerLine") ∷ [])
-    (decimal 4 (codes "dwFrameInterval") ∷ []) ∷
+    decimal 4 (codes "dwMinBitRate") ∷ decimal 4 (codes "dwMaxBitRate") ∷
+    frame_interval (codes "dwDefaultFrameInterval") ∷ decimal 1 (codes "bFrameIntervalType") ∷
+    decimal 4 (codes "dwBytesPerLine") ∷ []) (frame_interval (codes "dwFrameInterval") ∷ []) ∷
     row (Some 2) None 36 (Some 18) (codes "video format stream based")
-    (hexadecimal 1 (codes "bDescriptorSubtype") ∷ decimal 1 (codes "bFormatIndex") ∷
-    hexadecimal 16 (codes "guidFormat") ∷ decimal 4 (codes "dwPacketLength") ∷ []) [] ∷
+    (hexadecimal 1 (codes "bDescriptorSubtype") ∷ decimal 1 (codes "bFormatIndex") ∷ guid (codes "guidFormat") ∷
+    decimal 4 (codes "dwPacketLength") ∷ []) [] ∷
     row (Some 2) None 36 (Some 19) (codes "video format H264")
     (hexadecimal 1 (codes "bDescriptorSubtype") ∷ decimal 1 (codes "bFormatIndex") ∷
     decimal 1 (codes "bNumFrameDescriptors") ∷ decimal 1 (codes "bDefaultFrameIndex") ∷
@@ -416,8 +421,9 @@ video_rows =
     hexadecimal 2 (codes "wProfile") ∷ decimal 1 (codes "bLevelIDC") ∷ hexadecimal 2 (codes "wConstrainedToolset") ∷
     hexadecimal 4 (codes "bmSupportedUsages") ∷ hexadecimal 2 (codes "bmCapabilities") ∷
     hexadecimal 4 (codes "bmSVCCapabilities") ∷ hexadecimal 4 (codes "bmMVCCapabilities") ∷
-    decimal 4 (codes "dwMinBitRate") ∷ decimal 4 (codes "dwMaxBitRate") ∷ decimal 4 (codes "dwDefaultFrameInterval") ∷
-    decimal 1 (codes "bNumFrameIntervals") ∷ []) (decimal 4 (codes "dwFrameInterval") ∷ []) ∷
+    decimal 4 (codes "dwMinBitRate") ∷ decimal 4 (codes "dwMaxBitRate") ∷
+    frame_interval (codes "dwDefaultFrameInterval") ∷ decimal 1 (codes "bNumFrameIntervals") ∷ [])
+    (frame_interval (codes "dwFrameInterval") ∷ []) ∷
     row None None 36 None (codes "video class")
     (hexadecimal 1 (codes "bDescriptorSubtype") ∷ []) [] ∷
     row None None 37 None (codes "video endpoint")

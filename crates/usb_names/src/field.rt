@@ -13,6 +13,10 @@ pub enum Form {
     ReportType,
     /// As the index of a string (USB 2.0, 9.6.7).
     Index,
+    /// As a frame interval of video.
+    FrameInterval,
+    /// As a GUID.
+    Guid,
     /// As the class code of a device.
     Class,
     /// As that of an interface or a function.

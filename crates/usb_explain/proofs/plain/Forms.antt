@@ -3,7 +3,7 @@ use Rattle.std.proofs.Common.{ℕ, ◌+◌, ◌-◌, ◌*◌, ◌^◌, ◌<◌, 
 use Rattle.std.specs.Fmt.{decimal}
 use Rattle.usb_base.specs.Bytes.{AreBytes}
 use Rattle.usb_names.specs.declared.field.Form.{Form}
-use Rattle.usb_names.specs.declared.field.Form.TheVariants.{Decimal, Hexadecimal, Release, ReportType, Index, Class, FunctionClass, Subclass, Protocol, DevicePacket, Supply, Power, Address, Transfer, PacketSize, Interval}
+use Rattle.usb_names.specs.declared.field.Form.TheVariants.{Decimal, Hexadecimal, Release, ReportType, Index, FrameInterval, Guid, Class, FunctionClass, Subclass, Protocol, DevicePacket, Supply, Power, Address, Transfer, PacketSize, Interval}
 use Rattle.usb_set.specs.Endpoints.{transfer_type_of}
 use Rattle.usb_words.specs.declared.speed.SetSpeed.{SetSpeed}
 use Rattle.usb_words.specs.declared.speed.SetSpeed.TheVariants.{Low, Full, LowOrFull, High, FullOrHigh, Super}
@@ -17,6 +17,7 @@ use Rattle.usb_explain.proofs.plain.Texts.{both_plain, decimal_plain, parts}
 use Rattle.usb_explain.proofs.plain.Parts.{byte_fits}
 use Rattle.usb_explain.proofs.plain.Words.{attributes_plain, byte_code_plain, class_field_plain, count_plain, end_plain, function_class_field_plain, interval_plain, meaning_plain, power_plain, protocol_field_plain, release_plain, size_plain, subclass_field_plain, word_code_plain}
 use Rattle.usb_explain.proofs.plain.Fields.{MaybeFit, index_plain}
+use Rattle.usb_explain.proofs.plain.ClassWords.{frame_interval_plain, guid_plain}
 
 -- ---- values
 
@@ -114,6 +115,8 @@ form_plain speed strings Hexadecimal width b place fit h = hexadecimal_words_pla
 form_plain speed strings Release width b place fit h = release_words_plain (take width (drop place b)) (bytes_fit width b place h)
 form_plain speed strings ReportType width b place fit h = report_plain (slice_index b place) (byte_fits b place h)
 form_plain speed strings Index width b place fit h = index_plain strings (slice_index b place) fit
+form_plain speed strings FrameInterval width b place fit h = frame_interval_plain (take width (drop place b)) (bytes_fit width b place h)
+form_plain speed strings Guid width b place fit h = guid_plain (take width (drop place b)) (bytes_fit width b place h)
 form_plain speed strings Class width b place fit h = class_field_plain (slice_index b place) (byte_fits b place h)
 form_plain speed strings FunctionClass width b place fit h = function_class_field_plain (slice_index b place) (byte_fits b place h)
 form_plain speed strings Subclass width b place fit h =

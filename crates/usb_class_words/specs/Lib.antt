@@ -1,0 +1,2 @@
+pub mod FrameIntervals
+pub mod Guids
