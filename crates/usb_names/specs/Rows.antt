@@ -4,7 +4,7 @@ use Rattle.std.specs.Prelude.{ℕ, List, [], ◌∷◌, ◌++◌, Option, Some, 
 use Rattle.std.specs.List.{find}
 use Rattle.usb_names.specs.declared.codes.ClassCodes.{ClassCodes}
 use Rattle.usb_names.specs.declared.field.Form.{Form}
-use Rattle.usb_names.specs.declared.field.Form.TheVariants.{Decimal, Hexadecimal, Release, ReportType, Index, FrameInterval, Guid}
+use Rattle.usb_names.specs.declared.field.Form.TheVariants.{Decimal, Hexadecimal, Release, ReportType, Index, FrameInterval, Guid, AudioTerminal, VideoTerminal, AbstractControl, CallManagement, FirmwareUpgrade}
 
 -- a field: its standard name, how many bytes it has, and how its number is written
 pub record Field : Type 0 where
@@ -39,6 +39,23 @@ frame_interval name = record { name = name; width = 4; form = FrameInterval }
 -- a GUID
 abbrev pub guid : List ℕ → Field
 guid name = record { name = name; width = 16; form = Guid }
+
+-- the type of a terminal of audio, or of video
+abbrev pub audio_terminal : List ℕ → Field
+audio_terminal name = record { name = name; width = 2; form = AudioTerminal }
+
+abbrev pub video_terminal : List ℕ → Field
+video_terminal name = record { name = name; width = 2; form = VideoTerminal }
+
+-- the bits of bmCapabilities of CDC abstract control, of CDC call management, and of bmAttributes of DFU
+abbrev pub abstract_control : List ℕ → Field
+abstract_control name = record { name = name; width = 1; form = AbstractControl }
+
+abbrev pub call_management : List ℕ → Field
+call_management name = record { name = name; width = 1; form = CallManagement }
+
+abbrev pub firmware_upgrade : List ℕ → Field
+firmware_upgrade name = record { name = name; width = 1; form = FirmwareUpgrade }
 
 -- a descriptor of a class: the subclass, the protocol and the first byte of the body that it is known by (none: any),
 -- its type, its name, its fields behind bDescriptorType, and the fields that repeat behind those
@@ -98,12 +115,12 @@ audio_rows =
     decimal 2 (codes "wTotalLength") ∷ hexadecimal 1 (codes "bmControls") ∷ []) [] ∷
     row (Some 1) (Some 32) 36 (Some 2) (codes "audio 2.0 input terminal")
     (hexadecimal 1 (codes "bDescriptorSubtype") ∷ decimal 1 (codes "bTerminalID") ∷
-    hexadecimal 2 (codes "wTerminalType") ∷ decimal 1 (codes "bAssocTerminal") ∷ decimal 1 (codes "bCSourceID") ∷
+    audio_terminal (codes "wTerminalType") ∷ decimal 1 (codes "bAssocTerminal") ∷ decimal 1 (codes "bCSourceID") ∷
     decimal 1 (codes "bNrChannels") ∷ hexadecimal 4 (codes "bmChannelConfig") ∷ string_index (codes "iChannelNames") ∷
     hexadecimal 2 (codes "bmControls") ∷ string_index (codes "iTerminal") ∷ []) [] ∷
     row (Some 1) (Some 32) 36 (Some 3) (codes "audio 2.0 output terminal")
     (hexadecimal 1 (codes "bDescriptorSubtype") ∷ decimal 1 (codes "bTerminalID") ∷
-    hexadecimal 2 (codes "wTerminalType") ∷ decimal 1 (codes "bAssocTerminal") ∷ decimal 1 (codes "bSourceID") ∷
+    audio_terminal (codes "wTerminalType") ∷ decimal 1 (codes "bAssocTerminal") ∷ decimal 1 (codes "bSourceID") ∷
     decimal 1 (codes "bCSourceID") ∷ hexadecimal 2 (codes "bmControls") ∷ string_index (codes "iTerminal") ∷ []) [] ∷
     row (Some 1) (Some 32) 36 (Some 4) (codes "audio 2.0 mixer unit")
     (hexadecimal 1 (codes "bDescriptorSubtype") ∷ decimal 1 (codes "bUnitID") ∷ decimal 1 (codes "bNrInPins") ∷ []) [] ∷
@@ -158,12 +175,12 @@ audio_rows =
     decimal 1 (codes "bInCollection") ∷ []) (decimal 1 (codes "baInterfaceNr") ∷ []) ∷
     row (Some 1) None 36 (Some 2) (codes "audio input terminal")
     (hexadecimal 1 (codes "bDescriptorSubtype") ∷ decimal 1 (codes "bTerminalID") ∷
-    hexadecimal 2 (codes "wTerminalType") ∷ decimal 1 (codes "bAssocTerminal") ∷ decimal 1 (codes "bNrChannels") ∷
+    audio_terminal (codes "wTerminalType") ∷ decimal 1 (codes "bAssocTerminal") ∷ decimal 1 (codes "bNrChannels") ∷
     hexadecimal 2 (codes "wChannelConfig") ∷ string_index (codes "iChannelNames") ∷ string_index (codes "iTerminal") ∷
     []) [] ∷
     row (Some 1) None 36 (Some 3) (codes "audio output terminal")
     (hexadecimal 1 (codes "bDescriptorSubtype") ∷ decimal 1 (codes "bTerminalID") ∷
-    hexadecimal 2 (codes "wTerminalType") ∷ decimal 1 (codes "bAssocTerminal") ∷ decimal 1 (codes "bSourceID") ∷
+    audio_terminal (codes "wTerminalType") ∷ decimal 1 (codes "bAssocTerminal") ∷ decimal 1 (codes "bSourceID") ∷
     string_index (codes "iTerminal") ∷ []) [] ∷
     row (Some 1) None 36 (Some 4) (codes "audio mixer unit")
     (hexadecimal 1 (codes "bDescriptorSubtype") ∷ decimal 1 (codes "bUnitID") ∷ decimal 1 (codes "bNrInPins") ∷ []) [] ∷
@@ -214,10 +231,10 @@ communications_rows =
     row None None 36 (Some 0) (codes "CDC header")
     (hexadecimal 1 (codes "bDescriptorSubtype") ∷ release (codes "bcdCDC") ∷ []) [] ∷
     row None None 36 (Some 1) (codes "CDC call management")
-    (hexadecimal 1 (codes "bDescriptorSubtype") ∷ hexadecimal 1 (codes "bmCapabilities") ∷
+    (hexadecimal 1 (codes "bDescriptorSubtype") ∷ call_management (codes "bmCapabilities") ∷
     decimal 1 (codes "bDataInterface") ∷ []) [] ∷
     row None None 36 (Some 2) (codes "CDC abstract control")
-    (hexadecimal 1 (codes "bDescriptorSubtype") ∷ hexadecimal 1 (codes "bmCapabilities") ∷ []) [] ∷
+    (hexadecimal 1 (codes "bDescriptorSubtype") ∷ abstract_control (codes "bmCapabilities") ∷ []) [] ∷
     row None None 36 (Some 3) (codes "CDC direct line")
     (hexadecimal 1 (codes "bDescriptorSubtype") ∷ hexadecimal 1 (codes "bmCapabilities") ∷ []) [] ∷
     row None None 36 (Some 4) (codes "CDC telephone ringer")
@@ -312,11 +329,11 @@ video_rows =
     []) ∷
     row (Some 1) None 36 (Some 2) (codes "video input terminal")
     (hexadecimal 1 (codes "bDescriptorSubtype") ∷ decimal 1 (codes "bTerminalID") ∷
-    hexadecimal 2 (codes "wTerminalType") ∷ decimal 1 (codes "bAssocTerminal") ∷ string_index (codes "iTerminal") ∷ [])
+    video_terminal (codes "wTerminalType") ∷ decimal 1 (codes "bAssocTerminal") ∷ string_index (codes "iTerminal") ∷ [])
     [] ∷
     row (Some 1) None 36 (Some 3) (codes "video output terminal")
     (hexadecimal 1 (codes "bDescriptorSubtype") ∷ decimal 1 (codes "bTerminalID") ∷
-    hexadecimal 2 (codes "wTerminalType") ∷ decimal 1 (codes "bAssocTerminal") ∷ decimal 1 (codes "bSourceID") ∷
+    video_terminal (codes "wTerminalType") ∷ decimal 1 (codes "bAssocTerminal") ∷ decimal 1 (codes "bSourceID") ∷
     string_index (codes "iTerminal") ∷ []) [] ∷
     row (Some 1) None 36 (Some 4) (codes "video selector unit")
     (hexadecimal 1 (codes "bDescriptorSubtype") ∷ decimal 1 (codes "bUnitID") ∷ decimal 1 (codes "bNrInPins") ∷ []) [] ∷
@@ -434,7 +451,7 @@ video_rows =
 unfoldable pub application_rows : List Row
 application_rows =
     row (Some 1) None 33 None (codes "DFU functional")
-    (hexadecimal 1 (codes "bmAttributes") ∷ decimal 2 (codes "wDetachTimeOut") ∷ decimal 2 (codes "wTransferSize") ∷
+    (firmware_upgrade (codes "bmAttributes") ∷ decimal 2 (codes "wDetachTimeOut") ∷ decimal 2 (codes "wTransferSize") ∷
     release (codes "bcdDFUVersion") ∷ []) [] ∷
     []
 

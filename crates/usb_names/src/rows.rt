@@ -59,8 +59,8 @@ pub(crate) fn audio_rows() -> &'static [ClassDescriptor]
 {
     &[
         row!(0x01 0x20 0x24 0x01 "audio 2.0 control header" ["bDescriptorSubtype" Hexadecimal 1, "bcdADC" Release 2, "bCategory" Hexadecimal 1, "wTotalLength" Decimal 2, "bmControls" Hexadecimal 1] []),
-        row!(0x01 0x20 0x24 0x02 "audio 2.0 input terminal" ["bDescriptorSubtype" Hexadecimal 1, "bTerminalID" Decimal 1, "wTerminalType" Hexadecimal 2, "bAssocTerminal" Decimal 1, "bCSourceID" Decimal 1, "bNrChannels" Decimal 1, "bmChannelConfig" Hexadecimal 4, "iChannelNames" Index 1, "bmControls" Hexadecimal 2, "iTerminal" Index 1] []),
-        row!(0x01 0x20 0x24 0x03 "audio 2.0 output terminal" ["bDescriptorSubtype" Hexadecimal 1, "bTerminalID" Decimal 1, "wTerminalType" Hexadecimal 2, "bAssocTerminal" Decimal 1, "bSourceID" Decimal 1, "bCSourceID" Decimal 1, "bmControls" Hexadecimal 2, "iTerminal" Index 1] []),
+        row!(0x01 0x20 0x24 0x02 "audio 2.0 input terminal" ["bDescriptorSubtype" Hexadecimal 1, "bTerminalID" Decimal 1, "wTerminalType" AudioTerminal 2, "bAssocTerminal" Decimal 1, "bCSourceID" Decimal 1, "bNrChannels" Decimal 1, "bmChannelConfig" Hexadecimal 4, "iChannelNames" Index 1, "bmControls" Hexadecimal 2, "iTerminal" Index 1] []),
+        row!(0x01 0x20 0x24 0x03 "audio 2.0 output terminal" ["bDescriptorSubtype" Hexadecimal 1, "bTerminalID" Decimal 1, "wTerminalType" AudioTerminal 2, "bAssocTerminal" Decimal 1, "bSourceID" Decimal 1, "bCSourceID" Decimal 1, "bmControls" Hexadecimal 2, "iTerminal" Index 1] []),
         row!(0x01 0x20 0x24 0x04 "audio 2.0 mixer unit" ["bDescriptorSubtype" Hexadecimal 1, "bUnitID" Decimal 1, "bNrInPins" Decimal 1] []),
         row!(0x01 0x20 0x24 0x05 "audio 2.0 selector unit" ["bDescriptorSubtype" Hexadecimal 1, "bUnitID" Decimal 1, "bNrInPins" Decimal 1] []),
         row!(0x01 0x20 0x24 0x06 "audio 2.0 feature unit" ["bDescriptorSubtype" Hexadecimal 1, "bUnitID" Decimal 1, "bSourceID" Decimal 1] ["bmaControls" Hexadecimal 4]),
@@ -79,8 +79,8 @@ pub(crate) fn audio_rows() -> &'static [ClassDescriptor]
         row!(_ 0x30 0x24 _ "audio 3.0 class" ["bDescriptorSubtype" Hexadecimal 1] []),
         row!(_ 0x30 0x25 _ "audio 3.0 endpoint" ["bDescriptorSubtype" Hexadecimal 1] []),
         row!(0x01 _ 0x24 0x01 "audio control header" ["bDescriptorSubtype" Hexadecimal 1, "bcdADC" Release 2, "wTotalLength" Decimal 2, "bInCollection" Decimal 1] ["baInterfaceNr" Decimal 1]),
-        row!(0x01 _ 0x24 0x02 "audio input terminal" ["bDescriptorSubtype" Hexadecimal 1, "bTerminalID" Decimal 1, "wTerminalType" Hexadecimal 2, "bAssocTerminal" Decimal 1, "bNrChannels" Decimal 1, "wChannelConfig" Hexadecimal 2, "iChannelNames" Index 1, "iTerminal" Index 1] []),
-        row!(0x01 _ 0x24 0x03 "audio output terminal" ["bDescriptorSubtype" Hexadecimal 1, "bTerminalID" Decimal 1, "wTerminalType" Hexadecimal 2, "bAssocTerminal" Decimal 1, "bSourceID" Decimal 1, "iTerminal" Index 1] []),
+        row!(0x01 _ 0x24 0x02 "audio input terminal" ["bDescriptorSubtype" Hexadecimal 1, "bTerminalID" Decimal 1, "wTerminalType" AudioTerminal 2, "bAssocTerminal" Decimal 1, "bNrChannels" Decimal 1, "wChannelConfig" Hexadecimal 2, "iChannelNames" Index 1, "iTerminal" Index 1] []),
+        row!(0x01 _ 0x24 0x03 "audio output terminal" ["bDescriptorSubtype" Hexadecimal 1, "bTerminalID" Decimal 1, "wTerminalType" AudioTerminal 2, "bAssocTerminal" Decimal 1, "bSourceID" Decimal 1, "iTerminal" Index 1] []),
         row!(0x01 _ 0x24 0x04 "audio mixer unit" ["bDescriptorSubtype" Hexadecimal 1, "bUnitID" Decimal 1, "bNrInPins" Decimal 1] []),
         row!(0x01 _ 0x24 0x05 "audio selector unit" ["bDescriptorSubtype" Hexadecimal 1, "bUnitID" Decimal 1, "bNrInPins" Decimal 1] []),
         row!(0x01 _ 0x24 0x06 "audio feature unit" ["bDescriptorSubtype" Hexadecimal 1, "bUnitID" Decimal 1, "bSourceID" Decimal 1, "bControlSize" Decimal 1] []),
@@ -107,8 +107,8 @@ pub(crate) fn communications_rows() -> &'static [ClassDescriptor]
 {
     &[
         row!(_ _ 0x24 0x00 "CDC header" ["bDescriptorSubtype" Hexadecimal 1, "bcdCDC" Release 2] []),
-        row!(_ _ 0x24 0x01 "CDC call management" ["bDescriptorSubtype" Hexadecimal 1, "bmCapabilities" Hexadecimal 1, "bDataInterface" Decimal 1] []),
-        row!(_ _ 0x24 0x02 "CDC abstract control" ["bDescriptorSubtype" Hexadecimal 1, "bmCapabilities" Hexadecimal 1] []),
+        row!(_ _ 0x24 0x01 "CDC call management" ["bDescriptorSubtype" Hexadecimal 1, "bmCapabilities" CallManagement 1, "bDataInterface" Decimal 1] []),
+        row!(_ _ 0x24 0x02 "CDC abstract control" ["bDescriptorSubtype" Hexadecimal 1, "bmCapabilities" AbstractControl 1] []),
         row!(_ _ 0x24 0x03 "CDC direct line" ["bDescriptorSubtype" Hexadecimal 1, "bmCapabilities" Hexadecimal 1] []),
         row!(_ _ 0x24 0x04 "CDC telephone ringer" ["bDescriptorSubtype" Hexadecimal 1, "bRingerVolSteps" Decimal 1, "bNumRingerPatterns" Decimal 1] []),
         row!(_ _ 0x24 0x05 "CDC telephone capabilities" ["bDescriptorSubtype" Hexadecimal 1, "bmCapabilities" Hexadecimal 4] []),
@@ -174,8 +174,8 @@ pub(crate) fn video_rows() -> &'static [ClassDescriptor]
 {
     &[
         row!(0x01 _ 0x24 0x01 "video control header" ["bDescriptorSubtype" Hexadecimal 1, "bcdUVC" Release 2, "wTotalLength" Decimal 2, "dwClockFrequency" Decimal 4, "bInCollection" Decimal 1] ["baInterfaceNr" Decimal 1]),
-        row!(0x01 _ 0x24 0x02 "video input terminal" ["bDescriptorSubtype" Hexadecimal 1, "bTerminalID" Decimal 1, "wTerminalType" Hexadecimal 2, "bAssocTerminal" Decimal 1, "iTerminal" Index 1] []),
-        row!(0x01 _ 0x24 0x03 "video output terminal" ["bDescriptorSubtype" Hexadecimal 1, "bTerminalID" Decimal 1, "wTerminalType" Hexadecimal 2, "bAssocTerminal" Decimal 1, "bSourceID" Decimal 1, "iTerminal" Index 1] []),
+        row!(0x01 _ 0x24 0x02 "video input terminal" ["bDescriptorSubtype" Hexadecimal 1, "bTerminalID" Decimal 1, "wTerminalType" VideoTerminal 2, "bAssocTerminal" Decimal 1, "iTerminal" Index 1] []),
+        row!(0x01 _ 0x24 0x03 "video output terminal" ["bDescriptorSubtype" Hexadecimal 1, "bTerminalID" Decimal 1, "wTerminalType" VideoTerminal 2, "bAssocTerminal" Decimal 1, "bSourceID" Decimal 1, "iTerminal" Index 1] []),
         row!(0x01 _ 0x24 0x04 "video selector unit" ["bDescriptorSubtype" Hexadecimal 1, "bUnitID" Decimal 1, "bNrInPins" Decimal 1] []),
         row!(0x01 _ 0x24 0x05 "video processing unit" ["bDescriptorSubtype" Hexadecimal 1, "bUnitID" Decimal 1, "bSourceID" Decimal 1, "wMaxMultiplier" Decimal 2, "bControlSize" Decimal 1] []),
         row!(0x01 _ 0x24 0x06 "video extension unit" ["bDescriptorSubtype" Hexadecimal 1, "bUnitID" Decimal 1, "guidExtensionCode" Guid 16, "bNumControls" Decimal 1, "bNrInPins" Decimal 1] []),
@@ -207,7 +207,7 @@ pub(crate) fn application_rows() -> &'static [ClassDescriptor]
     ensures { map row_of result.now ≡ tables.application_rows }
 {
     &[
-        row!(0x01 _ 0x21 _ "DFU functional" ["bmAttributes" Hexadecimal 1, "wDetachTimeOut" Decimal 2, "wTransferSize" Decimal 2, "bcdDFUVersion" Release 2] []),
+        row!(0x01 _ 0x21 _ "DFU functional" ["bmAttributes" FirmwareUpgrade 1, "wDetachTimeOut" Decimal 2, "wTransferSize" Decimal 2, "bcdDFUVersion" Release 2] []),
     ]
 }
 

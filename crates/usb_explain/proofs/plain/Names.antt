@@ -19,14 +19,14 @@ either_all p true xs ys = refl
 either_all p false xs ys = refl
 
 -- names of classes and subclasses
-abbrev has_plain_name : Named → Bool
+abbrev pub has_plain_name : Named → Bool
 has_plain_name row = is_plain_name row.name
 
 name_chosen : (b : Bool) (name : List ℕ) (rest : Option (List ℕ)) → Printable name → MaybePlain rest → MaybePlain (if b then Some name else rest)
 name_chosen true name rest h k = h
 name_chosen false name rest h k = k
 
-found_plain : (rows : List Named) (code : ℕ) → list_all has_plain_name rows ≡ true → MaybePlain (name_in rows code)
+pub found_plain : (rows : List Named) (code : ℕ) → list_all has_plain_name rows ≡ true → MaybePlain (name_in rows code)
 found_plain [] code h = tt
 found_plain (row ∷ rows) code h =
     let p = and_parts (has_plain_name row) (list_all has_plain_name rows) h in
