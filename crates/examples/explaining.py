@@ -43,8 +43,8 @@ def read_rows():
                 continue
             head, fields, group = line.rstrip("\n").split("|")
             words = head.split()
-            codes = [None if word == "--" else int(word, 16) for word in words[:5]]
-            rows.append((codes, " ".join(words[5:]), fields.split(), group.split()))
+            codes = [None if word == "--" else int(word, 16) for word in words[:6]]
+            rows.append((codes, " ".join(words[6:]), fields.split(), group.split()))
     return rows
 
 
@@ -194,11 +194,11 @@ def speed_by(descriptors, known, packet, other):
 
 def row_of(d, codes):
     """The first row that holds of a raw descriptor behind an interface of these codes."""
-    for (class_, subclass, protocol, kind, first), name, fields, group in ROWS:
+    for (class_, subclass, protocol, kind, first, second), name, fields, group in ROWS:
         wanted = (class_, subclass, protocol)
         mine = codes or (None, None, None)
         if kind == d[1] and all(w is None or w == m for w, m in zip(wanted, mine)):
-            if first is None or (len(d) > 2 and d[2] == first):
+            if all(w is None or d[i : i + 1] == bytes([w]) for i, w in ((2, first), (3, second))):
                 return name, fields, group
     return None
 

@@ -224,7 +224,7 @@ def row_groups():
             groups.append((word_of(name), comment, []))
             continue
         head, fields, again = line.split("|")
-        codes, name = head.split()[:5], " ".join(head.split()[5:])
+        codes, name = head.split()[:6], " ".join(head.split()[6:])
         groups[-1][2].append((codes, name, fields.split(), again.split()))
     return groups
 
@@ -292,8 +292,8 @@ def wrapped(pieces):
 
 def row_definition(codes, name, fields, again):
     """A row: a line that says what it is known by, and then its fields."""
-    subclass, protocol, kind, first = ("None" if code == "--" else f"(Some {int(code, 16)})" for code in codes[1:])
-    yield f'    row {subclass} {protocol} {kind[6:-1]} {first} (codes "{name}")'
+    subclass, protocol, kind, first, second = ("None" if code == "--" else f"(Some {int(code, 16)})" for code in codes[1:])
+    yield f'    row {subclass} {protocol} {kind[6:-1]} {first} {second} (codes "{name}")'
     pieces = []
     for part in (fields, again):
         each = [field_definition(field) + " ∷" for field in part]

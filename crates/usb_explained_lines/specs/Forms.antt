@@ -16,10 +16,11 @@ use Rattle.usb_text.specs.Numbers.{byte_code, word_code}
 use Rattle.usb_explained_lines.specs.Names.{StringNames, index_words}
 use Rattle.usb_explained_lines.specs.Values.{address_value, attributes_value, interval_value, packet_value, power_value, release_value, set_attributes, size_value}
 
--- the decimal digits of a number of one, two or four bytes, the low one first
+-- the decimal digits of a number of one to four bytes, the low one first
 abbrev pub decimal_words : List ℕ → List ℕ
 decimal_words (a ∷ []) = decimal a
 decimal_words (a ∷ b ∷ []) = decimal (a + 256 * b)
+decimal_words (a ∷ b ∷ c ∷ []) = decimal (a + 256 * (b + 256 * c))
 decimal_words (a ∷ b ∷ c ∷ d ∷ []) = decimal (a + 256 * (b + 256 * (c + 256 * d)))
 decimal_words value = encode_lower value
 

@@ -94,6 +94,9 @@ fn put_decimal_words(text: &mut Text, value: &[u8]) -> Result<(), AllocError>
     match value {
         [a] => text.put_decimal(u64::from(*a)),
         [a, b] => text.put_decimal(u64::from(*a) + 256 * u64::from(*b)),
+        [a, b, c] => {
+            text.put_decimal(u64::from(*a) + 256 * (u64::from(*b) + 256 * u64::from(*c)))
+        }
         [a, b, c, d] => text.put_decimal(
             u64::from(*a) + 256 * (u64::from(*b) + 256 * (u64::from(*c) + 256 * u64::from(*d))),
         ),

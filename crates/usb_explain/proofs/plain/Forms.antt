@@ -76,7 +76,7 @@ decimal_words_plain : (value : List ℕ) → AreBytes value → Printable (decim
 decimal_words_plain [] h = encoded_printable [] h
 decimal_words_plain (a ∷ []) h = decimal_plain a
 decimal_words_plain (a ∷ b ∷ []) h = decimal_plain (a + 256 * b)
-decimal_words_plain (a ∷ b ∷ c ∷ []) h = encoded_printable (a ∷ b ∷ c ∷ []) h
+decimal_words_plain (a ∷ b ∷ c ∷ []) h = decimal_plain (a + 256 * (b + 256 * c))
 decimal_words_plain (a ∷ b ∷ c ∷ d ∷ []) h = decimal_plain (a + 256 * (b + 256 * (c + 256 * d)))
 decimal_words_plain (a ∷ b ∷ c ∷ d ∷ e ∷ value) h = encoded_printable (a ∷ b ∷ c ∷ d ∷ e ∷ value) h
 

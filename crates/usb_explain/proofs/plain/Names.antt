@@ -141,7 +141,7 @@ all_behind : (interface : Option ClassCodes) → list_all is_plain_row (rows_of_
 all_behind None = refl
 all_behind (Some codes) = all_of_class codes.class
 
-pub row_plain : (interface : Option ClassCodes) (type : ℕ) (first : Option ℕ) → MaybePlainRow (first_row (rows_behind interface) interface type first)
-row_plain interface type first =
-    first_plain (λ row. holds row interface type first) (rows_behind interface)
+pub row_plain : (interface : Option ClassCodes) (type : ℕ) (body : List ℕ) → MaybePlainRow (first_row (rows_behind interface) interface type body)
+row_plain interface type body =
+    first_plain (λ row. holds row interface type body) (rows_behind interface)
     (simp (list_all-append is_plain_row, all_standard, all_behind interface, all_other) refl)

@@ -27,7 +27,7 @@ row_words_plain type None lt h = unnamed_plain type lt
 row_words_plain type (Some row) lt h = h.name
 
 row_of_bytes_plain : (interface : Option ClassCodes) (b : List ℕ) → MaybePlainRow (row_of_bytes interface b)
-row_of_bytes_plain interface b = row_plain interface (slice_index b 1) (slice_get b 2)
+row_of_bytes_plain interface b = row_plain interface (slice_index b 1) (drop 2 b)
 
 pub raw_words_plain : (interface : Option ClassCodes) (b : List ℕ) → AreBytes b → Printable (raw_words interface b)
 unfolding raw_words
