@@ -1,6 +1,5 @@
 -- The names of class descriptors are plain, and each of their fields is said in one line.
 use Rattle.std.proofs.Common.{ℕ, ◌<◌, List, ◌++◌, Option, Some, None, codes, drop, slice_index, refl}
-use Rattle.std.specs.Prelude.{slice_get}
 use Rattle.usb_base.specs.Bytes.{AreBytes}
 use Rattle.usb_names.specs.declared.codes.ClassCodes.{ClassCodes}
 use Rattle.usb_names.specs.Rows.{Row}
