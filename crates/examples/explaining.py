@@ -2,7 +2,7 @@
 """A separate reading of what `usbdesc explain` prints, from which the explanations beside the examples come.
 
 It was written from the tables in words (docs/formats.md), in another language and by no function of this repository.
-Names of class codes and of descriptors of classes are those of data/explain/classes.txt and descriptors.txt. The gate
+Names of class codes, of descriptors of classes, of terminals and of bits are those of the tables in data/explain. The gate
 compares what it writes (.ci/readings).
 
     explaining.py set FILE..     writes the explanation of the configuration set to the file of that name that ends in
@@ -61,12 +61,36 @@ def read_rows():
                 continue
             head, fields, group = line.rstrip("\n").split("|")
             words = head.split()
-            codes = [None if word == "--" else int(word, 16) for word in words[:5]]
-            rows.append((codes, " ".join(words[5:]), fields.split(), group.split()))
+            codes = [None if word == "--" else int(word, 16) for word in words[:6]]
+            rows.append((codes, " ".join(words[6:]), fields.split(), group.split()))
     return rows
 
 
-CLASSES, ROWS = read_classes(), read_rows()
+def read_terminals():
+    """The names of types of terminals, by class."""
+    names = {1: {}, 14: {}}
+    with open(os.path.join(HERE, "data/explain/terminals.txt"), encoding="ascii") as table:
+        for line in table:
+            class_, code, name = line.rstrip("\n").split(" ", 2)
+            names[int(class_, 16)][int(code, 16)] = name
+    return names
+
+
+def read_bits():
+    """The names of bits from bit 0 on, by the name of their field's form."""
+    names = {}
+    with open(os.path.join(HERE, "data/explain/bits.txt"), encoding="ascii") as table:
+        for line in table:
+            if line.startswith("# "):
+                names[line[2:].split(" - ")[0].replace(" ", "_")] = bits = []
+            else:
+                bits.append(line.rstrip("\n"))
+    return names
+
+
+CLASSES, ROWS, BITS = read_classes(), read_rows(), read_bits()
+TERMINALS = {"audio_terminal": read_terminals()[1], "video_terminal": read_terminals()[14]}
+FOUR_CHARACTERS = bytes.fromhex("0000 1000 8000 00aa00389b71")
 
 
 def with_article(noun):
@@ -244,18 +268,43 @@ def speed_by(descriptors, known, packet, other):
 
 def row_of(d, codes):
     """The first row that holds of a raw descriptor behind an interface of these codes."""
-    for (class_, subclass, protocol, kind, first), name, fields, group in ROWS:
+    for (class_, subclass, protocol, kind, first, second), name, fields, group in ROWS:
         wanted = (class_, subclass, protocol)
         mine = codes or (None, None, None)
         if kind == d[1] and all(w is None or w == m for w, m in zip(wanted, mine)):
-            if first is None or (len(d) > 2 and d[2] == first):
+            if all(w is None or d[i : i + 1] == bytes([w]) for i, w in ((2, first), (3, second))):
                 return name, fields, group
     return None
+
+
+def milliseconds(n):
+    """Units of 100 ns in ms: the digits after the point, without zeros at their end."""
+    whole, parts = divmod(n, 10_000)
+    after = f".{parts:04d}".rstrip("0") if parts else ""
+    return f"{whole}{after} ms"
+
+
+def guid_name(b):
+    characters = b[:4].decode("latin-1")
+    is_name = all(c in "0123456789ABCDEFGHIJKLMNOPQRSTUVWXYZ" for c in characters)
+    return characters if is_name and b[4:] == FOUR_CHARACTERS else None
+
+
+def bit_words(names, n):
+    return ", ".join(names[i] if i < len(names) else f"bit {i}" for i in range(8) if n >> i & 1)
 
 
 def field_words(form, b, index):
     if form == "index":
         return index(b[0])
+    if form == "interval":
+        return f"{little(b)} ({milliseconds(little(b))})"
+    if form == "guid":
+        return with_meaning(b.hex(), guid_name(b))
+    if form in TERMINALS:
+        return with_meaning(word(little(b)), TERMINALS[form].get(little(b)))
+    if form in BITS:
+        return with_meaning(byte(b[0]), bit_words(BITS[form], b[0]))
     if form.startswith("hex"):
         return f"0x{little(b):0{2 * len(b)}x}" if len(b) <= 4 else b.hex()
     if form.startswith("dec"):
@@ -267,7 +316,8 @@ def field_words(form, b, index):
 
 def size_of(field):
     form = field.split(":")[1]
-    return {"bcd": 2, "index": 1}.get(form) or int(form.lstrip("abcdefghijklmnopqrstuvwxyz"))
+    sizes = {"bcd": 2, "index": 1, "interval": 4, "guid": 16, **dict.fromkeys(TERMINALS, 2), **dict.fromkeys(BITS, 1)}
+    return sizes.get(form) or int(form.lstrip("abcdefghijklmnopqrstuvwxyz"))
 
 
 def raw_fields(d, row, index):

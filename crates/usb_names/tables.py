@@ -1,7 +1,7 @@
 #!/usr/bin/env python3
-"""Writes the tables of class names and of class descriptors, the code's and the definitions', from the two files that
-are read as they are by crates/examples/explaining.py: classes.txt and descriptors.txt of the examples. A part of a
-source between the lines `made by tables.py: NAME` and `end` is written anew; all else is left. The gate compares what
+"""Writes the tables of class names, of class descriptors, of types of terminals and of names of bits, the code's and the
+definitions', from the files that are read as they are by crates/examples/explaining.py: classes.txt, descriptors.txt,
+terminals.txt and bits.txt of the examples. A part of a source between the lines `made by tables.py: NAME` and `end` is written anew; all else is left. The gate compares what
 is written (.ci/readings).
 """
 
@@ -11,6 +11,31 @@ import re
 HERE = os.path.dirname(os.path.abspath(__file__))
 EXPLAIN = os.path.join(HERE, "../examples/data/explain")
 WIDEST = 120
+# The definition of a field of each form that has one width.
+WITH_A_WIDTH = {
+    "Release": "release",
+    "ReportType": "report_type",
+    "Index": "string_index",
+    "FrameInterval": "frame_interval",
+    "Guid": "guid",
+    "AudioTerminal": "audio_terminal",
+    "VideoTerminal": "video_terminal",
+    "AbstractControl": "abstract_control",
+    "CallManagement": "call_management",
+    "FirmwareUpgrade": "firmware_upgrade",
+}
+# The form and the width of each word for one in descriptors.txt that isn't followed by its width.
+FORMS = {
+    "bcd": ("Release", 2),
+    "index": ("Index", 1),
+    "interval": ("FrameInterval", 4),
+    "guid": ("Guid", 16),
+    "audio_terminal": ("AudioTerminal", 2),
+    "video_terminal": ("VideoTerminal", 2),
+    "abstract_control": ("AbstractControl", 1),
+    "call_management": ("CallManagement", 1),
+    "firmware_upgrade": ("FirmwareUpgrade", 1),
+}
 
 
 def lines_of(name):
@@ -73,9 +98,9 @@ def class_code(classes, subclasses, protocols):
     }
 
 
-def names_defined(comment, kind, of, keys, rows):
+def names_defined(comment, kind, of, keys, rows, how="abbrev"):
     yield f"-- {comment}"
-    yield f"abbrev pub {of} : List {kind}"
+    yield f"{how} pub {of} : List {kind}"
     yield f"{of} ="
     for *codes, name in rows:
         fields = "; ".join(f"{key} = {code}" for key, code in zip(keys, codes))
@@ -109,6 +134,84 @@ def class_definitions(classes, subclasses, protocols):
     return {"names": "\n".join(lines).split("\n")}
 
 
+# Types of terminals, and names of bits
+
+TERMINALS = {"01": "audio", "0e": "video"}
+
+
+def terminals():
+    """The types of terminals with their names, by class."""
+    rows = {word: [] for word in TERMINALS.values()}
+    for line in lines_of("terminals.txt"):
+        class_, code, name = line.split(" ", 2)
+        rows[TERMINALS[class_]].append((int(code, 16), name))
+    return rows
+
+
+def terminals_code(rows):
+    functions = []
+    for word, types in rows.items():
+        functions += [
+            f"/// The name of a type of a terminal of {word}, as wTerminalType has it.",
+            f"#[tactic(auto, unfolding(crate::specs::Terminals::{word}_terminals))]",
+            f"pub fn {word}_terminal(code: u16) -> Option<&'static str>",
+            f"    ensures {{ option_map (λ name. name.now) result ≡ name_in tables.{word}_terminals code }}",
+            "{\n    match code {",
+            *(f'        0x{code:04x} => Some("{name}"),' for code, name in types),
+            "        _ => None,\n    }\n}\n",
+        ]
+    return {"terminals": "\n".join(functions).rstrip("\n").split("\n")}
+
+
+def terminals_definitions(rows):
+    lines = []
+    for word, types in rows.items():
+        lines += names_defined(f"terminals of {word}", "Named", f"{word}_terminals", ["code"], types, "unfoldable")
+    return {"terminals": "\n".join(lines).split("\n")}
+
+
+def bits():
+    """The names of bits from bit 0 on of each field: its word, what it is, and the names."""
+    fields = []
+    for line in lines_of("bits.txt"):
+        if line.startswith("# "):
+            word, comment = line[2:].split(" - ")
+            fields.append((word_of(word), comment, []))
+        else:
+            fields[-1][2].append(line)
+    return fields
+
+
+def in_brackets(items):
+    """A list of literals, in one line where that is short, as rt fmt lays it out."""
+    if len(", ".join(items)) <= 60:
+        return [f"    &[{', '.join(items)}]"]
+    return ["    &[", *(f"        {item}," for item in items), "    ]"]
+
+
+def bits_code(fields):
+    functions = []
+    for word, comment, names in fields:
+        functions += [
+            f"/// What the bits are called of {comment}.",
+            f"#[tactic(auto, unfolding(crate::specs::Bits::{word}_bits))]",
+            f"pub fn {word}_bits() -> &'static [&'static str]",
+            f"    ensures {{ map (λ name. name.now) result.now ≡ tables.{word}_bits }}",
+            "{",
+            *in_brackets([f'"{name}"' for name in names]),
+            "}\n",
+        ]
+    return {"bits": "\n".join(functions).rstrip("\n").split("\n")}
+
+
+def bits_definitions(fields):
+    lines = []
+    for word, comment, names in fields:
+        lines += [f"-- {comment}", f"unfoldable pub {word}_bits : List (List ℕ)", f"{word}_bits ="]
+        lines += [*(f'    codes "{name}" ∷' for name in names), "    []\n"]
+    return {"bits": "\n".join(lines).split("\n")}
+
+
 # Rows of class descriptors
 
 
@@ -121,7 +224,7 @@ def row_groups():
             groups.append((word_of(name), comment, []))
             continue
         head, fields, again = line.split("|")
-        codes, name = head.split()[:5], " ".join(head.split()[5:])
+        codes, name = head.split()[:6], " ".join(head.split()[6:])
         groups[-1][2].append((codes, name, fields.split(), again.split()))
     return groups
 
@@ -129,10 +232,8 @@ def row_groups():
 def field_parts(field):
     """A field's name, form and width."""
     name, form = field.split(":")
-    if form == "bcd":
-        return name, "Release", 2
-    if form == "index":
-        return name, "Index", 1
+    if form in FORMS:
+        return name, *FORMS[form]
     return name, {"hex": "Hexadecimal", "dec": "Decimal", "type": "ReportType"}[form.rstrip("0123456789")], int(re.sub(r"\D", "", form))
 
 
@@ -175,7 +276,7 @@ def rows_code(groups):
 
 def field_definition(field):
     name, form, width = field_parts(field)
-    number = {"Release": "release", "ReportType": "report_type", "Index": "string_index"}.get(form, f"{form.lower()} {width}")
+    number = f"{form.lower()} {width}" if form in ("Decimal", "Hexadecimal") else WITH_A_WIDTH[form]
     return f'{number} (codes "{name}")'
 
 
@@ -191,8 +292,8 @@ def wrapped(pieces):
 
 def row_definition(codes, name, fields, again):
     """A row: a line that says what it is known by, and then its fields."""
-    subclass, protocol, kind, first = ("None" if code == "--" else f"(Some {int(code, 16)})" for code in codes[1:])
-    yield f'    row {subclass} {protocol} {kind[6:-1]} {first} (codes "{name}")'
+    subclass, protocol, kind, first, second = ("None" if code == "--" else f"(Some {int(code, 16)})" for code in codes[1:])
+    yield f'    row {subclass} {protocol} {kind[6:-1]} {first} {second} (codes "{name}")'
     pieces = []
     for part in (fields, again):
         each = [field_definition(field) + " ∷" for field in part]
@@ -231,6 +332,10 @@ def main():
     names = class_names()
     write_parts("src/class.rt", class_code(*names))
     write_parts("specs/Classes.antt", class_definitions(*names))
+    write_parts("src/terminal.rt", terminals_code(terminals()))
+    write_parts("specs/Terminals.antt", terminals_definitions(terminals()))
+    write_parts("src/bits.rt", bits_code(bits()))
+    write_parts("specs/Bits.antt", bits_definitions(bits()))
     groups = row_groups()
     write_parts("src/rows.rt", rows_code(groups))
     write_parts("specs/Rows.antt", rows_definitions(groups))

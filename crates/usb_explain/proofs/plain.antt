@@ -3,6 +3,7 @@ pub mod Parts
 pub mod Names
 pub mod Words
 pub mod Fields
+pub mod ClassWords
 pub mod Forms
 pub mod Layouts
 pub mod Raws

@@ -3,17 +3,24 @@ use Rattle.std.specs.Prelude.{ℕ, ◌+◌, ◌-◌, ◌*◌, ◌==◌, List, []
 use Rattle.std.specs.Fmt.{decimal}
 use Rattle.hex.specs.Hex.{encode_lower}
 use Rattle.usb_names.specs.declared.field.Form.{Form}
-use Rattle.usb_names.specs.declared.field.Form.TheVariants.{Decimal, Hexadecimal, Release, ReportType, Index, Class, FunctionClass, Subclass, Protocol, DevicePacket, Supply, Power, Address, Transfer, PacketSize, Interval}
+use Rattle.usb_names.specs.declared.field.Form.TheVariants.{Decimal, Hexadecimal, Release, ReportType, Index, FrameInterval, Guid, AudioTerminal, VideoTerminal, AbstractControl, CallManagement, FirmwareUpgrade, Class, FunctionClass, Subclass, Protocol, DevicePacket, Supply, Power, Address, Transfer, PacketSize, Interval}
 use Rattle.usb_words.specs.declared.speed.SetSpeed.{SetSpeed}
+use Rattle.usb_names.specs.Bits.{abstract_control_bits, call_management_bits, firmware_upgrade_bits}
+use Rattle.usb_names.specs.Terminals.{audio_terminals, video_terminals}
+use Rattle.usb_class_words.specs.Bits.{bits_field}
+use Rattle.usb_class_words.specs.FrameIntervals.{frame_interval}
+use Rattle.usb_class_words.specs.Guids.{guid_words}
+use Rattle.usb_class_words.specs.Terminals.{terminal_words}
 use Rattle.usb_words.specs.Names.{class_field, function_class_field, protocol_field, subclass_field}
 use Rattle.usb_text.specs.Numbers.{byte_code, word_code}
 use Rattle.usb_explained_lines.specs.Names.{StringNames, index_words}
 use Rattle.usb_explained_lines.specs.Values.{address_value, attributes_value, interval_value, packet_value, power_value, release_value, set_attributes, size_value}
 
--- the decimal digits of a number of one, two or four bytes, the low one first
+-- the decimal digits of a number of one to four bytes, the low one first
 abbrev pub decimal_words : List ℕ → List ℕ
 decimal_words (a ∷ []) = decimal a
 decimal_words (a ∷ b ∷ []) = decimal (a + 256 * b)
+decimal_words (a ∷ b ∷ c ∷ []) = decimal (a + 256 * (b + 256 * c))
 decimal_words (a ∷ b ∷ c ∷ d ∷ []) = decimal (a + 256 * (b + 256 * (c + 256 * d)))
 decimal_words value = encode_lower value
 
@@ -49,6 +56,13 @@ form_words speed strings Hexadecimal width b place = hexadecimal_words (take wid
 form_words speed strings Release width b place = release_words (take width (drop place b))
 form_words speed strings ReportType width b place = report_words (slice_index b place)
 form_words speed strings Index width b place = index_words strings (slice_index b place)
+form_words speed strings FrameInterval width b place = frame_interval (take width (drop place b))
+form_words speed strings Guid width b place = guid_words (take width (drop place b))
+form_words speed strings AudioTerminal width b place = terminal_words audio_terminals (take width (drop place b))
+form_words speed strings VideoTerminal width b place = terminal_words video_terminals (take width (drop place b))
+form_words speed strings AbstractControl width b place = bits_field abstract_control_bits (slice_index b place)
+form_words speed strings CallManagement width b place = bits_field call_management_bits (slice_index b place)
+form_words speed strings FirmwareUpgrade width b place = bits_field firmware_upgrade_bits (slice_index b place)
 form_words speed strings Class width b place = class_field (slice_index b place)
 form_words speed strings FunctionClass width b place = function_class_field (slice_index b place)
 form_words speed strings Subclass width b place = subclass_field (slice_index b (place - 1)) (slice_index b place)

@@ -1,5 +1,5 @@
 -- Descriptors of classes, by their bytes and the rows of the table.
-use Rattle.std.specs.Prelude.{ℕ, List, ◌++◌, drop, slice_get, slice_index, codes, Option, Some, None}
+use Rattle.std.specs.Prelude.{ℕ, List, ◌++◌, drop, slice_index, codes, Option, Some, None}
 use Rattle.usb_names.specs.declared.codes.ClassCodes.{ClassCodes}
 use Rattle.usb_names.specs.Rows.{Row, first_row, rows_behind}
 use Rattle.usb_text.specs.Numbers.{byte_code}
@@ -14,7 +14,7 @@ unnamed_words type = codes "descriptor of type " ++ byte_code type
 
 -- the row of a descriptor after an interface of these codes
 abbrev pub row_of_bytes : Option ClassCodes → List ℕ → Option Row
-row_of_bytes interface b = first_row (rows_behind interface) interface (slice_index b 1) (slice_get b 2)
+row_of_bytes interface b = first_row (rows_behind interface) interface (slice_index b 1) (drop 2 b)
 
 -- the name of a row, or the type of a descriptor that has none
 abbrev pub row_words : ℕ → Option Row → List ℕ

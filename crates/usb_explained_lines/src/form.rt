@@ -10,7 +10,12 @@ use crate::layout::Shown;
 use crate::value::{put_packet_value, put_power_value, put_release_value, put_set_attributes};
 use std::alloc::AllocError;
 use usb_base::{after, byte_at, prefix};
-use usb_names::{ClassField, Form};
+use usb_class_words::{
+    put_audio_terminal, put_bits, put_frame_interval, put_guid, put_video_terminal,
+};
+use usb_names::{
+    ClassField, Form, abstract_control_bits, call_management_bits, firmware_upgrade_bits,
+};
 use usb_text::{Text, put_byte_code, put_word_code};
 use usb_words::{SetSpeed, put_class, put_function_class, put_protocol, put_subclass};
 
@@ -37,6 +42,13 @@ pub(crate) fn put_form(
         Form::Release => put_release_words(text, bytes_at(b, place, field.width)),
         Form::ReportType => put_report_words(text, byte),
         Form::Index => put_index(text, shown.names, byte),
+        Form::FrameInterval => put_frame_interval(text, bytes_at(b, place, field.width)),
+        Form::Guid => put_guid(text, bytes_at(b, place, field.width)),
+        Form::AudioTerminal => put_audio_terminal(text, bytes_at(b, place, field.width)),
+        Form::VideoTerminal => put_video_terminal(text, bytes_at(b, place, field.width)),
+        Form::AbstractControl => put_bits(text, abstract_control_bits(), byte),
+        Form::CallManagement => put_bits(text, call_management_bits(), byte),
+        Form::FirmwareUpgrade => put_bits(text, firmware_upgrade_bits(), byte),
         Form::Class => put_class(text, byte),
         Form::FunctionClass => put_function_class(text, byte),
         Form::Subclass => put_subclass(text, byte_before(b, place, 1), byte),
@@ -82,6 +94,9 @@ fn put_decimal_words(text: &mut Text, value: &[u8]) -> Result<(), AllocError>
     match value {
         [a] => text.put_decimal(u64::from(*a)),
         [a, b] => text.put_decimal(u64::from(*a) + 256 * u64::from(*b)),
+        [a, b, c] => {
+            text.put_decimal(u64::from(*a) + 256 * (u64::from(*b) + 256 * u64::from(*c)))
+        }
         [a, b, c, d] => text.put_decimal(
             u64::from(*a) + 256 * (u64::from(*b) + 256 * (u64::from(*c) + 256 * u64::from(*d))),
         ),

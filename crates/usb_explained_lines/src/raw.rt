@@ -31,7 +31,7 @@ pub(crate) fn put_raw_words(
 fn row_of_bytes(interface: Option<ClassCodes>, b: &[u8]) -> Option<&'static ClassDescriptor>
     ensures { option_map row_of (option_copied result) ≡ row_of_bytes interface b.now }
 {
-    class_descriptor(interface, byte_at(b, 1), b.get(2).copied())
+    class_descriptor(interface, byte_at(b, 1), after(b, 2))
 }
 
 fn put_row_words(

@@ -1,3 +1,5 @@
 pub mod Classes
+pub mod Terminals
+pub mod Bits
 pub mod Rows
 pub mod Shown

@@ -15,6 +15,7 @@ row_of r = record {
   protocol = r.protocol;
   type = r.descriptor_type;
   first = r.first;
+  second = r.second;
   name = r.name.now;
   fields = map field_of r.fields.now;
   group = map field_of r.group.now;

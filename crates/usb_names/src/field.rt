@@ -13,6 +13,20 @@ pub enum Form {
     ReportType,
     /// As the index of a string (USB 2.0, 9.6.7).
     Index,
+    /// As a frame interval of video.
+    FrameInterval,
+    /// As a GUID.
+    Guid,
+    /// As the type of an audio terminal.
+    AudioTerminal,
+    /// As the type of a video terminal.
+    VideoTerminal,
+    /// As the bits of bmCapabilities of CDC abstract control.
+    AbstractControl,
+    /// As the bits of bmCapabilities of CDC call management.
+    CallManagement,
+    /// As the bits of bmAttributes of DFU.
+    FirmwareUpgrade,
     /// As the class code of a device.
     Class,
     /// As that of an interface or a function.

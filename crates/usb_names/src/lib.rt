@@ -1,13 +1,17 @@
-//! Names of class codes, and of the descriptors that classes define.
+//! Names of class codes, and of the descriptors that classes define, their terminals and their bits.
 #![tactic(auto)]
 
+mod bits;
 mod class;
 mod codes;
 mod field;
 mod row;
 mod rows;
+mod terminal;
 
+pub use bits::{abstract_control_bits, call_management_bits, firmware_upgrade_bits};
 pub use class::{class_name, protocol_name, subclass_name};
 pub use codes::ClassCodes;
 pub use field::{ClassField, Form};
 pub use row::{ClassDescriptor, class_descriptor};
+pub use terminal::{audio_terminal, video_terminal};

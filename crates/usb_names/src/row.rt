@@ -19,6 +19,8 @@ pub struct ClassDescriptor {
     pub descriptor_type: u8,
     /// The first byte after bDescriptorType; none is any.
     pub first: Option<u8>,
+    /// The byte after that one; none is any.
+    pub second: Option<u8>,
     /// The name.
     pub name: &'static str,
     /// The fields after bDescriptorType, in order.
@@ -39,11 +41,12 @@ fn agrees(wanted: Option<u8>, code: Option<u8>) -> bool
 }
 
 impl ClassDescriptor {
-    fn holds(&self, interface: Option<ClassCodes>, descriptor_type: u8, first: Option<u8>) -> bool
-        ensures { result ≡ holds (row_of self.now) interface descriptor_type first }
+    fn holds(&self, interface: Option<ClassCodes>, descriptor_type: u8, body: &[u8]) -> bool
+        ensures { result ≡ holds (row_of self.now) interface descriptor_type body.now }
     {
         self.descriptor_type == descriptor_type
-            && agrees(self.first, first)
+            && agrees(self.first, body.first().copied())
+            && agrees(self.second, body.get(1).copied())
             && agrees(self.subclass, interface.map(|codes| codes.subclass))
             && agrees(self.protocol, interface.map(|codes| codes.protocol))
     }
@@ -54,12 +57,12 @@ fn find_row(
     rows: &'static [ClassDescriptor],
     interface: Option<ClassCodes>,
     descriptor_type: u8,
-    first: Option<u8>,
+    body: &[u8],
 ) -> Option<&'static ClassDescriptor>
-    ensures { option_copied result ≡ find (λ row. holds (row_of row) interface descriptor_type first) rows.now }
+    ensures { option_copied result ≡ find (λ row. holds (row_of row) interface descriptor_type body.now) rows.now }
 {
     rows.iter()
-        .find(|row| row.holds(interface, descriptor_type, first))
+        .find(|row| row.holds(interface, descriptor_type, body))
 }
 
 /// The same, of the rows as the table says them.
@@ -67,19 +70,19 @@ fn first_row(
     rows: &'static [ClassDescriptor],
     interface: Option<ClassCodes>,
     descriptor_type: u8,
-    first: Option<u8>,
+    body: &[u8],
 ) -> Option<&'static ClassDescriptor>
-    ensures { option_map row_of (option_copied result) ≡ first_row (map row_of rows.now) interface descriptor_type first }
+    ensures { option_map row_of (option_copied result) ≡ first_row (map row_of rows.now) interface descriptor_type body.now }
 {
-    find_row(rows, interface, descriptor_type, first)
+    find_row(rows, interface, descriptor_type, body)
 }
 
-/// The descriptor of this type and this first byte of its body, after an interface of these codes; before any
+/// The descriptor of this type and of a body that begins with these bytes, after an interface of these codes; before any
 /// interface there are none. It is the first row of the table that holds.
 ///
 /// ```rust
 /// let hid = ClassCodes { class: 3, subclass: 1, protocol: 2 };
-/// if let Some(descriptor) = class_descriptor(Some(hid), 0x21, Some(0x10)) {
+/// if let Some(descriptor) = class_descriptor(Some(hid), 0x21, &[0x10, 1]) {
 ///     assert_eq!(rt; descriptor.name, "HID");
 /// }
 /// ```
@@ -87,17 +90,17 @@ fn first_row(
 pub fn class_descriptor(
     interface: Option<ClassCodes>,
     descriptor_type: u8,
-    first: Option<u8>,
+    body: &[u8],
 ) -> Option<&'static ClassDescriptor>
-    ensures { option_map row_of (option_copied result) ≡ first_row (rows_behind interface) interface descriptor_type first }
+    ensures { option_map row_of (option_copied result) ≡ first_row (rows_behind interface) interface descriptor_type body.now }
 {
-    if let Some(row) = first_row(standard_rows(), interface, descriptor_type, first) {
+    if let Some(row) = first_row(standard_rows(), interface, descriptor_type, body) {
         return Some(row);
     }
-    if let Some(row) = first_row(rows_of_class(interface), interface, descriptor_type, first) {
+    if let Some(row) = first_row(rows_of_class(interface), interface, descriptor_type, body) {
         return Some(row);
     }
-    first_row(other_rows(), interface, descriptor_type, first)
+    first_row(other_rows(), interface, descriptor_type, body)
 }
 
 /// The rows of the class of an interface, if there is one.

@@ -3,7 +3,7 @@ use Rattle.std.proofs.Common.{ℕ, ◌+◌, ◌-◌, ◌*◌, ◌^◌, ◌<◌, 
 use Rattle.std.specs.Fmt.{decimal}
 use Rattle.usb_base.specs.Bytes.{AreBytes}
 use Rattle.usb_names.specs.declared.field.Form.{Form}
-use Rattle.usb_names.specs.declared.field.Form.TheVariants.{Decimal, Hexadecimal, Release, ReportType, Index, Class, FunctionClass, Subclass, Protocol, DevicePacket, Supply, Power, Address, Transfer, PacketSize, Interval}
+use Rattle.usb_names.specs.declared.field.Form.TheVariants.{Decimal, Hexadecimal, Release, ReportType, Index, FrameInterval, Guid, AudioTerminal, VideoTerminal, AbstractControl, CallManagement, FirmwareUpgrade, Class, FunctionClass, Subclass, Protocol, DevicePacket, Supply, Power, Address, Transfer, PacketSize, Interval}
 use Rattle.usb_set.specs.Endpoints.{transfer_type_of}
 use Rattle.usb_words.specs.declared.speed.SetSpeed.{SetSpeed}
 use Rattle.usb_words.specs.declared.speed.SetSpeed.TheVariants.{Low, Full, LowOrFull, High, FullOrHigh, Super}
@@ -17,6 +17,7 @@ use Rattle.usb_explain.proofs.plain.Texts.{both_plain, decimal_plain, parts}
 use Rattle.usb_explain.proofs.plain.Parts.{byte_fits}
 use Rattle.usb_explain.proofs.plain.Words.{attributes_plain, byte_code_plain, class_field_plain, count_plain, end_plain, function_class_field_plain, interval_plain, meaning_plain, power_plain, protocol_field_plain, release_plain, size_plain, subclass_field_plain, word_code_plain}
 use Rattle.usb_explain.proofs.plain.Fields.{MaybeFit, index_plain}
+use Rattle.usb_explain.proofs.plain.ClassWords.{abstract_control_plain, audio_terminal_plain, call_management_plain, firmware_upgrade_plain, frame_interval_plain, guid_plain, video_terminal_plain}
 
 -- ---- values
 
@@ -75,7 +76,7 @@ decimal_words_plain : (value : List ℕ) → AreBytes value → Printable (decim
 decimal_words_plain [] h = encoded_printable [] h
 decimal_words_plain (a ∷ []) h = decimal_plain a
 decimal_words_plain (a ∷ b ∷ []) h = decimal_plain (a + 256 * b)
-decimal_words_plain (a ∷ b ∷ c ∷ []) h = encoded_printable (a ∷ b ∷ c ∷ []) h
+decimal_words_plain (a ∷ b ∷ c ∷ []) h = decimal_plain (a + 256 * (b + 256 * c))
 decimal_words_plain (a ∷ b ∷ c ∷ d ∷ []) h = decimal_plain (a + 256 * (b + 256 * (c + 256 * d)))
 decimal_words_plain (a ∷ b ∷ c ∷ d ∷ e ∷ value) h = encoded_printable (a ∷ b ∷ c ∷ d ∷ e ∷ value) h
 
@@ -114,6 +115,13 @@ form_plain speed strings Hexadecimal width b place fit h = hexadecimal_words_pla
 form_plain speed strings Release width b place fit h = release_words_plain (take width (drop place b)) (bytes_fit width b place h)
 form_plain speed strings ReportType width b place fit h = report_plain (slice_index b place) (byte_fits b place h)
 form_plain speed strings Index width b place fit h = index_plain strings (slice_index b place) fit
+form_plain speed strings FrameInterval width b place fit h = frame_interval_plain (take width (drop place b)) (bytes_fit width b place h)
+form_plain speed strings Guid width b place fit h = guid_plain (take width (drop place b)) (bytes_fit width b place h)
+form_plain speed strings AudioTerminal width b place fit h = audio_terminal_plain (take width (drop place b)) (bytes_fit width b place h)
+form_plain speed strings VideoTerminal width b place fit h = video_terminal_plain (take width (drop place b)) (bytes_fit width b place h)
+form_plain speed strings AbstractControl width b place fit h = abstract_control_plain (slice_index b place) (byte_fits b place h)
+form_plain speed strings CallManagement width b place fit h = call_management_plain (slice_index b place) (byte_fits b place h)
+form_plain speed strings FirmwareUpgrade width b place fit h = firmware_upgrade_plain (slice_index b place) (byte_fits b place h)
 form_plain speed strings Class width b place fit h = class_field_plain (slice_index b place) (byte_fits b place h)
 form_plain speed strings FunctionClass width b place fit h = function_class_field_plain (slice_index b place) (byte_fits b place h)
 form_plain speed strings Subclass width b place fit h =

@@ -19,14 +19,14 @@ either_all p true xs ys = refl
 either_all p false xs ys = refl
 
 -- names of classes and subclasses
-abbrev has_plain_name : Named → Bool
+abbrev pub has_plain_name : Named → Bool
 has_plain_name row = is_plain_name row.name
 
 name_chosen : (b : Bool) (name : List ℕ) (rest : Option (List ℕ)) → Printable name → MaybePlain rest → MaybePlain (if b then Some name else rest)
 name_chosen true name rest h k = h
 name_chosen false name rest h k = k
 
-found_plain : (rows : List Named) (code : ℕ) → list_all has_plain_name rows ≡ true → MaybePlain (name_in rows code)
+pub found_plain : (rows : List Named) (code : ℕ) → list_all has_plain_name rows ≡ true → MaybePlain (name_in rows code)
 found_plain [] code h = tt
 found_plain (row ∷ rows) code h =
     let p = and_parts (has_plain_name row) (list_all has_plain_name rows) h in
@@ -141,7 +141,7 @@ all_behind : (interface : Option ClassCodes) → list_all is_plain_row (rows_of_
 all_behind None = refl
 all_behind (Some codes) = all_of_class codes.class
 
-pub row_plain : (interface : Option ClassCodes) (type : ℕ) (first : Option ℕ) → MaybePlainRow (first_row (rows_behind interface) interface type first)
-row_plain interface type first =
-    first_plain (λ row. holds row interface type first) (rows_behind interface)
+pub row_plain : (interface : Option ClassCodes) (type : ℕ) (body : List ℕ) → MaybePlainRow (first_row (rows_behind interface) interface type body)
+row_plain interface type body =
+    first_plain (λ row. holds row interface type body) (rows_behind interface)
     (simp (list_all-append is_plain_row, all_standard, all_behind interface, all_other) refl)

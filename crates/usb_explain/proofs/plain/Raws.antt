@@ -1,6 +1,5 @@
 -- The names of class descriptors are plain, and each of their fields is said in one line.
 use Rattle.std.proofs.Common.{ℕ, ◌<◌, List, ◌++◌, Option, Some, None, codes, drop, slice_index, refl}
-use Rattle.std.specs.Prelude.{slice_get}
 use Rattle.usb_base.specs.Bytes.{AreBytes}
 use Rattle.usb_names.specs.declared.codes.ClassCodes.{ClassCodes}
 use Rattle.usb_names.specs.Rows.{Row}
@@ -27,7 +26,7 @@ row_words_plain type None lt h = unnamed_plain type lt
 row_words_plain type (Some row) lt h = h.name
 
 row_of_bytes_plain : (interface : Option ClassCodes) (b : List ℕ) → MaybePlainRow (row_of_bytes interface b)
-row_of_bytes_plain interface b = row_plain interface (slice_index b 1) (slice_get b 2)
+row_of_bytes_plain interface b = row_plain interface (slice_index b 1) (drop 2 b)
 
 pub raw_words_plain : (interface : Option ClassCodes) (b : List ℕ) → AreBytes b → Printable (raw_words interface b)
 unfolding raw_words

@@ -1,5 +1,5 @@
 -- Texts of printable ASCII, put together of such texts, and lines of them.
-use Rattle.std.proofs.Common.{◌≡◌, ℕ, zero, suc, ◌/◌, ◌%◌, ◌<◌, ◌==◌, ◌&&◌, Bool, true, false, if◌then◌else◌, List, [], ◌∷◌, ◌++◌, Option, Some, None, drop, replicate, codes, refl, ◌∙◌, arith}
+use Rattle.std.proofs.Common.{◌≡◌, ℕ, zero, suc, ◌/◌, ◌%◌, ◌<◌, ◌==◌, ◌&&◌, Bool, true, false, if◌then◌else◌, List, [], ◌∷◌, ◌++◌, Option, Some, None, drop, replicate, take, codes, refl, ◌∙◌, arith}
 use Rattle.std.specs.Fmt.{decimal, digit_glyph, digits, digits_onto}
 use Rattle.std.specs.List.{AllByRecursion, flat_map, list_all}
 use Rattle.std.proofs.lemmas.Bool.{and_parts}
@@ -37,6 +37,12 @@ pub dropped : (n : ℕ) (text : List ℕ) → Printable text → Printable (drop
 dropped zero text h = h
 dropped (suc n) [] h = refl
 dropped (suc n) (x ∷ text) h = dropped n text (and_parts (is_printable x) (list_all is_printable text) h).1
+
+pub taken : (n : ℕ) (text : List ℕ) → Printable text → Printable (take n text)
+taken zero text h = refl
+taken (suc n) [] h = refl
+taken (suc n) (x ∷ text) h =
+    let p = and_parts (is_printable x) (list_all is_printable text) h in rw (p.0, taken n text p.1) refl
 
 pub spaces_plain : (n : ℕ) → Printable (replicate n 32)
 spaces_plain zero = refl

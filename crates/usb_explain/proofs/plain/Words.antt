@@ -51,7 +51,7 @@ further_plain : (name : Option (List ℕ)) → MaybePlain name → Printable (fu
 further_plain None h = refl
 further_plain (Some name) h = h
 
-named_plain : (name : Option (List ℕ)) → MaybePlain name → Printable (named name)
+pub named_plain : (name : Option (List ℕ)) → MaybePlain name → Printable (named name)
 named_plain None h = refl
 named_plain (Some name) h = meaning_plain name h
 

@@ -8,4 +8,4 @@ use Rattle.usb_names.proofs.row.first_row.Goals as goal
 pub returns : goal.returns
 returns c =
     ap (option_map row_of) c.find_row.ensures
-    ∙ sym (find_mapped (λ row. holds row c.args.interface c.args.descriptor_type c.args.first) row_of c.args.rows.now)
+    ∙ sym (find_mapped (λ row. holds row c.args.interface c.args.descriptor_type c.args.body.now) row_of c.args.rows.now)

@@ -1,0 +1,4 @@
+pub mod FrameIntervals
+pub mod Guids
+pub mod Terminals
+pub mod Bits
