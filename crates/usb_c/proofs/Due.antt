@@ -7,9 +7,9 @@ use Rattle.usb_transfer.specs.declared.stage.TransferStage.{TransferStage}
 use Rattle.usb_transfer.specs.declared.stage.TransferStage.TheVariants as stages
 use Rattle.usb_transfer.specs.Transfer.{addressed, token_due}
 use Rattle.usb_host.specs.Steps.{HostPhase, HostView, ResetDue, Reading, Ended, Wanted, WantsNothing, WantsReset, WantsSent, sends, wanted}
-use Rattle.usb_c.specs.declared.transaction.UsbTransaction.{UsbTransaction}
+use Rattle.usb_owned_device.specs.declared.transaction.UsbTransaction.{UsbTransaction}
 use Rattle.usb_c.specs.Hosts.{transaction_due}
-use Rattle.usb_c.specs.Transactions.{sent_told, transaction_of}
+use Rattle.usb_owned_device.specs.Transactions.{sent_told, transaction_of}
 
 abbrev IsWhole : Option Wanted → Type 0
 IsWhole None = Unit {0}

@@ -6,4 +6,3 @@ mod HostValues
 mod InputFaults
 mod LooseValues
 mod Reasons
-mod Replies

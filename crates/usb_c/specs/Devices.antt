@@ -18,10 +18,10 @@ use Rattle.usb_c.specs.declared.answer.Verdict.{Verdict}
 use Rattle.usb_c.specs.declared.answer.Verdict.TheVariants as verdicts
 use Rattle.usb_c.specs.declared.device.UsbState.{UsbState}
 use Rattle.usb_c.specs.declared.device.UsbSetup.{UsbSetup}
-use Rattle.usb_c.specs.declared.transaction.UsbPacket.{UsbPacket}
-use Rattle.usb_c.specs.Ends.{after}
+use Rattle.usb_owned_device.specs.declared.transaction.UsbPacket.{UsbPacket}
+use Rattle.usb_owned_device.specs.Ends.{after}
 use Rattle.usb_c.specs.Refusals.{RefusesFile}
-use Rattle.usb_c.specs.Transactions.{packet_of}
+use Rattle.usb_owned_device.specs.Transactions.{packet_of}
 
 -- a new device of the file that these bytes are is held
 pub record OpensFile (b : List ℕ) (speed : Speed) (new : Option View) : Type 0 where

@@ -8,9 +8,9 @@ use Rattle.usb_host.specs.Steps.{HostView, Takes, Wanted, WantsNothing, WantsRes
 use Rattle.usb_c.specs.declared.answer.Verdict.{Verdict}
 use Rattle.usb_c.specs.declared.answer.Verdict.TheVariants as verdicts
 use Rattle.usb_c.specs.declared.outcome.UsbTrouble.{UsbTrouble}
-use Rattle.usb_c.specs.declared.transaction.UsbTransaction.{UsbTransaction}
+use Rattle.usb_owned_device.specs.declared.transaction.UsbTransaction.{UsbTransaction}
 use Rattle.usb_c.specs.Outcomes.{EndsWith}
-use Rattle.usb_c.specs.Transactions.{transaction_of}
+use Rattle.usb_owned_device.specs.Transactions.{transaction_of}
 
 -- limits that are refused, or a new host with these limits, or memory is wanting
 abbrev pub OpensAt : ℕ → ℕ → ℕ → Speed → Option HostView → Verdict → Type 0

@@ -2,11 +2,9 @@ pub mod Answers
 pub mod Buffers
 pub mod Decoders
 pub mod Devices
-pub mod Ends
 pub mod Enumerations
 pub mod Hosts
 pub mod Outcomes
 pub mod Refusals
 pub mod Texts
-pub mod Transactions
 pub mod inside

@@ -4,10 +4,10 @@ ghost use Rattle.usb_c.specs.inside.OwningDevice.{held_by, loosely_held, owned};
 ghost use Rattle.usb_device.specs.View.{View};
 
 use crate::loose::Loose;
-use crate::owned_device::OwnedDevice;
 use std::alloc::Global;
 use std::marker::Model;
 use std::ptr::null_mut;
+use usb_owned_device::OwnedDevice;
 
 /// A device on the heap, or none, which is null. C sees a struct with one pointer in it, since a
 /// `Global` takes no bytes, and neither reads nor changes what it points to.

@@ -2,7 +2,7 @@
 ghost use Rattle.usb_c.specs.Answers.{AnswersOn};
 ghost use Rattle.usb_c.specs.Enumerations.{Enumerates};
 ghost use Rattle.usb_c.specs.Texts.{Builds, Checks, Explains, Shows, manner_told};
-ghost use Rattle.usb_c.specs.Transactions.{speed_told};
+ghost use Rattle.usb_owned_device.specs.Transactions.{speed_told};
 
 use crate::answer::Answer;
 use crate::enumeration::{UsbOutcome, enumerate_bytes};

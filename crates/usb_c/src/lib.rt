@@ -20,10 +20,8 @@ mod host_handle;
 mod input;
 mod loose;
 mod outcome;
-mod owned_device;
 mod refusal;
 mod text;
-mod transaction;
 
 pub use answer::Answer;
 pub use decoder::{usb_decoder_close, usb_decoder_feed, usb_decoder_list, usb_decoder_open};
@@ -42,4 +40,4 @@ pub use host::{
 pub use host_handle::UsbHost;
 pub use input::{usb_build, usb_check, usb_enumerate, usb_explain, usb_show};
 pub use outcome::UsbTrouble;
-pub use transaction::{UsbPacket, UsbTransaction};
+pub use usb_owned_device::{UsbPacket, UsbTransaction};

@@ -17,7 +17,7 @@ use Rattle.usb_device.specs.declared.state.State.{State}
 use Rattle.usb_device.specs.Requests.{Outcome, answer}
 use Rattle.usb_device.specs.Step.{DeviceStage, Idle, Halted, Sending, StatusOut, Over, StatusIn, DeviceView, Served, next_packet, replies, served, served_here, served_in, served_out, status_out}
 use Rattle.usb_device.specs.View.{served_by}
-use Rattle.usb_c.specs.Transactions.{HasRoom}
+use Rattle.usb_owned_device.specs.Transactions.{HasRoom}
 
 no_left : {X : Type 0} (xs ys : List X) → xs ++ ys ≡ [] → xs ≡ []
 no_left [] ys none = refl

@@ -2,7 +2,7 @@
 ghost use Rattle.std.specs.Prelude.{◌≡◌, ◌≤◌, ◌++◌, drop, length};
 ghost use Rattle.std.specs.Option.{option_map};
 ghost use Rattle.usb_fields.specs.Packet.{reply_of, sent_of};
-ghost use Rattle.usb_c.specs.Transactions.{HasRoom, packet_of, reply_told, sent_told, speed_told, toggle_number, toggle_told, transaction_of};
+ghost use Rattle.usb_owned_device.specs.Transactions.{HasRoom, packet_of, reply_told, sent_told, speed_told, toggle_number, toggle_told, transaction_of};
 
 use usb_fields::{Answer, Speed, Stage, Toggle, Transaction};
 
@@ -34,7 +34,7 @@ pub struct UsbPacket {
 }
 
 /// The toggle of this number, or `None` where it has no meaning.
-pub(crate) fn toggle_of(number: u8) -> Option<Toggle>
+pub fn toggle_of(number: u8) -> Option<Toggle>
     ensures { result ≡ toggle_told number }
 {
     match number {
@@ -54,7 +54,7 @@ fn toggle_number(toggle: Toggle) -> u8
 }
 
 /// The speed of this number, or `None` where it has no meaning.
-pub(crate) fn speed_of(number: u8) -> Option<Speed>
+pub fn speed_of(number: u8) -> Option<Speed>
     ensures { result ≡ speed_told number }
 {
     match number {
@@ -66,7 +66,7 @@ pub(crate) fn speed_of(number: u8) -> Option<Speed>
 }
 
 /// The transaction that these numbers are, whose OUT has these bytes. `None` where a stage or a toggle has no meaning.
-pub(crate) fn sent<'a>(told: &UsbTransaction, bytes: &'a [u8]) -> Option<Transaction<'a>>
+pub fn sent<'a>(told: &UsbTransaction, bytes: &'a [u8]) -> Option<Transaction<'a>>
     ensures { option_map sent_of result ≡ sent_told told.now bytes.now }
 {
     let stage = match told.stage {
@@ -85,7 +85,7 @@ pub(crate) fn sent<'a>(told: &UsbTransaction, bytes: &'a [u8]) -> Option<Transac
 }
 
 /// A transaction as numbers; of OUT without its bytes.
-pub(crate) fn told(transaction: &Transaction<'_>) -> UsbTransaction
+pub fn told(transaction: &Transaction<'_>) -> UsbTransaction
     ensures { result ≡ transaction_of (sent_of transaction.now) }
 {
     let address = transaction.address;
@@ -112,7 +112,7 @@ pub(crate) fn told(transaction: &Transaction<'_>) -> UsbTransaction
 }
 
 /// Writes an answer of at most 64 bytes as a packet.
-pub(crate) fn tell(answer: Answer<'_>, packet: &mut UsbPacket)
+pub fn tell(answer: Answer<'_>, packet: &mut UsbPacket)
     requires { HasRoom (reply_of answer) }
     ensures { packet.new ≡ packet_of (reply_of answer.entry) packet.old }
 {
@@ -144,7 +144,7 @@ fn tell_data(toggle: Toggle, bytes: &[u8], packet: &mut UsbPacket)
 }
 
 /// The answer that these numbers are, or `None` where a reply or the toggle of a data packet has no meaning.
-pub(crate) fn answer_of<'a>(reply: u8, toggle: u8, bytes: &'a [u8]) -> Option<Answer<'a>>
+pub fn answer_of<'a>(reply: u8, toggle: u8, bytes: &'a [u8]) -> Option<Answer<'a>>
     ensures { option_map reply_of result ≡ reply_told reply toggle bytes.now }
 {
     match reply {

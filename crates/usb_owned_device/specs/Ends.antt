@@ -1,5 +1,5 @@
 -- A device that owns its description, as callers see it.
-use Rattle.usb_c.specs.declared.owned_device.OwnedDevice.TheInside.{Inside}
+use Rattle.usb_owned_device.specs.declared.owned_device.OwnedDevice.TheInside.{Inside}
 use Rattle.usb_device.specs.EndpointZero.{device_of, IsOf}
 use Rattle.usb_device.specs.Step.{DeviceView}
 use Rattle.usb_device.specs.View.{View}

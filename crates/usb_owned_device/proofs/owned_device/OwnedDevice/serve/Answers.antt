@@ -1,7 +1,7 @@
 use Rattle.usb_fields.specs.Packet.{reply_of, sent_of}
 use Rattle.usb_device.specs.EndpointZero.{device_of}
-use Rattle.usb_c.proofs.Replies.{reply_has_room}
-use Rattle.usb_c.proofs.owned_device.OwnedDevice.serve.Goals as goal
+use Rattle.usb_owned_device.proofs.Replies.{reply_has_room}
+use Rattle.usb_owned_device.proofs.owned_device.OwnedDevice.serve.Goals as goal
 
 pub tell-requires : goal.tell-requires
 tell-requires c =

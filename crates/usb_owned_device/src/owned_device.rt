@@ -4,8 +4,8 @@ ghost use Rattle.usb_fields.specs.Packet.{sent_of};
 ghost use Rattle.usb_device.specs.Beside.{answered, carried_out_in, refused_in, room_size, unanswered, unfit_bytes, unfit_status, Gives, Does};
 ghost use Rattle.usb_device.specs.Step.{new_device};
 ghost use Rattle.usb_device.specs.View.{acked_by, served_by};
-ghost use Rattle.usb_c.specs.Ends.{after};
-ghost use Rattle.usb_c.specs.Transactions.{packet_of};
+ghost use Rattle.usb_owned_device.specs.Ends.{after};
+ghost use Rattle.usb_owned_device.specs.Transactions.{packet_of};
 
 use crate::transaction::{UsbPacket, tell};
 use std::marker::Model;
@@ -21,7 +21,7 @@ pub struct OwnedDevice {
 
 impl Model for OwnedDevice {
     ghost use Rattle.usb_device.specs.View.{View};
-    ghost use Rattle.usb_c.specs.Ends.{view_of, IsEnd};
+    ghost use Rattle.usb_owned_device.specs.Ends.{view_of, IsEnd};
 
     ghost Value = { View };
 
@@ -32,7 +32,7 @@ impl Model for OwnedDevice {
 
 impl OwnedDevice {
     /// A new device.
-    pub(crate) fn new(description: Description) -> OwnedDevice
+    pub fn new(description: Description) -> OwnedDevice
         ensures { result ≡ record { description = description; device = new_device } }
     {
         let endpoint_zero = EndpointZero::new(&description);
@@ -43,7 +43,7 @@ impl OwnedDevice {
     }
 
     /// A bus reset.
-    pub(crate) fn reset(&mut self)
+    pub fn reset(&mut self)
         ensures { self.new ≡ after self.old new_device }
     {
         self.endpoint_zero = EndpointZero::new(&self.description);
@@ -51,7 +51,7 @@ impl OwnedDevice {
 
     /// One transaction, whose answer goes into the packet.
     #[tactic(auto, using(crate::proofs::Replies::reply_has_room))]
-    pub(crate) fn serve(&mut self, t: &Transaction<'_>, ready: bool, packet: &mut UsbPacket)
+    pub fn serve(&mut self, t: &Transaction<'_>, ready: bool, packet: &mut UsbPacket)
         ensures device { self.new ≡ after self.old (served_by self.old.description.file self.old.device (sent_of t.now) ready).device }
         ensures packet { packet.new ≡ packet_of (served_by self.old.description.file self.old.device (sent_of t.now) ready).reply packet.old }
     {
@@ -64,21 +64,21 @@ impl OwnedDevice {
     }
 
     /// The host's ACK.
-    pub(crate) fn acked(&mut self)
+    pub fn acked(&mut self)
         ensures { self.new ≡ after self.old (acked_by self.old.description.file self.old.device) }
     {
         self.endpoint_zero.acked(&self.description);
     }
 
     /// The request that is rejected, and of whose rejection the host doesn't know yet.
-    pub(crate) fn refused(&self) -> Option<Setup>
+    pub fn refused(&self) -> Option<Setup>
         ensures { result ≡ refused_in self.now.device.stage }
     {
         self.endpoint_zero.refused()
     }
 
     /// Answers that request by these bytes.
-    pub(crate) fn answer_with(&mut self, bytes: &[u8]) -> Result<(), Unanswered>
+    pub fn answer_with(&mut self, bytes: &[u8]) -> Result<(), Unanswered>
         ensures device { self.new ≡ after self.old (answered room_size (Gives bytes.now) self.old.device) }
         ensures ok { OnOk result (unanswered (unfit_bytes room_size bytes.now) (refused_in self.old.device.stage) ≡ None) }
         ensures err { IfErr result (λ why. unanswered (unfit_bytes room_size bytes.now) (refused_in self.old.device.stage) ≡ Some why) }
@@ -87,7 +87,7 @@ impl OwnedDevice {
     }
 
     /// Answers that request by its status stage.
-    pub(crate) fn accept(&mut self) -> Result<(), Unanswered>
+    pub fn accept(&mut self) -> Result<(), Unanswered>
         ensures device { self.new ≡ after self.old (answered room_size Does self.old.device) }
         ensures ok { OnOk result (unanswered unfit_status (refused_in self.old.device.stage) ≡ None) }
         ensures err { IfErr result (λ why. unanswered unfit_status (refused_in self.old.device.stage) ≡ Some why) }
@@ -96,14 +96,14 @@ impl OwnedDevice {
     }
 
     /// The request that was carried out, in its status stage.
-    pub(crate) fn carried_out(&self) -> Option<Setup>
+    pub fn carried_out(&self) -> Option<Setup>
         ensures { result ≡ carried_out_in self.now.device.stage }
     {
         self.endpoint_zero.carried_out()
     }
 
     /// The state.
-    pub(crate) fn state(&self) -> State
+    pub fn state(&self) -> State
         ensures { result ≡ self.now.device.state }
     {
         self.endpoint_zero.state()

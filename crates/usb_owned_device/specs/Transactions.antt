@@ -6,8 +6,8 @@ use Rattle.usb_fields.specs.declared.packet.Toggle.TheVariants.{Data0, Data1}
 use Rattle.usb_base.specs.declared.speed.Speed.{Speed}
 use Rattle.usb_base.specs.declared.speed.Speed.TheVariants as speeds
 use Rattle.usb_fields.specs.Packet.{Token, SetupToken, InToken, OutToken, Sent, Reply, AckReply, NakReply, StallReply, DataReply, NoReply}
-use Rattle.usb_c.specs.declared.transaction.UsbTransaction.{UsbTransaction}
-use Rattle.usb_c.specs.declared.transaction.UsbPacket.{UsbPacket}
+use Rattle.usb_owned_device.specs.declared.transaction.UsbTransaction.{UsbTransaction}
+use Rattle.usb_owned_device.specs.declared.transaction.UsbPacket.{UsbPacket}
 
 -- the toggle of a number, if it has a meaning
 abbrev pub toggle_told : ℕ → Option Toggle
