@@ -1,5 +1,5 @@
 //! Units as characters.
-ghost use Rattle.std.specs.Prelude.{◌≡◌, ◌++◌, ◌&&◌, OnOk};
+ghost use Rattle.std.specs.Prelude.{◌≡◌, ◌++◌, ◌&&◌, true, OnOk};
 ghost use Rattle.std.specs.Char.{encode_utf8};
 ghost use Rattle.std.specs.Char.Utf16.{is_high_surrogate, is_low_surrogate};
 ghost use Rattle.usb_string_words.specs.Characters.{one_words, pair_words, shown_words, units_in, units_words};
@@ -92,6 +92,7 @@ fn is_pair(high: u16, low: u16) -> bool
 }
 
 /// Puts the character of a surrogate pair, or its units where that isn't shown.
+#[tactic(auto, unfolding(crate::specs::Characters::pair_words))]
 fn put_pair(text: &mut Text, high: u16, low: u16) -> Result<(), AllocError>
     requires { (is_high_surrogate high && is_low_surrogate low) ≡ true }
     ensures { OnOk result (text.new ≡ text.old ++ pair_words high low) }
@@ -107,6 +108,7 @@ fn put_pair(text: &mut Text, high: u16, low: u16) -> Result<(), AllocError>
 }
 
 /// Puts a unit by itself: its character, or the unit where that isn't shown.
+#[tactic(auto, unfolding(crate::specs::Characters::one_words))]
 fn put_one(text: &mut Text, unit: u16) -> Result<(), AllocError>
     ensures { OnOk result (text.new ≡ text.old ++ one_words unit) }
 {

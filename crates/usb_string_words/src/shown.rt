@@ -1,7 +1,6 @@
 //! The characters beyond ASCII that are shown.
-ghost use Rattle.std.specs.Prelude.{◌≡◌, true};
+ghost use Rattle.std.specs.Prelude.{◌≡◌, true, false, MatchOption};
 ghost use Rattle.std.specs.List.{list_any};
-ghost use Rattle.std.specs.Option.{SomeIff};
 ghost use Rattle.usb_string_words.specs.Shown.{has_code, hidden, is_shown};
 
 /// Code points from the first to the last.
@@ -53,6 +52,7 @@ fn is_hidden(code: u32) -> bool
 }
 
 /// Whether a code point is shown as its character.
+#[tactic(auto, unfolding(crate::specs::Shown::is_shown))]
 fn is_shown(code: u32) -> bool
     ensures { result ≡ is_shown code }
 {
@@ -60,8 +60,9 @@ fn is_shown(code: u32) -> bool
 }
 
 /// The character of a code point, if it is shown.
+#[tactic(auto, unfolding(crate::specs::Shown::is_shown))]
 pub(crate) fn shown(code: u32) -> Option<char>
-    ensures { SomeIff result (is_shown code ≡ true) code }
+    ensures { MatchOption result (is_shown code ≡ false) (λ c. (c ≡ code) × (is_shown code ≡ true)) }
 {
     if is_shown(code) {
         char::from_u32(code)
