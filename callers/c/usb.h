@@ -56,7 +56,7 @@ void rattle_dealloc(unsigned char *at);
 
 /* --- from a buffer into a buffer: what `usbdesc` writes -------------------------------------------------------- */
 
-enum usb_options { USB_BRIEF = 1, USB_PLACES = 2 };
+enum usb_options { USB_BRIEF = 1, USB_PLACES = 2, USB_UTF8 = 4 }; /* with USB_UTF8 the text is UTF-8, else ASCII */
 enum usb_speed { USB_LOW = 1, USB_FULL = 2, USB_HIGH = 3, USB_SUPER = 4 }; /* 0: not known; 0 and super for explain alone */
 
 struct usb_answer usb_show(const uint8_t *bytes, size_t len, uint8_t *text, size_t room);

@@ -180,10 +180,10 @@ def build(text):
     return _whole(_lib.usb_build, *_in(text.encode("utf-8")))
 
 
-def explain(data, brief=False, places=True, speed=None):
+def explain(data, brief=False, places=True, speed=None, utf8=False):
     """What descriptors mean, in words, also of broken bytes as far as they go."""
-    answer, out = _into(_lib.usb_explain, *_in(data), brief | places << 1, SPEEDS[speed])
-    return Explanation(out.decode("ascii"), _fault(answer))
+    answer, out = _into(_lib.usb_explain, *_in(data), brief | places << 1 | utf8 << 2, SPEEDS[speed])
+    return Explanation(out.decode("utf-8"), _fault(answer))
 
 
 def enumerate(data, speed="full", naks=16, attempts=3, fates=""):

@@ -144,7 +144,7 @@ pub fn check(bytes: &[u8]) -> Result<Vec<u8>, Answer> {
     whole(into(|out, room| unsafe { usb_check(bytes.as_ptr(), bytes.len(), out, room) }))
 }
 
-/// The text as far as the bytes go, and the fault where they are broken. Options: 1 brief, 2 places.
+/// The text as far as the bytes go, and the fault where they are broken. Options: 1 brief, 2 places, 4 UTF-8.
 pub fn explain(bytes: &[u8], options: u32, speed: u8) -> (Vec<u8>, Result<(), Answer>) {
     let (answer, out) = into(|out, room| unsafe { usb_explain(bytes.as_ptr(), bytes.len(), options, speed, out, room) });
     (out, done(answer))

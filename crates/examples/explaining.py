@@ -9,11 +9,13 @@ compares what it writes (.ci/readings).
                                  .explain
     explaining.py file FILE..    the same of a descriptor file
     explaining.py dump FILE..    the same of a dump of Linux
+    explaining.py --utf8 ..      the same with characters beyond ASCII as UTF-8
 """
 
 import os
 import re
 import sys
+import unicodedata
 
 import checking
 
@@ -140,9 +142,25 @@ def class_fields(stem, codes):
         yield f"{stem}{name}", with_meaning(byte(codes[i]), meaning)
 
 
-def quoted(units):
-    plain = (chr(u) if 0x20 <= u <= 0x7E and chr(u) not in '"\\' else f"\\{u:04x}" for u in units)
-    return '"' + "".join(plain) + '"'
+def quoted(units, utf8):
+    """Without `utf8` a surrogate pair is two characters of Python, each escaped by itself."""
+    text = b"".join(u.to_bytes(2, "little") for u in units).decode("utf-16-le", "surrogatepass") if utf8 else map(chr, units)
+    return '"' + "".join(c if is_shown(c, utf8) else escaped(c) for c in text) + '"'
+
+
+def is_shown(c, utf8):
+    """Whether a character is written as it is. Beyond ASCII that is what Unicode calls no control, format, surrogate,
+    private use or separator, nor reserves among them, nor says to be no character."""
+    if " " <= c <= "~":
+        return c not in '"\\'
+    reserved = c == "\u2065" or "\ufff0" <= c <= "\ufff8" or "\U000e0000" <= c
+    none = "\ufdd0" <= c <= "\ufdef" or ord(c) % 0x10000 >= 0xFFFE
+    return utf8 and unicodedata.category(c) not in ("Cc", "Cf", "Cs", "Co", "Zs", "Zl", "Zp") and not reserved and not none
+
+
+def escaped(c):
+    units = c.encode("utf-16-be", "surrogatepass").hex()
+    return "".join(f"\\{units[i : i + 4]}" for i in range(0, len(units), 4))
 
 
 def end(address, attributes):
@@ -343,8 +361,8 @@ def raw_fields(d, row, index):
 
 
 class Explanation:
-    def __init__(self, kind, data, speed=None, fault=None, brief=False, places=True):
-        self.kind, self.data, self.asked, self.brief, self.places = kind, data, speed, brief, places
+    def __init__(self, kind, data, speed=None, fault=None, brief=False, places=True, utf8=False):
+        self.kind, self.data, self.asked, self.brief, self.places, self.utf8 = kind, data, speed, brief, places, utf8
         self.fault, self.lines = fault, []
         self.found = set()
         self.names, self.string_places = {}, None
@@ -390,7 +408,7 @@ class Explanation:
             return "0 (none)"
         if self.fault:
             return f"{n} (not read)"
-        return f"{n} {quoted(self.names[n])}" if n in self.names else f"{n} (not in the input)"
+        return f"{n} {quoted(self.names[n], self.utf8)}" if n in self.names else f"{n} (not in the input)"
 
     # Lines
 
@@ -614,7 +632,7 @@ class Explanation:
             index, language = self.string_places[self.strings]
             place = f" {index} in {word(language)}:"
         self.strings += 1
-        self.heading(0, f"string{place} {quoted(units)}", at, len(d))
+        self.heading(0, f"string{place} {quoted(units, self.utf8)}", at, len(d))
 
     # The whole
 
@@ -704,6 +722,8 @@ def cut(data, at, limit):
 
 
 def main(words):
+    utf8 = words[:1] == ["--utf8"]
+    words = words[utf8:]
     if len(words) < 2 or words[0] not in ("set", "file", "dump"):
         sys.exit(__doc__)
     for path in words[1:]:
@@ -715,8 +735,8 @@ def main(words):
             reader = checking.reading.Reader(data, True)
             reader.dump()
             kind = "dump" if reader.named else "file"
-        with open(os.path.splitext(path)[0] + ".explain", "w", encoding="ascii") as target:
-            target.write(Explanation(kind, data).text())
+        with open(os.path.splitext(path)[0] + ".explain", "w", encoding="utf-8") as target:
+            target.write(Explanation(kind, data, utf8=utf8).text())
 
 
 if __name__ == "__main__":

@@ -36,6 +36,7 @@ fn command(alloc: Global, line: &Line<'_>) -> Result<String> {
             let given = [
                 ("brief", options.brief.then_some("")),
                 ("no-places", options.no_places.then_some("")),
+                ("utf8", options.utf8.then_some("")),
                 ("hex", options.hex.then_some("")),
                 ("speed", options.speed),
             ];
@@ -98,8 +99,8 @@ pub(crate) fn manner(alloc: Global, words: &[String]) -> Result<String> {
     };
     match manner_of(&options) {
         Ok(manner) => Ok(format!(in alloc;
-            "brief {} places {} {:?}",
-            manner.look.brief, manner.look.places, manner.speed
+            "brief {} places {} utf8 {} {:?}",
+            manner.look.brief, manner.look.places, manner.look.utf8, manner.speed
         )?),
         Err(fault) => Ok(format!(in alloc; "{} {fault}", fault.status())?),
     }

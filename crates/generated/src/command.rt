@@ -15,6 +15,7 @@ const WHOLE: Manner = Manner {
     look: Look {
         brief: false,
         places: true,
+        utf8: false,
     },
     speed: None,
 };

@@ -59,10 +59,14 @@ running_speed_told number =
     else if number == 4 then Some speeds.Super
     else None
 
--- how an explanation is written: bit 0 leaves the fields out, bit 1 gives each its place
+-- how an explanation is written: bit 0 leaves the fields out, bit 1 gives each heading its place, and bit 2 writes characters
+-- beyond ASCII
 abbrev pub manner_told : ℕ → ℕ → Manner
 manner_told options speed =
-    record { look = record { brief = options % 2 == 1; places = (options / 2) % 2 == 1 }; speed = running_speed_told speed }
+    record {
+      look = record { brief = options % 2 == 1; places = (options / 2) % 2 == 1; utf8 = (options / 4) % 2 == 1 };
+      speed = running_speed_told speed;
+    }
 
 -- the explanation of bytes that show this fault is in the buffer, and both are told
 pub record TellsBroken (m : Manner) (b old new : List ℕ) (verdict : Verdict) : Type 0 where

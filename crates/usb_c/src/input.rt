@@ -26,8 +26,8 @@ pub extern "C" fn usb_check(alloc: Global, bytes: &[u8], text: &mut [u8]) -> Ans
 }
 
 /// Puts the explanation of bytes into the buffer: of an input all of it, else what is before the fault, the fault and
-/// the rest. Options: bit 0 leaves out the fields, bit 1 gives each field its place. A speed: 1 low, 2 full, 3 high,
-/// 4 super; any other says nothing of it.
+/// the rest. Options: bit 0 leaves out the fields, bit 1 gives each heading its place, bit 2 writes characters beyond
+/// ASCII. A speed: 1 low, 2 full, 3 high, 4 super; any other says nothing of it.
 #[unsafe(no_mangle)]
 pub extern "C" fn usb_explain(
     alloc: Global,

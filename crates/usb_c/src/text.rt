@@ -99,6 +99,7 @@ pub(crate) fn manner(options: u32, speed: u8) -> Manner
         look: Look {
             brief: options % 2 == 1,
             places: options / 2 % 2 == 1,
+            utf8: options / 4 % 2 == 1,
         },
         speed: running_speed(speed),
     }
@@ -117,8 +118,8 @@ fn running_speed(number: u8) -> Option<SetSpeed>
 }
 
 /// Puts the explanation of bytes into the buffer: of an input all of it, else what is before the fault, the fault and
-/// the rest. Options: bit 0 leaves out the fields, bit 1 gives each field its place. A speed: 1 low, 2 full, 3 high,
-/// 4 super; any other says nothing of it.
+/// the rest. Options: bit 0 leaves out the fields, bit 1 gives each heading its place, bit 2 writes characters beyond
+/// ASCII. A speed: 1 low, 2 full, 3 high, 4 super; any other says nothing of it.
 #[tactic(auto, using(crate::proofs::InputFaults::fault_explained))]
 pub(crate) fn explain_bytes(alloc: Global, bytes: &[u8], manner: Manner, out: &mut [u8]) -> Verdict
     ensures { Explains manner bytes.now out.old out.new result }

@@ -256,10 +256,10 @@ pub record InLines (subject : Subject) (front bytes first before_rest last text 
   pub blocks : AllByRecursion (BlockIsLines subject) once.shown
   pub rest : RestIsLines subject once.end (drop once.end bytes)
 
--- each explanation of an input is in lines, and so is its last line
+-- each explanation of an input in ASCII is in lines, and so is its last line
 abbrev pub WholeInLines : Type 0
 WholeInLines =
-    (manner : Manner) (input : Input) (b : List ℕ) → IsInput input b →
+    (manner : Manner) (input : Input) (b : List ℕ) → manner.look.utf8 ≡ false → IsInput input b →
     InLines (subject_with manner input (findings_in input)) b b (first_line (input_name input) (length b)) [] (last_line (length (findings_in input)))
     (explanation manner input b)
     × IsLine (last_line (length (findings_in input)))
@@ -267,7 +267,7 @@ WholeInLines =
 -- so is that of any bytes with any fault: before the rest are the line of the fault, and one line more or none
 abbrev pub BrokenInLines : Type 0
 BrokenInLines =
-    (manner : Manner) (fault : InputFault) (b : List ℕ) → AreBytes b →
+    (manner : Manner) (fault : InputFault) (b : List ℕ) → manner.look.utf8 ≡ false → AreBytes b →
     InLines (broken_subject manner) (take (place_of_fault fault) b) b (first_line (broken_name b) (length b)) (fault_lines fault b) []
     (broken_explanation manner fault b)
     × IsLine (fault_text fault)

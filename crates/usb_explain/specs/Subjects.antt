@@ -28,7 +28,7 @@ abbrev pub subject_with : Manner → Input → List Finding → Subject
 subject_with manner (inputs.Set set) all =
     record { manner = manner; is_dump = false; names = no_names NotInInput; found = all }
 subject_with manner (inputs.File file) all =
-    record { manner = manner; is_dump = false; names = names_of file; found = all }
+    record { manner = manner; is_dump = false; names = names_of manner.look.utf8 file; found = all }
 subject_with manner (inputs.Dump file) all =
     record { manner = manner; is_dump = true; names = no_names NotInInput; found = all }
 

@@ -9,7 +9,7 @@
 //!
 //! [`laws`] says what holds of each explanation: every byte of the input is under one heading, every descriptor is shown as
 //! what it is and under its owner, every finding is reported once and with the right count, a brief text leaves out fields
-//! alone, and every byte of the text is a line feed or printable.
+//! alone, and every byte of a text in ASCII is a line feed or printable.
 #![tactic(auto)]
 
 mod block;

@@ -75,12 +75,12 @@ impl<'i> Subject<'i> {
         file: &'i DescriptorFile,
         found: &'i [Finding],
     ) -> Result<Subject<'i>, AllocError>
-        ensures { IfOk result (λ subject. subject ≡ record { manner = manner; is_dump = false; names = names_of file.now; found = found.now }) }
+        ensures { IfOk result (λ subject. subject ≡ record { manner = manner; is_dump = false; names = names_of manner.look.utf8 file.now; found = found.now }) }
     {
         Ok(Subject {
             manner,
             is_dump: false,
-            names: Names::of(alloc, file)?,
+            names: Names::of(alloc, file, manner.look.utf8)?,
             found,
         })
     }

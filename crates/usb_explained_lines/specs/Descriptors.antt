@@ -1,5 +1,5 @@
 -- The lines of a descriptor, by what it is.
-use Rattle.std.specs.Prelude.{ℕ, List, [], length, if◌then◌else◌}
+use Rattle.std.specs.Prelude.{ℕ, List, [], length, Bool, if◌then◌else◌}
 use Rattle.usb_explained_lines.specs.declared.role.Role.{Role}
 use Rattle.usb_explained_lines.specs.declared.role.Role.TheVariants.{Device, Qualifier, Configuration, Association, Interface, Endpoint, Raw, Languages, Text}
 use Rattle.usb_explained_lines.specs.declared.context.Context.{Context}
@@ -14,17 +14,17 @@ use Rattle.usb_explained_lines.specs.StandardLayouts.{association_layout, config
 use Rattle.usb_explained_lines.specs.Raws.{raw_lines, raw_words}
 use Rattle.usb_explained_lines.specs.Strings.{languages_words, string_words}
 
--- the words of its heading
-unfoldable pub heading_words : Role → Context → List ℕ → List ℕ
-heading_words Device context b = device_words b
-heading_words Qualifier context b = qualifier_words b
-heading_words Configuration context b = configuration_words context.speed b
-heading_words Association context b = association_words context.associations b
-heading_words Interface context b = interface_words context.association b
-heading_words Endpoint context b = endpoint_words context.speed b
-heading_words Raw context b = raw_words context.interface b
-heading_words Languages context b = languages_words b
-heading_words Text context b = string_words context.place b
+-- the words of its heading, maybe with characters beyond ASCII
+unfoldable pub heading_words : Bool → Role → Context → List ℕ → List ℕ
+heading_words utf8 Device context b = device_words b
+heading_words utf8 Qualifier context b = qualifier_words b
+heading_words utf8 Configuration context b = configuration_words context.speed b
+heading_words utf8 Association context b = association_words context.associations b
+heading_words utf8 Interface context b = interface_words context.association b
+heading_words utf8 Endpoint context b = endpoint_words context.speed b
+heading_words utf8 Raw context b = raw_words context.interface b
+heading_words utf8 Languages context b = languages_words b
+heading_words utf8 Text context b = string_words utf8 context.place b
 
 -- the lines of its fields; the heading of a language list and of a string says all
 unfoldable pub field_lines : StringNames → Role → Context → List ℕ → List ℕ
@@ -40,7 +40,7 @@ field_lines strings Text context b = []
 
 -- the heading of a descriptor that starts at this place of the input
 unfoldable pub heading : Look → Role → Context → List ℕ → ℕ → List ℕ
-heading look role context b at = heading_line look context.depth (heading_words role context b) at (length b)
+heading look role context b at = heading_line look context.depth (heading_words look.utf8 role context b) at (length b)
 
 -- the lines of its fields, where they are shown
 unfoldable pub fields : Look → StringNames → Role → Context → List ℕ → List ℕ

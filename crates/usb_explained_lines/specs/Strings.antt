@@ -1,15 +1,10 @@
 -- The language list and the strings, by their bytes (USB 2.0, 9.6.7).
-use Rattle.std.specs.Prelude.{ℕ, ◌+◌, ◌*◌, List, [], ◌∷◌, ◌++◌, drop, codes, Option, Some, None}
+use Rattle.std.specs.Prelude.{ℕ, List, [], ◌++◌, drop, codes, Bool, Option, Some, None}
 use Rattle.std.specs.Fmt.{decimal}
 use Rattle.std.specs.List.{flat_map}
-use Rattle.usb_listing.specs.StringListing.{written_unit}
+use Rattle.usb_string_words.specs.Characters.{units_in, units_words}
 use Rattle.usb_text.specs.Numbers.{word_code}
 use Rattle.usb_explained_lines.specs.declared.context.StringPlace.{StringPlace}
-
--- the units of bytes, each the low byte first
-abbrev pub units_in : List ℕ → List ℕ
-units_in (low ∷ high ∷ rest) = (low + 256 * high) ∷ units_in rest
-units_in rest = []
 
 -- a language after those before it
 abbrev pub language_words : ℕ → List ℕ
@@ -25,6 +20,6 @@ string_place_words None = []
 string_place_words (Some place) = codes " " ++ decimal place.index ++ codes " in " ++ word_code place.language ++ codes ":"
 
 -- a string
-unfoldable pub string_words : Option StringPlace → List ℕ → List ℕ
-string_words place b =
-    codes "string" ++ string_place_words place ++ codes " \"" ++ flat_map written_unit (units_in (drop 2 b)) ++ codes "\""
+unfoldable pub string_words : Bool → Option StringPlace → List ℕ → List ℕ
+string_words utf8 place b =
+    codes "string" ++ string_place_words place ++ codes " \"" ++ units_words utf8 (units_in (drop 2 b)) ++ codes "\""

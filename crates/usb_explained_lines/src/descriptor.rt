@@ -23,7 +23,7 @@ use usb_text::Text;
 /// Puts the heading of a descriptor of these bytes, which starts at this place of the input.
 ///
 /// ```rust
-/// let look = Look { brief: false, places: true };
+/// let look = Look { brief: false, places: true, utf8: false };
 /// put_heading(&mut text, look, Role::Interface, &context, &interface, 27)?;
 /// assert_eq!(rt; text.as_bytes(), b"    interface 0 alternate 0, HID / boot interface / keyboard, 1 endpoint @27+9\n");
 /// ```
@@ -43,14 +43,20 @@ pub fn put_heading(
     ensures { OnOk result (text.new ≡ text.old ++ heading look role context.now bytes.now at) }
 {
     text.put_spaces(2 * usize::from(context.depth))?;
-    put_words(text, role, context, bytes)?;
+    put_words(text, look.utf8, role, context, bytes)?;
     put_place(text, look, at, bytes.len())?;
     text.put_character(b'\n')
 }
 
 #[tactic(auto, unfolding(crate::specs::Descriptors::heading_words))]
-fn put_words(text: &mut Text, role: Role, context: &Context, b: &[u8]) -> Result<(), AllocError>
-    ensures { OnOk result (text.new ≡ text.old ++ heading_words role context.now b.now) }
+fn put_words(
+    text: &mut Text,
+    utf8: bool,
+    role: Role,
+    context: &Context,
+    b: &[u8],
+) -> Result<(), AllocError>
+    ensures { OnOk result (text.new ≡ text.old ++ heading_words utf8 role context.now b.now) }
 {
     match role {
         Role::Device => put_device_words(text, b),
@@ -61,14 +67,14 @@ fn put_words(text: &mut Text, role: Role, context: &Context, b: &[u8]) -> Result
         Role::Endpoint => put_endpoint_words(text, context.speed, b),
         Role::Raw => put_raw_words(text, context.interface, b),
         Role::Languages => put_languages_words(text, b),
-        Role::Text => put_string_words(text, context.place, b),
+        Role::Text => put_string_words(text, utf8, context.place, b),
     }
 }
 
 /// Puts the lines of the fields of a descriptor of these bytes. A brief explanation has none.
 ///
 /// ```rust
-/// let look = Look { brief: false, places: true };
+/// let look = Look { brief: false, places: true, utf8: false };
 /// let names = Names::none(alloc, Missing::NotInInput);
 /// put_fields(&mut text, look, &names, Role::Raw, &context, &[3, 0x77, 0xab])?;
 /// assert_eq!(rt; text.as_bytes(), b"          bDescriptorType        0x77\n          bytes                  ab\n");

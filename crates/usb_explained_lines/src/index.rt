@@ -1,11 +1,11 @@
 //! Indices of strings.
 ghost use Rattle.std.specs.Prelude.{◌≡◌, ◌++◌, OnOk};
 ghost use Rattle.std.specs.Option.{option_copied};
-ghost use Rattle.usb_explained_lines.specs.Names.{index_words, missing_words, name_words};
+ghost use Rattle.usb_explained_lines.specs.Names.{index_words, missing_words, name_words, quoted};
 
 use crate::names::{Missing, Names};
-use crate::quoted::put_quoted;
 use std::alloc::AllocError;
+use usb_string_words::put_units;
 use usb_text::Text;
 
 /// Puts the index of a string: `0 (none)`, or the number and the string that it names.
@@ -18,19 +18,29 @@ pub(crate) fn put_index(text: &mut Text, names: &Names, index: u8) -> Result<(),
         return text.put("0 (none)");
     }
     text.put_decimal(u64::from(index))?;
-    put_name(text, names.missing(), names.units(index))
+    put_name(text, names, names.units(index))
 }
 
-fn put_name(text: &mut Text, missing: Missing, units: Option<&[u16]>) -> Result<(), AllocError>
-    ensures { OnOk result (text.new ≡ text.old ++ name_words missing (option_copied units.entry)) }
+fn put_name(text: &mut Text, names: &Names, units: Option<&[u16]>) -> Result<(), AllocError>
+    ensures { OnOk result (text.new ≡ text.old ++ name_words names.now (option_copied units.entry)) }
 {
     match units {
-        None => text.put(missing_words(missing)),
+        None => text.put(missing_words(names.missing())),
         Some(units) => {
             text.put(" ")?;
-            put_quoted(text, units)
+            put_quoted(text, names.utf8(), units)
         }
     }
+}
+
+/// Puts the units of a string between quotes.
+#[tactic(auto, unfolding(crate::specs::Names::quoted))]
+fn put_quoted(text: &mut Text, utf8: bool, units: &[u16]) -> Result<(), AllocError>
+    ensures { OnOk result (text.new ≡ text.old ++ quoted utf8 units.now) }
+{
+    text.put("\"")?;
+    put_units(text, utf8, units)?;
+    text.put("\"")
 }
 
 fn missing_words(missing: Missing) -> &'static str

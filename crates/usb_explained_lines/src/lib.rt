@@ -22,7 +22,6 @@ mod layout;
 mod line;
 mod look;
 mod names;
-mod quoted;
 mod raw;
 mod rest;
 mod role;

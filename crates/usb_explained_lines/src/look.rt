@@ -7,4 +7,6 @@ pub struct Look {
     pub brief: bool,
     /// With the place of each descriptor in the input.
     pub places: bool,
+    /// Characters beyond ASCII as UTF-8.
+    pub utf8: bool,
 }

@@ -22,6 +22,7 @@ pub struct Names<'f> {
     strings: Option<&'f Strings>,
     named: Vec<u8>,
     missing: Missing,
+    utf8: bool,
 }
 
 impl<'f> Model for Names<'f> {
@@ -30,22 +31,23 @@ impl<'f> Model for Names<'f> {
 
     ghost Value = { StringNames };
 
-    ghost view = { λ n. record { strings = option_map (λ s. s.now) n.strings; named = n.named.items; missing = n.missing } };
+    ghost view = { λ n. record { strings = option_map (λ s. s.now) n.strings; named = n.named.items; missing = n.missing; utf8 = n.utf8 } };
 }
 
 impl<'f> Names<'f> {
-    /// Those of a file.
+    /// Those of a file, with `utf8` with their characters beyond ASCII.
     ///
     /// # Errors
     ///
     /// Out of memory.
-    pub fn of(alloc: Global, f: &'f DescriptorFile) -> Result<Names<'f>, NoMemory>
-        ensures { IfOk result (λ names. names ≡ names_of f.now) }
+    pub fn of(alloc: Global, f: &'f DescriptorFile, utf8: bool) -> Result<Names<'f>, NoMemory>
+        ensures { IfOk result (λ names. names ≡ names_of utf8 f.now) }
     {
         Ok(Names {
             strings: f.strings.as_ref(),
             named: named(alloc, f)?,
             missing: Missing::NotInInput,
+            utf8,
         })
     }
 
@@ -57,6 +59,7 @@ impl<'f> Names<'f> {
             strings: None,
             named: Vec::new(alloc),
             missing,
+            utf8: false,
         }
     }
 
@@ -79,6 +82,13 @@ impl<'f> Names<'f> {
         ensures { result ≡ self.now.missing }
     {
         self.missing
+    }
+
+    /// Whether characters beyond ASCII are written.
+    pub(crate) fn utf8(&self) -> bool
+        ensures { result ≡ self.now.utf8 }
+    {
+        self.utf8
     }
 
     /// The units of the string of this index.

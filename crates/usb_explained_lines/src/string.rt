@@ -1,13 +1,13 @@
 //! The language list and the strings.
 ghost use Rattle.std.specs.Prelude.{◌≡◌, ◌++◌, OnOk};
 ghost use Rattle.std.specs.List.{flat_map};
-ghost use Rattle.usb_listing.specs.StringListing.{written_unit};
-ghost use Rattle.usb_explained_lines.specs.Strings.{language_words, languages_words, string_place_words, string_words, units_in};
+ghost use Rattle.usb_string_words.specs.Characters.{units_in};
+ghost use Rattle.usb_explained_lines.specs.Strings.{language_words, languages_words, string_place_words, string_words};
 
 use crate::context::StringPlace;
-use crate::quoted::put_unit;
 use std::alloc::AllocError;
 use usb_base::after;
+use usb_string_words::put_units_in;
 use usb_text::{Text, put_word_code};
 
 /// Puts the words of the language list's heading (USB 2.0, 9.6.7).
@@ -36,15 +36,16 @@ fn put_languages(text: &mut Text, b: &[u8]) -> Result<(), AllocError>
 #[tactic(auto, unfolding(crate::specs::Strings::string_words))]
 pub(crate) fn put_string_words(
     text: &mut Text,
+    utf8: bool,
     place: Option<StringPlace>,
     b: &[u8],
 ) -> Result<(), AllocError>
-    ensures { OnOk result (text.new ≡ text.old ++ string_words place b.now) }
+    ensures { OnOk result (text.new ≡ text.old ++ string_words utf8 place b.now) }
 {
     text.put("string")?;
     put_string_place(text, place)?;
     text.put(" \"")?;
-    put_units_in(text, after(b, 2))?;
+    put_units_in(text, utf8, after(b, 2))?;
     text.put("\"")
 }
 
@@ -60,17 +61,5 @@ fn put_string_place(text: &mut Text, place: Option<StringPlace>) -> Result<(), A
             put_word_code(text, place.language)?;
             text.put(":")
         }
-    }
-}
-
-fn put_units_in(text: &mut Text, b: &[u8]) -> Result<(), AllocError>
-    ensures { OnOk result (text.new ≡ text.old ++ flat_map written_unit (units_in b.now)) }
-{
-    match b {
-        [low, high, rest @ ..] => {
-            put_unit(text, u16::from_le_bytes([*low, *high]))?;
-            put_units_in(text, rest)
-        }
-        _ => Ok(()),
     }
 }

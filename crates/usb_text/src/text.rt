@@ -11,7 +11,7 @@ use std::marker::Model;
 /// As many spaces as the start of a line has.
 const SPACES: [u8; 48] = [b' '; 48];
 
-/// A text of printable ASCII that grows at its end. In a contract it is its bytes.
+/// A text that grows at its end. In a contract it is its bytes.
 ///
 /// ```rust
 /// let mut text = Text::new(alloc);

@@ -33,6 +33,9 @@ brief_rule = flag_rule (codes "brief")
 abbrev pub no_places_rule : Rule
 no_places_rule = flag_rule (codes "no-places")
 
+abbrev pub utf8_rule : Rule
+utf8_rule = flag_rule (codes "utf8")
+
 abbrev pub hex_rule : Rule
 hex_rule = flag_rule (codes "hex")
 
@@ -66,7 +69,7 @@ enumerate_app =
 -- the command `explain` with its options
 abbrev pub explain_app : App
 explain_app =
-    with_rule (with_rule (with_rule (with_rule (new_app (codes "explain")) brief_rule) no_places_rule) hex_rule) speed_rule
+    with_rule (with_rule (with_rule (with_rule (with_rule (new_app (codes "explain")) brief_rule) no_places_rule) utf8_rule) hex_rule) speed_rule
 
 -- a command that prints its version where it is asked for
 abbrev pub versioned : App → App
@@ -99,6 +102,7 @@ is_given (Some text) = bytes_eq text (codes "true")
 pub record HasFlags (o : Explaining) (rows : List Row) : Type 0 where
   pub brief : o.brief ≡ is_given (first_of (codes "brief") rows)
   pub no_places : o.no_places ≡ is_given (first_of (codes "no-places") rows)
+  pub utf8 : o.utf8 ≡ is_given (first_of (codes "utf8") rows)
   pub hex : o.hex ≡ is_given (first_of (codes "hex") rows)
   pub speed : text_of o.speed ≡ first_of (codes "speed") rows
 

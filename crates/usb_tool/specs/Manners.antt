@@ -25,6 +25,7 @@ running_said (Some name) = option_map (λ speed. Some speed) (running_speed_of n
 pub record IsManner (o : Explaining) (m : Manner) : Type 0 where
   pub brief : m.look.brief ≡ o.brief
   pub places : m.look.places ≡ not o.no_places
+  pub utf8 : m.look.utf8 ≡ o.utf8
   pub speed : running_said o.speed ≡ Some m.speed
 
 -- no speed has the name that the options say

@@ -8,7 +8,7 @@ use crate::help::{
     ABOUT, ADDRESS_HELP, ATTEMPTS_HELP, BRIEF_HELP, BUILD_ABOUT, BUILD_HELP, CHECK_ABOUT,
     CHECK_HELP, ENUMERATE_ABOUT, ENUMERATE_HELP, EXPLAIN_ABOUT, EXPLAIN_HELP, FATES, FATES_HELP,
     HEX_HELP, LOG_HELP, NAKS_HELP, NO_PLACES_HELP, RAN_AT_HELP, RUNNING_SPEEDS, SHOW_ABOUT,
-    SHOW_HELP, SPEED_HELP, SPEEDS, VERSION, WITH_STRINGS_HELP,
+    SHOW_HELP, SPEED_HELP, SPEEDS, UTF8_HELP, VERSION, WITH_STRINGS_HELP,
 };
 use clap::{Arg, ArgAction, Command, value_parser};
 use std::alloc::{AllocError, Global};
@@ -60,6 +60,7 @@ fn explain<'a>(alloc: Global) -> Result<Command<'a>, AllocError>
         .after_help(EXPLAIN_HELP);
     let explain = add_option(explain, flag(alloc, "brief", BRIEF_HELP))?;
     let explain = add_option(explain, flag(alloc, "no-places", NO_PLACES_HELP))?;
+    let explain = add_option(explain, flag(alloc, "utf8", UTF8_HELP))?;
     let explain = add_option(explain, flag(alloc, "hex", HEX_HELP))?;
     add_option(explain, ran_at(alloc))
 }

@@ -75,6 +75,7 @@ fn explaining_of<'a>(matches: &ArgMatches<'a>) -> Explaining<'a>
     Explaining {
         brief: is_given(matches.get_str("brief")),
         no_places: is_given(matches.get_str("no-places")),
+        utf8: is_given(matches.get_str("utf8")),
         hex: is_given(matches.get_str("hex")),
         speed: matches.get_str("speed"),
     }

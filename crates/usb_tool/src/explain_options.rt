@@ -7,6 +7,8 @@ pub struct Explaining<'a> {
     pub brief: bool,
     /// Whether the places are left out.
     pub no_places: bool,
+    /// Whether characters beyond ASCII are written.
+    pub utf8: bool,
     /// Whether the input has to be hexadecimal text.
     pub hex: bool,
     /// The name of a speed, or `None` where the words lack it.

@@ -26,7 +26,7 @@ use usb_text::{Text, put_count};
 /// ```rust
 /// let mut input: &[u8] = &[9, 2, 9, 0, 0, 1, 0, 0x80, 0x32];
 /// let mut text = Vec::new(alloc);
-/// let manner = Manner { look: Look { brief: true, places: false }, speed: None };
+/// let manner = Manner { look: Look { brief: true, places: false, utf8: false }, speed: None };
 /// run_explain(alloc, &mut input, &mut text, manner, false)?;
 /// assert_eq!(rt; text.as_slice(), b"set, 9 bytes
 ///   configuration 1, full or high speed, 0 interfaces, bus-powered, 100 mA

@@ -139,6 +139,10 @@ pub(crate) const BRIEF_HELP: &str = "Leaves the fields out";
 /// What `--no-places` says.
 pub(crate) const NO_PLACES_HELP: &str = "Leaves the places out";
 
+/// What `--utf8` says.
+pub(crate) const UTF8_HELP: &str =
+    "Writes characters beyond ASCII as they are, but for those that steer a terminal";
+
 /// What `--hex` says.
 pub(crate) const HEX_HELP: &str = "Takes nothing but hexadecimal text";
 

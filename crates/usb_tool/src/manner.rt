@@ -12,8 +12,8 @@ use usb_explain::{Look, Manner, SetSpeed};
 /// descriptors say it.
 ///
 /// ```rust
-/// let manner = manner_of(&Explaining { brief: true, no_places: false, speed: Some("high") })?;
-/// assert_eq!(rt; manner.look, Look { brief: true, places: true });
+/// let manner = manner_of(&Explaining { brief: true, no_places: false, utf8: false, hex: false, speed: Some("high") })?;
+/// assert_eq!(rt; manner.look, Look { brief: true, places: true, utf8: false });
 /// assert_eq!(rt; manner.speed, Some(SetSpeed::High));
 /// ```
 ///
@@ -31,6 +31,7 @@ pub fn manner_of(explaining: &Explaining<'_>) -> Result<Manner, SettingsFault>
         look: Look {
             brief: explaining.brief,
             places: !explaining.no_places,
+            utf8: explaining.utf8,
         },
         speed,
     })

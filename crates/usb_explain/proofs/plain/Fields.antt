@@ -1,5 +1,5 @@
 -- Headings and fields are said in a line each, and the strings that indices name are plain.
-use Rattle.std.proofs.Common.{ℕ, zero, suc, ◌*◌, ◌==◌, ◌++◌, Bool, true, false, if◌then◌else◌, List, [], ◌∷◌, Option, Some, None, codes, option_and_then, refl, sym, ap, subst, ◌∙◌, append-nil}
+use Rattle.std.proofs.Common.{ℕ, zero, suc, ◌*◌, ◌==◌, ◌++◌, Bool, true, false, if◌then◌else◌, List, [], ◌∷◌, Option, Some, None, codes, option_and_then, ◌≡◌, refl, sym, ap, subst, ◌∙◌, append-nil}
 use Rattle.std.specs.Prelude.{slice_get}
 use Rattle.std.specs.Fmt.{decimal}
 use Rattle.std.specs.List.{AllByRecursion, flat_map}
@@ -14,6 +14,7 @@ use Rattle.usb_explained_lines.specs.declared.names.Missing.{Missing}
 use Rattle.usb_explained_lines.specs.declared.names.Missing.TheVariants.{NotInInput, NotRead}
 use Rattle.usb_explained_lines.specs.Lines.{digits_line, field_line, field_start, heading_line, place_words, spaces}
 use Rattle.usb_explained_lines.specs.Names.{StringNames, index_words, missing_words, name_words, named_units, quoted, units_in_first_language}
+use Rattle.usb_string_words.specs.Characters.{units_words}
 use Rattle.usb_listing_reader.proofs.PrintableLemmas.{Printable, encoded_printable, unit_printable}
 use Rattle.usb_explain.specs.Lines.{IsLine, Said, SayFields, line_that}
 use Rattle.usb_explain.proofs.plain.Texts.{AreWords, both_plain, decimal_plain, each_plain, either_plain, ended, parts, spaces_plain}
@@ -106,27 +107,36 @@ units_fit : (named : List ℕ) (index : ℕ) (strings : Option Strings) → Mayb
 units_fit named index None fit = tt
 units_fit named index (Some strings) fit = in_language strings named index (slice_get strings.languages 0) fit
 
-pub units_plain : (units : List ℕ) → AreWords units → Printable (flat_map written_unit units)
+units_plain : (units : List ℕ) → AreWords units → Printable (flat_map written_unit units)
 units_plain units words = each_plain written_unit unit_printable units words
 
-quoted_plain : (units : List ℕ) → AreWords units → Printable (quoted units)
+-- they are in ASCII
+pub in_ascii : (utf8 : Bool) (units : List ℕ) → utf8 ≡ false → AreWords units → Printable (units_words utf8 units)
+in_ascii utf8 units ascii words = rw ascii (units_plain units words)
+
+-- and so are those that indices name
+pub record AreNamesFit (names : StringNames) : Type 0 where
+  pub strings : MaybeFit names.strings
+  pub ascii : names.utf8 ≡ false
+
+quoted_plain : (utf8 : Bool) (units : List ℕ) → utf8 ≡ false → AreWords units → Printable (quoted utf8 units)
 unfolding quoted
-quoted_plain units words = simp (parts, units_plain units words) refl
+quoted_plain utf8 units ascii words = simp (parts, in_ascii utf8 units ascii words) refl
 
 missing_plain : (missing : Missing) → Printable (missing_words missing)
 missing_plain NotInInput = refl
 missing_plain NotRead = refl
 
-name_plain : (missing : Missing) (units : Option (List ℕ)) → MaybeWords units → Printable (name_words missing units)
-name_plain missing None words = missing_plain missing
-name_plain missing (Some units) words = quoted_plain units words
+name_plain : (names : StringNames) (units : Option (List ℕ)) → names.utf8 ≡ false → MaybeWords units → Printable (name_words names units)
+name_plain names None ascii words = missing_plain names.missing
+name_plain names (Some units) ascii words = quoted_plain names.utf8 units ascii words
 
 number_plain : (index : ℕ) (behind : List ℕ) → Printable behind → Printable (decimal index ++ behind)
 number_plain index behind h = simp (parts, decimal_plain, h) refl
 
-pub index_plain : (names : StringNames) (index : ℕ) → MaybeFit names.strings → Printable (index_words names index)
+pub index_plain : (names : StringNames) (index : ℕ) → AreNamesFit names → Printable (index_words names index)
 unfolding index_words
 index_plain names index fit =
-    let words = name_words names.missing (named_units names index) in
+    let words = name_words names (named_units names index) in
     either_plain (index == 0) (codes "0 (none)") (decimal index ++ words) refl
-    (number_plain index words (name_plain names.missing (named_units names index) (units_fit names.named index names.strings fit)))
+    (number_plain index words (name_plain names (named_units names index) fit.ascii (units_fit names.named index names.strings fit.strings)))

@@ -16,7 +16,7 @@ use Rattle.usb_listing_reader.proofs.PrintableLemmas.{Printable, encoded_printab
 use Rattle.usb_explain.proofs.plain.Texts.{both_plain, decimal_plain, parts}
 use Rattle.usb_explain.proofs.plain.Parts.{byte_fits}
 use Rattle.usb_explain.proofs.plain.Words.{attributes_plain, byte_code_plain, class_field_plain, count_plain, end_plain, function_class_field_plain, interval_plain, meaning_plain, power_plain, protocol_field_plain, release_plain, size_plain, subclass_field_plain, word_code_plain}
-use Rattle.usb_explain.proofs.plain.Fields.{MaybeFit, index_plain}
+use Rattle.usb_explain.proofs.plain.Fields.{AreNamesFit, index_plain}
 use Rattle.usb_explain.proofs.plain.ClassWords.{abstract_control_plain, audio_terminal_plain, call_management_plain, firmware_upgrade_plain, frame_interval_plain, guid_plain, video_terminal_plain}
 
 -- ---- values
@@ -107,7 +107,7 @@ report_plain type lt = simp (parts, byte_code_plain type lt) refl
 bytes_fit : (width : ℕ) (b : List ℕ) (place : ℕ) → AreBytes b → AreBytes (take width (drop place b))
 bytes_fit width b place h = bytes_front width (drop place b) (bytes_back place b h)
 
-pub form_plain : (speed : SetSpeed) (strings : StringNames) (form : Form) (width : ℕ) (b : List ℕ) (place : ℕ) → MaybeFit strings.strings → AreBytes b
+pub form_plain : (speed : SetSpeed) (strings : StringNames) (form : Form) (width : ℕ) (b : List ℕ) (place : ℕ) → AreNamesFit strings → AreBytes b
     → Printable (form_words speed strings form width b place)
 unfolding form_words
 form_plain speed strings Decimal width b place fit h = decimal_words_plain (take width (drop place b)) (bytes_fit width b place h)

@@ -1,5 +1,5 @@
 -- Inputs are bytes, and their strings have numbers of two bytes: so their explanations are in lines.
-use Rattle.std.proofs.Common.{ℕ, List, [], ◌∷◌, ◌++◌, Option, Some, None, length, take, refl, subst, arith}
+use Rattle.std.proofs.Common.{◌≡◌, false, ℕ, List, [], ◌∷◌, ◌++◌, Option, Some, None, length, take, refl, subst, arith}
 use Rattle.std.specs.List.{AllByRecursion, flat_map}
 use Rattle.usb_base.specs.Bytes.{AreBytes, little_endian}
 use Rattle.usb_fields.specs.Device.{device_bytes}
@@ -50,11 +50,10 @@ are_bytes (inputs.Set set) b is = is.fits
 are_bytes (inputs.File file) b is = is.fits
 are_bytes (inputs.Dump file) b is = is.fits
 
-subject_fits : (manner : Manner) (input : Input) (b : List ℕ) → IsInput input b → SubjectFits (subject_with manner input (findings_in input))
-subject_fits manner (inputs.Set set) b is = tt
-subject_fits manner (inputs.File file) b is =
-    file_strings_fit file (subst AreBytes is.bytes is.fits)
-subject_fits manner (inputs.Dump file) b is = tt
+subject_fits : (manner : Manner) (input : Input) (b : List ℕ) → manner.look.utf8 ≡ false → IsInput input b → SubjectFits (subject_with manner input (findings_in input))
+subject_fits manner (inputs.Set set) b ascii is = (ascii, record { strings = tt; ascii = refl })
+subject_fits manner (inputs.File file) b ascii is = (ascii, record { strings = file_strings_fit file (subst AreBytes is.bytes is.fits); ascii = ascii })
+subject_fits manner (inputs.Dump file) b ascii is = (ascii, record { strings = tt; ascii = refl })
 
 name_plain : (input : Input) → Printable (input_name input)
 name_plain (inputs.Set set) = refl
@@ -62,18 +61,18 @@ name_plain (inputs.File file) = simp parts refl
 name_plain (inputs.Dump file) = refl
 
 pub whole_in_lines : WholeInLines
-whole_in_lines manner input b is =
+whole_in_lines manner input b ascii is =
     let subject = subject_with manner input (findings_in input) in
     let last = last_line (length (findings_in input)) in (
-      in_lines subject b b (first_line (input_name input) (length b)) [] last (explanation manner input b) (subject_fits manner input b is)
+      in_lines subject b b (first_line (input_name input) (length b)) [] last (explanation manner input b) (subject_fits manner input b ascii is)
           (are_bytes input b is) (are_bytes input b is) (whole_once manner input b) (first_is_line (input_name input) (length b) (name_plain input)),
       last_is_line (length (findings_in input)),
     )
 
 pub broken_in_lines : BrokenInLines
-broken_in_lines manner fault b are = (
+broken_in_lines manner fault b ascii are = (
   in_lines (broken_subject manner) (take (place_of_fault fault) b) b (first_line (broken_name b) (length b)) (fault_lines fault b) []
-      (broken_explanation manner fault b) tt are (bytes_front (place_of_fault fault) b are) (broken_once manner fault b)
+      (broken_explanation manner fault b) (ascii, record { strings = tt; ascii = refl }) are (bytes_front (place_of_fault fault) b are) (broken_once manner fault b)
       (first_is_line (broken_name b) (length b) (broken_name_plain b)),
   fault_is_line fault,
   likeness_is_line (likeness_of fault b),

@@ -1,5 +1,5 @@
 -- The headings of descriptors are a line each, and each of their fields is said in one.
-use Rattle.std.proofs.Common.{ℕ, ◌<◌, ◌==◌, ◌&&◌, Bool, true, false, if◌then◌else◌, List, [], ◌∷◌, ◌++◌, Option, Some, None, codes, drop, length, slice_index, take, refl, arith}
+use Rattle.std.proofs.Common.{◌≡◌, ℕ, ◌<◌, ◌==◌, ◌&&◌, Bool, true, false, if◌then◌else◌, List, [], ◌∷◌, ◌++◌, Option, Some, None, codes, drop, length, slice_index, take, refl, arith}
 use Rattle.hex.specs.Hex.{encode_lower}
 use Rattle.usb_base.specs.Bytes.{AreBytes, little_endian_at}
 use Rattle.usb_names.specs.Rows.{decimal, hexadecimal}
@@ -18,13 +18,14 @@ use Rattle.usb_explained_lines.specs.Descriptors.{field_lines, fields, heading, 
 use Rattle.usb_explained_lines.specs.StandardLayouts.{association_layout, configuration_layout, device_layout, endpoint_layout, fields_of_endpoint, interface_layout, is_audio, qualifier_layout, with_tail}
 use Rattle.usb_explained_lines.specs.Rest.{more_words, rest_fields, rest_heading, rest_line}
 use Rattle.usb_explained_lines.specs.Sets.{association_words, binding_words, bound_words, configuration_words, function_words, interface_words, range_words, set_words, supply_words}
-use Rattle.usb_explained_lines.specs.Strings.{language_words, languages_words, string_place_words, string_words, units_in}
+use Rattle.usb_explained_lines.specs.Strings.{language_words, languages_words, string_place_words, string_words}
+use Rattle.usb_string_words.specs.Characters.{units_in}
 use Rattle.usb_listing_reader.proofs.PrintableLemmas.{Printable, encoded_printable}
 use Rattle.usb_explain.specs.Lines.{IsLine, SayFields}
 use Rattle.usb_explain.proofs.plain.Texts.{AreWords, IsWord, both_plain, decimal_plain, each_plain, parts, word_digits}
 use Rattle.usb_explain.proofs.plain.Parts.{byte_fits, word_fits}
 use Rattle.usb_explain.proofs.plain.Words.{attributes_plain, class_words_plain, count_plain, function_class_words_plain, interval_plain, power_plain, release_plain, size_plain, speed_plain, word_code_plain}
-use Rattle.usb_explain.proofs.plain.Fields.{MaybeFit, either_says, heading_is_line, no_fields, one_field, units_plain}
+use Rattle.usb_explain.proofs.plain.Fields.{AreNamesFit, either_says, heading_is_line, in_ascii, no_fields, one_field}
 use Rattle.usb_explain.proofs.plain.Forms.{address_plain, source_plain}
 use Rattle.usb_explain.proofs.plain.Layouts.{IsPlainLayout, layout_says}
 use Rattle.usb_explain.proofs.plain.Raws.{raw_says, raw_words_plain}
@@ -152,10 +153,10 @@ place_plain : (place : Option StringPlace) → PlaceFits place → Printable (st
 place_plain None fit = refl
 place_plain (Some place) fit = simp (parts, decimal_plain, word_code_plain place.language fit) refl
 
-string_plain : (place : Option StringPlace) (b : List ℕ) → PlaceFits place → AreBytes b → Printable (string_words place b)
+string_plain : (utf8 : Bool) (place : Option StringPlace) (b : List ℕ) → utf8 ≡ false → PlaceFits place → AreBytes b → Printable (string_words utf8 place b)
 unfolding string_words
-string_plain place b fit h =
-    simp (parts, place_plain place fit, units_plain (units_in (drop 2 b)) (units_are_words (drop 2 b) (bytes_back 2 b h))) refl
+string_plain utf8 place b ascii fit h =
+    simp (parts, place_plain place fit, in_ascii utf8 (units_in (drop 2 b)) ascii (units_are_words (drop 2 b) (bytes_back 2 b h))) refl
 
 -- ---- what is left
 
@@ -180,24 +181,25 @@ rest_fields_say look b h = either_says 0 look.brief [] _ (no_fields 0) (rest_say
 
 -- ---- descriptors
 
-words_plain : (role : Role) (context : Context) (b : List ℕ) → PlaceFits context.place → AreBytes b → Printable (heading_words role context b)
+words_plain : (utf8 : Bool) (role : Role) (context : Context) (b : List ℕ) → utf8 ≡ false → PlaceFits context.place → AreBytes b
+    → Printable (heading_words utf8 role context b)
 unfolding heading_words
-words_plain Device context b fit h = device_words_plain b h
-words_plain Qualifier context b fit h = qualifier_words_plain b h
-words_plain Configuration context b fit h = configuration_words_plain context.speed b
-words_plain Association context b fit h = association_words_plain context.associations b h
-words_plain Interface context b fit h = interface_words_plain context.association b h
-words_plain Endpoint context b fit h = endpoint_words_plain context.speed b h
-words_plain Raw context b fit h = raw_words_plain context.interface b h
-words_plain Languages context b fit h = languages_plain b h
-words_plain Text context b fit h = string_plain context.place b fit h
+words_plain utf8 Device context b ascii fit h = device_words_plain b h
+words_plain utf8 Qualifier context b ascii fit h = qualifier_words_plain b h
+words_plain utf8 Configuration context b ascii fit h = configuration_words_plain context.speed b
+words_plain utf8 Association context b ascii fit h = association_words_plain context.associations b h
+words_plain utf8 Interface context b ascii fit h = interface_words_plain context.association b h
+words_plain utf8 Endpoint context b ascii fit h = endpoint_words_plain context.speed b h
+words_plain utf8 Raw context b ascii fit h = raw_words_plain context.interface b h
+words_plain utf8 Languages context b ascii fit h = languages_plain b h
+words_plain utf8 Text context b ascii fit h = string_plain utf8 context.place b ascii fit h
 
 -- the layouts of the standard's descriptors
 endpoint_named : (b : Bool) → IsPlainLayout (if b then with_tail (fields_of_endpoint ++ decimal 1 (codes "bRefresh") ∷ hexadecimal 1 (codes "bSynchAddress") ∷ []) else with_tail fields_of_endpoint)
 endpoint_named true = record { fields = refl; group = refl; rest = refl }
 endpoint_named false = record { fields = refl; group = refl; rest = refl }
 
-lines_say : (strings : StringNames) (role : Role) (context : Context) (b : List ℕ) → MaybeFit strings.strings → AreBytes b
+lines_say : (strings : StringNames) (role : Role) (context : Context) (b : List ℕ) → AreNamesFit strings → AreBytes b
     → SayFields context.depth (field_lines strings role context b)
 unfolding field_lines
 lines_say strings Device context b fit h = layout_says context strings device_layout b (record { fields = refl; group = refl; rest = refl }) fit h
@@ -211,13 +213,13 @@ lines_say strings Raw context b fit h = raw_says context strings b fit h
 lines_say strings Languages context b fit h = no_fields context.depth
 lines_say strings Text context b fit h = no_fields context.depth
 
-pub heading_of_role : (look : Look) (role : Role) (context : Context) (b : List ℕ) (at : ℕ) → PlaceFits context.place → AreBytes b
+pub heading_of_role : (look : Look) (role : Role) (context : Context) (b : List ℕ) (at : ℕ) → look.utf8 ≡ false → PlaceFits context.place → AreBytes b
     → IsLine (heading look role context b at)
 unfolding heading
-heading_of_role look role context b at fit h =
-    heading_is_line look context.depth (heading_words role context b) at (length b) (words_plain role context b fit h)
+heading_of_role look role context b at ascii fit h =
+    heading_is_line look context.depth (heading_words look.utf8 role context b) at (length b) (words_plain look.utf8 role context b ascii fit h)
 
-pub fields_say : (look : Look) (strings : StringNames) (role : Role) (context : Context) (b : List ℕ) → MaybeFit strings.strings → AreBytes b
+pub fields_say : (look : Look) (strings : StringNames) (role : Role) (context : Context) (b : List ℕ) → AreNamesFit strings → AreBytes b
     → SayFields context.depth (fields look strings role context b)
 unfolding fields
 fields_say look strings role context b fit h =

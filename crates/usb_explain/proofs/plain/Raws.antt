@@ -14,7 +14,7 @@ use Rattle.usb_explain.specs.Lines.{SayFields}
 use Rattle.usb_explain.proofs.plain.Parts.{byte_fits}
 use Rattle.usb_explain.proofs.plain.Names.{MaybePlainRow, row_plain}
 use Rattle.usb_explain.proofs.plain.Words.{byte_code_plain}
-use Rattle.usb_explain.proofs.plain.Fields.{MaybeFit, digits_say, field_first}
+use Rattle.usb_explain.proofs.plain.Fields.{AreNamesFit, digits_say, field_first}
 use Rattle.usb_explain.proofs.plain.Layouts.{layout_says}
 
 unnamed_plain : (type : ℕ) → type < 256 → Printable (unnamed_words type)
@@ -32,19 +32,19 @@ pub raw_words_plain : (interface : Option ClassCodes) (b : List ℕ) → AreByte
 unfolding raw_words
 raw_words_plain interface b h = row_words_plain (slice_index b 1) (row_of_bytes interface b) (byte_fits b 1 h) (row_of_bytes_plain interface b)
 
-row_says : (context : Context) (strings : StringNames) (row : Option Row) (b : List ℕ) → MaybePlainRow row → MaybeFit strings.strings
+row_says : (context : Context) (strings : StringNames) (row : Option Row) (b : List ℕ) → MaybePlainRow row → AreNamesFit strings
     → AreBytes b → SayFields context.depth (row_lines context strings row b)
 row_says context strings None b h fit k = digits_say context.depth (codes "bytes") (drop 2 b) refl (bytes_back 2 b k)
 row_says context strings (Some row) b h fit k =
     layout_says context strings (row_layout row) b (record { fields = h.fields; group = h.group; rest = refl }) fit k
 
 raw_by : (context : Context) (strings : StringNames) (type : ℕ) (row : Option Row) (b : List ℕ) → type < 256 → MaybePlainRow row
-    → MaybeFit strings.strings → AreBytes b
+    → AreNamesFit strings → AreBytes b
     → SayFields context.depth (field_line context.depth (codes "bDescriptorType") (byte_code type) ++ row_lines context strings row b)
 raw_by context strings type row b lt h fit k =
     field_first context.depth (codes "bDescriptorType") (byte_code type) _ refl (byte_code_plain type lt) (row_says context strings row b h fit k)
 
-pub raw_says : (context : Context) (strings : StringNames) (b : List ℕ) → MaybeFit strings.strings
+pub raw_says : (context : Context) (strings : StringNames) (b : List ℕ) → AreNamesFit strings
     → AreBytes b → SayFields context.depth (raw_lines context strings b)
 unfolding raw_lines
 raw_says context strings b fit h =

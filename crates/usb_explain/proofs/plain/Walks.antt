@@ -1,5 +1,5 @@
 -- The parts of explanations are lines.
-use Rattle.std.proofs.Common.{ℕ, zero, suc, ◌/◌, ◌%◌, ◌==◌, List, [], ◌∷◌, ◌++◌, Option, Some, None, drop, length, option_and_then, codes, refl, subst}
+use Rattle.std.proofs.Common.{◌≡◌, false, ℕ, zero, suc, ◌/◌, ◌%◌, ◌==◌, List, [], ◌∷◌, ◌++◌, Option, Some, None, drop, length, option_and_then, codes, refl, subst}
 use Rattle.std.specs.Prelude.{slice_get}
 use Rattle.std.specs.List.{AllByRecursion}
 use Rattle.usb_base.specs.Bytes.{AreBytes}
@@ -19,14 +19,14 @@ use Rattle.usb_explain.specs.Subjects.{Subject, place_among, place_by}
 use Rattle.usb_explain.proofs.rest.Walks.{tells_own}
 use Rattle.usb_explain.proofs.plain.Texts.{AreWords, IsWord, either_line, ended, parts}
 use Rattle.usb_explain.proofs.plain.Words.{count_plain}
-use Rattle.usb_explain.proofs.plain.Fields.{AreFit, MaybeFit}
+use Rattle.usb_explain.proofs.plain.Fields.{AreFit, AreNamesFit, MaybeFit}
 use Rattle.usb_explain.proofs.plain.Lines.{PlaceFits, fields_say, heading_of_role, rest_fields_say, rest_heading_is_line}
 use Rattle.usb_explain.proofs.plain.Findings.{each_told}
 use Rattle.usb_explain.proofs.plain.Remarks.{each_remarked}
 
--- the strings of a subject have numbers of two bytes
+-- the strings of a subject have numbers of two bytes, and are written in ASCII
 abbrev pub SubjectFits : Subject → Type 0
-SubjectFits subject = MaybeFit subject.names.strings
+SubjectFits subject = (subject.manner.look.utf8 ≡ false) × AreNamesFit subject.names
 
 -- ---- where a string stands
 
@@ -57,12 +57,12 @@ place_fits named number (Some strings) fit = among_fits (length named) named str
 
 context_fits : (subject : Subject) (s : Standing) (role : Role) (d : List ℕ) → SubjectFits subject → PlaceFits (context_of subject s role d).place
 unfolding context_of
-context_fits subject s role d fit = place_fits subject.names.named s.strings subject.names.strings fit
+context_fits subject s role d fit = place_fits subject.names.named s.strings subject.names.strings fit.1.strings
 
 fields_say_here : (subject : Subject) (d : Shown) → SubjectFits subject → AreBytes d.bytes
     → SayFields (depth_of d.standing d.role) (fields subject.manner.look subject.names d.role (context_at subject d) d.bytes)
 unfolding context_of
-fields_say_here subject d fit h = fields_say subject.manner.look subject.names d.role (context_at subject d) d.bytes fit h
+fields_say_here subject d fit h = fields_say subject.manner.look subject.names d.role (context_at subject d) d.bytes fit.1 h
 
 -- ---- descriptors and the rest
 
@@ -74,7 +74,7 @@ blocks_are_lines subject (d ∷ ds) b rest fit cut h =
     let parts = subst AreBytes cut.0 h in
     let bytes = bytes_before d.bytes d.behind parts in (
       (
-        heading_of_role subject.manner.look d.role (context_at subject d) d.bytes d.standing.at (context_fits subject d.standing d.role d.bytes fit) bytes,
+        heading_of_role subject.manner.look d.role (context_at subject d) d.bytes d.standing.at fit.0 (context_fits subject d.standing d.role d.bytes fit) bytes,
         fields_say_here subject d fit bytes,
         each_told subject.is_dump d.standing d.role d.bytes d.behind (findings_of subject d) (tells_own subject d),
         each_remarked (context_at subject d).depth (remarks_of subject d),

@@ -12,8 +12,9 @@ returns-clause-app c =
     ap app_of_fields c.after_help-explain.ensures ∙ (ap app_of_fields c.about.ensures ∙ c.new.ensures.app) in
     let brief_is = c.in_ok-explain.ensures.app ∙ ap₂ with_rule named c.flag.ensures.rule in
     let places_is = c.in_ok-explain-2.ensures.app ∙ ap₂ with_rule brief_is c.flag-2.ensures.rule in
-    let hex_is = c.in_ok-explain-3.ensures.app ∙ ap₂ with_rule places_is c.flag-3.ensures.rule in
-    IfOk-weaker c.add_option-4.result _ _ (λ _ added. added ∙ ap₂ with_rule hex_is c.ran_at.ensures.rule) c.add_option-4.ensures.app
+    let utf8_is = c.in_ok-explain-3.ensures.app ∙ ap₂ with_rule places_is c.flag-3.ensures.rule in
+    let hex_is = c.in_ok-explain-4.ensures.app ∙ ap₂ with_rule utf8_is c.flag-4.ensures.rule in
+    IfOk-weaker c.add_option-5.result _ _ (λ _ added. added ∙ ap₂ with_rule hex_is c.ran_at.ensures.rule) c.add_option-5.ensures.app
 
 globals_of : Command-F Command → Bool
 globals_of f = f.has_globals
@@ -22,5 +23,5 @@ pub returns-clause-local : goal.returns-clause-local
 unfolding globals_of
 returns-clause-local c =
     let named = ap globals_of c.after_help-explain.ensures ∙ (ap globals_of c.about.ensures ∙ c.new.ensures.local) in
-    let added = c.in_ok-explain-3.ensures.local ∙ (c.in_ok-explain-2.ensures.local ∙ (c.in_ok-explain.ensures.local ∙ named)) in
-    IfOk-weaker c.add_option-4.result _ _ (λ _ kept. kept ∙ added) c.add_option-4.ensures.local
+    let added = c.in_ok-explain-4.ensures.local ∙ (c.in_ok-explain-3.ensures.local ∙ (c.in_ok-explain-2.ensures.local ∙ (c.in_ok-explain.ensures.local ∙ named))) in
+    IfOk-weaker c.add_option-5.result _ _ (λ _ kept. kept ∙ added) c.add_option-5.ensures.local

@@ -10,6 +10,7 @@ returns c =
     record {
       brief = c.is_given.ensures ∙ ap is_given (c.get_str.ensures ∙ first_value-rows found (codes "brief"));
       no_places = c.is_given-2.ensures ∙ ap is_given (c.get_str-2.ensures ∙ first_value-rows found (codes "no-places"));
-      hex = c.is_given-3.ensures ∙ ap is_given (c.get_str-3.ensures ∙ first_value-rows found (codes "hex"));
-      speed = c.get_str-4.ensures ∙ first_value-rows found (codes "speed");
+      utf8 = c.is_given-3.ensures ∙ ap is_given (c.get_str-3.ensures ∙ first_value-rows found (codes "utf8"));
+      hex = c.is_given-4.ensures ∙ ap is_given (c.get_str-4.ensures ∙ first_value-rows found (codes "hex"));
+      speed = c.get_str-5.ensures ∙ first_value-rows found (codes "speed");
     }

@@ -1,30 +1,34 @@
-//! Strings between quotes.
+//! Units as a listing has them.
 ghost use Rattle.std.specs.Prelude.{◌≡◌, ◌++◌, OnOk};
 ghost use Rattle.std.specs.List.{flat_map};
 ghost use Rattle.usb_listing.specs.StringListing.{written_unit};
-ghost use Rattle.usb_explained_lines.specs.Names.{quoted};
+ghost use Rattle.usb_string_words.specs.Characters.{units_in};
 
 use std::alloc::AllocError;
 use usb_listing::is_plain;
 use usb_text::Text;
 
-/// Puts the units of a string between quotes.
-#[tactic(auto, unfolding(crate::specs::Names::quoted))]
-pub(crate) fn put_quoted(text: &mut Text, units: &[u16]) -> Result<(), AllocError>
-    ensures { OnOk result (text.new ≡ text.old ++ quoted units.now) }
-{
-    text.put("\"")?;
-    put_units(text, units)?;
-    text.put("\"")
-}
-
-fn put_units(text: &mut Text, units: &[u16]) -> Result<(), AllocError>
+/// Puts units, each as in a listing.
+pub(crate) fn put_escaped(text: &mut Text, units: &[u16]) -> Result<(), AllocError>
     ensures { OnOk result (text.new ≡ text.old ++ flat_map written_unit units.now) }
 {
     for unit in units {
         put_unit(text, *unit)?;
     }
     Ok(())
+}
+
+/// Puts the units of bytes, each as in a listing.
+pub(crate) fn put_escaped_in(text: &mut Text, b: &[u8]) -> Result<(), AllocError>
+    ensures { OnOk result (text.new ≡ text.old ++ flat_map written_unit (units_in b.now)) }
+{
+    match b {
+        [low, high, rest @ ..] => {
+            put_unit(text, u16::from_le_bytes([*low, *high]))?;
+            put_escaped_in(text, rest)
+        }
+        _ => Ok(()),
+    }
 }
 
 /// Puts a unit of a string: its character, or a backslash and four digits.
