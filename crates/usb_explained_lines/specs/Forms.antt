@@ -7,10 +7,10 @@ use Rattle.usb_names.specs.declared.field.Form.TheVariants.{Decimal, Hexadecimal
 use Rattle.usb_words.specs.declared.speed.SetSpeed.{SetSpeed}
 use Rattle.usb_names.specs.Bits.{abstract_control_bits, call_management_bits, firmware_upgrade_bits}
 use Rattle.usb_names.specs.Terminals.{audio_terminals, video_terminals}
-use Rattle.usb_class_words.specs.Bits.{bits_field}
-use Rattle.usb_class_words.specs.FrameIntervals.{frame_interval}
-use Rattle.usb_class_words.specs.Guids.{guid_words}
-use Rattle.usb_class_words.specs.Terminals.{terminal_words}
+use Rattle.usb_words.specs.Bits.{bits_field}
+use Rattle.usb_words.specs.FrameIntervals.{frame_interval}
+use Rattle.usb_words.specs.Guids.{guid_words}
+use Rattle.usb_words.specs.Terminals.{terminal_words}
 use Rattle.usb_words.specs.Names.{class_field, function_class_field, protocol_field, subclass_field}
 use Rattle.usb_text.specs.Numbers.{byte_code, word_code}
 use Rattle.usb_explained_lines.specs.Names.{StringNames, index_words}

@@ -10,14 +10,14 @@ use crate::layout::Shown;
 use crate::value::{put_packet_value, put_power_value, put_release_value, put_set_attributes};
 use std::alloc::AllocError;
 use usb_base::{after, byte_at, prefix};
-use usb_class_words::{
-    put_audio_terminal, put_bits, put_frame_interval, put_guid, put_video_terminal,
-};
 use usb_names::{
     ClassField, Form, abstract_control_bits, call_management_bits, firmware_upgrade_bits,
 };
 use usb_text::{Text, put_byte_code, put_word_code};
-use usb_words::{SetSpeed, put_class, put_function_class, put_protocol, put_subclass};
+use usb_words::{
+    SetSpeed, put_audio_terminal, put_bits, put_class, put_frame_interval, put_function_class,
+    put_guid, put_protocol, put_subclass, put_video_terminal,
+};
 
 /// The place of bmAttributes in an endpoint descriptor (USB 2.0, 9.6.6).
 const ATTRIBUTES: usize = 3;

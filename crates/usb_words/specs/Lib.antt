@@ -8,4 +8,8 @@ pub mod Counts
 pub mod SpeedEvidence
 pub mod Surveys
 pub mod SetSpeeds
+pub mod FrameIntervals
+pub mod Guids
+pub mod Terminals
+pub mod Bits
 pub mod inside

@@ -12,10 +12,10 @@ use Rattle.usb_words.specs.Names.{named}
 use Rattle.usb_names.specs.Bits.{abstract_control_bits, call_management_bits, firmware_upgrade_bits}
 use Rattle.usb_names.specs.Classes.{Named, name_in}
 use Rattle.usb_names.specs.Terminals.{audio_terminals, video_terminals}
-use Rattle.usb_class_words.specs.Bits.{bit_words, bits_field, bits_meaning, further_bits, is_set, name_or_number}
-use Rattle.usb_class_words.specs.FrameIntervals.{digits_up_to_last, four_digits, fraction, frame_interval, milliseconds}
-use Rattle.usb_class_words.specs.Guids.{after_characters, guid_words, has_characters, is_letter_or_digit}
-use Rattle.usb_class_words.specs.Terminals.{terminal_words}
+use Rattle.usb_words.specs.Bits.{bit_words, bits_field, bits_meaning, further_bits, is_set, name_or_number}
+use Rattle.usb_words.specs.FrameIntervals.{digits_up_to_last, four_digits, fraction, frame_interval, milliseconds}
+use Rattle.usb_words.specs.Guids.{after_characters, guid_words, has_characters, is_letter_or_digit}
+use Rattle.usb_words.specs.Terminals.{terminal_words}
 use Rattle.usb_listing_reader.specs.Words.{is_printable}
 use Rattle.usb_listing_reader.proofs.PrintableLemmas.{Printable, encoded_printable}
 use Rattle.usb_explain.proofs.plain.Texts.{MaybePlain, both_plain, decimal_plain, parts, taken}

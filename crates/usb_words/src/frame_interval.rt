@@ -1,6 +1,6 @@
 //! Frame intervals of video.
 ghost use Rattle.std.specs.Prelude.{◌≡◌, ◌++◌, ◌<◌, OnOk};
-ghost use Rattle.usb_class_words.specs.FrameIntervals.{digits_up_to_last, four_digits, fraction, frame_interval, milliseconds};
+ghost use Rattle.usb_words.specs.FrameIntervals.{digits_up_to_last, four_digits, fraction, frame_interval, milliseconds};
 
 use std::alloc::AllocError;
 use usb_base::prefix;

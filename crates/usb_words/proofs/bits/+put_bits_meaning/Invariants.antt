@@ -1,5 +1,5 @@
 use Rattle.std.proofs.Common.{length}
-use Rattle.usb_class_words.proofs.bits.+put_bits_meaning.Given as goal
+use Rattle.usb_words.proofs.bits.+put_bits_meaning.Given as goal
 
 -- fewer bits are left
 abbrev pub decreases-put_bits_meaning : goal.decreases-put_bits_meaning

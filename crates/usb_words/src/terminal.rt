@@ -3,7 +3,7 @@ ghost use Rattle.std.specs.Prelude.{◌≡◌, ◌++◌, option_map, OnOk};
 ghost use Rattle.usb_names.specs.Terminals.{audio_terminals, video_terminals};
 ghost use Rattle.usb_text.specs.Numbers.{word_code};
 ghost use Rattle.usb_words.specs.Names.{named};
-ghost use Rattle.usb_class_words.specs.Terminals.{terminal_words};
+ghost use Rattle.usb_words.specs.Terminals.{terminal_words};
 
 use std::alloc::AllocError;
 use usb_names::{audio_terminal, video_terminal};

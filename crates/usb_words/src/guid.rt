@@ -1,7 +1,7 @@
 //! GUIDs.
 ghost use Rattle.std.specs.Prelude.{◌≡◌, ◌++◌, OnOk};
 ghost use Rattle.std.specs.List.{list_all};
-ghost use Rattle.usb_class_words.specs.Guids.{guid_words, has_characters, is_letter_or_digit};
+ghost use Rattle.usb_words.specs.Guids.{guid_words, has_characters, is_letter_or_digit};
 
 use std::alloc::AllocError;
 use usb_base::{after, prefix};

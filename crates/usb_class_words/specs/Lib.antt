@@ -1,4 +1,0 @@
-pub mod FrameIntervals
-pub mod Guids
-pub mod Terminals
-pub mod Bits
