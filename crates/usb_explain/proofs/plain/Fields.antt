@@ -14,7 +14,6 @@ use Rattle.usb_explained_lines.specs.declared.names.Missing.{Missing}
 use Rattle.usb_explained_lines.specs.declared.names.Missing.TheVariants.{NotInInput, NotRead}
 use Rattle.usb_explained_lines.specs.Lines.{digits_line, field_line, field_start, heading_line, place_words, spaces}
 use Rattle.usb_explained_lines.specs.Names.{StringNames, index_words, missing_words, name_words, named_units, quoted, units_in_first_language}
-use Rattle.usb_string_words.specs.Characters.{units_words}
 use Rattle.usb_listing_reader.proofs.PrintableLemmas.{Printable, encoded_printable, unit_printable}
 use Rattle.usb_explain.specs.Lines.{IsLine, Said, SayFields, line_that}
 use Rattle.usb_explain.proofs.plain.Texts.{AreWords, both_plain, decimal_plain, each_plain, either_plain, ended, parts, spaces_plain}
@@ -107,21 +106,20 @@ units_fit : (named : List ℕ) (index : ℕ) (strings : Option Strings) → Mayb
 units_fit named index None fit = tt
 units_fit named index (Some strings) fit = in_language strings named index (slice_get strings.languages 0) fit
 
-units_plain : (units : List ℕ) → AreWords units → Printable (flat_map written_unit units)
+pub units_plain : (units : List ℕ) → AreWords units → Printable (flat_map written_unit units)
 units_plain units words = each_plain written_unit unit_printable units words
 
--- they are in ASCII
-pub in_ascii : (utf8 : Bool) (units : List ℕ) → utf8 ≡ false → AreWords units → Printable (units_words utf8 units)
-in_ascii utf8 units ascii words = rw ascii (units_plain units words)
-
--- and so are those that indices name
+-- so it is with those that indices name, which are written in ASCII
 pub record AreNamesFit (names : StringNames) : Type 0 where
   pub strings : MaybeFit names.strings
   pub ascii : names.utf8 ≡ false
 
-quoted_plain : (utf8 : Bool) (units : List ℕ) → utf8 ≡ false → AreWords units → Printable (quoted utf8 units)
+quoted_in_ascii : (units : List ℕ) → AreWords units → Printable (quoted false units)
 unfolding quoted
-quoted_plain utf8 units ascii words = simp (parts, in_ascii utf8 units ascii words) refl
+quoted_in_ascii units words = simp (parts, units_plain units words) refl
+
+quoted_plain : (utf8 : Bool) (units : List ℕ) → utf8 ≡ false → AreWords units → Printable (quoted utf8 units)
+quoted_plain utf8 units ascii words = subst (λ u. Printable (quoted u units)) (sym ascii) (quoted_in_ascii units words)
 
 missing_plain : (missing : Missing) → Printable (missing_words missing)
 missing_plain NotInInput = refl

@@ -1,5 +1,5 @@
 -- The headings of descriptors are a line each, and each of their fields is said in one.
-use Rattle.std.proofs.Common.{◌≡◌, ℕ, ◌<◌, ◌==◌, ◌&&◌, Bool, true, false, if◌then◌else◌, List, [], ◌∷◌, ◌++◌, Option, Some, None, codes, drop, length, slice_index, take, refl, arith}
+use Rattle.std.proofs.Common.{◌≡◌, ℕ, ◌<◌, ◌==◌, ◌&&◌, Bool, true, false, if◌then◌else◌, List, [], ◌∷◌, ◌++◌, Option, Some, None, codes, drop, length, slice_index, take, refl, sym, subst, arith}
 use Rattle.hex.specs.Hex.{encode_lower}
 use Rattle.usb_base.specs.Bytes.{AreBytes, little_endian_at}
 use Rattle.usb_names.specs.Rows.{decimal, hexadecimal}
@@ -25,7 +25,7 @@ use Rattle.usb_explain.specs.Lines.{IsLine, SayFields}
 use Rattle.usb_explain.proofs.plain.Texts.{AreWords, IsWord, both_plain, decimal_plain, each_plain, parts, word_digits}
 use Rattle.usb_explain.proofs.plain.Parts.{byte_fits, word_fits}
 use Rattle.usb_explain.proofs.plain.Words.{attributes_plain, class_words_plain, count_plain, function_class_words_plain, interval_plain, power_plain, release_plain, size_plain, speed_plain, word_code_plain}
-use Rattle.usb_explain.proofs.plain.Fields.{AreNamesFit, either_says, heading_is_line, in_ascii, no_fields, one_field}
+use Rattle.usb_explain.proofs.plain.Fields.{AreNamesFit, either_says, heading_is_line, no_fields, one_field, units_plain}
 use Rattle.usb_explain.proofs.plain.Forms.{address_plain, source_plain}
 use Rattle.usb_explain.proofs.plain.Layouts.{IsPlainLayout, layout_says}
 use Rattle.usb_explain.proofs.plain.Raws.{raw_says, raw_words_plain}
@@ -153,10 +153,13 @@ place_plain : (place : Option StringPlace) → PlaceFits place → Printable (st
 place_plain None fit = refl
 place_plain (Some place) fit = simp (parts, decimal_plain, word_code_plain place.language fit) refl
 
-string_plain : (utf8 : Bool) (place : Option StringPlace) (b : List ℕ) → utf8 ≡ false → PlaceFits place → AreBytes b → Printable (string_words utf8 place b)
+string_in_ascii : (place : Option StringPlace) (b : List ℕ) → PlaceFits place → AreBytes b → Printable (string_words false place b)
 unfolding string_words
-string_plain utf8 place b ascii fit h =
-    simp (parts, place_plain place fit, in_ascii utf8 (units_in (drop 2 b)) ascii (units_are_words (drop 2 b) (bytes_back 2 b h))) refl
+string_in_ascii place b fit h =
+    simp (parts, place_plain place fit, units_plain (units_in (drop 2 b)) (units_are_words (drop 2 b) (bytes_back 2 b h))) refl
+
+string_plain : (utf8 : Bool) (place : Option StringPlace) (b : List ℕ) → utf8 ≡ false → PlaceFits place → AreBytes b → Printable (string_words utf8 place b)
+string_plain utf8 place b ascii fit h = subst (λ u. Printable (string_words u place b)) (sym ascii) (string_in_ascii place b fit h)
 
 -- ---- what is left
 
