@@ -5,7 +5,7 @@ import re
 from . import sources
 
 # Layers of an explanation and of the static library, which no user calls.
-WITHIN = ["usb_names", "usb_words", "usb_explained_lines", "usb_remarks", "usb_owned_device"]
+WITHIN = ["usb_names", "usb_string_words", "usb_words", "usb_explained_lines", "usb_remarks", "usb_owned_device"]
 ITEM = re.compile(r"^( *)pub (extern \"C\" )?fn (\w+)")
 HEAD = re.compile(r"^impl(?:<[^{]*?>)? (?:(\w+)[^{]* for )?(?:&(?:'\w+ )?(?:mut )?)?(\w+)")
 

@@ -1,5 +1,5 @@
 /* texts COMMAND FILE [LENGTH]: what a call makes of the first LENGTH bytes of FILE. The commands are show, check, build, and
- * explain as plain, brief, noplaces or high. Writes what it makes, and behind it, on a line of its own, the status, the
+ * explain as plain, brief, noplaces, high or utf8. Writes what it makes, and behind it, on a line of its own, the status, the
  * number and the place. Ends in 9 where a buffer that is too short is written to. */
 #include "usb.h"
 #include "hosted.h"
@@ -15,6 +15,7 @@ static struct usb_answer call(const char *command, size_t length, size_t room) {
     case 'p' + 'l': return usb_explain(bytes, length, USB_PLACES, 0, text, room);
     case 'n' + 'o': return usb_explain(bytes, length, 0, 0, text, room);
     case 'h' + 'i': return usb_explain(bytes, length, USB_PLACES, USB_HIGH, text, room);
+    case 'u' + 't': return usb_explain(bytes, length, USB_PLACES | USB_UTF8, 0, text, room);
     default: return usb_build(bytes, length, text, room);
     }
 }

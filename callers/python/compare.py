@@ -1,7 +1,7 @@
 #!/usr/bin/env python3
 """compare.py PROGRAM EXAMPLES: compares the module with the program usbdesc: text, fault and status.
 
-Each set, file and dump of the examples and each front of ten of them goes through show, check and explain in four ways; each
+Each set, file and dump of the examples and each front of ten of them goes through show, check and explain in five ways; each
 listing through build; each file through enumerate, at each speed and with several lists of fates, both by the one call and by
 a device and a host over a bus of this script.
 """
@@ -20,7 +20,8 @@ LINES = {
     "trailing": "usbdesc: trailing bytes at {p}\n",
     "list_fault": "usbdesc: listing fault {n} line {p}\n",
 }
-WAYS = (["show"], ["check"], ["explain"], ["explain", "--brief"], ["explain", "--no-places"], ["explain", "--speed", "high"])
+WAYS = (["show"], ["check"], ["explain"], ["explain", "--brief"], ["explain", "--no-places"], ["explain", "--speed", "high"],
+        ["explain", "--utf8"])
 FATES = ("", "d", "nnuda", "....a", "ddddddddd", "n" * 20)
 STEPS = (None, "first", "address", "device", "header {i}", "set {i}", "qualifier", "other_header {i}", "other_set {i}",
          "languages", "text {l:04x} {i:02x}", "configure")
@@ -45,7 +46,8 @@ def by_module(words, data):
             return text.encode(), b"", 0 if text == "no findings\n" else 1
         if words[0] == "build":
             return usb.build(data.decode()), b"", 0
-        e = usb.explain(data, "--brief" in words, "--no-places" not in words, "high" if "high" in words else None)
+        e = usb.explain(data, "--brief" in words, "--no-places" not in words, "high" if "high" in words else None,
+                        "--utf8" in words)
         return e.text.encode(), fault_line(e.fault).encode() if e.fault else b"", 3 if e.fault else 0
     except usb.Fault as fault:
         return b"", fault_line(fault).encode(), 3
