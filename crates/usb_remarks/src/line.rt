@@ -7,7 +7,7 @@ ghost use Rattle.usb_remarks.specs.Remarks.{there};
 use crate::remark::{Range, Remark, Sizes};
 use std::alloc::AllocError;
 use usb_set::TransferType;
-use usb_text::Text;
+use usb_text::{Text, put_count};
 use usb_words::{SetSpeed, put_speed};
 
 fn type_name(transfer: TransferType) -> &'static str
@@ -77,6 +77,12 @@ fn put_words(text: &mut Text, remark: Remark) -> Result<(), AllocError>
         Remark::TypeBits => text.put("bits 5 to 2 of bmAttributes are reserved here"),
         Remark::HighBits => text.put("bits 7 to 6 of bmAttributes are reserved"),
         Remark::ReservedClass => text.put("class 0x00 is reserved for future use"),
+        Remark::TotalLength { declared, found } => {
+            text.put("wTotalLength is ")?;
+            text.put_decimal(u64::from(declared))?;
+            text.put(", and the class descriptors have ")?;
+            put_count(text, found as u64, "byte")
+        }
     }
 }
 

@@ -16,7 +16,7 @@ use Rattle.usb_remarks.specs.Lines.{a_type, interval_words, packet_words, remark
 use Rattle.usb_listing_reader.proofs.PrintableLemmas.{Printable}
 use Rattle.usb_explain.specs.Lines.{IsLine}
 use Rattle.usb_explain.proofs.plain.Texts.{decimal_plain, ended, parts, spaces_plain}
-use Rattle.usb_explain.proofs.plain.Words.{speed_plain}
+use Rattle.usb_explain.proofs.plain.Words.{count_plain, speed_plain}
 
 name_plain : (transfer : TransferType) → Printable (type_name transfer)
 name_plain Control = refl
@@ -52,6 +52,7 @@ words_plain remarks.ReservedUsage = refl
 words_plain remarks.TypeBits = refl
 words_plain remarks.HighBits = refl
 words_plain remarks.ReservedClass = refl
+words_plain (remarks.TotalLength declared found) = simp (parts, decimal_plain, count_plain found (codes "byte") refl) refl
 
 remark_is_line : (depth : ℕ) (remark : Remark) → IsLine (remark_line depth remark)
 unfolding remark_line
