@@ -1,7 +1,7 @@
 -- What is remarked of a class header: that its wTotalLength isn't the length of the class descriptors that it begins (Audio
 -- 1.0, 4.3.2; Audio 2.0, 4.7.2; MIDI 1.0, 6.1.2.1; UVC 1.1, 3.7.2).
-use Rattle.std.specs.Prelude.{ℕ, ◌+◌, List, length, slice_index, flat_map, Bool, not, nat_lt, ◌==◌, ◌&&◌, ◌||◌, Option, Some, None, option_and_then, if◌then◌else◌}
-use Rattle.std.specs.List.{take_while}
+use Rattle.std.specs.Prelude.{ℕ, ◌+◌, List, length, slice_index, Bool, not, nat_lt, ◌==◌, ◌&&◌, ◌||◌, Option, Some, None, option_and_then, if◌then◌else◌}
+use Rattle.std.specs.List.{sum_by, take_while}
 use Rattle.usb_base.specs.Bytes.{little_endian_at}
 use Rattle.usb_names.specs.declared.codes.ClassCodes.{ClassCodes}
 use Rattle.usb_words.specs.Cut.{descriptors}
@@ -35,7 +35,7 @@ is_header d = is_class_descriptor d && (slice_index d 2 == 1)
 
 -- how many bytes the class descriptors have with which these begin
 abbrev pub class_length : List (List ℕ) → ℕ
-class_length ds = length (flat_map (λ d. d) (take_while is_class_descriptor ds))
+class_length ds = sum_by length (take_while is_class_descriptor ds)
 
 -- a header that has wTotalLength at this place, which isn't the length of it and of the class descriptors right after it
 abbrev pub total_remark : List ℕ → List ℕ → ℕ → Option Remark

@@ -49,6 +49,11 @@ unfoldable pub interval_words : TransferType → SetSpeed → Range → List ℕ
 interval_words transfer speed range =
     a_type transfer ++ codes " interval is " ++ decimal range.least ++ codes " to " ++ decimal range.most ++ codes " at " ++ speed_words speed
 
+-- the length that a class header says, and the one that there is
+unfoldable pub total_words : ℕ → ℕ → List ℕ
+total_words declared found =
+    codes "wTotalLength is " ++ decimal declared ++ codes ", and the class descriptors have " ++ count found (codes "byte")
+
 -- what a remark says
 unfoldable pub remark_words : Remark → List ℕ
 remark_words (remarks.Interval transfer speed range) = interval_words transfer speed range
@@ -59,8 +64,7 @@ remark_words remarks.ReservedUsage = codes "usage 3 is reserved"
 remark_words remarks.TypeBits = codes "bits 5 to 2 of bmAttributes are reserved here"
 remark_words remarks.HighBits = codes "bits 7 to 6 of bmAttributes are reserved"
 remark_words remarks.ReservedClass = codes "class 0x00 is reserved for future use"
-remark_words (remarks.TotalLength declared found) =
-    codes "wTotalLength is " ++ decimal declared ++ codes ", and the class descriptors have " ++ count found (codes "byte")
+remark_words (remarks.TotalLength declared found) = total_words declared found
 
 -- its line, below a heading of this depth
 unfoldable pub remark_line : ℕ → Remark → List ℕ

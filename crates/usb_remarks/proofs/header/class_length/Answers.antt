@@ -14,7 +14,7 @@ loop-length-preserved c =
     let step : descriptors rest ≡ take n rest ∷ descriptors (drop n rest) = descriptors_step rest n found in
     let left : length (drop n rest) ≡ length rest - n = length-drop n rest in
     let long : length (take n rest) ≡ n = length-take-le n rest c.in-Some.ensures.most in
-    let is : is_class_descriptor (take n rest) ≡ true = grind (c.prefix.ensures, c.is_class_descriptor.ensures, c.if-not-is_class_descriptor.false) in
+    let is : is_class_descriptor (take n rest) ≡ true = grind (arith, c.prefix.ensures, c.is_class_descriptor.ensures, c.if-not-is_class_descriptor.false) in
     let first : class_length (descriptors rest) ≡ length (take n rest) + class_length (descriptors (drop n rest)) = class_length_step _ _ _ step is in
     record {
       counts = rw c.after-rest.ensures (omega (arith, c.loop-length.invariant.counts, first, long));
