@@ -1,5 +1,5 @@
 -- The lengths of class descriptors one after another.
-use Rattle.std.proofs.Common.{◌≡◌, ℕ, ◌+◌, List, ◌∷◌, Bool, true, false, length, refl, ap, ◌∙◌}
+use Rattle.std.proofs.Common.{◌≡◌, ℕ, ◌+◌, List, ◌∷◌, true, length, refl, ap, ◌∙◌}
 use Rattle.std.specs.List.{sum_by, take_while}
 use Rattle.std.proofs.lemmas.List.Sums.{sum_by-cons, take_while-cons}
 use Rattle.usb_remarks.specs.Headers.{class_length, is_class_descriptor}

@@ -1,5 +1,4 @@
--- What is remarked of a class header: that its wTotalLength isn't the length of the class descriptors that it begins (Audio
--- 1.0, 4.3.2; Audio 2.0, 4.7.2; MIDI 1.0, 6.1.2.1; UVC 1.1, 3.7.2).
+-- What is remarked of a class header: that its wTotalLength isn't the length of the class descriptors that it begins.
 use Rattle.std.specs.Prelude.{ℕ, ◌+◌, List, length, slice_index, Bool, not, nat_lt, ◌==◌, ◌&&◌, ◌||◌, Option, Some, None, option_and_then, if◌then◌else◌}
 use Rattle.std.specs.List.{sum_by, take_while}
 use Rattle.usb_base.specs.Bytes.{little_endian_at}
@@ -16,8 +15,8 @@ is_of class subclass codes = (codes.class == class) && (codes.subclass == subcla
 abbrev pub is_later_audio : ClassCodes → Bool
 is_later_audio codes = (codes.class == 0x01) && ((codes.protocol == 0x20) || (codes.protocol == 0x30))
 
--- The place of wTotalLength in the header: of audio control of Audio 2.0; and of audio control of Audio 1.0, of MIDI
--- streaming and of video control. Headers of Audio 3.0 are left out.
+-- The place of wTotalLength in the header: audio control of Audio 2.0 (4.7.2); and of Audio 1.0 (4.3.2), MIDI streaming (MIDI
+-- 1.0, 6.1.2.1) and video control (UVC 1.1, 3.7.2). Headers of Audio 3.0 are left out.
 abbrev pub total_length_place : ClassCodes → Option ℕ
 total_length_place codes =
     if is_of 0x01 0x01 codes && (codes.protocol == 0x20) then Some 6

@@ -1,4 +1,4 @@
-use Rattle.std.proofs.Common.{◌≡◌, ◌∷◌, ◌∙◌, ◌+◌, ◌-◌, ◌≤◌, ℕ, List, Some, ap, true, arith, drop, length, length-drop, min, refl, sym, take}
+use Rattle.std.proofs.Common.{◌≡◌, ◌∷◌, ◌∙◌, ◌+◌, ◌-◌, ℕ, List, Some, true, arith, drop, length, length-drop, sym, take}
 use Rattle.std.proofs.lemmas.List.{length-take-le}
 use Rattle.usb_words.specs.Cut.{descriptor_length, descriptors}
 use Rattle.usb_words.proofs.Cuts.{descriptors_step}
