@@ -12,6 +12,7 @@ compares what it writes (.ci/readings).
     explaining.py --utf8 ..      the same with characters beyond ASCII as UTF-8
 """
 
+import itertools
 import os
 import re
 import sys
@@ -248,6 +249,23 @@ def endpoint_remarks(d, speed):
     yield size_remark(transfer, size & 0x7FF, speed)
     yield multiple_remark(transfer, size >> 11 & 3, speed)
     yield attributes_remark(transfer, d[3], speed)
+
+
+def total_length_at(codes):
+    """Where the header of an interface's class descriptors has wTotalLength, or None."""
+    if codes[0] == 1 and codes[2] in (0x20, 0x30):
+        return 6 if tuple(codes[1:]) == (1, 0x20) else None
+    return 5 if tuple(codes[:2]) in ((1, 1), (1, 3), (14, 1)) else None
+
+
+def header_remarks(d, codes, later):
+    """Of a class header, with the descriptors of its set after it."""
+    if codes is None or d[1] != 0x24 or d[2:3] != b"\x01":
+        return
+    at, own = total_length_at(codes), itertools.takewhile(lambda x: x[1] == 0x24, later)
+    found = len(d) + sum(map(len, own))
+    if at and at + 2 <= len(d) and little(d[at : at + 2]) != found:
+        yield f"wTotalLength is {little(d[at : at + 2])}, and the class descriptors have {count(found, 'byte')}"
 
 
 def class_remarks(class_):
@@ -537,7 +555,8 @@ class Explanation:
                 self.of_association(d, p, place + (association,))
                 owner, association = 1, association + 1
             else:
-                self.of_raw(d, p, owner + 1, codes)
+                later = [x for _, x in descriptors[i + 1 :]] if end_of_set <= limit else None
+                self.of_raw(d, p, owner + 1, codes, later)
         return descriptors[-1][0] + len(descriptors[-1][1])
 
     def of_configuration(self, d, at, main, place, speed, interfaces):
@@ -616,9 +635,11 @@ class Explanation:
             fields += tail(d[7:])
         self.fields(3, fields)
 
-    def of_raw(self, d, at, depth, codes):
+    def of_raw(self, d, at, depth, codes, later):
         row = row_of(d, codes)
         self.heading(depth, row[0] if row else f"descriptor of type {byte(d[1])}", at, len(d))
+        if later is not None:
+            self.remarks(depth, header_remarks(d, codes, later))
         self.fields(depth, raw_fields(d, row, self.index))
 
     def of_string(self, d, at):

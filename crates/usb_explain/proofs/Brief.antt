@@ -19,7 +19,7 @@ use Rattle.usb_explain.specs.Laws.{BrokenLeavesOutFields, LeavesOutFields, Shown
 use Rattle.usb_explain.specs.Standings.{start}
 use Rattle.usb_explain.specs.Subjects.{Subject, broken_subject, findings_in, subject_with}
 use Rattle.usb_explained_lines.specs.Rest.{rest_fields, rest_heading, rest_lines}
-use Rattle.usb_explain.specs.Walks.{walked}
+use Rattle.usb_explain.specs.Walks.{rest_of_set, walked}
 use Rattle.usb_explain.proofs.Spans.{broken_ends, broken_is, end_by, walk_shows, whole_is, with_look}
 
 -- a look with the lines of fields or without them
@@ -55,11 +55,11 @@ findings_same look subject s role d behind = refl
 head_same : (brief : Bool) (subject : Subject) (d : Shown)
     → head_of (with_look (brief_if brief subject.manner.look) subject) d ≡ head_of subject d
 head_same brief subject d =
-    ap (λ context. heading (brief_if brief subject.manner.look) d.role context d.bytes d.standing.at ++ role_findings (with_look (brief_if brief subject.manner.look) subject) d.standing d.role d.bytes d.behind ++ remark_lines d.role context d.bytes)
+    ap (λ context. heading (brief_if brief subject.manner.look) d.role context d.bytes d.standing.at ++ role_findings (with_look (brief_if brief subject.manner.look) subject) d.standing d.role d.bytes d.behind ++ remark_lines d.role context d.bytes (rest_of_set d.standing d.bytes d.behind))
     (context_same (brief_if brief subject.manner.look) subject d.standing d.role d.bytes)
-    ∙ ap (λ l. l ++ role_findings (with_look (brief_if brief subject.manner.look) subject) d.standing d.role d.bytes d.behind ++ remark_lines d.role (context_at subject d) d.bytes)
+    ∙ ap (λ l. l ++ role_findings (with_look (brief_if brief subject.manner.look) subject) d.standing d.role d.bytes d.behind ++ remark_lines d.role (context_at subject d) d.bytes (rest_of_set d.standing d.bytes d.behind))
     (heading_same brief subject.manner.look d.role (context_at subject d) d.bytes d.standing.at)
-    ∙ ap (λ l. heading subject.manner.look d.role (context_at subject d) d.bytes d.standing.at ++ l ++ remark_lines d.role (context_at subject d) d.bytes)
+    ∙ ap (λ l. heading subject.manner.look d.role (context_at subject d) d.bytes d.standing.at ++ l ++ remark_lines d.role (context_at subject d) d.bytes (rest_of_set d.standing d.bytes d.behind))
     (findings_same (brief_if brief subject.manner.look) subject d.standing d.role d.bytes d.behind)
 
 lines_are : (subject : Subject) (d : Shown)

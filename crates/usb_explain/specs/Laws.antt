@@ -29,6 +29,7 @@ use Rattle.usb_explain.specs.Faults.{fault_lines, fault_text, likeness_text, pla
 use Rattle.usb_explain.specs.Findings.{found_at, is_here, line_of, role_findings, told_at}
 use Rattle.usb_explain.specs.Contexts.{context_of, depth_of}
 use Rattle.usb_explain.specs.Lines.{IsLine, IsLineIfAny, SayFields}
+use Rattle.usb_explain.specs.Walks.{rest_of_set}
 use Rattle.usb_explain.specs.Uncovered.{most_uncovered}
 use Rattle.usb_explain.specs.Subjects.{Subject, broken_subject, findings_in, subject_with}
 use Rattle.usb_explain.specs.Trees.{OutlineEntry, counts_in, entry, outline}
@@ -46,14 +47,14 @@ context_at subject d = context_of subject d.standing d.role d.bytes
 
 -- what is remarked of it
 abbrev pub remarks_of : Subject → Shown → List Remark
-remarks_of subject d = remarks_on d.role (context_at subject d).speed d.bytes
+remarks_of subject d = remarks_on d.role (context_at subject d) d.bytes (rest_of_set d.standing d.bytes d.behind)
 
 -- its heading, with its place and its length, what it breaks, and what is remarked of it
 abbrev pub head_of : Subject → Shown → List ℕ
 head_of subject d =
     heading subject.manner.look d.role (context_at subject d) d.bytes d.standing.at
     ++ role_findings subject d.standing d.role d.bytes d.behind
-    ++ remark_lines d.role (context_at subject d) d.bytes
+    ++ remark_lines d.role (context_at subject d) d.bytes (rest_of_set d.standing d.bytes d.behind)
 
 -- its lines: after those the lines of its fields, where they are shown
 abbrev pub lines_of : Subject → Shown → List ℕ

@@ -1,5 +1,5 @@
 -- The lines of all descriptors of an input, one after another.
-use Rattle.std.specs.Prelude.{ℕ, zero, suc, List, ◌+◌, ◌++◌, length, take, drop, unwrap_or}
+use Rattle.std.specs.Prelude.{ℕ, zero, suc, List, ◌+◌, ◌-◌, ◌++◌, length, take, drop, nat_le, Option, Some, None, unwrap_or, if◌then◌else◌}
 use Rattle.std.specs.Option.{option_map}
 use Rattle.usb_explained_lines.specs.Descriptors.{fields, heading}
 use Rattle.usb_explained_lines.specs.declared.role.Role.{Role}
@@ -12,13 +12,18 @@ use Rattle.usb_explain.specs.Steps.{passed, with_told}
 use Rattle.usb_explain.specs.Roles.{next_role}
 use Rattle.usb_explain.specs.Subjects.{Subject}
 
+-- the bytes of its set after a descriptor, where they are all there
+abbrev pub rest_of_set : Standing → List ℕ → List ℕ → Option (List ℕ)
+rest_of_set s d behind =
+    let count = s.left - length d in if nat_le count (length behind) then Some (take count behind) else None
+
 -- the lines of a descriptor, with the bytes after it: its heading, what it breaks, what is remarked of it, and
 -- its fields
 unfoldable pub block : Subject → Standing → Role → List ℕ → List ℕ → List ℕ
 block subject s role d behind =
     heading subject.manner.look role (context_of subject s role d) d s.at
     ++ role_findings subject s role d behind
-    ++ remark_lines role (context_of subject s role d) d
+    ++ remark_lines role (context_of subject s role d) d (rest_of_set s d behind)
     ++ fields subject.manner.look subject.names role (context_of subject s role d) d
 
 -- the state at the first of these bytes

@@ -29,7 +29,7 @@ impl Standing {
         let look = subject.manner().look;
         put_heading(text, look, role, &context, d, self.at)?;
         let told = self.put_findings(text, subject, role, d, behind)?;
-        put_remarks(text, role, &context, d)?;
+        put_remarks(text, role, &context, d, self.rest_of_set(d, behind))?;
         put_fields(text, look, subject.names(), role, &context, d)?;
         Ok(told)
     }

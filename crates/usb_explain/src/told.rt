@@ -1,6 +1,8 @@
 //! What is reported of a descriptor that breaks a rule.
 ghost use Rattle.std.specs.Prelude.{◌≡◌, ◌+◌, ◌-◌, ◌++◌, length, take, IfOk, OnOk};
+ghost use Rattle.std.specs.Option.{option_copied};
 ghost use Rattle.usb_rules.specs.Places.{finding};
+ghost use Rattle.usb_explain.specs.Walks.{rest_of_set};
 ghost use Rattle.usb_explain.specs.Findings.{address_told, association_told, attributes_told, device_packet_fault, device_part, device_told, endpoint_told, finding_at, found_at, has_lone_subclass, in_set, in_setting, interface_told, is_same_place, late_packet_fault, none_told, packet_fault, part_number, qualifier_told, role_findings, set_told, told_at, told_of, value_told, wrong_device_told};
 
 use crate::position::{SetStanding, Standing};
@@ -102,6 +104,17 @@ impl Standing {
         ensures { result.now ≡ take (self.now.left - length d.now) behind.now }
     {
         prefix(behind, self.left.saturating_sub(d.len()))
+    }
+
+    /// The same where they are all there.
+    pub(crate) fn rest_of_set<'b>(&self, d: &[u8], behind: &'b [u8]) -> Option<&'b [u8]>
+        ensures { option_copied result ≡ rest_of_set self.now d.now behind.now }
+    {
+        if self.left.saturating_sub(d.len()) <= behind.len() {
+            Some(self.behind_in_set(d, behind))
+        } else {
+            None
+        }
     }
 }
 

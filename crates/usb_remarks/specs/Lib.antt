@@ -1,3 +1,4 @@
+pub mod Headers
 pub mod Remarks
 pub mod Lines
 pub mod Laws

@@ -1,11 +1,12 @@
 -- The lines of remarks.
-use Rattle.std.specs.Prelude.{ℕ, ◌+◌, ◌*◌, List, ◌++◌, codes}
+use Rattle.std.specs.Prelude.{ℕ, ◌+◌, ◌*◌, List, ◌++◌, codes, Option}
 use Rattle.std.specs.Fmt.{decimal}
 use Rattle.std.specs.List.{flat_map}
 use Rattle.usb_set.specs.declared.endpoint.TransferType.{TransferType}
 use Rattle.usb_set.specs.declared.endpoint.TransferType.TheVariants.{Control, Isochronous, Bulk, Interrupt}
 use Rattle.usb_words.specs.declared.speed.SetSpeed.{SetSpeed}
 use Rattle.usb_words.specs.Speeds.{speed_words}
+use Rattle.usb_text.specs.Numbers.{count}
 use Rattle.usb_explained_lines.specs.declared.context.Context.{Context}
 use Rattle.usb_explained_lines.specs.declared.role.Role.{Role}
 use Rattle.usb_explained_lines.specs.Lines.{spaces}
@@ -48,6 +49,11 @@ unfoldable pub interval_words : TransferType → SetSpeed → Range → List ℕ
 interval_words transfer speed range =
     a_type transfer ++ codes " interval is " ++ decimal range.least ++ codes " to " ++ decimal range.most ++ codes " at " ++ speed_words speed
 
+-- the length that a class header says, and the one that there is
+unfoldable pub total_words : ℕ → ℕ → List ℕ
+total_words declared found =
+    codes "wTotalLength is " ++ decimal declared ++ codes ", and the class descriptors have " ++ count found (codes "byte")
+
 -- what a remark says
 unfoldable pub remark_words : Remark → List ℕ
 remark_words (remarks.Interval transfer speed range) = interval_words transfer speed range
@@ -58,11 +64,12 @@ remark_words remarks.ReservedUsage = codes "usage 3 is reserved"
 remark_words remarks.TypeBits = codes "bits 5 to 2 of bmAttributes are reserved here"
 remark_words remarks.HighBits = codes "bits 7 to 6 of bmAttributes are reserved"
 remark_words remarks.ReservedClass = codes "class 0x00 is reserved for future use"
+remark_words (remarks.TotalLength declared found) = total_words declared found
 
 -- its line, below a heading of this depth
 unfoldable pub remark_line : ℕ → Remark → List ℕ
 remark_line depth remark = spaces (2 * depth + 2) ++ codes "? " ++ remark_words remark ++ codes "\n"
 
--- the lines of the remarks on a descriptor
-unfoldable pub remark_lines : Role → Context → List ℕ → List ℕ
-remark_lines role context b = flat_map (remark_line context.depth) (remarks_on role context.speed b)
+-- the lines of the remarks on a descriptor, with the bytes of its set after it where they are all there
+unfoldable pub remark_lines : Role → Context → List ℕ → Option (List ℕ) → List ℕ
+remark_lines role context b rest = flat_map (remark_line context.depth) (remarks_on role context b rest)

@@ -1,5 +1,5 @@
--- What is remarked of a descriptor: what can't be at the speed of its set, and values that the standard reserves (USB 2.0,
--- 5.5.3, 5.6.3, 5.7.3, 5.8.3, 9.6.5 and 9.6.6; the association's ECN).
+-- What is remarked of a descriptor: what can't be at the speed of its set, values that the standard reserves (USB 2.0,
+-- 5.5.3, 5.6.3, 5.7.3, 5.8.3, 9.6.5 and 9.6.6; the association's ECN), and the length that a class header has.
 use Rattle.std.specs.Prelude.{ℕ, List, [], ◌∷◌, ◌++◌, slice_index, Bool, true, false, nat_le, not, ◌==◌, ◌&&◌, ◌||◌, ◌/◌, ◌%◌, Option, Some, None, option_and_then, if◌then◌else◌}
 use Rattle.std.specs.Option.{option_or}
 use Rattle.usb_base.specs.Bytes.{little_endian_at}
@@ -8,6 +8,7 @@ use Rattle.usb_set.specs.declared.endpoint.TransferType.TheVariants.{Control, Is
 use Rattle.usb_set.specs.Endpoints.{packet_size_of, transfer_type_of}
 use Rattle.usb_words.specs.declared.speed.SetSpeed.{SetSpeed}
 use Rattle.usb_words.specs.declared.speed.SetSpeed.TheVariants.{Low, Full, LowOrFull, High, FullOrHigh, Super}
+use Rattle.usb_explained_lines.specs.declared.context.Context.{Context}
 use Rattle.usb_explained_lines.specs.declared.role.Role.{Role}
 use Rattle.usb_explained_lines.specs.declared.role.Role.TheVariants as roles
 use Rattle.usb_remarks.specs.declared.remark.Range.{Range}
@@ -15,6 +16,7 @@ use Rattle.usb_remarks.specs.declared.remark.Sizes.{Sizes}
 use Rattle.usb_remarks.specs.declared.remark.Sizes.TheVariants.{NoEndpoint, Only, UpTo, EightTo64, EightTo64Or512}
 use Rattle.usb_remarks.specs.declared.remark.Remark.{Remark}
 use Rattle.usb_remarks.specs.declared.remark.Remark.TheVariants as remarks
+use Rattle.usb_remarks.specs.Headers.{header_remark}
 
 -- a remark that is made where something holds
 abbrev pub remark_if : Bool → Remark → Option Remark
@@ -147,9 +149,10 @@ typed_remarks speed transfer b =
     ++ there (multiple_remark speed transfer (little_endian_at b 4))
     ++ there (attributes_remark speed transfer (slice_index b 3))
 
--- the remarks on a descriptor of this role, in a set of this speed
-unfoldable pub remarks_on : Role → SetSpeed → List ℕ → List Remark
-remarks_on roles.Association speed b = there (class_remark (slice_index b 4))
-remarks_on roles.Interface speed b = there (class_remark (slice_index b 5))
-remarks_on roles.Endpoint speed b = typed_remarks speed (transfer_type_of (slice_index b 3)) b
-remarks_on _ speed b = []
+-- the remarks on a descriptor of this role, with the bytes of its set after it where they are all there
+unfoldable pub remarks_on : Role → Context → List ℕ → Option (List ℕ) → List Remark
+remarks_on roles.Association context b rest = there (class_remark (slice_index b 4))
+remarks_on roles.Interface context b rest = there (class_remark (slice_index b 5))
+remarks_on roles.Endpoint context b rest = typed_remarks context.speed (transfer_type_of (slice_index b 3)) b
+remarks_on roles.Raw context b rest = there (header_remark context.interface b rest)
+remarks_on _ context b rest = []

@@ -1,10 +1,12 @@
 //! The lines of the remarks on a descriptor.
 ghost use Rattle.std.specs.Prelude.{◌≡◌, ◌++◌, OnOk};
+ghost use Rattle.std.specs.Option.{option_copied};
 ghost use Rattle.std.specs.List.{flat_map};
 ghost use Rattle.usb_remarks.specs.Lines.{remark_line, remark_lines};
 ghost use Rattle.usb_remarks.specs.Remarks.{typed_remarks};
 
 use crate::bits::{attributes_remark, class_remark, multiple_remark};
+use crate::header::header_remark;
 use crate::interval::interval_remark;
 use crate::line::put_remark;
 use crate::packet::size_remark;
@@ -15,10 +17,10 @@ use usb_set::TransferType;
 use usb_text::Text;
 use usb_words::SetSpeed;
 
-/// Puts the lines of the remarks on a descriptor of these bytes.
+/// Puts the lines of the remarks on a descriptor of these bytes, with the bytes of its set after it where they are all there.
 ///
 /// ```rust
-/// put_remarks(&mut text, Role::Endpoint, &at_high_speed, &[7, 5, 0x81, 3, 8, 0, 17])?;
+/// put_remarks(&mut text, Role::Endpoint, &at_high_speed, &[7, 5, 0x81, 3, 8, 0, 17], None)?;
 /// assert_eq!(rt; text.as_bytes(), b"        ? an interrupt interval is 1 to 16 at high speed\n");
 /// ```
 ///
@@ -31,8 +33,9 @@ pub fn put_remarks(
     role: Role,
     context: &Context,
     bytes: &[u8],
+    rest: Option<&[u8]>,
 ) -> Result<(), AllocError>
-    ensures { OnOk result (text.new ≡ text.old ++ remark_lines role context.now bytes.now) }
+    ensures { OnOk result (text.new ≡ text.old ++ remark_lines role context.now bytes.now (option_copied rest.entry)) }
 {
     match role {
         Role::Association => put_remark(text, context.depth, class_remark(byte_at(bytes, 4))),
@@ -41,6 +44,11 @@ pub fn put_remarks(
             let transfer = TransferType::of(byte_at(bytes, 3));
             put_endpoint_remarks(text, context.depth, context.speed, transfer, bytes)
         }
+        Role::Raw => put_remark(
+            text,
+            context.depth,
+            header_remark(context.interface, bytes, rest),
+        ),
         _ => Ok(()),
     }
 }

@@ -1,13 +1,13 @@
 //! The lines of remarks.
 ghost use Rattle.std.specs.Prelude.{◌≡◌, ◌++◌, OnOk};
 ghost use Rattle.std.specs.List.{flat_map};
-ghost use Rattle.usb_remarks.specs.Lines.{a_type, interval_words, packet_words, remark_line, remark_words, size_words, type_name};
+ghost use Rattle.usb_remarks.specs.Lines.{a_type, interval_words, packet_words, remark_line, remark_words, size_words, total_words, type_name};
 ghost use Rattle.usb_remarks.specs.Remarks.{there};
 
 use crate::remark::{Range, Remark, Sizes};
 use std::alloc::AllocError;
 use usb_set::TransferType;
-use usb_text::Text;
+use usb_text::{Text, put_count};
 use usb_words::{SetSpeed, put_speed};
 
 fn type_name(transfer: TransferType) -> &'static str
@@ -77,6 +77,7 @@ fn put_words(text: &mut Text, remark: Remark) -> Result<(), AllocError>
         Remark::TypeBits => text.put("bits 5 to 2 of bmAttributes are reserved here"),
         Remark::HighBits => text.put("bits 7 to 6 of bmAttributes are reserved"),
         Remark::ReservedClass => text.put("class 0x00 is reserved for future use"),
+        Remark::TotalLength { declared, found } => put_total(text, declared, found),
     }
 }
 
@@ -137,4 +138,14 @@ fn put_size(text: &mut Text, sizes: Sizes) -> Result<(), AllocError>
         Sizes::EightTo64 => text.put("8, 16, 32 or 64"),
         Sizes::EightTo64Or512 => text.put("8, 16, 32, 64 or 512"),
     }
+}
+
+#[tactic(auto, unfolding(crate::specs::Lines::total_words))]
+fn put_total(text: &mut Text, declared: u16, found: usize) -> Result<(), AllocError>
+    ensures { OnOk result (text.new ≡ text.old ++ total_words declared found) }
+{
+    text.put("wTotalLength is ")?;
+    text.put_decimal(u64::from(declared))?;
+    text.put(", and the class descriptors have ")?;
+    put_count(text, found as u64, "byte")
 }

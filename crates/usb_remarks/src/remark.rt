@@ -53,4 +53,11 @@ pub enum Remark {
     HighBits,
     /// The class of an interface or of a function is 00.
     ReservedClass,
+    /// wTotalLength of a class header isn't the length of the class descriptors that it begins.
+    TotalLength {
+        /// wTotalLength.
+        declared: u16,
+        /// How many bytes they have.
+        found: usize,
+    },
 }

@@ -12,11 +12,11 @@ use Rattle.usb_remarks.specs.declared.remark.Sizes.{Sizes}
 use Rattle.usb_remarks.specs.declared.remark.Sizes.TheVariants.{NoEndpoint, Only, UpTo, EightTo64, EightTo64Or512}
 use Rattle.usb_remarks.specs.declared.remark.Remark.{Remark}
 use Rattle.usb_remarks.specs.declared.remark.Remark.TheVariants as remarks
-use Rattle.usb_remarks.specs.Lines.{a_type, interval_words, packet_words, remark_line, remark_words, size_words, type_name}
+use Rattle.usb_remarks.specs.Lines.{a_type, interval_words, packet_words, remark_line, remark_words, size_words, total_words, type_name}
 use Rattle.usb_listing_reader.proofs.PrintableLemmas.{Printable}
 use Rattle.usb_explain.specs.Lines.{IsLine}
 use Rattle.usb_explain.proofs.plain.Texts.{decimal_plain, ended, parts, spaces_plain}
-use Rattle.usb_explain.proofs.plain.Words.{speed_plain}
+use Rattle.usb_explain.proofs.plain.Words.{count_plain, speed_plain}
 
 name_plain : (transfer : TransferType) → Printable (type_name transfer)
 name_plain Control = refl
@@ -42,6 +42,10 @@ interval_plain : (transfer : TransferType) (speed : SetSpeed) (range : Range) �
 unfolding interval_words
 interval_plain transfer speed range = simp (parts, a_type_plain transfer, decimal_plain, speed_plain speed) refl
 
+total_plain : (declared found : ℕ) → Printable (total_words declared found)
+unfolding total_words
+total_plain declared found = simp (parts, decimal_plain, count_plain found (codes "byte") refl) refl
+
 words_plain : (remark : Remark) → Printable (remark_words remark)
 unfolding remark_words
 words_plain (remarks.Interval transfer speed range) = interval_plain transfer speed range
@@ -52,6 +56,7 @@ words_plain remarks.ReservedUsage = refl
 words_plain remarks.TypeBits = refl
 words_plain remarks.HighBits = refl
 words_plain remarks.ReservedClass = refl
+words_plain (remarks.TotalLength declared found) = total_plain declared found
 
 remark_is_line : (depth : ℕ) (remark : Remark) → IsLine (remark_line depth remark)
 unfolding remark_line
