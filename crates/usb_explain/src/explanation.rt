@@ -75,7 +75,7 @@ fn put_whole_end(
     put_last_line(text, findings)
 }
 
-/// Writes the explanation of bytes that are no input, as far as they go, and their fault.
+/// Writes the explanation of bytes that are no input, as far as they go, their fault, and what they look like.
 ///
 /// ```rust
 /// if let Err(fault) = read_input(alloc, &bytes) {

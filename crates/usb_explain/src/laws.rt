@@ -43,9 +43,10 @@ pub fn a_brief_explanation_leaves_out_the_fields()
     ensures broken { BrokenLeavesOutFields }
 {}
 
-/// A line is a line: in ASCII each heading, finding, remark and field is one, and so are the first line, that of the fault and
-/// the last one. It is printable ASCII (20 to 7e hexadecimal) up to its line feed, whatever the bytes of the input: nothing that
-/// a device says of itself reaches a terminal as a control character, or as a line of its own.
+/// A line is a line: in ASCII each heading, finding, remark and field is one, and so are the first line, those of the fault and
+/// of what the bytes look like, and the last one. It is printable ASCII (20 to 7e hexadecimal) up to its line feed, whatever
+/// the bytes of the input: nothing that a device says of itself reaches a terminal as a control character, or as a line of
+/// its own.
 pub fn each_line_is_one()
     ensures whole { WholeInLines }
     ensures broken { BrokenInLines }
