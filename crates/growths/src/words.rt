@@ -3,8 +3,9 @@ use crate::answer::{Answer, Call, refused, right};
 use std::alloc::{AllocError, Global};
 use usb_text::{Text, put_byte_code, put_count, put_release, put_word_code};
 use usb_words::{
-    Speed, put_attributes, put_class, put_class_words, put_end, put_interval, put_power,
-    put_protocol, put_size, put_speed, put_subclass,
+    SetSpeed, put_attributes, put_audio_terminal, put_bits, put_class, put_class_words, put_end,
+    put_frame_interval, put_guid, put_interval, put_power, put_protocol, put_size, put_speed,
+    put_subclass,
 };
 
 /// What is put.
@@ -27,10 +28,14 @@ enum Putting {
     Speed,
     Power,
     Interval,
+    FrameInterval,
+    Guid,
+    Terminal,
+    Bits,
 }
 
 /// The calls, on what descriptors of a boot mouse and of a camera say, with the words that they put.
-const PUTS: [(&str, Putting, &str); 17] = [
+const PUTS: [(&str, Putting, &str); 21] = [
     ("Text::put", Putting::Words, "endpoint "),
     ("Text::put_decimal", Putting::Decimal, "65535"),
     ("Text::put_digits", Putting::Digits, "0a09"),
@@ -60,10 +65,26 @@ const PUTS: [(&str, Putting, &str); 17] = [
         Putting::Interval,
         "10 ms; at high speed 64 ms",
     ),
+    (
+        "put_frame_interval",
+        Putting::FrameInterval,
+        "333333 (33.3333 ms)",
+    ),
+    (
+        "put_guid",
+        Putting::Guid,
+        "5955593200001000800000aa00389b71 (YUY2)",
+    ),
+    (
+        "put_audio_terminal",
+        Putting::Terminal,
+        "0x0201 (microphone)",
+    ),
+    ("put_bits", Putting::Bits, "0x06 (upload, bit 2)"),
 ];
 
 /// The calls, one after another.
-pub(crate) fn calls(alloc: Global) -> [Call; 17] {
+pub(crate) fn calls(alloc: Global) -> [Call; 21] {
     PUTS.map(|(name, putting, words)| (name, put_again(alloc, putting, words.as_bytes())))
 }
 
@@ -97,9 +118,13 @@ fn put_one(text: &mut Text, putting: Putting) -> Result<(), AllocError> {
         Putting::ClassWords => put_class_words(text, 3, 1, 2),
         Putting::End => put_end(text, 3, 0x81),
         Putting::Attributes => put_attributes(text, 5),
-        Putting::Size => put_size(text, Speed::High, 1, 0x1400),
-        Putting::Speed => put_speed(text, Speed::LowOrFull),
-        Putting::Power => put_power(text, Speed::Super, 50),
-        Putting::Interval => put_interval(text, Speed::FullOrHigh, 3, 10),
+        Putting::Size => put_size(text, SetSpeed::High, 1, 0x1400),
+        Putting::Speed => put_speed(text, SetSpeed::LowOrFull),
+        Putting::Power => put_power(text, SetSpeed::Super, 50),
+        Putting::Interval => put_interval(text, SetSpeed::FullOrHigh, 3, 10),
+        Putting::FrameInterval => put_frame_interval(text, &[0x15, 0x16, 5, 0]),
+        Putting::Guid => put_guid(text, b"YUY2\0\0\x10\0\x80\0\0\xaa\0\x38\x9b\x71"),
+        Putting::Terminal => put_audio_terminal(text, &[1, 2]),
+        Putting::Bits => put_bits(text, &["download", "upload"], 6),
     }
 }
