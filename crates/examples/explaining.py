@@ -253,9 +253,9 @@ def endpoint_remarks(d, speed):
 
 def total_length_at(codes):
     """Where the header of an interface's class descriptors has wTotalLength, or None."""
-    if codes[0] == 1 and codes[2] in (0x20, 0x30):
-        return 6 if tuple(codes[1:]) == (1, 0x20) else None
-    return 5 if tuple(codes[:2]) in ((1, 1), (1, 3), (14, 1)) else None
+    if tuple(codes[:2]) == (1, 1):
+        return {0x20: 6, 0x30: None}.get(codes[2], 5)
+    return 5 if tuple(codes[:2]) == (14, 1) else None
 
 
 def header_remarks(d, codes, later):

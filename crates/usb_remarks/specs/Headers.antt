@@ -1,5 +1,5 @@
 -- What is remarked of a class header: that its wTotalLength isn't the length of the class descriptors that it begins.
-use Rattle.std.specs.Prelude.{ℕ, ◌+◌, List, length, slice_index, Bool, not, nat_lt, ◌==◌, ◌&&◌, ◌||◌, Option, Some, None, option_and_then, if◌then◌else◌}
+use Rattle.std.specs.Prelude.{ℕ, ◌+◌, List, length, slice_index, Bool, not, nat_lt, ◌==◌, ◌&&◌, Option, Some, None, option_and_then, if◌then◌else◌}
 use Rattle.std.specs.List.{sum_by, take_while}
 use Rattle.usb_base.specs.Bytes.{little_endian_at}
 use Rattle.usb_names.specs.declared.codes.ClassCodes.{ClassCodes}
@@ -11,17 +11,17 @@ use Rattle.usb_remarks.specs.declared.remark.Remark.TheVariants as remarks
 abbrev pub is_of : ℕ → ℕ → ClassCodes → Bool
 is_of class subclass codes = (codes.class == class) && (codes.subclass == subclass)
 
--- Audio 2.0 or 3.0, by the protocol
-abbrev pub is_later_audio : ClassCodes → Bool
-is_later_audio codes = (codes.class == 0x01) && ((codes.protocol == 0x20) || (codes.protocol == 0x30))
+-- The place of wTotalLength in a header of audio control, by the protocol: of Audio 2.0, which is 20, and of Audio 1.0. Those of
+-- Audio 3.0, which is 30, are left out.
+abbrev pub audio_place : ℕ → Option ℕ
+audio_place protocol = if protocol == 0x20 then Some 6 else if protocol == 0x30 then None else Some 5
 
--- The place of wTotalLength in the header: audio control of Audio 2.0 (4.7.2); and of Audio 1.0 (4.3.2), MIDI streaming (MIDI
--- 1.0, 6.1.2.1) and video control (UVC 1.1, 3.7.2). Headers of Audio 3.0 are left out.
+-- The same by the interface: audio control and video control. MIDI streaming is left out, since the example of its standard
+-- counts endpoints too (MIDI 1.0, 6.1.2.1 and appendix B).
 abbrev pub total_length_place : ClassCodes → Option ℕ
 total_length_place codes =
-    if is_of 0x01 0x01 codes && (codes.protocol == 0x20) then Some 6
-    else if is_later_audio codes then None
-    else if is_of 0x01 0x01 codes || is_of 0x01 0x03 codes || is_of 0x0e 0x01 codes then Some 5
+    if is_of 0x01 0x01 codes then audio_place codes.protocol
+    else if is_of 0x0e 0x01 codes then Some 5
     else None
 
 -- a descriptor of type CS_INTERFACE

@@ -2,7 +2,7 @@
 ghost use Rattle.std.specs.Prelude.{◌≡◌, ◌≤◌, length};
 ghost use Rattle.std.specs.Option.{option_copied};
 ghost use Rattle.usb_words.specs.Cut.{descriptors};
-ghost use Rattle.usb_remarks.specs.Headers.{class_length, header_place, header_remark, is_class_descriptor, is_header, is_later_audio, is_of, total_length_place, total_remark};
+ghost use Rattle.usb_remarks.specs.Headers.{audio_place, class_length, header_place, header_remark, is_class_descriptor, is_header, is_of, total_length_place, total_remark};
 
 use crate::remark::Remark;
 use usb_base::{after, byte_at, prefix, word_at};
@@ -15,23 +15,24 @@ fn is_of(class: u8, subclass: u8, codes: ClassCodes) -> bool
     codes.class == class && codes.subclass == subclass
 }
 
-/// Whether a class of audio is Audio 2.0 or 3.0.
-fn is_later_audio(codes: ClassCodes) -> bool
-    ensures { result ≡ is_later_audio codes }
+/// The place of wTotalLength in a header of audio control, by the protocol: of Audio 2.0 (4.7.2) and of Audio 1.0 (4.3.2).
+fn audio_place(protocol: u8) -> Option<u8>
+    ensures { result ≡ audio_place protocol }
 {
-    codes.class == 0x01 && (codes.protocol == 0x20 || codes.protocol == 0x30)
+    match protocol {
+        0x20 => Some(6),
+        0x30 => None,
+        _ => Some(5),
+    }
 }
 
-/// The place of wTotalLength in a header: audio control of Audio 2.0 (4.7.2); and of Audio 1.0 (4.3.2), MIDI streaming (MIDI
-/// 1.0, 6.1.2.1) and video control (UVC 1.1, 3.7.2).
+/// The same by the interface: audio control and video control (UVC 1.1, 3.7.2).
 fn total_length_place(codes: ClassCodes) -> Option<u8>
     ensures { result ≡ total_length_place codes }
 {
-    if is_of(0x01, 0x01, codes) && codes.protocol == 0x20 {
-        Some(6)
-    } else if is_later_audio(codes) {
-        None
-    } else if is_of(0x01, 0x01, codes) || is_of(0x01, 0x03, codes) || is_of(0x0e, 0x01, codes) {
+    if is_of(0x01, 0x01, codes) {
+        audio_place(codes.protocol)
+    } else if is_of(0x0e, 0x01, codes) {
         Some(5)
     } else {
         None
