@@ -12,7 +12,7 @@ use Rattle.usb_c.specs.declared.answer.Verdict.TheVariants as verdicts
 use Rattle.usb_c.specs.Buffers.{Fills}
 use Rattle.usb_c.specs.Refusals.{refused_set}
 
--- a new decoder is held, or none where memory is wanting
+-- a new decoder is held, or none when out of memory
 abbrev pub OpensNew : Option Decoding → Verdict → Type 0
 OpensNew new (verdicts.Done length) = (length ≡ 0) × (new ≡ Some (gathers []))
 OpensNew new verdicts.NoMemory = new ≡ None

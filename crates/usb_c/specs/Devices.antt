@@ -65,7 +65,7 @@ abbrev pub setup_told : Option Setup → UsbSetup → UsbSetup
 setup_told None old = old
 setup_told (Some q) old = record { bytes = setup_bytes q }
 
--- what is told of an answer to the request that is refused
+-- what is reported of an answer to the request that is refused
 abbrev pub taken_or : Option Unanswered → Verdict
 taken_or None = verdicts.Done 0
 taken_or (Some why) = verdicts.Unanswered why

@@ -53,7 +53,7 @@ outcome_numbers run = record {
   language = (trouble_numbers run.outcome).language;
 }
 
--- after success the listing of the file that was read is in the buffer, and else the trouble is told
+-- after success the listing of the file that was read is in the buffer, and else the trouble is reported
 abbrev pub TellsRun : Result DescriptorFile Trouble → List ℕ → List ℕ → Verdict → Type 0
 TellsRun (Ok f) old new verdict = Fills verdicts.Done (file_lines f) old new verdict
 TellsRun (Err trouble) old new verdict = (verdict ≡ verdicts.Trouble trouble) × (new ≡ old)
@@ -90,7 +90,7 @@ abbrev pub wrong_number : Option Speed → ℕ → List ℕ → Option ℕ
 wrong_number None attempts letters = Some 3
 wrong_number (Some speed) attempts letters = wrong_limits (limit_fault 1 attempts) (list_all is_fate letters)
 
--- a number that has no meaning is told, and else the enumeration
+-- a number that has no meaning is reported, and else the enumeration
 abbrev pub EnumeratesWith : Option ℕ → Option Speed → List ℕ → LimitView → List Fate → UsbOutcome → UsbOutcome → List ℕ → List ℕ → Verdict → Type 0
 EnumeratesWith (Some wrong) speed b limits lost told outcome old new verdict =
     (verdict ≡ verdicts.BadArgument wrong) × (outcome ≡ told) × (new ≡ old)

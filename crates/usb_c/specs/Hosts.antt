@@ -12,7 +12,7 @@ use Rattle.usb_owned_device.specs.declared.transaction.UsbTransaction.{UsbTransa
 use Rattle.usb_c.specs.Outcomes.{EndsWith}
 use Rattle.usb_owned_device.specs.Transactions.{transaction_of}
 
--- limits that are refused, or a new host with these limits, or memory is wanting
+-- limits that are refused, or a new host with these limits, or out of memory
 abbrev pub OpensAt : ℕ → ℕ → ℕ → Speed → Option HostView → Verdict → Type 0
 OpensAt address naks attempts speed new (verdicts.Done length) =
     (length ≡ 0) × (limit_fault address attempts ≡ None)

@@ -40,14 +40,14 @@ pub record PutsFile (f : DescriptorFile) (old new : List ℕ) (verdict : Verdict
   pub file : File f bytes
   pub fills : Fills verdicts.Done bytes old new verdict
 
--- or the file has none, and this is why; or memory is wanting
+-- or the file has none, and this is why; or out of memory
 abbrev pub TellsFile : DescriptorFile → List ℕ → List ℕ → Verdict → Type 0
 TellsFile f old new verdict =
     PutsFile f old new verdict
     ⊎ (((why : WriteFault) × (verdict ≡ verdicts.Unwritten why) × (write_refusal f ≡ Some why) × (new ≡ old))
     ⊎ ((verdict ≡ verdicts.NoMemory) × (new ≡ old)))
 
--- the outcome: none yet, or the file, or the trouble. What isn't told of stays.
+-- the outcome: none yet, or the file, or the trouble. What isn't reported stays.
 abbrev pub EndsWith : Option (Result DescriptorFile Trouble) → UsbTrouble → UsbTrouble → List ℕ → List ℕ → Verdict → Type 0
 EndsWith None told now old new verdict = (verdict ≡ verdicts.Open 0) × (now ≡ told) × (new ≡ old)
 EndsWith (Some (Ok f)) told now old new verdict = TellsFile f old new verdict × (now ≡ told)

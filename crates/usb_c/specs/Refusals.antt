@@ -1,4 +1,4 @@
--- How faults are told: want of memory is no fault of the bytes.
+-- How faults are reported: out of memory is no fault of the bytes.
 use Rattle.std.specs.Prelude.{◌≡◌, ℕ, Bool, true, false, List, Some}
 use Rattle.usb_base.specs.declared.speed.Speed.{Speed}
 use Rattle.usb_file_data.specs.File.{File}

@@ -27,7 +27,7 @@ input_lines (inputs.Set set) = set_lines set
 input_lines (inputs.File file) = file_lines file
 input_lines (inputs.Dump file) = file_lines file
 
--- the bytes show this fault, or memory is wanting
+-- the bytes show this fault, or out of memory
 abbrev pub Refuses : List ℕ → Verdict → Type 0
 Refuses b (verdicts.Broken fault length) = InputFaulty b fault × (length ≡ 0)
 Refuses b verdicts.NoMemory = Unit {0}
@@ -68,13 +68,13 @@ manner_told options speed =
       speed = running_speed_told speed;
     }
 
--- the explanation of bytes that show this fault is in the buffer, and both are told
+-- the explanation of bytes that show this fault is in the buffer, and both are reported
 pub record TellsBroken (m : Manner) (b old new : List ℕ) (verdict : Verdict) : Type 0 where
   pub fault : InputFault
   pub shows : InputFaulty b fault
   pub fills : Fills (verdicts.Broken fault) (broken_explanation m fault b) old new verdict
 
--- the bytes are explained: as an input, or as far as they go; or memory is wanting
+-- the bytes are explained: as an input, or as far as they go; or out of memory
 abbrev pub Explains : Manner → List ℕ → List ℕ → List ℕ → Verdict → Type 0
 Explains m b old new verdict =
     TellsInput (λ input. explanation m input b) b old new verdict

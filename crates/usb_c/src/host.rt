@@ -72,7 +72,7 @@ pub extern "C" fn usb_host_next(
     ensures held { host.new.held ≡ host.old.held }
     ensures action { result ≡ action_number (option_map (λ v. wanted v.phase) host.old.held) }
     ensures due { transaction.new ≡ transaction_due (option_map (λ v. wanted v.phase) host.old.held) transaction.old }
-    // With no bytes what is told is the whole transaction.
+    // With no bytes what is reported is the whole transaction.
     ensures whole { (sent : Sent) → option_map (λ v. wanted v.phase) host.old.held ≡ Some (WantsSent sent) → sent_told transaction.new [] ≡ Some sent }
 {
     let Some(held) = replace(host, UsbHost::empty(alloc)).into_box() else {

@@ -8,7 +8,7 @@ use usb_file::{FileFault, FileWhy, InputFault};
 use usb_listing_reader::{ListFault, ListWhy};
 use usb_set::{SetFault, SetWhy};
 
-/// How the fault of a set is reported: want of memory is no fault of the bytes.
+/// How the fault of a set is reported: out of memory is no fault of the bytes.
 pub(crate) fn refused_set(fault: SetFault) -> Verdict
     ensures { result ≡ refused_set fault }
 {

@@ -1,5 +1,5 @@
 -- Answers beside the table of standard requests. A SETUP is acknowledged whatever it asks for (8.4.6.4), and a refusal is
--- told by the STALL of the IN or OUT after it (8.5.3.4): in between the device's owner may answer the request.
+-- reported by the STALL of the IN or OUT after it (8.5.3.4): in between the device's owner may answer the request.
 use Rattle.std.specs.Prelude.{ℕ, ◌==◌, ◌&&◌, ◌||◌, ◌/◌, nat_lt, Bool, true, false, not, if◌then◌else◌, List, length, take, Option, Some, None}
 use Rattle.usb_base.specs.declared.direction.Direction.{Direction}
 use Rattle.usb_base.specs.declared.direction.Direction.TheVariants as directions
@@ -87,7 +87,7 @@ otherwise Refused second = second
 abbrev pub beside : ℕ → (State → Setup → Outcome) → (State → Setup → Response) → State → Setup → Outcome
 beside room table respond s q = otherwise (table s q) (kept_to room s q (respond s q))
 
--- the request that is refused, and whose refusal the host was not told yet
+-- the request that is refused, and whose refusal the host was not informed of
 abbrev pub refused_in : DeviceStage → Option Setup
 refused_in Idle = None
 refused_in (Halted refused) = refused

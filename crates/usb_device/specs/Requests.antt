@@ -136,7 +136,7 @@ abbrev pub status_of_device : DescriptorFile → State → Setup → Outcome
 status_of_device f s q =
     when (has_address s && (q.index == 0)) (tells q ((shown_attributes f s / 64 % 2 + 2 * one_if s.wakeup) ∷ 0 ∷ []))
 
--- GET_STATUS of an interface: nothing is told (9.4.5, figure 9-5)
+-- GET_STATUS of an interface: nothing is said (9.4.5, figure 9-5)
 abbrev pub status_of_interface : DescriptorFile → State → Setup → Outcome
 status_of_interface f s q = when (is_configured s && names_interface f s q.index) (tells q (0 ∷ 0 ∷ []))
 

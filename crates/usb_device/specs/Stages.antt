@@ -20,7 +20,7 @@ source_bytes f Kept kept = kept
 abbrev pub data_bytes : DescriptorFile → DataStage → List ℕ
 data_bytes f d = take d.count (source_bytes f d.source d.kept)
 
--- the stage, where this is the data stage or that the request, which is settled or not: carried out, or its refusal told
+-- the stage, where this is the data stage or that the request, which is settled or not: carried out, or its refusal reported
 abbrev pub stage_of : DescriptorFile → Stage → DataStage → Setup → Bool → DeviceStage
 stage_of f stages.Idle d request settled = Idle
 stage_of f stages.Halted d request settled = Halted (if settled then None else Some request)

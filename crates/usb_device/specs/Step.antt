@@ -12,7 +12,7 @@ use Rattle.usb_device.specs.States.{zero}
 use Rattle.usb_device.specs.Requests.{Outcome, Bytes, Done, Refused}
 
 -- Where a device stands in a transfer: in none, in one that it refuses, in a data stage, in the status stage that follows
--- it, past that, or in the status stage of this request. A refused request is named until the host is told. A data stage
+-- it, past that, or in the status stage of this request. A refused request is named until the host is informed. A data stage
 -- answers with these bytes to a request for `limit` bytes, and `acked` of its packets were acknowledged. A request without
 -- a data stage was carried out, or not yet.
 pub data DeviceStage : Type 0 where

@@ -116,7 +116,7 @@ heard_words t reply Completes = codes "complete"
 heard_words t reply (Fails why) = failure_words t why
 
 -- What the host has: what its transfer has made of the reply. A transfer that completes may end the enumeration, by what
--- it brought, and want of memory ends it anywhere.
+-- it brought, and out of memory ends it anywhere.
 abbrev pub host_words : TransferView → Reply → Hearing → Option Why → List ℕ
 host_words t reply heard (Some Memory) = codes "out of memory"
 host_words t reply heard (Some Malformed) = heard_words t reply heard ++ codes ": malformed"

@@ -5,7 +5,7 @@
 //!
 //! - A success has read just the descriptors of the device, whatever was lost on the way.
 //! - Any other end has a cause: for each attempt a loss of its own, or one busy transaction more than the NAK limit;
-//!   or want of memory.
+//!   or out of memory.
 //! - There are at most as many attempts and transactions as the limits allow.
 //!
 //! [`step`] is one step of it, for a caller that looks at both ends on the way, and [`step_seen`] shows an [`Observer`]

@@ -181,7 +181,7 @@ impl<W: Write> Steps<W> for Log {
 ///
 /// `Write` where the writer failed, and `Memory` where the lines of a step took more memory than there is. The
 /// enumeration ends then. Its log was written up to that step, and of the step's lines a prefix, which lacks at
-/// least their last byte; of those that memory was wanting for, nothing. Want of memory of the host is no error: it ends
+/// least their last byte; of those that memory was wanting for, nothing. Out of memory in the host is no error: it ends
 /// the enumeration.
 pub fn enumerate_logged<W: Write>(
     alloc: Global,

@@ -1,4 +1,4 @@
--- What is told of a descriptor that breaks a rule, right under its heading.
+-- What is reported of a descriptor that breaks a rule, right under its heading.
 use Rattle.std.specs.Prelude.{ℕ, ◌-◌, ◌/◌, ◌%◌, List, length, slice_index, take, drop, flat_map, Bool, not, nat_le, ◌==◌, ◌&&◌, Option, Some, None, is_some, unwrap_or, [], if◌then◌else◌}
 use Rattle.std.specs.List.{take_while}
 use Rattle.std.specs.Option.{option_map}
@@ -85,7 +85,7 @@ abbrev pub association_told : List ℕ → Rule → Option Told
 association_told d rules.V13 = Some (if slice_index d 3 == 0 then told.NoInterface else told.MissingInterface)
 association_told d _ = None
 
--- at an interface, with the bytes of its set behind it: V3, V4 and V5
+-- at an interface, with the bytes of its set after it: V3, V4 and V5
 abbrev pub interface_told : List ℕ → List ℕ → Rule → Option Told
 interface_told d behind rules.V3 = Some told.RepeatedSetting
 interface_told d behind rules.V4 = Some told.NoDefaultSetting
@@ -104,7 +104,7 @@ endpoint_told d rules.V8 = Some told.SharedAddress
 endpoint_told d rules.V12 = Some told.PacketSize
 endpoint_told d _ = None
 
--- what is told at a descriptor of this role, with the bytes behind it, that breaks a rule which one of this role can
+-- what is reported at a descriptor of this role, with the bytes after it, that breaks a rule which one of this role can
 unfoldable pub told_at : Bool → Standing → Role → List ℕ → List ℕ → Rule → Option Told
 told_at is_dump s Device d behind rule = device_told is_dump d rule
 told_at is_dump s Qualifier d behind rule = qualifier_told d rule
@@ -148,7 +148,7 @@ abbrev pub is_same_place : Finding → Finding → Bool
 is_same_place f g =
     (part_number f.part == part_number g.part) && ((f.set == g.set) && ((f.setting == g.setting) && (f.endpoint == g.endpoint)))
 
--- what is told of a finding at a descriptor of this role, if it is one of this descriptor
+-- what is reported of a finding at a descriptor of this role, if it is one of this descriptor
 unfoldable pub told_of : Bool → Standing → Role → List ℕ → List ℕ → Finding → Option Told
 told_of is_dump s role d behind f =
     if is_same_place f (finding_at s role f.rule) then told_at is_dump s role d behind f.rule else None
@@ -157,7 +157,7 @@ told_of is_dump s role d behind f =
 abbrev pub is_here : Bool → Standing → Role → List ℕ → List ℕ → Finding → Bool
 is_here is_dump s role d behind f = is_some (told_of is_dump s role d behind f)
 
--- the findings of a descriptor: those of it with which the ones that aren't told yet begin
+-- the findings of a descriptor: those of it with which the ones that aren't reported yet begin
 unfoldable pub found_at : Subject → Standing → Role → List ℕ → List ℕ → List Finding
 found_at subject s role d behind = take_while (is_here subject.is_dump s role d behind) (drop s.told subject.found)
 

@@ -1,4 +1,4 @@
--- How it stands behind a descriptor.
+-- How it stands after a descriptor.
 use Rattle.std.specs.Prelude.{ℕ, ◌+◌, ◌-◌, List, length, slice_index, true, Option, Some, None}
 use Rattle.usb_base.specs.Bytes.{little_endian_at}
 use Rattle.usb_rules.specs.declared.finding.Part.{Part}
@@ -42,7 +42,7 @@ noted Raw d s = s
 noted Languages d s = record s { has_languages = true }
 noted Text d s = record s { strings = s.strings + 1 }
 
--- so many findings are told
+-- so many findings are reported
 abbrev pub with_told : ℕ → Standing → Standing
 with_told n s = record s { told = n }
 
@@ -50,6 +50,6 @@ with_told n s = record s { told = n }
 abbrev pub moved : ℕ → Standing → Standing
 moved n s = record s { at = s.at + n; left = s.left - n }
 
--- behind a descriptor of this role
+-- after a descriptor of this role
 abbrev pub passed : Role → List ℕ → Standing → Standing
 passed role d s = moved (length d) (noted role d s)

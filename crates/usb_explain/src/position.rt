@@ -37,7 +37,7 @@ pub(crate) struct Standing {
     pub(crate) other_sets: usize,
     /// How many bytes of the set are left from here on; none outside of sets.
     pub(crate) left: usize,
-    /// How many findings were told.
+    /// How many findings were reported.
     pub(crate) told: usize,
     /// The set that it is in, or the last one before it.
     pub(crate) set: SetStanding,

@@ -11,7 +11,7 @@ use usb_rules::Part;
 use usb_words::speed_of_device;
 
 impl Standing {
-    /// Keeps how many findings are told.
+    /// Keeps how many findings are reported.
     pub(crate) fn tell(&mut self, told: usize)
         ensures { self.new ≡ with_told told self.old }
     {

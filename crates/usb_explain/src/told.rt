@@ -15,8 +15,8 @@ use usb_text::Text;
 use usb_words::endpoint_count;
 
 impl Standing {
-    /// Puts a line for each finding of a descriptor of this role, with which those that aren't told yet begin. Answers how
-    /// many are told then.
+    /// Puts a line for each finding of a descriptor of this role, with which those that aren't reported yet begin. Answers how
+    /// many are reported then.
     #[tactic(auto, unfolding(crate::specs::Findings::role_findings, crate::specs::Findings::found_at))]
     pub(crate) fn put_findings(
         &self,
@@ -42,7 +42,7 @@ impl Standing {
         Ok(told)
     }
 
-    /// What is told of a finding, if it is one of this descriptor.
+    /// What is reported of a finding, if it is one of this descriptor.
     #[tactic(auto, unfolding(crate::specs::Findings::told_of))]
     fn told(
         &self,
@@ -61,7 +61,7 @@ impl Standing {
         }
     }
 
-    /// What is told of a descriptor that breaks this rule, if one of its role can.
+    /// What is reported of a descriptor that breaks this rule, if one of its role can.
     #[tactic(auto, unfolding(crate::specs::Findings::told_at))]
     fn told_at(
         &self,
@@ -222,7 +222,7 @@ fn qualifier_told(d: &[u8], rule: Rule) -> Option<Told>
     }
 }
 
-/// V10 of a part of so many sets, told before them.
+/// V10 of a part of so many sets, reported before them.
 fn none_told(count: u8) -> Option<Told>
     ensures { result ≡ none_told count }
 {
@@ -327,7 +327,7 @@ fn association_told(d: &[u8], rule: Rule) -> Option<Told>
     }
 }
 
-/// What is told of an interface with these bytes of its set after it.
+/// What is reported of an interface with these bytes of its set after it.
 fn interface_told(d: &[u8], behind: &[u8], rule: Rule) -> Option<Told>
     ensures { result ≡ interface_told d.now behind.now rule }
 {

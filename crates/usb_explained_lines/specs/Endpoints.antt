@@ -7,7 +7,7 @@ use Rattle.usb_words.specs.Endpoints.{attributes_words, size_words}
 use Rattle.usb_words.specs.Speeds.{interval_at, is_periodic}
 use Rattle.usb_explained_lines.specs.Values.{address_value}
 
--- the interval of a periodic endpoint behind the other words
+-- the interval of a periodic endpoint after the other words
 unfoldable pub interval_words : SetSpeed → ℕ → ℕ → List ℕ
 interval_words speed attributes interval =
     if is_periodic (transfer_type_of attributes) then codes ", " ++ interval_at speed (transfer_type_of attributes) interval else []

@@ -48,7 +48,7 @@ report_words type =
     else if type == 35 then byte_code type ++ codes " (physical)"
     else byte_code type
 
--- The words of a field of this form and this width at a place of a descriptor. A subclass stands behind its class and before
+-- The words of a field of this form and this width at a place of a descriptor. A subclass stands after its class and before
 -- its protocol, and bmAttributes of an endpoint at 3 (USB 2.0, 9.6). A byte that isn't there is read as 0.
 unfoldable pub form_words : SetSpeed → StringNames → Form → ℕ → List ℕ → ℕ → List ℕ
 form_words speed strings Decimal width b place = decimal_words (take width (drop place b))

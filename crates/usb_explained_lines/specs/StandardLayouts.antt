@@ -1,4 +1,4 @@
--- The fields of the standard's descriptors behind bDescriptorType, each with the form of its number (USB 2.0, 9.6).
+-- The fields of the standard's descriptors after bDescriptorType, each with the form of its number (USB 2.0, 9.6).
 use Rattle.std.specs.Prelude.{ℕ, List, [], ◌∷◌, ◌++◌, codes, ◌==◌, ◌&&◌, Bool, false, Option, Some, None, if◌then◌else◌}
 use Rattle.usb_base.specs.Fields as standard
 use Rattle.usb_fields.specs.Device.{device_fields}
@@ -16,7 +16,7 @@ fields_in (standard.byte name number ∷ fields) (form ∷ forms) = record { nam
 fields_in (standard.word name number ∷ fields) (form ∷ forms) = record { name = name; width = 2; form = form } ∷ fields_in fields forms
 fields_in fields forms = []
 
--- a descriptor of these fields, behind which there may be a tail
+-- a descriptor of these fields, after which there may be a tail
 abbrev pub with_tail : List Field → Layout
 with_tail fields = record { fields = fields; group = []; rest = codes "tail" }
 
@@ -51,7 +51,7 @@ abbrev pub is_audio : Option ClassCodes → Bool
 is_audio None = false
 is_audio (Some codes) = codes.class == 1
 
--- An endpoint of so many bytes, after an interface of these codes. Two bytes behind the fields of an audio endpoint are bRefresh and bSynchAddress (audio 1.0,
+-- An endpoint of so many bytes, after an interface of these codes. Two bytes after the fields of an audio endpoint are bRefresh and bSynchAddress (audio 1.0,
 -- 4.6.1.1 and 4.6.2.1).
 abbrev pub endpoint_layout : Option ClassCodes → ℕ → Layout
 endpoint_layout interface n =

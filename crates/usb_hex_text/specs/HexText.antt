@@ -135,7 +135,7 @@ pub record HexText (text bytes : List ℕ) : Type 0 where
 abbrev pub is_line_feed : ℕ → Bool
 is_line_feed c = c == 10
 
--- the column behind a text that begins in this one
+-- the column after a text that begins in this one
 unfoldable pub column_after : ℕ → List ℕ → ℕ
 column_after column [] = column
 column_after column (c ∷ rest) = column_after (if c == 10 then 1 else column + 1) rest
@@ -154,6 +154,6 @@ pub record HexFaulty (text : List ℕ) (fault : HexFault) : Type 0 where
   pub wrong : (0 < length left) ⊎ (bytes ≡ [])
   pub place : fault ≡ fault_at text left
 
--- why a text is not read: so it is, or memory is wanting
+-- why a text is not read: so it is, or out of memory
 abbrev pub HexRefused : List ℕ → HexFault → Type 0
 HexRefused text fault = (fault ≡ faults.Memory) ⊎ HexFaulty text fault

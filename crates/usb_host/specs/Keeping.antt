@@ -17,7 +17,7 @@ abbrev pub nothing_kept : Place → Kept
 nothing_kept (places.Set kind f total) = Set (gathers []) false
 nothing_kept _ = Bytes []
 
--- a decoder was told that memory is wanting
+-- a decoder was refused memory
 abbrev pub WantsMemory : Result Progress SetFault → Type 0
 WantsMemory (Ok progress) = ⊥
 WantsMemory (Err fault) = fault.why ≡ Memory

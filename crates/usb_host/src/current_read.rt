@@ -83,7 +83,7 @@ impl Reading {
         self.due = due;
     }
 
-    /// What is due after a read that has ended, or the end where memory is wanting.
+    /// What is due after a read that has ended, or the end when out of memory.
     fn lead(&mut self, alloc: Global, speed: Speed, ending: Ending) -> Due
         requires good { IsGood (place_in self.old) }
         ensures leads { LeadsOn speed (place_in self.old) self.old.transfer (kept_in self.old) ending (place_of result self.new.draft) }

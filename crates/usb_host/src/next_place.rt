@@ -254,7 +254,7 @@ fn read_on(
     }
 }
 
-/// Where a read leads to, or the end where memory is wanting.
+/// Where a read leads to, or the end when out of memory.
 #[tactic(auto, using(crate::proofs::PlaceLemmas::settles_there))]
 fn lead_read(
     alloc: Global,
@@ -285,7 +285,7 @@ fn lead_done(due: Due, draft: &Draft) -> Due
 }
 
 /// Where a request leads to that was refused: a device without a second speed refuses to give a qualifier. Or the end
-/// where memory is wanting.
+/// when out of memory.
 pub(crate) fn lead_refused(alloc: Global, due: Due, draft: &mut Draft) -> Due
     requires { IsGood (place_of due draft.old) }
     ensures { Leads (Fails Stalled) (place_of due draft.old) (refused_leads (place_of due draft.old)) (place_of result draft.new) }
@@ -296,7 +296,7 @@ pub(crate) fn lead_refused(alloc: Global, due: Due, draft: &mut Draft) -> Due
     }
 }
 
-/// Where a transfer leads to that has completed, or the end where memory is wanting. What was kept is of no more use.
+/// Where a transfer leads to that has completed, or the end when out of memory. What was kept is of no more use.
 pub(crate) fn lead_completed(
     alloc: Global,
     speed: Speed,

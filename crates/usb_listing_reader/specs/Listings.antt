@@ -46,7 +46,7 @@ NoLineGoesOn (x ∷ more) = (is_printable x ≡ false) × (x ≢ 10)
 abbrev pub LineFaulty : List ℕ → Type 0
 LineFaulty rest = (line more : List ℕ) × (rest ≢ []) × (rest ≡ line ++ more) × (list_all is_printable line ≡ true) × NoLineGoesOn more
 
--- What is wrong with a line of printable text behind the lines so far. Its first word is none; or a line with this word may
+-- What is wrong with a line of printable text after the lines so far. Its first word is none; or a line with this word may
 -- not stand there; or it may, and the line says no descriptor; or it says one with which a set has over 65,535 bytes.
 abbrev pub SaysNone : Option DescriptorFile → List ℕ → ListWhy → Type 0
 SaysNone so_far line whys.Word = (word : Word) → first_word line ≢ word_text word
@@ -69,7 +69,7 @@ abbrev pub is_whole : Option DescriptorFile → Bool
 is_whole None = false
 is_whole (Some f) = is_none (write_refusal f)
 
--- the fault of the text behind the lines so far, by the reason; of Missing, that the text ends and something is still due
+-- the fault of the text after the lines so far, by the reason; of Missing, that the text ends and something is still due
 abbrev pub RestFaulty : Option DescriptorFile → List ℕ → ListWhy → Type 0
 RestFaulty so_far rest whys.Line = LineFaulty rest
 RestFaulty so_far rest whys.Missing = (rest ≡ []) × (is_whole so_far ≡ false)
@@ -95,7 +95,7 @@ pub record IsLineStart (text : List ℕ) (line : ℕ) : Type 0 where
   pub rest : List ℕ
   pub begins : Begins text so_far rest line
 
--- Want of memory is told of a line that was reached, and else the first fault.
+-- Out of memory is reported of a line that was reached, and else the first fault.
 abbrev pub ListRefused : List ℕ → ℕ → ListWhy → Type 0
 ListRefused text line whys.Memory = IsLineStart text line
 ListRefused text line why = ListFaulty text line why

@@ -68,12 +68,12 @@ abbrev pub items_of : Option DescriptorFile → List Item
 items_of None = []
 items_of (Some f) = file_items f
 
--- The file has the descriptors so far and this one behind them.
+-- The file has the descriptors so far and this one after them.
 pub record IsOneMore (so_far : Option DescriptorFile) (item : Item) (f : DescriptorFile) : Type 0 where
   pub ordered : IsOrdered f
   pub items : file_items f ≡ items_of so_far ++ item ∷ []
 
--- a line with this word may stand next: some file has the descriptors so far and one of this word behind them
+-- a line with this word may stand next: some file has the descriptors so far and one of this word after them
 pub record MayStand (so_far : Option DescriptorFile) (word : Word) : Type 0 where
   pub item : Item
   pub file : DescriptorFile

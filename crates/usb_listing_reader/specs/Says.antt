@@ -60,7 +60,7 @@ IsItem (fields word b) = AreBytes b × IsOfRow (row_for word) b × (is_typed_raw
 IsItem (languages us) = AreBytes (units_bytes us) × (us ≢ [])
 IsItem (string us) = AreBytes (units_bytes us)
 
--- the line of the bytes behind bLength, by the row
+-- the line of the bytes after bLength, by the row
 abbrev pub fields_line : Option Row → List ℕ → List ℕ
 fields_line None b = []
 fields_line (Some row) b = row_line row (drop 1 b)

@@ -1,4 +1,4 @@
--- Descriptors of classes by name, and their fields. They stand in a set behind the interface or the endpoint whose class
+-- Descriptors of classes by name, and their fields. They stand in a set after the interface or the endpoint whose class
 -- defines them.
 use Rattle.std.specs.Prelude.{ℕ, List, [], ◌∷◌, ◌++◌, Option, Some, None, option_map, ◌==◌, if◌then◌else◌, ◌&&◌, codes, slice_get, Bool, true, false}
 use Rattle.std.specs.List.{find}
@@ -58,7 +58,7 @@ abbrev pub firmware_upgrade : List ℕ → Field
 firmware_upgrade name = record { name = name; width = 1; form = FirmwareUpgrade }
 
 -- a descriptor of a class: the subclass, the protocol and the first two bytes of the body that it is known by (none: any),
--- its type, its name, its fields behind bDescriptorType, and the fields that repeat behind those
+-- its type, its name, its fields after bDescriptorType, and the fields that repeat after those
 pub record Row : Type 0 where
   pub subclass : Option ℕ
   pub protocol : Option ℕ
@@ -499,7 +499,7 @@ abbrev pub rows_of_class : Option ClassCodes → List Row
 rows_of_class None = []
 rows_of_class (Some codes) = class_rows codes.class
 
--- the rows behind an interface of these codes, in their order
+-- the rows after an interface of these codes, in their order
 abbrev pub rows_behind : Option ClassCodes → List Row
 rows_behind interface = standard_rows ++ rows_of_class interface ++ other_rows
 
@@ -509,7 +509,7 @@ agrees None code = true
 agrees (Some wanted) None = false
 agrees (Some wanted) (Some code) = wanted == code
 
--- a row holds of a descriptor of this type and this body behind an interface of these codes
+-- a row holds of a descriptor of this type and this body after an interface of these codes
 abbrev pub holds : Row → Option ClassCodes → ℕ → List ℕ → Bool
 holds row interface type body =
     row.type == type && agrees row.first (slice_get body 0) && agrees row.second (slice_get body 1) && agrees row.subclass (option_map (λ (c : ClassCodes). c.subclass) interface)

@@ -13,7 +13,7 @@ use Rattle.usb_tool.specs.Input.{Left}
 use Rattle.usb_tool.specs.declared.fault.ToolFault.{ToolFault}
 use Rattle.usb_tool.specs.declared.fault.ToolFault.TheVariants as faults
 
--- the bytes are those of the file that the text lists, and are told with status 0
+-- the bytes are those of the file that the text lists, and are reported with status 0
 pub record TellsBytes (text b : List ℕ) (status : ℕ) : Type 0 where
   pub file : DescriptorFile
   pub listing : uncommented text ≡ file_lines file
@@ -25,7 +25,7 @@ abbrev pub RefusesListing : Refusal
 RefusesListing text held holds (faults.List fault) = ListFaulty text fault.line fault.why × Keeps held holds
 RefusesListing text held holds fault = ⊥
 
--- how no file is built of a text: a front of its bytes was written where a write failed, and else nothing
+-- how no file is built of a text: a prefix of its bytes was written where a write failed, and else nothing
 abbrev pub RefusesToBuild : Refusal
 RefusesToBuild = Refuses AppendsNone TellsBytes RefusesListing
 

@@ -23,14 +23,14 @@ pub record AreFindings (b : List ℕ) (found : List Finding) : Type 0 where
   pub is : IsInput input b
   pub all : found ≡ input_findings input
 
--- the lines of what is found in the bytes are told, and the status says whether that is something
+-- the lines of what is found in the bytes are reported, and the status says whether that is something
 pub record TellsFindings (b text : List ℕ) (status : ℕ) : Type 0 where
   pub found : List Finding
   pub are : AreFindings b found
   pub lines : text ≡ check_text found
   pub ended : status ≡ check_status found
 
--- how bytes are not checked: a front of what is found was written where a write failed, and else nothing
+-- how bytes are not checked: a prefix of what is found was written where a write failed, and else nothing
 abbrev pub RefusesToCheck : Refusal
 RefusesToCheck = Refuses AppendsNone TellsFindings RefusesInput
 

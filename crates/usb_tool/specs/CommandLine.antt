@@ -89,7 +89,7 @@ usbdesc_app =
 abbrev pub IsNamed : Text → Option (Text × List Row) → Type 0
 IsNamed name found = option_map (λ p. p.0) found ≡ Some name
 
--- the text behind a reference, where there is one
+-- the text after a reference, where there is one
 abbrev pub text_of : Option (Bor Text) → Option Text
 text_of = option_map (λ s. s.now)
 

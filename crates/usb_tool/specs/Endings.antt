@@ -31,7 +31,7 @@ Fails limit refuses from to held holds fault =
 abbrev pub Telling : Type 1
 Telling = List ℕ → List ℕ → ℕ → Type 0
 
--- how much of a text was written: all of it (`Appends`), a front (`AppendsFront`), or not all (`AppendsLess`)
+-- how much of a text was written: all of it (`Appends`), a prefix (`AppendsFront`), or not all (`AppendsLess`)
 abbrev pub Extent : Type 1
 Extent = Held → Held → List ℕ → Type 0
 
@@ -39,7 +39,7 @@ Extent = Held → Held → List ℕ → Type 0
 abbrev pub AppendsNone : Extent
 AppendsNone held holds text = Keeps held holds
 
--- so much was written of a text that is told of the bytes with this status
+-- so much was written of a text that is reported of the bytes with this status
 pub record Writes (extent : Extent) (tells : Telling) (b : List ℕ) (held holds : Held) (status : ℕ) : Type 0 where
   pub text : List ℕ
   pub told : tells b text status
@@ -49,14 +49,14 @@ pub record Writes (extent : Extent) (tells : Telling) (b : List ℕ) (held holds
 abbrev pub WritesSome : Extent → Telling → List ℕ → Held → Held → Type 0
 WritesSome extent tells b held holds = (status : ℕ) × Writes extent tells b held holds status
 
--- How bytes are refused: where a write failed, a front of a text that is told of them was written; out of memory nothing,
+-- How bytes are refused: where a write failed, a prefix of a text that is reported of them was written; out of memory nothing,
 -- or so much of one; and what else holds is given.
 abbrev pub Refuses : Extent → Telling → Refusal → Refusal
 Refuses extent tells refuses b held holds faults.Write = WritesSome AppendsFront tells b held holds
 Refuses extent tells refuses b held holds faults.Memory = Keeps held holds ⊎ WritesSome extent tells b held holds
 Refuses extent tells refuses b held holds fault = refuses b held holds fault
 
--- all was read, and all that is told of it was written
+-- all was read, and all that is reported of it was written
 abbrev pub Told : ℕ → Telling → Left → Left → Held → Held → ℕ → Type 0
 Told limit tells from to held holds status =
     Succeeds limit (λ b held holds. Writes Appends tells b held holds status) from to held holds

@@ -25,7 +25,7 @@ use Rattle.usb_tool.specs.declared.fault.ToolFault.{ToolFault}
 use Rattle.usb_tool.specs.declared.fault.ToolFault.TheVariants as faults
 use Rattle.usb_tool.specs.declared.settings.Settings.{Settings}
 
--- what is told of a run with this outcome: after success its line and the listing of the file that was read, and else the
+-- what is reported of a run with this outcome: after success its line and the listing of the file that was read, and else the
 -- line of its trouble
 abbrev pub run_text : Result DescriptorFile Trouble → Run → List ℕ
 run_text (Ok f) run = success_line run ++ file_lines f
@@ -48,7 +48,7 @@ abbrev pub IsRun : Bool → Settings → DescriptorFile → Run → List ℕ →
 IsRun false s f run log = IsEnumeration f s.speed s.limits s.fates.items run × (log ≡ [])
 IsRun true s f run log = IsLogOf f s.speed s.limits s.fates.items run log
 
--- a device was made of the file and enumerated, this is the log of that run, if it is asked for, and the text what is told
+-- a device was made of the file and enumerated, this is the log of that run, if it is asked for, and the text what is reported
 -- of it
 pub record TellsRun (s : Settings) (f : DescriptorFile) (log text : List ℕ) (status : ℕ) : Type 0 where
   pub run : Run
@@ -62,7 +62,7 @@ abbrev pub IsTaken : Bool → DescriptorFile → List ℕ → Type 0
 IsTaken false f b = File f b
 IsTaken true f b = IsCompleted f b
 
--- the log, if there is one, and the text behind it tell what comes of the file that is taken of these bytes
+-- the log, if there is one, and the text after it tell what comes of the file that is taken of these bytes
 pub record Tells (s : Settings) (b log text : List ℕ) (status : ℕ) : Type 0 where
   pub file : DescriptorFile
   pub taken : IsTaken s.with_strings file b
@@ -75,12 +75,12 @@ pub record WritesResult (s : Settings) (b : List ℕ) (held holds : Held) (statu
   pub tells : Tells s b log text status
   pub written : Appends held holds (log ++ text)
 
--- a front of a text was written, which is left unfinished out of memory
+-- a prefix of a text was written, which is left unfinished out of memory
 abbrev pub StopsShort : OutFault → Held → Held → List ℕ → Type 0
 StopsShort outs.Write held holds text = AppendsFront held holds text
 StopsShort outs.Memory held holds text = AppendsLess held holds text
 
--- of what comes of the bytes the log was written, and a front of the text behind it
+-- of what comes of the bytes the log was written, and a prefix of the text after it
 pub record WritesResultFront (s : Settings) (b : List ℕ) (held holds : Held) (fault : OutFault) : Type 0 where
   pub log : List ℕ
   pub text : List ℕ
@@ -104,7 +104,7 @@ IsNotTaken false b fault = FileFaulty b fault.at fault.why
 IsNotTaken true b fault = FileFaulty b fault.at fault.why × IsNoDump b
 
 -- How bytes are not enumerated: nothing was written where they are no file, or where memory was wanting for a device, and
--- else a front of what comes of them, or of the log so far.
+-- else a prefix of what comes of them, or of the log so far.
 abbrev pub RefusesToEnumerate : Settings → List ℕ → Held → Held → ToolFault → Type 0
 RefusesToEnumerate s b held holds (faults.File fault) = IsNotTaken s.with_strings b fault × Keeps held holds
 RefusesToEnumerate s b held holds faults.Write = WritesLogFront s b held holds outs.Write ⊎ WritesResultFront s b held holds outs.Write

@@ -24,7 +24,7 @@ use Rattle.usb_text.specs.Numbers.{count}
 unfoldable pub hexadecimal_words : ℕ → List ℕ
 hexadecimal_words n = codes "hexadecimal text, " ++ count n (codes "byte") ++ codes ": "
 
--- the explanation of the set, the file or the dump that the bytes are is told after a heading, with status 0
+-- the explanation of the set, the file or the dump that the bytes are is reported after a heading, with status 0
 pub record TellsExplanation (m : Manner) (heading b text : List ℕ) (status : ℕ) : Type 0 where
   pub input : Input
   pub is : IsInput input b
@@ -47,7 +47,7 @@ abbrev pub ExplainsFault : Manner → List ℕ → Refusal
 ExplainsFault m heading b held holds =
     OfInput (λ fault. InputFaulty b fault × Appends held holds (heading ++ broken_explanation m fault b))
 
--- How bytes are not explained as an input: as far as they go where they show a fault, and else a front of their
+-- How bytes are not explained as an input: as far as they go where they show a fault, and else a prefix of their
 -- explanation was written, which is left unfinished out of memory.
 abbrev pub RefusesToExplain : Manner → List ℕ → Refusal
 RefusesToExplain m heading = Refuses AppendsLess (Explains m heading) (ExplainsFault m heading)
@@ -66,11 +66,11 @@ pub record DoesWithText (hex : Bool) (b : List ℕ) (does : List ℕ → List �
   pub is : IsReadAs hex b bytes heading
   pub done : does heading bytes
 
--- their explanation is told
+-- their explanation is reported
 abbrev pub TellsText : Bool → Manner → Telling
 TellsText hex m b text status = DoesWithText hex b (λ heading bytes. TellsExplanation m heading bytes text status)
 
--- hexadecimal text has to be, and the bytes are none, or memory is wanting as it is read
+-- hexadecimal text has to be, and the bytes are none, or out of memory as it is read
 abbrev pub RefusesHex : Bool → List ℕ → ToolFault → Type 0
 RefusesHex hex b (tools.Hex line column) = (hex ≡ true) × HexFaulty b (hexes.Text line column)
 RefusesHex hex b tools.Memory = Unit {0}

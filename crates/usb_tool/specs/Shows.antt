@@ -24,11 +24,11 @@ pub record IsListing (b text : List ℕ) : Type 0 where
   pub is : IsInput input b
   pub listing : text ≡ input_lines input
 
--- the listing of the bytes is told, with status 0
+-- the listing of the bytes is reported, with status 0
 abbrev pub TellsListing : Telling
 TellsListing b text status = IsListing b text × (status ≡ 0)
 
--- how bytes are not shown: a front of their listing was written, out of memory not all of it, or nothing where they are
+-- how bytes are not shown: a prefix of their listing was written, out of memory not all of it, or nothing where they are
 -- no input
 abbrev pub RefusesToShow : Refusal
 RefusesToShow = Refuses AppendsLess TellsListing RefusesInput

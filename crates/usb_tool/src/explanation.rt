@@ -221,7 +221,7 @@ pub fn no_input_is_hexadecimal_text()
 {}
 
 /// What an explanation says of a fault is the line that standard error has of it, a colon, and what is wrong there. It says
-/// nothing of want of memory.
+/// nothing of out of memory.
 pub fn an_explanation_says_the_line_of_its_fault()
     ensures { SaysLineOfFault }
 {}

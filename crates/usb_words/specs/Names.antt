@@ -3,7 +3,7 @@ use Rattle.std.specs.Prelude.{ℕ, List, [], ◌++◌, ◌==◌, Option, Some, N
 use Rattle.usb_names.specs.Classes.{classes, name_in, protocol_in, protocols, subclasses}
 use Rattle.usb_text.specs.Numbers.{byte_code, meaning}
 
--- a name behind those before it
+-- a name after those before it
 abbrev pub further : Option (List ℕ) → List ℕ
 further None = []
 further (Some name) = codes " / " ++ name

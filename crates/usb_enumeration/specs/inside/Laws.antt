@@ -56,7 +56,7 @@ ReadsTheDescription =
     reached set_of speed First (replies_in (script address f.device.packet speed f)) ≡ Reported f
 
 -- A host that keeps a place, and hands the packets of a set to its decoder as they come, goes as one that keeps all replies
--- and all bytes, unless memory is wanting.
+-- and all bytes, unless out of memory.
 abbrev pub KeepsTheImage : Type 0
 KeepsTheImage = (set_of : List ℕ → Option Configuration) (limits : LimitView) (speed : Speed) → ReadsSets set_of → StaysImage set_of limits speed
 

@@ -116,7 +116,7 @@ pub record TakesLine (old : Option Draft) (rest : List ℕ) (new : Option Draft)
   pub cut : Cut 10 rest line more
   pub takes : Takes (is_dropped (without_return line)) old (without_return line) new
 
--- out of memory, or the fault of the text behind the lines so far
+-- out of memory, or the fault of the text after the lines so far
 abbrev pub Told : Option DescriptorFile → List ℕ → ListWhy → Type 0
 Told s rest whys.Memory = Unit {0}
 Told s rest why = RestFaulty s rest why

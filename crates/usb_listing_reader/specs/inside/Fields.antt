@@ -6,12 +6,12 @@ use Rattle.usb_base.specs.declared.width.Width.TheVariants.{One, Two}
 use Rattle.usb_base.specs.Widths.{size_of}
 use Rattle.usb_listing_reader.specs.inside.Digits.{pair_value}
 
--- what stands behind a space
+-- what stands after a space
 abbrev pub behind_space : List ℕ → Option (List ℕ)
 behind_space [] = None
 behind_space (c ∷ rest) = if c == 32 then Some rest else None
 
--- the bytes of a field, the low one first, and what stands behind it
+-- the bytes of a field, the low one first, and what stands after it
 abbrev pub Cell : Type 0
 Cell = Option (List ℕ × List ℕ)
 
@@ -40,16 +40,16 @@ abbrev pub cell_in : Width → Option (List ℕ) → Cell
 cell_in width None = None
 cell_in width (Some text) = cell_first width text
 
--- the same behind a space
+-- the same after a space
 abbrev pub cell_of : Width → List ℕ → Cell
 cell_of width text = cell_in width (behind_space text)
 
--- the bytes behind those that are there, where one field more was read or not
+-- the bytes after those that are there, where one field more was read or not
 abbrev pub cells_then : (List ℕ → List ℕ → Cell) → List ℕ → Cell → Cell
 cells_then next done None = None
 cells_then next done (Some (cell, rest)) = next (done ++ cell) rest
 
--- Fields of these widths: their bytes behind those that are there, and what stands behind the fields.
+-- Fields of these widths: their bytes after those that are there, and what stands after the fields.
 abbrev pub cells_from : List Width → List ℕ → List ℕ → Cell
 cells_from [] done text = Some (done, text)
 cells_from (width ∷ widths) done text = cells_then (cells_from widths) done (cell_of width text)
@@ -66,7 +66,7 @@ pairs_of [] = Some []
 pairs_of (high ∷ []) = None
 pairs_of (high ∷ low ∷ rest) = before (pair_value high low) (pairs_of rest)
 
--- the bytes of a tail behind its space, so many at most: a dash stands for none
+-- the bytes of a tail after its space, so many at most: a dash stands for none
 abbrev pub tail_behind : ℕ → Option (List ℕ) → Option (List ℕ)
 tail_behind most None = None
 tail_behind most (Some text) =
@@ -78,34 +78,34 @@ tail_behind most (Some text) =
 unfoldable pub tail_of : ℕ → List ℕ → Option (List ℕ)
 tail_of most text = tail_behind most (behind_space text)
 
--- bytes with a tail behind them, of 255 at most
+-- bytes with a tail after them, of 255 at most
 abbrev pub with_tail : List ℕ → Option (List ℕ) → Option (List ℕ)
 with_tail all None = None
 with_tail all (Some tail) = Some (all ++ tail)
 
--- the bytes of fields with what stands behind the fields: a tail, where there may be one, or nothing
+-- the bytes of fields with what stands after the fields: a tail, where there may be one, or nothing
 abbrev pub ended : Bool → Cell → Option (List ℕ)
 ended tail None = None
 ended true (Some (all, rest)) = with_tail all (tail_of (255 - length all) rest)
 ended false (Some (all, [])) = Some all
 ended false (Some (all, x ∷ rest)) = None
 
--- with their count in front, as bLength is
+-- with their count first, as bLength is
 abbrev pub with_length : Option (List ℕ) → Option (List ℕ)
 with_length None = None
 with_length (Some b) = Some (length b ∷ drop 1 b)
 
--- The text read as the bytes of a whole descriptor: a place for bLength and what the line leaves out stand in front.
+-- The text read as the bytes of a whole descriptor: a place for bLength and what the line leaves out come first.
 unfoldable pub bytes_in : List ℕ → List Width → Bool → List ℕ → Option (List ℕ)
 bytes_in front widths tail text = with_length (ended tail (cells_from widths front text))
 
--- the bytes were put at this place of a buffer, behind what stood before it, and end there; the buffer keeps its length
+-- the bytes were put at this place of a buffer, after what stood before it, and end there; the buffer keeps its length
 pub record Puts (old : List ℕ) (at : ℕ) (bytes new : List ℕ) (end : ℕ) : Type 0 where
   pub front : take end new ≡ take at old ++ bytes
   pub ends : end ≡ at + length bytes
   pub count : length new ≡ length old
 
--- a field was read into a buffer, and this stands behind it
+-- a field was read into a buffer, and this stands after it
 pub record PutsCell (width : Width) (text old : List ℕ) (at : ℕ) (new : List ℕ) (end : ℕ) (rest : List ℕ) : Type 0 where
   pub cell : List ℕ
   pub read : cell_of width text ≡ Some (cell, rest)

@@ -9,7 +9,7 @@ abbrev pub HasNo : ℕ → List ℕ → Type 0
 HasNo c [] = Unit {0}
 HasNo c (x ∷ text) = (x ≢ c) × HasNo c text
 
--- this stands before the first such byte, and that behind it
+-- this stands before the first such byte, and that after it
 pub record Cut (c : ℕ) (text line more : List ℕ) : Type 0 where
   pub parts : text ≡ line ++ c ∷ more
   pub none : HasNo c line

@@ -1,4 +1,4 @@
--- The descriptor of a line, read: what stands behind the first word.
+-- The descriptor of a line, read: what stands after the first word.
 use Rattle.std.specs.Prelude.{ℕ, ◌==◌, if◌then◌else◌, option_and_then, drop, length, is_some, Bool, Option, Some, None, List, [], ◌∷◌}
 use Rattle.std.specs.Option.{option_map}
 use Rattle.usb_listing.specs.Table.{Row}
@@ -34,13 +34,13 @@ before_quote [] = None
 before_quote (x ∷ []) = if x == 34 then Some [] else None
 before_quote (x ∷ y ∷ text) = option_map (λ (front : List ℕ). x ∷ front) (before_quote (y ∷ text))
 
--- what stands between quotes, behind the first of them
+-- what stands between quotes, after the first of them
 abbrev pub in_quotes : Option (List ℕ) → Option (List ℕ)
 in_quotes None = None
 in_quotes (Some []) = None
 in_quotes (Some (x ∷ text)) = if x == 34 then before_quote text else None
 
--- the text of a string, behind a space and between quotes
+-- the text of a string, after a space and between quotes
 unfoldable pub quoted : List ℕ → Option (List ℕ)
 quoted text = in_quotes (behind_space text)
 
@@ -58,7 +58,7 @@ languages_in text = some_language (values_from forms.Field 126 [] text)
 unfoldable pub string_in : List ℕ → Option (List ℕ)
 string_in text = option_and_then (values_from forms.Unit 126 []) (quoted text)
 
--- what a line says whose first word is this, and behind it this text
+-- what a line says whose first word is this, and after it this text
 unfoldable pub item_in : Word → List ℕ → Option Item
 item_in words.Languages text = option_map languages (languages_in text)
 item_in words.String text = option_map string (string_in text)

@@ -6,7 +6,7 @@ use Rattle.usb_listing_reader.specs.declared.values.Written.TheVariants as forms
 use Rattle.usb_listing_reader.specs.inside.Digits.{pair_value}
 use Rattle.usb_listing_reader.specs.inside.Fields.{behind_space}
 
--- a number of its high and its low byte, and what stands behind it
+-- a number of its high and its low byte, and what stands after it
 abbrev pub number_with : Option ℕ → Option ℕ → List ℕ → Option (ℕ × List ℕ)
 number_with (Some high) (Some low) rest = Some (high * 256 + low, rest)
 number_with (Some high) None rest = None
@@ -38,17 +38,17 @@ abbrev pub number_in : Option (List ℕ) → Option (ℕ × List ℕ)
 number_in None = None
 number_in (Some text) = number_first text
 
--- the value that stands first: a unit, or a number behind a space
+-- the value that stands first: a unit, or a number after a space
 abbrev pub value_first : Written → List ℕ → Option (ℕ × List ℕ)
 value_first forms.Unit text = unit_first text
 value_first forms.Field text = number_in (behind_space text)
 
--- the values behind those that are there, where one more was read or not
+-- the values after those that are there, where one more was read or not
 abbrev pub values_then : (List ℕ → List ℕ → Option (List ℕ)) → List ℕ → Option (ℕ × List ℕ) → Option (List ℕ)
 values_then next done None = None
 values_then next done (Some (value, rest)) = next (done ++ value ∷ []) rest
 
--- so many values at most, to the end of the text, behind those that are there
+-- so many values at most, to the end of the text, after those that are there
 unfoldable pub values_from : Written → ℕ → List ℕ → List ℕ → Option (List ℕ)
 values_from form most done [] = Some done
 values_from form zero done (x ∷ text) = None

@@ -47,12 +47,12 @@ add_line so_far line = add_word so_far (word_in (first_word line)) (item_of_line
 
 -- how far a listing was read
 pub data Walk : Type 0 where
-  -- in this line, behind so many lines, which are those of the file so far
+  -- in this line, after so many lines, which are those of the file so far
   going : Option DescriptorFile → ℕ → List ℕ → Walk
-  -- the line behind so many lines is at fault
+  -- the line after so many lines is at fault
   stopped : ℕ → ListWhy → Walk
 
--- behind one more line
+-- after one more line
 abbrev pub after_line : ℕ → Result DescriptorFile ListWhy → Walk
 after_line lines (Ok f) = going (Some f) (lines + 1) []
 after_line lines (Err why) = stopped lines why
@@ -70,7 +70,7 @@ abbrev pub walk : Walk → List ℕ → Walk
 walk w [] = w
 walk w (x ∷ text) = walk (walk_byte w x) text
 
--- a fault of the line behind so many lines
+-- a fault of the line after so many lines
 abbrev pub fault_behind : ℕ → ListWhy → ListFault
 fault_behind lines why = record { line = lines + 1; why = why }
 

@@ -15,7 +15,7 @@ use Rattle.usb_tool.specs.declared.settings.Settings.{Settings}
 abbrev pub EndsWith : List ℕ → ℕ → Held → Held → ℕ → Type 0
 EndsWith text ended held holds status = Appends held holds text × (status ≡ ended)
 
--- a text was not written to its end: a front of it was, which is left unfinished out of memory
+-- a text was not written to its end: a prefix of it was, which is left unfinished out of memory
 abbrev pub IsCutShort : List ℕ → Held → Held → ToolFault → Type 0
 IsCutShort text held holds faults.Write = AppendsFront held holds text
 IsCutShort text held holds faults.Memory = Keeps held holds ⊎ AppendsLess held holds text
