@@ -55,7 +55,7 @@ def of_rattle(kind):
 
 def source():
     functions, structs = {}, {}
-    for file in sorted(glob.glob(SOURCE + "/usb_c/src/*.rt") + glob.glob(SOURCE + "/usb_owned_device/src/*.rt")):
+    for file in sorted(glob.glob(SOURCE + "/usb_c/src/*.rt") + glob.glob(SOURCE + "/usb_device/src/*.rt")):
         text = text_of(file)
         found = re.findall(r'#\[unsafe\(no_mangle\)\]\s*pub extern "C" fn (\w+)\(([^)]*)\)(?:\s*->\s*(\w+))?', text)
         for name, parameters, result in found:

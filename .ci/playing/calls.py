@@ -11,8 +11,8 @@ from enumerating import named, word  # noqa: E402
 
 # These are asked of the libraries, by the program crates/examples.
 OF_LIBRARIES = set(
-    "setup device qualifier endpoint units write_units set feed encode file write named failing_reads failing_writes"
-    " failing_write failing_flush line speed running_speed fates manner settings message".split()
+    "setup device qualifier endpoint units write_units set feed encode file write assemble named failing_reads"
+    " failing_writes failing_write failing_flush line speed running_speed fates manner settings message".split()
 )
 
 
@@ -22,12 +22,19 @@ def usbdesc(row):
     yield Run(words[:place], change(row.text("|"), words[place + 1 :]), int(row.wanted()), row.text(">"), row.text("!"))
 
 
+def options_of(words):
+    """The words that begin with two dashes, which are a command's, and those behind them, which change its input."""
+    options = [word for word in words if word.startswith("--")]
+    return options, words[len(options) :]
+
+
 def build(row):
-    text, wanted = change(row.text("|"), row.words()), row.wanted()
+    options, words = options_of(row.words())
+    text, wanted = change(row.text("|"), words), row.wanted()
     if wanted.startswith("0 "):
-        yield Run(["build"], text, 0, bytes.fromhex(wanted[2:]))
+        yield Run(["build", *options], text, 0, bytes.fromhex(wanted[2:]))
     else:
-        yield ends_with(["build"], text, wanted)
+        yield ends_with(["build", *options], text, wanted)
 
 
 def cuts(row):
@@ -62,25 +69,22 @@ def is_dump(data):
     return bool(names_of_dump(data))
 
 
-def fronts(data):
-    """The runs over each front: it is truncated at its end, as an input of `show` and as a file of `enumerate`. Right
-    behind the sets it is an input, and a file where no string is named."""
+def fronts(data, commands):
+    """The runs of commands over each front: it is truncated at its end. Right behind the sets it is a file where no string
+    is named, and where one is a dump, which is an input of a command with --any."""
     end = parts(data)[2]
     for length in range(len(data)):
-        fault = f"3 usbdesc: file fault 6 at {length}"
-        show, read = (ends_with([command], data[:length], fault) for command in ("show", "enumerate"))
-        if length == end:
-            show = show._replace(status=0, output=None, errors=b"")
-        if length == end and not is_dump(data):
-            read = read._replace(status=None, output=None, errors=b"")
-        yield show
-        yield read
+        for command in commands:
+            run = ends_with(command.split(), data[:length], f"3 usbdesc: file fault 6 at {length}")
+            if length == end and ("--any" in run.words or not is_dump(data)):
+                run = run._replace(status=0 if "show" in run.words else None, output=None, errors=b"")
+            yield run
 
 
 def fronts_of_row(row):
     data = change(b"", row.words())
     end = parts(data)[2]
-    yield from fronts(data)
+    yield from fronts(data, ["show", "show --any", "check", "check --any", "enumerate"])
     form = f", a {'dump' if is_dump(data) else 'file'} of {end}" if end < len(data) else ""
     compare(row, f"{len(data)} truncated{form}")
 
@@ -93,8 +97,9 @@ def check(row):
 
 def endless(row):
     command, *words = row.words()
+    options, words = options_of(words)
     told, _, read = row.wanted().rpartition(", ")
-    run = ends_with([command], change(row.text("|"), words), told)
+    run = ends_with([command, *options], change(row.text("|"), words), told)
     yield run._replace(read=int(read.split()[0]))
 
 

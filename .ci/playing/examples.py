@@ -18,11 +18,11 @@ def bytes_of(name, ending=""):
         return source.read()
 
 
-def told_of(name, ending):
+def told_of(name, ending, options):
     """The runs that list, check and explain an input."""
     data, findings = bytes_of(name, ending), bytes_of(name, ".check")
-    yield Run(["show"], data, 0, bytes_of(name, ".txt"))
-    yield Run(["check"], data, 0 if findings == b"no findings\n" else 1, findings)
+    yield Run(["show", *options], data, 0, bytes_of(name, ".txt"))
+    yield Run(["check", *options], data, 0 if findings == b"no findings\n" else 1, findings)
     yield Run(["explain"], data, 0, bytes_of(name, ".explain"))
 
 
@@ -35,30 +35,35 @@ def enumerations(name, options, data, text):
 
 
 def set_(name):
-    yield from told_of(name, ".bin")
+    """A set is no file: its first descriptor is none of a device, or it is shorter than that."""
+    yield from told_of(name, ".bin", ["--any"])
+    data = bytes_of(name, ".bin")
+    yield Run(["show"], data, 0, bytes_of(name, ".txt"))
+    yield ends_with(["check"], data, "3 usbdesc: file fault 1 at 0" if len(data) >= 18 else f"3 usbdesc: file fault 6 at {len(data)}")
 
 
 def file(name):
-    yield from told_of(name, ".file")
+    yield from told_of(name, ".file", [])
     yield from listing(name)
     data, text = bytes_of(name, ".file"), bytes_of(name, ".txt")
     yield from enumerations(name, [], data, text)
-    yield from fronts(data)
+    yield from fronts(data, ["show", "enumerate"])
 
 
 def dump(name):
     """Where a dump names a string its listing lacks the languages behind its last line; else it is a file."""
-    yield from told_of(name, ".descriptors")
+    yield from told_of(name, ".descriptors", ["--any"])
     data, text = bytes_of(name, ".descriptors"), bytes_of(name, ".txt")
     if is_dump(data):
         yield ends_with(["build"], text, f"3 usbdesc: listing fault 6 line {text.count(10) + 1}")
-        yield ends_with(["enumerate"], data, f"3 usbdesc: file fault 6 at {len(data)}")
+        for command in ("show", "check", "enumerate"):
+            yield ends_with([command], data, f"3 usbdesc: file fault 6 at {len(data)}")
     else:
         yield Run(["build"], text, 0, data)
     strings = "".join(f'string "string {index}"\n' for index in names_of_dump(data))
     text += f"languages 0409\n{strings}".encode() if strings else b""
     yield from enumerations(name, ["--with-strings"], data, text)
-    yield from fronts(data)
+    yield from fronts(data, ["show --any", "enumerate"])
 
 
 # The speed in a heading by the Mbit/s that Linux recorded beside a dump, and how many dumps have it exactly.
@@ -80,12 +85,21 @@ def wrong_speeds():
         yield f"dumps: {known} of {len(rows)} explanations have the recorded speed, and not {KNOWN}"
 
 
+def builds(name, options, ending):
+    """The run that builds a text, to the bytes or to the fault that lies beside it."""
+    text = bytes_of(name, ".txt")
+    if os.path.exists(f"{name}{ending}.file"):
+        yield Run(["build", *options], text, 0, bytes_of(name, f"{ending}.file"))
+    else:
+        yield Run(["build", *options], text, 3, b"", bytes_of(name, f"{ending}.fault"))
+
+
 def listing(name):
-    yield Run(["build"], bytes_of(name, ".txt"), 0, bytes_of(name, ".file"))
-
-
-def broken(name):
-    yield Run(["build"], bytes_of(name, ".txt"), 3, b"", bytes_of(name, ".fault"))
+    """A text as it stands, and where it may have comments: what comes of it then lies beside it where it is something
+    else."""
+    yield from builds(name, [], "")
+    differs = any(os.path.exists(f"{name}.commented{ending}") for ending in (".file", ".fault"))
+    yield from builds(name, ["--comments"], ".commented" if differs else "")
 
 
 def output(line):
@@ -96,7 +110,7 @@ def output(line):
     yield Run(words, bytes_of(source), int(status), text, b"".join(b"usbdesc: %b\n" % fault for fault in faults))
 
 
-KINDS = {"set": set_, "file": file, "dump": dump, "listing": listing, "broken": broken, "output": output}
+KINDS = {"set": set_, "file": file, "dump": dump, "listing": listing, "commented": listing, "broken": listing, "output": output}
 
 
 def lines_of_list():

@@ -1,9 +1,19 @@
-"""The crates in layers, each of which uses only those below it, and what each uses and is for."""
+"""The crates on their floors, each in layers that use only those below them there, and what each crate uses and is for."""
 
 import os
 import re
 
 from . import sources
+
+
+# The libraries that aren't of the core; what is no library is a test program, but for the program itself.
+FLOORS = {"words": ["usb_names", "usb_text", "usb_explain"], "doors": ["usb_tool", "nozzlegorse", "usb_c", "usbdesc"]}
+FLOOR_NAMES = ["tests", "doors", "words", "core"]
+
+
+def floor_of(crate):
+    named = next((floor for floor, crates in FLOORS.items() if crate in crates), None)
+    return named or ("core" if crate.startswith("usb_") else "tests")
 
 
 def uses():
@@ -20,18 +30,17 @@ def below(crate, used):
 
 def printed():
     used = uses()
-    height = {}
-    for crate in used:  # crates.txt has the lowest first
-        height[crate] = 1 + max((height[it] for it in used[crate]), default=0)
-    layers = {}
-    for crate, level in height.items():
-        layers.setdefault(level, []).append(crate)
-    widest = max(layers)
-    drawing = ["  ".join(layers[level]) for level in range(widest, 0, -1)]
+    drawing = []
+    for floor in FLOOR_NAMES:
+        height = {}
+        for crate in used:  # crates.txt has the lowest first
+            if floor_of(crate) == floor:
+                height[crate] = 1 + max((height[it] for it in below(crate, used) if it in height), default=0)
+        lines = ["  ".join(it for it in height if height[it] == level) for level in range(max(height.values()), 0, -1)]
+        drawing += [f"{name:<7}{line}" for name, line in zip([floor] + [""] * len(lines), lines)]
     rows = ["| Crate | Uses | What it is |", "|---|---|---|"]
     for crate in used:
         root = next(it for it in ("lib.rt", "main.rt") if os.path.exists(f"crates/{crate}/src/{it}"))
         direct = [it for it in used[crate] if not any(it in below(other, used) for other in used[crate])]
         rows.append(f"| `{crate}` | {', '.join(direct)} | {sources.first_sentence(f'crates/{crate}/src/{root}')} |")
-    width = max(len(line) for line in drawing)
-    return "\n".join(["```", *(line.center(width).rstrip() for line in drawing), "```", "", *rows])
+    return "\n".join(["```", *drawing, "```", "", *rows])

@@ -48,7 +48,8 @@ def of_output(name):
 
 def of_counts():
     """How much `examples/list` names, by its kinds."""
-    words = {"rows": "files of rows", "set": "sets", "file": "files", "dump": "dumps", "listing": "listings", "broken": "broken listings"}
+    words = {"rows": "files of rows", "set": "sets", "file": "files", "dump": "dumps", "listing": "listings"}
+    words |= {"commented": "listings with comments", "broken": "broken listings"}
     kinds = re.findall(r"^(\w+) ", sources.text_of("examples/list"), flags=re.M)
     return ", ".join(f"{kinds.count(kind)} {word}" for kind, word in words.items()) + "."
 

@@ -4,8 +4,8 @@ import re
 
 from . import sources
 
-# Layers of an explanation and of the static library, which no user calls.
-WITHIN = ["usb_names", "usb_string_words", "usb_words", "usb_explained_lines", "usb_remarks", "usb_owned_device"]
+# What programs name: a call of any library is for users where one of these hands it out.
+DOORS = ["nozzlegorse", "usb_file", "usb_bus", "usb_tool", "usb_c"]
 ITEM = re.compile(r"^( *)pub (extern \"C\" )?fn (\w+)")
 HEAD = re.compile(r"^impl(?:<[^{]*?>)? (?:(\w+)[^{]* for )?(?:&(?:'\w+ )?(?:mut )?)?(\w+)")
 
@@ -38,18 +38,30 @@ def imports_of(text):
     return names
 
 
-def exported(crate):
-    """The names that a crate's root hands out, and its public modules."""
+def handed_out(crate):
+    """What the root of a crate hands out: pairs of the crate that has it, this one or another, and a name."""
     text = sources.text_of(f"crates/{crate}/src/lib.rt")
-    names = set()
-    for found in re.finditer(r"^pub use [\w:]+::(?:\{([^}]*)\}|(\w+));", text, flags=re.M):
-        names.update(it.split(" as ")[-1].strip() for it in (found[1] or found[2]).split(","))
-    return names, set(re.findall(r"^pub mod (\w+);", text, flags=re.M))
+    for found in re.finditer(r"^ *pub use (\w+)[\w:]*?::(?:\{([^}]*)\}|(\w+));", text, flags=re.M):
+        for item in (found[2] or found[3]).split(","):
+            if item.strip():
+                yield found[1] if found[1].startswith("usb_") else crate, item.split(" as ")[0].strip()
 
 
-def calls_of(crate):
-    """Each public call of a crate: its name, what its comment says, and what its contract cites."""
-    names, modules = exported(crate)
+def exported(crate):
+    """The names of its own that a crate's root hands out, and its public modules."""
+    text = sources.text_of(f"crates/{crate}/src/lib.rt")
+    return {name for owner, name in handed_out(crate) if owner == crate}, set(re.findall(r"^pub mod (\w+);", text, flags=re.M))
+
+
+def for_users(crate):
+    """The names of a crate that are handed out to users."""
+    return {name for door in DOORS for owner, name in handed_out(door) if owner == crate}
+
+
+def calls_of(crate, names):
+    """Each public call of a crate, of these names and of public modules: its name, what its comment says, and what its
+    contract cites."""
+    modules = exported(crate)[1]
     for path in sources.code(crate):
         text = sources.text_of(path)
         module, imported, owner, above = path.split("/src/")[1][:-3], imports_of(text), None, []
@@ -74,17 +86,17 @@ def calls_of(crate):
                         break
                     contract.append(further)
                 if within:
-                    prefix = "laws::" if module == "laws" else ""
+                    prefix = f"{module}::" if module in modules else ""
                     yield prefix + name, comment_of(above), cited("\n".join(contract), imported)
             if not re.match(r"^ *#\[", line):
                 above = []
 
 
 def printed(*crates):
-    """A table of each of these libraries, or of all that users call."""
+    """A table of each of these libraries, or of what users call of any."""
     parts = []
-    for crate in crates or (crate for crate in sources.libraries() if crate not in WITHIN):
-        calls = list(calls_of(crate))
+    for crate in crates or sources.libraries():
+        calls = list(calls_of(crate, exported(crate)[0] if crates else for_users(crate)))
         if not calls:
             continue
         rows = [f"### {crate}", "", "| Call | What is promised | Definitions |", "|---|---|---|"]

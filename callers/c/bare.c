@@ -1,5 +1,5 @@
 /* A program without a C library: its own start, memory from a fixed area, and three functions over bytes. It judges a
- * mouse's configuration set, and makes a device of a descriptor file that it resets. Ends in 0 where both answer so. */
+ * mouse's descriptor file, and makes a device of it that it resets. Ends in 0 where both answer so. */
 #define POOL (1 << 16)
 #include "pool.h"
 
@@ -30,7 +30,7 @@ static const uint8_t file[] = {
 static uint8_t text[256];
 
 static int judge(void) {
-    struct usb_answer a = usb_check(file + 18, 34, text, sizeof text);
+    struct usb_answer a = usb_check(file, sizeof file, false, text, sizeof text);
     if (a.status != USB_DONE || a.length != 12) return 1;
     struct usb_device device = {0};
     if (usb_device_open(&device, file, sizeof file, USB_FULL).status != USB_DONE) return 2;

@@ -3,7 +3,7 @@
  * the line that usbdesc does, and ends in 0 where the bytes that the host read are those of FILE, or in 1 after trouble.
  *
  * Memory is a fixed area that counts: the device asks for none once it is open, and no block is left at the end. */
-#define POOL (1 << 22)
+#define POOL (1 << 26)
 #include "pool.h"
 #include "hosted.h"
 

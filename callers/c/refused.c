@@ -9,7 +9,7 @@ static uint8_t bytes[1 << 16], text[1 << 20], again[1 << 20];
 static size_t length;
 static long calls, refusals;
 
-enum { SHOW, CHECK, EXPLAIN, BUILD, ENUMERATE, DEVICE, HOST, DECODER, KINDS };
+enum { SHOW, CHECK, CHECK_ANY, EXPLAIN, BUILD, BUILD_COMMENTS, ENUMERATE, DEVICE, HOST, DECODER, KINDS };
 
 static struct usb_answer in_pieces(uint8_t *out) {
     struct usb_decoder decoder = {0};
@@ -62,10 +62,12 @@ static struct usb_answer opened_twice(void) {
 static struct usb_answer call(int kind, uint8_t *out) {
     struct usb_outcome outcome;
     switch (kind) {
-    case SHOW: return usb_show(bytes, length, out, sizeof text);
-    case CHECK: return usb_check(bytes, length, out, sizeof text);
+    case SHOW: return usb_show(bytes, length, true, out, sizeof text);
+    case CHECK: return usb_check(bytes, length, false, out, sizeof text);
+    case CHECK_ANY: return usb_check(bytes, length, true, out, sizeof text);
     case EXPLAIN: return usb_explain(bytes, length, USB_PLACES, 0, out, sizeof text);
-    case BUILD: return usb_build(bytes, length, out, sizeof text);
+    case BUILD: return usb_build(bytes, length, false, out, sizeof text);
+    case BUILD_COMMENTS: return usb_build(bytes, length, true, out, sizeof text);
     case ENUMERATE: return usb_enumerate(bytes, length, USB_FULL, 16, 3, (const uint8_t *)"....a", 5, &outcome, out, sizeof text);
     case DEVICE: return opened_twice();
     case HOST: return by_host(out);

@@ -1,22 +1,24 @@
-/* texts COMMAND FILE [LENGTH]: what a call makes of the first LENGTH bytes of FILE. The commands are show, check, build, and
- * explain as plain, brief, noplaces, high or utf8. Writes what it makes, and behind it, on a line of its own, the status, the
- * number and the place. Ends in 9 where a buffer that is too short is written to. */
+/* texts COMMAND FILE [LENGTH]: what a call makes of the first LENGTH bytes of FILE. The commands are show and check, with a
+ * dash behind them with `any`; build, so with `comments`; and explain as plain, brief, noplaces, high or utf8. Writes what it
+ * makes, and behind it, on a line of its own, the status, the number and the place. Ends in 9 where a buffer that is too short
+ * is written to. */
 #include "usb.h"
 #include "hosted.h"
 
 static uint8_t bytes[1 << 21];
-static uint8_t text[1 << 22];
+static uint8_t text[1 << 23];
 
 static struct usb_answer call(const char *command, size_t length, size_t room) {
+    bool wide = command[strlen(command) - 1] == '-';
     switch (command[0] + command[1]) {
-    case 's' + 'h': return usb_show(bytes, length, text, room);
-    case 'c' + 'h': return usb_check(bytes, length, text, room);
+    case 's' + 'h': return usb_show(bytes, length, wide, text, room);
+    case 'c' + 'h': return usb_check(bytes, length, wide, text, room);
     case 'b' + 'r': return usb_explain(bytes, length, USB_BRIEF | USB_PLACES, 0, text, room);
     case 'p' + 'l': return usb_explain(bytes, length, USB_PLACES, 0, text, room);
     case 'n' + 'o': return usb_explain(bytes, length, 0, 0, text, room);
     case 'h' + 'i': return usb_explain(bytes, length, USB_PLACES, USB_HIGH, text, room);
     case 'u' + 't': return usb_explain(bytes, length, USB_PLACES | USB_UTF8, 0, text, room);
-    default: return usb_build(bytes, length, text, room);
+    default: return usb_build(bytes, length, wide, text, room);
     }
 }
 

@@ -59,12 +59,14 @@ void rattle_dealloc(unsigned char *at);
 enum usb_options { USB_BRIEF = 1, USB_PLACES = 2, USB_UTF8 = 4 }; /* with USB_UTF8 the text is UTF-8, else ASCII */
 enum usb_speed { USB_LOW = 1, USB_FULL = 2, USB_HIGH = 3, USB_SUPER = 4 }; /* 0: not known; 0 and super for explain alone */
 
-struct usb_answer usb_show(const uint8_t *bytes, size_t len, uint8_t *text, size_t room);
-/* a line for each finding, or `no findings` */
-struct usb_answer usb_check(const uint8_t *bytes, size_t len, uint8_t *text, size_t room);
-/* also of broken bytes: then the status tells the fault, and the text stands as far as they go */
+/* one set where the second byte is 2 or 7, and else a file; with `any` a dump too */
+struct usb_answer usb_show(const uint8_t *bytes, size_t len, bool any, uint8_t *text, size_t room);
+/* a line for each finding in a file, or `no findings`; with `any` in one set or a dump too */
+struct usb_answer usb_check(const uint8_t *bytes, size_t len, bool any, uint8_t *text, size_t room);
+/* one set, a file, a dump, and also broken bytes: then the status tells the fault, and the text stands as far as they go */
 struct usb_answer usb_explain(const uint8_t *bytes, size_t len, uint32_t options, uint8_t speed, uint8_t *text, size_t room);
-struct usb_answer usb_build(const uint8_t *text, size_t len, uint8_t *bytes, size_t room);
+/* with `comments` lines that are empty or begin with # are dropped, and so is a carriage return before a line feed */
+struct usb_answer usb_build(const uint8_t *text, size_t len, bool comments, uint8_t *bytes, size_t room);
 
 /* step 1 first, 2 address, 3 device, 4 header, 5 set, 6 qualifier, 7 other header, 8 other set, 9 languages, 10 text,
  * 11 configure; 0 after success */

@@ -1,9 +1,9 @@
 #!/usr/bin/env python3
-"""compare.py PROGRAM EXAMPLES: compares the module with the program usbdesc: text, fault and status.
+"""compare.py PROGRAM EXAMPLES PLENTY: compares the module with the program usbdesc: text, fault and status.
 
-Each set, file and dump of the examples and each front of ten of them goes through show, check and explain in five ways; each
-listing through build; each file through enumerate, at each speed and with several lists of fates, both by the one call and by
-a device and a host over a bus of this script.
+Each set, file and dump of the examples and each front of ten of them goes through show and check in two ways and explain in
+five; each listing through build in two; each file through enumerate, at each speed and with several lists of fates, both by the
+one call and by a device and a host over a bus of this script. The files, listings, sets and fates of PLENTY are long.
 """
 import concurrent.futures
 import glob
@@ -13,15 +13,16 @@ import sys
 
 import nozzlegorse as usb
 
-PROGRAM, EXAMPLES = sys.argv[1:]
+PROGRAM, EXAMPLES, PLENTY = sys.argv[1:]
 LINES = {
     "set_fault": "usbdesc: set fault {n} at {p}\n",
     "file_fault": "usbdesc: file fault {n} at {p}\n",
     "trailing": "usbdesc: trailing bytes at {p}\n",
     "list_fault": "usbdesc: listing fault {n} line {p}\n",
 }
-WAYS = (["show"], ["check"], ["explain"], ["explain", "--brief"], ["explain", "--no-places"], ["explain", "--speed", "high"],
-        ["explain", "--utf8"])
+WAYS = (["show"], ["check"], ["explain"], ["show", "--any"], ["check", "--any"], ["explain", "--brief"], ["explain", "--no-places"],
+        ["explain", "--speed", "high"], ["explain", "--utf8"])
+BUILDS = (["build"], ["build", "--comments"])
 FATES = ("", "d", "nnuda", "....a", "ddddddddd", "n" * 20)
 STEPS = (None, "first", "address", "device", "header {i}", "set {i}", "qualifier", "other_header {i}", "other_set {i}",
          "languages", "text {l:04x} {i:02x}", "configure")
@@ -40,12 +41,12 @@ def by_module(words, data):
     """What the program would write and end with, by the module."""
     try:
         if words[0] == "show":
-            return usb.show(data).encode(), b"", 0
+            return usb.show(data, any="--any" in words).encode(), b"", 0
         if words[0] == "check":
-            text = usb.check(data)
+            text = usb.check(data, any="--any" in words)
             return text.encode(), b"", 0 if text == "no findings\n" else 1
         if words[0] == "build":
-            return usb.build(data.decode()), b"", 0
+            return usb.build(data.decode(), comments="--comments" in words), b"", 0
         e = usb.explain(data, "--brief" in words, "--no-places" not in words, "high" if "high" in words else None,
                         "--utf8" in words)
         return e.text.encode(), fault_line(e.fault).encode() if e.fault else b"", 3 if e.fault else 0
@@ -117,7 +118,7 @@ def tasks():
         for words in WAYS:
             yield words, data, by_module(words, data)
         for front in fronts:
-            for words in WAYS[:3]:
+            for words in WAYS[: 3 if front % 3 else 5]:
                 yield words, data[:front], by_module(words, data[:front])
         if name.endswith(".file"):
             for speed in ("low", "full", "high"):
@@ -127,7 +128,22 @@ def tasks():
     for name in sorted(glob.glob(f"{EXAMPLES}/*/*.txt")):
         text = open(name, "rb").read()
         if text.isascii():
-            yield ["build"], text, by_module(["build"], text)
+            for words in BUILDS:
+                yield words, text, by_module(words, text)
+    yield from long_tasks()
+
+
+def long_tasks():
+    """The same of what is long."""
+    fates = open(f"{PLENTY}/fates", encoding="ascii").read()
+    for name in sorted(glob.glob(f"{PLENTY}/*.file")):
+        data = open(name, "rb").read()
+        for words in WAYS[:4]:
+            yield words, data, by_module(words, data)
+        yield ["enumerate", "--fates", fates], data, enumerated(data, "full", fates)
+    for name in sorted(glob.glob(f"{PLENTY}/*.txt")):
+        text = open(name, "rb").read()
+        yield ["build"], text, by_module(["build"], text)
 
 
 def handles():
@@ -144,7 +160,7 @@ def handles():
                 line, got = stepped(data, speed, fates)
                 n += 1
                 bad += line is not None and (line != end_line(e) or got != data) or (line is None) != bool(e.trouble)
-    for name in sorted(glob.glob(f"{EXAMPLES}/sets/*.bin")):
+    for name in sorted([*glob.glob(f"{EXAMPLES}/sets/*.bin"), *glob.glob(f"{PLENTY}/*.bin")]):
         data = open(name, "rb").read()
         for size in (1, 7, 64):
             decoder = usb.Decoder()

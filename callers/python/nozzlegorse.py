@@ -66,10 +66,10 @@ class usb_decoder(ctypes.Structure):
 _IN = [POINTER(c_uint8), c_size_t]
 _BUFFER = [POINTER(c_uint8), c_size_t]
 SIGNATURES = {
-    "usb_show": (usb_answer, [*_IN, *_BUFFER]),
-    "usb_check": (usb_answer, [*_IN, *_BUFFER]),
+    "usb_show": (usb_answer, [*_IN, c_bool, *_BUFFER]),
+    "usb_check": (usb_answer, [*_IN, c_bool, *_BUFFER]),
     "usb_explain": (usb_answer, [*_IN, c_uint32, c_uint8, *_BUFFER]),
-    "usb_build": (usb_answer, [*_IN, *_BUFFER]),
+    "usb_build": (usb_answer, [*_IN, c_bool, *_BUFFER]),
     "usb_enumerate": (usb_answer, [*_IN, c_uint8, c_uint16, c_uint8, *_IN, POINTER(usb_outcome), *_BUFFER]),
     "usb_device_open": (usb_answer, [POINTER(usb_device), *_IN, c_uint8]),
     "usb_device_reset": (c_bool, [POINTER(usb_device)]),
@@ -165,19 +165,19 @@ def _whole(call, *before):
     return out
 
 
-def show(data):
-    """The listing of a set, a file or a dump: a line for each descriptor."""
-    return _whole(_lib.usb_show, *_in(data)).decode("ascii")
+def show(data, any=False):
+    """The listing of a set or a file, with `any` of a dump too: a line for each descriptor."""
+    return _whole(_lib.usb_show, *_in(data), any).decode("ascii")
 
 
-def check(data):
-    """A line for each rule of chapter 9 that is broken, or `no findings`."""
-    return _whole(_lib.usb_check, *_in(data)).decode("ascii")
+def check(data, any=False):
+    """A line for each rule of chapter 9 that a file breaks, with `any` a set or a dump too, or `no findings`."""
+    return _whole(_lib.usb_check, *_in(data), any).decode("ascii")
 
 
-def build(text):
-    """The bytes of the file that a text lists."""
-    return _whole(_lib.usb_build, *_in(text.encode("utf-8")))
+def build(text, comments=False):
+    """The bytes of the file that a text lists. With `comments` empty lines, comments and carriage returns are dropped."""
+    return _whole(_lib.usb_build, *_in(text.encode("utf-8")), comments)
 
 
 def explain(data, brief=False, places=True, speed=None, utf8=False):

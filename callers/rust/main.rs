@@ -1,4 +1,5 @@
-//! `COMMAND FILE`: show, check, explain or build by the wrapper; `enumerate FILE` by both handles, without a loss.
+//! `COMMAND FILE [wide]`: show, check, explain or build by the wrapper, with `wide` with `any` or `comments`; `enumerate FILE`
+//! by both handles, without a loss.
 mod nozzlegorse;
 use nozzlegorse::{Action, Answer, Device, Host};
 use std::io::Write;
@@ -35,10 +36,11 @@ fn enumerated(file: &[u8]) -> Result<Vec<u8>, Answer> {
 fn main() {
     let words: Vec<String> = std::env::args().collect();
     let bytes = std::fs::read(&words[2]).expect("it is read");
+    let wide = words.len() > 3;
     let told = match words[1].as_str() {
-        "show" => nozzlegorse::show(&bytes),
-        "check" => nozzlegorse::check(&bytes),
-        "build" => nozzlegorse::build(&bytes),
+        "show" => nozzlegorse::show(&bytes, wide),
+        "check" => nozzlegorse::check(&bytes, wide),
+        "build" => nozzlegorse::build(&bytes, wide),
         "enumerate" => enumerated(&bytes),
         _ => {
             let (text, fault) = nozzlegorse::explain(&bytes, 2, 0);

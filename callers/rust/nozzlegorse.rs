@@ -78,10 +78,10 @@ struct Handle {
 const CLOSED: Handle = Handle { held: null_mut() };
 
 unsafe extern "C" {
-    fn usb_show(bytes: *const u8, len: usize, text: *mut u8, room: usize) -> Answer;
-    fn usb_check(bytes: *const u8, len: usize, text: *mut u8, room: usize) -> Answer;
+    fn usb_show(bytes: *const u8, len: usize, any: bool, text: *mut u8, room: usize) -> Answer;
+    fn usb_check(bytes: *const u8, len: usize, any: bool, text: *mut u8, room: usize) -> Answer;
     fn usb_explain(bytes: *const u8, len: usize, options: u32, speed: u8, text: *mut u8, room: usize) -> Answer;
-    fn usb_build(text: *const u8, len: usize, bytes: *mut u8, room: usize) -> Answer;
+    fn usb_build(text: *const u8, len: usize, comments: bool, bytes: *mut u8, room: usize) -> Answer;
     fn usb_enumerate(bytes: *const u8, len: usize, speed: u8, naks: u16, attempts: u8, fates: *const u8, fates_len: usize, outcome: *mut Outcome, text: *mut u8, room: usize) -> Answer;
     fn usb_device_open(device: *mut Handle, file: *const u8, len: usize, speed: u8) -> Answer;
     fn usb_device_reset(device: *mut Handle) -> bool;
@@ -134,14 +134,14 @@ fn whole((answer, out): (Answer, Vec<u8>)) -> Result<Vec<u8>, Answer> {
     done(answer).map(|()| out)
 }
 
-/// The listing of a set, a file or a dump.
-pub fn show(bytes: &[u8]) -> Result<Vec<u8>, Answer> {
-    whole(into(|out, room| unsafe { usb_show(bytes.as_ptr(), bytes.len(), out, room) }))
+/// The listing of a set or a file; with `any` that of a dump too.
+pub fn show(bytes: &[u8], any: bool) -> Result<Vec<u8>, Answer> {
+    whole(into(|out, room| unsafe { usb_show(bytes.as_ptr(), bytes.len(), any, out, room) }))
 }
 
-/// A line for each finding, or `no findings`.
-pub fn check(bytes: &[u8]) -> Result<Vec<u8>, Answer> {
-    whole(into(|out, room| unsafe { usb_check(bytes.as_ptr(), bytes.len(), out, room) }))
+/// A line for each finding in a file, or `no findings`; with `any` in a set or a dump too.
+pub fn check(bytes: &[u8], any: bool) -> Result<Vec<u8>, Answer> {
+    whole(into(|out, room| unsafe { usb_check(bytes.as_ptr(), bytes.len(), any, out, room) }))
 }
 
 /// The text as far as the bytes go, and the fault where they are broken. Options: 1 brief, 2 places, 4 UTF-8.
@@ -150,9 +150,9 @@ pub fn explain(bytes: &[u8], options: u32, speed: u8) -> (Vec<u8>, Result<(), An
     (out, done(answer))
 }
 
-/// The bytes of the file that a text lists.
-pub fn build(text: &[u8]) -> Result<Vec<u8>, Answer> {
-    whole(into(|out, room| unsafe { usb_build(text.as_ptr(), text.len(), out, room) }))
+/// The bytes of the file that a text lists; with `comments` empty lines, comments and carriage returns are dropped.
+pub fn build(text: &[u8], comments: bool) -> Result<Vec<u8>, Answer> {
+    whole(into(|out, room| unsafe { usb_build(text.as_ptr(), text.len(), comments, out, room) }))
 }
 
 /// What came of an enumeration, and the listing of what was read, or why there is none.

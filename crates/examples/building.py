@@ -4,8 +4,10 @@
 It was written from the tables of docs/formats.md, in another language and by no function of
 this repository. The gate compares what it writes (.ci/readings).
 
-    building.py FILE..     writes what comes of each listing FILE: its bytes to the file of that name that ends in
-                           .file, or the program's line of its fault to the one that ends in .fault
+    building.py FILE..              writes what comes of each listing FILE: its bytes to the file of that name that
+                                    ends in .file, or the program's line of its fault to the one that ends in .fault
+    building.py --comments FILE..   writes the same for a text that may have comments, where that is something else, to
+                                    files that end in .commented.file and .commented.fault
 """
 
 import os
@@ -175,14 +177,16 @@ class Builder:
         return self.begun and self.due[self.word_of_sets] == 0 and self.strings_due == 0 and self.spoken == bool(self.named)
 
 
-def build(text):
-    """The bytes, or the number and the line of the fault."""
+def build(text, has_comments=False):
+    """The bytes, or the number and the line of the fault. Where there may be comments, they are dropped with empty lines
+    and with a carriage return at the end of a line."""
     builder = Builder()
     lines = text.split(b"\n")
     for number, line in enumerate(lines[:-1], 1):
-        line = line.removesuffix(b"\r")
-        if not line or line.startswith(b"#"):
-            continue
+        if has_comments:
+            line = line.removesuffix(b"\r")
+            if not line or line.startswith(b"#"):
+                continue
         try:
             builder.add(line.decode("latin-1"))
         except Fault as fault:
@@ -196,12 +200,16 @@ def build(text):
 
 
 def main(paths):
-    if not paths:
+    has_comments = paths[:1] == ["--comments"]
+    if not paths[has_comments:]:
         sys.exit(__doc__)
-    for path in paths:
+    for path in paths[has_comments:]:
         with open(path, "rb") as source:
-            built = build(source.read())
-        stem = os.path.splitext(path)[0]
+            text = source.read()
+        built = build(text, has_comments)
+        if has_comments and built == build(text):
+            continue
+        stem = os.path.splitext(path)[0] + ".commented" * has_comments
         if isinstance(built, bytes):
             with open(stem + ".file", "wb") as target:
                 target.write(built)

@@ -3,8 +3,7 @@
 use anyhow::{Context, Result, ensure};
 use std::alloc::Global;
 use usb_fields::{Answer, Speed, Stage, Toggle};
-use usb_host::{Action, Host};
-use usb_transfer::Limits;
+use usb_host::{Action, Host, Limits};
 
 /// The size of a packet, in bytes.
 const PACKET: usize = 8;

@@ -1,11 +1,11 @@
 //! Whole enumerations, of both ends.
 use anyhow::{Context, Result, ensure};
 use std::alloc::Global;
+use usb_bus::enumerate;
 use usb_device::Description;
-use usb_enumeration::enumerate;
 use usb_fields::Speed;
 use usb_file::read_file;
-use usb_transfer::Limits;
+use usb_host::Limits;
 
 /// So many enumerations of the device whose descriptor file the bytes are, over a bus that loses nothing; none where
 /// they are no file. Answers how many transactions one of them has.

@@ -5,7 +5,7 @@ use std::alloc::Global;
 use usb_bus::converse;
 use usb_device::Description;
 use usb_fields::{Answer, Setup, Speed, Stage, Toggle, request, request_type};
-use usb_transfer::{Heard, Transfer};
+use usb_host::{Heard, Transfer};
 
 /// The size of a packet, in bytes.
 const PACKET: u8 = 64;

@@ -9,7 +9,7 @@ use std::io;
 use usb_device::{Description, Device};
 use usb_fields::{Setup, Speed, Stage, Toggle, Transaction};
 use usb_file::read_file;
-use usb_transfer::Transfer;
+use usb_host::Transfer;
 
 /// The most bytes that the input can have here.
 const LONGEST: usize = 4096;

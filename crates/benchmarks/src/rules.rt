@@ -3,7 +3,7 @@ use crate::files::file_of;
 use anyhow::Result;
 use std::alloc::Global;
 use usb_file::{read_file, write_file};
-use usb_rules::check;
+use usb_file_data::check;
 
 /// Of a file with so many copies of the set.
 pub(crate) fn check_sets(alloc: Global, set: &[u8], copies: u32, rounds: u32) -> Result<usize> {

@@ -13,8 +13,7 @@ use std::result;
 use usb_device::EndpointZero;
 use usb_file::{read_file, write_file};
 use usb_listing::list_set;
-use usb_set::{Configuration, Decoder, SetFault};
-use usb_set_encoder::encode;
+use usb_set::{Configuration, Decoder, SetFault, encode};
 
 /// The words that ask for each kind of work.
 pub(crate) const WORKS: [&str; 31] = [

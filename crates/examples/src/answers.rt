@@ -1,6 +1,6 @@
 //! What comes of each call that a row can name.
 use crate::row::Row;
-use crate::{command_line, failing, fields, files, messages, sets, tree};
+use crate::{command_line, failing, fields, files, listings, messages, sets, tree};
 use anyhow::{Result, bail};
 use std::alloc::Global;
 
@@ -20,6 +20,7 @@ pub(crate) fn answer(alloc: Global, row: &Row) -> Result<Option<String>> {
         "encode" => sets::encode_lines(alloc, lines)?,
         "file" => files::file(alloc, words)?,
         "write" => files::write_lines(alloc, lines)?,
+        "assemble" => listings::assemblies(alloc, row)?,
         "named" => files::indices(alloc, &tree::file_of(alloc, lines)?)?,
         "failing_reads" => failing::failing_reads(alloc, row)?,
         "failing_writes" => failing::failing_writes(alloc, row)?,

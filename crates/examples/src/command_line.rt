@@ -3,7 +3,8 @@ use crate::fields::fault;
 use anyhow::{Result, bail};
 use std::alloc::Global;
 use usb_tool::{
-    Fate, Line, manner_of, read_fates, read_line, read_running_speed, read_speed, settings_of,
+    EnumerateFlags, Explaining, Fate, Line, Options, manner_of, read_fates, read_line,
+    read_running_speed, read_speed, settings_of,
 };
 
 /// The words of the program, its name first.
@@ -32,28 +33,56 @@ fn command(alloc: Global, line: &Line<'_>) -> Result<String> {
         Line::Show => Ok(String::from_str(alloc, "show")?),
         Line::Check => Ok(String::from_str(alloc, "check")?),
         Line::Build => Ok(String::from_str(alloc, "build")?),
-        Line::Explain(options) => {
-            let given = [
-                ("brief", options.brief.then_some("")),
-                ("no-places", options.no_places.then_some("")),
-                ("utf8", options.utf8.then_some("")),
-                ("hex", options.hex.then_some("")),
-                ("speed", options.speed),
-            ];
-            with_options(alloc, "explain", &given)
+        Line::Enumerate(options) => with_options(alloc, "enumerate", &texts(options)),
+        Line::ShowAny => Ok(String::from_str(alloc, "show any")?),
+        Line::CheckAny => Ok(String::from_str(alloc, "check any")?),
+        Line::BuildCommented => Ok(String::from_str(alloc, "build comments")?),
+        Line::Explain(options) => explanation(alloc, options),
+        Line::EnumerateWith(options, flags) => {
+            let mut told = with_options(alloc, "enumerate", &texts(options))?;
+            told.push_str(said(*flags))?;
+            Ok(told)
         }
-        Line::Enumerate(options) => {
-            let given = [
-                ("speed", options.speed),
-                ("address", options.address),
-                ("naks", options.naks),
-                ("attempts", options.attempts),
-                ("fates", options.fates),
-                ("log", options.log.then_some("")),
-                ("with-strings", options.with_strings.then_some("")),
-            ];
-            with_options(alloc, "enumerate", &given)
-        }
+    }
+}
+
+/// An explanation with the options that are given.
+fn explanation(alloc: Global, options: &Explaining<'_>) -> Result<String> {
+    let given = [
+        ("brief", options.brief.then_some("")),
+        ("no-places", options.no_places.then_some("")),
+        ("utf8", options.utf8.then_some("")),
+        ("hex", options.hex.then_some("")),
+        ("speed", options.speed),
+    ];
+    with_options(alloc, "explain", &given)
+}
+
+/// The texts of an enumeration, with the names of their options.
+fn texts<'a>(options: &Options<'a>) -> [(&'static str, Option<&'a str>); 5] {
+    let Options {
+        speed,
+        address,
+        naks,
+        attempts,
+        fates,
+    } = *options;
+    [
+        ("speed", speed),
+        ("address", address),
+        ("naks", naks),
+        ("attempts", attempts),
+        ("fates", fates),
+    ]
+}
+
+/// The flags of an enumeration that are given, each after a space.
+fn said(flags: EnumerateFlags) -> &'static str {
+    match (flags.log, flags.with_strings) {
+        (false, false) => "",
+        (true, false) => " log",
+        (false, true) => " with-strings",
+        (true, true) => " log with-strings",
     }
 }
 
@@ -129,12 +158,13 @@ fn listed(alloc: Global, fates: &[Fate]) -> Result<String> {
     Ok(text)
 }
 
-/// What the options of a line mean, limits, speed, fates and the flags, or the exit status and the
-/// line of the fault.
+/// What the options of a line mean, limits, speed and fates, and its flags, or the exit status and the line of the fault.
 pub(crate) fn settings(alloc: Global, words: &[String]) -> Result<String> {
     let words = line_of(alloc, words)?;
-    let Ok(Line::Enumerate(options)) = read_line(alloc, &words) else {
-        bail!("no enumeration");
+    let (options, flags) = match read_line(alloc, &words) {
+        Ok(Line::Enumerate(options)) => (options, ""),
+        Ok(Line::EnumerateWith(options, flags)) => (options, said(flags)),
+        _ => bail!("no enumeration"),
     };
     let settings = match settings_of(alloc, &options) {
         Ok(settings) => settings,
@@ -142,17 +172,11 @@ pub(crate) fn settings(alloc: Global, words: &[String]) -> Result<String> {
     };
     let (limits, speed) = (settings.limits, settings.speed);
     let fates = listed(alloc, &settings.fates)?;
-    let log = if settings.log { " log" } else { "" };
-    let strings = if settings.with_strings {
-        " with-strings"
-    } else {
-        ""
-    };
     let told = format!(in alloc;
         "address {} naks {} attempts {} {speed:?} {fates}",
         limits.address(),
         limits.naks(),
         limits.attempts()
     )?;
-    Ok(format!(in alloc; "{}{log}{strings}", told.as_str().trim_end())?)
+    Ok(format!(in alloc; "{}{flags}", told.as_str().trim_end())?)
 }

@@ -7,22 +7,27 @@ use std::alloc::Global;
 use std::io::{Read, Write};
 use usb_tool::run;
 
-/// A run of the program over an input: its word, what it writes, and how it ends.
+/// A run of the program over an input: its command with the option, if there is one, what it writes, and how it ends.
 #[derive(Drop)]
 struct Case {
-    word: String,
+    command: Vec<String>,
     input: Vec<u8>,
     written: Vec<u8>,
     told: String,
 }
 
-/// Runs the program with this word: the exit status, and the line of the fault if there is one. A call of its own, so
+/// Runs the program with this command: the exit status, and the line of the fault if there is one. A call of its own, so
 /// that its callers are proved without the long contract of `run`.
-fn told<R: Read, W: Write>(alloc: Global, word: &str, r: &mut R, w: &mut W) -> Result<String> {
-    let words = vec![in alloc;
-        String::from_str(alloc, "usbdesc")?,
-        String::from_str(alloc, word)?,
-    ]?;
+fn told<R: Read, W: Write>(
+    alloc: Global,
+    command: &[String],
+    r: &mut R,
+    w: &mut W,
+) -> Result<String> {
+    let mut words = vec![in alloc; String::from_str(alloc, "usbdesc")?]?;
+    for word in command {
+        words.push(word.clone()?)?;
+    }
     let mut errors = Vec::new(alloc);
     let status = run(alloc, &words, r, w, &mut errors);
     let fault = String::from_utf8(errors)?;
@@ -30,20 +35,32 @@ fn told<R: Read, W: Write>(alloc: Global, word: &str, r: &mut R, w: &mut W) -> R
     Ok(String::from_str(alloc, told.as_str().trim_end())?)
 }
 
+/// The command that the words begin with, with its option if there is one, and the words behind it.
+fn command_of(alloc: Global, words: &[String]) -> Result<(Vec<String>, &[String])> {
+    match words {
+        [word, option, words @ ..] if option.as_str().starts_with("--") => {
+            Ok((vec![in alloc; word.clone()?, option.clone()?]?, words))
+        }
+        [word, words @ ..] => Ok((vec![in alloc; word.clone()?]?, words)),
+        [] => bail!("no command"),
+    }
+}
+
 /// The run that a row asks for, which succeeds, and the row's number, which a flush doesn't have. Its input is the bytes
 /// of the row's lines, once the words after the command and the number have changed them.
 fn case_of(alloc: Global, row: &Row) -> Result<(Case, usize)> {
-    let (word, number, words) = match row.words.as_slice() {
-        [word, words @ ..] if row.call.as_str() == "failing_flush" => (word, usize::MAX, words),
-        [word, number, words @ ..] => (word, number.parse::<usize>()?, words),
-        _ => bail!("no command and number"),
+    let (command, words) = command_of(alloc, &row.words)?;
+    let (number, words) = match words {
+        words if row.call.as_str() == "failing_flush" => (usize::MAX, words),
+        [number, words @ ..] => (number.parse::<usize>()?, words),
+        _ => bail!("no number"),
     };
     let input = changed(alloc, row.lines.as_str(), words)?;
     let mut written = Vec::new(alloc);
-    let told = told(alloc, word.as_str(), &mut input.as_slice(), &mut written)?;
+    let told = told(alloc, &command, &mut input.as_slice(), &mut written)?;
     ensure!(told.len() == 1, "{told}");
     let case = Case {
-        word: word.clone()?,
+        command,
         input,
         written,
         told,
@@ -76,7 +93,7 @@ fn fails_to_read(alloc: Global, case: &Case, step: usize, calls: usize) -> Resul
         after: 0,
     };
     let mut text = Vec::new(alloc);
-    let told = told(alloc, case.word.as_str(), &mut reader, &mut text)?;
+    let told = told(alloc, &case.command, &mut reader, &mut text)?;
     if reader.failed == 0 {
         ensure!(told == case.told, "a fault though no call failed: {told}");
         ensure!(text == case.written, "something else is written");
@@ -137,7 +154,7 @@ fn sheet_of(alloc: Global, step: usize, calls: usize, end: End) -> Sheet {
 
 /// How a run with this writer ends, which then holds a prefix of the output.
 fn write_to(alloc: Global, case: &Case, sheet: &mut Sheet) -> Result<String> {
-    let told = told(alloc, case.word.as_str(), &mut case.input.as_slice(), sheet)?;
+    let told = told(alloc, &case.command, &mut case.input.as_slice(), sheet)?;
     ensure!(
         case.written.starts_with(&sheet.text),
         "no front of the output"

@@ -5,7 +5,6 @@ use crate::words::bytes_of;
 use anyhow::{Result, ensure};
 use std::alloc::Global;
 use usb_file::{DescriptorFile, FileWhy, named, read_file, write_file};
-use usb_listing_reader::assemble;
 
 /// The named indices of the file that the bytes are, or their fault. A file gives its bytes again.
 pub(crate) fn file(alloc: Global, words: &[String]) -> Result<String> {
@@ -34,15 +33,9 @@ fn write_again(alloc: Global, bytes: &[u8], file: &DescriptorFile) -> Result<()>
     Ok(())
 }
 
-/// Reads the bytes and their listing to one file, and writes it to these bytes.
-pub(crate) fn go_round(alloc: Global, bytes: &[u8], listing: &[u8]) -> Result<()> {
-    let file = read_file(alloc, bytes)?;
-    write_again(alloc, bytes, &file)?;
-    ensure!(
-        assemble(alloc, listing)? == file,
-        "another file is read back"
-    );
-    Ok(())
+/// Reads the bytes to a file, and writes it to these bytes.
+pub(crate) fn go_round(alloc: Global, bytes: &[u8]) -> Result<()> {
+    write_again(alloc, bytes, &read_file(alloc, bytes)?)
 }
 
 /// The named indices of the file, as digits.

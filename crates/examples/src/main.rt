@@ -8,6 +8,7 @@ mod command_line;
 mod failing;
 mod fields;
 mod files;
+mod listings;
 mod messages;
 mod row;
 mod sets;
@@ -44,7 +45,14 @@ fn go_through<R: Files + AllocGlobal>(rt: &R, line: &str) -> Result<String> {
             "written again"
         }
         "file" | "listing" => {
-            files::go_round(alloc, &read(rt, name, "file")?, &read(rt, name, "txt")?)?;
+            let bytes = read(rt, name, "file")?;
+            files::go_round(alloc, &bytes)?;
+            listings::go_round(alloc, &bytes, &read(rt, name, "txt")?, true)?;
+            "written again"
+        }
+        "commented" => {
+            let bytes = read(rt, name, "commented.file")?;
+            listings::go_round(alloc, &bytes, &read(rt, name, "txt")?, false)?;
             "written again"
         }
         "dump" | "broken" | "output" => "",

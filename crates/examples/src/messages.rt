@@ -5,12 +5,12 @@ use std::fmt::Display;
 use usb_device::DescriptionFault;
 use usb_fields::{FieldFault, UnitFault};
 use usb_file::{FileFault, FileWhy, WriteFault};
-use usb_listing::OutFault;
-use usb_listing_reader::{ListFault, ListWhy};
-use usb_rules::{Finding, Part, Rule};
+use usb_file_data::{Finding, Part, Rule};
+use usb_host::{LimitFault, Why};
+use usb_listing::{ListFault, ListWhy};
 use usb_set::{EncodeFault, SetFault, SetWhy};
+use usb_text::OutFault;
 use usb_tool::{FatesFault, SettingsFault, ToolFault, verdict};
-use usb_transfer::{LimitFault, Why};
 
 const FIELD_FAULTS: [FieldFault; 2] = [FieldFault::Length, FieldFault::Kind];
 
@@ -79,7 +79,7 @@ const LIST_WHYS: [ListWhy; 7] = [
 /// Why there is no device; of the rules, that the second endpoint of a set breaks the twelfth.
 const DESCRIPTION_FAULTS: [DescriptionFault; 5] = [
     DescriptionFault::Finding(Finding {
-        rule: Rule::V12,
+        rule: 12,
         part: Part::Main,
         set: 0,
         setting: 0,

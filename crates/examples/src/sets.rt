@@ -4,8 +4,7 @@ use crate::tree::set_of;
 use crate::words::bytes_of;
 use anyhow::{Context, Result, ensure};
 use std::alloc::Global;
-use usb_set::{Configuration, Decoder, EncodeFault, Progress, SetFault, read_set};
-use usb_set_encoder::{encode, refusal};
+use usb_set::{Configuration, Decoder, EncodeFault, Progress, SetFault, encode, read_set, refusal};
 
 /// The lengths of the pieces in which each set is fed.
 const LENGTHS: [usize; 8] = [1, 2, 3, 64, 254, 255, 256, 65_535];

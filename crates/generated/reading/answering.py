@@ -13,11 +13,12 @@ from enumerating import Device, File, Host  # noqa: E402
 
 HOSTS = 10_000
 MORE = 4
+LISTS, LONG = 20, 10_000
 
 
-def new_host(numbers):
+def new_host(numbers, most=4):
     address = numbers.below(127) + 1
-    naks = numbers.below(4)
+    naks = numbers.below(most)
     return Host("full", address, naks, numbers.below(8) + 1)
 
 
@@ -57,10 +58,14 @@ def end(host):
     return "host, success", host.read.hex()
 
 
+def line_of(host, kind, told):
+    return f"{kind} {told} attempts {host.resets} transactions {host.transactions}\n"
+
+
 def settled(host, numbers, b):
     """The line of a host, and its kind. One that has ended is answered some more, and must keep its outcome."""
     before = end(host)
-    line = f"{before[0]} {before[1]} attempts {host.resets} transactions {host.transactions}\n"
+    line = line_of(host, *before)
     for _ in range(MORE if host.due == "ended" else 0):
         host.take(any_answer(numbers, b))
         host.reset_done()
@@ -79,16 +84,50 @@ def anything(b):
         yield settled(host, numbers, b)
 
 
-def exchange(host, device, kind, times, numbers):
-    """A transaction, in which the device's answer is another one once in so many times."""
+def exchange(host, device, kind, times, numbers, ready=1):
+    """A transaction, in which the device's answer is another one once in so many times, and in which the device is ready
+    once in so many."""
     lies = numbers.below(times) == 0
-    answer = device.serve(host.transfer.address, host.transfer.token())
+    is_ready = ready == 1 or numbers.below(ready) == 0
+    answer = device.serve(host.transfer.address, host.transfer.token(), is_ready)
     acknowledged = isinstance(answer, tuple)
     if lies:
         answer, acknowledged = other_answer(numbers, kind, answer)
     host.take(answer)
     if acknowledged:
         device.acked()
+
+
+def most(host):
+    """How many transactions an attempt has at most, by the reads of an enumeration: at packets of eight bytes each has
+    wLength / 8 + 3 steps, and each step as many transactions as NAKs and strikes are borne and one more."""
+    sets = 255 * (65_535 // 8 + 3 + 9 // 8 + 3)
+    reads = 8 // 8 + 3 + 3 + 18 // 8 + 3 + sets + 10 // 8 + 3 + sets + (1 + 126 * 255) * (255 // 8 + 3) + 3
+    return host.attempts * reads * (host.limit + 3)
+
+
+def long(b):
+    """Hosts that are each given 10,000 resets and answers: by a device that is ready now and then, and once they have ended
+    by anything, which must not change them."""
+    numbers, device = Numbers(5), Device(File(b))
+    for _ in range(LISTS):
+        host, first = new_host(numbers, 4_096), None
+        device.reset()
+        kind, times, ready = numbers.below(8), numbers.below(4_096) + 2, numbers.below(1_024) + 1
+        for _ in range(LONG):
+            if host.due == "reset":
+                device.reset()
+                host.reset_done()
+            elif host.due == "send":
+                exchange(host, device, kind, times, numbers, ready)
+            else:
+                first = first or end(host)
+                host.take(any_answer(numbers, b))
+                host.reset_done()
+        last = end(host)
+        is_kept = last == first if first else host.due != "ended"
+        within = "host, too many transactions" if host.transactions > most(host) else last[0]
+        yield line_of(host, *last), within if is_kept else "host, changed"
 
 
 def lies(b):

@@ -3,7 +3,7 @@
 # What a byte of descriptors becomes, and a byte of a listing: bounds of what a field can be, and characters that a line
 # may have in other places or nowhere.
 BYTES = b"\x00\x01\x7f\x80\xff"
-CHARACTERS = b' 0af-"\\gA~\n\x7f'
+CHARACTERS = b' 0af-"\\gA~\n\x7f#\r'
 
 
 class Numbers:

@@ -16,15 +16,17 @@ def pieces(b, step):
     return [b[place : place + step] for place in range(0, len(b), step)]
 
 
-def reads(b, step):
-    """What each call of a reader gives. The last call gives nothing."""
-    return pieces(b, step) + [b""]
+def reads(command, b, step):
+    """What each call of a reader gives. `show` asks for the first two bytes one by one, since they tell what the input
+    is. The last call gives nothing."""
+    alone = 2 if command == "show" else 0
+    return pieces(b[:alone], 1) + pieces(b[alone:], step) + [b""]
 
 
 def readers(command, b):
     """For each reader what it is, and the answer of the command."""
     for step in STEPS:
-        calls = reads(b, step)
+        calls = reads(command, b, step)
         for fault in FAULTS:
             for count in range(len(calls) + 1):
                 given = b"".join(calls[:count])

@@ -167,6 +167,7 @@ class File:
             self.units()
 
 
+@lru_cache(maxsize=64)
 def file_fault(b):
     """The line of the fault of bytes as a file, and whether they are a dump."""
     file = File(b)
@@ -199,17 +200,43 @@ def form(b):
     return (None, "dump") if dump else (fault, "file")
 
 
+def set_or_file(b):
+    """The line of the fault of bytes as a set or a file, and which of the two they are read as."""
+    return (set_fault(b), "set") if len(b) > 1 and b[1] in (2, 7) else (file_fault(b)[0], "file")
+
+
+# The same is asked of an input by several commands.
+listing_of = lru_cache(maxsize=64)(reading.listing)
+findings_of = lru_cache(maxsize=64)(checking.findings)
+
+
+def listed(read):
+    fault, kind, b = read
+    return (3, b"", fault) if fault else (0, listing_of(kind, b).encode(), "")
+
+
+def checked(read):
+    fault, kind, b = read
+    if fault:
+        return 3, b"", fault
+    findings = findings_of(kind, b)
+    return int(findings != "no findings\n"), findings.encode(), ""
+
+
 def show(b):
-    fault, kind = form(b)
-    return (3, b"", fault) if fault else (0, reading.listing(kind, b).encode(), "")
+    return listed((*set_or_file(b), b))
+
+
+def show_any(b):
+    return listed((*form(b), b))
 
 
 def check(b):
-    fault, kind = form(b)
-    if fault:
-        return 3, b"", fault
-    findings = checking.findings(kind, b)
-    return int(findings != "no findings\n"), findings.encode(), ""
+    return checked((file_fault(b)[0], "file", b))
+
+
+def check_any(b):
+    return checked((*form(b), b))
 
 
 def file_message(b, number):
@@ -251,8 +278,8 @@ def explain_bytes(b):
     return 3, explaining.Explanation(kind, b, fault=told).text().encode(), fault
 
 
-def build(b):
-    built = building.build(b)
+def build(b, commented=False):
+    built = building.build(b, commented)
     if isinstance(built, bytes):
         return 0, built, ""
     return 3, b"", f"usbdesc: listing fault {built[0]} line {built[1]}\n"
@@ -265,7 +292,7 @@ def refused_or_listed(b):
     if fault:
         return (3, "", fault), None
     line = enumerations_of_files.refused(b, "full")
-    return ((1, line + "\n", ""), None) if line else (None, reading.listing("file", b))
+    return ((1, line + "\n", ""), None) if line else (None, listing_of("file", b))
 
 
 def enumeration(b, fates="", naks=16, attempts=3, is_logged=False):
@@ -289,7 +316,15 @@ def enumeration(b, fates="", naks=16, attempts=3, is_logged=False):
 
 # What is lost where a log fails: the ACK of the address.
 LOST = "....a"
-COMMANDS = {"show": show, "check": check, "explain": explain, "build": build}
+COMMANDS = {
+    "show": show,
+    "show_any": show_any,
+    "check": check,
+    "check_any": check_any,
+    "explain": explain,
+    "build": build,
+    "build_commented": lambda b: build(b, commented=True),
+}
 
 
 @lru_cache(maxsize=None)

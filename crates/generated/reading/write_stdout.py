@@ -39,10 +39,10 @@ def files(pattern, beside=None):
 
 # Which commands read an example of a kind, over readers and writers that fail.
 COMMANDS = {
-    "set": ["show", "check", "explain"],
-    "dump": ["show", "check", "explain"],
+    "set": ["show", "show_any", "check_any", "explain"],
+    "dump": ["show_any", "check_any", "explain"],
     "file": ["show", "check", "explain", "enumerate"],
-    "listing": ["build"],
+    "listing": ["build", "build_commented"],
 }
 # The mouse, its set, the real mouse and the file with everything, and inputs at fault: a set whose last descriptor goes
 # over its end, a set with bytes behind it, and a file that is cut.
@@ -60,7 +60,7 @@ DEVICES = {
     "board": ["asked"],
     "mouse-64": ["anything", "lies", *TALKS, "enumerate-five-0-1", "enumerate-five-2-2", "enumerate-long-2-2", "enumerate-far-65535-1", "log-far-65535-1"],
     "mouse-8": ["lies", *TALKS, *SHORT],
-    "everything": ["lies", "enumerate-long-1-3", "log-long-1-3"],
+    "everything": ["lies", "long", "enumerate-long-1-3", "log-long-1-3"],
     "real-mouse": ["enumerate-given-16-3", "log-given-16-3"],
 }
 
@@ -96,8 +96,8 @@ def examples():
     for name, b in files("dumps/*.descriptors"):
         yield "dump", name, b
     yield "listing", "mouse", refusing.show(MOUSE)[1]
-    for pattern in ("files/*.txt", "listings/*.txt"):
-        for name, b in files(pattern, ".file"):
+    for pattern, beside in (("files/*.txt", ".file"), ("listings/*.txt", ".file"), ("listings/*.txt", ".commented.file")):
+        for name, b in files(pattern, beside):
             yield "listing", name, b
     for name, (kind, b) in AT_FAULT.items():
         yield kind, name, b
@@ -109,9 +109,9 @@ def examples():
 
 
 def answers_to(b):
-    """The answers to one input. What `show` lists is built again."""
-    for command in ("show", "check", "explain", "build", "enumerate"):
-        yield command, *refusing.answer(command, refusing.show(b)[1] or b if command == "build" else b)
+    """The answers to one input. What is listed of an input in any form is built again."""
+    for command in ("show", "show_any", "check", "check_any", "explain", "build", "build_commented", "enumerate"):
+        yield command, *refusing.answer(command, refusing.answer("show_any", b)[1] or b if command.startswith("build") else b)
 
 
 def told(*answers, title=""):
@@ -142,7 +142,7 @@ def devices(way, b, number):
         for lines, state in asking.hosts(changing.Numbers(number)):
             yield ("".join(line + "\n" for line in lines) + state).encode(), [f"device, {line.split(' ')[0]}" for line in lines]
         return
-    for line, kind in answering.anything(b) if way == "anything" else answering.lies(b):
+    for line, kind in {"anything": answering.anything, "lies": answering.lies, "long": answering.long}[way](b):
         yield line.encode(), [kind]
 
 

@@ -1,4 +1,4 @@
-//! Hosts that are answered by anything, or by a device that lies now and then.
+//! Hosts that are answered by anything, or by a device that lies now and then; some of them at length.
 use crate::answer::before;
 use crate::example::Example;
 use crate::numbers::Numbers;
@@ -8,14 +8,22 @@ use std::alloc::{AllocError, Global};
 use usb_device::Device;
 use usb_fields::{Answer, Speed, Toggle, Transaction};
 use usb_file::write_file;
-use usb_host::{Action, Host};
-use usb_transfer::Limits;
+use usb_host::{Action, Host, Limits};
 
 /// How many hosts there are of each kind.
 const HOSTS: u32 = 10_000;
 
 /// How many answers a host is given once it has ended.
 const MORE: u8 = 4;
+
+/// How many hosts are answered at length.
+const LISTS: u32 = 20;
+
+/// How many resets and answers each of these is given, whether it has ended or not.
+const LONG: usize = 10_000;
+
+/// How many steps of progress an attempt has at most. Each has as many transactions as NAKs are borne, and three more.
+const STEPS: u64 = 5_273_453;
 
 /// Hosts that are answered by anything. Packets begin as the bytes of the example do.
 pub(crate) fn anything(example: &Example, tally: &mut Tally) -> Result<()> {
@@ -40,11 +48,26 @@ pub(crate) fn lied_to(example: &Example, tally: &mut Tally) -> Result<()> {
     Ok(())
 }
 
-/// Which lies a host is given, and how often: once in so many times.
+/// Hosts that are given long lists of answers: by the device of the example, which is not ready most of the time, and now
+/// and then otherwise; and once they have ended by anything.
+pub(crate) fn at_length(example: &Example, tally: &mut Tally) -> Result<()> {
+    let description = example.description()?;
+    let mut numbers = Numbers(5);
+    for _ in 0..LISTS {
+        let mut answered = Answered::patient(tally.alloc, &mut numbers)?;
+        let mut device = Device::new(&description);
+        let end = answered.ask_at_length(&mut device, &mut numbers, &example.bytes)?;
+        answered.close(end, tally)?;
+    }
+    Ok(())
+}
+
+/// Which lies a host is given, and how often: once in so many times. And how often the device is ready for it.
 #[derive(Clone, Copy)]
 struct Lies {
     kind: usize,
     times: usize,
+    ready: usize,
 }
 
 /// How a host has ended: what it is counted as, and what it has read or at which step it has ended.
@@ -54,23 +77,38 @@ struct End {
     told: String,
 }
 
-/// A host, and how many transactions it has asked for.
+/// A host, how many transactions it may ask for, and how many it has asked for.
 #[derive(Drop)]
 struct Answered {
     alloc: Global,
     host: Host,
+    most: u64,
     transactions: u64,
 }
 
 impl Answered {
-    /// A host with an address of 1 to 127, few NAKs, and 1 to 8 attempts.
+    /// A host with few NAKs.
     fn new(alloc: Global, numbers: &mut Numbers) -> Result<Answered> {
+        Answered::bearing(alloc, 4, numbers)
+    }
+
+    /// A host that may bear many NAKs.
+    fn patient(alloc: Global, numbers: &mut Numbers) -> Result<Answered> {
+        Answered::bearing(alloc, 4_096, numbers)
+    }
+
+    /// A host with an address of 1 to 127, fewer NAKs than these, and 1 to 8 attempts.
+    fn bearing(alloc: Global, naks: u16, numbers: &mut Numbers) -> Result<Answered> {
         let address = numbers.below(127).saturating_add(1) as u8;
-        let naks = numbers.below(4) as u16;
+        let naks = numbers.below(usize::from(naks).max(1)) as u16;
         let attempts = numbers.below(8).saturating_add(1) as u8;
+        let limits = Limits::new(address, naks, attempts)?;
         Ok(Answered {
             alloc,
-            host: Host::new(alloc, Limits::new(address, naks, attempts)?, Speed::Full),
+            host: Host::new(alloc, limits, Speed::Full),
+            most: STEPS
+                .saturating_mul(u64::from(naks).saturating_add(3))
+                .saturating_mul(u64::from(attempts)),
             transactions: 0,
         })
     }
@@ -94,17 +132,61 @@ impl Answered {
         let steps = numbers.below(256);
         let kind = numbers.below(8);
         let times = numbers.below(32).saturating_add(2);
+        let lies = Lies {
+            kind,
+            times,
+            ready: 1,
+        };
         for _ in 0..steps {
-            match self.host.next() {
-                Action::Reset => {
-                    device.reset();
-                    self.host.reset_done();
-                }
-                Action::Send(sent) => self.exchange(device, &sent, Lies { kind, times }, numbers)?,
-                Action::Ended => {}
-            }
+            self.go_on_by(device, lies, numbers)?;
         }
         Ok(())
+    }
+
+    /// A long list of resets and answers: of this device, which is ready once in up to 1,024 times, among them lies of one
+    /// kind; after the end of anything, which the host is given as an answer and as a reset. How the host had ended at
+    /// first, if it has.
+    fn ask_at_length(
+        &mut self,
+        device: &mut Device<'_>,
+        numbers: &mut Numbers,
+        bytes: &[u8],
+    ) -> Result<Option<End>> {
+        let lies = Lies {
+            kind: numbers.below(8),
+            times: numbers.below(4_096).saturating_add(2),
+            ready: numbers.below(1_024).saturating_add(1),
+        };
+        let mut end = None;
+        for _ in 0..LONG {
+            if self.go_on_by(device, lies, numbers)? {
+                continue;
+            }
+            if end.is_none() {
+                end = Some(self.end()?);
+            }
+            self.host.take(any_answer(numbers, bytes));
+            self.host.reset_done();
+        }
+        Ok(end)
+    }
+
+    /// A reset, or a transaction with this device; or neither, once the host has ended. Whether it had not.
+    fn go_on_by(
+        &mut self,
+        device: &mut Device<'_>,
+        lies: Lies,
+        numbers: &mut Numbers,
+    ) -> Result<bool, AllocError> {
+        match self.host.next() {
+            Action::Reset => {
+                device.reset();
+                self.host.reset_done();
+            }
+            Action::Send(sent) => self.exchange(device, &sent, lies, numbers)?,
+            Action::Ended => return Ok(false),
+        }
+        Ok(true)
     }
 
     /// A transaction: the host gets the device's answer, or a lie. The device hears the ACK of a data packet whose
@@ -118,7 +200,8 @@ impl Answered {
     ) -> Result<(), AllocError> {
         self.transactions = self.transactions.saturating_add(1);
         let is_lie = numbers.below(lies.times.max(1)) == 0;
-        let answer = device.serve(transaction, true);
+        let is_ready = lies.ready <= 1 || numbers.below(lies.ready) == 0;
+        let answer = device.serve(transaction, is_ready);
         let has_data = matches!(&answer, Answer::Data(_, _));
         if is_lie {
             self.lie(answer, lies.kind, numbers)?;
@@ -159,15 +242,37 @@ impl Answered {
         Ok(())
     }
 
+    /// Adds the line of this host, and whether it has ended as it had ended at first, if it had, within so many
+    /// transactions as it may ask for.
+    fn close(self, first: Option<End>, tally: &mut Tally) -> Result<()> {
+        let end = self.end()?;
+        tally.begin(self.line(&end)?.as_str())?;
+        let is_kept = match &first {
+            Some(first) => *first == end,
+            None => self.host.outcome().is_none(),
+        };
+        if !is_kept {
+            tally.count(format!(in self.alloc; "host, changed")?)
+        } else if self.transactions > self.most {
+            tally.count(format!(in self.alloc; "host, too many transactions")?)
+        } else {
+            tally.count(end.kind)
+        }
+    }
+
+    /// The line of this host, which has ended so.
+    fn line(&self, end: &End) -> Result<String> {
+        let (kind, told, attempts) = (&end.kind, &end.told, self.host.attempts());
+        Ok(format!(in self.alloc;
+            "{kind} {told} attempts {attempts} transactions {}\n",
+            self.transactions
+        )?)
+    }
+
     /// Adds the line of this host. One that has ended is answered some more, and must keep its outcome.
     fn settle(mut self, numbers: &mut Numbers, bytes: &[u8], tally: &mut Tally) -> Result<()> {
         let end = self.end()?;
-        let (kind, told, attempts) = (&end.kind, &end.told, self.host.attempts());
-        let line = format!(in self.alloc;
-            "{kind} {told} attempts {attempts} transactions {}\n",
-            self.transactions
-        )?;
-        tally.begin(line.as_str())?;
+        tally.begin(self.line(&end)?.as_str())?;
         let more = if self.host.next() == Action::Ended {
             MORE
         } else {

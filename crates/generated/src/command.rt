@@ -5,10 +5,11 @@ use std::alloc::Global;
 use std::io::{Read, Write};
 use usb_bus::Fate;
 use usb_fields::Speed;
+use usb_host::Limits;
 use usb_tool::{
-    Look, Manner, Settings, ToolFault, run_build, run_check, run_enumerate, run_explain, run_show,
+    EnumerateFlags, Look, Manner, Settings, ToolFault, run_build, run_build_commented, run_check,
+    run_check_any, run_enumerate, run_enumerate_with, run_explain, run_show, run_show_any,
 };
-use usb_transfer::Limits;
 
 /// How an input is explained.
 const WHOLE: Manner = Manner {
@@ -20,14 +21,26 @@ const WHOLE: Manner = Manner {
     speed: None,
 };
 
+/// With a log.
+const LOGGED: EnumerateFlags = EnumerateFlags {
+    log: true,
+    with_strings: false,
+};
+
 /// A command.
 #[derive(Clone, Copy)]
 pub(crate) enum Command {
     Show,
+    /// Of a dump too.
+    ShowAny,
     Check,
+    /// Of a set or a dump too.
+    CheckAny,
     /// With fields and places, at a speed that the descriptors say.
     Explain,
     Build,
+    /// Of a listing with comments too.
+    BuildCommented,
     /// At full speed.
     Enumerate,
     /// The same with its log.
@@ -39,9 +52,12 @@ impl Command {
     pub(crate) fn of(word: &str) -> Option<Command> {
         match word {
             "show" => Some(Command::Show),
+            "show_any" => Some(Command::ShowAny),
             "check" => Some(Command::Check),
+            "check_any" => Some(Command::CheckAny),
             "explain" => Some(Command::Explain),
             "build" => Some(Command::Build),
+            "build_commented" => Some(Command::BuildCommented),
             "enumerate" => Some(Command::Enumerate),
             "log" => Some(Command::Log),
             _ => None,
@@ -52,9 +68,12 @@ impl Command {
     pub(crate) fn word(self) -> &'static str {
         match self {
             Command::Show => "show",
+            Command::ShowAny => "show_any",
             Command::Check => "check",
+            Command::CheckAny => "check_any",
             Command::Explain => "explain",
             Command::Build => "build",
+            Command::BuildCommented => "build_commented",
             Command::Enumerate => "enumerate",
             Command::Log => "log",
         }
@@ -66,8 +85,6 @@ impl Command {
             limits,
             speed: Speed::Full,
             fates,
-            log: matches!(self, Command::Log),
-            with_strings: false,
         }
     }
 
@@ -79,12 +96,21 @@ impl Command {
         w: &mut W,
         settings: &Settings,
     ) -> Result<u8, ToolFault> {
+        let Settings {
+            limits,
+            speed,
+            ref fates,
+        } = *settings;
         match self {
             Command::Show => run_show(alloc, r, w),
+            Command::ShowAny => run_show_any(alloc, r, w),
             Command::Check => run_check(alloc, r, w),
+            Command::CheckAny => run_check_any(alloc, r, w),
             Command::Explain => run_explain(alloc, r, w, WHOLE, false),
             Command::Build => run_build(alloc, r, w),
-            Command::Enumerate | Command::Log => run_enumerate(alloc, r, w, settings),
+            Command::BuildCommented => run_build_commented(alloc, r, w),
+            Command::Enumerate => run_enumerate(alloc, r, w, limits, speed, fates),
+            Command::Log => run_enumerate_with(alloc, r, w, limits, speed, fates, LOGGED),
         }
     }
 

@@ -15,7 +15,7 @@ impl Form {
     pub(crate) fn values(self) -> &'static [u8] {
         match self {
             Form::Descriptors => b"\x00\x01\x7f\x80\xff",
-            Form::Listing => b" 0af-\"\\gA~\n\x7f",
+            Form::Listing => b" 0af-\"\\gA~\n\x7f#\r",
         }
     }
 

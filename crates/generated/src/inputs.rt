@@ -6,7 +6,7 @@ use crate::numbers::Numbers;
 use crate::pieces::Pieces;
 use crate::tally::Tally;
 use anyhow::Result;
-use usb_transfer::Limits;
+use usb_host::Limits;
 
 /// How many inputs are made of an example by changing it.
 const CHANGED: u32 = 300;
@@ -59,15 +59,18 @@ pub(crate) fn cut(example: &Example, tally: &mut Tally) -> Result<()> {
     Ok(())
 }
 
-/// Takes the answers of the commands to an input, which are a case. What `show` lists is built again.
+/// Takes the answers of the commands to an input, which are a case. What is listed of an input in any form is built again.
 fn take(input: &[u8], tally: &mut Tally) -> Result<()> {
     let settings = Command::Enumerate.settings(Limits::new(1, 16, 3)?, Vec::new(tally.alloc));
     tally.begin("")?;
-    let shown = Command::Show.answer(input, &settings, tally)?;
+    let _ = Command::Show.answer(input, &settings, tally)?;
+    let shown = Command::ShowAny.answer(input, &settings, tally)?;
     let _ = Command::Check.answer(input, &settings, tally)?;
+    let _ = Command::CheckAny.answer(input, &settings, tally)?;
     let _ = Command::Explain.answer(input, &settings, tally)?;
     let listing = if shown.is_empty() { input } else { &shown };
     let _ = Command::Build.answer(listing, &settings, tally)?;
+    let _ = Command::BuildCommented.answer(listing, &settings, tally)?;
     let _ = Command::Enumerate.answer(input, &settings, tally)?;
     Ok(())
 }

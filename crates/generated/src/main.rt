@@ -35,8 +35,8 @@ use std::io::Write;
 use std::rt::{Env, Files};
 use std::{env, fs, io};
 use tally::Tally;
+use usb_host::Limits;
 use usb_tool::read_fates;
-use usb_transfer::Limits;
 
 /// What happens to the transactions of an enumeration whose log fails: the ACK of the address is lost.
 const LOST: &str = "....a";
@@ -97,6 +97,7 @@ fn take(example: &Example, way: &str, tally: &mut Tally) -> Result<()> {
         ("asked", _) => asking::asked(example, tally),
         ("anything", _) => answering::anything(example, tally),
         ("lies", _) => answering::lied_to(example, tally),
+        ("long", _) => answering::at_length(example, tally),
         (_, Some((word, "readers"))) => take_failing(example, word, End::Reader, tally),
         (_, Some((word, "writers"))) => take_failing(example, word, End::Writer, tally),
         (_, Some((word, words))) => Runs::of(words)?.all(example, word, tally),

@@ -5,7 +5,7 @@ use std::alloc::Global;
 use usb_bus::Fate;
 use usb_device::{Description, Device};
 use usb_fields::{Answer, Setup, Transaction};
-use usb_transfer::{Heard, Transfer, Why};
+use usb_host::{Heard, Transfer, Why};
 
 /// What the owner answers to each read, cut to its length.
 const OWNERS: &[u8] = b"The owner of a device answers what its table of requests refuses";

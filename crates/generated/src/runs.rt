@@ -10,7 +10,7 @@ use anyhow::{Context, Result, bail};
 use usb_bus::{Fate, converse};
 use usb_device::Description;
 use usb_fields::Setup;
-use usb_transfer::Limits;
+use usb_host::Limits;
 
 /// SET_ADDRESS 5, GET_DESCRIPTOR of the device, SET_CONFIGURATION 1.
 const REQUESTS: [[u8; 8]; 3] = [

@@ -5,7 +5,7 @@ use std::alloc::Global;
 use usb_device::{Description, DescriptionFault, Device};
 use usb_fields::{Setup, Speed, descriptor_type};
 use usb_file::{FileWhy, read_file};
-use usb_transfer::{Heard, Reply, Transfer, Why};
+use usb_host::{Heard, Reply, Transfer, Why};
 
 /// The requests: SET_ADDRESS, SET_FEATURE of the wakeup, GET_STATUS, SET_FEATURE of a test mode, SET_CONFIGURATION,
 /// SET_FEATURE of a halt, GET_STATUS of the endpoint, SET_INTERFACE and GET_STATUS again (USB 2.0, 9.4).

@@ -1,12 +1,10 @@
 //! A host that enumerates a device, by hand and over a bus.
 use crate::answer::{Answer, refused, right};
 use std::alloc::Global;
-use usb_bus::Fate;
+use usb_bus::{Fate, Run, enumerate};
 use usb_device::{Description, Device};
-use usb_enumeration::{Run, enumerate};
 use usb_fields::Answer as Reply;
-use usb_host::{Action, Host, Step, Trouble};
-use usb_transfer::{Limits, Why};
+use usb_host::{Action, Host, Limits, Step, Trouble, Why};
 
 /// More steps than an enumeration of these takes.
 const STEPS: u32 = 1000;

@@ -11,8 +11,7 @@ use usb_file::{
     DescriptorFile, FileFault, FileWhy, Input, InputFault, WriteFault, named, read_file,
     read_input, write_file,
 };
-use usb_listing::list;
-use usb_listing_reader::{ListWhy, assemble};
+use usb_listing::{ListWhy, assemble, list};
 
 /// More bytes than a listing of these has.
 const PAGE: usize = 512;

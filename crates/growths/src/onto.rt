@@ -2,8 +2,7 @@
 use crate::answer::{Answer, refused};
 use std::alloc::Global;
 use usb_fields::{UnitFault, write_units_onto};
-use usb_set::Configuration;
-use usb_set_encoder::{EncodeFault, encode_onto};
+use usb_set::{Configuration, EncodeFault, encode_onto};
 
 /// What is added.
 #[derive(Clone, Copy)]

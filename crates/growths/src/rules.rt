@@ -2,7 +2,7 @@
 use crate::answer::{Answer, right};
 use std::alloc::Global;
 use usb_file::DescriptorFile;
-use usb_rules::{check, check_dump, check_set};
+use usb_file_data::{check, check_dump, check_set};
 use usb_set::Configuration;
 
 /// What is looked at.

@@ -4,12 +4,11 @@ use crate::plenty::is_round;
 use crate::samples::MOUSE;
 use crate::shapes::{ASSOCIATIONS, STRINGS, many_strings, push_set};
 use std::alloc::{AllocError, Global};
-use usb_bus::{Fate, converse};
+use usb_bus::{Fate, converse, enumerate};
 use usb_device::Description;
-use usb_enumeration::enumerate;
 use usb_fields::{Setup, Speed};
 use usb_file::{DescriptorFile, named, read_file};
-use usb_transfer::Limits;
+use usb_host::Limits;
 
 /// How many requests are made of a device.
 const REQUESTS: usize = 5000;

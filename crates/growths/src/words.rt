@@ -1,12 +1,12 @@
 //! Calls that put the meaning of numbers in words at the end of a text.
 use crate::answer::{Answer, Call, refused, right};
 use std::alloc::{AllocError, Global};
-use usb_text::{Text, put_byte_code, put_count, put_release, put_word_code};
-use usb_words::{
+use usb_explain::{
     SetSpeed, put_attributes, put_audio_terminal, put_bits, put_class, put_class_words, put_end,
     put_frame_interval, put_guid, put_interval, put_power, put_protocol, put_size, put_speed,
     put_subclass,
 };
+use usb_text::{Text, put_byte_code, put_count, put_release, put_word_code};
 
 /// What is put.
 #[derive(Clone, Copy)]

@@ -1,5 +1,4 @@
-//! A firmware: a mouse that answers transactions, and gives its report descriptor where chapter 9 has no answer.
-use anyhow::Result;
+//! A firmware: a mouse that answers tokens, and gives its report descriptor where chapter 9 has no answer.
 use nozzlegorse::bus::{Answer, Transaction, request};
 use nozzlegorse::device::Device;
 
@@ -10,18 +9,21 @@ pub(crate) const REPORT_DESCRIPTOR: [u8; 50] = [
     0x95, 2, 0x81, 6, 0xc0, 0xc0,
 ];
 
-/// One transaction: the packet goes into the controller's queue, and what the device refuses is then answered.
-pub(crate) fn serve(mouse: &mut Device, t: &Transaction, queue: &mut Vec<u8>) -> Result<()> {
-    if let Answer::Data(_, bytes) = mouse.serve(t, true) {
-        queue.extend_from_slice(bytes)?;
-        mouse.acked();
-    }
+/// Handles one token: what the controller sends back, be it a packet, a handshake or nothing. Call `on_ack` when the
+/// controller reports the host's ACK.
+pub(crate) fn on_token<'a>(mouse: &'a mut Device, token: &Transaction, ready: bool) -> Answer<'a> {
     if let Some(setup) = mouse.refused() {
-        match (setup.request_type, setup.request, setup.value) {
-            (0x81, request::GET_DESCRIPTOR, 0x2200) => mouse.answer_with(&REPORT_DESCRIPTOR)?,
-            (0x21, 10, _) => mouse.accept()?,
-            _ => {}
-        }
+        // A request that the table rejects: what isn't answered here is answered by STALL.
+        let _ = match (setup.request_type, setup.request, setup.value) {
+            (0x81, request::GET_DESCRIPTOR, 0x2200) => mouse.answer_with(&REPORT_DESCRIPTOR),
+            (0x21, 10, _) => mouse.accept(),
+            _ => Ok(()),
+        };
     }
-    Ok(())
+    mouse.serve(token, ready)
+}
+
+/// The host has acknowledged the packet that was sent last.
+pub(crate) fn on_ack(mouse: &mut Device) {
+    mouse.acked();
 }

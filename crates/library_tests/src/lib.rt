@@ -8,7 +8,11 @@ mod bench;
 #[cfg(test)]
 mod driver;
 #[cfg(test)]
+mod findings;
+#[cfg(test)]
 mod firmware;
+#[cfg(test)]
+mod names;
 #[cfg(test)]
 mod packets;
 #[cfg(test)]

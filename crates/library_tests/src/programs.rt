@@ -1,14 +1,14 @@
 //! The outcomes of the three programs: a driver, a firmware and a test bench, each of which uses one crate.
 use crate::{bench, driver, firmware};
 use anyhow::Result;
-use nozzlegorse::bus::{Fate, Stage, Transaction};
+use nozzlegorse::bus::{Answer, Fate, Stage, Toggle, Transaction};
 use nozzlegorse::descriptors::Speed;
 use nozzlegorse::device::{Description, Device, DeviceStage};
 use nozzlegorse::files::read_file;
 use std::alloc::{AllocError, Global};
 
 /// QEMU's mouse: `examples/files/qemu-usb-mouse.file`.
-const MOUSE: [u8; 202] = [
+pub(crate) const MOUSE: [u8; 202] = [
     0x12, 1, 0, 2, 0, 0, 0, 0x40, 0x27, 6, 1, 0, 0, 0, 1, 2, 9, 1, 9, 2, 0x22, 0, 1, 1, 6, 0xa0,
     0x32, 9, 4, 0, 0, 1, 3, 1, 2, 0, 9, 0x21, 1, 0, 0, 1, 0x22, 0x34, 0, 7, 5, 0x81, 3, 4, 0, 7,
     0x0a, 6, 0, 1, 0, 0, 0, 8, 1, 0, 9, 7, 0x22, 0, 1, 1, 6, 0xa0, 0x32, 9, 4, 0, 0, 1, 3, 1, 2, 0,
@@ -47,15 +47,22 @@ fn a_firmware_answers(rt: HostRuntime) -> Result<()> {
     let file = read_file(rt.alloc(), &MOUSE)?;
     let description = Description::new(rt.alloc(), file, Speed::Full)?;
     let mut mouse = Device::new(&description);
-    let mut queue = Vec::new(rt.alloc());
     let report = Stage::Setup([0x81, 6, 0, 0x22, 0, 0, 52, 0]);
     let idle = Stage::Setup([0x21, 10, 0, 0, 0, 0, 0, 0]);
-    for stage in [report, Stage::In, idle] {
-        let transaction = Transaction { address: 0, stage };
-        firmware::serve(&mut mouse, &transaction, &mut queue)?;
+    for (stage, answer) in [
+        (report, Answer::Ack),
+        (
+            Stage::In,
+            Answer::Data(Toggle::Data1, &firmware::REPORT_DESCRIPTOR),
+        ),
+        (idle, Answer::Ack),
+        (Stage::In, Answer::Data(Toggle::Data1, &[])),
+    ] {
+        let token = Transaction { address: 0, stage };
+        assert_eq!(rt; firmware::on_token(&mut mouse, &token, true), answer);
     }
-    assert_eq!(rt; queue.as_slice(), firmware::REPORT_DESCRIPTOR.as_slice());
-    assert_eq!(rt; mouse.stage(), DeviceStage::StatusIn);
+    firmware::on_ack(&mut mouse);
+    assert_eq!(rt; mouse.stage(), DeviceStage::Idle);
     Ok(())
 }
 

@@ -2,7 +2,7 @@
 use std::alloc::{AllocError, Global};
 use std::collections::HashSet;
 use std::test::Fail;
-use usb_base::Sequence;
+use usb_fields::Sequence;
 
 fn one_to_three(alloc: Global) -> Result<Sequence<u8>, AllocError> {
     let mut sequence = Sequence::new(alloc);

@@ -1,6 +1,6 @@
 //! The limits of an enumeration, and one control transfer, answer by answer.
 use usb_fields::{Answer, Setup, Stage, Toggle, Transaction, request, request_type};
-use usb_transfer::{Heard, LimitFault, Limits, Transfer, Why};
+use usb_host::{Heard, LimitFault, Limits, Transfer, Why};
 
 /// GET_DESCRIPTOR of the device descriptor, with this wLength.
 fn device_request(length: u16) -> Setup {

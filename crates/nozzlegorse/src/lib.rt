@@ -13,17 +13,16 @@
 
 /// Single descriptors, string descriptors and configuration sets, read and written (USB 2.0, 9.6).
 pub mod descriptors {
-    pub use usb_base::{Direction, Sequence, descriptor_length, descriptor_type};
     pub use usb_fields::{
-        DeviceDescriptor, FieldFault, MOST_UNITS, Qualifier, Speed, USB_2_0, UnitFault, read_units,
-        text_of, write_units, write_units_onto,
+        DeviceDescriptor, Direction, FieldFault, MOST_UNITS, Qualifier, Sequence, Speed, USB_2_0,
+        UnitFault, descriptor_length, descriptor_type, read_units, text_of, write_units,
+        write_units_onto,
     };
     pub use usb_set::{
         Association, Associations, Configuration, Decoder, EncodeFault, Endpoint, Endpoints, Extra,
         Extras, Owner, Progress, Raw, SetFault, SetKind, SetWhy, Setting, TransferType,
-        add_descriptor, begin_set, next_fault, read_set,
+        add_descriptor, begin_set, encode, encode_onto, next_fault, read_set, refusal,
     };
-    pub use usb_set_encoder::{encode, encode_onto, refusal};
 }
 
 /// All descriptors of a device in a file; their listing for people, which is read back to the same file; and what they
@@ -31,16 +30,19 @@ pub mod descriptors {
 pub mod files {
     pub use usb_explain::{Look, Manner, SetSpeed, explain, explain_broken};
     pub use usb_file::{
-        DescriptorFile, FILE_LIMIT, FileFault, FileWhy, Input, InputFault, NoMemory, Other,
-        Strings, WriteFault, named, read_file, read_input, write_file, write_refusal,
+        DescriptorFile, FILE_LIMIT, FileFault, FileWhy, Input, InputFault, Likeness, NoMemory,
+        Other, Strings, WriteFault, likeness_of, named, read_file, read_input, write_file,
+        write_refusal,
     };
-    pub use usb_listing::{LISTING_LIMIT, OutFault, list, list_set};
-    pub use usb_listing_reader::{ListFault, ListWhy, assemble};
+    pub use usb_listing::{
+        LISTING_LIMIT, ListFault, ListWhy, assemble, assemble_commented, list, list_set,
+    };
+    pub use usb_text::OutFault;
 }
 
 /// What breaks a rule of chapter 9.
 pub mod rules {
-    pub use usb_rules::{Finding, Part, Rule, check, check_dump, check_input, check_set};
+    pub use usb_file_data::{Finding, Part, Rule, check, check_dump, check_input, check_set};
 }
 
 /// The device's end of a control pipe (USB 2.0, 8.5.3 and 9.4).
@@ -53,14 +55,16 @@ pub mod device {
 
 /// The host's end of a control pipe, and a host that enumerates (USB 2.0, 9.1.2).
 pub mod host {
-    pub use usb_host::{Action, Host, Step, Trouble};
-    pub use usb_transfer::{Heard, LimitFault, Limits, Reply, Transfer, Why};
+    pub use usb_host::{
+        Action, Heard, Host, LimitFault, Limits, Reply, Step, Transfer, Trouble, Why,
+    };
 }
 
 /// What passes between both ends (USB 2.0, 8.4 and 9.3), and both ends joined over a bus that loses it.
 pub mod bus {
-    pub use usb_bus::{Conversation, Fate, Talk, converse};
-    pub use usb_enumeration::{Observer, Run, enumerate, step, step_seen};
+    pub use usb_bus::{
+        Conversation, Fate, Observer, Run, Talk, converse, enumerate, step, step_seen,
+    };
     pub use usb_fields::{
         Answer, Class, Recipient, Setup, Stage, Toggle, Transaction, feature, request, request_type,
     };

@@ -133,6 +133,7 @@ def whole():
     two = DEVICE[:17] + b"\x02" + SET + SET[:5] + b"\x02" + SET[6:]
     s.play("Two configurations: the first one's value is chosen.", two)
     s.play("Two languages and two strings: language by language.", TWO_LANGUAGES)
+    s.play("126 languages, as many as a list can have.", MANY_LANGUAGES)
     s.write("whole")
 
 
@@ -142,6 +143,13 @@ TWO_LANGUAGES = b"".join(
     [
         DEVICE[:14] + b"\x01\x00\x02\x01" + SET,
         bytes.fromhex("06 03 09 04 07 04 04 03 41 00 04 03 42 00 04 03 43 00 04 03 44 00"),
+    ]
+)
+MANY_LANGUAGES = b"".join(
+    [
+        DEVICE[:14] + b"\x01\x00\x00\x01" + SET,
+        b"\xfe\x03" + b"".join(language.to_bytes(2, "little") for language in range(0x0401, 0x0401 + 126)),
+        *(bytes([4, 3, 0x41 + number % 26, 0]) for number in range(126)),
     ]
 )
 
@@ -231,21 +239,32 @@ def malformed():
     lie("Languages: three bytes.", "languages", lambda b: b"\x03" + b[1:3])
     lie("Languages: no language.", "languages", lambda b: b"\x02\x03")
     lie("Languages: one byte.", "languages", lambda b: b[:1])
+    for about, changes in [
+        ("126, and bLength isn't the number of bytes.", {0: with_bytes({0: 252})}),
+        ("126, and another type.", {0: with_bytes({1: 2})}),
+        ("126, and one byte less.", {3: lambda b: b[:-1]}),
+        ("126 and a byte, which bLength counts.", {0: with_bytes({0: 255}), 3: lambda b: b + b"\x00"}),
+        ("127 bytes, which bLength counts.", {0: with_bytes({0: 127}), 1: lambda b: b[:63]}),
+    ]:
+        host = s.play(f"Languages: {about}", MANY_LANGUAGES, in_packets("languages", changes))
+        assert host.outcome == 6 and host.step == "languages", (about, host.result())
     lie("String: bLength isn't the number of bytes.", "text 0409 01", with_bytes({0: 10}))
     lie("String: another type.", "text 0409 01", with_bytes({1: 2}))
     lie("String: eleven bytes.", "text 0409 01", lambda b: b"\x0b" + b[1:11])
     lie("String: one byte.", "text 0409 01", lambda b: b[:1])
     for about, total, in (("refused in the middle of the transfer", 33), ("done in the middle of it", 9)):
-        s.play(f"A set that is {about}: the rest is taken, and then judged.", SMALL_PACKETS, in_packets("set 0", total))
+        s.play(f"A set that is {about}: the rest is taken, and then judged.", SMALL_PACKETS, in_packets("set 0", {0: with_bytes({2: total})}))
     s.write("malformed")
 
 
-def in_packets(step, total):
-    """A device whose set says another total, in packets of any size."""
+def in_packets(step, changes):
+    """A device that answers some data packets of this step otherwise: each change is given the bytes of the packet of its
+    number."""
 
     def served(host, answer):
-        if host.step == step and isinstance(answer, tuple) and answer[1] and not host.transfer.got:
-            return answer[0], with_bytes({2: total})(answer[1])
+        if host.step == step and isinstance(answer, tuple) and answer[1]:
+            change = changes.get(len(host.transfer.got) // host.transfer.packet)
+            return (answer[0], change(answer[1])) if change else answer
         return answer
 
     return served

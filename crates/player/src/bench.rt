@@ -10,7 +10,7 @@ use anyhow::Result;
 use std::alloc::Global;
 use usb_bus::Conversation;
 use usb_device::Description;
-use usb_transfer::Transfer;
+use usb_host::Transfer;
 
 /// What steps are played with, but for a device.
 #[derive(Drop)]

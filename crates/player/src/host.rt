@@ -7,9 +7,8 @@ use anyhow::Result;
 use std::alloc::{AllocError, Global};
 use usb_fields::Speed;
 use usb_file::DescriptorFile;
-use usb_host::{Action, Host, Trouble};
+use usb_host::{Action, Host, LimitFault, Limits, Trouble};
 use usb_listing::list;
-use usb_transfer::{LimitFault, Limits};
 
 /// A host.
 #[derive(Drop)]

@@ -6,11 +6,10 @@ use crate::words::read_fates;
 use anyhow::Result;
 use hex::FromHex;
 use std::alloc::{AllocError, Global};
-use usb_bus::{Conversation, Fate, Reply};
+use usb_bus::{Conversation, Fate, Reply, enumerate_logged};
 use usb_device::Description;
-use usb_enumeration::enumerate_logged;
 use usb_fields::Setup;
-use usb_transfer::Limits;
+use usb_host::Limits;
 
 /// What a bus does to the talks that are made over it.
 #[derive(Drop)]

@@ -7,7 +7,7 @@ use anyhow::Result;
 use hex::FromHex;
 use std::alloc::{AllocError, Global};
 use usb_fields::Setup;
-use usb_transfer::{Heard, Transfer};
+use usb_host::{Heard, Transfer};
 
 /// A transfer by its address, packet size, NAKs that are retried, and setup packet.
 pub fn read_transfer(words: &[&str]) -> Option<Transfer> {

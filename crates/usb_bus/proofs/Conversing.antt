@@ -5,26 +5,26 @@ use Rattle.std.specs.Prelude.{IfSome, false}
 use Rattle.std.proofs.lemmas.List.{append-nil, take_all}
 use Rattle.usb_fields.specs.declared.setup.Setup.{Setup as SetupPacket}
 use Rattle.usb_file_data.specs.declared.file.DescriptorFile.{DescriptorFile}
-use Rattle.usb_transfer.specs.declared.why.Why.{Why}
-use Rattle.usb_transfer.specs.declared.why.Why.TheVariants.{NoAnswer, Busy, Stalled, TooLong, Unexpected, Malformed, Memory}
-use Rattle.usb_transfer.specs.declared.stage.TransferStage.{TransferStage}
-use Rattle.usb_transfer.specs.declared.stage.TransferStage.TheVariants.{Setup, DataIn, DataOut, StatusOut, StatusIn, Completed, Failed}
-use Rattle.usb_transfer.specs.Transfer.{due, addressed, token_due}
+use Rattle.usb_host.specs.declared.why.Why.{Why}
+use Rattle.usb_host.specs.declared.why.Why.TheVariants.{NoAnswer, Busy, Stalled, TooLong, Unexpected, Malformed, Memory}
+use Rattle.usb_host.specs.declared.stage.TransferStage.{TransferStage}
+use Rattle.usb_host.specs.declared.stage.TransferStage.TheVariants.{Setup, DataIn, DataOut, StatusOut, StatusIn, Completed, Failed}
+use Rattle.usb_host.specs.Transfer.{due, addressed, token_due}
 use Rattle.usb_device.specs.Requests.{answer}
 use Rattle.usb_device.specs.States.{zero as zero_state}
 use Rattle.usb_device.specs.declared.state.State.{State}
 use Rattle.usb_device.specs.Step.{DeviceView}
 use Rattle.usb_bus.specs.declared.fate.Fate.{Fate}
-use Rattle.usb_transfer.specs.declared.reply.Reply.{Reply}
+use Rattle.usb_host.specs.declared.reply.Reply.{Reply}
 use Rattle.usb_bus.specs.declared.talk.Talk.{Talk}
 use Rattle.usb_bus.specs.Fates.{losses, busies, acks_lost}
 use Rattle.usb_bus.specs.Bus.{HostEnd}
-use Rattle.usb_transfer.specs.Plan.{Plan}
+use Rattle.usb_host.specs.Plan.{Plan}
 use Rattle.usb_bus.specs.Attempt.{Phase, Attempt, Running, Succeeded, Broken, proceed, advance, attempt_run, begins, phase_of}
 use Rattle.usb_bus.specs.Talk.{Place, ends_with_address, talk_plan, reached, onward, followed, asked_at, replies_to, state_after}
 use Rattle.usb_bus.specs.Run.{fates_used, due_in, Steps}
 use Rattle.usb_bus.specs.Converse.{first_place, talk_start, end_of, standing, IsTalk, IsTalkRun, IsTalkTo, HasFirstReplies, HasLastState, TalkView}
-use Rattle.usb_bus.specs.inside.Running.{failure_of, point, Leads, settled}
+use Rattle.usb_bus.specs.inside.Running.{failure_of, point, LeadsTo, settled}
 use Rattle.usb_bus.specs.Ending.{AttemptEnds, IsCause}
 use Rattle.usb_bus.proofs.Talks.{talk_ends, reached_append}
 use Rattle.usb_bus.proofs.TableLemmas.{table_kept}
@@ -64,7 +64,7 @@ module _ (f : DescriptorFile) (naks : ℕ) (qs : List SetupPacket) (fates : List
   -- one transfer more
   pub stands_on : (before address : ℕ) (replies : List Reply) (q : SetupPacket) (d : DeviceView) (now : ℕ) (h : HostEnd) (here : DeviceView) →
       StandsAt before (record { replies = replies; phase = Running (begins address f.device.packet naks q); device = d }) →
-      Leads (answer f) f.device.packet fates before (begins address f.device.packet naks q) d now h here → due h.transfer ≡ None →
+      LeadsTo (answer f) f.device.packet fates before (begins address f.device.packet naks q) d now h here → due h.transfer ≡ None →
       StandsAt now (settles plan naks replies here (settled h.transfer.request.length h.got (failure_of h.transfer.stage)))
   stands_on before address replies q d now h here (ps, count, steps) (n, at, leads) over =
       let begin : Attempt = record { replies = replies; phase = Running (begins address f.device.packet naks q); device = d } in
@@ -154,7 +154,7 @@ talk_run requests fates v t =
 -- One request more, to which a transfer leads that has ended.
 module _ (requests : List SetupPacket) (fates : List Fate) (v : TalkView) (q : SetupPacket) (on : v.talk.stopped ≡ None) (t : IsTalk requests fates v)
     (now : ℕ) (h : HostEnd) (here : DeviceView)
-    (leads : Leads (answer v.file) v.file.device.packet fates v.talk.transactions (begins v.address v.file.device.packet v.naks q) v.device now h here)
+    (leads : LeadsTo (answer v.file) v.file.device.packet fates v.talk.transactions (begins v.address v.file.device.packet v.naks q) v.device now h here)
     (over : due h.transfer ≡ None) (asked : h.transfer.request ≡ q) where
   abbrev outcome : Result Reply Why
   outcome = settled q.length h.got (failure_of h.transfer.stage)

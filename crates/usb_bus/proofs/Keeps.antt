@@ -1,12 +1,12 @@
--- Each transaction keeps the two ends coupled.
-use Rattle.std.proofs.Common.{◌≡◌, ℕ, ◌+◌, ◌≤◌, Bool, List, [], ◌∷◌, ◌++◌, length, drop, refl, sym, arith, inl, inr, subst, length-append, zero-add, add-zero, add_assoc}
+-- Each transaction keeps both ends in one transfer.
+use Rattle.std.proofs.Common.{◌≡◌, ℕ, suc, ◌+◌, ◌-◌, ◌<◌, ◌≤◌, ◌⊎◌, Bool, List, [], ◌∷◌, ◌++◌, length, take, drop, refl, ap, sym, ◌∙◌, arith, inl, inr, subst, length-append, zero-add, add-zero, add_assoc}
 use Rattle.std.proofs.lemmas.Bool.Decides.{nat_tests}
 use Rattle.usb_fields.specs.declared.packet.Toggle.{Toggle}
 use Rattle.usb_fields.specs.declared.setup.Setup.{Setup as SetupPacket}
 use Rattle.usb_fields.specs.Packet.{flipped}
 use Rattle.usb_fields.specs.Packets.{packets, joined, toggle_of}
-use Rattle.usb_transfer.specs.declared.stage.TransferStage.{TransferStage}
-use Rattle.usb_transfer.specs.declared.stage.TransferStage.TheVariants.{Setup, DataIn, DataOut, StatusOut, StatusIn, Completed, Failed}
+use Rattle.usb_host.specs.declared.stage.TransferStage.{TransferStage}
+use Rattle.usb_host.specs.declared.stage.TransferStage.TheVariants.{Setup, DataIn, DataOut, StatusOut, StatusIn, Completed, Failed}
 use Rattle.usb_device.specs.declared.state.State.{State}
 use Rattle.usb_device.specs.Requests.{Outcome, Bytes}
 use Rattle.usb_device.specs.Step.{DeviceStage, Sending, DeviceView}
@@ -16,45 +16,63 @@ use Rattle.usb_bus.specs.Fates.{lost, busy, ack_lost, losses, busies, acks_lost}
 use Rattle.usb_bus.specs.Bus.{Ends, HostEnd, step, run}
 use Rattle.usb_bus.specs.Attempt.{begins}
 use Rattle.usb_bus.specs.Ending.{TransferEnds}
-use Rattle.usb_bus.specs.inside.Coupled.{Stages, IsReading, Coupled, IsCut, Due, Ahead, debt, StaysCoupled}
+use Rattle.usb_bus.specs.Together.{Stages, IsReading, InOneTransfer}
+use Rattle.usb_bus.specs.inside.Due.{IsCut, Due}
+use Rattle.usb_bus.specs.Laws.{TransfersStayTogether}
 use Rattle.usb_bus.specs.Answering.{IsAnswering}
+use Rattle.usb_bus.proofs.Cutting.{alike_cut}
+use Rattle.usb_bus.proofs.Fronts.{drop_suc, front_more, is_within, is_last, none_left, cut_due, cut_joins}
 use Rattle.usb_bus.proofs.OtherStages.{both, both_at, Goal, status_out_all, data_out_all, data_in_halted, status_in_halted, setup_all, status_in}
-use Rattle.usb_bus.proofs.DataStage.{drop_suc, is_same_toggle-same, is_same_toggle-flipped, rest_joins, all_joins, Due-at, last, inner, behind}
+use Rattle.usb_bus.proofs.DataStage.{is_same_toggle-same, is_same_toggle-flipped, all_joins, reads, last, inner, behind}
 
 module _ (answer : State → SetupPacket → Outcome) (cut : ℕ) (s : State) (q : SetupPacket) (size naks : ℕ) where
-  sending : (l b a : ℕ) (fate : Fate) (bytes : List ℕ) (k : ℕ) (awaited : Toggle) (got : List ℕ) (strikes nak_count : ℕ) (pending : Bool)
-      (left : List (List ℕ)) →
-      answer s q ≡ Bytes bytes → nak_count ≤ b → strikes + debt k awaited ≤ l →
-      Due size q.length (length got) left → got ++ joined left ≡ bytes →
-      Ahead size k awaited (drop k (packets bytes cut q.length)) left →
-      IsReading answer cut s q size naks l bytes q.length k awaited got strikes s →
-      Goal answer cut s q size naks l b a fate (both answer cut s q size naks DataIn (Sending bytes q.length k) awaited got strikes nak_count pending)
-  sending l b a fate bytes k awaited got strikes nak_count pending [] e r o due joins ahead now = absurd due
-  sending l b a fate bytes k awaited got strikes nak_count pending (p ∷ []) e r o due joins (inl (at, tog)) now =
-      let owed : strikes ≤ l = omega arith in
-      subst (λ w. Goal answer cut s q size naks l b a fate (both answer cut s q size naks DataIn (Sending bytes q.length k) w got strikes nak_count pending))
-      (sym tog)
-      (last answer cut s q size naks l b a fate bytes k got strikes nak_count pending p e r owed at
-      (drop_suc k (packets bytes cut q.length) p [] at) due
-      (subst (λ w. IsReading answer cut s q size naks l bytes q.length k w got strikes s) tog now)
-      (length-append got p) (all_joins got p bytes joins) (is_same_toggle-same (toggle_of k)))
-  sending l b a fate bytes k awaited got strikes nak_count pending (p ∷ (second ∷ rest)) e r o due joins (inl (at, tog)) now =
-      let owed : strikes ≤ l = omega arith in
-      subst (λ w. Goal answer cut s q size naks l b a fate (both answer cut s q size naks DataIn (Sending bytes q.length k) w got strikes nak_count pending))
-      (sym tog)
-      (inner answer cut s q size naks l b a fate bytes k got strikes nak_count pending p second rest e r owed at
-      (drop_suc k (packets bytes cut q.length) p (second ∷ rest) at) due
-      (Due-at size q.length (length got + length p) (length (got ++ p)) (second ∷ rest) (sym (length-append got p)) due.2)
-      (subst (λ w. IsReading answer cut s q size naks l bytes q.length k w got strikes s) tog now)
-      (length-append got p) (rest_joins got p (second ∷ rest) bytes joins) (is_same_toggle-same (toggle_of k)) (is_same_toggle-flipped (toggle_of k)) (is_same_toggle-same (flipped (toggle_of k))))
-  sending l b a fate bytes k awaited got strikes nak_count pending (second ∷ rest) e r o due joins (inr (p, (at, tog, small))) now =
-      let owed : strikes + 1 ≤ l = grind (arith, is_same_toggle-flipped (toggle_of k)) in
-      subst (λ w. Goal answer cut s q size naks l b a fate (both answer cut s q size naks DataIn (Sending bytes q.length k) w got strikes nak_count pending))
-      (sym tog)
-      (behind answer cut s q size naks l b a fate bytes k got strikes nak_count pending p second rest e r owed small at
-      (drop_suc k (packets bytes cut q.length) p (second ∷ rest) at) due
-      (subst (λ w. IsReading answer cut s q size naks l bytes q.length k w got strikes s) tog now)
-      joins (is_same_toggle-flipped (toggle_of k)) (is_same_toggle-same (flipped (toggle_of k))))
+  module _ (bytes : List ℕ) (e : answer s q ≡ Bytes bytes) (c : IsCut cut size q.length bytes) where
+    abbrev all : List (List ℕ)
+    all = packets bytes cut q.length
+
+    -- the host has kept as many packets as the device counts acknowledged
+    level : (l b a : ℕ) (fate : Fate) (k : ℕ) (got : List ℕ) (strikes nak_count : ℕ) (pending : Bool) (left : List (List ℕ)) →
+        nak_count ≤ b → strikes ≤ l → got ≡ joined (take k all) → k < length all → drop k all ≡ left →
+        Goal answer cut s q size naks l b a fate (both answer cut s q size naks DataIn (Sending bytes q.length k) (toggle_of k) got strikes nak_count pending)
+    level l b a fate k got strikes nak_count pending [] r o brought more at = absurd (none_left k all at more)
+    level l b a fate k got strikes nak_count pending (p ∷ []) r o brought more at =
+        last answer cut s q size naks l b a fate bytes k got strikes nak_count pending p e r o at (drop_suc k all p [] at) (is_last k all p at)
+        (cut_due cut size q.length bytes c k got (p ∷ []) brought more at) (reads answer cut s q size naks bytes k k got e (inl refl) brought more)
+        (length-append got p) (all_joins got p bytes (cut_joins cut size q.length bytes c k got (p ∷ []) brought at)) (is_same_toggle-same (toggle_of k))
+    level l b a fate k got strikes nak_count pending (p ∷ (second ∷ rest)) r o brought more at =
+        let after = drop_suc k all p (second ∷ rest) at in
+        let longer : got ++ p ≡ joined (take (suc k) all) = ap (λ x. x ++ p) brought ∙ sym (front_more k all p (second ∷ rest) at) in
+        let within = is_within (suc k) all second rest after in
+        inner answer cut s q size naks l b a fate bytes k got strikes nak_count pending p second rest e r o at after
+        (cut_due cut size q.length bytes c k got (p ∷ (second ∷ rest)) brought more at) (reads answer cut s q size naks bytes k k got e (inl refl) brought more)
+        (reads answer cut s q size naks bytes (suc k) (suc k) (got ++ p) e (inl refl) longer within)
+        (reads answer cut s q size naks bytes k (suc k) (got ++ p) e (inr refl) longer within)
+        (length-append got p) (is_same_toggle-same (toggle_of k))
+
+    -- or one more
+    one_more : (l b a : ℕ) (fate : Fate) (k : ℕ) (got : List ℕ) (strikes nak_count : ℕ) (pending : Bool) (left : List (List ℕ)) →
+        nak_count ≤ b → strikes + 1 ≤ l → got ≡ joined (take (suc k) all) → suc k < length all → drop k all ≡ left →
+        Goal answer cut s q size naks l b a fate (both answer cut s q size naks DataIn (Sending bytes q.length k) (flipped (toggle_of k)) got strikes nak_count pending)
+    one_more l b a fate k got strikes nak_count pending [] r o brought more at = absurd (none_left k all at (omega arith))
+    one_more l b a fate k got strikes nak_count pending (p ∷ []) r o brought more at = absurd (let count = is_last k all p at in omega arith)
+    one_more l b a fate k got strikes nak_count pending (p ∷ (second ∷ rest)) r o brought more at =
+        let due = cut_due cut size q.length bytes c k (joined (take k all)) (p ∷ (second ∷ rest)) refl (omega arith) at in
+        behind answer cut s q size naks l b a fate bytes k got strikes nak_count pending p second rest e r o (let whole = due.0 in omega arith) at
+        (drop_suc k all p (second ∷ rest) at) (reads answer cut s q size naks bytes k (suc k) got e (inr refl) brought more)
+        (reads answer cut s q size naks bytes (suc k) (suc k) got e (inl refl) brought more) (is_same_toggle-flipped (toggle_of k))
+
+    sending : (l b a : ℕ) (fate : Fate) (k kept : ℕ) (awaited : Toggle) (got : List ℕ) (strikes nak_count : ℕ) (pending : Bool) →
+        (kept ≡ k) ⊎ (kept ≡ suc k) → nak_count ≤ b → strikes + (kept - k) ≤ l →
+        got ≡ joined (take kept all) → awaited ≡ toggle_of kept → kept < length all →
+        Goal answer cut s q size naks l b a fate (both answer cut s q size naks DataIn (Sending bytes q.length k) awaited got strikes nak_count pending)
+    sending l b a fate k kept awaited got strikes nak_count pending (inl same) r o brought awaits more =
+        subst (λ w. Goal answer cut s q size naks l b a fate (both answer cut s q size naks DataIn (Sending bytes q.length k) w got strikes nak_count pending))
+        (sym (awaits ∙ ap toggle_of same))
+        (level l b a fate k got strikes nak_count pending (drop k all) r (omega arith) (brought ∙ ap (λ n. joined (take n all)) same) (omega arith) refl)
+    sending l b a fate k kept awaited got strikes nak_count pending (inr same) r o brought awaits more =
+        subst (λ w. Goal answer cut s q size naks l b a fate (both answer cut s q size naks DataIn (Sending bytes q.length k) w got strikes nak_count pending))
+        (sym (awaits ∙ ap toggle_of same))
+        (one_more l b a fate k got strikes nak_count pending (drop k all) r (omega arith) (brought ∙ ap (λ n. joined (take n all)) same) (omega arith) refl)
 
   module _ (w : IsAnswering answer s q) (c : (bytes : List ℕ) → answer s q ≡ Bytes bytes → IsCut cut size q.length bytes) where
     by_stage : (l b a : ℕ) (fate : Fate) (stage : TransferStage) (at : DeviceStage) (awaited : Toggle) (got : List ℕ) (strikes nak_count : ℕ)
@@ -75,7 +93,7 @@ module _ (answer : State → SetupPacket → Outcome) (cut : ℕ) (s : State) (q
         let h'' = subst (λ x. IsReading answer cut s q size naks l bytes x k awaited got strikes s) h.wants h' in
         subst (λ x. Goal answer cut s q size naks l b a fate (both_at answer cut s q size naks x DataIn (Sending bytes m k) awaited got strikes nak_count pending)) (sym h.same_state)
         (subst (λ x. Goal answer cut s q size naks l b a fate (both answer cut s q size naks DataIn (Sending bytes x k) awaited got strikes nak_count pending)) (sym h.wants)
-        (sending l b a fate bytes k awaited got strikes nak_count pending h''.left h''.answered r h''.owed h''.due h''.joins h''.ahead h''))
+        (sending bytes h''.answered (c bytes h''.answered) l b a fate k h''.kept awaited got strikes nak_count pending h''.counted r h''.owed h''.brought h''.awaits h''.more))
     by_stage l b a fate DataIn _ awaited got strikes nak_count pending d r h = absurd h
     by_stage l b a fate DataOut (device.Halted refused) awaited got strikes nak_count pending d r h =
         let h' = subst (λ x. Stages answer cut s q size naks l b a DataOut (device.Halted refused) awaited got strikes x) h.same_state h in
@@ -141,27 +159,29 @@ module _ (answer : State → SetupPacket → Outcome) (cut : ℕ) (s : State) (q
         (subst (λ x. G (host s.address q size naks x)) ek
         (by_stage l b a fate stage at awaited got strikes nak_count pending d r h)))))
 
-    -- one transaction, whatever its fate, keeps the ends coupled
-    pub keeps : (l b a : ℕ) (fate : Fate) (e : Ends) → Coupled answer cut s q size naks l b a e.host e.device →
-        Coupled answer cut s q size naks (l + lost fate) (b + busy fate) (a + ack_lost fate)
+    -- one transaction, whatever its fate, keeps both ends in it
+    pub keeps : (l b a : ℕ) (fate : Fate) (e : Ends) → InOneTransfer answer cut s q size naks l b a e.host e.device →
+        InOneTransfer answer cut s q size naks (l + lost fate) (b + busy fate) (a + ack_lost fate)
         (step answer cut fate e).host (step answer cut fate e).device
     keeps l b a fate e c =
         at_fields l b a fate e.host.transfer.address e.host.transfer.request e.host.transfer.packet e.host.transfer.naks e.host.transfer.stage
         e.device.stage e.host.transfer.awaited e.host.got e.host.transfer.kept e.host.transfer.strikes e.host.transfer.nak_count e.device.pending
         e.device.state (sym c.address) (sym c.request) (sym c.packet) (sym c.naks_are) (sym c.kept) c.nak_count c.stages
 
-    pub keeps_all : (l b a : ℕ) (fates : List Fate) (e : Ends) → Coupled answer cut s q size naks l b a e.host e.device →
-        Coupled answer cut s q size naks (l + losses fates) (b + busies fates) (a + acks_lost fates)
+    pub keeps_all : (l b a : ℕ) (fates : List Fate) (e : Ends) → InOneTransfer answer cut s q size naks l b a e.host e.device →
+        InOneTransfer answer cut s q size naks (l + losses fates) (b + busies fates) (a + acks_lost fates)
         (run answer cut fates e).host (run answer cut fates e).device
     keeps_all l b a [] e c = rw (add-zero l, add-zero b, add-zero a) c
     keeps_all l b a (f ∷ fates) e c =
         rw (← add_assoc l (lost f) (losses fates), ← add_assoc b (busy f) (busies fates), ← add_assoc a (ack_lost f) (acks_lost fates))
         (keeps_all (l + lost f) (b + busy f) (a + ack_lost f) fates (step answer cut f e) (keeps l b a f e c))
 
--- a transfer begun at the device's address stays coupled
-pub stays_coupled : StaysCoupled
-stays_coupled answer cut naks size q d fates w is_cut =
-    simp zero-add at (keeps_all answer cut d.state q size naks w is_cut 0 0 0 fates (record { host = begins d.state.address size naks q; device = d })
+-- a transfer begun at the device's address stays so
+pub stays_together : TransfersStayTogether
+stays_together answer cut naks size q d fates w alike =
+    simp zero-add at (keeps_all answer cut d.state q size naks w
+    (λ bytes is. alike_cut cut size q.length bytes (alike bytes is) (w.bytes bytes is).0) 0 0 0 fates
+    (record { host = begins d.state.address size naks q; device = d })
     (record {
       address = refl;
       request = refl;
@@ -172,7 +192,7 @@ stays_coupled answer cut naks size q d fates w is_cut =
       stages = (refl, refl, refl, omega arith);
     }))
 
--- what coupled ends say of a transfer that has ended
+-- what both ends say of a transfer that has ended
 module _ (answer : State → SetupPacket → Outcome) (cut : ℕ) (s : State) (q : SetupPacket) (size naks l b a : ℕ) where
   pub stages_end : (stage : TransferStage) (at : DeviceStage) (awaited : Toggle) (got : List ℕ) (strikes : ℕ) (d : State) →
       Stages answer cut s q size naks l b a stage at awaited got strikes d → TransferEnds answer s q naks l b a stage got d

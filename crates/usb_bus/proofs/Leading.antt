@@ -3,20 +3,20 @@ use Rattle.std.proofs.Common.{◌≡◌, ℕ, suc, ◌+◌, List, Option, Some, 
 use Rattle.std.proofs.lemmas.Bool.Decides.{nat_tests}
 use Rattle.usb_fields.specs.Packet.{Sent, Reply as PacketReply}
 use Rattle.usb_fields.specs.declared.setup.Setup.{Setup as SetupPacket}
-use Rattle.usb_transfer.specs.declared.why.Why.{Why}
-use Rattle.usb_transfer.specs.declared.stage.TransferStage.{TransferStage}
-use Rattle.usb_transfer.specs.declared.stage.TransferStage.TheVariants.{Setup, DataIn, DataOut, StatusOut, StatusIn, Completed, Failed}
-use Rattle.usb_transfer.specs.Transfer.{TransferView, Hearing, Goes, Brings, Completes, Fails, taken_at, due, addressed, token_due}
+use Rattle.usb_host.specs.declared.why.Why.{Why}
+use Rattle.usb_host.specs.declared.stage.TransferStage.{TransferStage}
+use Rattle.usb_host.specs.declared.stage.TransferStage.TheVariants.{Setup, DataIn, DataOut, StatusOut, StatusIn, Completed, Failed}
+use Rattle.usb_host.specs.Transfer.{TransferView, Hearing, Goes, Brings, Completes, Fails, taken_at, due, addressed, token_due}
 use Rattle.usb_device.specs.declared.state.State.{State}
 use Rattle.usb_device.specs.Requests.{Outcome}
 use Rattle.usb_device.specs.Step.{DeviceView}
 use Rattle.usb_bus.specs.declared.fate.Fate.{Fate}
-use Rattle.usb_transfer.specs.declared.reply.Reply.{Reply}
+use Rattle.usb_host.specs.declared.reply.Reply.{Reply}
 use Rattle.usb_bus.specs.Bus.{HostEnd, exchanged, step}
-use Rattle.usb_transfer.specs.Plan.{Plan}
+use Rattle.usb_host.specs.Plan.{Plan}
 use Rattle.usb_bus.specs.Attempt.{Attempt, Running, advance}
 use Rattle.usb_bus.specs.Run.{fate_at, due_in}
-use Rattle.usb_bus.specs.inside.Running.{failure_of, point, Leads}
+use Rattle.usb_bus.specs.inside.Running.{failure_of, point, LeadsTo}
 use Rattle.usb_bus.proofs.Runs.{AreDue-more}
 
 -- why a transfer fails, as it tells its caller
@@ -53,7 +53,7 @@ advance-due plan naks replies h (Failed why) d address q sent e = absurd (cc)
 pub Leads-more : (answer : State → SetupPacket → Outcome) (cut : ℕ) (fates : List Fate) (before : ℕ) (h : HostEnd) (d : DeviceView) (now : ℕ)
     (middle : HostEnd) (there : DeviceView) (sent : Sent) (last : HostEnd) (here : DeviceView) → due middle.transfer ≡ Some sent →
     exchanged answer cut middle there (Some sent) (fate_at fates now) ≡ record { host = last; device = here } →
-    Leads answer cut fates before h d now middle there → Leads answer cut fates before h d (suc now) last here
+    LeadsTo answer cut fates before h d now middle there → LeadsTo answer cut fates before h d (suc now) last here
 Leads-more answer cut fates before h d now middle there sent last here asks goes (n, at, leads) =
     let stepped : step answer cut (fate_at fates now) (record { host = middle; device = there }) ≡ record { host = last; device = here } =
     rw asks goes in (

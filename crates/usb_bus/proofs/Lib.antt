@@ -1,3 +1,4 @@
+mod Fronts
 mod OtherStages
 mod DataStage
 mod Keeps
@@ -11,3 +12,23 @@ mod Conversing
 mod ResponderSteps
 mod ResponderTables
 mod ResponderMoments
+mod AcceptLemmas
+mod BesideLemmas
+mod TextLemmas
+mod HeadLemmas
+mod OpenLemmas
+mod KeepLemmas
+mod CutLemmas
+mod FollowLemmas
+mod WalkLemmas
+mod ServeLemmas
+mod DescribeLemmas
+mod ReaderLemmas
+mod SeriesLemmas
+mod ImageLemmas
+mod HeardLemmas
+mod RunLemmas
+mod ByteLemmas
+pub mod EnumerateLemmas
+mod JoinLemmas
+mod LogLemmas

@@ -1,17 +1,17 @@
--- A transaction outside the data stage keeps the two ends coupled.
+-- A transaction outside the data stage keeps both ends in one transfer.
 use Rattle.std.proofs.Common.{◌≡◌, ℕ, ◌+◌, ◌*◌, ◌/◌, ◌%◌, ◌<◌, ◌≤◌, ◌==◌, Bool, false, if◌then◌else◌, List, [], length, Option, refl, sym, arith, inl, subst}
 use Rattle.std.proofs.lemmas.Bool.Decides.{nat_tests}
 use Rattle.usb_fields.specs.declared.packet.Toggle.{Toggle}
 use Rattle.usb_fields.specs.declared.packet.Toggle.TheVariants.{Data1}
 use Rattle.usb_fields.specs.declared.setup.Setup.{Setup as SetupPacket}
-use Rattle.usb_base.specs.declared.direction.Direction.TheVariants as directions
+use Rattle.usb_fields.specs.declared.direction.Direction.TheVariants as directions
 use Rattle.usb_fields.specs.Packet.{AckReply, NoReply}
 use Rattle.usb_fields.specs.Packets.{packets}
-use Rattle.usb_base.specs.Directions.{direction_of}
+use Rattle.usb_fields.specs.Directions.{direction_of}
 use Rattle.usb_fields.specs.Setup.{setup_of, setup_bytes}
-use Rattle.usb_transfer.specs.declared.stage.TransferStage.{TransferStage}
-use Rattle.usb_transfer.specs.declared.stage.TransferStage.TheVariants.{Setup, DataIn, DataOut, StatusOut, StatusIn}
-use Rattle.usb_transfer.specs.Transfer.{stage_after_setup}
+use Rattle.usb_host.specs.declared.stage.TransferStage.{TransferStage}
+use Rattle.usb_host.specs.declared.stage.TransferStage.TheVariants.{Setup, DataIn, DataOut, StatusOut, StatusIn}
+use Rattle.usb_host.specs.Transfer.{stage_after_setup}
 use Rattle.usb_device.specs.declared.state.State.{State}
 use Rattle.usb_device.specs.Requests.{Outcome, Bytes, Done, Refused}
 use Rattle.usb_device.specs.Step.{DeviceStage, Served, replies, begun}
@@ -20,7 +20,9 @@ use Rattle.usb_bus.specs.declared.fate.Fate.{Fate}
 use Rattle.usb_bus.specs.declared.fate.Fate.TheVariants.{Pass, Busy, LostDown, LostUp, LostAck}
 use Rattle.usb_bus.specs.Fates.{lost, busy, ack_lost}
 use Rattle.usb_bus.specs.Bus.{Ends, HostEnd, step, hears, acknowledged}
-use Rattle.usb_bus.specs.inside.Coupled.{Stages, IsReading, Coupled, IsCut}
+use Rattle.usb_bus.specs.Together.{Stages, IsReading, InOneTransfer}
+use Rattle.usb_bus.specs.inside.Due.{IsCut}
+use Rattle.usb_bus.proofs.Fronts.{some_due}
 use Rattle.usb_bus.specs.Answering.{IsAnswering}
 
 -- a setup packet comes as it was sent
@@ -69,7 +71,7 @@ module _ (answer : State → SetupPacket → Outcome) (cut : ℕ) (s : State) (q
   abbrev pub Goal : ℕ → ℕ → ℕ → Fate → Ends → Type 0
   Goal l b a fate e =
       let e' = step answer cut fate e in
-      Coupled answer cut s q size naks (l + lost fate) (b + busy fate) (a + ack_lost fate) e'.host e'.device
+      InOneTransfer answer cut s q size naks (l + lost fate) (b + busy fate) (a + ack_lost fate) e'.host e'.device
 
   pub status_out_all : (l b a : ℕ) (fate : Fate) (at : DeviceStage) (awaited : Toggle) (got : List ℕ) (strikes nak_count : ℕ) (pending : Bool) →
       Stages answer cut s q size naks l b a StatusOut at awaited got strikes s → nak_count ≤ b →
@@ -112,7 +114,7 @@ module _ (answer : State → SetupPacket → Outcome) (cut : ℕ) (s : State) (q
   abbrev SetupGoal : ℕ → ℕ → ℕ → Fate → SetupPacket → DeviceStage → ℕ → ℕ → Bool → Type 0
   SetupGoal l b a fate x at strikes nak_count pending =
       let r = carried_setup x at pending fate in
-      Coupled answer cut s q size naks (l + lost fate) (b + busy fate) (a + ack_lost fate)
+      InOneTransfer answer cut s q size naks (l + lost fate) (b + busy fate) (a + ack_lost fate)
       (hears (host_at Setup Data1 [] strikes nak_count) r.reply) r.device
 
   setup_by : (l b a : ℕ) (fate : Fate) (at : DeviceStage) (strikes nak_count : ℕ) (pending : Bool) (outcome : Outcome) →
@@ -125,10 +127,11 @@ module _ (answer : State → SetupPacket → Outcome) (cut : ℕ) (s : State) (q
         same_state = refl;
         answered = e;
         wants = refl;
-        left = packets bytes cut q.length;
-        due = (c bytes e).due;
-        joins = (c bytes e).joins;
-        ahead = inl (refl, refl);
+        kept = 0;
+        counted = inl refl;
+        brought = refl;
+        awaits = refl;
+        more = some_due size q.length 0 (packets bytes cut q.length) (c bytes e).due;
         owed = grind arith;
       } in
       let asked = w.bytes bytes e in

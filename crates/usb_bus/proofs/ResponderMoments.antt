@@ -3,9 +3,9 @@ use Rattle.std.proofs.Common.{◌≡◌, ℕ, ◌+◌, ◌<◌, Bool, true, fals
 use Rattle.usb_fields.specs.declared.packet.Toggle.TheVariants.{Data1}
 use Rattle.usb_fields.specs.declared.setup.Setup.{Setup as SetupPacket}
 use Rattle.usb_fields.specs.Packet.{InToken, OutToken, Sent, NoReply}
-use Rattle.usb_transfer.specs.Transfer.{due, token_due, addressed}
-use Rattle.usb_transfer.specs.declared.stage.TransferStage.{TransferStage}
-use Rattle.usb_transfer.specs.declared.stage.TransferStage.TheVariants.{Setup, DataIn, DataOut, StatusOut, StatusIn, Completed, Failed}
+use Rattle.usb_host.specs.Transfer.{due, token_due, addressed}
+use Rattle.usb_host.specs.declared.stage.TransferStage.{TransferStage}
+use Rattle.usb_host.specs.declared.stage.TransferStage.TheVariants.{Setup, DataIn, DataOut, StatusOut, StatusIn, Completed, Failed}
 use Rattle.usb_device.specs.declared.state.State.{State}
 use Rattle.usb_device.specs.Requests.{Outcome}
 use Rattle.usb_device.specs.Step.{DeviceView, Served, served, acked}
@@ -16,7 +16,7 @@ use Rattle.usb_bus.specs.Fates.{lost, busy, ack_lost, losses, busies, acks_lost}
 use Rattle.usb_bus.specs.Bus.{HostEnd, Ends, is_data, hears, acknowledged, carried, exchanged, step}
 use Rattle.usb_bus.specs.Answering.{IsTable}
 use Rattle.usb_bus.specs.Attempt.{begins}
-use Rattle.usb_bus.specs.inside.Coupled.{Stages, Coupled}
+use Rattle.usb_bus.specs.Together.{Stages, InOneTransfer}
 use Rattle.usb_bus.proofs.Cutting.{packets_cut}
 use Rattle.usb_bus.proofs.Keeps.{keeps, stages_end}
 use Rattle.usb_bus.specs.Responders.{Moment, fates_of, IsAmong, run_moments}
@@ -65,7 +65,7 @@ module _ (room : ℕ) (table : State → SetupPacket → Outcome) (packet : ℕ)
 
   module _ (pos : 0 < packet) (is : IsTable table) (s : State) (q : SetupPacket) (naks : ℕ) where
     abbrev Both : Responds → ℕ → ℕ → ℕ → Ends → Type 0
-    Both r l b a e = Coupled (both r) packet s q packet naks l b a e.host e.device
+    Both r l b a e = InOneTransfer (both r) packet s q packet naks l b a e.host e.device
 
     kept_on : (r : Responds) (l b a : ℕ) (fate : Fate) (e : Ends) → Both r l b a e → Both r (l + lost fate) (b + busy fate) (a + ack_lost fate) (step (both r) packet fate e)
     kept_on r l b a fate e c =
@@ -73,7 +73,7 @@ module _ (room : ℕ) (table : State → SetupPacket → Outcome) (packet : ℕ)
         keeps (both r) packet s q packet naks (t.answering s q)
         (λ bytes at. packets_cut bytes packet q.length pos (t.fits s q bytes at) ((t.answering s q).bytes bytes at).0) l b a fate e c
 
-    -- with a SETUP due the ends are coupled whatever is answered
+    -- with a SETUP due both ends are in one transfer whatever is answered
     begins_anew : (r r' : Responds) (l b a : ℕ) (e : Ends) → e.host.transfer.stage ≡ Setup → Both r l b a e → Both r' l b a e
     begins_anew r r' l b a e at c =
         let here = subst (λ st. Stages (both r) packet s q packet naks l b a st e.device.stage e.host.transfer.awaited e.host.got e.host.transfer.strikes e.device.state) at c.stages in
@@ -151,7 +151,7 @@ one_of r m ms (inr e) = e
 pub one_answer : TransfersReadOneAnswer
 one_answer room table packet naks q d first more pos is =
     let start : Ends = record { host = begins d.state.address packet naks q; device = d } in
-    let here : Coupled (beside room table first.respond) packet d.state q packet naks 0 0 0 start.host start.device =
+    let here : InOneTransfer (beside room table first.respond) packet d.state q packet naks 0 0 0 start.host start.device =
     record {
       address = refl;
       request = refl;

@@ -4,9 +4,9 @@ use Rattle.std.proofs.lemmas.Bool.Decides.{nat_tests}
 use Rattle.usb_fields.specs.declared.setup.Setup.{Setup}
 use Rattle.usb_fields.specs.declared.setup.Class.TheVariants as classes
 use Rattle.usb_fields.specs.Setup.{class_of}
-use Rattle.usb_base.specs.declared.direction.Direction.{Direction}
-use Rattle.usb_base.specs.declared.direction.Direction.TheVariants as directions
-use Rattle.usb_base.specs.Directions.{direction_of}
+use Rattle.usb_fields.specs.declared.direction.Direction.{Direction}
+use Rattle.usb_fields.specs.declared.direction.Direction.TheVariants as directions
+use Rattle.usb_fields.specs.Directions.{direction_of}
 use Rattle.usb_device.specs.declared.state.State.{State}
 use Rattle.usb_device.specs.Requests.{Outcome, Bytes, Done, Refused, when}
 use Rattle.usb_device.specs.Step.{is_set_address}

@@ -6,9 +6,9 @@ use Rattle.usb_fields.specs.declared.setup.Setup.{Setup as SetupPacket}
 use Rattle.usb_device.specs.declared.state.State.{State}
 use Rattle.usb_device.specs.Requests.{Outcome}
 use Rattle.usb_bus.specs.declared.fate.Fate.{Fate}
-use Rattle.usb_transfer.specs.declared.reply.Reply.{Reply}
+use Rattle.usb_host.specs.declared.reply.Reply.{Reply}
 use Rattle.usb_bus.specs.Fates.{losses, busies, acks_lost}
-use Rattle.usb_transfer.specs.Plan.{Plan}
+use Rattle.usb_host.specs.Plan.{Plan}
 use Rattle.usb_bus.specs.Attempt.{Attempt, attempt_step, attempt_run}
 use Rattle.usb_bus.specs.Run.{fate_at, fates_used, due_in, Steps}
 use Rattle.usb_bus.specs.inside.Running.{point, AreDue}

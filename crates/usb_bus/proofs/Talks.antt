@@ -5,8 +5,8 @@ use Rattle.usb_fields.specs.declared.setup.Setup.{Setup as SetupPacket}
 use Rattle.usb_device.specs.declared.state.State.{State}
 use Rattle.usb_device.specs.Requests.{Outcome, Bytes, Done, Refused}
 use Rattle.usb_device.specs.Step.{is_set_address, carried_out, new_device}
-use Rattle.usb_transfer.specs.Plan.{Plan}
-use Rattle.usb_transfer.specs.declared.reply.Reply.{Reply}
+use Rattle.usb_host.specs.Plan.{Plan}
+use Rattle.usb_host.specs.declared.reply.Reply.{Reply}
 use Rattle.usb_bus.specs.inside.Sound.{Follows}
 use Rattle.usb_bus.specs.Attempt.{attempt_run, reply_to}
 use Rattle.usb_bus.specs.Converse.{first_place, talk_start}

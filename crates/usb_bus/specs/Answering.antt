@@ -1,8 +1,8 @@
 -- What is asked of a device's answers to requests.
 use Rattle.std.specs.Prelude.{◌≡◌, ℕ, ◌<◌, ◌≤◌, true, false, List, length}
 use Rattle.usb_fields.specs.declared.setup.Setup.{Setup as SetupPacket}
-use Rattle.usb_base.specs.declared.direction.Direction.TheVariants as directions
-use Rattle.usb_base.specs.Directions.{direction_of}
+use Rattle.usb_fields.specs.declared.direction.Direction.TheVariants as directions
+use Rattle.usb_fields.specs.Directions.{direction_of}
 use Rattle.usb_fields.specs.Packets.{packets}
 use Rattle.usb_device.specs.declared.state.State.{State}
 use Rattle.usb_device.specs.Requests.{Outcome, Bytes, Done}

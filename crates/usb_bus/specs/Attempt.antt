@@ -1,14 +1,14 @@
 -- Transfers one after another, each by a plan of what the replies before it ask for, with no bus reset between them.
 use Rattle.std.specs.Prelude.{◌≡◌, ℕ, Bool, true, false, if◌then◌else◌, ◌==◌, List, [], ◌∷◌, ◌++◌}
 use Rattle.usb_fields.specs.declared.setup.Setup.{Setup as SetupPacket}
-use Rattle.usb_transfer.specs.declared.why.Why.{Why}
-use Rattle.usb_transfer.specs.declared.why.Why.TheVariants.{Stalled}
-use Rattle.usb_transfer.specs.declared.stage.TransferStage.{TransferStage}
-use Rattle.usb_transfer.specs.declared.stage.TransferStage.TheVariants.{Completed, Failed}
-use Rattle.usb_transfer.specs.declared.reply.Reply.{Reply}
-use Rattle.usb_transfer.specs.declared.reply.Reply.TheVariants as replied
-use Rattle.usb_transfer.specs.Plan.{Plan, Begin, Success, Trouble}
-use Rattle.usb_transfer.specs.Transfer.{begun}
+use Rattle.usb_host.specs.declared.why.Why.{Why}
+use Rattle.usb_host.specs.declared.why.Why.TheVariants.{Stalled}
+use Rattle.usb_host.specs.declared.stage.TransferStage.{TransferStage}
+use Rattle.usb_host.specs.declared.stage.TransferStage.TheVariants.{Completed, Failed}
+use Rattle.usb_host.specs.declared.reply.Reply.{Reply}
+use Rattle.usb_host.specs.declared.reply.Reply.TheVariants as replied
+use Rattle.usb_host.specs.Plan.{Plan, Begin, Success, Trouble}
+use Rattle.usb_host.specs.Transfer.{begun}
 use Rattle.usb_device.specs.declared.state.State.{State}
 use Rattle.usb_device.specs.Requests.{Outcome, Bytes, Done, Refused}
 use Rattle.usb_device.specs.Step.{DeviceView, is_set_address, carried_out}

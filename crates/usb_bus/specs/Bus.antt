@@ -2,7 +2,7 @@
 use Rattle.std.specs.Prelude.{ℕ, Bool, true, false, if◌then◌else◌, List, [], ◌∷◌, ◌++◌, Option, Some, None}
 use Rattle.usb_fields.specs.declared.setup.Setup.{Setup}
 use Rattle.usb_fields.specs.Packet.{Sent, Reply, DataReply, NoReply}
-use Rattle.usb_transfer.specs.Transfer.{TransferView, Hearing, Brings, Taken, taken, due}
+use Rattle.usb_host.specs.Transfer.{TransferView, Hearing, Brings, Taken, taken, due}
 use Rattle.usb_device.specs.declared.state.State.{State}
 use Rattle.usb_device.specs.Requests.{Outcome}
 use Rattle.usb_device.specs.Step.{DeviceView, Served, served, acked}

@@ -2,7 +2,7 @@
 use Rattle.std.specs.Prelude.{◌≡◌, ℕ, ◌≤◌, ◌↔◌, List, [], ◌++◌, length, take, Option, Some, None}
 use Rattle.usb_fields.specs.declared.setup.Setup.{Setup as SetupPacket}
 use Rattle.usb_file_data.specs.declared.file.DescriptorFile.{DescriptorFile}
-use Rattle.usb_transfer.specs.declared.why.Why.{Why}
+use Rattle.usb_host.specs.declared.why.Why.{Why}
 use Rattle.usb_device.specs.Requests.{answer}
 use Rattle.usb_device.specs.States.{zero}
 use Rattle.usb_device.specs.Step.{DeviceView, new_device}

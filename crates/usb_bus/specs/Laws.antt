@@ -1,10 +1,11 @@
--- The laws of two ends over a bus: what comes of transfers that have ended, under every list of fates.
+-- The laws of two ends over a bus, under every list of fates: how both ends stand together, and what comes of transfers that
+-- have ended.
 use Rattle.std.specs.Prelude.{◌≡◌, ℕ, ◌<◌, Bool, List, [], ◌∷◌}
 use Rattle.usb_fields.specs.declared.setup.Setup.{Setup as SetupPacket}
 use Rattle.usb_fields.specs.Packet.{Sent}
 use Rattle.usb_file_data.specs.declared.file.DescriptorFile.{DescriptorFile}
-use Rattle.usb_transfer.specs.declared.reply.Reply.{Reply}
-use Rattle.usb_transfer.specs.Plan.{Plan}
+use Rattle.usb_host.specs.declared.reply.Reply.{Reply}
+use Rattle.usb_host.specs.Plan.{Plan}
 use Rattle.usb_device.specs.declared.state.State.{State}
 use Rattle.usb_device.specs.Requests.{Outcome, Bytes}
 use Rattle.usb_device.specs.Step.{DeviceView, new_device, served, acked}
@@ -16,11 +17,38 @@ use Rattle.usb_bus.specs.Bus.{run}
 use Rattle.usb_bus.specs.Answering.{IsAnswering, IsTable, CutsAlike}
 use Rattle.usb_bus.specs.Attempt.{Answers, begins, attempt_run, is_moved_last, proceed}
 use Rattle.usb_bus.specs.Ending.{TransferEnds, AttemptEnds}
+use Rattle.usb_bus.specs.Together.{InOneTransfer, StaysTogether}
+use Rattle.usb_bus.specs.Series.{StandsAfter, fresh, series_run}
 use Rattle.usb_bus.specs.Talk.{ends_with_address, talk_plan, replies_to, state_after}
 use Rattle.usb_bus.specs.Converse.{IsTalkRun, first_place, talk_start}
 use Rattle.usb_bus.specs.Responders.{served_with, Moment, fates_of, IsAmong, run_moments}
 
--- One transfer, begun at the device's address, of a device that cuts the packets that the host expects.
+-- One transfer, begun at the device's address, of a device that cuts the packets that the host expects: whatever is lost,
+-- both ends stay in it.
+abbrev pub TransfersStayTogether : Type 0
+TransfersStayTogether =
+    (answer : State → SetupPacket → Outcome) (cut naks size : ℕ) (q : SetupPacket) (d : DeviceView) (fates : List Fate) →
+    IsAnswering answer d.state q →
+    ((bytes : List ℕ) → answer d.state q ≡ Bytes bytes → CutsAlike cut size q.length bytes) →
+    (let e = run answer cut fates (record { host = begins d.state.address size naks q; device = d }) in
+    InOneTransfer answer cut d.state q size naks (losses fates) (busies fates) (acks_lost fates) e.host e.device)
+
+-- An attempt: both ends are together in each transfer of a plan that a device answers, or the ACK of a SET_ADDRESS's status
+-- stage was lost, and every later transaction is silent.
+abbrev pub AttemptsStayTogether : Type 0
+AttemptsStayTogether =
+    (plan : List Reply → Plan) (naks : ℕ) (answer : State → SetupPacket → Outcome) (cut : ℕ) (all : List Reply) (last : State)
+    (d : DeviceView) (fates : List Fate) → Answers plan naks answer cut last [] d.state all →
+    StaysTogether plan naks answer cut fates (attempt_run plan naks answer cut fates (proceed plan naks [] d))
+
+-- All attempts: each reset brings both ends together again, and each failed attempt has its cost.
+abbrev pub ResetsBringTogether : Type 0
+ResetsBringTogether =
+    (plan : List Reply → Plan) (naks limit : ℕ) (answer : State → SetupPacket → Outcome) (cut : ℕ) (all : List Reply) (last : State)
+    (fates : List Fate) → Answers plan naks answer cut last [] new_device.state all →
+    StandsAfter plan naks limit answer cut fates (series_run plan naks limit answer cut fates (fresh plan naks limit 1))
+
+-- What comes of such a transfer.
 abbrev pub TransfersHaveCauses : Type 0
 TransfersHaveCauses =
     (answer : State → SetupPacket → Outcome) (cut naks size : ℕ) (q : SetupPacket) (d : DeviceView) (fates : List Fate) →
@@ -29,7 +57,7 @@ TransfersHaveCauses =
     (let e = run answer cut fates (record { host = begins d.state.address size naks q; device = d }) in
     TransferEnds answer d.state q naks (losses fates) (busies fates) (acks_lost fates) e.host.transfer.stage e.host.got e.device.state)
 
--- An attempt: transfers by a plan that a device answers, with no bus reset between them.
+-- What comes of an attempt: transfers by a plan that a device answers, with no bus reset between them.
 abbrev pub AttemptsHaveCauses : Type 0
 AttemptsHaveCauses =
     (plan : List Reply → Plan) (naks : ℕ) (answer : State → SetupPacket → Outcome) (cut : ℕ) (all : List Reply) (last : State)

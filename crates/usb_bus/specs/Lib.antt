@@ -6,6 +6,17 @@ pub mod Ending
 pub mod Talk
 pub mod Run
 pub mod Converse
+pub mod Together
+pub mod Series
 pub mod Responders
 pub mod Laws
+pub mod EnumerationRun
+pub mod Beside
+pub mod Stepping
+pub mod Enumerate
+pub mod Requests
+pub mod Exchanges
+pub mod Lines
+pub mod Log
+pub mod EnumerationLaws
 pub mod inside

@@ -2,13 +2,13 @@
 use Rattle.std.specs.Prelude.{◌≡◌, ℕ, zero, suc, List, [], ◌∷◌, Option, Some, None, slice_get, unwrap_or}
 use Rattle.usb_fields.specs.Packet.{Sent}
 use Rattle.usb_fields.specs.declared.setup.Setup.{Setup as SetupPacket}
-use Rattle.usb_transfer.specs.Transfer.{due}
+use Rattle.usb_host.specs.Transfer.{due}
 use Rattle.usb_device.specs.declared.state.State.{State}
 use Rattle.usb_device.specs.Requests.{Outcome}
 use Rattle.usb_bus.specs.declared.fate.Fate.{Fate}
 use Rattle.usb_bus.specs.declared.fate.Fate.TheVariants.{Pass}
-use Rattle.usb_transfer.specs.declared.reply.Reply.{Reply}
-use Rattle.usb_transfer.specs.Plan.{Plan}
+use Rattle.usb_host.specs.declared.reply.Reply.{Reply}
+use Rattle.usb_host.specs.Plan.{Plan}
 use Rattle.usb_bus.specs.Attempt.{Phase, Running, Attempt, attempt_step}
 
 -- the fate of transaction k, counted from 0: after the list's end all pass
@@ -28,7 +28,7 @@ due_in phase = None
 
 module _ (plan : List Reply → Plan) (naks : ℕ) (answer : State → SetupPacket → Outcome) (cut : ℕ) where
   -- one transaction under this fate: it is due at x, and y is what it brings x to
-  pub record IsTransaction (fate : Fate) (x y : Attempt) : Type 0 where
+  pub record IsAttemptTransaction (fate : Fate) (x y : Attempt) : Type 0 where
     pub sent : Sent
     pub is_due : due_in x.phase ≡ Some sent
     pub next : y ≡ attempt_step plan naks answer cut fate x.replies x.phase x.device
@@ -37,4 +37,4 @@ module _ (plan : List Reply → Plan) (naks : ℕ) (answer : State → SetupPack
   -- them is `end`.
   abbrev pub Steps : List Fate → ℕ → Attempt → List Attempt → Attempt → Type 0
   Steps fates k start [] end = end ≡ start
-  Steps fates k start (x ∷ points) end = IsTransaction (fate_at fates k) start x × Steps fates (suc k) x points end
+  Steps fates k start (x ∷ points) end = IsAttemptTransaction (fate_at fates k) start x × Steps fates (suc k) x points end

@@ -4,9 +4,9 @@ use Rattle.usb_fields.specs.declared.setup.Setup.{Setup as SetupPacket}
 use Rattle.usb_device.specs.declared.state.State.{State}
 use Rattle.usb_device.specs.Requests.{Outcome}
 use Rattle.usb_device.specs.Step.{is_set_address, carried_out}
-use Rattle.usb_transfer.specs.declared.reply.Reply.{Reply}
-use Rattle.usb_transfer.specs.declared.reply.Reply.TheVariants as replied
-use Rattle.usb_transfer.specs.Plan.{Plan, Begin, Success}
+use Rattle.usb_host.specs.declared.reply.Reply.{Reply}
+use Rattle.usb_host.specs.declared.reply.Reply.TheVariants as replied
+use Rattle.usb_host.specs.Plan.{Plan, Begin, Success}
 use Rattle.usb_bus.specs.Attempt.{reply_to}
 
 -- the requests that are left, and the address that the next one goes to

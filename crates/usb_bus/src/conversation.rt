@@ -12,11 +12,10 @@ use crate::fate::Fate;
 use crate::talk::Talk;
 use std::alloc::Global;
 use std::marker::Model;
-use usb_base::Sequence;
 use usb_device::{Description, Device, is_set_address};
-use usb_fields::Setup;
+use usb_fields::{Sequence, Setup};
 use usb_file_data::NoMemory;
-use usb_transfer::{Reply, Transfer, Why};
+use usb_host::{Reply, Transfer, Why};
 
 /// What a transfer brings to the talk, or why the talk stops.
 fn settle(request: Setup, ended: Ended) -> Result<Reply, Why>

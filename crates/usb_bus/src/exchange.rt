@@ -1,18 +1,18 @@
 //! One transaction, and one transfer, between two ends.
 ghost use Rattle.std.specs.Prelude.{◌≡◌, ◌<◌, ◌≤◌, ◌+◌, ◌^◌, [], OnOk, IfOk, IsSome, None, Some};
 ghost use Rattle.usb_fields.specs.Packet.{reply_of, sent_of};
-ghost use Rattle.usb_transfer.specs.Transfer.{taken, due};
-ghost use Rattle.usb_transfer.specs.Bound.{left};
-ghost use Rattle.usb_transfer.specs.declared.stage.TransferStage.TheVariants.{Setup};
+ghost use Rattle.usb_host.specs.Transfer.{taken, due};
+ghost use Rattle.usb_host.specs.Bound.{left};
+ghost use Rattle.usb_host.specs.declared.stage.TransferStage.TheVariants.{Setup};
 ghost use Rattle.usb_device.specs.Requests.{answer};
 ghost use Rattle.usb_bus.specs.Bus.{HostEnd, Ends, exchanged, with_heard};
-ghost use Rattle.usb_bus.specs.inside.Running.{failure_of, Leads};
+ghost use Rattle.usb_bus.specs.inside.Running.{failure_of, LeadsTo};
 
 use crate::fate::Fate;
 use std::alloc::{AllocError, Global};
 use usb_device::Device;
 use usb_fields::{Answer, Transaction};
-use usb_transfer::{Heard, Transfer, Why};
+use usb_host::{Heard, Transfer, Why};
 
 /// The host takes an answer, and keeps the bytes that are new. Answers why the transfer has failed, if it has.
 fn hear(
@@ -83,7 +83,7 @@ pub(crate) fn transfer_over(
 ) -> Result<Ended, AllocError>
     requires setup { transfer.old.stage ≡ Setup }
     requires few { before + left transfer.old < 2 ^ 128 }
-    ensures leads { IfOk result (λ ended. Leads (answer device.old.description.file) device.old.description.file.device.packet fates.now before (record { transfer = transfer.old; got = [] }) device.old.device ended.transactions (record { transfer = transfer.new; got = ended.bytes.items }) device.new.device) }
+    ensures leads { IfOk result (λ ended. LeadsTo (answer device.old.description.file) device.old.description.file.device.packet fates.now before (record { transfer = transfer.old; got = [] }) device.old.device ended.transactions (record { transfer = transfer.new; got = ended.bytes.items }) device.new.device) }
     ensures description { device.new.description ≡ device.old.description }
     ensures request { OnOk result (transfer.new.request ≡ transfer.old.request) }
     ensures over { OnOk result (due transfer.new ≡ None) }

@@ -1,10 +1,37 @@
-//! What holds of two ends over a bus that loses packets and handshakes, once they have ended.
+//! What holds of two ends over a bus that loses packets and handshakes: how they stand together on the way, what comes of
+//! transfers, attempts and talks, and how an enumeration ends.
 //!
 //! The functions of these laws do nothing: their contracts are the laws.
 ghost use Rattle.usb_device.specs.Requests.{answer};
 ghost use Rattle.usb_file_data.specs.declared.file.DescriptorFile.{DescriptorFile};
 ghost use Rattle.usb_bus.specs.Answering.{IsTable};
-ghost use Rattle.usb_bus.specs.Laws.{AttemptsHaveCauses, RespondersAreOneDevice, RespondersKeepTables, TalksAreDetermined, TalksHaveCauses, TransfersHaveCauses, TransfersReadOneAnswer};
+ghost use Rattle.usb_bus.specs.EnumerationLaws.{EnumerationsEndWell, OwnersChangeNothing, RespondersAreBeside, UsesFates};
+ghost use Rattle.usb_bus.specs.Laws.{AttemptsHaveCauses, AttemptsStayTogether, ResetsBringTogether, RespondersAreOneDevice, RespondersKeepTables, TalksAreDetermined, TalksHaveCauses, TransfersHaveCauses, TransfersReadOneAnswer, TransfersStayTogether};
+
+use crate::lemmas::a_run_ends_well;
+
+/// A transfer begun at the device's address. The host still waits for its SETUP's ACK, or both ends are in this transfer: the
+/// host has kept as many packets as the device counts acknowledged, or one more; in the status stages either end may be one
+/// handshake behind the other. Each strike has a loss of its own.
+pub fn both_ends_stay_in_one_transfer()
+    ensures { TransfersStayTogether }
+{}
+
+/// Transfers by a plan, with no bus reset between them. The law of one transfer holds of the one in work, or the ACK of a
+/// SET_ADDRESS's status stage was lost, which is one loss at least, and every later transaction is silent.
+pub fn an_attempt_stays_together_or_falls_silent()
+    ensures { AttemptsStayTogether }
+{}
+
+/// Attempts, each after a bus reset, which brings both ends together again: the device is as a new one and the host at its
+/// first request, and the law of an attempt holds from there. A failed attempt costs a loss of its own, or more busy
+/// transactions than the NAK limit.
+pub fn a_reset_brings_both_ends_together()
+    ensures { ResetsBringTogether }
+{
+    an_attempt_stays_together_or_falls_silent();
+    an_attempt_has_causes();
+}
 
 /// A transfer begun at the device's address. Completed, it brought the device's answer, and the device is in the state that
 /// the answer gives, or the ACK of a SET_ADDRESS was lost. Failed, it was refused, or had three losses, or more busy
@@ -56,4 +83,34 @@ pub fn a_responder_keeps_a_table()
 #[tactic(auto, using(crate::proofs::ResponderMoments::one_answer))]
 pub fn a_transfer_reads_one_answer()
     ensures { TransfersReadOneAnswer }
+{}
+
+/// Over every bus, an enumeration of a device with a description ends with a report of that description and the device
+/// configured, or with a cause, and with no attempt and no transaction too many.
+pub fn an_enumeration_ends_well()
+    ensures { EnumerationsEndWell }
+{
+    no_owner_changes_an_enumeration();
+    a_device_keeps_its_table();
+}
+
+/// The same holds where the device's owner answers what the device refuses, as far as that is open to him: what an
+/// enumeration reads, and how it ends, is not his.
+pub fn no_owner_changes_an_enumeration()
+    ensures { OwnersChangeNothing }
+{
+    a_run_ends_well();
+}
+
+/// An owner who answers with bytes is such an owner, whatever he answers.
+pub fn a_responder_is_such_an_owner()
+    ensures { RespondersAreBeside }
+{
+    a_device_keeps_its_table();
+    a_responder_keeps_a_table();
+}
+
+/// Of the fates of a list, those that were used lose no more, and are no more often busy.
+pub fn used_fates_are_of_the_list()
+    ensures { UsesFates }
 {}

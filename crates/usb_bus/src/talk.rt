@@ -1,7 +1,7 @@
 //! A talk between a host and a device.
-use usb_base::Sequence;
 use usb_device::State;
-use usb_transfer::{Reply, Why};
+use usb_fields::Sequence;
+use usb_host::{Reply, Why};
 
 /// What came of a talk.
 #[derive(Clone, Debug, Drop, PartialEq, Eq, Hash)]

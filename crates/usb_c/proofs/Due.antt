@@ -3,13 +3,13 @@ use Rattle.std.proofs.Common.{◌≡◌, ℕ, [], Option, Some, None, refl, sym,
 use Rattle.std.specs.Option.{option_map}
 use Rattle.usb_fields.specs.Packet.{Sent}
 use Rattle.usb_fields.specs.declared.setup.Setup.{Setup as SetupPacket}
-use Rattle.usb_transfer.specs.declared.stage.TransferStage.{TransferStage}
-use Rattle.usb_transfer.specs.declared.stage.TransferStage.TheVariants as stages
-use Rattle.usb_transfer.specs.Transfer.{addressed, token_due}
+use Rattle.usb_host.specs.declared.stage.TransferStage.{TransferStage}
+use Rattle.usb_host.specs.declared.stage.TransferStage.TheVariants as stages
+use Rattle.usb_host.specs.Transfer.{addressed, token_due}
 use Rattle.usb_host.specs.Steps.{HostPhase, HostView, ResetDue, Reading, Ended, Wanted, WantsNothing, WantsReset, WantsSent, sends, wanted}
-use Rattle.usb_owned_device.specs.declared.transaction.UsbTransaction.{UsbTransaction}
+use Rattle.usb_device.specs.declared.transaction.UsbTransaction.{UsbTransaction}
 use Rattle.usb_c.specs.Hosts.{transaction_due}
-use Rattle.usb_owned_device.specs.Transactions.{sent_told, transaction_of}
+use Rattle.usb_device.specs.Transactions.{sent_told, transaction_of}
 
 abbrev IsWhole : Option Wanted → Type 0
 IsWhole None = Unit {0}

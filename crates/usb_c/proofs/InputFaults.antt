@@ -1,10 +1,10 @@
 -- On the faults of inputs and listings, as they are told.
-use Rattle.std.proofs.Common.{◌≡◌, ℕ, ◌⊎◌, true, false, List, [], refl, sym, subst, inl, inr}
+use Rattle.std.proofs.Common.{◌≡◌, ℕ, ◌⊎◌, Bool, true, false, List, [], refl, sym, subst, inl, inr}
 use Rattle.usb_set.specs.declared.fault.SetFault.{SetFault}
 use Rattle.usb_set.specs.declared.fault.SetWhy.{SetWhy}
 use Rattle.usb_set.specs.declared.fault.SetWhy.TheVariants as sets
 use Rattle.usb_set.specs.Feeding.{WantsMemory}
-use Rattle.usb_base.specs.declared.speed.Speed.{Speed}
+use Rattle.usb_fields.specs.declared.speed.Speed.{Speed}
 use Rattle.usb_file_data.specs.File.{File}
 use Rattle.usb_file_data.specs.declared.file.DescriptorFile.{DescriptorFile}
 use Rattle.usb_file.specs.declared.fault.FileFault.{FileFault}
@@ -14,31 +14,35 @@ use Rattle.usb_file.specs.declared.input_fault.InputFault.{InputFault}
 use Rattle.usb_file.specs.declared.input_fault.InputFault.TheVariants as inputs
 use Rattle.usb_file.specs.FileFaults.{FileFaulty, ReadRefused}
 use Rattle.usb_file.specs.Inputs.{DeviceRefused, HasFault, InputFaulty, InputRefused, is_one_set}
-use Rattle.usb_listing_reader.specs.declared.fault.ListFault.{ListFault}
-use Rattle.usb_listing_reader.specs.declared.fault.ListWhy.{ListWhy}
-use Rattle.usb_listing_reader.specs.declared.fault.ListWhy.TheVariants as lists
-use Rattle.usb_listing_reader.specs.Listings.{ListFaulty, ListRefused}
-use Rattle.usb_description.specs.Accepted.{Refuses as RefusesDescription}
-use Rattle.usb_description.specs.declared.fault.DescriptionFault.{DescriptionFault}
-use Rattle.usb_description.specs.declared.fault.DescriptionFault.TheVariants as descriptions
+use Rattle.usb_listing.specs.declared.fault.ListFault.{ListFault}
+use Rattle.usb_listing.specs.declared.fault.ListWhy.{ListWhy}
+use Rattle.usb_listing.specs.declared.fault.ListWhy.TheVariants as lists
+use Rattle.usb_listing.specs.CommentedListings.{CommentedFaulty}
+use Rattle.usb_listing.specs.Listings.{ListFaulty}
+use Rattle.usb_device.specs.Accepted.{Refuses as RefusesDescription}
+use Rattle.usb_device.specs.declared.fault.DescriptionFault.{DescriptionFault}
+use Rattle.usb_device.specs.declared.fault.DescriptionFault.TheVariants as descriptions
 use Rattle.usb_explain.specs.declared.manner.Manner.{Manner}
 use Rattle.usb_c.specs.declared.answer.Verdict.{Verdict}
 use Rattle.usb_c.specs.Enumerations.{RefusesRun}
 use Rattle.usb_c.specs.Refusals.{file_by, file_wants, list_by, refused_description, refused_file, refused_input, refused_list, set_by, set_wants, wants_memory}
 use Rattle.usb_c.specs.Texts.{Explains, ExplainsFault, Refuses, RefusesList}
+use Rattle.usb_c.specs.inside.Taking.{BuildRefused}
 
-set_refuses : (b : List ℕ) (e : SetFault) (why : SetWhy) → e.why ≡ why → is_one_set b ≡ true → HasFault b e ⊎ WantsMemory [] b e → Refuses b (set_by why e)
-set_refuses b e sets.Memory is one h = tt
-set_refuses b e why is one (inl h) = ((one, h), refl)
-set_refuses b e why is one (inr wants) = let memory = wants.why in cc
+-- a set's fault, by what says which bytes show it
+module _ (IsFault : List ℕ → InputFault → Type 0) (b : List ℕ) (e : SetFault) (shows : HasFault b e → IsFault b (inputs.Set e)) where
+  pub set_refuses : (why : SetWhy) → e.why ≡ why → HasFault b e ⊎ WantsMemory [] b e → Refuses IsFault b (set_by why e)
+  set_refuses sets.Memory is h = tt
+  set_refuses why is (inl h) = (shows h, refl)
+  set_refuses why is (inr wants) = let memory = wants.why in cc
 
-file_refuses : (b : List ℕ) (e : FileFault) (why : FileWhy) → e.why ≡ why → is_one_set b ≡ false → DeviceRefused b e.at why → Refuses b (file_by why e)
+file_refuses : (b : List ℕ) (e : FileFault) (why : FileWhy) → e.why ≡ why → is_one_set b ≡ false → DeviceRefused b e.at why → Refuses InputFaulty b (file_by why e)
 file_refuses b e files.Memory is none h = tt
 file_refuses b e why is none h = ((none, subst (FileFaulty b e.at) (sym is) h.0, h.1), refl)
 
 -- bytes that are no input are told with the fault that they show, or as out of memory
-pub input_refuses : (b : List ℕ) (e : InputFault) → InputRefused b e → Refuses b (refused_input e)
-input_refuses b (inputs.Set fault) h = set_refuses b fault fault.why refl h.0 h.1
+pub input_refuses : (b : List ℕ) (e : InputFault) → InputRefused b e → Refuses InputFaulty b (refused_input e)
+input_refuses b (inputs.Set fault) h = set_refuses InputFaulty b fault (λ shown. (h.0, shown)) fault.why refl h.1
 input_refuses b (inputs.Trailing at) h = (h, refl)
 input_refuses b (inputs.File fault) h = file_refuses b fault fault.why refl h.0 h.1
 
@@ -62,13 +66,14 @@ pub fault_explained : (m : Manner) (b old new : List ℕ) (e : InputFault) (v : 
 fault_explained m b old new e v refused (inl (known, fills)) = inr (inl (record { fault = e; shows = shown_fault b e refused known; fills = fills }))
 fault_explained m b old new e v refused (inr none) = inr (inr none)
 
-list_refuses_by : (text : List ℕ) (e : ListFault) (why : ListWhy) → e.why ≡ why → ListRefused text e.line why → RefusesList text (list_by why e)
-list_refuses_by text e lists.Memory is h = tt
-list_refuses_by text e why is h = subst (ListFaulty text e.line) (sym is) h
+list_refuses_by : (comments : Bool) (text : List ℕ) (e : ListFault) (why : ListWhy) → e.why ≡ why → BuildRefused comments text e.line why → RefusesList comments text (list_by why e)
+list_refuses_by comments text e lists.Memory is h = tt
+list_refuses_by true text e why is h = subst (CommentedFaulty text e.line) (sym is) h
+list_refuses_by false text e why is h = subst (ListFaulty text e.line) (sym is) h
 
 -- a text that is no listing
-pub list_refuses : (text : List ℕ) (e : ListFault) → ListRefused text e.line e.why → RefusesList text (refused_list e)
-list_refuses text e h = list_refuses_by text e e.why refl h
+pub list_refuses : (comments : Bool) (text : List ℕ) (e : ListFault) → BuildRefused comments text e.line e.why → RefusesList comments text (refused_list e)
+list_refuses comments text e h = list_refuses_by comments text e e.why refl h
 
 module _ (b : List ℕ) (speed : Speed) where
   run_by : (e : FileFault) (why : FileWhy) → e.why ≡ why → ReadRefused b e.at why → RefusesRun b speed (file_by why e)

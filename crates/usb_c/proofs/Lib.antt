@@ -6,3 +6,4 @@ mod HostValues
 mod InputFaults
 mod LooseValues
 mod Reasons
+mod Taking

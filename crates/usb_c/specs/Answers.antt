@@ -8,10 +8,10 @@ use Rattle.usb_file.specs.declared.input_fault.InputFault.{InputFault}
 use Rattle.usb_file.specs.declared.input_fault.InputFault.TheVariants as inputs
 use Rattle.usb_file.specs.Numbers.{why_number as file_number}
 use Rattle.usb_file_data.specs.Numbers.{write_number}
-use Rattle.usb_listing_reader.specs.Numbers.{why_number as list_number}
-use Rattle.usb_description.specs.Accepted.{fault_number as description_number}
+use Rattle.usb_listing.specs.Numbers.{why_number as list_number}
+use Rattle.usb_device.specs.Accepted.{fault_number as description_number}
 use Rattle.usb_device.specs.Numbers.{unanswered_number}
-use Rattle.usb_transfer.specs.Why.{why_number as trouble_number}
+use Rattle.usb_host.specs.Why.{why_number as trouble_number}
 
 -- four numbers
 abbrev pub numbers : ℕ → ℕ → ℕ → ℕ → Answer

@@ -3,12 +3,12 @@ use Rattle.std.specs.Prelude.{◌≡◌, ℕ, Bool, true, false, List, Option, S
 use Rattle.usb_fields.specs.Packet.{Sent}
 use Rattle.usb_fields.specs.Setup.{setup_bytes}
 use Rattle.usb_fields.specs.declared.setup.Setup.{Setup}
-use Rattle.usb_base.specs.declared.speed.Speed.{Speed}
+use Rattle.usb_fields.specs.declared.speed.Speed.{Speed}
 use Rattle.usb_file_data.specs.File.{File}
 use Rattle.usb_file_data.specs.declared.file.DescriptorFile.{DescriptorFile}
 use Rattle.usb_file.specs.declared.input_fault.InputFault.TheVariants as inputs
 use Rattle.usb_file.specs.FileFaults.{FileFaulty}
-use Rattle.usb_description.specs.Accepted.{Accepted}
+use Rattle.usb_device.specs.Accepted.{Accepted}
 use Rattle.usb_device.specs.Beside.{Response, answered, refused_in, room_size, unanswered}
 use Rattle.usb_device.specs.Step.{new_device}
 use Rattle.usb_device.specs.View.{View, served_by}
@@ -18,10 +18,10 @@ use Rattle.usb_c.specs.declared.answer.Verdict.{Verdict}
 use Rattle.usb_c.specs.declared.answer.Verdict.TheVariants as verdicts
 use Rattle.usb_c.specs.declared.device.UsbState.{UsbState}
 use Rattle.usb_c.specs.declared.device.UsbSetup.{UsbSetup}
-use Rattle.usb_owned_device.specs.declared.transaction.UsbPacket.{UsbPacket}
-use Rattle.usb_owned_device.specs.Ends.{after}
+use Rattle.usb_device.specs.declared.transaction.UsbPacket.{UsbPacket}
+use Rattle.usb_device.specs.Ends.{after}
 use Rattle.usb_c.specs.Refusals.{RefusesFile}
-use Rattle.usb_owned_device.specs.Transactions.{packet_of}
+use Rattle.usb_device.specs.Transactions.{packet_of}
 
 -- a new device of the file that these bytes are is held
 pub record OpensFile (b : List ℕ) (speed : Speed) (new : Option View) : Type 0 where

@@ -3,18 +3,18 @@ use Rattle.std.specs.Prelude.{◌≡◌, ℕ, ◌⊎◌, ◌==◌, ◌||◌, Boo
 use Rattle.std.specs.List.{list_all}
 use Rattle.usb_bus.specs.declared.fate.Fate.{Fate}
 use Rattle.usb_bus.specs.declared.fate.Fate.TheVariants as fates
-use Rattle.usb_base.specs.declared.speed.Speed.{Speed}
+use Rattle.usb_fields.specs.declared.speed.Speed.{Speed}
 use Rattle.usb_file_data.specs.File.{File}
 use Rattle.usb_file_data.specs.declared.file.DescriptorFile.{DescriptorFile}
 use Rattle.usb_file.specs.declared.input_fault.InputFault.TheVariants as inputs
 use Rattle.usb_file.specs.FileFaults.{FileFaulty}
 use Rattle.usb_listing.specs.Listing.{file_lines}
-use Rattle.usb_description.specs.Accepted.{Accepted}
-use Rattle.usb_transfer.specs.Limits.{LimitView, limit_fault, limit_fault_number}
-use Rattle.usb_transfer.specs.declared.limits.LimitFault.{LimitFault}
+use Rattle.usb_device.specs.Accepted.{Accepted}
+use Rattle.usb_host.specs.Limits.{LimitView, limit_fault, limit_fault_number}
+use Rattle.usb_host.specs.declared.limits.LimitFault.{LimitFault}
 use Rattle.usb_host.specs.declared.step.Trouble.{Trouble}
-use Rattle.usb_enumeration.specs.Enumerate.{IsEnumeration}
-use Rattle.usb_enumeration.specs.declared.run.Run.{Run}
+use Rattle.usb_bus.specs.Enumerate.{IsEnumeration}
+use Rattle.usb_bus.specs.declared.run.Run.{Run}
 use Rattle.usb_c.specs.declared.answer.Verdict.{Verdict}
 use Rattle.usb_c.specs.declared.answer.Verdict.TheVariants as verdicts
 use Rattle.usb_c.specs.declared.enumeration.UsbOutcome.{UsbOutcome}

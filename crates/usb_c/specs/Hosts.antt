@@ -1,16 +1,16 @@
 -- What calls do to a host that C holds, or to none.
 use Rattle.std.specs.Prelude.{◌≡◌, ℕ, Bool, true, false, List, Option, Some, None}
 use Rattle.usb_fields.specs.Packet.{Reply}
-use Rattle.usb_base.specs.declared.speed.Speed.{Speed}
-use Rattle.usb_transfer.specs.Limits.{limit_fault, limit_fault_number}
-use Rattle.usb_transfer.specs.declared.limits.LimitFault.{LimitFault}
+use Rattle.usb_fields.specs.declared.speed.Speed.{Speed}
+use Rattle.usb_host.specs.Limits.{limit_fault, limit_fault_number}
+use Rattle.usb_host.specs.declared.limits.LimitFault.{LimitFault}
 use Rattle.usb_host.specs.Steps.{HostView, Takes, Wanted, WantsNothing, WantsReset, WantsSent, new_host, outcome_of}
 use Rattle.usb_c.specs.declared.answer.Verdict.{Verdict}
 use Rattle.usb_c.specs.declared.answer.Verdict.TheVariants as verdicts
 use Rattle.usb_c.specs.declared.outcome.UsbTrouble.{UsbTrouble}
-use Rattle.usb_owned_device.specs.declared.transaction.UsbTransaction.{UsbTransaction}
+use Rattle.usb_device.specs.declared.transaction.UsbTransaction.{UsbTransaction}
 use Rattle.usb_c.specs.Outcomes.{EndsWith}
-use Rattle.usb_owned_device.specs.Transactions.{transaction_of}
+use Rattle.usb_device.specs.Transactions.{transaction_of}
 
 -- limits that are refused, or a new host with these limits, or out of memory
 abbrev pub OpensAt : ℕ → ℕ → ℕ → Speed → Option HostView → Verdict → Type 0

@@ -6,5 +6,6 @@ pub mod Enumerations
 pub mod Hosts
 pub mod Outcomes
 pub mod Refusals
+pub mod Taken
 pub mod Texts
 pub mod inside

@@ -3,7 +3,7 @@ use Rattle.std.specs.Prelude.{◌≡◌, ℕ, ◌⊎◌, List, Option, Some, Non
 use Rattle.usb_file_data.specs.File.{File, write_refusal}
 use Rattle.usb_file_data.specs.declared.fault.WriteFault.{WriteFault}
 use Rattle.usb_file_data.specs.declared.file.DescriptorFile.{DescriptorFile}
-use Rattle.usb_transfer.specs.Why.{why_number}
+use Rattle.usb_host.specs.Why.{why_number}
 use Rattle.usb_host.specs.declared.step.Step.{Step}
 use Rattle.usb_host.specs.declared.step.Step.TheVariants as steps
 use Rattle.usb_host.specs.declared.step.Trouble.{Trouble}

@@ -1,6 +1,6 @@
 -- How faults are reported: out of memory is no fault of the bytes.
 use Rattle.std.specs.Prelude.{◌≡◌, ℕ, Bool, true, false, List, Some}
-use Rattle.usb_base.specs.declared.speed.Speed.{Speed}
+use Rattle.usb_fields.specs.declared.speed.Speed.{Speed}
 use Rattle.usb_file_data.specs.File.{File}
 use Rattle.usb_file_data.specs.declared.file.DescriptorFile.{DescriptorFile}
 use Rattle.usb_set.specs.declared.fault.SetFault.{SetFault}
@@ -11,12 +11,12 @@ use Rattle.usb_file.specs.declared.fault.FileWhy.{FileWhy}
 use Rattle.usb_file.specs.declared.fault.FileWhy.TheVariants as files
 use Rattle.usb_file.specs.declared.input_fault.InputFault.{InputFault}
 use Rattle.usb_file.specs.declared.input_fault.InputFault.TheVariants as inputs
-use Rattle.usb_listing_reader.specs.declared.fault.ListFault.{ListFault}
-use Rattle.usb_listing_reader.specs.declared.fault.ListWhy.{ListWhy}
-use Rattle.usb_listing_reader.specs.declared.fault.ListWhy.TheVariants as lists
-use Rattle.usb_description.specs.Accepted.{refusal_of}
-use Rattle.usb_description.specs.declared.fault.DescriptionFault.{DescriptionFault}
-use Rattle.usb_description.specs.declared.fault.DescriptionFault.TheVariants as descriptions
+use Rattle.usb_listing.specs.declared.fault.ListFault.{ListFault}
+use Rattle.usb_listing.specs.declared.fault.ListWhy.{ListWhy}
+use Rattle.usb_listing.specs.declared.fault.ListWhy.TheVariants as lists
+use Rattle.usb_device.specs.Accepted.{refusal_of}
+use Rattle.usb_device.specs.declared.fault.DescriptionFault.{DescriptionFault}
+use Rattle.usb_device.specs.declared.fault.DescriptionFault.TheVariants as descriptions
 use Rattle.usb_c.specs.declared.answer.Verdict.{Verdict}
 use Rattle.usb_c.specs.declared.answer.Verdict.TheVariants as verdicts
 

@@ -1,25 +1,26 @@
 -- What the calls do that put a text into a buffer.
-use Rattle.std.specs.Prelude.{◌≡◌, ℕ, ◌/◌, ◌%◌, ◌⊎◌, ◌==◌, false, List, Option, Some, None, if◌then◌else◌}
+use Rattle.std.specs.Prelude.{◌≡◌, ℕ, ◌/◌, ◌%◌, ◌⊎◌, ◌==◌, Bool, false, List, Option, Some, None, if◌then◌else◌}
 use Rattle.usb_explain.specs.Explanations.{broken_explanation, explanation}
 use Rattle.usb_explain.specs.declared.manner.Manner.{Manner}
-use Rattle.usb_words.specs.declared.speed.SetSpeed.{SetSpeed}
-use Rattle.usb_words.specs.declared.speed.SetSpeed.TheVariants as speeds
+use Rattle.usb_explain.specs.declared.speed.SetSpeed.{SetSpeed}
+use Rattle.usb_explain.specs.declared.speed.SetSpeed.TheVariants as speeds
 use Rattle.usb_file_data.specs.File.{File}
 use Rattle.usb_file_data.specs.declared.file.DescriptorFile.{DescriptorFile}
 use Rattle.usb_file.specs.Inputs.{InputFaulty, IsInput}
-use Rattle.usb_rules.specs.Findings.{input_findings}
+use Rattle.usb_file_data.specs.Findings.{input_findings}
 use Rattle.usb_file_data.specs.declared.input.Input.{Input}
 use Rattle.usb_file_data.specs.declared.input.Input.TheVariants as inputs
 use Rattle.usb_file.specs.declared.input_fault.InputFault.{InputFault}
 use Rattle.usb_listing.specs.Listing.{file_lines}
 use Rattle.usb_listing.specs.SetListing.{set_lines}
-use Rattle.usb_listing_reader.specs.Listings.{ListFaulty, Lists}
-use Rattle.usb_rules.specs.FindingLine.{check_text}
+use Rattle.usb_listing.specs.Listings.{Lists}
+use Rattle.usb_file_data.specs.FindingLine.{check_text}
 use Rattle.usb_c.specs.declared.answer.Verdict.{Verdict}
 use Rattle.usb_c.specs.declared.answer.Verdict.TheVariants as verdicts
 use Rattle.usb_c.specs.Buffers.{Fills}
 use Rattle.usb_c.specs.Outcomes.{PutsFile}
 use Rattle.usb_c.specs.Refusals.{wants_memory}
+use Rattle.usb_c.specs.Taken.{BuildFaulty, CheckFaulty, IsChecked, IsShown, ShowFaulty, kept_text}
 
 -- the lines of an input: a dump has those of its device and its sets
 abbrev pub input_lines : Input → List ℕ
@@ -28,27 +29,27 @@ input_lines (inputs.File file) = file_lines file
 input_lines (inputs.Dump file) = file_lines file
 
 -- the bytes show this fault, or out of memory
-abbrev pub Refuses : List ℕ → Verdict → Type 0
-Refuses b (verdicts.Broken fault length) = InputFaulty b fault × (length ≡ 0)
-Refuses b verdicts.NoMemory = Unit {0}
-Refuses b verdict = ⊥
+abbrev pub Refuses : (List ℕ → InputFault → Type 0) → List ℕ → Verdict → Type 0
+Refuses IsFault b (verdicts.Broken fault length) = IsFault b fault × (length ≡ 0)
+Refuses IsFault b verdicts.NoMemory = Unit {0}
+Refuses IsFault b verdict = ⊥
 
--- a text of the input that the bytes are is in the buffer
-pub record TellsInput (text_of : Input → List ℕ) (b old new : List ℕ) (verdict : Verdict) : Type 0 where
+-- a text of the input that the bytes are taken for is in the buffer
+pub record TellsInput (IsTaken : Input → List ℕ → Type 0) (text_of : Input → List ℕ) (b old new : List ℕ) (verdict : Verdict) : Type 0 where
   pub input : Input
-  pub is : IsInput input b
+  pub is : IsTaken input b
   pub fills : Fills verdicts.Done (text_of input) old new verdict
 
--- or the bytes are refused, and the buffer is as it was
-abbrev pub TellsOf : (Input → List ℕ) → List ℕ → List ℕ → List ℕ → Verdict → Type 0
-TellsOf text_of b old new verdict = TellsInput text_of b old new verdict ⊎ (Refuses b verdict × (new ≡ old))
+-- the listing of the bytes, or they are refused, and the buffer is as it was
+abbrev pub Shows : Bool → List ℕ → List ℕ → List ℕ → Verdict → Type 0
+Shows any b old new verdict =
+    TellsInput (IsShown any) input_lines b old new verdict ⊎ (Refuses (ShowFaulty any) b verdict × (new ≡ old))
 
--- the listing of the bytes, and what is found in them
-abbrev pub Shows : List ℕ → List ℕ → List ℕ → Verdict → Type 0
-Shows = TellsOf input_lines
-
-abbrev pub Checks : List ℕ → List ℕ → List ℕ → Verdict → Type 0
-Checks = TellsOf (λ input. check_text (input_findings input))
+-- the same of what is found in them
+abbrev pub Checks : Bool → List ℕ → List ℕ → List ℕ → Verdict → Type 0
+Checks any b old new verdict =
+    TellsInput (IsChecked any) (λ input. check_text (input_findings input)) b old new verdict
+    ⊎ (Refuses (CheckFaulty any) b verdict × (new ≡ old))
 
 -- the speed of a number, if it is one
 abbrev pub running_speed_told : ℕ → Option SetSpeed
@@ -77,7 +78,7 @@ pub record TellsBroken (m : Manner) (b old new : List ℕ) (verdict : Verdict) :
 -- the bytes are explained: as an input, or as far as they go; or out of memory
 abbrev pub Explains : Manner → List ℕ → List ℕ → List ℕ → Verdict → Type 0
 Explains m b old new verdict =
-    TellsInput (λ input. explanation m input b) b old new verdict
+    TellsInput IsInput (λ input. explanation m input b) b old new verdict
     ⊎ (TellsBroken m b old new verdict ⊎ ((verdict ≡ verdicts.NoMemory) × (new ≡ old)))
 
 -- bytes with this fault are explained as far as they go, or memory was wanting before or is now
@@ -87,16 +88,17 @@ ExplainsFault m fault b old new verdict =
     ⊎ ((verdict ≡ verdicts.NoMemory) × (new ≡ old))
 
 -- the bytes of the file that the text lists are in the buffer
-pub record TellsListed (text old new : List ℕ) (verdict : Verdict) : Type 0 where
+pub record TellsListed (comments : Bool) (text old new : List ℕ) (verdict : Verdict) : Type 0 where
   pub file : DescriptorFile
-  pub lists : Lists text file
+  pub lists : Lists (kept_text comments text) file
   pub puts : PutsFile file old new verdict
 
 -- or the text has this fault
-abbrev pub RefusesList : List ℕ → Verdict → Type 0
-RefusesList text (verdicts.List fault) = ListFaulty text fault.line fault.why
-RefusesList text verdicts.NoMemory = Unit {0}
-RefusesList text verdict = ⊥
+abbrev pub RefusesList : Bool → List ℕ → Verdict → Type 0
+RefusesList comments text (verdicts.List fault) = BuildFaulty comments text fault.line fault.why
+RefusesList comments text verdicts.NoMemory = Unit {0}
+RefusesList comments text verdict = ⊥
 
-abbrev pub Builds : List ℕ → List ℕ → List ℕ → Verdict → Type 0
-Builds text old new verdict = TellsListed text old new verdict ⊎ (RefusesList text verdict × (new ≡ old))
+abbrev pub Builds : Bool → List ℕ → List ℕ → List ℕ → Verdict → Type 0
+Builds comments text old new verdict =
+    TellsListed comments text old new verdict ⊎ (RefusesList comments text verdict × (new ≡ old))

@@ -1,3 +1,4 @@
 pub mod OwningDecoder
 pub mod OwningDevice
 pub mod OwningHost
+pub mod Taking

@@ -2,11 +2,10 @@
 ghost use Rattle.std.specs.Prelude.{◌≡◌};
 ghost use Rattle.usb_c.specs.Answers.{broken_answer, numbers};
 
-use usb_description::DescriptionFault;
-use usb_device::Unanswered;
+use usb_device::{DescriptionFault, Unanswered};
 use usb_file::{InputFault, WriteFault};
 use usb_host::Trouble;
-use usb_listing_reader::ListFault;
+use usb_listing::ListFault;
 
 /// What a call answers, as C sees it. Four numbers, so that of broken bytes both the fault and the length of their
 /// explanation are reported.

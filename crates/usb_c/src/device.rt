@@ -6,18 +6,17 @@ ghost use Rattle.usb_device.specs.Step.{new_device};
 ghost use Rattle.usb_device.specs.View.{acked_by};
 ghost use Rattle.usb_c.specs.Answers.{AnswersOn, answer_of};
 ghost use Rattle.usb_c.specs.Devices.{Opens, OpensAt, Serves, answer_told, answered_for, setup_told, state_numbers, state_told};
-ghost use Rattle.usb_owned_device.specs.Ends.{after};
-ghost use Rattle.usb_owned_device.specs.Transactions.{sent_told, speed_told};
+ghost use Rattle.usb_device.specs.Ends.{after};
+ghost use Rattle.usb_device.specs.Transactions.{sent_told, speed_told};
 
 use crate::answer::{Answer, Verdict};
 use crate::device_handle::UsbDevice;
 use crate::refusal::{refused_description, refused_file};
 use std::alloc::Global;
 use std::mem::replace;
-use usb_device::{Description, State};
+use usb_device::{Description, OwnedDevice, State, UsbPacket, UsbTransaction, sent, speed_of};
 use usb_fields::{Setup, Speed};
 use usb_file::read_file;
-use usb_owned_device::{OwnedDevice, UsbPacket, UsbTransaction, sent, speed_of};
 
 /// What a device keeps from one request to the next (USB 2.0, 9.1.1).
 #[repr(C)]

@@ -7,7 +7,7 @@ use crate::loose::Loose;
 use std::alloc::Global;
 use std::marker::Model;
 use std::ptr::null_mut;
-use usb_owned_device::OwnedDevice;
+use usb_device::OwnedDevice;
 
 /// A device on the heap, or none, which is null. C sees a struct with one pointer in it, since a
 /// `Global` takes no bytes, and neither reads nor changes what it points to.

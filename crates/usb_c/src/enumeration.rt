@@ -4,7 +4,7 @@ ghost use Rattle.std.specs.List.{list_all};
 ghost use Rattle.usb_listing.specs.Listing.{file_lines};
 ghost use Rattle.usb_c.specs.Buffers.{Fills};
 ghost use Rattle.usb_c.specs.Enumerations.{Enumerates, EnumeratesUnder, TellsRun, fate_told, is_fate, outcome_numbers, trouble_numbers};
-ghost use Rattle.usb_owned_device.specs.Transactions.{speed_told};
+ghost use Rattle.usb_device.specs.Transactions.{speed_told};
 ghost use Rattle.usb_c.specs.declared.answer.Verdict.TheVariants as verdicts;
 
 use crate::answer::Verdict;
@@ -12,15 +12,12 @@ use crate::buffer::fill_done;
 use crate::outcome::{StepNumbers, numbered, step_numbers};
 use crate::refusal::{refused_description, refused_file};
 use std::alloc::{AllocError, Global};
-use usb_bus::Fate;
-use usb_description::Description;
-use usb_enumeration::{Run, enumerate};
+use usb_bus::{Fate, Run, enumerate};
+use usb_device::{Description, speed_of};
 use usb_fields::Speed;
 use usb_file::{DescriptorFile, read_file};
-use usb_host::Trouble;
+use usb_host::{Limits, Trouble};
 use usb_listing::list;
-use usb_owned_device::speed_of;
-use usb_transfer::Limits;
 
 /// What came of an enumeration.
 #[repr(C)]

@@ -5,17 +5,16 @@ ghost use Rattle.usb_fields.specs.Packet.{Sent};
 ghost use Rattle.usb_host.specs.Steps.{WantsSent, reset, wanted};
 ghost use Rattle.usb_c.specs.Answers.{AnswersOn};
 ghost use Rattle.usb_c.specs.Hosts.{Ends, Opens, OpensAt, TakesOne, action_number, resets_of, transaction_due};
-ghost use Rattle.usb_owned_device.specs.Transactions.{reply_told, sent_told, speed_told};
+ghost use Rattle.usb_device.specs.Transactions.{reply_told, sent_told, speed_told};
 
 use crate::answer::{Answer, Verdict};
 use crate::host_handle::UsbHost;
 use crate::outcome::{UsbTrouble, tell_outcome};
 use std::alloc::Global;
 use std::mem::replace;
+use usb_device::{UsbTransaction, answer_of, speed_of, told};
 use usb_fields::Speed;
-use usb_host::{Action, Host};
-use usb_owned_device::{UsbTransaction, answer_of, speed_of, told};
-use usb_transfer::Limits;
+use usb_host::{Action, Host, Limits};
 
 /// Opens a host that has done nothing. One that is held already is freed.
 #[unsafe(no_mangle)]

@@ -2,30 +2,31 @@
 ghost use Rattle.usb_c.specs.Answers.{AnswersOn};
 ghost use Rattle.usb_c.specs.Enumerations.{Enumerates};
 ghost use Rattle.usb_c.specs.Texts.{Builds, Checks, Explains, Shows, manner_told};
-ghost use Rattle.usb_owned_device.specs.Transactions.{speed_told};
+ghost use Rattle.usb_device.specs.Transactions.{speed_told};
 
 use crate::answer::Answer;
 use crate::enumeration::{UsbOutcome, enumerate_bytes};
 use crate::text::{build, check, explain_bytes, manner, show};
 use std::alloc::Global;
 
-/// Puts the listing of an input into the buffer: a line for each descriptor.
+/// Puts the listing of bytes into the buffer: a line for each descriptor. They are one set where the second byte is that of
+/// one, and else a descriptor file; with `any` a dump too.
 #[unsafe(no_mangle)]
-pub extern "C" fn usb_show(alloc: Global, bytes: &[u8], text: &mut [u8]) -> Answer
-    ensures { AnswersOn (Shows bytes.now text.old text.new) result }
+pub extern "C" fn usb_show(alloc: Global, bytes: &[u8], any: bool, text: &mut [u8]) -> Answer
+    ensures { AnswersOn (Shows any bytes.now text.old text.new) result }
 {
-    show(alloc, bytes, text).answer()
+    show(alloc, bytes, any, text).answer()
 }
 
-/// Puts a line for each finding in an input into the buffer, or `no findings`.
+/// Puts a line for each finding in a descriptor file into the buffer, or `no findings`; with `any` also in one set or a dump.
 #[unsafe(no_mangle)]
-pub extern "C" fn usb_check(alloc: Global, bytes: &[u8], text: &mut [u8]) -> Answer
-    ensures { AnswersOn (Checks bytes.now text.old text.new) result }
+pub extern "C" fn usb_check(alloc: Global, bytes: &[u8], any: bool, text: &mut [u8]) -> Answer
+    ensures { AnswersOn (Checks any bytes.now text.old text.new) result }
 {
-    check(alloc, bytes, text).answer()
+    check(alloc, bytes, any, text).answer()
 }
 
-/// Puts the explanation of bytes into the buffer: of an input all of it, else what is before the fault, the fault and
+/// Puts the explanation of bytes into the buffer: of a set, a file or a dump all of it, else what is before the fault, the fault and
 /// the rest. Options: bit 0 leaves out the fields, bit 1 gives each heading its place, bit 2 writes characters beyond
 /// ASCII. A speed: 1 low, 2 full, 3 high, 4 super; any other says nothing of it.
 #[unsafe(no_mangle)]
@@ -41,12 +42,13 @@ pub extern "C" fn usb_explain(
     explain_bytes(alloc, bytes, manner(options, speed), text).answer()
 }
 
-/// Puts the bytes of the file that a text lists into the buffer.
+/// Puts the bytes of the file that a text lists into the buffer. With `comments` lines that are empty or begin with `#` are
+/// dropped, and so is a carriage return before a line feed.
 #[unsafe(no_mangle)]
-pub extern "C" fn usb_build(alloc: Global, text: &[u8], bytes: &mut [u8]) -> Answer
-    ensures { AnswersOn (Builds text.now bytes.old bytes.new) result }
+pub extern "C" fn usb_build(alloc: Global, text: &[u8], comments: bool, bytes: &mut [u8]) -> Answer
+    ensures { AnswersOn (Builds comments text.now bytes.old bytes.new) result }
 {
-    build(alloc, text, bytes).answer()
+    build(alloc, text, comments, bytes).answer()
 }
 
 /// Enumerates a device with the descriptors of a file, and puts the listing of what was read into the buffer. A fate is

@@ -21,6 +21,7 @@ mod input;
 mod loose;
 mod outcome;
 mod refusal;
+mod taken;
 mod text;
 
 pub use answer::Answer;
@@ -40,4 +41,4 @@ pub use host::{
 pub use host_handle::UsbHost;
 pub use input::{usb_build, usb_check, usb_enumerate, usb_explain, usb_show};
 pub use outcome::UsbTrouble;
-pub use usb_owned_device::{UsbPacket, UsbTransaction};
+pub use usb_device::{UsbPacket, UsbTransaction};

@@ -3,9 +3,9 @@ ghost use Rattle.std.specs.Prelude.{◌≡◌};
 ghost use Rattle.usb_c.specs.Refusals.{refused_description, refused_file, refused_input, refused_list, refused_set, wants_memory};
 
 use crate::answer::Verdict;
-use usb_description::DescriptionFault;
+use usb_device::DescriptionFault;
 use usb_file::{FileFault, FileWhy, InputFault};
-use usb_listing_reader::{ListFault, ListWhy};
+use usb_listing::{ListFault, ListWhy};
 use usb_set::{SetFault, SetWhy};
 
 /// How the fault of a set is reported: out of memory is no fault of the bytes.

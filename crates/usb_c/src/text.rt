@@ -1,10 +1,10 @@
 //! Texts, from a buffer into a buffer: what `usbdesc` writes.
 ghost use Rattle.std.specs.Prelude.{◌≡◌, List, ℕ, IfOk};
 ghost use Rattle.usb_explain.specs.Explanations.{explanation};
-ghost use Rattle.usb_rules.specs.Findings.{input_findings};
+ghost use Rattle.usb_file_data.specs.Findings.{input_findings};
 ghost use Rattle.usb_file_data.specs.File.{File};
 ghost use Rattle.usb_listing.specs.SetListing.{set_lines};
-ghost use Rattle.usb_rules.specs.FindingLine.{check_text};
+ghost use Rattle.usb_file_data.specs.FindingLine.{check_text};
 ghost use Rattle.usb_c.specs.Buffers.{Fills};
 ghost use Rattle.usb_c.specs.Outcomes.{PutsFile};
 ghost use Rattle.usb_c.specs.Texts.{ExplainsFault};
@@ -14,20 +14,21 @@ ghost use Rattle.usb_c.specs.declared.answer.Verdict.TheVariants as verdicts;
 use crate::answer::Verdict;
 use crate::buffer::{fill_broken, fill_done};
 use crate::refusal::{refused_input, refused_list, wants_memory};
+use crate::taken::{read_checked, read_listing, read_shown};
 use std::alloc::{AllocError, Global};
 use usb_explain::{Look, Manner, SetSpeed, explain, explain_broken};
 use usb_file::{DescriptorFile, Input, InputFault, WriteFault, read_input, write_file};
-use usb_listing::{OutFault, list, list_set};
-use usb_listing_reader::assemble;
-use usb_rules::{check_input, findings_text};
+use usb_file_data::{check_input, findings_text};
+use usb_listing::{list, list_set};
 use usb_set::Configuration;
+use usb_text::OutFault;
 
-/// Puts the listing of an input into the buffer: a line for each descriptor.
-#[tactic(auto, using(crate::proofs::InputFaults::input_refuses))]
-pub(crate) fn show(alloc: Global, bytes: &[u8], out: &mut [u8]) -> Verdict
-    ensures { Shows bytes.now out.old out.new result }
+/// Puts the listing of a set or a file into the buffer, and with `any` that of a dump too: a line for each descriptor.
+#[tactic(auto, using(crate::proofs::Taking::show_refuses))]
+pub(crate) fn show(alloc: Global, bytes: &[u8], any: bool, out: &mut [u8]) -> Verdict
+    ensures { Shows any bytes.now out.old out.new result }
 {
-    match read_input(alloc, bytes) {
+    match read_shown(alloc, bytes, any) {
         Ok(input) => show_input(alloc, &input, out),
         Err(fault) => refused_input(fault),
     }
@@ -64,12 +65,12 @@ fn lines_of_input(alloc: Global, input: &Input) -> Result<Vec<u8>, OutFault>
     Ok(text)
 }
 
-/// Puts a line for each finding in an input into the buffer, or `no findings`.
-#[tactic(auto, using(crate::proofs::InputFaults::input_refuses))]
-pub(crate) fn check(alloc: Global, bytes: &[u8], out: &mut [u8]) -> Verdict
-    ensures { Checks bytes.now out.old out.new result }
+/// Puts a line for each finding in a file into the buffer, with `any` in a set or a dump too, or `no findings`.
+#[tactic(auto, using(crate::proofs::Taking::check_refuses))]
+pub(crate) fn check(alloc: Global, bytes: &[u8], any: bool, out: &mut [u8]) -> Verdict
+    ensures { Checks any bytes.now out.old out.new result }
 {
-    match read_input(alloc, bytes) {
+    match read_checked(alloc, bytes, any) {
         Ok(input) => check_whole(alloc, &input, out),
         Err(fault) => refused_input(fault),
     }
@@ -165,12 +166,13 @@ fn explain_fault(
     }
 }
 
-/// Puts the bytes of the file that a text lists into the buffer.
+/// Puts the bytes of the file that a text lists into the buffer. With `comments` lines that are empty or begin with `#` are
+/// dropped, and so is a carriage return before a line feed.
 #[tactic(auto, using(crate::proofs::InputFaults::list_refuses))]
-pub(crate) fn build(alloc: Global, text: &[u8], out: &mut [u8]) -> Verdict
-    ensures { Builds text.now out.old out.new result }
+pub(crate) fn build(alloc: Global, text: &[u8], comments: bool, out: &mut [u8]) -> Verdict
+    ensures { Builds comments text.now out.old out.new result }
 {
-    match assemble(alloc, text) {
+    match read_listing(alloc, text, comments) {
         Ok(file) => build_file(alloc, &file, out),
         Err(fault) => refused_list(fault),
     }

@@ -1,2 +1,10 @@
 pub mod HaltLemmas
 pub mod StageLemmas
+pub mod PlaceLemmas
+pub mod ImageLemmas
+pub mod AcceptedLemmas
+pub mod SetLemmas
+pub mod FitLemmas
+pub mod RankLemmas
+pub mod Exits
+pub mod Replies

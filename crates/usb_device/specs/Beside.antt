@@ -1,9 +1,9 @@
 -- Answers beside the table of standard requests. A SETUP is acknowledged whatever it asks for (8.4.6.4), and a refusal is
 -- reported by the STALL of the IN or OUT after it (8.5.3.4): in between the device's owner may answer the request.
 use Rattle.std.specs.Prelude.{ℕ, ◌==◌, ◌&&◌, ◌||◌, ◌/◌, nat_lt, Bool, true, false, not, if◌then◌else◌, List, length, take, Option, Some, None}
-use Rattle.usb_base.specs.declared.direction.Direction.{Direction}
-use Rattle.usb_base.specs.declared.direction.Direction.TheVariants as directions
-use Rattle.usb_base.specs.Directions.{direction_of}
+use Rattle.usb_fields.specs.declared.direction.Direction.{Direction}
+use Rattle.usb_fields.specs.declared.direction.Direction.TheVariants as directions
+use Rattle.usb_fields.specs.Directions.{direction_of}
 use Rattle.usb_fields.specs.declared.setup.Setup.{Setup}
 use Rattle.usb_fields.specs.declared.setup.Class.{Class}
 use Rattle.usb_fields.specs.declared.setup.Class.TheVariants as classes

@@ -7,4 +7,10 @@ pub mod View
 pub mod Stages
 pub mod EndpointZero
 pub mod Lending
+pub mod Descriptors
+pub mod Places
+pub mod Accepted
+pub mod Described
+pub mod Ends
+pub mod Transactions
 pub mod inside

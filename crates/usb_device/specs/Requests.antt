@@ -5,17 +5,17 @@ use Rattle.std.specs.List.{list_any, flat_map}
 use Rattle.usb_fields.specs.declared.setup.Setup.{Setup}
 use Rattle.usb_fields.specs.declared.setup.Class.{Class}
 use Rattle.usb_fields.specs.declared.setup.Class.TheVariants as classes
-use Rattle.usb_base.specs.declared.direction.Direction.{Direction}
-use Rattle.usb_base.specs.declared.direction.Direction.TheVariants as directions
+use Rattle.usb_fields.specs.declared.direction.Direction.{Direction}
+use Rattle.usb_fields.specs.declared.direction.Direction.TheVariants as directions
 use Rattle.usb_fields.specs.declared.setup.Recipient.{Recipient}
 use Rattle.usb_fields.specs.declared.setup.Recipient.TheVariants.{Device, Interface, Endpoint, Other, Reserved}
-use Rattle.usb_base.specs.Directions.{direction_of}
+use Rattle.usb_fields.specs.Directions.{direction_of}
 use Rattle.usb_fields.specs.Setup.{class_of, recipient_of}
 use Rattle.usb_set.specs.declared.tree.Configuration.{Configuration}
 use Rattle.usb_set.specs.declared.tree.Endpoint.{Endpoint as EndpointDescriptor}
 use Rattle.usb_set.specs.declared.tree.Setting.{Setting}
 use Rattle.usb_file_data.specs.declared.file.DescriptorFile.{DescriptorFile}
-use Rattle.usb_description.specs.Descriptors.{descriptor}
+use Rattle.usb_device.specs.Descriptors.{descriptor}
 use Rattle.usb_device.specs.declared.state.State.{State}
 use Rattle.usb_device.specs.States.{first_alternates, has_address, is_configured, halt_of, with_halt, without_halt}
 

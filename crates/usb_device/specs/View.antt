@@ -2,7 +2,7 @@
 use Rattle.std.specs.Prelude.{ℕ, ◌*◌, Bool}
 use Rattle.usb_fields.specs.Packet.{Sent}
 use Rattle.usb_file_data.specs.declared.file.DescriptorFile.{DescriptorFile}
-use Rattle.usb_description.specs.Described.{Described}
+use Rattle.usb_device.specs.Described.{Described}
 use Rattle.usb_device.specs.Requests.{answer}
 use Rattle.usb_device.specs.Step.{DeviceStage, Idle, Halted, Sending, StatusOut, Over, StatusIn, DeviceView, Served, served, acked}
 

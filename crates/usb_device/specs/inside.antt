@@ -2,3 +2,6 @@
 pub mod Responses
 pub mod Reactions
 pub mod Devices
+pub mod Images
+pub mod Descriptions
+pub mod Ranks

@@ -5,12 +5,12 @@
 ghost use Rattle.std.specs.Prelude.{◌≡◌, None, Some, OnOk, OnErr, IfErr};
 ghost use Rattle.std.specs.Borrow.{sem};
 
+use crate::description::Description;
 use crate::endpoint_zero::{EndpointZero, Reaction};
 use crate::stage::Stage;
 use crate::state::State;
 use crate::unanswered::Unanswered;
 use std::marker::Model;
-use usb_description::Description;
 use usb_fields::{Answer, Setup, Transaction};
 
 /// A device on the bus: it answers each transaction as USB 2.0 says, by its description. It never
@@ -102,8 +102,9 @@ impl<'d> Device<'d> {
         self.endpoint_zero.packet(self.description)
     }
 
-    /// The host's ACK of the data packet that [`Device::serve`] answered right before: the next packet is due, or the
-    /// transfer is over. Anywhere else, and a second time, it changes nothing.
+    /// Call it when the host has acknowledged the packet, never right after `serve`. If the last answer of
+    /// [`Device::serve`] was a data packet, the next packet is then due, or the transfer is over. Anywhere else, and a
+    /// second time, it changes nothing.
     #[inline(always)]
     pub fn acked(&mut self)
         ensures { self.new ≡ record self.old { device = acked_by self.old.description.file self.old.device } }
@@ -166,8 +167,8 @@ impl<'d> Device<'d> {
     }
 
     /// The request that was carried out, one of the table's own too: from the first empty packet of its status stage to
-    /// the ACK of it. An owner to whom twice isn't once acts when this turns Some, since an accepted request may come
-    /// again before. The address of a SET_ADDRESS takes effect at that ACK.
+    /// the ACK of it. If acting twice matters, act when this becomes `Some`: the host may repeat an accepted request before
+    /// that. The address of a SET_ADDRESS takes effect at that ACK.
     #[inline]
     pub fn carried_out(&self) -> Option<Setup>
         ensures { result ≡ carried_out_in self.now.device.stage }

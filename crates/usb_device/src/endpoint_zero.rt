@@ -3,18 +3,18 @@ ghost use Rattle.std.specs.Borrow.{sem};
 ghost use Rattle.std.specs.Prelude.{◌≡◌, ◌<◌, ◌≤◌, ◌/◌, suc, true, false, take, drop, length, None, Some, OnOk, OnErr, IfErr};
 ghost use Rattle.usb_fields.specs.Packet.{reply_of, sent_of};
 ghost use Rattle.usb_fields.specs.Packets.{packets};
-ghost use Rattle.usb_description.specs.Places.{descriptor_at};
+ghost use Rattle.usb_device.specs.Places.{descriptor_at};
 ghost use Rattle.usb_device.specs.Requests.{answer};
 ghost use Rattle.usb_device.specs.Step.{begun, carried_out, is_set_address, next_stage, Sending};
 ghost use Rattle.usb_device.specs.Stages.{data_bytes, stage_kind, IsData, IsSource};
 
 use crate::beside::{ROOM, is_open};
+use crate::description::Description;
 use crate::request::Request;
 use crate::response::Response;
 use crate::stage::{DataStage, Source, Stage};
 use crate::state::State;
 use crate::unanswered::Unanswered;
-use usb_description::Description;
 use usb_fields::{Answer, Direction, Setup, Stage as Token, Toggle, Transaction, request};
 
 /// What a device answers to a transaction, with the bytes left out.

@@ -8,35 +8,65 @@
 //! [`EndpointZero`] is what changes in a device, without the description, and [`is_set_address`] is the request that
 //! a device carries out after its status stage. What a device rejects its owner may answer: [`Device::refused`].
 //!
-//! - Descriptions, and which descriptors make a device, are in the crate usb_description; its public types are named
+//! - Descriptions, and which descriptors make a device, are in the crate usb_device; its public types are named
 //!   here too.
 //! - What comes of each request is `specs/Requests.antt`, a definition for each row of the table, over
-//!   `specs/States.antt` and the descriptors of `usb_description/specs/Descriptors.antt`.
+//!   `specs/States.antt` and the descriptors of `usb_device/specs/Descriptors.antt`.
 //! - How a device goes through a control transfer is `specs/Step.antt`, whatever the table is.
 //! - What may be answered beside the table is `specs/Beside.antt`.
 //! - What the parts of an [`EndpointZero`] mean is `specs/EndpointZero.antt` and `specs/Stages.antt`: the code has an
 //!   offset and a toggle where the definition has a list of packets.
 //! - What no public contract cites is in `specs/inside/`.
+//!
+//! The descriptors of a USB 2.0 device, ready to be sent.
+//!
+//! A [`Description`] is made of a descriptor file and a speed, where a device of that speed can have those descriptors,
+//! and else [`DescriptionFault`] is why not. It encodes each descriptor once, a set as one. [`Description::find`]
+//! gives the place of the descriptor that a request asks for, and [`Description::bytes`] gives the bytes there, so
+//! that no answer copies a byte.
+//!
+//! - Which descriptors make a device is `specs/Accepted.antt`.
+//! - Which descriptor a request asks for is `specs/Descriptors.antt`, and at which place it is
+//!   `specs/Places.antt`.
+//! - The device that hands them out is in the crate usb_device, which names [`Description`] and [`DescriptionFault`]
+//!   too.
+//!
+//! A device that owns its description, and transactions and packets as numbers: a device for callers in other languages.
+//!
+//! [`OwnedDevice`] borrows nothing, and so can be one handle; it answers as the device of usb_device does
+//! (`specs/Ends.antt`). [`UsbTransaction`] and [`UsbPacket`] are what passes on the bus, in numbers and lent bytes
+//! (`specs/Transactions.antt`).
 #![tactic(auto)]
 
+mod acceptance;
 mod beside;
+mod description;
 mod device;
 mod device_state;
+mod encoded_file;
 mod endpoint_zero;
+mod fault;
 mod halts;
+mod image;
 pub mod laws;
+mod owned_device;
+mod ranks;
 mod request;
 mod response;
 mod selected;
 mod stage;
 mod state;
+mod transaction;
 mod unanswered;
 
 pub use beside::{ROOM, is_open};
+pub use description::Description;
 pub use device::Device;
 pub use device_state::DeviceState;
 pub use endpoint_zero::{EndpointZero, is_set_address};
+pub use fault::DescriptionFault;
+pub use owned_device::OwnedDevice;
 pub use stage::Stage as DeviceStage;
 pub use state::State;
+pub use transaction::{UsbPacket, UsbTransaction, answer_of, sent, speed_of, told};
 pub use unanswered::Unanswered;
-pub use usb_description::{Description, DescriptionFault};

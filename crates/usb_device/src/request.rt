@@ -3,10 +3,10 @@
 //! The functions are inlined, so that a response, which is of several shapes, needs no room in memory.
 ghost use Rattle.std.specs.Prelude.{◌≡◌, ◌∷◌, [], if◌then◌else◌};
 
+use crate::description::Description;
 use crate::response::{Change, Response};
 use crate::state::State;
 use crate::{halts, selected};
-use usb_description::Description;
 use usb_fields::{Class, Direction, Recipient, Setup, feature, request};
 use usb_set::Setting;
 

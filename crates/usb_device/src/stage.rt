@@ -3,7 +3,7 @@ ghost use Rattle.std.specs.Prelude.{◌≡◌, ◌≤◌, length, take, drop};
 ghost use Rattle.usb_device.specs.Stages.{data_bytes, source_bytes, IsData, IsSource};
 
 use crate::beside::ROOM;
-use usb_description::Description;
+use crate::description::Description;
 use usb_fields::Toggle;
 
 /// The stage of a device in a transfer.

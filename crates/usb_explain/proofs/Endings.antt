@@ -2,10 +2,9 @@
 use Rattle.usb_text.specs.Numbers.{count}
 use Rattle.std.proofs.Common.{◌≡◌, ◌<◌, ◌==◌, Bool, true, false, if◌then◌else◌, ℕ, List, ◌++◌, codes, length, sym, ap, subst, ◌∙◌, arith, append_assoc, length-append, take}
 use Rattle.std.specs.Io.KnownBytes.{Appends}
-use Rattle.usb_listing.specs.Output.{AppendsLess, Held}
-use Rattle.usb_listing.specs.inside.Pages.{Puts}
-use Rattle.usb_listing.proofs.Pages.{appends_more, not_begun, puts_broken}
-use Rattle.usb_listing.proofs.HasBytes.{longer}
+use Rattle.usb_text.specs.Output.{AppendsLess, Held}
+use Rattle.usb_text.specs.inside.Pages.{Puts}
+use Rattle.usb_text.proofs.Pages.{appends_more, longer, not_begun, puts_broken}
 use Rattle.usb_file.specs.declared.input_fault.InputFault.{InputFault}
 use Rattle.usb_explain.specs.Explanations.{broken_end, broken_name, broken_text, first_line, last_line, whole_end, whole_text}
 use Rattle.usb_explain.specs.Standings.{start}

@@ -6,3 +6,9 @@ pub mod Spans
 pub mod Brief
 pub mod plain
 pub mod rest
+pub mod Cuts
+pub mod Tables
+pub mod Groups
+pub mod Parts
+pub mod Classes
+pub mod Open

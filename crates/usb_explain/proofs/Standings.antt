@@ -1,10 +1,10 @@
 -- How it stands behind a descriptor.
 use Rattle.std.proofs.Common.{◌≡◌, ◌≤◌, ℕ, ◌+◌, List, Option, Some, None, refl, arith}
-use Rattle.usb_rules.specs.declared.finding.Part.{Part}
-use Rattle.usb_rules.specs.declared.finding.Part.TheVariants as parts
-use Rattle.usb_words.specs.declared.speed.SetSpeed.{SetSpeed}
-use Rattle.usb_explained_lines.specs.declared.role.Role.{Role}
-use Rattle.usb_explained_lines.specs.declared.role.Role.TheVariants.{Device, Qualifier, Configuration, Association, Interface, Endpoint, Raw, Languages, Text}
+use Rattle.usb_file_data.specs.declared.finding.Part.{Part}
+use Rattle.usb_file_data.specs.declared.finding.Part.TheVariants as parts
+use Rattle.usb_explain.specs.declared.speed.SetSpeed.{SetSpeed}
+use Rattle.usb_explain.specs.declared.descriptor_role.Role.{Role}
+use Rattle.usb_explain.specs.declared.descriptor_role.Role.TheVariants.{Device, Qualifier, Configuration, Association, Interface, Endpoint, Raw, Languages, Text}
 use Rattle.usb_explain.specs.declared.position.SettingStanding.{SettingStanding}
 use Rattle.usb_explain.specs.declared.position.Standing.{Standing}
 use Rattle.usb_explain.specs.SetStart.{entered, opened}

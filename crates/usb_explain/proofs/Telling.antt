@@ -7,10 +7,10 @@ use Rattle.std.proofs.lemmas.Bool.{cond-true}
 use Rattle.std.proofs.lemmas.List.{drop-drop, take-append-drop}
 use Rattle.std.proofs.lemmas.List.Folds.{length-prefix_len}
 use Rattle.std.proofs.lemmas.List.Sums.{take_while-cons}
-use Rattle.usb_rules.specs.declared.finding.Finding.{Finding}
-use Rattle.usb_explained_lines.specs.declared.told.Told.{Told}
-use Rattle.usb_explained_lines.specs.Findings.{finding_line}
-use Rattle.usb_explained_lines.specs.declared.role.Role.{Role}
+use Rattle.usb_file_data.specs.declared.finding.Finding.{Finding}
+use Rattle.usb_explain.specs.declared.finding_words.Told.{Told}
+use Rattle.usb_explain.specs.FindingLines.{finding_line}
+use Rattle.usb_explain.specs.declared.descriptor_role.Role.{Role}
 use Rattle.usb_explain.specs.declared.position.Standing.{Standing}
 use Rattle.usb_explain.specs.Findings.{found_at, is_here, line_of, told_of}
 use Rattle.usb_explain.specs.Contexts.{depth_of}

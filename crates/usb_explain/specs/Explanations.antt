@@ -1,7 +1,9 @@
 -- The explanation of an input, and of bytes that are none.
-use Rattle.std.specs.Prelude.{ℕ, List, ◌++◌, length, take, drop, slice_index, codes, is_some, ◌==◌, ◌||◌, if◌then◌else◌}
+use Rattle.std.specs.Prelude.{ℕ, List, [], ◌++◌, ◌⊎◌, length, take, drop, slice_index, codes, is_some, ◌==◌, ◌||◌, if◌then◌else◌}
+use Rattle.std.specs.Io.KnownBytes.{Appends, Keeps}
+use Rattle.usb_text.specs.Output.{Held}
 use Rattle.usb_text.specs.Numbers.{count}
-use Rattle.usb_explained_lines.specs.Rest.{rest_lines}
+use Rattle.usb_explain.specs.Rest.{rest_lines}
 use Rattle.usb_file_data.specs.declared.input.Input.{Input}
 use Rattle.usb_file_data.specs.declared.input.Input.TheVariants as inputs
 use Rattle.usb_file.specs.declared.input_fault.InputFault.{InputFault}
@@ -55,3 +57,20 @@ broken_text subject fault b =
 -- that of bytes that are no input: what comes before the place of their fault, the fault and what they look like, and the rest
 abbrev pub broken_explanation : Manner → InputFault → List ℕ → List ℕ
 broken_explanation manner fault b = broken_text (broken_subject manner) fault b
+
+-- the writer gained this and the lines of the first so many descriptors, each whole
+pub record EndsBetween (subject : Subject) (b first : List ℕ) (old new : Held) : Type 0 where
+  pub count : ℕ
+  pub written : Appends old new (first ++ walked count subject (λ at. []) start b)
+
+-- Or it gained nothing. So it is where memory was wanting, and nothing failed to be written.
+abbrev pub StopsBetween : Subject → List ℕ → List ℕ → Held → Held → Type 0
+StopsBetween subject b first old new = Keeps old new ⊎ EndsBetween subject b first old new
+
+-- of the explanation of an input
+abbrev pub StopsWhole : Manner → Input → List ℕ → Held → Held → Type 0
+StopsWhole manner input b = StopsBetween (subject_with manner input (findings_in input)) b (first_line (input_name input) (length b))
+
+-- and of that of bytes which are none
+abbrev pub StopsBroken : Manner → InputFault → List ℕ → Held → Held → Type 0
+StopsBroken manner fault b = StopsBetween (broken_subject manner) (take (place_of_fault fault) b) (first_line (broken_name b) (length b))

@@ -1,24 +1,25 @@
 -- What is reported of a descriptor that breaks a rule, right under its heading.
-use Rattle.std.specs.Prelude.{ℕ, ◌-◌, ◌/◌, ◌%◌, List, length, slice_index, take, drop, flat_map, Bool, not, nat_le, ◌==◌, ◌&&◌, Option, Some, None, is_some, unwrap_or, [], if◌then◌else◌}
+use Rattle.std.specs.Prelude.{ℕ, ◌-◌, ◌/◌, ◌%◌, List, length, slice_index, take, drop, flat_map, Bool, not, nat_le, ◌==◌, ◌&&◌, Option, Some, None, is_some, option_and_then, unwrap_or, [], if◌then◌else◌}
 use Rattle.std.specs.List.{take_while}
 use Rattle.std.specs.Option.{option_map}
-use Rattle.usb_base.specs.Bytes.{little_endian_at}
-use Rattle.usb_rules.specs.declared.finding.Finding.{Finding}
-use Rattle.usb_rules.specs.declared.finding.Part.{Part}
-use Rattle.usb_rules.specs.declared.finding.Part.TheVariants as parts
-use Rattle.usb_rules.specs.declared.rule.Rule.{Rule}
-use Rattle.usb_rules.specs.declared.rule.Rule.TheVariants as rules
-use Rattle.usb_rules.specs.Places.{finding}
-use Rattle.usb_rules.specs.Rules.{wrong_packet}
-use Rattle.usb_words.specs.Counts.{endpoints_before_interface}
-use Rattle.usb_words.specs.Cut.{descriptors}
-use Rattle.usb_explained_lines.specs.declared.told.PacketFault.{PacketFault}
-use Rattle.usb_explained_lines.specs.declared.told.PacketFault.TheVariants as packets
-use Rattle.usb_explained_lines.specs.declared.told.Told.{Told}
-use Rattle.usb_explained_lines.specs.declared.told.Told.TheVariants as told
-use Rattle.usb_explained_lines.specs.Findings.{finding_line}
-use Rattle.usb_explained_lines.specs.declared.role.Role.{Role}
-use Rattle.usb_explained_lines.specs.declared.role.Role.TheVariants.{Device, Qualifier, Configuration, Association, Interface, Endpoint}
+use Rattle.usb_fields.specs.Bytes.{little_endian_at}
+use Rattle.usb_file_data.specs.declared.finding.Finding.{Finding}
+use Rattle.usb_file_data.specs.declared.finding.Part.{Part}
+use Rattle.usb_file_data.specs.declared.finding.Part.TheVariants as parts
+use Rattle.usb_file_data.specs.declared.rule.Rule.{Rule}
+use Rattle.usb_file_data.specs.declared.rule.Rule.TheVariants as rules
+use Rattle.usb_file_data.specs.Numbers.{rule_numbered}
+use Rattle.usb_file_data.specs.Places.{finding}
+use Rattle.usb_file_data.specs.Rules.{wrong_packet}
+use Rattle.usb_explain.specs.Counts.{endpoints_before_interface}
+use Rattle.usb_explain.specs.Cut.{descriptors}
+use Rattle.usb_explain.specs.declared.finding_words.PacketFault.{PacketFault}
+use Rattle.usb_explain.specs.declared.finding_words.PacketFault.TheVariants as packets
+use Rattle.usb_explain.specs.declared.finding_words.Told.{Told}
+use Rattle.usb_explain.specs.declared.finding_words.Told.TheVariants as told
+use Rattle.usb_explain.specs.FindingLines.{finding_line}
+use Rattle.usb_explain.specs.declared.descriptor_role.Role.{Role}
+use Rattle.usb_explain.specs.declared.descriptor_role.Role.TheVariants.{Device, Qualifier, Configuration, Association, Interface, Endpoint}
 use Rattle.usb_explain.specs.declared.position.SetStanding.{SetStanding}
 use Rattle.usb_explain.specs.declared.position.SettingStanding.{SettingStanding}
 use Rattle.usb_explain.specs.declared.position.Standing.{Standing}
@@ -148,10 +149,14 @@ abbrev pub is_same_place : Finding → Finding → Bool
 is_same_place f g =
     (part_number f.part == part_number g.part) && ((f.set == g.set) && ((f.setting == g.setting) && (f.endpoint == g.endpoint)))
 
--- what is reported of a finding at a descriptor of this role, if it is one of this descriptor
+-- what is reported of a finding of a rule at a descriptor of this role, if it is one of this descriptor
+abbrev pub told_by : Bool → Standing → Role → List ℕ → List ℕ → Finding → Rule → Option Told
+told_by is_dump s role d behind f rule =
+    if is_same_place f (finding_at s role rule) then told_at is_dump s role d behind rule else None
+
+-- the same by the rule of its number
 unfoldable pub told_of : Bool → Standing → Role → List ℕ → List ℕ → Finding → Option Told
-told_of is_dump s role d behind f =
-    if is_same_place f (finding_at s role f.rule) then told_at is_dump s role d behind f.rule else None
+told_of is_dump s role d behind f = option_and_then (told_by is_dump s role d behind f) (rule_numbered f.rule)
 
 -- whether it is one of this descriptor
 abbrev pub is_here : Bool → Standing → Role → List ℕ → List ℕ → Finding → Bool

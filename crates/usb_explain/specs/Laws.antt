@@ -4,25 +4,25 @@
 use Rattle.std.specs.Prelude.{◌≡◌, ◌<◌, ◌≤◌, ℕ, true, false, ◌+◌, List, [], ◌∷◌, ◌++◌, length, map, take, drop, flat_map, slice_index, unwrap_or}
 use Rattle.std.specs.List.{AllByRecursion}
 use Rattle.std.specs.Option.{option_map}
-use Rattle.usb_base.specs.Bytes.{AreBytes}
+use Rattle.usb_fields.specs.Bytes.{AreBytes}
 use Rattle.usb_file_data.specs.declared.input.Input.{Input}
 use Rattle.usb_file.specs.declared.input_fault.InputFault.{InputFault}
 use Rattle.usb_file.specs.Inputs.{InputRefused, IsInput}
 use Rattle.usb_file.specs.Likeness.{likeness_of}
-use Rattle.usb_rules.specs.Findings.{input_findings}
-use Rattle.usb_rules.specs.declared.finding.Finding.{Finding}
-use Rattle.usb_rules.specs.declared.rule.Rule.{Rule}
-use Rattle.usb_rules.specs.declared.rule.Rule.TheVariants as rules
-use Rattle.usb_rules.specs.InOrder.{by_rule}
-use Rattle.usb_explained_lines.specs.declared.told.Told.{Told}
-use Rattle.usb_explained_lines.specs.declared.context.Context.{Context}
-use Rattle.usb_explained_lines.specs.Descriptors.{field_lines, fields, heading}
-use Rattle.usb_explained_lines.specs.Rest.{rest_fields, rest_heading, rest_line, rest_lines}
-use Rattle.usb_remarks.specs.declared.remark.Remark.{Remark}
-use Rattle.usb_remarks.specs.Lines.{remark_line, remark_lines}
-use Rattle.usb_remarks.specs.Remarks.{remarks_on}
+use Rattle.usb_file_data.specs.Findings.{input_findings}
+use Rattle.usb_file_data.specs.declared.finding.Finding.{Finding}
+use Rattle.usb_file_data.specs.declared.rule.Rule.{Rule}
+use Rattle.usb_file_data.specs.declared.rule.Rule.TheVariants as rules
+use Rattle.usb_file_data.specs.InOrder.{by_rule}
+use Rattle.usb_explain.specs.declared.finding_words.Told.{Told}
+use Rattle.usb_explain.specs.declared.line_context.Context.{Context}
+use Rattle.usb_explain.specs.Descriptors.{field_lines, fields, heading}
+use Rattle.usb_explain.specs.Rest.{rest_fields, rest_heading, rest_line, rest_lines}
+use Rattle.usb_explain.specs.declared.remark.Remark.{Remark}
+use Rattle.usb_explain.specs.RemarkLines.{remark_line, remark_lines}
+use Rattle.usb_explain.specs.Remarks.{remarks_on}
 use Rattle.usb_explain.specs.declared.manner.Manner.{Manner}
-use Rattle.usb_explained_lines.specs.declared.role.Role.{Role}
+use Rattle.usb_explain.specs.declared.descriptor_role.Role.{Role}
 use Rattle.usb_explain.specs.declared.position.Standing.{Standing}
 use Rattle.usb_explain.specs.Explanations.{broken_explanation, broken_name, explanation, first_line, input_name, last_line}
 use Rattle.usb_explain.specs.Faults.{fault_lines, fault_text, likeness_text, place_of_fault}

@@ -1,8 +1,8 @@
 -- Lines of printable ASCII.
 use Rattle.std.specs.Prelude.{◌≡◌, ◌⊎◌, ℕ, true, List, [], ◌∷◌, ◌++◌}
 use Rattle.std.specs.List.{AllByRecursion, flat_map, list_all}
-use Rattle.usb_listing_reader.specs.Words.{is_printable}
-use Rattle.usb_explained_lines.specs.Lines.{field_line}
+use Rattle.usb_text.specs.Printable.{is_printable}
+use Rattle.usb_explain.specs.LineForms.{field_line}
 
 -- one line: bytes of 20 to 7e hexadecimal, and the line feed that ends it
 pub record IsLine (text : List ℕ) : Type 0 where

@@ -1,10 +1,10 @@
 -- What a descriptor is at its place (USB 2.0, table 9-5 and 9.6).
 use Rattle.std.specs.Prelude.{ℕ, ◌%◌, List, length, slice_index, take, Bool, true, false, nat_le, ◌==◌, ◌&&◌, ◌||◌, Option, Some, None, is_some, option_and_then, if◌then◌else◌}
 use Rattle.std.specs.Option.{option_map}
-use Rattle.usb_base.specs.Bytes.{little_endian_at}
-use Rattle.usb_words.specs.Cut.{descriptor_length}
-use Rattle.usb_explained_lines.specs.declared.role.Role.{Role}
-use Rattle.usb_explained_lines.specs.declared.role.Role.TheVariants.{Device, Qualifier, Configuration, Association, Interface, Endpoint, Raw, Languages, Text}
+use Rattle.usb_fields.specs.Bytes.{little_endian_at}
+use Rattle.usb_explain.specs.Cut.{descriptor_length}
+use Rattle.usb_explain.specs.declared.descriptor_role.Role.{Role}
+use Rattle.usb_explain.specs.declared.descriptor_role.Role.TheVariants.{Device, Qualifier, Configuration, Association, Interface, Endpoint, Raw, Languages, Text}
 use Rattle.usb_explain.specs.declared.position.Standing.{Standing}
 
 -- this role, if it has what the role asks for

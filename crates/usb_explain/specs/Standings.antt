@@ -1,7 +1,7 @@
 -- Where a descriptor stands in an input.
 use Rattle.std.specs.Prelude.{replicate, false, None}
-use Rattle.usb_rules.specs.declared.finding.Part.TheVariants.{Main}
-use Rattle.usb_words.specs.declared.speed.SetSpeed.TheVariants.{FullOrHigh}
+use Rattle.usb_file_data.specs.declared.finding.Part.TheVariants.{Main}
+use Rattle.usb_explain.specs.declared.speed.SetSpeed.TheVariants.{FullOrHigh}
 use Rattle.usb_explain.specs.declared.position.Owner.TheVariants as owners
 use Rattle.usb_explain.specs.declared.position.SetStanding.{SetStanding}
 use Rattle.usb_explain.specs.declared.position.Standing.{Standing}

@@ -1,11 +1,11 @@
 -- How it stands after a descriptor.
 use Rattle.std.specs.Prelude.{ℕ, ◌+◌, ◌-◌, List, length, slice_index, true, Option, Some, None}
-use Rattle.usb_base.specs.Bytes.{little_endian_at}
-use Rattle.usb_rules.specs.declared.finding.Part.{Part}
-use Rattle.usb_rules.specs.declared.finding.Part.TheVariants.{Other}
-use Rattle.usb_explained_lines.specs.declared.role.Role.{Role}
-use Rattle.usb_explained_lines.specs.declared.role.Role.TheVariants.{Device, Qualifier, Configuration, Association, Interface, Endpoint, Raw, Languages, Text}
-use Rattle.usb_words.specs.SetSpeeds.{speed_of_device}
+use Rattle.usb_fields.specs.Bytes.{little_endian_at}
+use Rattle.usb_file_data.specs.declared.finding.Part.{Part}
+use Rattle.usb_file_data.specs.declared.finding.Part.TheVariants.{Other}
+use Rattle.usb_explain.specs.declared.descriptor_role.Role.{Role}
+use Rattle.usb_explain.specs.declared.descriptor_role.Role.TheVariants.{Device, Qualifier, Configuration, Association, Interface, Endpoint, Raw, Languages, Text}
+use Rattle.usb_explain.specs.SetSpeeds.{speed_of_device}
 use Rattle.usb_explain.specs.declared.position.Owner.TheVariants as owners
 use Rattle.usb_explain.specs.declared.position.SettingStanding.{SettingStanding}
 use Rattle.usb_explain.specs.declared.position.Standing.{Standing}

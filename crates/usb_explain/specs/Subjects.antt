@@ -3,11 +3,11 @@ use Rattle.std.specs.Prelude.{ℕ, zero, ◌/◌, ◌%◌, List, [], slice_get, 
 use Rattle.usb_file_data.specs.declared.file.Strings.{Strings}
 use Rattle.usb_file_data.specs.declared.input.Input.{Input}
 use Rattle.usb_file_data.specs.declared.input.Input.TheVariants as inputs
-use Rattle.usb_rules.specs.declared.finding.Finding.{Finding}
-use Rattle.usb_rules.specs.InOrder.{dump_findings_in_order, findings_in_order, set_findings_in_order}
-use Rattle.usb_explained_lines.specs.declared.context.StringPlace.{StringPlace}
-use Rattle.usb_explained_lines.specs.declared.names.Missing.TheVariants.{NotInInput, NotRead}
-use Rattle.usb_explained_lines.specs.Names.{StringNames, names_of, no_names}
+use Rattle.usb_file_data.specs.declared.finding.Finding.{Finding}
+use Rattle.usb_file_data.specs.InOrder.{dump_findings_in_order, findings_in_order, set_findings_in_order}
+use Rattle.usb_explain.specs.declared.line_context.StringPlace.{StringPlace}
+use Rattle.usb_explain.specs.declared.string_names.Missing.TheVariants.{NotInInput, NotRead}
+use Rattle.usb_explain.specs.StringNames.{StringNames, names_of, no_names}
 use Rattle.usb_explain.specs.declared.manner.Manner.{Manner}
 
 -- what is explained: how; whether it is a dump; what its indices name; and what breaks a rule, in the order of the bytes

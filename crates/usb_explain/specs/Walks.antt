@@ -1,9 +1,9 @@
 -- The lines of all descriptors of an input, one after another.
 use Rattle.std.specs.Prelude.{ℕ, zero, suc, List, ◌+◌, ◌-◌, ◌++◌, length, take, drop, nat_le, Option, Some, None, unwrap_or, if◌then◌else◌}
 use Rattle.std.specs.Option.{option_map}
-use Rattle.usb_explained_lines.specs.Descriptors.{fields, heading}
-use Rattle.usb_explained_lines.specs.declared.role.Role.{Role}
-use Rattle.usb_remarks.specs.Lines.{remark_lines}
+use Rattle.usb_explain.specs.Descriptors.{fields, heading}
+use Rattle.usb_explain.specs.declared.descriptor_role.Role.{Role}
+use Rattle.usb_explain.specs.RemarkLines.{remark_lines}
 use Rattle.usb_explain.specs.declared.position.Standing.{Standing}
 use Rattle.usb_explain.specs.Findings.{found_at, role_findings}
 use Rattle.usb_explain.specs.Contexts.{context_of}

@@ -3,11 +3,12 @@ ghost use Rattle.std.specs.Prelude.{◌≡◌, ◌+◌, ◌++◌, length, IfOk, 
 ghost use Rattle.usb_explain.specs.Findings.{found_at};
 ghost use Rattle.usb_explain.specs.Walks.{block};
 
+use crate::descriptor::{put_fields, put_heading};
+use crate::descriptor_remarks::put_remarks;
+use crate::descriptor_role::Role;
 use crate::position::Standing;
 use crate::subject::Subject;
 use std::alloc::AllocError;
-use usb_explained_lines::{Role, put_fields, put_heading};
-use usb_remarks::put_remarks;
 use usb_text::Text;
 
 impl Standing {

@@ -2,12 +2,13 @@
 ghost use Rattle.std.specs.Prelude.{◌≡◌};
 ghost use Rattle.usb_explain.specs.Contexts.{below, codes_of, context_of, depth_of, is_super, speed_of};
 
+use crate::descriptor_role::Role;
+use crate::line_context::Context;
 use crate::position::{Owner, SettingStanding, Standing};
+use crate::speed::SetSpeed;
 use crate::subject::Subject;
-use usb_base::{byte_at, word_at};
-use usb_explained_lines::{Context, Role};
+use usb_fields::{byte_at, word_at};
 use usb_names::ClassCodes;
-use usb_words::SetSpeed;
 
 impl Standing {
     /// What the words of a descriptor of this role depend on.

@@ -1,21 +1,21 @@
 //! Whole explanations.
-ghost use Rattle.std.specs.Prelude.{◌≡◌, ◌++◌, length, OnErr, OnOk};
+ghost use Rattle.std.specs.Prelude.{◌≡◌, ◌++◌, length, take, IfErr, OnErr, OnOk};
 ghost use Rattle.std.specs.Io.KnownBytes.{Appends};
-ghost use Rattle.usb_listing.specs.Output.{AppendsLess};
-ghost use Rattle.usb_explain.specs.Explanations.{broken_end, broken_explanation, broken_name, broken_text, explanation, first_line, input_name, last_line, whole_end, whole_text};
+ghost use Rattle.usb_text.specs.Output.{AppendsLess};
+ghost use Rattle.usb_explain.specs.Explanations.{StopsBetween, StopsBroken, StopsWhole, broken_end, broken_explanation, broken_name, broken_text, explanation, first_line, input_name, last_line, whole_end, whole_text};
+ghost use Rattle.usb_explain.specs.Faults.{place_of_fault};
 
 use crate::fault_line::{fault_place, put_fault, put_likeness};
 use crate::found::findings_in;
 use crate::manner::Manner;
+use crate::rest_lines::put_rest;
 use crate::subject::Subject;
 use crate::walk::write_blocks;
 use std::alloc::{AllocError, Global};
 use std::io::Write;
-use usb_base::{after, byte_at, descriptor_type, prefix};
-use usb_explained_lines::put_rest;
+use usb_fields::{after, byte_at, descriptor_type, prefix};
 use usb_file::{Input, InputFault, likeness_of};
-use usb_listing::{OutFault, write_all};
-use usb_text::{Text, put_count};
+use usb_text::{OutFault, Text, put_count, write_all};
 
 /// Writes the explanation of an input, of which these are the bytes.
 ///
@@ -27,7 +27,7 @@ use usb_text::{Text, put_count};
 /// # Errors
 ///
 /// `Write` where the writer failed, `Memory` when out of memory. A prefix of the explanation is written then, not all
-/// of it.
+/// of it; of `Memory` nothing, or one that ends with the lines of a descriptor.
 pub fn explain<W: Write>(
     alloc: Global,
     bytes: &[u8],
@@ -37,6 +37,7 @@ pub fn explain<W: Write>(
 ) -> Result<(), OutFault>
     ensures ok { OnOk result (Appends (W.contents w.old) (W.contents w.new) (explanation manner input.now bytes.now)) }
     ensures err { OnErr result (AppendsLess (W.contents w.old) (W.contents w.new) (explanation manner input.now bytes.now)) }
+    ensures memory { IfErr result (λ fault. fault ≡ OutFault.Memory → StopsWhole manner input.now bytes.now (W.contents w.old) (W.contents w.new)) }
 {
     let findings = findings_in(alloc, input)?;
     let subject = Subject::of(alloc, manner, input, &findings)?;
@@ -54,6 +55,7 @@ fn write_whole<W: Write>(
 ) -> Result<(), OutFault>
     ensures ok { OnOk result (Appends (W.contents w.old) (W.contents w.new) (whole_text subject.now name.now findings bytes.now)) }
     ensures err { OnErr result (AppendsLess (W.contents w.old) (W.contents w.new) (whole_text subject.now name.now findings bytes.now)) }
+    ensures memory { IfErr result (λ fault. fault ≡ OutFault.Memory → StopsBetween subject.now bytes.now (first_line name.now (length bytes.now)) (W.contents w.old) (W.contents w.new)) }
 {
     let mut text = Text::new(alloc);
     put_first_line(&mut text, name, bytes)?;
@@ -86,7 +88,7 @@ fn put_whole_end(
 /// # Errors
 ///
 /// `Write` where the writer failed, `Memory` when out of memory. A prefix of the explanation is written then, not all
-/// of it.
+/// of it; of `Memory` nothing, or one that ends with the lines of a descriptor.
 pub fn explain_broken<W: Write>(
     alloc: Global,
     bytes: &[u8],
@@ -96,6 +98,7 @@ pub fn explain_broken<W: Write>(
 ) -> Result<(), OutFault>
     ensures ok { OnOk result (Appends (W.contents w.old) (W.contents w.new) (broken_explanation manner fault bytes.now)) }
     ensures err { OnErr result (AppendsLess (W.contents w.old) (W.contents w.new) (broken_explanation manner fault bytes.now)) }
+    ensures memory { IfErr result (λ why. why ≡ OutFault.Memory → StopsBroken manner fault bytes.now (W.contents w.old) (W.contents w.new)) }
 {
     let subject = Subject::broken(alloc, manner);
     write_broken(alloc, bytes, &subject, fault, w)
@@ -111,6 +114,7 @@ fn write_broken<W: Write>(
 ) -> Result<(), OutFault>
     ensures ok { OnOk result (Appends (W.contents w.old) (W.contents w.new) (broken_text subject.now fault bytes.now)) }
     ensures err { OnErr result (AppendsLess (W.contents w.old) (W.contents w.new) (broken_text subject.now fault bytes.now)) }
+    ensures memory { IfErr result (λ why. why ≡ OutFault.Memory → StopsBetween subject.now (take (place_of_fault fault) bytes.now) (first_line (broken_name bytes.now) (length bytes.now)) (W.contents w.old) (W.contents w.new)) }
 {
     let whole = prefix(bytes, fault_place(fault));
     let mut text = Text::new(alloc);

@@ -4,7 +4,7 @@ ghost use Rattle.usb_explain.specs.Subjects.{findings_in};
 
 use std::alloc::{AllocError, Global};
 use usb_file::Input;
-use usb_rules::{Finding, dump_findings_in_order, findings_in_order, set_findings_in_order};
+use usb_file_data::{Finding, dump_findings_in_order, findings_in_order, set_findings_in_order};
 
 /// What breaks a rule in an input, in the order of its bytes.
 pub(crate) fn findings_in(alloc: Global, input: &Input) -> Result<Vec<Finding>, AllocError>

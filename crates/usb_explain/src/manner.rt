@@ -1,6 +1,6 @@
 //! How an input is explained.
-use usb_explained_lines::Look;
-use usb_words::SetSpeed;
+use crate::look::Look;
+use crate::speed::SetSpeed;
 
 /// How an input is explained.
 #[derive(Clone, Copy, Debug, PartialEq, Eq, Hash)]

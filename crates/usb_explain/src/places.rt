@@ -2,7 +2,7 @@
 ghost use Rattle.std.specs.Prelude.{◌≡◌, length};
 ghost use Rattle.usb_explain.specs.Subjects.{place_among, place_by};
 
-use usb_explained_lines::StringPlace;
+use crate::line_context::StringPlace;
 use usb_file_data::Strings;
 
 /// The place of the string of this number, in a file that names these indices: strings are language by language, one

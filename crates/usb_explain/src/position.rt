@@ -3,9 +3,10 @@ ghost use Rattle.std.specs.Prelude.{◌≡◌};
 ghost use Rattle.usb_explain.specs.Standings.{before_sets, start};
 ghost use Rattle.usb_explain.specs.inside.Walking.{Counted};
 
+use crate::bindings::Bindings;
+use crate::speed::SetSpeed;
+use usb_file_data::Part;
 use usb_names::ClassCodes;
-use usb_rules::Part;
-use usb_words::{Bindings, SetSpeed};
 
 /// What of a device descriptor the rest of the input depends on.
 #[derive(Clone, Copy)]

@@ -2,9 +2,9 @@
 ghost use Rattle.std.specs.Prelude.{◌≡◌, length};
 ghost use Rattle.usb_explain.specs.Roles.{inner_role, outer_role, role_if, role_of, string_role, typed_role};
 
+use crate::descriptor_role::Role;
 use crate::position::Standing;
-use usb_base::{byte_at, descriptor_length, descriptor_type, word_at};
-use usb_explained_lines::Role;
+use usb_fields::{byte_at, descriptor_length, descriptor_type, word_at};
 
 impl Standing {
     /// What the descriptor is, where one can be here.

@@ -1,13 +1,15 @@
 //! How a set begins.
 ghost use Rattle.std.specs.Prelude.{◌≡◌, option_and_then};
-ghost use Rattle.usb_words.specs.SetSpeeds.{other_speed};
+ghost use Rattle.usb_explain.specs.SetSpeeds.{other_speed};
 ghost use Rattle.usb_explain.specs.SetStart.{background_by, has_qualifier, opened, other_ahead, other_background, part_of, sets_of};
 
 use crate::position::{DeviceFacts, Owner, SetStanding, Standing};
-use usb_base::{after, byte_at, descriptor_type, prefix, word_at};
+use crate::set_speed::{Background, other_speed, speed_by};
+use crate::speed::SetSpeed;
+use crate::survey::Survey;
+use usb_fields::{after, byte_at, descriptor_type, prefix, word_at};
 use usb_file::after_sets;
-use usb_rules::Part;
-use usb_words::{Background, SetSpeed, Survey, other_speed, speed_by};
+use usb_file_data::Part;
 
 impl Standing {
     /// At the first descriptor of a set, of whose bytes and those after it these are there.

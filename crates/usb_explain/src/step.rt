@@ -3,12 +3,12 @@ ghost use Rattle.std.specs.Prelude.{◌≡◌, ◌+◌, ◌<◌, ◌^◌, length
 ghost use Rattle.usb_explain.specs.Steps.{moved, noted, passed, setting_of, with_endpoint, with_set, with_told};
 ghost use Rattle.usb_explain.specs.inside.Walking.{Counted, endpoints_of};
 
+use crate::descriptor_role::Role;
 use crate::position::{DeviceFacts, Owner, SettingStanding, Standing};
-use usb_base::{byte_at, word_at};
-use usb_explained_lines::Role;
+use crate::set_speed::speed_of_device;
+use usb_fields::{byte_at, word_at};
+use usb_file_data::Part;
 use usb_names::ClassCodes;
-use usb_rules::Part;
-use usb_words::speed_of_device;
 
 impl Standing {
     /// Keeps how many findings are reported.

@@ -1,18 +1,18 @@
 //! What is explained.
 ghost use Rattle.std.specs.Prelude.{◌≡◌, ◌<◌, ◌^◌, drop, false, length, IfOk};
-ghost use Rattle.usb_explained_lines.specs.Names.{names_of, no_names};
-ghost use Rattle.usb_explained_lines.specs.declared.names.Missing.TheVariants.{NotInInput};
+ghost use Rattle.usb_explain.specs.StringNames.{names_of, no_names};
+ghost use Rattle.usb_explain.specs.declared.string_names.Missing.TheVariants.{NotInInput};
 ghost use Rattle.usb_explain.specs.Contexts.{place_of};
 ghost use Rattle.usb_explain.specs.Subjects.{broken_subject, subject_with};
 
+use crate::line_context::StringPlace;
 use crate::manner::Manner;
 use crate::places::string_place;
+use crate::string_names::{Missing, Names};
 use std::alloc::{AllocError, Global};
 use std::marker::Model;
-use usb_explained_lines::{Missing, Names, StringPlace};
 use usb_file::Input;
-use usb_file_data::DescriptorFile;
-use usb_rules::Finding;
+use usb_file_data::{DescriptorFile, Finding};
 
 /// What is explained, and what is known of the whole of it.
 #[derive(Drop)]

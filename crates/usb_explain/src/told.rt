@@ -1,18 +1,20 @@
 //! What is reported of a descriptor that breaks a rule.
 ghost use Rattle.std.specs.Prelude.{◌≡◌, ◌+◌, ◌-◌, ◌++◌, length, take, IfOk, OnOk};
 ghost use Rattle.std.specs.Option.{option_copied};
-ghost use Rattle.usb_rules.specs.Places.{finding};
+ghost use Rattle.usb_file_data.specs.Places.{finding};
 ghost use Rattle.usb_explain.specs.Walks.{rest_of_set};
-ghost use Rattle.usb_explain.specs.Findings.{address_told, association_told, attributes_told, device_packet_fault, device_part, device_told, endpoint_told, finding_at, found_at, has_lone_subclass, in_set, in_setting, interface_told, is_same_place, late_packet_fault, none_told, packet_fault, part_number, qualifier_told, role_findings, set_told, told_at, told_of, value_told, wrong_device_told};
+ghost use Rattle.usb_explain.specs.Findings.{address_told, association_told, attributes_told, device_packet_fault, device_part, device_told, endpoint_told, finding_at, found_at, has_lone_subclass, in_set, in_setting, interface_told, is_same_place, late_packet_fault, none_told, packet_fault, part_number, qualifier_told, role_findings, set_told, told_at, told_by, told_of, value_told, wrong_device_told};
 
+use crate::counts::endpoint_count;
+use crate::descriptor_role::Role;
+use crate::finding::put_finding;
+use crate::finding_words::{PacketFault, Told};
 use crate::position::{SetStanding, Standing};
 use crate::subject::Subject;
 use std::alloc::AllocError;
-use usb_base::{byte_at, prefix, word_at};
-use usb_explained_lines::{PacketFault, Role, Told, put_finding};
-use usb_rules::{Finding, Part, Rule};
+use usb_fields::{byte_at, prefix, word_at};
+use usb_file_data::{Finding, Part, Rule};
 use usb_text::Text;
-use usb_words::endpoint_count;
 
 impl Standing {
     /// Puts a line for each finding of a descriptor of this role, with which those that aren't reported yet begin. Answers how
@@ -54,8 +56,26 @@ impl Standing {
     ) -> Option<Told>
         ensures { result ≡ told_of is_dump self.now role d.now behind.now finding }
     {
-        if is_same_place(finding, self.finding(role, finding.rule)) {
-            self.told_at(is_dump, role, d, behind, finding.rule)
+        match finding.rule() {
+            None => None,
+            Some(rule) => self.told_by(is_dump, role, d, behind, finding, rule),
+        }
+    }
+
+    /// What is reported of a finding of this rule.
+    fn told_by(
+        &self,
+        is_dump: bool,
+        role: Role,
+        d: &[u8],
+        behind: &[u8],
+        finding: Finding,
+        rule: Rule,
+    ) -> Option<Told>
+        ensures { result ≡ told_by is_dump self.now role d.now behind.now finding rule }
+    {
+        if is_same_place(finding, self.finding(role, rule)) {
+            self.told_at(is_dump, role, d, behind, rule)
         } else {
             None
         }
@@ -123,7 +143,7 @@ impl SetStanding {
         ensures { result ≡ in_set self.now rule setting endpoint }
     {
         Finding {
-            rule,
+            rule: rule.number(),
             part: self.part,
             set: self.number,
             setting,
@@ -180,7 +200,7 @@ fn part_finding(rule: Rule, part: Part) -> Finding
     ensures { result ≡ finding rule part 0 0 0 }
 {
     Finding {
-        rule,
+        rule: rule.number(),
         part,
         set: 0,
         setting: 0,

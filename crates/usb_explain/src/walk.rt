@@ -1,23 +1,24 @@
 //! The lines of all descriptors, one after another.
-ghost use Rattle.std.specs.Prelude.{◌≡◌, ◌≤◌, ◌++◌, ℕ, List, [], length, IfOk, IfSome, OnErr, OnOk};
-ghost use Rattle.usb_listing.specs.Output.{AppendsLess};
-ghost use Rattle.usb_listing.specs.inside.Pages.{Puts};
+ghost use Rattle.std.specs.Prelude.{◌≡◌, ◌≤◌, ◌++◌, ◌⊎◌, ℕ, List, [], length, IfErr, IfOk, IfSome, OnErr, OnOk};
+ghost use Rattle.std.specs.Io.KnownBytes.{Appends, Keeps};
+ghost use Rattle.usb_text.specs.Output.{AppendsLess};
+ghost use Rattle.usb_text.specs.inside.Pages.{Puts};
+ghost use Rattle.usb_explain.specs.Explanations.{StopsBetween};
 ghost use Rattle.usb_explain.specs.SetStart.{entered};
 ghost use Rattle.usb_explain.specs.Roles.{next_role};
 ghost use Rattle.usb_explain.specs.Standings.{start};
 ghost use Rattle.usb_explain.specs.Walks.{walked};
 ghost use Rattle.usb_explain.specs.inside.Walking.{PutsWalk};
 
+use crate::cut::descriptor_length;
+use crate::descriptor_role::Role;
 use crate::position::Standing;
 use crate::set_start::other_ahead;
 use crate::subject::Subject;
 use std::alloc::AllocError;
 use std::io::Write;
-use usb_base::{after, prefix};
-use usb_explained_lines::Role;
-use usb_listing::{OutFault, write_all};
-use usb_text::Text;
-use usb_words::descriptor_length;
+use usb_fields::{after, prefix};
+use usb_text::{OutFault, Text, write_all};
 
 /// A text of so many bytes is passed on to the writer.
 const FULL: usize = 32 * 1024;
@@ -31,6 +32,8 @@ pub(crate) fn write_blocks<W: Write>(
 ) -> Result<usize, OutFault>
     ensures ok { IfOk result (PutsWalk subject.now bytes.now (W.contents w.old) (W.contents w.new) text.old text.new) }
     ensures err { OnErr result ((ending : ℕ → List ℕ) → AppendsLess (W.contents w.old) (W.contents w.new) (text.old ++ walked (length bytes.now) subject.now ending start bytes.now)) }
+    ensures between { IfOk result (λ at. StopsBetween subject.now bytes.now text.old (W.contents w.old) (W.contents w.new)) }
+    ensures memory { IfErr result (λ fault. fault ≡ OutFault.Memory → StopsBetween subject.now bytes.now text.old (W.contents w.old) (W.contents w.new)) }
 {
     let mut standing = Standing::start();
     let mut ahead = bytes;
@@ -75,10 +78,12 @@ impl Standing {
     }
 }
 
-/// Writes the text and empties it, where it is full.
+/// Writes the text and empties it, where it is full. Only the writer can fail here.
 fn pass_on<W: Write>(text: &mut Text, w: &mut W) -> Result<(), OutFault>
     ensures ok { OnOk result (Puts (W.contents w.old) (W.contents w.new) text.old text.new []) }
     ensures err { OnErr result (AppendsLess (W.contents w.old) (W.contents w.new) text.old) }
+    ensures whole { OnOk result (Keeps (W.contents w.old) (W.contents w.new) ⊎ Appends (W.contents w.old) (W.contents w.new) text.old) }
+    ensures why { IfErr result (λ fault. fault ≡ OutFault.Write) }
 {
     if text.as_bytes().len() >= FULL {
         write_all(w, text.as_bytes())?;

@@ -2,3 +2,8 @@ pub mod Legal
 pub mod UnitLemmas
 pub mod PacketLemmas
 pub mod KeptLemmas
+pub mod ByteLemmas
+pub mod Cells
+pub mod FieldLemmas
+pub mod WordLemmas
+pub mod ByteParts

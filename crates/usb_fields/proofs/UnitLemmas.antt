@@ -3,7 +3,7 @@ use Rattle.std.proofs.Common.{◌≡◌, ℕ, ◌+◌, ◌*◌, ◌/◌, ◌%◌
 use Rattle.std.proofs.lemmas.Bool.Decides.{nat_tests}
 use Rattle.std.proofs.lemmas.Grind.{common_steps}
 use Rattle.std.specs.List.{flat_map}
-use Rattle.usb_base.specs.Bytes.{AreBytes, little_endian}
+use Rattle.usb_fields.specs.Bytes.{AreBytes, little_endian}
 use Rattle.usb_fields.specs.Units.{units_bytes, unit_fault}
 
 length-flat_map : (u : List ℕ) → length (flat_map little_endian u) ≡ 2 * length u

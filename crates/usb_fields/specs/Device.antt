@@ -1,6 +1,6 @@
 -- The device descriptor (USB 2.0, 9.6.1).
 use Rattle.std.specs.Prelude.{ℕ, List, [], ◌∷◌, codes, Option}
-use Rattle.usb_base.specs.Fields.{Field, byte, word, fields_bytes}
+use Rattle.usb_fields.specs.Fields.{Field, byte, word, fields_bytes}
 use Rattle.usb_fields.specs.Fault.{field_fault}
 use Rattle.usb_fields.specs.declared.device.DeviceDescriptor.{DeviceDescriptor}
 use Rattle.usb_fields.specs.declared.fault.FieldFault.{FieldFault}

@@ -1,6 +1,6 @@
 -- The setup packet (USB 2.0, 9.3).
 use Rattle.std.specs.Prelude.{ℕ, ◌/◌, ◌%◌, ◌==◌, if◌then◌else◌, List, [], ◌∷◌, ◌++◌, slice_index}
-use Rattle.usb_base.specs.Bytes.{little_endian, little_endian_at}
+use Rattle.usb_fields.specs.Bytes.{little_endian, little_endian_at}
 use Rattle.usb_fields.specs.declared.setup.Setup.{Setup}
 use Rattle.usb_fields.specs.declared.setup.Class.{Class}
 use Rattle.usb_fields.specs.declared.setup.Class.TheVariants as classes

@@ -1,7 +1,7 @@
 -- Strings and language lists (USB 2.0, 9.6.7).
 use Rattle.std.specs.Prelude.{◌≡◌, ℕ, ◌+◌, ◌*◌, ◌%◌, ◌<◌, ◌≤◌, List, ◌∷◌, length, slice_index, nat_lt, ◌==◌, ◌||◌, not, if◌then◌else◌, Option, Some, None}
 use Rattle.std.specs.List.{flat_map}
-use Rattle.usb_base.specs.Bytes.{little_endian}
+use Rattle.usb_fields.specs.Bytes.{little_endian}
 use Rattle.usb_fields.specs.declared.fault.UnitFault.{UnitFault}
 use Rattle.usb_fields.specs.declared.fault.UnitFault.TheVariants as units
 

@@ -3,8 +3,9 @@ ghost use Rattle.std.specs.Prelude.{◌≡◌, Some, IfOk, IfErr};
 
 use crate::fault::FieldFault;
 use crate::field::fault_in;
-use usb_base::Width::{self, One, Two};
-use usb_base::{descriptor_length, descriptor_type, word_at, word_bytes};
+use crate::width::Width::{self, One, Two};
+use crate::words::{word_at, word_bytes};
+use crate::{descriptor_length, descriptor_type};
 
 /// bcdUSB of release 2.0 of the standard, the first with a second speed (USB 2.0, 9.6.2).
 pub const USB_2_0: u16 = 0x0200;

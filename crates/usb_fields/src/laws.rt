@@ -3,8 +3,8 @@
 //! For each format reading and writing undo each other on exactly the legal bytes. The functions of these laws
 //! do nothing: their contracts are the laws.
 ghost use Rattle.std.specs.Prelude.{◌≡◌, ◌<◌, ◌≤◌, ◌↔◌, ℕ, List, length, map, None, IsTrue};
-ghost use Rattle.usb_base.specs.Bytes.{AreBytes};
-ghost use Rattle.usb_base.specs.Fields.{names, widths};
+ghost use Rattle.usb_fields.specs.Bytes.{AreBytes};
+ghost use Rattle.usb_fields.specs.Fields.{names, widths};
 ghost use Rattle.usb_fields.specs.Device.{device_bytes, device_fault, device_fields};
 ghost use Rattle.usb_fields.specs.Packet.{reply_of, sent_of};
 ghost use Rattle.usb_fields.specs.Packets.{joined, kept, packets, repeated};

@@ -18,25 +18,58 @@
 //! Reading and writing undo each other on exactly the legal bytes; [`laws`] says so, a law for each pair. It
 //! also has the law of the packets of a data stage, on which both ends rest.
 //! Only `read_units`, `write_units` and `text_of` allocate.
+//!
+//! What all crates on USB descriptors use: lists that contracts see as lists, and bytes.
+//!
+//! * [`Sequence`], the list type of public fields. In a contract it is its elements in order, so that
+//!   a whole tree of structs is plain data there, which is compared by one equation.
+//! * [`known_bytes`], by which a proof knows that the elements of a slice of bytes are bytes.
+//! * [`Marks`], a set of bytes, for walks that look back.
+//! * [`byte_at`], [`prefix`] and [`after`], parts of a list of bytes; [`word_at`] and [`word_bytes`], which read and write
+//!   a 16-bit field (USB 2.0, 8.1).
+//! * [`Direction`], which way data goes, and [`Speed`], how fast.
+//! * [`descriptor_type`], [`descriptor_length`], [`request`], [`request_type`] and [`feature`], the numbers of the
+//!   standard's tables (USB 2.0, tables 9-2, 9-4 to 9-6 and 9-8 to 9-13).
+//! * [`laws`]: a copy of a list is that list.
+//! * `specs/Bytes.antt`: what a byte is, and the two bytes of such a field.
 #![tactic(auto)]
 
+mod bytes;
+pub mod descriptor_length;
+pub mod descriptor_type;
 mod device;
+mod direction;
 mod fault;
+pub mod feature;
 mod field;
+mod known;
 pub mod laws;
+pub mod list_laws;
+mod marks;
 mod packet;
 mod qualifier;
+pub mod request;
+pub mod request_type;
+mod sequence;
 mod setup;
+mod speed;
 mod text;
 mod units;
+mod width;
+mod words;
 
+pub use bytes::{after, byte_at, prefix};
 pub use device::{DEVICE_NAMES, DEVICE_WIDTHS, DeviceDescriptor, USB_2_0};
+pub use direction::Direction;
 pub use fault::{FieldFault, UnitFault};
+pub use known::known_bytes;
+pub use marks::Marks;
 pub use packet::{Answer, Stage, Toggle, Transaction};
 pub use qualifier::{QUALIFIER_NAMES, QUALIFIER_WIDTHS, Qualifier};
+pub use sequence::Sequence;
 pub use setup::{Class, Recipient, Setup};
+pub use speed::Speed;
 pub use text::text_of;
 pub use units::{MOST_UNITS, read_units, write_units, write_units_onto};
-pub use usb_base::{
-    Direction, Speed, descriptor_length, descriptor_type, feature, request, request_type,
-};
+pub use width::Width;
+pub use words::{word_at, word_bytes};

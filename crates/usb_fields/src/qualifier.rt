@@ -3,8 +3,9 @@ ghost use Rattle.std.specs.Prelude.{◌≡◌, Some, IfOk, IfErr};
 
 use crate::fault::FieldFault;
 use crate::field::fault_in;
-use usb_base::Width::{self, One, Two};
-use usb_base::{descriptor_length, descriptor_type, word_at, word_bytes};
+use crate::width::Width::{self, One, Two};
+use crate::words::{word_at, word_bytes};
+use crate::{descriptor_length, descriptor_type};
 
 /// Names of the fields of a device qualifier (USB 2.0, table 9-9).
 pub const QUALIFIER_NAMES: [&str; 7] = [

@@ -1,7 +1,8 @@
 //! The setup packet of a control transfer (USB 2.0, 9.3).
 ghost use Rattle.std.specs.Prelude.{◌≡◌};
 
-use usb_base::{Direction, word_at};
+use crate::direction::Direction;
+use crate::words::word_at;
 
 /// Who defines the request (bits 6..5 of bmRequestType).
 #[derive(Clone, Copy, Debug, PartialEq, Eq, Hash)]
@@ -53,7 +54,7 @@ pub struct Setup {
 }
 
 impl Setup {
-    ghost use Rattle.usb_base.specs.Directions.{direction_of};
+    ghost use Rattle.usb_fields.specs.Directions.{direction_of};
     ghost use Rattle.usb_fields.specs.Setup.{setup_bytes, setup_of, class_of, recipient_of};
 
     /// The setup packet that these bytes are.

@@ -1,13 +1,14 @@
 //! Strings and language lists: descriptors that hold 16-bit units (USB 2.0, 9.6.7).
 ghost use Rattle.std.specs.Prelude.{◌≡◌, ◌≤◌, ◌<◌, ◌+◌, ◌*◌, ◌/◌, ◌%◌, ◌++◌, length, vec_capacity, vec_len, IfOk, IfErr, OnErr, OnOk};
 ghost use Rattle.std.specs.List.{flat_map};
-ghost use Rattle.usb_base.specs.Bytes.{little_endian};
+ghost use Rattle.usb_fields.specs.Bytes.{little_endian};
 ghost use Rattle.usb_fields.specs.Units.{units_bytes, ReadUnitsFails, WriteUnitsFails};
 
+use crate::descriptor_type;
 use crate::fault::UnitFault;
+use crate::words::word_bytes;
 use std::alloc::{AllocError, Global};
 use std::mem;
-use usb_base::{descriptor_type, word_bytes};
 
 /// The most units that a string can have, and the most languages that a language list can: bLength counts no more (USB
 /// 2.0, 9.6.7).

@@ -24,7 +24,7 @@ use Rattle.usb_file.specs.FileFaults.{NextPart, a_set, a_qualifier, the_language
 use Rattle.usb_file.specs.Inputs.{DeviceRefused}
 use Rattle.usb_file.specs.inside.PartLaws.{PartLaws}
 use Rattle.usb_file.specs.inside.Reading.{ReadSoFar, SetsRead, Behind, SetRefused, ReadsSets, SetsRefused, ReadsQualifier, ReadsOther, OtherRefused, no_qualifier, no_set, ReadsString, StringRefused, ReadsDueStrings, ReadsStrings, StringsRefused, ends_as_dump, no_languages, no_string}
-use Rattle.usb_base.specs.Bytes.{AreBytes}
+use Rattle.usb_fields.specs.Bytes.{AreBytes}
 use Rattle.usb_file_data.proofs.Lists.{behind_main, behind_other, drop_more}
 use Rattle.usb_file_data.proofs.Units.{length-units_bytes}
 use Rattle.usb_file_data.proofs.Fronts.{Grown, grow_qualifier, grow_languages, grow_strings}

@@ -5,7 +5,7 @@ use Rattle.std.specs.List.{list_all}
 use Rattle.std.proofs.Math.Seq.{drop-append_seam, take-append_seam}
 use Rattle.std.proofs.lemmas.List.{take-append-drop}
 use Rattle.std.proofs.lemmas.Bool.Decides.{nat_tests}
-use Rattle.usb_base.specs.Bytes.{AreBytes, little_endian_at}
+use Rattle.usb_fields.specs.Bytes.{AreBytes, little_endian_at}
 use Rattle.usb_fields.specs.Device.{device_bytes, device_fault}
 use Rattle.usb_fields.specs.Qualifier.{qualifier_fault}
 use Rattle.usb_set.specs.declared.tree.Configuration.{Configuration}

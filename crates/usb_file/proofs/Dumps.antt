@@ -3,7 +3,7 @@ use Rattle.std.proofs.Common.{◌≡◌, ℕ, List, [], ◌++◌, length, None, 
 use Rattle.std.specs.List.{list_any}
 use Rattle.std.proofs.lemmas.List.{append-nil}
 use Rattle.std.proofs.lemmas.Bool.{or_from, or_parts}
-use Rattle.usb_base.specs.Bytes.{AreBytes}
+use Rattle.usb_fields.specs.Bytes.{AreBytes}
 use Rattle.usb_fields.specs.Device.{device_bytes}
 use Rattle.usb_set.specs.declared.tree.SetKind.{SetKind}
 use Rattle.usb_set.specs.declared.tree.SetKind.TheVariants as kinds

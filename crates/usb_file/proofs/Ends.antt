@@ -7,7 +7,7 @@ use Rattle.usb_file.specs.declared.fault.FileWhy.{FileWhy}
 use Rattle.usb_file.specs.declared.fault.FileWhy.TheVariants as files
 use Rattle.usb_file_data.specs.Front.{IsFront}
 use Rattle.usb_file.specs.FileFaults.{the_end, EndIsNext, PartFaulty, FileFaulty, ReadRefused}
-use Rattle.usb_base.specs.Bytes.{AreBytes}
+use Rattle.usb_fields.specs.Bytes.{AreBytes}
 
 -- a prefix of a file after which the file must end, and nothing else
 pub is_file : (f : DescriptorFile) (b : List ℕ) → EndIsNext f [] → IsFront f → b ≡ file_bytes f ++ [] → AreBytes b → File f b

@@ -20,7 +20,7 @@ use Rattle.usb_file_data.specs.declared.file.Strings.{Strings}
 use Rattle.usb_file.specs.declared.fault.FileWhy.{FileWhy}
 use Rattle.usb_file_data.specs.Named.{named_indices, other_sets}
 use Rattle.usb_file_data.specs.File.{whole_set, sets_bytes, other_bytes, each_string_bytes, strings_bytes, file_bytes, is_other_kind, has_no_layout, is_long_string}
-use Rattle.usb_base.specs.Bytes.{AreBytes}
+use Rattle.usb_fields.specs.Bytes.{AreBytes}
 use Rattle.usb_file_data.proofs.Lists.{bytes_before, bytes_behind, length-push}
 use Rattle.usb_file.specs.inside.PartLaws.{PartLaws}
 use Rattle.usb_file_data.proofs.WholeSets.{no_some}

@@ -1,6 +1,6 @@
 -- Past a set more.
 use Rattle.std.proofs.Common.{◌≡◌, ℕ, ◌+◌, List, add-one, ap, drop}
-use Rattle.usb_base.specs.Bytes.{little_endian_at}
+use Rattle.usb_fields.specs.Bytes.{little_endian_at}
 use Rattle.usb_file.specs.Likeness.{after_sets}
 
 -- the bytes after one set more

@@ -1,7 +1,7 @@
 -- What a dump is: what Linux gives of a device as its file `descriptors`.
 use Rattle.std.specs.Prelude.{◌≡◌, ℕ, ◌<◌, List, ◌++◌, length, false, None}
 use Rattle.std.specs.List.{list_any}
-use Rattle.usb_base.specs.Bytes.{AreBytes}
+use Rattle.usb_fields.specs.Bytes.{AreBytes}
 use Rattle.usb_fields.specs.Device.{device_bytes}
 use Rattle.usb_set.specs.declared.tree.SetKind.TheVariants as kinds
 use Rattle.usb_file_data.specs.declared.file.DescriptorFile.{DescriptorFile}

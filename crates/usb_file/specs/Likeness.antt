@@ -1,7 +1,7 @@
 -- What bytes that are no input look like.
 use Rattle.std.specs.Prelude.{◌≡◌, ℕ, zero, suc, ◌+◌, ◌%◌, List, [], ◌∷◌, length, take, drop, slice_index, Bool, false, nat_le, ◌==◌, ◌&&◌, ◌||◌, Option, Some, None, if◌then◌else◌}
 use Rattle.std.specs.List.{list_all}
-use Rattle.usb_base.specs.Bytes.{AreBytes, little_endian_at}
+use Rattle.usb_fields.specs.Bytes.{AreBytes, little_endian_at}
 use Rattle.usb_file_data.specs.declared.file.DescriptorFile.{DescriptorFile}
 use Rattle.usb_file.specs.declared.fault.FileFault.{FileFault}
 use Rattle.usb_file.specs.declared.fault.FileWhy.{FileWhy}

@@ -14,7 +14,7 @@ use crate::other::read_other;
 use crate::sets::read_sets;
 use crate::strings::read_strings;
 use std::alloc::Global;
-use usb_base::known_bytes;
+use usb_fields::known_bytes;
 use usb_file_data::{DescriptorFile, Other, count_named};
 use usb_set::{Sequence, SetKind};
 

@@ -6,14 +6,12 @@ ghost use Rattle.usb_file_data.specs.File.{File, WriteRefused, file_bytes, has_n
 ghost use Rattle.usb_file_data.specs.Named.{other_sets};
 
 use std::alloc::Global;
-use usb_base::known_bytes;
-use usb_fields::{UnitFault, write_units_onto};
+use usb_fields::{UnitFault, known_bytes, write_units_onto};
 use usb_file_data::{
     DescriptorFile, Other, Strings, WriteFault, are_wrong_strings, count_named, has_wrong_count,
-    has_wrong_kind,
+    has_wrong_kind, write_refusal,
 };
-use usb_set::{Configuration, EncodeFault, Sequence};
-use usb_set_encoder::{encode_onto, write_refusal};
+use usb_set::{Configuration, EncodeFault, Sequence, encode_onto};
 
 /// The bytes of a file: its parts one after another, each judged and written once (USB 2.0, 9.4.3 and 9.6).
 ///

@@ -6,7 +6,7 @@ ghost use Rattle.usb_file.specs.Inputs.{InputRefused, IsInput, is_one_set};
 use crate::file_reader::{Form, read_file_or_dump};
 use crate::input_fault::InputFault;
 use std::alloc::Global;
-use usb_base::descriptor_type::{CONFIGURATION, OTHER_SPEED_CONFIGURATION};
+use usb_fields::descriptor_type::{CONFIGURATION, OTHER_SPEED_CONFIGURATION};
 use usb_file_data::Input;
 use usb_set::{Configuration, read_set};
 

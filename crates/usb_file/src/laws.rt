@@ -1,7 +1,7 @@
 //! What holds of files and faults, whoever reads the bytes. Each law is the contract of a function that
 //! does nothing.
 ghost use Rattle.std.specs.Prelude.{◌≡◌, ℕ, List, length};
-ghost use Rattle.usb_base.specs.Bytes.{AreBytes};
+ghost use Rattle.usb_fields.specs.Bytes.{AreBytes};
 ghost use Rattle.usb_file_data.specs.File.{File};
 ghost use Rattle.usb_file.specs.FileFaults.{FileFaulty};
 ghost use Rattle.usb_file.specs.inside.PartLaws.{PartLaws};
@@ -54,8 +54,8 @@ pub fn no_dump_is_a_file()
     part_laws();
 }
 
-/// Bytes that look like a dump and more are a dump up to the place of their fault, and as many follow as are said. Each dump
-/// is seen after which a string descriptor is due and isn't there.
+/// If [`likeness_of`](crate::likeness_of) reports a dump and `n` more bytes, the bytes before the fault are a dump and `n`
+/// bytes follow it. Each dump is reported after which a string descriptor is due and isn't there.
 pub fn a_dump_ends_at_its_fault()
     ensures ends { DumpsEndAtFaults }
     ensures seen { DumpsAreSeen }

@@ -34,6 +34,8 @@ pub use input::read_input;
 pub use input_fault::InputFault;
 pub use likeness::{Likeness, after_sets, likeness_of};
 pub use usb_file_data::{
-    DescriptorFile, FILE_LIMIT, Input, NoMemory, Other, Strings, WriteFault, named,
+    DescriptorFile, FILE_LIMIT, Finding, Input, NoMemory, Other, Part, Strings, WriteFault, check,
+    named, write_refusal,
 };
-pub use usb_set_encoder::write_refusal;
+pub use usb_listing::{ListFault, ListWhy, assemble, assemble_commented, list, list_set};
+pub use usb_text::OutFault;

@@ -5,7 +5,7 @@ ghost use Rattle.usb_file.specs.Likeness.{after_sets, begins_usage, file_likenes
 
 use crate::fault::{FileFault, FileWhy};
 use crate::input_fault::InputFault;
-use usb_base::{after, byte_at, descriptor_type, word_at};
+use usb_fields::{after, byte_at, descriptor_type, word_at};
 
 /// The type of a BOS descriptor (USB 3.2, table 9-6).
 const BOS: u8 = 15;

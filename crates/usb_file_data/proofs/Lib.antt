@@ -7,3 +7,8 @@ pub mod Counts
 pub mod Units
 pub mod Longest
 pub mod Copies
+pub mod Entering
+pub mod Owning
+pub mod Walking
+pub mod RuleNumbers
+pub mod Sorting

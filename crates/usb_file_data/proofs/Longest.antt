@@ -6,8 +6,8 @@ use Rattle.std.proofs.Math.Nat.{mul-le-mul_right}
 use Rattle.std.proofs.lemmas.Bool.{ltb-false, or_parts}
 use Rattle.std.proofs.lemmas.List.Filters.{length-filter_both}
 use Rattle.std.proofs.lemmas.List.FromFn.{length-range_with_len}
-use Rattle.usb_base.specs.Bytes.{AreBytes}
-use Rattle.usb_base.proofs.ByteLemmas.{byte_at}
+use Rattle.usb_fields.specs.Bytes.{AreBytes}
+use Rattle.usb_fields.proofs.ByteLemmas.{byte_at}
 use Rattle.usb_fields.specs.Device.{device_bytes}
 use Rattle.usb_fields.specs.Qualifier.{qualifier_bytes}
 use Rattle.usb_fields.specs.Units.{units_bytes}

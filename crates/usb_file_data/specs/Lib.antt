@@ -3,4 +3,9 @@ pub mod StringPlaces
 pub mod File
 pub mod Front
 pub mod Numbers
+pub mod FindingLine
+pub mod Places
+pub mod Rules
+pub mod Findings
+pub mod InOrder
 pub mod inside

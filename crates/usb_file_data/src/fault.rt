@@ -18,7 +18,7 @@ pub enum WriteFault {
     /// An other-speed set among the sets of the device, or the other way round.
     #[error("a set of the other kind")]
     Kind,
-    /// A set has no bytes: `usb_set_encoder::refusal` has the reason.
+    /// A set has no bytes: `usb_set::refusal` has the reason.
     #[error("a set has no bytes")]
     Layout,
     /// The strings are not those that the file names: strings where no index is named, none where one

@@ -36,7 +36,7 @@ pub struct Strings {
 }
 
 /// All descriptors of a device (USB 2.0, 9.4.3). A value need not have bytes: its counts, kinds and
-/// strings can contradict each other, and then `usb_set_encoder::write_refusal` says how.
+/// strings can contradict each other, and then `crate::file_refusal::write_refusal` says how.
 ///
 /// ```rust
 /// let file = DescriptorFile {

@@ -8,20 +8,60 @@
 //!
 //! What the bytes of a file are is `specs/File.antt`; which strings are named is `specs/Named.antt`. The module [`laws`]
 //! says how long a file can be, and that a copy of a file is that file.
+//!
+//! The rules of chapter 9 of USB 2.0 that the descriptors of a device keep among themselves.
+//!
+//! A file can be parsed and yet be wrong: counts that do not match, settings that occur twice, addresses
+//! that two interfaces claim. [`check`] reports all of that at once, each [`Finding`] at its place. [`check_dump`] and
+//! [`check_set`] do so of what is less than a file, and [`check_input`] of any of the three.
+//!
+//! They come rule by rule, or from [`findings_in_order`] and its like in the order of the bytes.
+//!
+//! - What breaks each rule is `specs/Rules.antt`; what is found, rule by rule, is `specs/Findings.antt`, and in the order of
+//!   the bytes `specs/InOrder.antt`.
 #![tactic(auto)]
 
+mod addresses;
+mod all_findings;
+mod association;
+mod attributes;
+mod default_setting;
+mod device;
+mod endpoint;
+mod endpoint_count;
 mod fault;
 mod file;
+mod file_refusal;
+mod finding;
+mod finding_lines;
+mod found;
 mod input;
+mod interface_number;
+mod interfaces;
 pub mod laws;
 mod named_strings;
+mod place;
 mod refusal;
+mod repeated_address;
+mod repeated_setting;
+mod rule;
+mod set;
+mod shared_address;
 mod string;
 mod string_marks;
+mod value;
 
+pub use all_findings::{
+    check, check_dump, check_input, check_set, dump_findings_in_order, findings_in_order,
+    set_findings_in_order,
+};
 pub use fault::WriteFault;
 pub use file::{DescriptorFile, Other, Strings};
+pub use file_refusal::write_refusal;
+pub use finding::{Finding, Part};
+pub use finding_lines::findings_text;
 pub use input::Input;
 pub use laws::FILE_LIMIT;
 pub use named_strings::{NoMemory, count_named, named};
 pub use refusal::{are_wrong_strings, has_wrong_count, has_wrong_kind, is_other_kind};
+pub use rule::{MESSAGES, Rule};

@@ -1,14 +1,14 @@
 //! Which strings a file names.
 ghost use Rattle.std.specs.Prelude.{◌≡◌, ◌≤◌, [], IfOk, length};
 ghost use Rattle.usb_file_data.specs.Named.{named_indices};
-ghost use Rattle.usb_base.specs.Marks.{is_marked};
+ghost use Rattle.usb_fields.specs.Marks.{is_marked};
 ghost use Rattle.usb_file_data.specs.inside.Marks.{marked_among};
 
 use crate::file::DescriptorFile;
 use crate::string_marks::mark_file;
 use arrayvec::ArrayVec;
 use std::alloc::Global;
-use usb_base::Marks;
+use usb_fields::Marks;
 
 /// Out of memory, as std has it.
 pub use std::alloc::AllocError as NoMemory;

@@ -7,15 +7,15 @@ use Rattle.usb_fields.specs.Packets.{is_same_toggle}
 use Rattle.usb_fields.specs.declared.packet.Toggle.{Toggle}
 use Rattle.usb_fields.specs.declared.packet.Toggle.TheVariants.{Data0, Data1}
 use Rattle.usb_fields.specs.declared.setup.Setup.{Setup as SetupPacket}
-use Rattle.usb_base.specs.declared.speed.Speed.{Speed}
-use Rattle.usb_transfer.specs.declared.why.Why.{Why}
-use Rattle.usb_transfer.specs.declared.why.Why.TheVariants.{NoAnswer, Busy, Stalled, TooLong, Unexpected, Malformed, Memory}
-use Rattle.usb_transfer.specs.declared.stage.TransferStage.{TransferStage}
-use Rattle.usb_transfer.specs.declared.stage.TransferStage.TheVariants.{Setup, DataIn, DataOut, StatusOut, StatusIn, Completed, Failed}
-use Rattle.usb_transfer.specs.Limits.{LimitView}
-use Rattle.usb_transfer.specs.Transfer.{TransferView, Goes, Taken, addressed, begun, delayed, due, failed, kept_packet, progress, struck, taken, taken_at, taken_data, taken_status, token_due}
-use Rattle.usb_transfer.specs.inside.Transfers.{IsTransfer}
-use Rattle.usb_transfer.proofs.BoundLemmas.{left-taken}
+use Rattle.usb_fields.specs.declared.speed.Speed.{Speed}
+use Rattle.usb_host.specs.declared.why.Why.{Why}
+use Rattle.usb_host.specs.declared.why.Why.TheVariants.{NoAnswer, Busy, Stalled, TooLong, Unexpected, Malformed, Memory}
+use Rattle.usb_host.specs.declared.stage.TransferStage.{TransferStage}
+use Rattle.usb_host.specs.declared.stage.TransferStage.TheVariants.{Setup, DataIn, DataOut, StatusOut, StatusIn, Completed, Failed}
+use Rattle.usb_host.specs.Limits.{LimitView}
+use Rattle.usb_host.specs.Transfer.{TransferView, Goes, Taken, addressed, begun, delayed, due, failed, kept_packet, progress, struck, taken, taken_at, taken_data, taken_status, token_due}
+use Rattle.usb_host.specs.inside.Transfers.{IsTransfer}
+use Rattle.usb_host.proofs.BoundLemmas.{left-taken}
 use Rattle.usb_host.specs.declared.place.Place.{Place}
 use Rattle.usb_host.specs.declared.place.Place.TheVariants.{First, Address, Device, Header, Set, Qualifier, Languages, Text, Configure, Reported, Stopped}
 use Rattle.usb_host.specs.declared.kept.Kept.{Kept}

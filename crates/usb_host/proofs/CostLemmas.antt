@@ -5,9 +5,9 @@ use Rattle.std.specs.List.{range_with_len, list_any}
 use Rattle.std.proofs.lemmas.Bool.Decides.{nat_tests}
 use Rattle.std.proofs.lemmas.Nat.{le-div, div_below}
 use Rattle.std.proofs.Math.Nat.{div-mul-le_self, mul-le-mul_left}
-use Rattle.usb_base.specs.Bytes.{AreBytes}
-use Rattle.usb_base.specs.declared.speed.Speed.{Speed}
-use Rattle.usb_base.specs.declared.speed.Speed.TheVariants.{Low, Full, High}
+use Rattle.usb_fields.specs.Bytes.{AreBytes}
+use Rattle.usb_fields.specs.declared.speed.Speed.{Speed}
+use Rattle.usb_fields.specs.declared.speed.Speed.TheVariants.{Low, Full, High}
 use Rattle.usb_fields.specs.declared.device.DeviceDescriptor.{DeviceDescriptor}
 use Rattle.usb_fields.specs.declared.qualifier.Qualifier.{Qualifier}
 use Rattle.usb_set.specs.declared.tree.SetKind.{SetKind}
@@ -19,8 +19,8 @@ use Rattle.usb_file_data.specs.declared.file.Other.{Other}
 use Rattle.usb_file_data.specs.declared.file.Strings.{Strings}
 use Rattle.usb_file_data.specs.Named.{named_among, named_indices, string_indices}
 use Rattle.usb_file_data.specs.Front.{with_set, with_qualifier}
-use Rattle.usb_transfer.specs.declared.why.Why.TheVariants.{Malformed}
-use Rattle.usb_transfer.specs.Plan.{Plan, Begin, Success, Trouble}
+use Rattle.usb_host.specs.declared.why.Why.TheVariants.{Malformed}
+use Rattle.usb_host.specs.Plan.{Plan, Begin, Success, Trouble}
 use Rattle.usb_host.specs.declared.place.Place.{Place}
 use Rattle.usb_host.specs.declared.place.Place.TheVariants.{First, Address, Device, Header, Set, Qualifier as SecondSpeed, Languages, Text, Configure, Reported, Stopped}
 use Rattle.usb_host.specs.Read.{packet_fits, same_bytes, is_first, may_have_second, total_said, total_in, device_of, qualifier_of, units_of}

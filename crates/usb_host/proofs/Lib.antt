@@ -3,8 +3,10 @@ pub mod PartLemmas
 pub mod CostLemmas
 pub mod LowerLemmas
 pub mod PlaceLemmas
+pub mod LeadLemmas
 pub mod TakeLemmas
 pub mod CameLemmas
 pub mod StandLemmas
 pub mod EndLemmas
 pub mod AskingLemmas
+pub mod BoundLemmas

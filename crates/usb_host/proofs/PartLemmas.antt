@@ -5,8 +5,8 @@ use Rattle.std.proofs.lemmas.Bool.Decides.{nat_tests}
 use Rattle.std.proofs.lemmas.List.{append-nil}
 use Rattle.std.proofs.lemmas.Bool.{or_parts, or_from}
 use Rattle.std.specs.List.{list_any}
-use Rattle.usb_base.specs.Bytes.{AreBytes}
-use Rattle.usb_base.specs.declared.speed.Speed.{Speed}
+use Rattle.usb_fields.specs.Bytes.{AreBytes}
+use Rattle.usb_fields.specs.declared.speed.Speed.{Speed}
 use Rattle.usb_fields.specs.declared.device.DeviceDescriptor.{DeviceDescriptor}
 use Rattle.usb_fields.specs.declared.qualifier.Qualifier.{Qualifier}
 use Rattle.usb_set.specs.declared.tree.SetKind.{SetKind}
@@ -22,8 +22,8 @@ use Rattle.usb_file_data.specs.Named.{named_indices}
 use Rattle.usb_file_data.specs.Front.{AllSets, StringsFollow, other_with, with_set, with_qualifier, with_strings}
 use Rattle.usb_file_data.proofs.Lists.{list_any-push}
 use Rattle.usb_file_data.proofs.Fronts.{Grown, grow_main, grow_other, grow_qualifier, grow_languages, grow_string}
-use Rattle.usb_transfer.specs.declared.reply.Reply.{Reply}
-use Rattle.usb_transfer.specs.declared.reply.Reply.TheVariants.{Bytes, Done, Refused}
+use Rattle.usb_host.specs.declared.reply.Reply.{Reply}
+use Rattle.usb_host.specs.declared.reply.Reply.TheVariants.{Bytes, Done, Refused}
 use Rattle.usb_host.specs.declared.place.Place.{Place}
 use Rattle.usb_host.specs.declared.place.Place.TheVariants.{First, Address, Device, Header, Set, Qualifier as SecondSpeed, Languages, Text, Configure, Reported, Stopped}
 use Rattle.usb_host.specs.Read.{same_bytes, device_of, qualifier_of, units_of, is_first, may_have_second, total_in}

@@ -5,8 +5,8 @@ use Rattle.std.proofs.lemmas.Bool.Decides.{nat_tests}
 use Rattle.std.proofs.Math.Nat.{mod-lt}
 use Rattle.usb_set.specs.declared.decoder.Progress.TheVariants.{More}
 use Rattle.usb_set.specs.declared.tree.SetKind.{SetKind}
-use Rattle.usb_transfer.specs.declared.why.Why.{Why}
-use Rattle.usb_transfer.specs.Transfer.{Completes}
+use Rattle.usb_host.specs.declared.why.Why.{Why}
+use Rattle.usb_host.specs.Transfer.{Completes}
 use Rattle.usb_host.specs.declared.draft.Draft.{Draft}
 use Rattle.usb_host.specs.declared.due.Due.{Due}
 use Rattle.usb_host.specs.declared.due.Due.TheVariants as dues

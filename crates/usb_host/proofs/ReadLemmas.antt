@@ -1,9 +1,9 @@
 -- What is written of a descriptor is read, and nothing else is.
 use Rattle.std.proofs.Common.{◌≡◌, ℕ, ◌+◌, ◌*◌, ◌/◌, ◌%◌, ◌≤◌, ◌<◌, Bool, true, false, if◌then◌else◌, nat_lt, List, [], ◌∷◌, length, Option, Some, None, refl, ap, sym, ◌∙◌, arith, subst, slice_index, get_or, zero, suc, lit<}
-use Rattle.std.specs.Prelude.{IsTrue, ◌↔◌}
+use Rattle.std.specs.Prelude.{IsSome, IsTrue, ◌↔◌}
 use Rattle.std.specs.List.{flat_map}
 use Rattle.std.proofs.lemmas.Bool.Decides.{nat_tests}
-use Rattle.usb_base.specs.Bytes.{AreBytes, little_endian}
+use Rattle.usb_fields.specs.Bytes.{AreBytes, little_endian}
 use Rattle.usb_fields.specs.declared.device.DeviceDescriptor.{DeviceDescriptor}
 use Rattle.usb_fields.specs.declared.qualifier.Qualifier.{Qualifier}
 use Rattle.usb_fields.specs.declared.fault.FieldFault.{FieldFault}
@@ -165,6 +165,35 @@ units_refused b units.Length fails not_so = units_not b units.Length fails
 units_refused b units.Kind fails not_so = units_not b units.Kind fails
 units_refused b units.Odd fails not_so = units_not b units.Odd fails
 units_refused b units.TooLong fails not_so = units_not b units.TooLong fails
+
+-- ---- bytes without a fault are those of units
+
+pairs_joined : (b : List ℕ) → AreBytes b → length b % 2 ≡ 0 → (flat_map little_endian (pairs b) ≡ b) × (2 * length (pairs b) ≡ length b)
+pairs_joined [] fits even = (refl, refl)
+pairs_joined (x ∷ []) fits even = absurd (cc)
+pairs_joined (low ∷ high ∷ b) fits even =
+    let (l, (h, more)) = fits in
+    let rest = pairs_joined b more (omega arith) in
+    let size = rest.1 in
+    let first : (low + 256 * high) % 256 ≡ low = omega arith in
+    let second : (low + 256 * high) / 256 ≡ high = omega arith in
+    (rw (first, second, rest.0) refl, omega arith)
+
+fault_free : (b : List ℕ) → unit_fault b ≡ None → (2 ≤ length b) × (slice_index b 0 ≡ length b) × (slice_index b 1 ≡ 3) × (slice_index b 0 % 2 ≡ 0)
+fault_free b e = grind (arith, nat_tests)
+
+pub units_there : (b : List ℕ) → AreBytes b → ReadUnitsFails b units.Memory → IsSome (units_of b)
+units_there [] fits none = (let f = (fault_free [] none).0 in absurd (omega arith))
+units_there (x ∷ []) fits none = (let f = (fault_free (x ∷ []) none).0 in absurd (omega arith))
+units_there (x ∷ y ∷ b) fits none =
+    let (some, long, kind, even) = fault_free (x ∷ y ∷ b) none in
+    let (l, (h, more)) = fits in
+    let joined = pairs_joined b more (omega arith) in
+    let size = joined.1 in
+    let first : x ≡ 2 + 2 * length (pairs b) = omega arith in
+    let is : x ∷ y ∷ b ≡ units_bytes (pairs b) = rw (first, kind, joined.0) refl in
+    let there = units_are (x ∷ y ∷ b) (pairs b) is (omega arith) in
+    rw there refl
 
 -- a comparison of slices
 pub same_or_not : (xs ys : List ℕ) (t : Bool) → (IsTrue t ↔ (xs ≡ ys)) → t ≡ same_bytes xs ys

@@ -2,14 +2,14 @@
 use Rattle.std.proofs.Common.{◌≡◌, ℕ, ◌+◌, ◌<◌, ◌≤◌, ◌&&◌, Bool, false, if◌then◌else◌, nat_lt, length, refl, ap, sym, ◌∙◌, arith, subst, length-append}
 use Rattle.std.specs.Prelude.{Some, None, IsSome, Result}
 use Rattle.usb_fields.specs.Packet.{Reply as Answer}
-use Rattle.usb_base.specs.declared.speed.Speed.{Speed}
+use Rattle.usb_fields.specs.declared.speed.Speed.{Speed}
 use Rattle.usb_set.specs.declared.fault.SetFault.{SetFault}
 use Rattle.usb_set.specs.declared.decoder.Progress.{Progress}
-use Rattle.usb_transfer.specs.declared.stage.TransferStage.{TransferStage}
-use Rattle.usb_transfer.specs.declared.stage.TransferStage.TheVariants.{Setup, DataIn, DataOut, StatusOut, StatusIn, Completed, Failed}
-use Rattle.usb_transfer.specs.Bound.{left}
-use Rattle.usb_transfer.specs.Limits.{LimitView}
-use Rattle.usb_transfer.specs.Transfer.{TransferView, Hearing, Goes, Brings, Completes, Fails, taken, due, token_due, addressed}
+use Rattle.usb_host.specs.declared.stage.TransferStage.{TransferStage}
+use Rattle.usb_host.specs.declared.stage.TransferStage.TheVariants.{Setup, DataIn, DataOut, StatusOut, StatusIn, Completed, Failed}
+use Rattle.usb_host.specs.Bound.{left}
+use Rattle.usb_host.specs.Limits.{LimitView}
+use Rattle.usb_host.specs.Transfer.{TransferView, Hearing, Goes, Brings, Completes, Fails, taken, due, token_due, addressed}
 use Rattle.usb_host.specs.declared.place.Place.{Place}
 use Rattle.usb_host.specs.declared.place.Place.TheVariants.{First, Address, Device, Header, Set, Qualifier, Languages, Text, Configure, Reported, Stopped}
 use Rattle.usb_host.specs.declared.kept.Kept.{Kept}

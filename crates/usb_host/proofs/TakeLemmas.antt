@@ -2,35 +2,36 @@
 use Rattle.std.proofs.Common.{◌≡◌, ℕ, ◌+◌, ◌≤◌, ◌==◌, ◌||◌, Bool, true, false, if◌then◌else◌, nat_lt, List, [], ◌∷◌, length, inl, inr, refl, ap, sym, ◌∙◌, arith, subst}
 use Rattle.std.specs.Prelude.{Option, Some, None, Result, Ok}
 use Rattle.std.proofs.lemmas.Bool.Decides.{nat_tests}
-use Rattle.usb_base.specs.declared.speed.Speed.{Speed}
-use Rattle.usb_base.specs.declared.direction.Direction.{Direction}
-use Rattle.usb_base.specs.declared.direction.Direction.TheVariants as directions
+use Rattle.usb_fields.specs.declared.speed.Speed.{Speed}
+use Rattle.usb_fields.specs.declared.direction.Direction.{Direction}
+use Rattle.usb_fields.specs.declared.direction.Direction.TheVariants as directions
 use Rattle.usb_fields.specs.declared.packet.Toggle.TheVariants.{Data0, Data1}
-use Rattle.usb_base.specs.Directions.{direction_of}
+use Rattle.usb_fields.specs.Directions.{direction_of}
 use Rattle.usb_fields.specs.Packets.{is_same_toggle}
 use Rattle.usb_fields.specs.Packet.{Reply as Answer, AckReply, NakReply, StallReply, DataReply, NoReply}
 use Rattle.usb_set.specs.declared.fault.SetFault.{SetFault}
 use Rattle.usb_set.specs.declared.decoder.Progress.{Progress}
 use Rattle.usb_set.specs.declared.decoder.Progress.TheVariants.{More}
-use Rattle.usb_transfer.specs.declared.why.Why.{Why}
-use Rattle.usb_transfer.specs.declared.why.Why.TheVariants.{NoAnswer, Busy, Stalled, TooLong, Unexpected, Malformed, Memory}
-use Rattle.usb_transfer.specs.declared.stage.TransferStage.{TransferStage}
-use Rattle.usb_transfer.specs.declared.stage.TransferStage.TheVariants.{Setup, DataIn, DataOut, StatusOut, StatusIn, Completed, Failed}
-use Rattle.usb_transfer.specs.Limits.{LimitView}
-use Rattle.usb_transfer.specs.Transfer.{TransferView, Hearing, Goes, Brings, Completes, Fails, Taken, taken, taken_at, struck, delayed, completed, failed, kept_packet, data_stage}
+use Rattle.usb_host.specs.declared.why.Why.{Why}
+use Rattle.usb_host.specs.declared.why.Why.TheVariants.{NoAnswer, Busy, Stalled, TooLong, Unexpected, Malformed, Memory}
+use Rattle.usb_host.specs.declared.stage.TransferStage.{TransferStage}
+use Rattle.usb_host.specs.declared.stage.TransferStage.TheVariants.{Setup, DataIn, DataOut, StatusOut, StatusIn, Completed, Failed}
+use Rattle.usb_host.specs.Limits.{LimitView}
+use Rattle.usb_host.specs.Transfer.{TransferView, Hearing, Goes, Brings, Completes, Fails, Taken, taken, taken_at, struck, delayed, completed, failed, kept_packet, data_stage}
 use Rattle.usb_host.specs.declared.place.Place.{Place}
 use Rattle.usb_host.specs.declared.kept.Kept.{Kept}
 use Rattle.usb_host.specs.declared.kept.Kept.TheVariants as kept
 use Rattle.usb_host.specs.declared.current_read.Ending.{Ending}
 use Rattle.usb_host.specs.declared.current_read.Ending.TheVariants as endings
 use Rattle.usb_host.specs.Order.{stopped}
-use Rattle.usb_host.specs.Steps.{Reading, Ended, enter, goes_on, Grows, KeepsHeard, LacksMemory, TakesHeard}
+use Rattle.usb_host.specs.Steps.{HostPhase, Reading, Ended, completed_leads, enter, goes_on, Grows, KeepsHeard, LacksMemory, TakesHeard, WantsToGrow}
 use Rattle.usb_host.specs.inside.Steady.{IsGood, FitsPlace, KeepsBytes}
 use Rattle.usb_host.specs.Cost.{BringsBytes}
-use Rattle.usb_host.specs.inside.NextPlace.{Adds, HasRoom, is_end}
+use Rattle.usb_host.specs.inside.NextPlace.{Adds, GrowsTo, HasRoom, is_end}
 use Rattle.usb_host.specs.inside.Reads.{IsGoing, IsCounted, EndsBy, Hears, LeadsOn, ended_leads, standing}
 use Rattle.usb_host.proofs.LowerLemmas.{hears_bytes, kept_steady, completed_low}
 use Rattle.usb_host.proofs.CostLemmas.{refused_falls}
+use Rattle.usb_host.proofs.LeadLemmas.{goes_on_there}
 
 -- the stage, by what was heard
 abbrev pub StageOf : Hearing → TransferStage → Type 0
@@ -200,6 +201,12 @@ no_memory : (limits : LimitView) (speed : Speed) (place : Place) (t : TransferVi
 no_memory limits speed place t k next (inl (grows, e)) = ap (λ x. enter limits x) e
 no_memory limits speed place t k next (inr e) = ap (λ x. enter limits x) e
 
+-- where a place takes memory for a read that leads on
+wants_to_grow : (limits : LimitView) (heard as_heard : Hearing) (place target : Place) (next : HostPhase) → heard ≡ as_heard → GrowsTo as_heard place target →
+    next ≡ enter limits target → WantsToGrow heard place next
+wants_to_grow limits heard as_heard place target next e (grows, goes) there =
+    (subst (λ h. Grows h place) (sym e) grows, λ ends. goes_on_there limits target (stopped place Malformed) goes (sym there ∙ ends))
+
 takes_end : (limits : LimitView) (speed : Speed) (place : Place) (old : Kept) (by : Taken) (k : Kept) (heard : Hearing) (result : Result Progress SetFault)
     (ending : Ending) (next : Place) → by.heard ≡ heard → StageOf heard by.transfer.stage → KeepsHeard old heard result k → EndsBy old heard result (Some ending) →
     LeadsOn speed place by.transfer k ending next → TakesHeard limits speed place old by (enter limits next)
@@ -211,8 +218,16 @@ takes_end limits speed place old by k (Brings bytes) result (endings.Failed why)
   subst (λ h. KeepsHeard old h result k) (sym e) keeps,
   inl (inl (subst (λ h. LacksMemory h old result) (sym e) ends.1), no_memory limits speed place by.transfer k next (subst (λ w. LeadsOn speed place by.transfer k (endings.Failed w) next) ends.0 leads)),
 )
-takes_end limits speed place old by k Completes result endings.Completed next e stage keeps ends (inl (grows, m)) =
-    (result, k, subst (λ h. KeepsHeard old h result k) (sym e) keeps, inl (inr (subst (λ h. Grows h place) (sym e) grows), ap (λ x. enter limits x) m))
+takes_end limits speed place old by k Completes result endings.Completed next e stage keeps ends (inl (grows, m)) = (
+  result,
+  k,
+  subst (λ h. KeepsHeard old h result k) (sym e) keeps,
+  inl (
+    inr (wants_to_grow limits by.heard Completes place (completed_leads speed place by.transfer k) (goes_on limits speed place by.transfer k by.transfer.stage)
+        e grows (ap (λ x. goes_on limits speed place by.transfer k x) stage)),
+    ap (λ x. enter limits x) m,
+  ),
+)
 takes_end limits speed place old by k Completes result endings.Completed next e stage keeps ends (inr m) = (
   result,
   k,
@@ -225,7 +240,13 @@ takes_end limits speed place old by k (Fails why) result (endings.Failed w) next
   result,
   k,
   subst (λ h. KeepsHeard old h result k) (sym e) keeps,
-  inl (inr (subst (λ h. Grows h place) (sym e) (subst (λ y. Grows (Fails y) place) ends grows)), ap (λ x. enter limits x) m),
+  inl (
+    inr (wants_to_grow limits by.heard (Fails why) place (ended_leads speed place by.transfer k (endings.Failed why))
+        (goes_on limits speed place by.transfer k by.transfer.stage) e
+        (subst (λ y. GrowsTo (Fails y) place (ended_leads speed place by.transfer k (endings.Failed y))) ends grows)
+        (ap (λ x. goes_on limits speed place by.transfer k x) stage ∙ failing_on limits speed place by.transfer k why)),
+    ap (λ x. enter limits x) m,
+  ),
 )
 takes_end limits speed place old by k (Fails why) result (endings.Failed w) next e stage keeps ends (inr m) = (
   result,

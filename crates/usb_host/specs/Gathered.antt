@@ -1,11 +1,11 @@
 -- The bytes that came, as far as they count: those of the parts of a file, in its order.
 use Rattle.std.specs.Prelude.{ℕ, List, [], ◌∷◌, ◌++◌, Option}
 use Rattle.usb_fields.specs.Packet.{Reply as Answer}
-use Rattle.usb_base.specs.declared.speed.Speed.{Speed}
+use Rattle.usb_fields.specs.declared.speed.Speed.{Speed}
 use Rattle.usb_set.specs.declared.tree.Configuration.{Configuration}
-use Rattle.usb_transfer.specs.declared.reply.Reply.{Reply}
-use Rattle.usb_transfer.specs.declared.reply.Reply.TheVariants as replied
-use Rattle.usb_transfer.specs.Transfer.{Hearing, Goes, Brings, Completes, Fails, taken}
+use Rattle.usb_host.specs.declared.reply.Reply.{Reply}
+use Rattle.usb_host.specs.declared.reply.Reply.TheVariants as replied
+use Rattle.usb_host.specs.Transfer.{Hearing, Goes, Brings, Completes, Fails, taken}
 use Rattle.usb_host.specs.declared.place.Place.{Place}
 use Rattle.usb_host.specs.declared.place.Place.TheVariants.{Device, Set, Qualifier, Languages, Text}
 use Rattle.usb_host.specs.Order.{next}

@@ -1,14 +1,14 @@
 -- What holds of every enumeration, whatever is answered.
 use Rattle.std.specs.Prelude.{◌≡◌, ℕ, suc, ◌<◌, ◌≤◌, ◌⊎◌, List, [], ◌∷◌, Option, Some, IsSome, Ok}
-use Rattle.usb_base.specs.Bytes.{AreBytes}
-use Rattle.usb_base.specs.declared.speed.Speed.{Speed}
+use Rattle.usb_fields.specs.Bytes.{AreBytes}
+use Rattle.usb_fields.specs.declared.speed.Speed.{Speed}
 use Rattle.usb_fields.specs.Packet.{Reply as Answer, Sent}
 use Rattle.usb_set.specs.declared.tree.Configuration.{Configuration}
 use Rattle.usb_set.specs.Layout.{Layout}
 use Rattle.usb_file_data.specs.declared.file.DescriptorFile.{DescriptorFile}
 use Rattle.usb_file_data.specs.File.{File}
-use Rattle.usb_transfer.specs.declared.reply.Reply.{Reply}
-use Rattle.usb_transfer.specs.Limits.{LimitView}
+use Rattle.usb_host.specs.declared.reply.Reply.{Reply}
+use Rattle.usb_host.specs.Limits.{LimitView}
 use Rattle.usb_host.specs.declared.place.Place.TheVariants.{First, Reported}
 use Rattle.usb_host.specs.Steps.{HostView, WantsReset, WantsSent, WantsNothing, new_host, wanted, outcome_of, reset, Takes}
 use Rattle.usb_host.specs.Gathered.{Came, no_bytes, came_in, reached, parts_of}

@@ -7,4 +7,10 @@ pub mod Gathered
 pub mod Cost
 pub mod Laws
 pub mod StepText
+pub mod Why
+pub mod Limits
+pub mod Transfer
+pub mod Plan
+pub mod Bound
+pub mod Heard
 pub mod inside

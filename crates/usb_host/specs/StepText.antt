@@ -1,7 +1,7 @@
 -- The words for the steps of an enumeration.
 use Rattle.std.specs.Prelude.{ℕ, ◌/◌, ◌%◌, List, [], ◌∷◌, ◌++◌, false, codes}
 use Rattle.std.specs.Fmt.{decimal, digit_glyph}
-use Rattle.usb_transfer.specs.Why.{why_message}
+use Rattle.usb_host.specs.Why.{why_message}
 use Rattle.usb_host.specs.declared.step.Step.{Step}
 use Rattle.usb_host.specs.declared.step.Step.TheVariants as steps
 use Rattle.usb_host.specs.declared.step.Trouble.{Trouble}

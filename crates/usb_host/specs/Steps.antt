@@ -1,18 +1,18 @@
 -- A host, as its callers see it, and its steps.
 use Rattle.std.specs.Borrow.{Bor}
 use Rattle.std.specs.Prelude.{◌≡◌, ℕ, suc, ◌==◌, ◌&&◌, nat_lt, Bool, true, false, if◌then◌else◌, Option, Some, None, Result, Ok, Err, ◌⊎◌}
-use Rattle.usb_base.specs.declared.speed.Speed.{Speed}
+use Rattle.usb_fields.specs.declared.speed.Speed.{Speed}
 use Rattle.usb_fields.specs.Packet.{Reply, Sent, sent_of}
 use Rattle.usb_set.specs.declared.fault.SetFault.{SetFault}
 use Rattle.usb_set.specs.declared.decoder.Progress.{Progress}
 use Rattle.usb_file_data.specs.declared.file.DescriptorFile.{DescriptorFile}
-use Rattle.usb_transfer.specs.declared.why.Why.{Why}
-use Rattle.usb_transfer.specs.declared.why.Why.TheVariants.{NoAnswer, Busy, Stalled, TooLong, Unexpected, Malformed, Memory}
-use Rattle.usb_transfer.specs.declared.stage.TransferStage.{TransferStage}
-use Rattle.usb_transfer.specs.declared.stage.TransferStage.TheVariants.{Completed, Failed}
-use Rattle.usb_transfer.specs.Limits.{LimitView}
-use Rattle.usb_transfer.specs.Plan.{Plan, Begin, Success, Trouble as GivesUp}
-use Rattle.usb_transfer.specs.Transfer.{TransferView, Hearing, Goes, Brings, Completes, Fails, Taken, taken, begun, due}
+use Rattle.usb_host.specs.declared.why.Why.{Why}
+use Rattle.usb_host.specs.declared.why.Why.TheVariants.{NoAnswer, Busy, Stalled, TooLong, Unexpected, Malformed, Memory}
+use Rattle.usb_host.specs.declared.stage.TransferStage.{TransferStage}
+use Rattle.usb_host.specs.declared.stage.TransferStage.TheVariants.{Completed, Failed}
+use Rattle.usb_host.specs.Limits.{LimitView}
+use Rattle.usb_host.specs.Plan.{Plan, Begin, Success, Trouble as GivesUp}
+use Rattle.usb_host.specs.Transfer.{TransferView, Hearing, Goes, Brings, Completes, Fails, Taken, taken, begun, due}
 use Rattle.usb_host.specs.declared.action.Action.{Action}
 use Rattle.usb_host.specs.declared.action.Action.TheVariants as actions
 use Rattle.usb_host.specs.declared.step.Step.{Step}
@@ -170,13 +170,19 @@ Grows Completes (Text f s named) = Unit {0}
 Grows (Fails Stalled) (Qualifier f) = Unit {0}
 Grows heard place = ⊥
 
+-- Memory was wanting at the end of a read that leads to this phase. What was read is judged before memory is asked for, so
+-- a read that is malformed asks for none.
+abbrev pub WantsToGrow : Hearing → Place → HostPhase → Type 0
+WantsToGrow heard place next = Grows heard place × (next ≡ Ended (stopped place Malformed) → ⊥)
+
 -- A host takes what its transfer made of an answer. The read goes on, or the next one begins; or memory was wanting where
 -- it is asked for.
 abbrev pub TakesHeard : LimitView → Speed → Place → Kept → Taken → HostPhase → Type 0
 TakesHeard limits speed place old by new =
     (result : Result Progress SetFault) × (k : Kept) × KeepsHeard old by.heard result k
-    × (((LacksMemory by.heard old result ⊎ Grows by.heard place) × (new ≡ Ended (stopped place Memory)))
-    ⊎ ((LacksMemory by.heard old result → ⊥) × (new ≡ goes_on limits speed place by.transfer k by.transfer.stage)))
+    × (let next = goes_on limits speed place by.transfer k by.transfer.stage in
+    ((LacksMemory by.heard old result ⊎ WantsToGrow by.heard place next) × (new ≡ Ended (stopped place Memory)))
+    ⊎ ((LacksMemory by.heard old result → ⊥) × (new ≡ next)))
 
 -- by the phase: only a read in work takes an answer
 abbrev pub TakesIn : HostView → HostPhase → Reply → HostView → Type 0

@@ -6,3 +6,4 @@ pub mod Places
 pub mod NextPlace
 pub mod Reads
 pub mod Hosts
+pub mod Transfers

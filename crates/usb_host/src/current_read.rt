@@ -1,8 +1,8 @@
 //! A read in work.
 ghost use Rattle.std.specs.Prelude.{◌≡◌, ◌<◌, false};
 ghost use Rattle.usb_fields.specs.Packet.{reply_of};
-ghost use Rattle.usb_transfer.specs.Bound.{left};
-ghost use Rattle.usb_transfer.specs.Transfer.{taken};
+ghost use Rattle.usb_host.specs.Bound.{left};
+ghost use Rattle.usb_host.specs.Transfer.{taken};
 ghost use Rattle.usb_host.specs.Keeping.{nothing_kept};
 ghost use Rattle.usb_host.specs.declared.kept.Kept.{Kept};
 ghost use Rattle.usb_host.specs.declared.place.Place.TheVariants.{First};
@@ -15,12 +15,15 @@ ghost use Rattle.usb_host.specs.inside.Reads.{GoesOn, Hears, IsReading, IsStandi
 
 use crate::draft::Draft;
 use crate::due::Due;
+use crate::heard::Heard;
 use crate::held::Held;
+use crate::limits::Limits;
 use crate::next_place::{lead_completed, lead_refused};
 use crate::request::getting;
+use crate::transfer::Transfer;
+use crate::why::Why;
 use std::alloc::Global;
 use usb_fields::{Answer, Speed};
-use usb_transfer::{Heard, Limits, Transfer, Why};
 
 /// How a read ended.
 #[derive(Clone, Copy, Debug)]
@@ -68,9 +71,8 @@ impl Reading {
         }
     }
 
-    /// Goes on to where a read leads that has ended.
+    /// Begins the read that follows one that has ended.
     #[inline(never)]
-    #[tactic(auto, using(crate::proofs::TakeLemmas::next_good))]
     fn go_on(&mut self, alloc: Global, limits: &Limits, speed: Speed, ending: Ending)
         requires good { IsGood (place_in self.old) }
         requires fits { FitsPlace (place_in self.old) (kept_in self.old) }

@@ -4,8 +4,7 @@ ghost use Rattle.usb_host.specs.Order.{declared_sets, index_due as index_after, 
 
 use crate::sets::{count_declared, count_sets};
 use std::alloc::Global;
-use usb_base::Sequence;
-use usb_fields::DeviceDescriptor;
+use usb_fields::{DeviceDescriptor, Sequence};
 use usb_file_data::{DescriptorFile, Strings};
 use usb_set::SetKind;
 

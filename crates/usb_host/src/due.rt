@@ -9,10 +9,10 @@ use crate::draft::{Draft, index_due, index_of, language_due};
 use crate::request::{Request, addressing, configuring, getting};
 use crate::sets::value_of_first;
 use crate::step::{Step, Trouble};
+use crate::why::Why;
 use usb_fields::{Setup, descriptor_length, descriptor_type};
 use usb_file_data::{DescriptorFile, Strings};
 use usb_set::SetKind;
-use usb_transfer::Why;
 
 /// The packet size of endpoint zero while it is not known: every device can take packets of 8 bytes (5.5.3).
 const LEAST_PACKET: u8 = 8;

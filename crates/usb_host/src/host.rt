@@ -9,13 +9,13 @@ use crate::action::Action;
 use crate::current_read::{Reading, begin};
 use crate::draft::Draft;
 use crate::due::Due;
+use crate::limits::Limits;
 use crate::step::{Step, Trouble};
+use crate::transfer::Transfer;
 use std::alloc::Global;
 use std::marker::Model;
-use usb_base::known_bytes;
-use usb_fields::{Answer, Speed};
+use usb_fields::{Answer, Speed, known_bytes};
 use usb_file_data::DescriptorFile;
-use usb_transfer::{Limits, Transfer};
 
 /// A host that reads all descriptors of one device, and configures it (USB 2.0, 9.1.2 and 9.4).
 ///
@@ -117,7 +117,8 @@ impl Host {
     /// an outcome. Where no transaction is due, nothing changes.
     ///
     /// After `NoAnswer` or `Busy` a bus reset is due while attempts are left, and what was read counts no more: it is
-    /// dropped with the reset. This is the one call that takes memory; where that is wanting, the outcome is `Memory`.
+    /// dropped with the reset. This is the only call that allocates: if an allocation fails, the outcome is `Memory`. What
+    /// was read is judged first: where it is `Malformed`, that is the outcome.
     ///
     /// ```rust
     /// host.take(Answer::Ack);

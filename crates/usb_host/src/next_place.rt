@@ -5,8 +5,8 @@ ghost use Rattle.usb_host.specs.inside.NextPlace.{Leads, LeadsTo, OrMemory, Sett
 ghost use Rattle.usb_host.specs.inside.Places.{kept_of, place_of};
 ghost use Rattle.usb_host.specs.inside.Steady.{IsGood};
 ghost use Rattle.usb_host.specs.Steps.{completed_leads, read_leads};
-ghost use Rattle.usb_transfer.specs.declared.why.Why.TheVariants.{Stalled};
-ghost use Rattle.usb_transfer.specs.Transfer.{Completes, Fails};
+ghost use Rattle.usb_host.specs.declared.why.Why.TheVariants.{Stalled};
+ghost use Rattle.usb_host.specs.Transfer.{Completes, Fails};
 ghost use Rattle.usb_host.specs.declared.draft.Draft.{Draft as DraftView};
 ghost use Rattle.usb_host.specs.declared.place.Place.TheVariants.{First, Device, Header, Set, Qualifier as SecondSpeed, Languages, Text};
 
@@ -18,13 +18,13 @@ use crate::read::{
 };
 use crate::sets::{add_set, count_declared, count_sets, is_first_zero};
 use crate::step::{Step, Trouble};
+use crate::transfer::Transfer;
+use crate::why::Why;
 use std::alloc::Global;
 use std::mem;
-use usb_base::Sequence;
-use usb_fields::Speed;
+use usb_fields::{Sequence, Speed, descriptor_length};
 use usb_file_data::{NoMemory, Other, Strings, named};
 use usb_set::{Configuration, SetKind};
-use usb_transfer::{Transfer, Why};
 
 /// The strings where an index is named, and else the configuration.
 fn strings_due(alloc: Global, draft: &mut Draft) -> Result<Due, NoMemory>
@@ -138,6 +138,7 @@ fn read_header(speed: Speed, kind: SetKind, bytes: &[u8]) -> Result<Due, Why>
 
 /// After a set of so many bytes: as many as the wTotalLength that was read before, of its kind, and the first set can be
 /// selected.
+#[tactic(auto, using(crate::proofs::LeadLemmas::sets_go_on))]
 fn read_set(
     alloc: Global,
     speed: Speed,
@@ -165,6 +166,7 @@ fn read_set(
 }
 
 /// After the qualifier.
+#[tactic(auto, using(crate::proofs::LeadLemmas::sets_go_on))]
 fn read_qualifier(alloc: Global, speed: Speed, bytes: &[u8], draft: &mut Draft) -> Result<Due, Why>
     ensures { LeadsTo (SecondSpeed draft.old.file) (bytes_lead speed (SecondSpeed draft.old.file) bytes.now) draft.new result }
 {
@@ -178,16 +180,17 @@ fn read_qualifier(alloc: Global, speed: Speed, bytes: &[u8], draft: &mut Draft) 
     or_memory(sets_due(alloc, speed, SetKind::OtherSpeed, draft))
 }
 
-/// After the language list, which has a language.
+/// After the language list, which has a language. One that has none is rejected before memory is asked for.
+#[tactic(auto, using(crate::proofs::LeadLemmas::no_language, crate::proofs::LeadLemmas::some_language, crate::proofs::LeadLemmas::languages_go_on))]
 fn read_languages(alloc: Global, speed: Speed, bytes: &[u8], draft: &mut Draft) -> Result<Due, Why>
     requires { length draft.old.named ≤ 255 }
     ensures { LeadsTo (Languages draft.old.file draft.old.named) (bytes_lead speed (Languages draft.old.file draft.old.named) bytes.now) draft.new result }
 {
+    if bytes.len() <= usize::from(descriptor_length::HEAD) {
+        return Err(Why::Malformed);
+    }
     match units_in(alloc, bytes) {
         Ok(Some(languages)) => {
-            if languages.is_empty() {
-                return Err(Why::Malformed);
-            }
             let texts = Sequence::new(alloc);
             draft.strings = Strings { languages, texts };
             Ok(texts_due(alloc, draft))
@@ -198,6 +201,7 @@ fn read_languages(alloc: Global, speed: Speed, bytes: &[u8], draft: &mut Draft) 
 }
 
 /// After a string.
+#[tactic(auto, using(crate::proofs::LeadLemmas::text_goes_on))]
 fn read_text(alloc: Global, speed: Speed, bytes: &[u8], draft: &mut Draft) -> Result<Due, Why>
     requires languages { length draft.old.strings.languages ≤ 126 }
     requires indices { length draft.old.named ≤ 255 }
@@ -272,7 +276,7 @@ fn lead_read(
     settle(step, next)
 }
 
-/// Where a request without data leads to that was carried out.
+/// What follows a completed request without data.
 fn lead_done(due: Due, draft: &Draft) -> Due
     requires { IsGood (place_of due draft.now) }
     ensures { place_of result draft.now ≡ done_leads (place_of due draft.now) }
@@ -286,6 +290,7 @@ fn lead_done(due: Due, draft: &Draft) -> Due
 
 /// Where a request leads to that was refused: a device without a second speed refuses to give a qualifier. Or the end
 /// when out of memory.
+#[tactic(auto, using(crate::proofs::LeadLemmas::strings_go_on))]
 pub(crate) fn lead_refused(alloc: Global, due: Due, draft: &mut Draft) -> Due
     requires { IsGood (place_of due draft.old) }
     ensures { Leads (Fails Stalled) (place_of due draft.old) (refused_leads (place_of due draft.old)) (place_of result draft.new) }

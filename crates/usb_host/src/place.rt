@@ -1,6 +1,6 @@
 //! How far an enumeration is, as contracts see it.
 use crate::step::Trouble;
-use usb_base::Sequence;
+use usb_fields::Sequence;
 use usb_file_data::{DescriptorFile, Strings};
 use usb_set::SetKind;
 

@@ -1,13 +1,12 @@
 //! What the bytes of a read say.
-ghost use Rattle.std.specs.Prelude.{◌≡◌, ◌≤◌, length, take, Some, None, if◌then◌else◌, IfOk, IfSome};
+ghost use Rattle.std.specs.Prelude.{◌≡◌, ◌≤◌, length, take, Some, None, if◌then◌else◌, IfOk, IfSome, IsSome, OnErr};
 ghost use Rattle.usb_set.specs.Descriptors.{type_number};
 ghost use Rattle.usb_host.specs.Read.{device_of, is_first, may_have_second as may_have_second_speed, packet_fits as fits_speed, qualifier_of, same_bytes, total_in as total_of, units_of};
 
 use std::alloc::Global;
-use usb_base::{Sequence, word_at};
 use usb_fields::{
-    DeviceDescriptor, Qualifier, Speed, USB_2_0, UnitFault, descriptor_length, descriptor_type,
-    read_units,
+    DeviceDescriptor, Qualifier, Sequence, Speed, USB_2_0, UnitFault, descriptor_length,
+    descriptor_type, known_bytes, read_units, word_at,
 };
 use usb_file_data::NoMemory;
 use usb_set::SetKind;
@@ -100,12 +99,14 @@ pub(crate) fn qualifier_in(bytes: &[u8]) -> Option<Qualifier>
     }
 }
 
-/// The units of a string or of the language list.
-#[tactic(auto, using(crate::proofs::ReadLemmas::units_are, crate::proofs::ReadLemmas::units_refused))]
+/// The units of a string or of the language list. Memory is asked for only where there are some.
+#[tactic(auto, using(crate::proofs::ReadLemmas::units_are, crate::proofs::ReadLemmas::units_refused, crate::proofs::ReadLemmas::units_there))]
 pub(crate) fn units_in(alloc: Global, bytes: &[u8]) -> Result<Option<Sequence<u16>>, NoMemory>
     ensures value { IfOk result (λ units. units ≡ units_of bytes.now) }
     ensures few { IfOk result (λ units. IfSome units (λ u. length u ≤ 126)) }
+    ensures err { OnErr result (IsSome (units_of bytes.now)) }
 {
+    known_bytes(bytes);
     match read_units(alloc, bytes) {
         Ok(units) => Ok(Some(Sequence::from_vec(units))),
         Err(fault) => {

@@ -2,8 +2,8 @@
 ghost use Rattle.std.specs.Prelude.{Some};
 ghost use Rattle.usb_host.specs.StepText.{step_text, trouble_message, two_digits};
 
+use crate::why::Why;
 use std::{error, fmt};
-use usb_transfer::Why;
 
 /// What a host does in an enumeration, one control transfer a step (USB 2.0, 9.1.2 and 9.4).
 #[derive(Clone, Copy, Debug, PartialEq, Eq, Hash)]

@@ -6,7 +6,7 @@ use Rattle.std.proofs.lemmas.Bool.{ltb-false, or_parts}
 use Rattle.std.proofs.lemmas.List.Folds.{flat_map-map}
 use Rattle.hex.specs.Hex.{encode_lower, encode_with, lower_digits}
 use Rattle.hex.proofs.HexLemmas.{length-encode_with}
-use Rattle.usb_base.specs.Widths.{size_of}
+use Rattle.usb_fields.specs.Widths.{size_of}
 use Rattle.usb_fields.specs.declared.device.DeviceDescriptor.{DeviceDescriptor}
 use Rattle.usb_fields.specs.declared.qualifier.Qualifier.{Qualifier}
 use Rattle.usb_set.specs.declared.tree.SetKind.{SetKind}
@@ -25,9 +25,10 @@ use Rattle.usb_file_data.specs.declared.file.Other.{Other}
 use Rattle.usb_file_data.specs.declared.file.Strings.{Strings}
 use Rattle.usb_file_data.specs.Named.{named_among, other_sets, string_indices}
 use Rattle.usb_file_data.specs.File.{File, whole_set, has_no_layout, is_long_string, are_wrong_strings}
-use Rattle.usb_listing.specs.Lines.{written_field, two_bytes}
+use Rattle.usb_listing.specs.Lines.{written_field}
+use Rattle.usb_text.specs.Units.{is_plain, two_bytes, written_unit}
 use Rattle.usb_listing.specs.SetListing.{extra_line, endpoint_line, endpoint_lines, interface_line, row_of_extra, setting_lines, configuration_line, set_lines}
-use Rattle.usb_listing.specs.StringListing.{is_plain, languages_line, written_unit, string_line, strings_lines}
+use Rattle.usb_listing.specs.StringListing.{languages_line, string_line, strings_lines}
 use Rattle.usb_listing.specs.Listing.{device_line, qualifier_line, other_lines, file_lines}
 use Rattle.usb_file_data.proofs.WholeSets.{whole_length}
 use Rattle.usb_file_data.proofs.Longest.{few_sets, few_strings}

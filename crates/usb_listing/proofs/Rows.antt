@@ -1,9 +1,9 @@
 -- On texts that are put for each element of a list in turn.
 use Rattle.std.proofs.Common.{◌≡◌, ℕ, ◌+◌, zero, suc, List, [], ◌∷◌, ◌++◌, drop, take, Some, slice_get, refl, sym, ap, ◌∙◌, subst, add-one, append_assoc, append-nil}
 use Rattle.std.specs.List.{flat_map}
-use Rattle.usb_listing.specs.Output.{AppendsLess, Held}
-use Rattle.usb_listing.specs.inside.Pages.{Puts}
-use Rattle.usb_listing.proofs.Pages.{front_longer, puts_broken, puts_more}
+use Rattle.usb_text.specs.Output.{AppendsLess, Held}
+use Rattle.usb_text.specs.inside.Pages.{Puts}
+use Rattle.usb_text.proofs.Pages.{front_longer, puts_broken, puts_more}
 
 -- the texts of the elements up to x, and that of x
 take_next : {X : Type 0} (f : X → List ℕ) (xs : List X) (i : ℕ) (x : X) → slice_get xs i ≡ Some x

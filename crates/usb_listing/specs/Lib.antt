@@ -1,7 +1,14 @@
-pub mod Output
 pub mod Lines
 pub mod Table
 pub mod SetListing
 pub mod StringListing
 pub mod Listing
+pub mod Numbers
+pub mod Words
+pub mod Says
+pub mod Order
+pub mod Listings
+pub mod ListingOrFault
+pub mod Comments
+pub mod CommentedListings
 pub mod inside

@@ -1,12 +1,7 @@
 -- A line of a listing: a word, and fields in lower-case hexadecimal digits.
 use Rattle.std.specs.Prelude.{ℕ, List, [], ◌∷◌, ◌++◌, codes}
 use Rattle.std.specs.List.{flat_map}
-use Rattle.usb_base.specs.Bytes.{big_endian}
 use Rattle.hex.specs.Hex.{encode_lower}
-
--- a number of two bytes as they are written out
-abbrev pub two_bytes : ℕ → List ℕ
-two_bytes n = big_endian n
 
 -- a space and the field in lower-case hexadecimal digits, or a dash where it has no byte
 abbrev pub written_field : List ℕ → List ℕ

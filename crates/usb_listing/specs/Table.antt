@@ -1,9 +1,9 @@
 -- The table of lines: which line a descriptor has.
 use Rattle.std.specs.Prelude.{ℕ, ◌==◌, List, [], ◌∷◌, Bool, true, false, codes, drop, length, if◌then◌else◌}
-use Rattle.usb_base.specs.declared.width.Width.{Width}
-use Rattle.usb_base.specs.declared.width.Width.TheVariants.{One}
-use Rattle.usb_base.specs.Fields.{widths}
-use Rattle.usb_base.specs.Widths.{cells}
+use Rattle.usb_fields.specs.declared.width.Width.{Width}
+use Rattle.usb_fields.specs.declared.width.Width.TheVariants.{One}
+use Rattle.usb_fields.specs.Fields.{widths}
+use Rattle.usb_fields.specs.Widths.{cells}
 use Rattle.usb_fields.specs.Device.{device_fields}
 use Rattle.usb_fields.specs.Qualifier.{qualifier_fields}
 use Rattle.usb_set.specs.Descriptors.{Descriptor, association_fields, configuration_fields, endpoint_fields, interface_fields}

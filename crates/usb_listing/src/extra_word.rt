@@ -6,7 +6,7 @@ ghost use Rattle.usb_set.specs.declared.extra.Extra.TheVariants as extras;
 
 use crate::page::Page;
 use std::alloc::AllocError;
-use usb_base::Width;
+use usb_fields::Width;
 use usb_set::{ASSOCIATION_WIDTHS, Association, Extra, Raw};
 
 /// The word of a line whose descriptor belongs to the one before it.
@@ -40,7 +40,7 @@ macro_rules! with_extra_row {
             }
             $crate::ExtraWord::Association => {
                 let ($left_out, $widths) = (
-                    [0, usb_base::descriptor_type::INTERFACE_ASSOCIATION],
+                    [0, usb_fields::descriptor_type::INTERFACE_ASSOCIATION],
                     usb_set::ASSOCIATION_WIDTHS,
                 );
                 $work

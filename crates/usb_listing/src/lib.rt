@@ -6,21 +6,40 @@
 //! the strings in `specs/StringListing.antt`, the form of a line in `specs/Lines.antt`, and the table of lines
 //! in `specs/Table.antt`. The module [`laws`] says that a set's lines are those of its descriptors, and how
 //! long a listing can be.
+//!
+//! Listings parsed: the descriptor file that a text lists, or the first line at fault.
+//!
+//! [`assemble`] reads a listing as it stands, and [`assemble_commented`] one with comments, empty lines and carriage
+//! returns. The modules [`reader_laws`] and [`comment_laws`] state what holds of texts, files and faults, whoever reads
+//! them. A line becomes the bytes of its descriptor, which usb_set and usb_fields read.
 #![tactic(auto)]
 
+mod assembly;
+pub mod comment_laws;
+mod comments;
+mod digits;
+mod draft;
+mod draft_steps;
 mod extra_word;
+mod fault;
+mod fields;
 pub mod laws;
 mod listed;
 mod listing;
-mod output;
+mod order;
 mod page;
+pub mod reader_laws;
+mod row;
 mod set_listing;
+mod step;
 mod string_listing;
-mod unit;
+mod strings;
+mod values;
+mod word;
 
+pub use assembly::{assemble, assemble_commented};
 pub use extra_word::{EXTRA_WORDS, ExtraWord, RAW_WIDTHS};
+pub use fault::{ListFault, ListWhy};
 pub use laws::LISTING_LIMIT;
 pub use listing::list;
-pub use output::{OutFault, write_all};
 pub use set_listing::list_set;
-pub use unit::is_plain;

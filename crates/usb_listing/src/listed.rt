@@ -1,12 +1,12 @@
 //! The listing of a value: its lines, put on a page.
 ghost use Rattle.std.specs.Prelude.{◌++◌, OnErr, OnOk};
 ghost use Rattle.std.specs.List.{flat_map};
-ghost use Rattle.usb_listing.specs.Output.{AppendsLess};
-ghost use Rattle.usb_listing.specs.inside.Pages.{Puts};
+ghost use Rattle.usb_text.specs.Output.{AppendsLess};
+ghost use Rattle.usb_text.specs.inside.Pages.{Puts};
 
-use crate::output::OutFault;
 use crate::page::Page;
 use std::io::Write;
+use usb_text::OutFault;
 
 /// A value that is listed by lines of its own.
 pub(crate) trait Listed {

@@ -2,17 +2,17 @@
 ghost use Rattle.std.specs.Prelude.{◌≡◌, ◌++◌, OnErr, OnOk};
 ghost use Rattle.std.specs.Io.KnownBytes.{Appends};
 ghost use Rattle.usb_listing.specs.Listing.{device_line, file_lines, other_lines, qualifier_line};
-ghost use Rattle.usb_listing.specs.Output.{AppendsLess};
-ghost use Rattle.usb_listing.specs.inside.Pages.{Puts};
+ghost use Rattle.usb_text.specs.Output.{AppendsLess};
+ghost use Rattle.usb_text.specs.inside.Pages.{Puts};
 
 use crate::listed::list_all;
-use crate::output::OutFault;
 use crate::page::Page;
 use crate::string_listing::list_strings;
 use std::alloc::{AllocError, Global};
 use std::io::Write;
 use usb_fields::{DEVICE_WIDTHS, DeviceDescriptor, QUALIFIER_WIDTHS, Qualifier};
 use usb_file_data::{DescriptorFile, Other};
+use usb_text::OutFault;
 
 /// Writes exactly the listing of the file: a line for each descriptor, in the order of the file. A file that has
 /// no bytes is listed too, as what it says.

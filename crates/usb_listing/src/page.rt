@@ -2,19 +2,18 @@
 ghost use Rattle.std.specs.Prelude.{◌≡◌, ◌+◌, ◌*◌, [], ◌∷◌, ◌++◌, codes, ◌<◌, false, length, IfErr, IfOk, IfSome, OnErr, OnOk};
 ghost use Rattle.hex.specs.Hex.{encode_lower};
 ghost use Rattle.std.specs.List.{flat_map};
-ghost use Rattle.usb_base.specs.Widths.{cells};
-ghost use Rattle.usb_listing.specs.Lines.{two_bytes, written_field, written_line};
-ghost use Rattle.usb_listing.specs.StringListing.{written_unit};
+ghost use Rattle.usb_fields.specs.Widths.{cells};
+ghost use Rattle.usb_listing.specs.Lines.{written_field, written_line};
+ghost use Rattle.usb_text.specs.Units.{two_bytes, written_unit};
 ghost use Rattle.std.specs.Io.KnownBytes.{Appends};
-ghost use Rattle.usb_listing.specs.Output.{AppendsLess};
-ghost use Rattle.usb_listing.specs.inside.Pages.{Puts};
+ghost use Rattle.usb_text.specs.Output.{AppendsLess};
+ghost use Rattle.usb_text.specs.inside.Pages.{Puts};
 
-use crate::output::{OutFault, write_all};
-use crate::unit::is_plain;
 use std::alloc::{AllocError, Global};
 use std::io::Write;
 use std::marker::Model;
-use usb_base::Width;
+use usb_fields::Width;
+use usb_text::{OutFault, is_plain, write_all};
 
 /// How many bytes a page has room for at first.
 const ROOM: usize = FULL + 2048;
@@ -164,7 +163,7 @@ impl Page {
     }
 
     /// Puts a unit of a string: its character, or a backslash and four digits.
-    #[tactic(auto, unfolding(crate::specs::StringListing::written_unit))]
+    #[tactic(auto, unfolding(usb_text::specs::Units::written_unit))]
     pub(crate) fn put_unit(&mut self, unit: u16) -> Result<(), AllocError>
         ensures { OnOk result (self.new ≡ self.old ++ written_unit unit) }
     {

@@ -3,12 +3,11 @@ ghost use Rattle.std.specs.Prelude.{◌≡◌, ◌++◌, OnErr, OnOk};
 ghost use Rattle.std.specs.List.{flat_map};
 ghost use Rattle.std.specs.Io.KnownBytes.{Appends};
 ghost use Rattle.usb_listing.specs.SetListing.{configuration_line, endpoint_line, endpoint_lines, extra_line, interface_line, set_lines, setting_lines, set_word};
-ghost use Rattle.usb_listing.specs.Output.{AppendsLess};
-ghost use Rattle.usb_listing.specs.inside.Pages.{Puts};
+ghost use Rattle.usb_text.specs.Output.{AppendsLess};
+ghost use Rattle.usb_text.specs.inside.Pages.{Puts};
 
 use crate::extra_word::put_extra;
 use crate::listed::{Listed, list_all};
-use crate::output::OutFault;
 use crate::page::Page;
 use std::alloc::{AllocError, Global};
 use std::io::Write;
@@ -16,6 +15,7 @@ use usb_set::{
     CONFIGURATION_WIDTHS, Configuration, ENDPOINT_WIDTHS, Endpoint, Extra, INTERFACE_WIDTHS,
     SetKind, Setting,
 };
+use usb_text::OutFault;
 
 /// Writes the listing of the set: a line for each descriptor, in the order of its bytes.
 ///

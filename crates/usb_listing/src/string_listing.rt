@@ -1,18 +1,19 @@
 //! The listing of a device's languages and strings.
 ghost use Rattle.std.specs.Prelude.{◌≡◌, ◌++◌, map, OnErr, OnOk};
 ghost use Rattle.std.specs.List.{flat_map};
-ghost use Rattle.usb_listing.specs.Output.{AppendsLess};
-ghost use Rattle.usb_listing.specs.inside.Pages.{Puts};
-ghost use Rattle.usb_listing.specs.Lines.{written_field, two_bytes};
-ghost use Rattle.usb_listing.specs.StringListing.{languages_line, string_line, strings_lines, written_unit};
+ghost use Rattle.usb_text.specs.Output.{AppendsLess};
+ghost use Rattle.usb_text.specs.inside.Pages.{Puts};
+ghost use Rattle.usb_listing.specs.Lines.{written_field};
+ghost use Rattle.usb_text.specs.Units.{two_bytes, written_unit};
+ghost use Rattle.usb_listing.specs.StringListing.{languages_line, string_line, strings_lines};
 
 use crate::listed::{Listed, list_all};
-use crate::output::OutFault;
 use crate::page::Page;
 use std::alloc::AllocError;
 use std::io::Write;
 use usb_file_data::Strings;
 use usb_set::Sequence;
+use usb_text::OutFault;
 
 /// Puts the languages' line and those of the strings, if there are any.
 pub(crate) fn list_strings<W: Write>(

@@ -17,3 +17,5 @@ pub mod ReadBack
 pub mod Lifting
 pub mod Adding
 pub mod BuiltSets
+pub mod Tests
+pub mod Measures

@@ -2,7 +2,7 @@
 use Rattle.std.proofs.Common.{◌≡◌, ℕ, ltb, List, length, None, ap, ◌∙◌, length-append, arith}
 use Rattle.std.proofs.lemmas.Bool.{le-ltb, cond-false}
 use Rattle.usb_set.specs.declared.tree.Configuration.{Configuration}
-use Rattle.usb_base.specs.Bytes.{AreBytes}
+use Rattle.usb_fields.specs.Bytes.{AreBytes}
 use Rattle.usb_set.specs.Layout.{set_bytes, Layout, has_long_descriptor, has_typed_raw}
 use Rattle.usb_set.specs.Encoding.{refusal_of, set_length}
 use Rattle.usb_set.specs.inside.Lengths.{HasLength}

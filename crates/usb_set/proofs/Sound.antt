@@ -7,7 +7,7 @@ use Rattle.std.proofs.lemmas.List.Folds.{list_any-append}
 use Rattle.usb_set.specs.declared.tree.SetKind.TheVariants as kinds
 use Rattle.usb_set.specs.declared.tree.Configuration.{Configuration}
 use Rattle.usb_set.specs.declared.fault.SetWhy.{SetWhy}
-use Rattle.usb_base.specs.Bytes.{AreBytes}
+use Rattle.usb_fields.specs.Bytes.{AreBytes}
 use Rattle.usb_set.specs.Descriptors.{Descriptor, descriptor_bytes, configuration_descriptor, type_number}
 use Rattle.usb_set.specs.Layout.{later_descriptors, set_bytes, is_long}
 use Rattle.usb_set.specs.Faults.{is_whole, is_set_type, header_fault, item_fault, total_of, is_interface, joined, IsHeader, AreItems, Reaches, Faulty, Begins}

@@ -1,8 +1,8 @@
 -- The descriptors of a configuration set, one by one (USB 2.0, 9.5 and 9.6.3 to 9.6.6, and its ECN on
 -- interface associations, 9.X.Y).
 use Rattle.std.specs.Prelude.{ℕ, ◌+◌, ◌==◌, List, [], ◌∷◌, ◌++◌, codes, length, slice_index, drop, Option, Some, None, if◌then◌else◌}
-use Rattle.usb_base.specs.Bytes.{little_endian}
-use Rattle.usb_base.specs.Fields.{Field, byte, word, fields_bytes}
+use Rattle.usb_fields.specs.Bytes.{little_endian}
+use Rattle.usb_fields.specs.Fields.{Field, byte, word, fields_bytes}
 use Rattle.usb_set.specs.declared.tree.SetKind.{SetKind}
 use Rattle.usb_set.specs.declared.tree.SetKind.TheVariants as kinds
 use Rattle.usb_set.specs.declared.extra.Raw.{Raw}

@@ -1,7 +1,7 @@
 -- Which sets have bytes.
 use Rattle.std.specs.Prelude.{◌≡◌, ℕ, length, Option, Some, None, nat_lt, if◌then◌else◌}
 use Rattle.std.specs.List.{AllByRecursion}
-use Rattle.usb_base.specs.Bytes.{IsByte, AreBytes}
+use Rattle.usb_fields.specs.Bytes.{IsByte, AreBytes}
 use Rattle.usb_set.specs.declared.tree.Configuration.{Configuration}
 use Rattle.usb_set.specs.declared.fault.EncodeFault.{EncodeFault}
 use Rattle.usb_set.specs.declared.fault.EncodeFault.TheVariants.{Tail, RawKind, TooLong, Memory}

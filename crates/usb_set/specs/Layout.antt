@@ -1,7 +1,7 @@
 -- The bytes of a configuration set (USB 2.0, 9.4.3 and 9.5).
 use Rattle.std.specs.Prelude.{◌≡◌, ℕ, ◌≤◌, List, ◌∷◌, ◌++◌, length, map, Bool, false, nat_lt, is_some}
 use Rattle.std.specs.List.{flat_map, list_any}
-use Rattle.usb_base.specs.Bytes.{AreBytes}
+use Rattle.usb_fields.specs.Bytes.{AreBytes}
 use Rattle.usb_set.specs.Descriptors.{Descriptor, descriptor_bytes, extra_descriptor, endpoint_descriptor, interface_descriptor, configuration_descriptor, typed_length}
 use Rattle.usb_set.specs.Parts.{extras_of}
 use Rattle.usb_set.specs.declared.extra.Extra.{Extra}

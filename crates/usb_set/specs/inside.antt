@@ -4,3 +4,5 @@ pub mod Stepping
 pub mod Holding
 pub mod Lengths
 pub mod Trees
+pub mod Measuring
+pub mod Writing

@@ -6,7 +6,7 @@ ghost use Rattle.usb_set.specs.inside.Reading.{attach, configuration_of, endpoin
 use crate::extra::Extra;
 use crate::tree::{Configuration, Endpoint, SetKind, Setting};
 use std::alloc::{AllocError, Global};
-use usb_base::{Sequence, descriptor_type, word_at};
+use usb_fields::{Sequence, descriptor_type, word_at};
 
 /// The bytes as a list.
 #[inline]

@@ -10,7 +10,7 @@ use crate::descriptor_check::{fault_in_item, is_in_setting};
 use crate::fault::SetWhy;
 use crate::tree::Configuration;
 use std::alloc::{AllocError, Global};
-use usb_base::known_bytes;
+use usb_fields::known_bytes;
 
 /// The set that has this first descriptor and no other. Its wTotalLength is ignored.
 ///

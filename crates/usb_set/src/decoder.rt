@@ -6,7 +6,7 @@ use crate::reader::Reader;
 use crate::tree::Configuration;
 use std::alloc::Global;
 use std::marker::Model;
-use usb_base::known_bytes;
+use usb_fields::known_bytes;
 
 /// How far a set was read.
 #[derive(Clone, Copy, Debug, PartialEq, Eq, Hash)]

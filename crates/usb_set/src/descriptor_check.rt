@@ -7,7 +7,7 @@ ghost use Rattle.usb_set.specs.inside.Reading.{SplitsDescriptor, first_byte};
 use crate::extra::typed_length;
 use crate::fault::SetWhy;
 use crate::tree::Configuration;
-use usb_base::{descriptor_length, descriptor_type, word_at};
+use usb_fields::{descriptor_length, descriptor_type, word_at};
 
 /// Whether it is the type of a set's first descriptor.
 fn is_set_type(kind: u8) -> bool

@@ -1,10 +1,10 @@
 //! What an endpoint descriptor says of its endpoint.
 ghost use Rattle.std.specs.Prelude.{◌≡◌};
-ghost use Rattle.usb_base.specs.Directions.{direction_of};
+ghost use Rattle.usb_fields.specs.Directions.{direction_of};
 ghost use Rattle.usb_set.specs.Endpoints.{number_of, packet_size_of, transactions_of, transfer_type_of};
 
 use crate::tree::Endpoint;
-use usb_base::Direction;
+use usb_fields::Direction;
 
 /// How an endpoint's data is transferred (USB 2.0, 9.6.6 and 4.7).
 #[derive(Clone, Copy, Debug, PartialEq, Eq, Hash)]

@@ -1,14 +1,14 @@
 //! The descriptors that belong to the one before them and own none: all that is known of each of their types.
 ghost use Rattle.std.specs.Prelude.{◌≡◌, ◌≤◌, ◌+◌, [], IfOk, length, map};
-ghost use Rattle.usb_base.specs.Fields.{fields_bytes, names, widths};
+ghost use Rattle.usb_fields.specs.Fields.{fields_bytes, names, widths};
 ghost use Rattle.usb_set.specs.Descriptors.{association_fields, extra_of, raw_descriptor, typed_length};
 ghost use Rattle.usb_set.specs.Faults.{least_length};
 ghost use Rattle.usb_set.specs.Layout.{is_typed, is_typed_raw};
 
 use crate::attachment::read_bytes;
 use std::alloc::{AllocError, Global};
-use usb_base::Width::{self, One};
-use usb_base::{Sequence, descriptor_length, descriptor_type};
+use usb_fields::Width::{self, One};
+use usb_fields::{Sequence, descriptor_length, descriptor_type};
 
 /// A descriptor that is kept as its type and bytes: a class or vendor descriptor, or one of a type that this
 /// crate gives no meaning. In a set its type is none of 2, 4, 5, 7 and 11.

@@ -1,11 +1,11 @@
 //! The fields of a set's descriptors, in the order of their bytes: what the standard calls each, how wide it is, and
 //! its bytes.
 ghost use Rattle.std.specs.Prelude.{◌≡◌};
-ghost use Rattle.usb_base.specs.Fields.{fields_bytes};
+ghost use Rattle.usb_fields.specs.Fields.{fields_bytes};
 
 use crate::tree::{Configuration, Endpoint, Setting};
-use usb_base::Width::{self, One, Two};
-use usb_base::word_bytes;
+use usb_fields::Width::{self, One, Two};
+use usb_fields::word_bytes;
 
 /// Names of the fields of a set's first descriptor after wTotalLength (USB 2.0, tables 9-10 and 9-11).
 pub const CONFIGURATION_NAMES: [&str; 5] = [

@@ -3,7 +3,7 @@ ghost use Rattle.std.specs.Prelude.{◌≡◌};
 ghost use Rattle.usb_set.specs.Descriptors.{type_number};
 
 use crate::tree::SetKind;
-use usb_base::descriptor_type;
+use usb_fields::descriptor_type;
 
 impl SetKind {
     /// bDescriptorType of the set's first descriptor (USB 2.0, table 9-5).

@@ -1,6 +1,6 @@
 //! What a configuration set says, as a tree of plain data.
 use crate::extra::Extra;
-use usb_base::Sequence;
+use usb_fields::Sequence;
 
 /// Which descriptor a set begins with.
 #[derive(Clone, Copy, Debug, PartialEq, Eq, Hash)]

@@ -1,2 +1,6 @@
 pub mod Columns
 pub mod Decimals
+pub mod Printables
+pub mod Pages
+pub mod Items
+pub mod Apart

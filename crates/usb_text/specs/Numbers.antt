@@ -2,7 +2,7 @@
 use Rattle.std.specs.Prelude.{ℕ, List, [], ◌∷◌, ◌++◌, ◌/◌, ◌%◌, nat_lt, ◌==◌, drop, codes, if◌then◌else◌}
 use Rattle.std.specs.Fmt.{decimal}
 use Rattle.hex.specs.Hex.{encode_lower}
-use Rattle.usb_base.specs.Bytes.{big_endian}
+use Rattle.usb_fields.specs.Bytes.{big_endian}
 
 -- a number and what it counts: `1 byte`, `2 bytes`
 unfoldable pub count : ℕ → List ℕ → List ℕ

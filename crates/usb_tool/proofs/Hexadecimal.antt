@@ -2,12 +2,12 @@
 use Rattle.std.proofs.Common.{◌≡◌, ℕ, Bool, true, false, List, [], length, Result, Ok, Err, refl, inl, inr}
 use Rattle.std.specs.Prelude.{IfErr, IfOk}
 use Rattle.std.specs.Io.KnownBytes.{Appends}
-use Rattle.usb_hex_text.specs.HexText.{HexFaulty, HexRefused, HexText}
-use Rattle.usb_hex_text.specs.declared.fault.HexFault.{HexFault}
-use Rattle.usb_hex_text.specs.declared.fault.HexFault.TheVariants as hexes
+use Rattle.usb_text.specs.HexText.{HexFaulty, HexRefused, HexText}
+use Rattle.usb_text.specs.declared.fault.HexFault.{HexFault}
+use Rattle.usb_text.specs.declared.fault.HexFault.TheVariants as hexes
 use Rattle.usb_explain.specs.declared.manner.Manner.{Manner}
-use Rattle.usb_listing.specs.Output.{Held}
-use Rattle.usb_listing.proofs.Pages.{keeps_refl}
+use Rattle.usb_text.specs.Output.{Held}
+use Rattle.usb_text.proofs.Pages.{keeps_refl}
 use Rattle.usb_tool.specs.Endings.{Writes}
 use Rattle.usb_tool.specs.Explains.{RefusesText, RefusesToExplain, TellsExplanation, TellsText, hexadecimal_words}
 use Rattle.usb_tool.specs.declared.fault.ToolFault.{ToolFault}

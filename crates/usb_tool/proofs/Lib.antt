@@ -1,5 +1,7 @@
 pub mod Reading
+pub mod Intakes
 pub mod Refusals
+pub mod Taken
 pub mod Running
 pub mod Telling
 pub mod Written

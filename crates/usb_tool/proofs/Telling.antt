@@ -2,7 +2,7 @@
 use Rattle.std.proofs.Common.{◌≡◌, ◌≢◌, ℕ, Bool, true, false, List, [], ◌∷◌, ◌++◌, ◌<◌, length, length-append, arith, Some, Result, Ok, Err, refl, sym, ap, ◌∙◌, inl, inr, subst, append_assoc}
 use Rattle.std.specs.Prelude.{IfErr, IfOk}
 use Rattle.std.specs.Io.KnownBytes.{Appends}
-use Rattle.usb_base.specs.declared.speed.Speed.{Speed}
+use Rattle.usb_fields.specs.declared.speed.Speed.{Speed}
 use Rattle.usb_file_data.specs.declared.file.DescriptorFile.{DescriptorFile}
 use Rattle.usb_file.specs.Dumps.{IsNoDump}
 use Rattle.usb_file.specs.FileFaults.{FileFaulty, ReadRefused}
@@ -10,22 +10,21 @@ use Rattle.usb_file.specs.Inputs.{DeviceRefused}
 use Rattle.usb_file.specs.declared.fault.FileFault.{FileFault}
 use Rattle.usb_file.specs.declared.fault.FileWhy.{FileWhy}
 use Rattle.usb_file.specs.declared.fault.FileWhy.TheVariants as files
-use Rattle.usb_listing.specs.declared.output.OutFault.{OutFault}
-use Rattle.usb_listing.specs.declared.output.OutFault.TheVariants as outs
-use Rattle.usb_listing.specs.Output.{AppendsLess, Held}
-use Rattle.usb_listing.proofs.Pages.{appends_more, appends_nothing, keeps_refl, less_is_front, stopped}
-use Rattle.usb_description.specs.Accepted.{Accepted, Refuses, refusal_of}
-use Rattle.usb_description.specs.declared.fault.DescriptionFault.{DescriptionFault}
-use Rattle.usb_description.specs.declared.fault.DescriptionFault.TheVariants as refusals
-use Rattle.usb_enumeration.specs.declared.run.Run.{Run}
+use Rattle.usb_text.specs.declared.output.OutFault.{OutFault}
+use Rattle.usb_text.specs.declared.output.OutFault.TheVariants as outs
+use Rattle.usb_text.specs.Output.{AppendsLess, Held}
+use Rattle.usb_text.proofs.Pages.{appends_more, appends_nothing, keeps_refl, less_is_front, stopped}
+use Rattle.usb_device.specs.Accepted.{Accepted, Refuses, refusal_of}
+use Rattle.usb_device.specs.declared.fault.DescriptionFault.{DescriptionFault}
+use Rattle.usb_device.specs.declared.fault.DescriptionFault.TheVariants as refusals
+use Rattle.usb_bus.specs.declared.run.Run.{Run}
 use Rattle.usb_host.specs.declared.step.Trouble.{Trouble}
-use Rattle.usb_tool.specs.Enumerations.{IsNotTaken, IsRun, IsTaken, RefusesToEnumerate, StopsShort, Tells, WritesResult, WritesResultFront, run_status, run_text}
+use Rattle.usb_tool.specs.Enumerations.{Conditions, IsNotTaken, IsRun, IsTaken, RefusesToEnumerate, StopsShort, Tells, WritesResult, WritesResultFront, run_status, run_text}
 use Rattle.usb_tool.specs.Faults.{fault_of_file, fault_of_output, file_fault_by_why}
 use Rattle.usb_tool.specs.ResultLines.{refused_line, success_line, trouble_line}
 use Rattle.usb_tool.specs.inside.Telling.{EndsWith, IsCutShort}
 use Rattle.usb_tool.specs.declared.fault.ToolFault.{ToolFault}
 use Rattle.usb_tool.specs.declared.fault.ToolFault.TheVariants as faults
-use Rattle.usb_tool.specs.declared.settings.Settings.{Settings}
 
 -- eight texts, joined from the left or from the right
 pub eight_joined : (a b c d e f g h : List ℕ)
@@ -65,24 +64,24 @@ no_dump_either (Ok f) b with_strings is h = tt
 no_dump_either (Err e) b with_strings is h = λ other. subst (λ s. IsNotTaken s b e) (sym is) (refused_both b e.at e.why h other)
 
 -- and nothing was written
-pub not_taken : (s : Settings) (b : List ℕ) (held : Held) (e : FileFault) → (e.why ≢ files.Memory → IsNotTaken s.with_strings b e)
-    → RefusesToEnumerate s b held held (fault_of_file e)
-not_taken s b held e h = by e.why refl
+pub not_taken : (c : Conditions) (b : List ℕ) (held : Held) (e : FileFault) → (e.why ≢ files.Memory → IsNotTaken c.flags.with_strings b e)
+    → RefusesToEnumerate c b held held (fault_of_file e)
+not_taken c b held e h = by e.why refl
   where
-    by : (why : FileWhy) → e.why ≡ why → RefusesToEnumerate s b held held (file_fault_by_why why e)
+    by : (why : FileWhy) → e.why ≡ why → RefusesToEnumerate c b held held (file_fault_by_why why e)
     by files.Memory is = inl (keeps_refl held)
     by why is = (h (λ memory. let same = sym is ∙ memory in cc), keeps_refl held)
 
 -- what is told of a file that no device can be made of
-pub refusal_told : (s : Settings) (f : DescriptorFile) (b : List ℕ) (fault : DescriptionFault) → IsTaken s.with_strings f b
-    → refusal_of f s.speed ≡ Some fault → Tells s b [] (refused_line fault) 1
-refusal_told s f b fault taken why =
+pub refusal_told : (c : Conditions) (f : DescriptorFile) (b : List ℕ) (fault : DescriptionFault) → IsTaken c.flags.with_strings f b
+    → refusal_of f c.speed ≡ Some fault → Tells c b [] (refused_line fault) 1
+refusal_told c f b fault taken why =
     record { file = f; taken = taken; told = inl (record { fault = fault; why = why; told = refl; ended = refl }, refl) }
 
 -- what is told of a run
-pub run_told : (s : Settings) (f : DescriptorFile) (b : List ℕ) (run : Run) (log : List ℕ) → IsTaken s.with_strings f b → Accepted f s.speed
-    → IsRun s.log s f run log → Tells s b log (run_text run.outcome run) (run_status run.outcome)
-run_told s f b run log taken accepted enumerated = record {
+pub run_told : (c : Conditions) (f : DescriptorFile) (b : List ℕ) (run : Run) (log : List ℕ) → IsTaken c.flags.with_strings f b → Accepted f c.speed
+    → IsRun c.flags.log c f run log → Tells c b log (run_text run.outcome run) (run_status run.outcome)
+run_told c f b run log taken accepted enumerated = record {
   file = f;
   taken = taken;
   told = inr (record { run = run; accepted = accepted; enumerated = enumerated; told = refl; ended = refl });
@@ -103,19 +102,19 @@ less_after a b c s t whole less = record {
   written = appends_more a b c s less.front whole less.written;
 }
 
-module _ (s : Settings) (b log text : List ℕ) (ended : ℕ) (held between holds : Held) (tells : Tells s b log text ended) (logged : Appends held between log) where
+module _ (c : Conditions) (b log text : List ℕ) (ended : ℕ) (held between holds : Held) (tells : Tells c b log text ended) (logged : Appends held between log) where
   -- what was written is what comes of the bytes
-  pub result_written : (r : Result ℕ ToolFault) → IfOk r (EndsWith text ended between holds) → IfOk r (WritesResult s b held holds)
+  pub result_written : (r : Result ℕ ToolFault) → IfOk r (EndsWith text ended between holds) → IfOk r (WritesResult c b held holds)
   result_written (Ok status) (written, is) =
-      record { log = log; text = text; tells = subst (Tells s b log text) (sym is) tells; written = appends_more held between holds log text logged written }
+      record { log = log; text = text; tells = subst (Tells c b log text) (sym is) tells; written = appends_more held between holds log text logged written }
   result_written (Err fault) ends = tt
 
-  cut_off : (fault : OutFault) → StopsShort fault between holds text → WritesResultFront s b held holds fault
+  cut_off : (fault : OutFault) → StopsShort fault between holds text → WritesResultFront c b held holds fault
   cut_off fault short =
       record { log = log; text = text; status = ended; tells = tells; between = between; logged = logged; written = short }
 
   -- and where it was cut short, a front of that
-  pub result_cut : (r : Result ℕ ToolFault) → 0 < length text → IfErr r (IsCutShort text between holds) → IfErr r (RefusesToEnumerate s b held holds)
+  pub result_cut : (r : Result ℕ ToolFault) → 0 < length text → IfErr r (IsCutShort text between holds) → IfErr r (RefusesToEnumerate c b held holds)
   result_cut (Ok status) some cut = tt
   result_cut (Err faults.Write) some front = inr (cut_off outs.Write front)
   result_cut (Err faults.Memory) some (inl keeps) =

@@ -1,5 +1,5 @@
 -- What the words of a command line ask for.
-use Rattle.std.specs.Prelude.{◌≡◌, ℕ, List, Bool, true, false, Option, Some, None, IfSome, codes, map, option_map, pos, String, string_bytes}
+use Rattle.std.specs.Prelude.{◌≡◌, ◌≢◌, ℕ, List, [], ◌∷◌, Bool, true, false, Option, Some, None, IfSome, codes, fold, map, option_map, pos, String, string_bytes}
 use Rattle.std.specs.Str.{bytes_eq}
 use Rattle.std.specs.Borrow.{Bor}
 use Rattle.std.specs.Global.{Global}
@@ -9,6 +9,7 @@ use Rattle.clap.specs.declared.builder.value_parser.ValueParser.TheVariants as p
 use Rattle.usb_tool.specs.declared.explain_options.Explaining.{Explaining}
 use Rattle.usb_tool.specs.declared.command_line.Line.{Line}
 use Rattle.usb_tool.specs.declared.command_line.Line.TheVariants as lines
+use Rattle.usb_tool.specs.declared.enumerate_options.EnumerateFlags.{EnumerateFlags}
 use Rattle.usb_tool.specs.declared.enumerate_options.Options.{Options}
 
 -- an option of this name, with one value
@@ -27,21 +28,13 @@ number_rule name least most = record (valued_rule name) { parser = Some (parsers
 abbrev pub flag_rule : Text → Rule
 flag_rule name = record (new_rule name) { long = Some name; action = Some actions.SetTrue }
 
-abbrev pub brief_rule : Rule
-brief_rule = flag_rule (codes "brief")
-
-abbrev pub no_places_rule : Rule
-no_places_rule = flag_rule (codes "no-places")
-
-abbrev pub utf8_rule : Rule
-utf8_rule = flag_rule (codes "utf8")
-
-abbrev pub hex_rule : Rule
-hex_rule = flag_rule (codes "hex")
-
 abbrev pub speed_rule : Rule
 speed_rule = chosen_rule (codes "speed")
 
+abbrev pub fates_rule : Rule
+fates_rule = chosen_rule (codes "fates")
+
+-- the numbers that an address, NAKs and attempts may be
 abbrev pub address_rule : Rule
 address_rule = number_rule (codes "address") 1 127
 
@@ -51,25 +44,26 @@ naks_rule = number_rule (codes "naks") 0 65535
 abbrev pub attempts_rule : Rule
 attempts_rule = number_rule (codes "attempts") 1 8
 
-abbrev pub fates_rule : Rule
-fates_rule = chosen_rule (codes "fates")
+-- a command of this name with these options
+abbrev pub command_with : Text → List Rule → App
+command_with name rules = fold with_rule (new_app name) rules
 
-abbrev pub log_rule : Rule
-log_rule = flag_rule (codes "log")
+abbrev pub show_app : App
+show_app = command_with (codes "show") (flag_rule (codes "any") ∷ [])
 
-abbrev pub with_strings_rule : Rule
-with_strings_rule = flag_rule (codes "with-strings")
+abbrev pub check_app : App
+check_app = command_with (codes "check") (flag_rule (codes "any") ∷ [])
 
--- the command `enumerate` with its options
-abbrev pub enumerate_app : App
-enumerate_app =
-    with_rule (with_rule (with_rule (with_rule (with_rule (with_rule (with_rule (new_app (codes "enumerate")) speed_rule) address_rule)
-    naks_rule) attempts_rule) fates_rule) log_rule) with_strings_rule
+abbrev pub build_app : App
+build_app = command_with (codes "build") (flag_rule (codes "comments") ∷ [])
 
--- the command `explain` with its options
 abbrev pub explain_app : App
-explain_app =
-    with_rule (with_rule (with_rule (with_rule (with_rule (new_app (codes "explain")) brief_rule) no_places_rule) utf8_rule) hex_rule) speed_rule
+explain_app = command_with (codes "explain")
+    (flag_rule (codes "brief") ∷ flag_rule (codes "no-places") ∷ flag_rule (codes "utf8") ∷ flag_rule (codes "hex") ∷ speed_rule ∷ [])
+
+abbrev pub enumerate_app : App
+enumerate_app = command_with (codes "enumerate")
+    (speed_rule ∷ address_rule ∷ naks_rule ∷ attempts_rule ∷ fates_rule ∷ flag_rule (codes "log") ∷ flag_rule (codes "with-strings") ∷ [])
 
 -- a command that prints its version where it is asked for
 abbrev pub versioned : App → App
@@ -81,9 +75,8 @@ requiring a = record a { top = record a.top { subcommand_required = true } }
 
 -- the command `usbdesc` with its subcommands
 abbrev pub usbdesc_app : App
-usbdesc_app =
-    with_subcommand (with_subcommand (with_subcommand (with_subcommand (with_subcommand (requiring (versioned (new_app (codes "usbdesc"))))
-    (new_app (codes "show")).top) (new_app (codes "check")).top) (new_app (codes "build")).top) explain_app.top) enumerate_app.top
+usbdesc_app = fold (λ a b. with_subcommand a b.top) (requiring (versioned (new_app (codes "usbdesc"))))
+    (show_app ∷ check_app ∷ build_app ∷ explain_app ∷ enumerate_app ∷ [])
 
 -- a subcommand of this name was found
 abbrev pub IsNamed : Text → Option (Text × List Row) → Type 0
@@ -98,31 +91,49 @@ abbrev pub is_given : Option Text → Bool
 is_given None = false
 is_given (Some text) = bytes_eq text (codes "true")
 
+-- whether the flag of this name was given
+abbrev pub gives : Text → List Row → Bool
+gives flag rows = is_given (first_of flag rows)
+
 -- the flags are those that were found, and so is the text of the speed
 pub record HasFlags (o : Explaining) (rows : List Row) : Type 0 where
-  pub brief : o.brief ≡ is_given (first_of (codes "brief") rows)
-  pub no_places : o.no_places ≡ is_given (first_of (codes "no-places") rows)
-  pub utf8 : o.utf8 ≡ is_given (first_of (codes "utf8") rows)
-  pub hex : o.hex ≡ is_given (first_of (codes "hex") rows)
+  pub brief : o.brief ≡ gives (codes "brief") rows
+  pub no_places : o.no_places ≡ gives (codes "no-places") rows
+  pub utf8 : o.utf8 ≡ gives (codes "utf8") rows
+  pub hex : o.hex ≡ gives (codes "hex") rows
   pub speed : text_of o.speed ≡ first_of (codes "speed") rows
 
--- the text of each option is the one that was found for it, and so are the flags
+-- the text of each option is the one that was found for it
 pub record HasTexts (o : Options) (rows : List Row) : Type 0 where
   pub speed : text_of o.speed ≡ first_of (codes "speed") rows
   pub address : text_of o.address ≡ first_of (codes "address") rows
   pub naks : text_of o.naks ≡ first_of (codes "naks") rows
   pub attempts : text_of o.attempts ≡ first_of (codes "attempts") rows
   pub fates : text_of o.fates ≡ first_of (codes "fates") rows
-  pub log : o.log ≡ is_given (first_of (codes "log") rows)
-  pub with_strings : o.with_strings ≡ is_given (first_of (codes "with-strings") rows)
+
+-- the flags of `enumerate` that were found
+abbrev pub flags_of : List Row → EnumerateFlags
+flags_of rows = record { log = gives (codes "log") rows; with_strings = gives (codes "with-strings") rows }
+
+-- none of them
+abbrev pub no_flags : EnumerateFlags
+no_flags = record { log = false; with_strings = false }
+
+-- the subcommand of this name was found, and this holds of what was found for its options
+abbrev pub Finds : Text → (List Row → Type 0) → Option (Text × List Row) → Type 0
+Finds name has found = IsNamed name found × IfSome found (λ p. has p.1)
 
 -- the line is what the subcommand that was found asks for
 abbrev pub Asks : Line → Option (Text × List Row) → Type 0
-Asks lines.Show found = IsNamed (codes "show") found
-Asks lines.Check found = IsNamed (codes "check") found
-Asks lines.Build found = IsNamed (codes "build") found
-Asks (lines.Explain o) found = IsNamed (codes "explain") found × IfSome found (λ p. HasFlags o p.1)
-Asks (lines.Enumerate o) found = IsNamed (codes "enumerate") found × IfSome found (λ p. HasTexts o p.1)
+Asks lines.Show = Finds (codes "show") (λ rows. gives (codes "any") rows ≡ false)
+Asks lines.Check = Finds (codes "check") (λ rows. gives (codes "any") rows ≡ false)
+Asks lines.Build = Finds (codes "build") (λ rows. gives (codes "comments") rows ≡ false)
+Asks (lines.Enumerate o) = Finds (codes "enumerate") (λ rows. HasTexts o rows × (flags_of rows ≡ no_flags))
+Asks lines.ShowAny = Finds (codes "show") (λ rows. gives (codes "any") rows ≡ true)
+Asks lines.CheckAny = Finds (codes "check") (λ rows. gives (codes "any") rows ≡ true)
+Asks lines.BuildCommented = Finds (codes "build") (λ rows. gives (codes "comments") rows ≡ true)
+Asks (lines.Explain o) = Finds (codes "explain") (HasFlags o)
+Asks (lines.EnumerateWith o flags) = Finds (codes "enumerate") (λ rows. HasTexts o rows × (flags ≡ flags_of rows) × (flags ≢ no_flags))
 
 -- the words as clap sees them
 abbrev pub word_texts : List (String Global) → List Text

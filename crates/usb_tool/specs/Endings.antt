@@ -1,7 +1,7 @@
 -- How a command ends that reads all of its input before it writes, and what is written then of the text that it tells.
 use Rattle.std.specs.Prelude.{ℕ, ◌⊎◌, List}
 use Rattle.std.specs.Io.KnownBytes.{Appends, Keeps}
-use Rattle.usb_listing.specs.Output.{AppendsFront, Held}
+use Rattle.usb_text.specs.Output.{AppendsFront, Held}
 use Rattle.usb_tool.specs.Input.{Left, ReadFails, ReadsAll}
 use Rattle.usb_tool.specs.declared.fault.ToolFault.{ToolFault}
 use Rattle.usb_tool.specs.declared.fault.ToolFault.TheVariants as faults

@@ -1,6 +1,7 @@
 -- What `enumerate` does to its input and its output.
 use Rattle.std.specs.Prelude.{◌≡◌, ℕ, ◌⊎◌, Bool, true, false, List, [], ◌++◌, Some, Result, Ok, Err}
 use Rattle.std.specs.Io.KnownBytes.{Appends, Keeps}
+use Rattle.usb_fields.specs.declared.speed.Speed.{Speed}
 use Rattle.usb_file_data.specs.declared.file.DescriptorFile.{DescriptorFile}
 use Rattle.usb_file_data.specs.File.{File}
 use Rattle.usb_file.specs.Completed.{IsCompleted}
@@ -9,21 +10,35 @@ use Rattle.usb_file.specs.FileFaults.{FileFaulty}
 use Rattle.usb_file.specs.declared.fault.FileFault.{FileFault}
 use Rattle.usb_file_data.specs.declared.laws.TheConstants.{FILE_LIMIT}
 use Rattle.usb_listing.specs.Listing.{file_lines}
-use Rattle.usb_listing.specs.declared.output.OutFault.{OutFault}
-use Rattle.usb_listing.specs.declared.output.OutFault.TheVariants as outs
-use Rattle.usb_listing.specs.Output.{AppendsFront, AppendsLess, Held}
-use Rattle.usb_description.specs.Accepted.{Accepted, refusal_of}
-use Rattle.usb_description.specs.declared.fault.DescriptionFault.{DescriptionFault}
+use Rattle.usb_text.specs.declared.output.OutFault.{OutFault}
+use Rattle.usb_text.specs.declared.output.OutFault.TheVariants as outs
+use Rattle.usb_text.specs.Output.{AppendsFront, AppendsLess, Held}
+use Rattle.usb_device.specs.Accepted.{Accepted, refusal_of}
+use Rattle.usb_device.specs.declared.fault.DescriptionFault.{DescriptionFault}
+use Rattle.usb_host.specs.Limits.{LimitView}
 use Rattle.usb_host.specs.declared.step.Trouble.{Trouble}
-use Rattle.usb_enumeration.specs.Enumerate.{IsEnumeration}
-use Rattle.usb_enumeration.specs.declared.run.Run.{Run}
-use Rattle.usb_enumeration.specs.Log.{IsLogOf, WritesLogLess}
+use Rattle.usb_bus.specs.declared.fate.Fate.{Fate}
+use Rattle.usb_bus.specs.Enumerate.{IsEnumeration}
+use Rattle.usb_bus.specs.declared.run.Run.{Run}
+use Rattle.usb_bus.specs.Log.{IsLogOf, WritesLogLess}
 use Rattle.usb_tool.specs.Endings.{Fails, Succeeds}
 use Rattle.usb_tool.specs.Input.{Left}
 use Rattle.usb_tool.specs.ResultLines.{refused_line, success_line, trouble_line}
 use Rattle.usb_tool.specs.declared.fault.ToolFault.{ToolFault}
 use Rattle.usb_tool.specs.declared.fault.ToolFault.TheVariants as faults
-use Rattle.usb_tool.specs.declared.settings.Settings.{Settings}
+use Rattle.usb_tool.specs.declared.enumerate_options.EnumerateFlags.{EnumerateFlags}
+
+-- what an enumeration is made under: the limits of the host, the speed of the device, the fates of the transactions, and
+-- whether a log is asked for and a dump is taken
+pub record Conditions : Type 0 where
+  pub limits : LimitView
+  pub speed : Speed
+  pub fates : List Fate
+  pub flags : EnumerateFlags
+
+-- these conditions
+abbrev pub under : LimitView → Speed → List Fate → EnumerateFlags → Conditions
+under limits speed fates flags = record { limits = limits; speed = speed; fates = fates; flags = flags }
 
 -- what is reported of a run with this outcome: after success its line and the listing of the file that was read, and else the
 -- line of its trouble
@@ -37,23 +52,23 @@ run_status (Ok f) = 0
 run_status (Err trouble) = 1
 
 -- no device of this speed can be made of the file, and the text is the line of the first reason
-pub record TellsRefusal (s : Settings) (f : DescriptorFile) (text : List ℕ) (status : ℕ) : Type 0 where
+pub record TellsRefusal (c : Conditions) (f : DescriptorFile) (text : List ℕ) (status : ℕ) : Type 0 where
   pub fault : DescriptionFault
-  pub why : refusal_of f s.speed ≡ Some fault
+  pub why : refusal_of f c.speed ≡ Some fault
   pub told : text ≡ refused_line fault
   pub ended : status ≡ 1
 
 -- a device with these descriptors was enumerated, and this is the log of that very run, or nothing where none is asked for
-abbrev pub IsRun : Bool → Settings → DescriptorFile → Run → List ℕ → Type 0
-IsRun false s f run log = IsEnumeration f s.speed s.limits s.fates.items run × (log ≡ [])
-IsRun true s f run log = IsLogOf f s.speed s.limits s.fates.items run log
+abbrev pub IsRun : Bool → Conditions → DescriptorFile → Run → List ℕ → Type 0
+IsRun false c f run log = IsEnumeration f c.speed c.limits c.fates run × (log ≡ [])
+IsRun true c f run log = IsLogOf f c.speed c.limits c.fates run log
 
 -- a device was made of the file and enumerated, this is the log of that run, if it is asked for, and the text what is reported
 -- of it
-pub record TellsRun (s : Settings) (f : DescriptorFile) (log text : List ℕ) (status : ℕ) : Type 0 where
+pub record TellsRun (c : Conditions) (f : DescriptorFile) (log text : List ℕ) (status : ℕ) : Type 0 where
   pub run : Run
-  pub accepted : Accepted f s.speed
-  pub enumerated : IsRun s.log s f run log
+  pub accepted : Accepted f c.speed
+  pub enumerated : IsRun c.flags.log c f run log
   pub told : text ≡ run_text run.outcome run
   pub ended : status ≡ run_status run.outcome
 
@@ -63,16 +78,16 @@ IsTaken false f b = File f b
 IsTaken true f b = IsCompleted f b
 
 -- the log, if there is one, and the text after it tell what comes of the file that is taken of these bytes
-pub record Tells (s : Settings) (b log text : List ℕ) (status : ℕ) : Type 0 where
+pub record Tells (c : Conditions) (b log text : List ℕ) (status : ℕ) : Type 0 where
   pub file : DescriptorFile
-  pub taken : IsTaken s.with_strings file b
-  pub told : (TellsRefusal s file text status × (log ≡ [])) ⊎ TellsRun s file log text status
+  pub taken : IsTaken c.flags.with_strings file b
+  pub told : (TellsRefusal c file text status × (log ≡ [])) ⊎ TellsRun c file log text status
 
 -- what comes of the bytes was written
-pub record WritesResult (s : Settings) (b : List ℕ) (held holds : Held) (status : ℕ) : Type 0 where
+pub record WritesResult (c : Conditions) (b : List ℕ) (held holds : Held) (status : ℕ) : Type 0 where
   pub log : List ℕ
   pub text : List ℕ
-  pub tells : Tells s b log text status
+  pub tells : Tells c b log text status
   pub written : Appends held holds (log ++ text)
 
 -- a prefix of a text was written, which is left unfinished out of memory
@@ -81,22 +96,22 @@ StopsShort outs.Write held holds text = AppendsFront held holds text
 StopsShort outs.Memory held holds text = AppendsLess held holds text
 
 -- of what comes of the bytes the log was written, and a prefix of the text after it
-pub record WritesResultFront (s : Settings) (b : List ℕ) (held holds : Held) (fault : OutFault) : Type 0 where
+pub record WritesResultFront (c : Conditions) (b : List ℕ) (held holds : Held) (fault : OutFault) : Type 0 where
   pub log : List ℕ
   pub text : List ℕ
   pub status : ℕ
-  pub tells : Tells s b log text status
+  pub tells : Tells c b log text status
   pub between : Held
   pub logged : Appends held between log
   pub written : StopsShort fault between holds text
 
 -- a log is asked for, and a step of the enumeration broke it
-pub record WritesLogFront (s : Settings) (b : List ℕ) (held holds : Held) (fault : OutFault) : Type 0 where
+pub record WritesLogFront (c : Conditions) (b : List ℕ) (held holds : Held) (fault : OutFault) : Type 0 where
   pub file : DescriptorFile
-  pub taken : IsTaken s.with_strings file b
-  pub accepted : Accepted file s.speed
-  pub asked : s.log ≡ true
-  pub written : WritesLogLess file s.speed s.limits s.fates.items held holds fault
+  pub taken : IsTaken c.flags.with_strings file b
+  pub accepted : Accepted file c.speed
+  pub asked : c.flags.log ≡ true
+  pub written : WritesLogLess file c.speed c.limits c.fates held holds fault
 
 -- the bytes show this fault of a file, and are no dump where strings are asked for
 abbrev pub IsNotTaken : Bool → List ℕ → FileFault → Type 0
@@ -105,17 +120,17 @@ IsNotTaken true b fault = FileFaulty b fault.at fault.why × IsNoDump b
 
 -- How bytes are not enumerated: nothing was written where they are no file, or where memory was wanting for a device, and
 -- else a prefix of what comes of them, or of the log so far.
-abbrev pub RefusesToEnumerate : Settings → List ℕ → Held → Held → ToolFault → Type 0
-RefusesToEnumerate s b held holds (faults.File fault) = IsNotTaken s.with_strings b fault × Keeps held holds
-RefusesToEnumerate s b held holds faults.Write = WritesLogFront s b held holds outs.Write ⊎ WritesResultFront s b held holds outs.Write
-RefusesToEnumerate s b held holds faults.Memory =
-    Keeps held holds ⊎ (WritesLogFront s b held holds outs.Memory ⊎ WritesResultFront s b held holds outs.Memory)
-RefusesToEnumerate s b held holds fault = ⊥
+abbrev pub RefusesToEnumerate : Conditions → List ℕ → Held → Held → ToolFault → Type 0
+RefusesToEnumerate c b held holds (faults.File fault) = IsNotTaken c.flags.with_strings b fault × Keeps held holds
+RefusesToEnumerate c b held holds faults.Write = WritesLogFront c b held holds outs.Write ⊎ WritesResultFront c b held holds outs.Write
+RefusesToEnumerate c b held holds faults.Memory =
+    Keeps held holds ⊎ (WritesLogFront c b held holds outs.Memory ⊎ WritesResultFront c b held holds outs.Memory)
+RefusesToEnumerate c b held holds fault = ⊥
 
 -- all was read, at most what a file can have, and what comes of it was written
-abbrev pub Enumerated : Settings → Left → Left → Held → Held → ℕ → Type 0
-Enumerated s from to held holds status = Succeeds FILE_LIMIT (λ b held holds. WritesResult s b held holds status) from to held holds
+abbrev pub Enumerated : Conditions → Left → Left → Held → Held → ℕ → Type 0
+Enumerated c from to held holds status = Succeeds FILE_LIMIT (λ b held holds. WritesResult c b held holds status) from to held holds
 
 -- how `enumerate` fails
-abbrev pub EnumerateFails : Settings → Left → Left → Held → Held → ToolFault → Type 0
-EnumerateFails s = Fails FILE_LIMIT (RefusesToEnumerate s)
+abbrev pub EnumerateFails : Conditions → Left → Left → Held → Held → ToolFault → Type 0
+EnumerateFails c = Fails FILE_LIMIT (RefusesToEnumerate c)

@@ -8,14 +8,14 @@ use Rattle.usb_file.specs.Inputs.{InputFaulty, IsInput}
 use Rattle.usb_file_data.specs.declared.input.Input.{Input}
 use Rattle.usb_file.specs.declared.input_fault.InputFault.{InputFault}
 use Rattle.usb_file_data.specs.declared.laws.TheConstants.{FILE_LIMIT}
-use Rattle.usb_hex_text.specs.HexText.{HexFaulty, HexText}
-use Rattle.usb_hex_text.specs.declared.fault.HexFault.{HexFault}
-use Rattle.usb_hex_text.specs.declared.fault.HexFault.TheVariants as hexes
-use Rattle.usb_listing.specs.Output.{AppendsLess, Held}
+use Rattle.usb_text.specs.HexText.{HexFaulty, HexText}
+use Rattle.usb_text.specs.declared.fault.HexFault.{HexFault}
+use Rattle.usb_text.specs.declared.fault.HexFault.TheVariants as hexes
+use Rattle.usb_text.specs.Output.{AppendsLess, Held}
 use Rattle.usb_tool.specs.Endings.{Fails, Refusal, Refuses, Telling, Told}
 use Rattle.usb_tool.specs.Faults.{fault_line, fault_of_input}
 use Rattle.usb_tool.specs.Input.{Left}
-use Rattle.usb_tool.specs.InputFaults.{OfInput}
+use Rattle.usb_tool.specs.Inputs.{OfInput}
 use Rattle.usb_tool.specs.declared.fault.ToolFault.{ToolFault}
 use Rattle.usb_tool.specs.declared.fault.ToolFault.TheVariants as tools
 use Rattle.usb_text.specs.Numbers.{count}

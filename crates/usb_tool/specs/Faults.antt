@@ -13,12 +13,12 @@ use Rattle.usb_file.specs.declared.fault.FileWhy.{FileWhy}
 use Rattle.usb_file.specs.declared.fault.FileWhy.TheVariants as files
 use Rattle.usb_file.specs.declared.input_fault.InputFault.{InputFault}
 use Rattle.usb_file.specs.declared.input_fault.InputFault.TheVariants as inputs
-use Rattle.usb_listing_reader.specs.Numbers.{why_number as list_why_number}
-use Rattle.usb_listing_reader.specs.declared.fault.ListFault.{ListFault}
-use Rattle.usb_listing_reader.specs.declared.fault.ListWhy.{ListWhy}
-use Rattle.usb_listing_reader.specs.declared.fault.ListWhy.TheVariants as lists
-use Rattle.usb_listing.specs.declared.output.OutFault.{OutFault}
-use Rattle.usb_listing.specs.declared.output.OutFault.TheVariants as outs
+use Rattle.usb_listing.specs.Numbers.{why_number as list_why_number}
+use Rattle.usb_listing.specs.declared.fault.ListFault.{ListFault}
+use Rattle.usb_listing.specs.declared.fault.ListWhy.{ListWhy}
+use Rattle.usb_listing.specs.declared.fault.ListWhy.TheVariants as lists
+use Rattle.usb_text.specs.declared.output.OutFault.{OutFault}
+use Rattle.usb_text.specs.declared.output.OutFault.TheVariants as outs
 
 -- the number of a fault
 abbrev pub fault_number : ToolFault → ℕ

@@ -1,7 +1,7 @@
 pub mod Input
 pub mod Faults
 pub mod Endings
-pub mod InputFaults
+pub mod Inputs
 pub mod Shows
 pub mod Checks
 pub mod Builds

@@ -1,14 +1,14 @@
 -- The lines that tell what came of an enumeration, each with its line feed.
 use Rattle.std.specs.Prelude.{ℕ, List, [], ◌∷◌, ◌++◌, codes}
 use Rattle.std.specs.Fmt.{decimal}
-use Rattle.usb_rules.specs.FindingLine.{finding_line}
-use Rattle.usb_transfer.specs.Why.{why_number}
-use Rattle.usb_description.specs.Accepted.{fault_number}
-use Rattle.usb_description.specs.declared.fault.DescriptionFault.{DescriptionFault}
-use Rattle.usb_description.specs.declared.fault.DescriptionFault.TheVariants as refusals
+use Rattle.usb_file_data.specs.FindingLine.{finding_line}
+use Rattle.usb_host.specs.Why.{why_number}
+use Rattle.usb_device.specs.Accepted.{fault_number}
+use Rattle.usb_device.specs.declared.fault.DescriptionFault.{DescriptionFault}
+use Rattle.usb_device.specs.declared.fault.DescriptionFault.TheVariants as refusals
 use Rattle.usb_host.specs.StepText.{step_text}
 use Rattle.usb_host.specs.declared.step.Trouble.{Trouble}
-use Rattle.usb_enumeration.specs.declared.run.Run.{Run}
+use Rattle.usb_bus.specs.declared.run.Run.{Run}
 
 -- after success: how many attempts and transactions there were, the address that the device has, and the value of its
 -- configuration

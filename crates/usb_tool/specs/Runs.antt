@@ -1,27 +1,29 @@
 -- What the program does, from its command line to its exit status.
-use Rattle.std.specs.Prelude.{◌≡◌, ℕ, ◌⊎◌, List, String}
+use Rattle.std.specs.Prelude.{◌≡◌, ℕ, ◌⊎◌, List, [], ◌∷◌, ◌++◌, Result, Ok, Err, String}
 use Rattle.std.specs.Global.{Global}
 use Rattle.std.specs.Io.KnownBytes.{Keeps}
 use Rattle.clap.specs.Kinds.{IsAmong}
 use Rattle.clap.specs.Words.{fault_of, subcommand_of}
 use Rattle.clap.specs.declared.error.kind.ErrorKind.{ErrorKind}
 use Rattle.clap.specs.declared.error.kind.ErrorKind.TheVariants as kinds
-use Rattle.usb_listing.specs.Output.{Held}
-use Rattle.usb_tool.specs.Builds.{BuildFails, Built}
-use Rattle.usb_tool.specs.Checks.{CheckFails, Checked}
-use Rattle.usb_tool.specs.Enumerations.{EnumerateFails, Enumerated}
+use Rattle.usb_text.specs.Output.{AppendsFront, Held}
+use Rattle.usb_tool.specs.Builds.{BuildCommentedFails, BuildFails, Built, BuiltCommented}
+use Rattle.usb_tool.specs.Checks.{CheckAnyFails, CheckFails, Checked, CheckedAny}
+use Rattle.usb_tool.specs.Enumerations.{Conditions, EnumerateFails, Enumerated, under}
 use Rattle.usb_tool.specs.Explains.{ExplainFails, Explained}
+use Rattle.usb_tool.specs.Faults.{fault_line}
 use Rattle.usb_tool.specs.Input.{Left}
-use Rattle.usb_tool.specs.CommandLine.{Asks, usbdesc_app, word_texts}
-use Rattle.usb_tool.specs.Shows.{Shown, ShowFails}
+use Rattle.usb_tool.specs.CommandLine.{Asks, no_flags, usbdesc_app, word_texts}
+use Rattle.usb_tool.specs.Shows.{ShowAnyFails, ShowFails, Shown, ShownAny}
 use Rattle.usb_tool.specs.declared.fault.ToolFault.{ToolFault}
 use Rattle.usb_explain.specs.declared.manner.Manner.{Manner}
 use Rattle.usb_tool.specs.Manners.{HasBadSpeed, IsManner}
-use Rattle.usb_tool.specs.OptionFaults.{settings_status}
+use Rattle.usb_tool.specs.OptionFaults.{settings_line, settings_status}
 use Rattle.usb_tool.specs.Settings.{IsSettled, RefusesOptions}
 use Rattle.usb_tool.specs.declared.explain_options.Explaining.{Explaining}
 use Rattle.usb_tool.specs.declared.command_line.Line.{Line}
 use Rattle.usb_tool.specs.declared.command_line.Line.TheVariants as lines
+use Rattle.usb_tool.specs.declared.enumerate_options.EnumerateFlags.{EnumerateFlags}
 use Rattle.usb_tool.specs.declared.enumerate_options.Options.{Options}
 use Rattle.usb_tool.specs.declared.settings.Settings.{Settings}
 use Rattle.usb_tool.specs.declared.settings.SettingsFault.{SettingsFault}
@@ -33,11 +35,12 @@ line_status kinds.DisplayHelp = 0
 line_status kinds.DisplayVersion = 0
 line_status _ = 2
 
--- what is printed of a line that is no command goes to standard output only where it asks for help or the version
-abbrev pub KeepsUnlessHelp : ErrorKind → Held → Held → Type 0
-KeepsUnlessHelp kinds.DisplayHelp held holds = Unit {0}
-KeepsUnlessHelp kinds.DisplayVersion held holds = Unit {0}
-KeepsUnlessHelp _ held holds = Keeps held holds
+-- a request for help or the version is answered on standard output, and each other line that is no command on standard
+-- error: there a prefix of a text is written, and on the other stream nothing
+abbrev pub Answers : ErrorKind → List ℕ → Held → Held → Held → Held → Type 0
+Answers kinds.DisplayHelp text held holds errors told = AppendsFront held holds text × Keeps errors told
+Answers kinds.DisplayVersion text held holds errors told = AppendsFront held holds text × Keeps errors told
+Answers _ text held holds errors told = Keeps held holds × AppendsFront errors told text
 
 -- what a command does with its input and its output, and its number
 abbrev pub Work : Type 1
@@ -47,66 +50,91 @@ Work = Left → Left → Held → Held → ℕ → Type 0
 abbrev pub Failure : Type 1
 Failure = Left → Left → Held → Held → ToolFault → Type 0
 
--- the command failed, and so the status is 3
-pub record EndsInFault (fails : Failure) (from to : Left) (held holds : Held) (status : ℕ) : Type 0 where
+-- what a run does with its input, its output and standard error, and its exit status
+abbrev pub Course : Type 1
+Course = Left → Left → Held → Held → Held → Held → ℕ → Type 0
+
+-- a line was written, with its line feed or a prefix of that
+abbrev pub TellsLine : List ℕ → Held → Held → Type 0
+TellsLine line errors told = AppendsFront errors told (line ++ 10 ∷ [])
+
+-- after a fault standard error has its line, and else nothing
+abbrev pub TellsOutcome : Result ℕ ToolFault → Held → Held → Type 0
+TellsOutcome (Ok number) errors told = Keeps errors told
+TellsOutcome (Err fault) errors told = TellsLine (fault_line fault) errors told
+
+-- the command failed, and so the status is 3, and standard error has the line of the fault
+pub record EndsInFault (fails : Failure) (from to : Left) (held holds errors told : Held) (status : ℕ) : Type 0 where
   pub fault : ToolFault
   pub failed : fails from to held holds fault
+  pub line : TellsLine (fault_line fault) errors told
   pub ended : status ≡ 3
 
--- the command did its work, and its number is the status, or it failed
-abbrev pub Ends : Work → Failure → Work
-Ends does fails from to held holds status = does from to held holds status ⊎ EndsInFault fails from to held holds status
+-- the command did its work, its number is the status, and standard error has nothing, or it failed
+abbrev pub Ends : Work → Failure → Course
+Ends does fails from to held holds errors told status =
+    (does from to held holds status × Keeps errors told) ⊎ EndsInFault fails from to held holds errors told status
 
 -- options come to settings, and the command ended that they ask for
-pub record OptionsAreTaken (S : Type 0) (is : S → Type 0) (ends : S → Work) (from to : Left) (held holds : Held) (status : ℕ) : Type 0 where
+pub record OptionsAreTaken (S : Type 0) (is : S → Type 0) (ends : S → Course) (from to : Left) (held holds errors told : Held) (status : ℕ) : Type 0 where
   pub settings : S
   pub settled : is settings
-  pub ended : ends settings from to held holds status
+  pub ended : ends settings from to held holds errors told status
 
--- options were refused; nothing is read, and nothing is written to standard output
-pub record OptionsAreRefused (refuses : SettingsFault → Type 0) (from to : Left) (held holds : Held) (status : ℕ) : Type 0 where
+-- options were refused; nothing is read, and nothing is written but the line of the fault on standard error
+pub record OptionsAreRefused (refuses : SettingsFault → Type 0) (from to : Left) (held holds errors told : Held) (status : ℕ) : Type 0 where
   pub fault : SettingsFault
   pub refused : refuses fault
   pub input : Keeps from to
   pub output : Keeps held holds
+  pub line : TellsLine (settings_line fault) errors told
   pub ended : status ≡ settings_status fault
 
 -- how `explain` ends with these options: the one that is refused is a speed
-abbrev pub EndsExplanation : Explaining → Work
-EndsExplanation o from to held holds status =
-    OptionsAreTaken Manner (IsManner o) (λ m. Ends (Explained o.hex m) (ExplainFails o.hex m)) from to held holds status
-    ⊎ OptionsAreRefused (λ fault. (fault ≡ Speed) × HasBadSpeed o) from to held holds status
+abbrev pub EndsExplanation : Explaining → Course
+EndsExplanation o from to held holds errors told status =
+    OptionsAreTaken Manner (IsManner o) (λ m. Ends (Explained o.hex m) (ExplainFails o.hex m)) from to held holds errors told status
+    ⊎ OptionsAreRefused (λ fault. (fault ≡ Speed) × HasBadSpeed o) from to held holds errors told status
 
--- how `enumerate` ends with these options
-abbrev pub EndsEnumeration : Options → Work
-EndsEnumeration o from to held holds status =
-    OptionsAreTaken Settings (IsSettled o) (λ s. Ends (Enumerated s) (EnumerateFails s)) from to held holds status
-    ⊎ OptionsAreRefused (RefusesOptions o) from to held holds status
+-- how `enumerate` ends under these conditions
+abbrev pub EndsUnder : Conditions → Course
+EndsUnder c = Ends (Enumerated c) (EnumerateFails c)
+
+-- how `enumerate` ends with these options and flags
+abbrev pub EndsEnumeration : Options → EnumerateFlags → Course
+EndsEnumeration o flags from to held holds errors told status =
+    OptionsAreTaken Settings (IsSettled o) (λ s. EndsUnder (under s.limits s.speed s.fates.items flags)) from to held holds errors told status
+    ⊎ OptionsAreRefused (RefusesOptions o) from to held holds errors told status
 
 -- how ends what a line asks for
-abbrev pub EndsLine : Line → Work
+abbrev pub EndsLine : Line → Course
 EndsLine lines.Show = Ends Shown ShowFails
 EndsLine lines.Check = Ends Checked CheckFails
 EndsLine lines.Build = Ends Built BuildFails
+EndsLine (lines.Enumerate options) = EndsEnumeration options no_flags
+EndsLine lines.ShowAny = Ends ShownAny ShowAnyFails
+EndsLine lines.CheckAny = Ends CheckedAny CheckAnyFails
+EndsLine lines.BuildCommented = Ends BuiltCommented BuildCommentedFails
 EndsLine (lines.Explain options) = EndsExplanation options
-EndsLine (lines.Enumerate options) = EndsEnumeration options
+EndsLine (lines.EnumerateWith options flags) = EndsEnumeration options flags
 
 -- the words are a line, and what it asks for was done
-pub record LineIsTaken (words : List (String Global)) (from to : Left) (held holds : Held) (status : ℕ) : Type 0 where
+pub record LineIsTaken (words : List (String Global)) (from to : Left) (held holds errors told : Held) (status : ℕ) : Type 0 where
   pub line : Line
   pub asked : Asks line (subcommand_of usbdesc_app (word_texts words))
-  pub ended : EndsLine line from to held holds status
+  pub ended : EndsLine line from to held holds errors told status
 
--- the words are no command, for one of the reasons that clap has, or memory is wanting, which is asked for before any
--- word is looked at; nothing is read
-pub record LineIsRefused (words : List (String Global)) (from to : Left) (held holds : Held) (status : ℕ) : Type 0 where
+-- the words are no command, for one of the reasons that clap has, or memory is wanting; nothing is read, and a text is
+-- written, which clap leaves open
+pub record LineIsRefused (words : List (String Global)) (from to : Left) (held holds errors told : Held) (status : ℕ) : Type 0 where
   pub kind : ErrorKind
   pub why : (kind ≡ kinds.OutOfMemory) ⊎ IsAmong kind (fault_of usbdesc_app (word_texts words))
   pub input : Keeps from to
-  pub output : KeepsUnlessHelp kind held holds
+  pub text : List ℕ
+  pub answered : Answers kind text held holds errors told
   pub ended : status ≡ line_status kind
 
 -- what a run has done, and its exit status
-abbrev pub Runs : List (String Global) → Work
-Runs words from to held holds status =
-    LineIsTaken words from to held holds status ⊎ LineIsRefused words from to held holds status
+abbrev pub Runs : List (String Global) → Course
+Runs words from to held holds errors told status =
+    LineIsTaken words from to held holds errors told status ⊎ LineIsRefused words from to held holds errors told status

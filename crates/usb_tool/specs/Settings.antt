@@ -4,10 +4,10 @@ use Rattle.std.specs.Borrow.{Bor}
 use Rattle.std.specs.Char.{digit_value}
 use Rattle.std.specs.List.{list_all}
 use Rattle.std.specs.Str.Parse.{digits_value, without_leading_plus}
-use Rattle.usb_base.specs.declared.speed.Speed.{Speed}
-use Rattle.usb_base.specs.declared.speed.Speed.TheVariants.{Full}
+use Rattle.usb_fields.specs.declared.speed.Speed.{Speed}
+use Rattle.usb_fields.specs.declared.speed.Speed.TheVariants.{Full}
 use Rattle.usb_bus.specs.declared.fate.Fate.{Fate}
-use Rattle.usb_transfer.specs.Limits.{LimitView, limit_fault}
+use Rattle.usb_host.specs.Limits.{LimitView, limit_fault}
 use Rattle.usb_tool.specs.OptionValues.{RefusesFates, fates_of, speed_of}
 use Rattle.usb_tool.specs.declared.fates.FatesFault.{FatesFault}
 use Rattle.usb_tool.specs.declared.fates.FatesFault.TheVariants as letters
@@ -68,8 +68,6 @@ pub record IsSettled (o : Options) (s : Settings) : Type 0 where
   pub limits : limits_said o ≡ Some s.limits
   pub speed : speed_said o ≡ Some s.speed
   pub fates : fates_said o ≡ Some s.fates.items
-  pub log : s.log ≡ o.log
-  pub with_strings : s.with_strings ≡ o.with_strings
 
 -- why options are refused: the first of numbers, speed and fates that is at fault, or out of memory as fates are read
 abbrev pub RefusesOptions : Options → SettingsFault → Type 0

@@ -1,14 +1,15 @@
 //! The command `usbdesc`, as `clap` has it.
-ghost use Rattle.std.specs.Prelude.{◌≡◌, IfOk, false};
+ghost use Rattle.std.specs.Prelude.{◌≡◌, IfOk, [], ◌∷◌, false};
 ghost use Rattle.clap.specs.Words.{app_of, new_app, rule_of, with_rule, with_subcommand};
 ghost use Rattle.clap.specs.declared.builder.Command.TheViews.{out-Command};
-ghost use Rattle.usb_tool.specs.CommandLine.{address_rule, attempts_rule, chosen_rule, enumerate_app, explain_app, fates_rule, flag_rule, log_rule, naks_rule, speed_rule, usbdesc_app, valued_rule, with_strings_rule};
+ghost use Rattle.usb_tool.specs.CommandLine.{address_rule, attempts_rule, build_app, check_app, chosen_rule, command_with, enumerate_app, explain_app, fates_rule, flag_rule, naks_rule, show_app, speed_rule, usbdesc_app, valued_rule};
 
 use crate::help::{
     ABOUT, ADDRESS_HELP, ATTEMPTS_HELP, BRIEF_HELP, BUILD_ABOUT, BUILD_HELP, CHECK_ABOUT,
-    CHECK_HELP, ENUMERATE_ABOUT, ENUMERATE_HELP, EXPLAIN_ABOUT, EXPLAIN_HELP, FATES, FATES_HELP,
-    HEX_HELP, LOG_HELP, NAKS_HELP, NO_PLACES_HELP, RAN_AT_HELP, RUNNING_SPEEDS, SHOW_ABOUT,
-    SHOW_HELP, SPEED_HELP, SPEEDS, UTF8_HELP, VERSION, WITH_STRINGS_HELP,
+    CHECK_ANY_HELP, CHECK_HELP, COMMENTS_HELP, ENUMERATE_ABOUT, ENUMERATE_HELP, EXPLAIN_ABOUT,
+    EXPLAIN_HELP, FATES, FATES_HELP, HEX_HELP, LOG_HELP, NAKS_HELP, NO_PLACES_HELP, RAN_AT_HELP,
+    RUNNING_SPEEDS, SHOW_ABOUT, SHOW_ANY_HELP, SHOW_HELP, SPEED_HELP, SPEEDS, UTF8_HELP, VERSION,
+    WITH_STRINGS_HELP,
 };
 use clap::{Arg, ArgAction, Command, value_parser};
 use std::alloc::{AllocError, Global};
@@ -21,25 +22,11 @@ pub(crate) fn usbdesc<'a>(alloc: Global) -> Result<Command<'a>, AllocError>
         .version(VERSION)
         .about(ABOUT)
         .subcommand_required(true);
-    let usbdesc = add(alloc, usbdesc, "show", SHOW_ABOUT, SHOW_HELP)?;
-    let usbdesc = add(alloc, usbdesc, "check", CHECK_ABOUT, CHECK_HELP)?;
-    let usbdesc = add(alloc, usbdesc, "build", BUILD_ABOUT, BUILD_HELP)?;
+    let usbdesc = add_command(usbdesc, show(alloc)?)?;
+    let usbdesc = add_command(usbdesc, check(alloc)?)?;
+    let usbdesc = add_command(usbdesc, build(alloc)?)?;
     let usbdesc = add_command(usbdesc, explain(alloc)?)?;
     add_command(usbdesc, enumerate(alloc)?)
-}
-
-/// The command with one more subcommand, which takes no words of its own.
-fn add<'a>(
-    alloc: Global,
-    command: Command<'a>,
-    name: &'a str,
-    about: &'a str,
-    help: &'a str,
-) -> Result<Command<'a>, AllocError>
-    ensures { IfOk result (λ c. app_of c ≡ with_subcommand (app_of command.entry) (new_app name.entry.now).top) }
-{
-    let subcommand = Command::new(alloc, name).about(about).after_help(help);
-    command.subcommand(subcommand)
 }
 
 /// The command with one more subcommand, none of whose options its own subcommands take.
@@ -50,14 +37,39 @@ fn add_command<'a>(command: Command<'a>, subcommand: Command<'a>) -> Result<Comm
     command.subcommand(subcommand)
 }
 
+/// The subcommand `show` with its option.
+fn show<'a>(alloc: Global) -> Result<Command<'a>, AllocError>
+    ensures app { IfOk result (λ c. app_of c ≡ show_app) }
+    ensures local { IfOk result (λ c. (out-Command c).has_globals ≡ false) }
+{
+    let show = command(alloc, "show", SHOW_ABOUT, SHOW_HELP);
+    add_option(show, flag(alloc, "any", SHOW_ANY_HELP))
+}
+
+/// The subcommand `check` with its option.
+fn check<'a>(alloc: Global) -> Result<Command<'a>, AllocError>
+    ensures app { IfOk result (λ c. app_of c ≡ check_app) }
+    ensures local { IfOk result (λ c. (out-Command c).has_globals ≡ false) }
+{
+    let check = command(alloc, "check", CHECK_ABOUT, CHECK_HELP);
+    add_option(check, flag(alloc, "any", CHECK_ANY_HELP))
+}
+
+/// The subcommand `build` with its option.
+fn build<'a>(alloc: Global) -> Result<Command<'a>, AllocError>
+    ensures app { IfOk result (λ c. app_of c ≡ build_app) }
+    ensures local { IfOk result (λ c. (out-Command c).has_globals ≡ false) }
+{
+    let build = command(alloc, "build", BUILD_ABOUT, BUILD_HELP);
+    add_option(build, flag(alloc, "comments", COMMENTS_HELP))
+}
+
 /// The subcommand `explain` with its options.
 fn explain<'a>(alloc: Global) -> Result<Command<'a>, AllocError>
     ensures app { IfOk result (λ c. app_of c ≡ explain_app) }
     ensures local { IfOk result (λ c. (out-Command c).has_globals ≡ false) }
 {
-    let explain = Command::new(alloc, "explain")
-        .about(EXPLAIN_ABOUT)
-        .after_help(EXPLAIN_HELP);
+    let explain = command(alloc, "explain", EXPLAIN_ABOUT, EXPLAIN_HELP);
     let explain = add_option(explain, flag(alloc, "brief", BRIEF_HELP))?;
     let explain = add_option(explain, flag(alloc, "no-places", NO_PLACES_HELP))?;
     let explain = add_option(explain, flag(alloc, "utf8", UTF8_HELP))?;
@@ -70,16 +82,22 @@ fn enumerate<'a>(alloc: Global) -> Result<Command<'a>, AllocError>
     ensures app { IfOk result (λ c. app_of c ≡ enumerate_app) }
     ensures local { IfOk result (λ c. (out-Command c).has_globals ≡ false) }
 {
-    let enumerate = Command::new(alloc, "enumerate")
-        .about(ENUMERATE_ABOUT)
-        .after_help(ENUMERATE_HELP);
+    let enumerate = command(alloc, "enumerate", ENUMERATE_ABOUT, ENUMERATE_HELP);
     let enumerate = add_option(enumerate, speed(alloc))?;
     let enumerate = add_option(enumerate, address(alloc))?;
     let enumerate = add_option(enumerate, naks(alloc))?;
     let enumerate = add_option(enumerate, attempts(alloc))?;
     let enumerate = add_option(enumerate, fates(alloc))?;
-    let enumerate = add_option(enumerate, log(alloc))?;
-    add_option(enumerate, with_strings(alloc))
+    let enumerate = add_option(enumerate, flag(alloc, "log", LOG_HELP))?;
+    add_option(enumerate, flag(alloc, "with-strings", WITH_STRINGS_HELP))
+}
+
+/// A command of this name, which takes no words of its own.
+fn command<'a>(alloc: Global, name: &'a str, about: &'a str, help: &'a str) -> Command<'a>
+    ensures app { app_of result ≡ new_app name.entry.now }
+    ensures local { (out-Command result).has_globals ≡ false }
+{
+    Command::new(alloc, name).about(about).after_help(help)
 }
 
 /// The command with one more option, which its subcommands do not take.
@@ -160,20 +178,4 @@ fn fates<'a>(alloc: Global) -> Arg<'a>
     ensures local { result.global ≡ false }
 {
     chosen(alloc, "fates", FATES, FATES_HELP)
-}
-
-/// Whether a dump is taken.
-fn with_strings<'a>(alloc: Global) -> Arg<'a>
-    ensures rule { rule_of result ≡ with_strings_rule }
-    ensures local { result.global ≡ false }
-{
-    flag(alloc, "with-strings", WITH_STRINGS_HELP)
-}
-
-/// Whether a log is written.
-fn log<'a>(alloc: Global) -> Arg<'a>
-    ensures rule { rule_of result ≡ log_rule }
-    ensures local { result.global ≡ false }
-{
-    flag(alloc, "log", LOG_HELP)
 }

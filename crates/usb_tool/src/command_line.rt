@@ -1,12 +1,12 @@
 //! What the words of the command line ask for.
-ghost use Rattle.std.specs.Prelude.{◌≡◌, IfOk};
+ghost use Rattle.std.specs.Prelude.{◌≡◌, IfOk, Some, codes};
 ghost use Rattle.clap.specs.Words.{fault_of, found_of, rows_of, subcommand_of, subcommand_rows_of};
 ghost use Rattle.clap.specs.Kinds.{FailsBy};
-ghost use Rattle.usb_tool.specs.CommandLine.{Asks, HasFlags, HasTexts, is_given, text_of, usbdesc_app, word_texts};
+ghost use Rattle.usb_tool.specs.CommandLine.{Asks, HasFlags, HasTexts, flags_of, gives, is_given, text_of, usbdesc_app, word_texts};
 ghost use Rattle.usb_tool.specs.inside.Choosing.{NamesCommand};
 
 use crate::clap_command::usbdesc;
-use crate::enumerate_options::Options;
+use crate::enumerate_options::{EnumerateFlags, Options};
 use crate::explain_options::Explaining;
 use clap::{ArgMatches, Error};
 use std::alloc::Global;
@@ -20,10 +20,18 @@ pub enum Line<'a> {
     Check,
     /// The bytes of the file whose listing is the input.
     Build,
-    /// What the descriptors of the input mean, in words.
-    Explain(Explaining<'a>),
     /// What a host reads of a device that has the descriptors of the file that is the input.
     Enumerate(Options<'a>),
+    /// `show --any`: the listing of the set, the file or the dump that is the input.
+    ShowAny,
+    /// `check --any`: what breaks a rule in the set, the file or the dump that is the input.
+    CheckAny,
+    /// `build --comments`: the bytes of the file whose listing, with comments, is the input.
+    BuildCommented,
+    /// What the descriptors of the input mean, in words.
+    Explain(Explaining<'a>),
+    /// `enumerate` with at least one of these flags.
+    EnumerateWith(Options<'a>, EnumerateFlags),
 }
 
 /// What the words ask for, of which the first is the program's name.
@@ -31,6 +39,11 @@ pub enum Line<'a> {
 /// ```rust
 /// let words = vec![in alloc; String::from_str(alloc, "usbdesc")?, String::from_str(alloc, "build")?]?;
 /// assert_eq!(rt; read_line(alloc, &words)?, Line::Build);
+///
+/// let words = vec![in alloc; String::from_str(alloc, "usbdesc")?, String::from_str(alloc, "enumerate")?,
+///     String::from_str(alloc, "--naks")?, String::from_str(alloc, "2")?]?;
+/// let options = Options { speed: None, address: None, naks: Some("2"), attempts: None, fates: None };
+/// assert_eq!(rt; read_line(alloc, &words)?, Line::Enumerate(options));
 /// ```
 ///
 /// # Errors
@@ -60,12 +73,54 @@ fn line_of<'a>(matches: &ArgMatches<'a>) -> Line<'a>
     ensures { Asks result (subcommand_rows_of matches.now) }
 {
     match matches.subcommand() {
-        Some((name, _)) if name == "show" => Line::Show,
-        Some((name, _)) if name == "check" => Line::Check,
-        Some((name, _)) if name == "build" => Line::Build,
+        Some((name, options)) if name == "show" => show_of(options),
+        Some((name, options)) if name == "check" => check_of(options),
+        Some((name, options)) if name == "build" => build_of(options),
         Some((name, options)) if name == "explain" => Line::Explain(explaining_of(options)),
-        Some((name, options)) if name == "enumerate" => Line::Enumerate(options_of(options)),
+        Some((name, options)) if name == "enumerate" => enumerate_of(options),
         _ => unreachable!(),
+    }
+}
+
+fn show_of<'a>(matches: &ArgMatches<'a>) -> Line<'a>
+    ensures { Asks result (Some (codes "show", rows_of (found_of matches.now))) }
+{
+    if has_flag(matches, "any") {
+        Line::ShowAny
+    } else {
+        Line::Show
+    }
+}
+
+fn check_of<'a>(matches: &ArgMatches<'a>) -> Line<'a>
+    ensures { Asks result (Some (codes "check", rows_of (found_of matches.now))) }
+{
+    if has_flag(matches, "any") {
+        Line::CheckAny
+    } else {
+        Line::Check
+    }
+}
+
+fn build_of<'a>(matches: &ArgMatches<'a>) -> Line<'a>
+    ensures { Asks result (Some (codes "build", rows_of (found_of matches.now))) }
+{
+    if has_flag(matches, "comments") {
+        Line::BuildCommented
+    } else {
+        Line::Build
+    }
+}
+
+fn enumerate_of<'a>(matches: &ArgMatches<'a>) -> Line<'a>
+    ensures { Asks result (Some (codes "enumerate", rows_of (found_of matches.now))) }
+{
+    let options = options_of(matches);
+    let flags = flags_of(matches);
+    if flags.log || flags.with_strings {
+        Line::EnumerateWith(options, flags)
+    } else {
+        Line::Enumerate(options)
     }
 }
 
@@ -73,12 +128,28 @@ fn explaining_of<'a>(matches: &ArgMatches<'a>) -> Explaining<'a>
     ensures { HasFlags result (rows_of (found_of matches.now)) }
 {
     Explaining {
-        brief: is_given(matches.get_str("brief")),
-        no_places: is_given(matches.get_str("no-places")),
-        utf8: is_given(matches.get_str("utf8")),
-        hex: is_given(matches.get_str("hex")),
+        brief: has_flag(matches, "brief"),
+        no_places: has_flag(matches, "no-places"),
+        utf8: has_flag(matches, "utf8"),
+        hex: has_flag(matches, "hex"),
         speed: matches.get_str("speed"),
     }
+}
+
+fn flags_of(matches: &ArgMatches<'_>) -> EnumerateFlags
+    ensures { result ≡ flags_of (rows_of (found_of matches.now)) }
+{
+    EnumerateFlags {
+        log: has_flag(matches, "log"),
+        with_strings: has_flag(matches, "with-strings"),
+    }
+}
+
+/// Whether the flag of this name was given.
+fn has_flag(matches: &ArgMatches<'_>, name: &str) -> bool
+    ensures { result ≡ gives name.now (rows_of (found_of matches.now)) }
+{
+    is_given(matches.get_str(name))
 }
 
 /// Whether a flag was given, whose text this is.
@@ -97,7 +168,5 @@ fn options_of<'a>(matches: &ArgMatches<'a>) -> Options<'a>
         naks: matches.get_str("naks"),
         attempts: matches.get_str("attempts"),
         fates: matches.get_str("fates"),
-        log: is_given(matches.get_str("log")),
-        with_strings: is_given(matches.get_str("with-strings")),
     }
 }

@@ -1,6 +1,6 @@
 //! The options of `enumerate`, as they are written.
 
-/// The options of `enumerate`: the text of each one that has a value, or `None` where the words lack it, and the flags.
+/// The options of `enumerate` that have a value: the text of each one, or `None` where the words lack it.
 #[derive(Clone, Copy, Debug, PartialEq, Eq, Hash)]
 pub struct Options<'a> {
     /// The name of a speed.
@@ -13,6 +13,11 @@ pub struct Options<'a> {
     pub attempts: Option<&'a str>,
     /// A letter for the fate of each transaction.
     pub fates: Option<&'a str>,
+}
+
+/// The flags of `enumerate`: what it does beside.
+#[derive(Clone, Copy, Debug, PartialEq, Eq, Hash)]
+pub struct EnumerateFlags {
     /// Whether a log of the transactions is asked for.
     pub log: bool,
     /// Whether a dump is taken, with a text in each place that names a string.

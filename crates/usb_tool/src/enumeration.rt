@@ -1,37 +1,37 @@
 //! The command `enumerate`.
 ghost use Rattle.std.specs.Prelude.{◌≢◌, ◌++◌, IfErr, IfOk};
 ghost use Rattle.usb_listing.specs.Listing.{file_lines};
-ghost use Rattle.usb_tool.specs.Enumerations.{EnumerateFails, Enumerated, IsNotTaken, IsTaken, RefusesToEnumerate, WritesResult, run_status, run_text};
+ghost use Rattle.usb_tool.specs.CommandLine.{no_flags};
+ghost use Rattle.usb_tool.specs.Enumerations.{EnumerateFails, Enumerated, IsNotTaken, IsTaken, RefusesToEnumerate, WritesResult, run_status, run_text, under};
 ghost use Rattle.usb_tool.specs.ResultLines.{refused_line, success_line, trouble_line};
 ghost use Rattle.usb_tool.specs.inside.Telling.{BreaksRun, EndsWith, IsCutShort, MakesRun};
 ghost use Rattle.usb_file.specs.declared.fault.FileWhy.TheVariants as files;
 
+use crate::enumerate_options::EnumerateFlags;
 use crate::fault::ToolFault;
 use crate::input::read_all;
 use crate::output::write_flushed;
 use crate::result_line::{RefusedLine, SuccessLine, TroubleLine};
-use crate::settings::Settings;
 use std::alloc::Global;
 use std::io::{Read, Write};
-use usb_description::{Description, DescriptionFault};
-use usb_enumeration::{Run, enumerate, enumerate_logged};
+use usb_bus::{Fate, Run, enumerate, enumerate_logged};
+use usb_device::{Description, DescriptionFault};
+use usb_fields::Speed;
 use usb_file::{DescriptorFile, FILE_LIMIT, FileFault, read_completed, read_file};
-use usb_host::Trouble;
-use usb_listing::{list, write_all};
+use usb_host::{Limits, Trouble};
+use usb_listing::list;
+use usb_text::write_all;
 
-/// Reads a descriptor file, or where the settings say so a dump, to its end, and enumerates a device that has these
-/// descriptors. It writes
-/// a line of what came of that, and after success the listing of the file that the host has read. Where the settings ask
-/// for a log, a line for each bus reset, each transfer and each transaction comes before, as soon as it is done. The
-/// number in `Ok` is 0 after success. It is 1 where the enumeration had trouble, and where no device of the speed can
-/// have the descriptors.
+/// Reads a descriptor file to its end, and enumerates a device of this speed that has these descriptors, over a bus with
+/// these fates. It writes a line of what came of that, and after success the listing of the file that the host has read.
+/// The number in `Ok` is 0 after success. It is 1 where the enumeration had trouble, and where no device of this speed
+/// can have the descriptors.
 ///
 /// ```rust
 /// let mut input: &[u8] = &[18, 1, 0, 2, 0, 0, 0, 64, 0x34, 0x12, 0x78, 0x56, 0, 1, 0, 0, 0, 0];
 /// let mut lines = Vec::new(alloc);
-/// let fates = Vec::new(alloc);
-/// let settings = Settings { limits: Limits::new(1, 16, 3)?, speed: Speed::Full, fates, log: false, with_strings: false };
-/// assert_eq!(rt; run_enumerate(alloc, &mut input, &mut lines, &settings)?, 1);
+/// let limits = Limits::new(1, 16, 3)?;
+/// assert_eq!(rt; run_enumerate(alloc, &mut input, &mut lines, limits, Speed::Full, &[])?, 1);
 /// // A device has a configuration.
 /// assert_eq!(rt; lines.as_slice(), b"refused 1 V10 main 0 0 0\n");
 /// ```
@@ -40,21 +40,57 @@ use usb_listing::{list, write_all};
 ///
 /// `Read` where the reader failed, `TooLarge` at the first byte over [`FILE_LIMIT`], and `File` with the fault of
 /// the whole input. Nothing is written then. `Write` where the writer or its flush failed; a prefix of the text is
-/// written then, and may be all of it. `Memory` when out of memory, but for one of the host, which is a trouble
-/// of the enumeration; at least the last byte of the text is not written then. Where one of these comes within the log,
-/// the enumeration goes no further: the log was written up to a step, and of that step's lines a prefix, or nothing
-/// out of memory.
+/// written then, and may be all of it. `Memory` if an allocation fails outside the host, and in the host it is the outcome
+/// of the enumeration; at least the last byte of the text is not written then.
 pub fn run_enumerate<R: Read, W: Write>(
     alloc: Global,
     r: &mut R,
     w: &mut W,
-    settings: &Settings,
+    l: Limits,
+    s: Speed,
+    fates: &[Fate],
 ) -> Result<u8, ToolFault>
-    ensures enumerated { IfOk result (Enumerated settings.now (R.remaining r.old) (R.remaining r.new) (W.contents w.old) (W.contents w.new)) }
-    ensures err { IfErr result (EnumerateFails settings.now (R.remaining r.old) (R.remaining r.new) (W.contents w.old) (W.contents w.new)) }
+    ensures enumerated { IfOk result (Enumerated (under l s fates.now no_flags) (R.remaining r.old) (R.remaining r.new) (W.contents w.old) (W.contents w.new)) }
+    ensures err { IfErr result (EnumerateFails (under l s fates.now no_flags) (R.remaining r.old) (R.remaining r.new) (W.contents w.old) (W.contents w.new)) }
+{
+    let flags = EnumerateFlags {
+        log: false,
+        with_strings: false,
+    };
+    run_enumerate_with(alloc, r, w, l, s, fates, flags)
+}
+
+/// The same with these flags: where they say so a dump is taken too, and a log is written, of which a line for each bus
+/// reset, each transfer and each transaction comes before the result, as soon as it is done.
+///
+/// ```rust
+/// let mut dump: &[u8] = &[18, 1, 0, 2, 0, 0, 0, 64, 0x34, 0x12, 0x78, 0x56, 0, 1, 1, 0, 0, 0];
+/// let mut lines = Vec::new(alloc);
+/// let limits = Limits::new(1, 16, 3)?;
+/// let flags = EnumerateFlags { log: false, with_strings: true };
+/// assert_eq!(rt; run_enumerate_with(alloc, &mut dump, &mut lines, limits, Speed::Full, &[], flags)?, 1);
+/// // A device has a configuration.
+/// assert_eq!(rt; lines.as_slice(), b"refused 1 V10 main 0 0 0\n");
+/// ```
+///
+/// # Errors
+///
+/// Those of [`run_enumerate`]. Where one comes within the log, the enumeration goes no further: the log was written up to
+/// a step, and of that step's lines a prefix, or nothing out of memory.
+pub fn run_enumerate_with<R: Read, W: Write>(
+    alloc: Global,
+    r: &mut R,
+    w: &mut W,
+    l: Limits,
+    s: Speed,
+    fates: &[Fate],
+    flags: EnumerateFlags,
+) -> Result<u8, ToolFault>
+    ensures enumerated { IfOk result (Enumerated (under l s fates.now flags) (R.remaining r.old) (R.remaining r.new) (W.contents w.old) (W.contents w.new)) }
+    ensures err { IfErr result (EnumerateFails (under l s fates.now flags) (R.remaining r.old) (R.remaining r.new) (W.contents w.old) (W.contents w.new)) }
 {
     let bytes = read_all(alloc, r, FILE_LIMIT)?;
-    enumerate_bytes(alloc, &bytes, w, settings)
+    enumerate_bytes(alloc, &bytes, w, l, s, fates, flags)
 }
 
 /// Writes what comes of the file that the bytes are, and flushes the writer.
@@ -62,13 +98,16 @@ fn enumerate_bytes<W: Write>(
     alloc: Global,
     bytes: &[u8],
     w: &mut W,
-    settings: &Settings,
+    l: Limits,
+    s: Speed,
+    fates: &[Fate],
+    flags: EnumerateFlags,
 ) -> Result<u8, ToolFault>
-    ensures ok { IfOk result (WritesResult settings.now bytes.now (W.contents w.old) (W.contents w.new)) }
-    ensures err { IfErr result (RefusesToEnumerate settings.now bytes.now (W.contents w.old) (W.contents w.new)) }
+    ensures ok { IfOk result (WritesResult (under l s fates.now flags) bytes.now (W.contents w.old) (W.contents w.new)) }
+    ensures err { IfErr result (RefusesToEnumerate (under l s fates.now flags) bytes.now (W.contents w.old) (W.contents w.new)) }
 {
-    let file = file_of(alloc, bytes, settings.with_strings)?;
-    let description = match Description::new(alloc, file, settings.speed) {
+    let file = file_of(alloc, bytes, flags.with_strings)?;
+    let description = match Description::new(alloc, file, s) {
         Ok(description) => description,
         Err(fault) => {
             if fault == DescriptionFault::Memory {
@@ -77,7 +116,7 @@ fn enumerate_bytes<W: Write>(
             return tell_refusal(alloc, fault, w);
         }
     };
-    let run = run_over(alloc, &description, settings, w)?;
+    let run = run_over(alloc, &description, l, fates, flags, w)?;
     tell_run(alloc, &run, w)
 }
 
@@ -97,17 +136,19 @@ fn file_of(alloc: Global, bytes: &[u8], with_strings: bool) -> Result<Descriptor
 fn run_over<W: Write>(
     alloc: Global,
     d: &Description,
-    settings: &Settings,
+    l: Limits,
+    fates: &[Fate],
+    flags: EnumerateFlags,
     w: &mut W,
 ) -> Result<Run, ToolFault>
-    ensures ok { IfOk result (MakesRun (record settings.now { speed = d.now.speed }) d.now.file (W.contents w.old) (W.contents w.new)) }
-    ensures err { IfErr result (BreaksRun (record settings.now { speed = d.now.speed }) d.now.file (W.contents w.old) (W.contents w.new)) }
+    ensures ok { IfOk result (MakesRun (under l d.now.speed fates.now flags) d.now.file (W.contents w.old) (W.contents w.new)) }
+    ensures err { IfErr result (BreaksRun (under l d.now.speed fates.now flags) d.now.file (W.contents w.old) (W.contents w.new)) }
 {
-    if settings.log {
-        let run = enumerate_logged(alloc, d, settings.limits, &settings.fates, w)?;
+    if flags.log {
+        let run = enumerate_logged(alloc, d, l, fates, w)?;
         Ok(run)
     } else {
-        Ok(enumerate(alloc, d, settings.limits, &settings.fates))
+        Ok(enumerate(alloc, d, l, fates))
     }
 }
 

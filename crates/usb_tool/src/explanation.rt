@@ -3,7 +3,7 @@ ghost use Rattle.std.specs.Prelude.{◌≡◌, ◌++◌, IfErr, IfOk, OnErr, OnO
 ghost use Rattle.std.specs.Io.KnownBytes.{Appends};
 ghost use Rattle.usb_explain.specs.Explanations.{broken_explanation, explanation};
 ghost use Rattle.usb_file.specs.Inputs.{InputRefused, IsInput};
-ghost use Rattle.usb_listing.specs.Output.{AppendsLess};
+ghost use Rattle.usb_text.specs.Output.{AppendsLess};
 ghost use Rattle.usb_tool.specs.Endings.{Writes};
 ghost use Rattle.usb_tool.specs.Explains.{ExplainFails, Explained, NoInputIsHexadecimal, RefusesText, RefusesToExplain, SaysLineOfFault, TellsExplanation, TellsText, hexadecimal_words};
 ghost use Rattle.usb_tool.specs.inside.Telling.{IsCutShort};
@@ -15,9 +15,7 @@ use std::alloc::{AllocError, Global};
 use std::io::{Read, Write};
 use usb_explain::{Manner, explain, explain_broken};
 use usb_file::{FILE_LIMIT, Input, InputFault, read_input};
-use usb_hex_text::{HexFault, parse};
-use usb_listing::{OutFault, write_all};
-use usb_text::{Text, put_count};
+use usb_text::{HexFault, OutFault, Text, parse, put_count, write_all};
 
 /// Reads the input to its end, and writes what its descriptors mean, in words. The input is one configuration set, a
 /// descriptor file or a dump, as that of [`run_show`](crate::run_show) is, or the hexadecimal text of one, which the first
@@ -143,7 +141,7 @@ fn explain_input<W: Write>(
 }
 
 /// Writes a heading and the explanation of the input that the bytes are.
-#[tactic(auto, using(usb_listing::proofs::Pages::front_longer, usb_listing::proofs::Pages::appends_more, crate::proofs::Telling::less_after))]
+#[tactic(auto, using(usb_text::proofs::Pages::front_longer, usb_text::proofs::Pages::appends_more, crate::proofs::Telling::less_after))]
 fn write_explained<W: Write>(
     alloc: Global,
     heading: &[u8],
@@ -199,7 +197,7 @@ fn explain_front<W: Write>(
 }
 
 /// Writes a heading and the explanation of bytes with this fault, as far as they go.
-#[tactic(auto, using(usb_listing::proofs::Pages::front_longer, usb_listing::proofs::Pages::appends_more, crate::proofs::Telling::less_after))]
+#[tactic(auto, using(usb_text::proofs::Pages::front_longer, usb_text::proofs::Pages::appends_more, crate::proofs::Telling::less_after))]
 fn write_broken<W: Write>(
     alloc: Global,
     heading: &[u8],

@@ -7,9 +7,9 @@ use std::alloc::AllocError;
 use std::error::Error;
 use std::fmt;
 use usb_file::{FileFault, FileWhy, InputFault};
-use usb_listing::OutFault;
-use usb_listing_reader::{ListFault, ListWhy};
+use usb_listing::{ListFault, ListWhy};
 use usb_set::{SetFault, SetWhy};
+use usb_text::OutFault;
 
 /// Why a command did not do its work.
 ///

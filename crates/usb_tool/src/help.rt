@@ -8,7 +8,7 @@ pub(crate) const VERSION: &str = "0.1.0";
 
 /// What `show` does.
 pub(crate) const SHOW_ABOUT: &str =
-    "Lists the configuration set, descriptor file or dump on standard input, a line for each descriptor";
+    "Lists the configuration set or descriptor file on standard input, a line for each descriptor";
 
 /// The text after the help of `show`.
 pub(crate) const SHOW_HELP: &str = "\
@@ -16,10 +16,11 @@ Input:
   One configuration set where the second byte is 2 or 7: what a device answers when it is
   asked for a configuration. Else a descriptor file: the device descriptor, its configuration
   sets, a qualifier and its other-speed sets where there is another speed, and where a string
-  is named the languages and the strings. Or a dump: the device descriptor and its
-  configuration sets alone, as Linux gives them in /sys/bus/usb/devices/*/descriptors.
+  is named the languages and the strings.
 
 Dumps:
+  With --any a dump is taken too: the device descriptor and its configuration sets alone, as
+  Linux gives them in /sys/bus/usb/devices/*/descriptors.
   Linux lowers bNumConfigurations where it could not read a set, and gives only the prefix of
   a set that it could parse, while the set keeps its own wTotalLength. So the dump of a broken
   device ends early (file fault 6 at its end), or runs into the next set (file fault 2).
@@ -50,16 +51,20 @@ Exit status:
   2  the command line is invalid
   3  reading, the input or writing is at fault; standard error says how";
 
+/// What `--any` of `show` says.
+pub(crate) const SHOW_ANY_HELP: &str = "Takes a dump too";
+
 /// What `check` does.
 pub(crate) const CHECK_ABOUT: &str =
-    "Checks the set, descriptor file or dump on standard input by the rules of chapter 9, a line for each finding";
+    "Checks the descriptor file on standard input by the rules of chapter 9, a line for each finding";
 
 /// The text after the help of `check`.
 pub(crate) const CHECK_HELP: &str = "\
 Input:
-  A configuration set, a descriptor file or a dump, as of 'show'. A set alone is the main
-  part, or the other part where it is an other-speed configuration. V11 does not apply to it.
-  In a dump with bcdUSB 0300 or above V11 requires a bMaxPacketSize0 of 9.
+  A descriptor file, as of 'show'. With --any also a configuration set alone or a dump. A set
+  alone is the main part, or the other part where it is an other-speed configuration; V11
+  does not apply to it. In a dump with bcdUSB 0300 or above V11 requires a bMaxPacketSize0
+  of 9.
 
 Rules:
   V1   bNumInterfaces is not the count of distinct interface numbers
@@ -82,6 +87,9 @@ Exit status:
   2  the command line is invalid
   3  reading, the input or writing is at fault; standard error says how";
 
+/// What `--any` of `check` says.
+pub(crate) const CHECK_ANY_HELP: &str = "Takes a configuration set alone or a dump too";
+
 /// What `build` does.
 pub(crate) const BUILD_ABOUT: &str =
     "Builds the bytes of the descriptor file whose listing is on standard input";
@@ -90,8 +98,8 @@ pub(crate) const BUILD_ABOUT: &str =
 pub(crate) const BUILD_HELP: &str = "\
 Input:
   The listing of a descriptor file, as 'show' writes it: a line for each descriptor, in the
-  order of the file. It may have been written or changed by hand: a line that is empty or
-  begins with '#' is dropped, and a carriage return at the end of a line.
+  order of the file. With --comments it may have been written or changed by hand: a line that
+  is empty or begins with '#' is dropped, and a carriage return at the end of a line.
 
 Faults of a listing, 'usbdesc: listing fault N line LINE', the first line being 1:
   1  no whole line of printable text
@@ -107,6 +115,10 @@ Exit status:
   3  reading, the listing or writing is at fault; standard error says how, and of a listing
      the number of the fault and the first line at fault";
 
+/// What `--comments` says.
+pub(crate) const COMMENTS_HELP: &str =
+    "Drops comments, empty lines, and carriage returns at the ends of lines";
+
 /// What `explain` does.
 pub(crate) const EXPLAIN_ABOUT: &str =
     "Explains the set, descriptor file or dump on standard input in words, a heading for each descriptor";
@@ -114,7 +126,7 @@ pub(crate) const EXPLAIN_ABOUT: &str =
 /// The text after the help of `explain`.
 pub(crate) const EXPLAIN_HELP: &str = "\
 Input:
-  A configuration set, a descriptor file or a dump, as of 'show'. One that is broken is
+  A configuration set, a descriptor file or a dump, as of 'show --any'. One that is broken is
   explained up to its fault.
   Or hexadecimal text, which no such input is: digits alone or as 0x09 and \\x09, with white
   space and commas, or as xxd, 'hexdump -C' and Wireshark write it. The first line says so.

@@ -1,30 +1,32 @@
 //! The commands of the program `usbdesc`, over any reader and writer.
 //!
-//! [`run_show`] reads a configuration set, a descriptor file or a dump to the end of its input and writes its
+//! [`run_show`] reads a configuration set or a descriptor file to the end of its input and writes its
 //! listing, a line for each descriptor. Its contract speaks of the bytes that the reader has and of
 //! those that the writer gains, where the two state them: `specs/Shows.antt` says what it does, fault by
 //! fault. What each line says is in the crate `usb_listing`. [`run_check`] writes what breaks a rule of
-//! chapter 9 in such an input (`specs/Checks.antt`), and [`run_build`] reads a listing and writes the bytes of its file
-//! (`specs/Builds.antt`). [`run_explain`] writes what the descriptors of an input mean, in words, also where it
-//! is the hexadecimal text of one (`specs/Explains.antt`).
+//! chapter 9 in a file (`specs/Checks.antt`), and [`run_build`] reads a listing and writes the bytes of its file
+//! (`specs/Builds.antt`). [`run_show_any`] and [`run_check_any`] take a set alone, a file or a dump, and
+//! [`run_build_commented`] a listing with comments. [`run_explain`] writes what the descriptors of any of these inputs
+//! mean, in words, also where it is the hexadecimal text of one (`specs/Explains.antt`).
 //! [`run_enumerate`] enumerates a device that has the descriptors of a file, over a bus that loses
-//! packets and handshakes, and writes what came of that (`specs/Enumerations.antt`), and a log of it where one is asked
-//! for, whose lines are in the crate `usb_enumeration`.
+//! packets and handshakes, and writes what came of that (`specs/Enumerations.antt`). [`run_enumerate_with`] takes a dump
+//! too where it is asked to, and writes a log, whose lines are in the crate `usb_bus`.
 //!
 //! [`run`] is the whole program over any standard streams: [`read_line`] reads its command line,
-//! [`ToolFault`] says why a command failed, and [`verdict`] gives the exit status. What a run does is
-//! `specs/Runs.antt`. Where its words could not be taken, [`refuse_words`] gives the line for standard error and
-//! the status.
+//! [`ToolFault`] says why a command failed, and [`verdict`] gives the exit status. What a run does, and says on
+//! standard error, is `specs/Runs.antt`. Where its words could not be taken, [`refuse_words`] gives the line for
+//! standard error and the status.
 //!
-//! [`read_line`] asks `clap` what the words ask for. Its [`Line`] is a command, and of `enumerate` it has the
-//! [`Options`], which are the texts of its options, and of `explain` [`Explaining`]. Its contract is exact both ways:
-//! the line is that of `clap`'s function of the words, and each fault is `clap`'s own (`specs/CommandLine.antt`).
+//! [`read_line`] asks `clap` what the words ask for. Its [`Line`] is a command, with a variant of its own where a flag
+//! has it do more. Of `enumerate` it has the [`Options`], which are the texts of its options, and the [`EnumerateFlags`]
+//! where one is given; of `explain` [`Explaining`]. Its contract is exact both ways: the line is that of `clap`'s
+//! function of the words, and each fault is `clap`'s own (`specs/CommandLine.antt`).
 //! [`settings_of`] makes the [`Settings`] of an enumeration of these texts, with what holds where an option is
 //! absent (`specs/Settings.antt`). It reads the numbers, and [`read_speed`] and [`read_fates`] the other two
 //! (`specs/OptionValues.antt`). [`manner_of`] says what the options of `explain` mean (`specs/Manners.antt`).
 //!
 //! [`converse`] makes control transfers between a host and a device over a bus that loses packets and handshakes.
-//! It takes the description of the device (crate `usb_description`), how many NAKs the host retries, the requests
+//! It takes the description of the device (crate `usb_device`), how many NAKs the host retries, the requests
 //! (`Setup` of `usb_fields`) and a [`Fate`] for each transaction. Its answer is a [`Talk`], with a [`Reply`] for
 //! each request that was completed. It and its [`laws`] are in the crate `usb_bus`.
 #![tactic(auto)]
@@ -39,22 +41,26 @@ mod explain_options;
 mod explanation;
 mod fates;
 mod fault;
+mod fault_line;
 mod help;
 mod input;
+mod intake;
 mod manner;
 mod output;
 mod program;
 mod refused_words;
 mod result_line;
+mod set_intake;
 mod settings;
 mod show;
 mod speed;
+mod taking;
 
-pub use build::run_build;
-pub use check::run_check;
+pub use build::{run_build, run_build_commented};
+pub use check::{run_check, run_check_any};
 pub use command_line::{Line, read_line};
-pub use enumerate_options::Options;
-pub use enumeration::run_enumerate;
+pub use enumerate_options::{EnumerateFlags, Options};
+pub use enumeration::{run_enumerate, run_enumerate_with};
 pub use explain_options::Explaining;
 pub use explanation::{
     an_explanation_says_the_line_of_its_fault, no_input_is_hexadecimal_text, run_explain,
@@ -65,10 +71,9 @@ pub use manner::{manner_of, read_running_speed};
 pub use program::run;
 pub use refused_words::refuse_words;
 pub use settings::{Settings, SettingsFault, settings_of};
-pub use show::run_show;
+pub use show::{run_show, run_show_any};
 pub use speed::read_speed;
-pub use usb_bus::{Fate, Reply, Talk, converse, laws};
-pub use usb_enumeration;
-pub use usb_enumeration::{Run, enumerate};
+pub use usb_bus;
+pub use usb_bus::{Fate, Reply, Run, Talk, converse, enumerate, laws};
 pub use usb_explain::{Look, Manner, SetSpeed};
 pub use usb_listing::LISTING_LIMIT;

@@ -1,11 +1,11 @@
 //! Writing an output to its end.
 ghost use Rattle.std.specs.Prelude.{◌≡◌, IfErr, OnErr, OnOk};
 ghost use Rattle.std.specs.Io.KnownBytes.{Appends, Keeps};
-ghost use Rattle.usb_listing.specs.Output.{AppendsFront};
+ghost use Rattle.usb_text.specs.Output.{AppendsFront};
 
 use crate::fault::ToolFault;
 use std::io::Write;
-use usb_listing::write_all;
+use usb_text::write_all;
 
 /// Writes all of the bytes, and flushes the writer.
 ///

@@ -1,32 +1,38 @@
 //! What the program does, from the words of its command line to its exit status.
 ghost use Rattle.std.specs.Prelude.{◌≡◌};
-ghost use Rattle.clap.specs.Values.{kind_of};
-ghost use Rattle.usb_tool.specs.Faults.{status_of};
-ghost use Rattle.usb_tool.specs.Runs.{EndsEnumeration, EndsExplanation, EndsLine, KeepsUnlessHelp, Runs, line_status};
-ghost use Rattle.usb_tool.specs.OptionFaults.{settings_status};
+ghost use Rattle.usb_tool.specs.CommandLine.{no_flags};
+ghost use Rattle.usb_tool.specs.Faults.{fault_line, status_of};
+ghost use Rattle.usb_tool.specs.Runs.{Answers, EndsEnumeration, EndsExplanation, EndsLine, Runs, TellsLine, TellsOutcome, line_status};
+ghost use Rattle.usb_tool.specs.OptionFaults.{settings_line, settings_status};
 
-use crate::build::run_build;
-use crate::check::run_check;
+use crate::build::{run_build, run_build_commented};
+use crate::check::{run_check, run_check_any};
 use crate::command_line::{Line, read_line};
-use crate::enumerate_options::Options;
-use crate::enumeration::run_enumerate;
+use crate::enumerate_options::{EnumerateFlags, Options};
+use crate::enumeration::run_enumerate_with;
 use crate::explain_options::Explaining;
 use crate::explanation::run_explain;
 use crate::fault::{ToolFault, verdict};
+use crate::fault_line::tell_line;
 use crate::manner::manner_of;
 use crate::settings::{SettingsFault, settings_of};
-use crate::show::run_show;
-use clap::Error;
+use crate::show::{run_show, run_show_any};
+use clap::error::ErrorKind;
 use std::alloc::Global;
 use std::io::{Read, Write};
+use usb_text::write_all;
 
 /// The exit status of a command line that asks for nothing that the program does.
 const USAGE: u8 = 2;
 
+/// What is said where memory is wanting before there is a command, as `clap` has it.
+const NO_MEMORY: &str = "error: out of memory\n";
+
 /// Carries out what the words ask for, of which the first is the program's name: `r` is standard input, `w`
 /// standard output and `e` standard error. The result is the exit status: 0 where the command did its work
 /// or help was asked for, 1 where `check` did and has a finding or `enumerate` did without success, 2 where the words
-/// are no command or an option says nothing, and 3 where the command failed. The line of its fault is then written to `e`. What cannot be written to `e` is lost.
+/// are no command or an option says nothing, and 3 where the command failed. The line of its fault is then written to `e`,
+/// and nothing else ever is but what `clap` says of words that are no command. What cannot be written to `e` is lost.
 ///
 /// ```rust
 /// let words = vec![in alloc; String::from_str(alloc, "usbdesc")?, String::from_str(alloc, "build")?]?;
@@ -42,11 +48,14 @@ pub fn run<R: Read, W: Write, E: Write>(
     w: &mut W,
     e: &mut E,
 ) -> u8
-    ensures { Runs words.now (R.remaining r.old) (R.remaining r.new) (W.contents w.old) (W.contents w.new) result }
+    ensures { Runs words.now (R.remaining r.old) (R.remaining r.new) (W.contents w.old) (W.contents w.new) (E.contents e.old) (E.contents e.new) result }
 {
     match read_line(alloc, words) {
         Ok(line) => carry_out(alloc, &line, r, w, e),
-        Err(error) => tell_refusal(&error, w, e),
+        Err(error) => match error.to_string(alloc) {
+            Ok(text) => tell_refusal(error.kind(), text.as_str(), w, e),
+            Err(_) => tell_refusal(ErrorKind::OutOfMemory, NO_MEMORY, w, e),
+        },
     }
 }
 
@@ -59,14 +68,18 @@ fn carry_out<R: Read, W: Write, E: Write>(
     w: &mut W,
     e: &mut E,
 ) -> u8
-    ensures { EndsLine line.now (R.remaining r.old) (R.remaining r.new) (W.contents w.old) (W.contents w.new) result }
+    ensures { EndsLine line.now (R.remaining r.old) (R.remaining r.new) (W.contents w.old) (W.contents w.new) (E.contents e.old) (E.contents e.new) result }
 {
     match line {
         Line::Show => report(&run_show(alloc, r, w), e),
         Line::Check => report(&run_check(alloc, r, w), e),
         Line::Build => report(&run_build(alloc, r, w), e),
+        Line::Enumerate(options) => enumerate_plainly(alloc, options, r, w, e),
+        Line::ShowAny => report(&run_show_any(alloc, r, w), e),
+        Line::CheckAny => report(&run_check_any(alloc, r, w), e),
+        Line::BuildCommented => report(&run_build_commented(alloc, r, w), e),
         Line::Explain(options) => explain_with(alloc, options, r, w, e),
-        Line::Enumerate(options) => enumerate_with(alloc, options, r, w, e),
+        Line::EnumerateWith(options, flags) => enumerate_with(alloc, options, *flags, r, w, e),
     }
 }
 
@@ -79,7 +92,7 @@ fn explain_with<R: Read, W: Write, E: Write>(
     w: &mut W,
     e: &mut E,
 ) -> u8
-    ensures { EndsExplanation options.now (R.remaining r.old) (R.remaining r.new) (W.contents w.old) (W.contents w.new) result }
+    ensures { EndsExplanation options.now (R.remaining r.old) (R.remaining r.new) (W.contents w.old) (W.contents w.new) (E.contents e.old) (E.contents e.new) result }
 {
     match manner_of(options) {
         Ok(manner) => report(&run_explain(alloc, r, w, manner, options.hex), e),
@@ -87,50 +100,79 @@ fn explain_with<R: Read, W: Write, E: Write>(
     }
 }
 
-/// Enumerates as the options say. What is wrong with them is reported before anything is read.
-fn enumerate_with<R: Read, W: Write, E: Write>(
+/// Enumerates as the options say, without a flag.
+fn enumerate_plainly<R: Read, W: Write, E: Write>(
     alloc: Global,
     options: &Options<'_>,
     r: &mut R,
     w: &mut W,
     e: &mut E,
 ) -> u8
-    ensures { EndsEnumeration options.now (R.remaining r.old) (R.remaining r.new) (W.contents w.old) (W.contents w.new) result }
+    ensures { EndsEnumeration options.now no_flags (R.remaining r.old) (R.remaining r.new) (W.contents w.old) (W.contents w.new) (E.contents e.old) (E.contents e.new) result }
+{
+    let flags = EnumerateFlags {
+        log: false,
+        with_strings: false,
+    };
+    enumerate_with(alloc, options, flags, r, w, e)
+}
+
+/// Enumerates as the options and the flags say. What is wrong with them is reported before anything is read.
+fn enumerate_with<R: Read, W: Write, E: Write>(
+    alloc: Global,
+    options: &Options<'_>,
+    flags: EnumerateFlags,
+    r: &mut R,
+    w: &mut W,
+    e: &mut E,
+) -> u8
+    ensures { EndsEnumeration options.now flags (R.remaining r.old) (R.remaining r.new) (W.contents w.old) (W.contents w.new) (E.contents e.old) (E.contents e.new) result }
 {
     match settings_of(alloc, options) {
-        Ok(settings) => report(&run_enumerate(alloc, r, w, &settings), e),
+        Ok(settings) => {
+            let (l, s) = (settings.limits, settings.speed);
+            report(
+                &run_enumerate_with(alloc, r, w, l, s, &settings.fates, flags),
+                e,
+            )
+        },
         Err(fault) => refuse(fault, e),
     }
 }
 
 /// The exit status of options that are refused, after the line of their fault.
 fn refuse<E: Write>(fault: SettingsFault, e: &mut E) -> u8
-    ensures { result ≡ settings_status fault }
+    ensures status { result ≡ settings_status fault }
+    ensures line { TellsLine (settings_line fault) (E.contents e.old) (E.contents e.new) }
 {
-    let _ = writeln!(e, "{fault}");
+    tell_line(fault, e);
     fault.status()
 }
 
 /// The exit status of a command, after the line of its fault.
 fn report<E: Write>(outcome: &Result<u8, ToolFault>, e: &mut E) -> u8
-    ensures { result ≡ status_of outcome.now }
+    ensures status { result ≡ status_of outcome.now }
+    ensures line { TellsOutcome outcome.now (E.contents e.old) (E.contents e.new) }
 {
     if let Err(fault) = outcome {
-        let _ = writeln!(e, "{fault}");
+        tell_line(*fault, e);
     }
     verdict(outcome)
 }
 
 /// The exit status of a line that names no command, after what `clap` says of it.
-fn tell_refusal<W: Write, E: Write>(error: &Error, w: &mut W, e: &mut E) -> u8
-    ensures status { result ≡ line_status (kind_of error.now) }
-    ensures output { KeepsUnlessHelp (kind_of error.now) (W.contents w.old) (W.contents w.new) }
+fn tell_refusal<W: Write, E: Write>(kind: ErrorKind, text: &str, w: &mut W, e: &mut E) -> u8
+    ensures status { result ≡ line_status kind }
+    ensures text { Answers kind text.now (W.contents w.old) (W.contents w.new) (E.contents e.old) (E.contents e.new) }
 {
-    if error.use_stderr() {
-        let _ = write!(e, "{error}");
-        USAGE
-    } else {
-        let _ = write!(w, "{error}");
-        0
+    match kind {
+        ErrorKind::DisplayHelp | ErrorKind::DisplayVersion => {
+            let _ = write_all(w, text.as_bytes());
+            0
+        }
+        _ => {
+            let _ = write_all(e, text.as_bytes());
+            USAGE
+        }
     }
 }

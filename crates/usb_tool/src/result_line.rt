@@ -3,8 +3,8 @@ ghost use Rattle.std.specs.Prelude.{Some};
 ghost use Rattle.usb_tool.specs.ResultLines.{refused_line, success_line, trouble_line};
 
 use std::fmt;
-use usb_description::DescriptionFault;
-use usb_enumeration::Run;
+use usb_bus::Run;
+use usb_device::DescriptionFault;
 use usb_host::Trouble;
 
 /// The line of a run that succeeded: with the address and the configuration value of the device.

@@ -11,7 +11,7 @@ use std::alloc::Global;
 use std::{error, fmt};
 use usb_bus::Fate;
 use usb_fields::Speed;
-use usb_transfer::Limits;
+use usb_host::Limits;
 
 /// What an enumeration is given beside its file.
 #[derive(Debug, Drop)]
@@ -22,16 +22,12 @@ pub struct Settings {
     pub speed: Speed,
     /// What the bus does to each transaction; after the last one all arrives.
     pub fates: Vec<Fate>,
-    /// Whether a log of the transactions is asked for.
-    pub log: bool,
-    /// Whether a dump is taken, with a text in each place that names a string.
-    pub with_strings: bool,
 }
 
 /// The settings that the options give. An absent one is address 1, 16 NAKs, 3 attempts, full speed, or no fates.
 ///
 /// ```rust
-/// let options = Options { speed: Some("high"), address: None, naks: Some("2"), attempts: None, fates: None, log: false, with_strings: false };
+/// let options = Options { speed: Some("high"), address: None, naks: Some("2"), attempts: None, fates: None };
 /// let settings = settings_of(alloc, &options)?;
 /// assert_eq!(rt; settings.speed, Speed::High);
 /// assert_eq!(rt; settings.limits, Limits::new(1, 2, 3)?);
@@ -57,8 +53,6 @@ pub fn settings_of(alloc: Global, options: &Options<'_>) -> Result<Settings, Set
         limits,
         speed,
         fates,
-        log: options.log,
-        with_strings: options.with_strings,
     })
 }
 

@@ -1,4 +1,4 @@
-//! Lists USB 2.0 descriptors.
+//! Lists, checks, builds, explains and enumerates USB 2.0 descriptors.
 //!
 //! What it reads is standard input, what it writes standard output; a fault goes to standard error. What it
 //! does is `usb_tool::run`; here it gets the words of its command line and the three streams.

@@ -2,18 +2,18 @@
 use Rattle.std.specs.Prelude.{◌≡◌, ℕ, zero, suc, ◌+◌, ◌<◌, List, Option, Some, None, Result, Ok, Err, ◌==◌, if◌then◌else◌}
 use Rattle.usb_fields.specs.Packet.{Sent}
 use Rattle.usb_fields.specs.declared.setup.Setup.{Setup as SetupPacket}
-use Rattle.usb_transfer.specs.declared.why.Why.{Why}
-use Rattle.usb_transfer.specs.declared.why.Why.TheVariants.{Stalled}
-use Rattle.usb_transfer.specs.declared.stage.TransferStage.{TransferStage}
-use Rattle.usb_transfer.specs.declared.stage.TransferStage.TheVariants.{Failed}
+use Rattle.usb_host.specs.declared.why.Why.{Why}
+use Rattle.usb_host.specs.declared.why.Why.TheVariants.{Stalled}
+use Rattle.usb_host.specs.declared.stage.TransferStage.{TransferStage}
+use Rattle.usb_host.specs.declared.stage.TransferStage.TheVariants.{Failed}
 use Rattle.usb_device.specs.declared.state.State.{State}
 use Rattle.usb_device.specs.Requests.{Outcome}
 use Rattle.usb_device.specs.Step.{DeviceView}
 use Rattle.usb_bus.specs.declared.fate.Fate.{Fate}
-use Rattle.usb_transfer.specs.declared.reply.Reply.{Reply}
-use Rattle.usb_transfer.specs.declared.reply.Reply.TheVariants as replied
+use Rattle.usb_host.specs.declared.reply.Reply.{Reply}
+use Rattle.usb_host.specs.declared.reply.Reply.TheVariants as replied
 use Rattle.usb_bus.specs.Bus.{HostEnd}
-use Rattle.usb_transfer.specs.Plan.{Plan}
+use Rattle.usb_host.specs.Plan.{Plan}
 use Rattle.usb_bus.specs.Attempt.{Attempt, Running, attempt_step, advance}
 use Rattle.usb_bus.specs.Run.{fate_at, due_in}
 
@@ -35,8 +35,8 @@ AreDue plan naks answer cut fates k n x =
 
 -- From transaction `before` on, so many transactions lead from these two ends to those, whatever plan the transfer is
 -- part of, and whatever comes after.
-abbrev pub Leads : (State → SetupPacket → Outcome) → ℕ → List Fate → ℕ → HostEnd → DeviceView → ℕ → HostEnd → DeviceView → Type 0
-Leads answer cut fates before h d now h' d' =
+abbrev pub LeadsTo : (State → SetupPacket → Outcome) → ℕ → List Fate → ℕ → HostEnd → DeviceView → ℕ → HostEnd → DeviceView → Type 0
+LeadsTo answer cut fates before h d now h' d' =
     (n : ℕ) × (now ≡ before + n) × ((plan : List Reply → Plan) (naks : ℕ) (replies : List Reply) →
     let start : Attempt = record { replies = replies; phase = Running h; device = d } in
     AreDue plan naks answer cut fates before n start

@@ -1,10 +1,11 @@
 -- What holds of transfers by a plan after each transaction.
 use Rattle.std.specs.Prelude.{◌≡◌, ◌≢◌, ℕ, ◌<◌, ◌≤◌, Bool, true, ◌⊎◌, List, [], ◌∷◌, ◌++◌}
 use Rattle.usb_fields.specs.declared.setup.Setup.{Setup as SetupPacket}
-use Rattle.usb_transfer.specs.declared.why.Why.TheVariants.{NoAnswer, Busy, Stalled, TooLong, Unexpected, Malformed, Memory}
-use Rattle.usb_transfer.specs.declared.stage.TransferStage.TheVariants.{Setup}
-use Rattle.usb_transfer.specs.declared.reply.Reply.{Reply}
-use Rattle.usb_transfer.specs.Plan.{Plan, Success}
+use Rattle.usb_host.specs.declared.why.Why.TheVariants.{NoAnswer, Busy, Stalled, TooLong, Unexpected, Malformed, Memory}
+use Rattle.usb_host.specs.declared.stage.TransferStage.TheVariants.{Setup}
+use Rattle.usb_host.specs.declared.reply.Reply.{Reply}
+use Rattle.usb_host.specs.declared.reply.Reply.TheVariants as replied
+use Rattle.usb_host.specs.Plan.{Plan, Begin, Success}
 use Rattle.usb_device.specs.declared.state.State.{State}
 use Rattle.usb_device.specs.Requests.{Outcome}
 use Rattle.usb_device.specs.Step.{DeviceView, is_set_address, carried_out}
@@ -12,7 +13,7 @@ use Rattle.usb_bus.specs.declared.fate.Fate.{Fate}
 use Rattle.usb_bus.specs.Fates.{losses, busies, acks_lost}
 use Rattle.usb_bus.specs.Bus.{HostEnd}
 use Rattle.usb_bus.specs.Attempt.{Phase, Running, Succeeded, Broken, IsPlanned, proceed, attempt_run}
-use Rattle.usb_bus.specs.inside.Coupled.{Coupled}
+use Rattle.usb_bus.specs.Together.{InOneTransfer}
 
 -- for any plan, limit of NAKs, answers to requests and packet size of the device
 module _ (plan : List Reply → Plan) (naks : ℕ) (answer : State → SetupPacket → Outcome) (cut : ℕ) where
@@ -25,7 +26,7 @@ module _ (plan : List Reply → Plan) (naks : ℕ) (answer : State → SetupPack
       (is_set_address q ≡ true → todo ≡ [] → loose ≡ true) × Follows loose all last (carried_out s (answer s q)) (replies ++ r ∷ []) todo))
 
   -- both ends together in a transfer of the plan
-  pub record IsTogether (loose : Bool) (all : List Reply) (last : State) (l b a : ℕ) (replies : List Reply) (h : HostEnd) (d : DeviceView) : Type 0 where
+  pub record TogetherOn (loose : Bool) (all : List Reply) (last : State) (l b a : ℕ) (replies : List Reply) (h : HostEnd) (d : DeviceView) : Type 0 where
     pub s : State
     pub r : Reply
     pub todo : List Reply
@@ -35,12 +36,24 @@ module _ (plan : List Reply → Plan) (naks : ℕ) (answer : State → SetupPack
     pub front : replies ++ (r ∷ todo) ≡ all
     pub ends : is_set_address q ≡ true → todo ≡ [] → loose ≡ true
     pub follows : Follows loose all last (carried_out s (answer s q)) (replies ++ r ∷ []) todo
-    pub coupled : Coupled answer cut s q packet naks l b a h d
+    pub in_one : InOneTransfer answer cut s q packet naks l b a h d
+
+  -- the last reply is that of a SET_ADDRESS, and the device has stayed as it was
+  pub record HasMoved (replies : List Reply) (d : DeviceView) : Type 0 where
+    pub s : State
+    pub packet : ℕ
+    pub q : SetupPacket
+    pub earlier : List Reply
+    pub begins : plan earlier ≡ Begin s.address packet q
+    pub is_address : is_set_address q ≡ true
+    pub done : replies ≡ earlier ++ replied.Done ∷ []
+    pub stays : d.state ≡ s
 
   -- the ACK of a SET_ADDRESS was lost: nothing at the host's address answers
-  pub record IsSilent (all : List Reply) (a : ℕ) (replies : List Reply) (h : HostEnd) (d : DeviceView) : Type 0 where
+  pub record ApartOn (all : List Reply) (a : ℕ) (replies : List Reply) (h : HostEnd) (d : DeviceView) : Type 0 where
     pub asks : h.transfer.stage ≡ Setup
     pub elsewhere : h.transfer.address ≢ d.state.address
+    pub moved : HasMoved replies d
     pub cost : 0 < a
     pub todo : List Reply
     pub front : replies ++ todo ≡ all
@@ -48,7 +61,7 @@ module _ (plan : List Reply → Plan) (naks : ℕ) (answer : State → SetupPack
   -- What holds after l losses, a of them of ACKs, and b Busy. A plan that succeeds has all replies, and left the device
   -- in the last state; its address alone may differ, where an ACK was lost. One that breaks does so for a cause.
   abbrev pub Sound : Bool → List Reply → State → ℕ → ℕ → ℕ → List Reply → Phase → DeviceView → Type 0
-  Sound loose all last l b a replies (Running h) d = IsTogether loose all last l b a replies h d ⊎ IsSilent all a replies h d
+  Sound loose all last l b a replies (Running h) d = TogetherOn loose all last l b a replies h d ⊎ ApartOn all a replies h d
   Sound loose all last l b a replies Succeeded d =
       (replies ≡ all) × ((d.state ≡ last) ⊎ ((0 < a) × (loose ≡ true) × (last ≡ record d.state { address = last.address })))
   Sound loose all last l b a replies (Broken NoAnswer) d = ((3 ≤ l) ⊎ (0 < a)) × ((todo : List Reply) × (replies ++ todo ≡ all))

@@ -8,7 +8,7 @@ use Rattle.std.specs.declared.alloc.Global.{Global}
 use Rattle.std.specs.declared.boxed.Box.{Box}
 use Rattle.usb_device.specs.View.{View}
 use Rattle.usb_c.specs.declared.loose.Loose.{Loose}
-use Rattle.usb_owned_device.specs.contracts.owned_device.OwnedDevice as inner
+use Rattle.usb_device.specs.contracts.owned_device.OwnedDevice as inner
 
 abbrev pub owned : Global → Ptr → Option View → Fml
 owned a p None = feq Ptr p null_ptr

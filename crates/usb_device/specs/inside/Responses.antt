@@ -2,7 +2,7 @@
 use Rattle.std.specs.Prelude.{◌≡◌, ◌<◌, [], ◌∷◌, length, take, slice_set}
 use Rattle.usb_fields.specs.declared.setup.Setup.{Setup}
 use Rattle.usb_file_data.specs.declared.file.DescriptorFile.{DescriptorFile}
-use Rattle.usb_description.specs.Places.{descriptors, descriptor_at}
+use Rattle.usb_device.specs.Places.{descriptors, descriptor_at}
 use Rattle.usb_device.specs.declared.request.Request.{Request}
 use Rattle.usb_device.specs.declared.state.State.{State}
 use Rattle.usb_device.specs.declared.response.Change.{Change}

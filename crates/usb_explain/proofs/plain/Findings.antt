@@ -14,20 +14,20 @@ use Rattle.usb_file.specs.declared.input_fault.InputFault.TheVariants as faults
 use Rattle.usb_file.specs.declared.likeness.Likeness.{Likeness}
 use Rattle.usb_file.specs.declared.likeness.Likeness.TheVariants as likes
 use Rattle.usb_file.specs.Numbers.{why_number}
-use Rattle.usb_rules.specs.declared.finding.Finding.{Finding}
-use Rattle.usb_rules.specs.FindingLine.{rule_number}
-use Rattle.usb_explained_lines.specs.Lines.{spaces}
-use Rattle.usb_explained_lines.specs.declared.told.PacketFault.{PacketFault}
-use Rattle.usb_explained_lines.specs.declared.told.PacketFault.TheVariants as packets
-use Rattle.usb_explained_lines.specs.declared.told.Told.{Told}
-use Rattle.usb_explained_lines.specs.declared.told.Told.TheVariants as told
-use Rattle.usb_explained_lines.specs.Findings.{caused, causes_words, counts_words, device_words, finding_line, has_more, packet_words, qualifier_words, reserved_words, rule_of, told_words}
-use Rattle.usb_explained_lines.specs.declared.role.Role.{Role}
+use Rattle.usb_file_data.specs.declared.finding.Finding.{Finding}
+use Rattle.usb_file_data.specs.Numbers.{rule_number}
+use Rattle.usb_explain.specs.LineForms.{spaces}
+use Rattle.usb_explain.specs.declared.finding_words.PacketFault.{PacketFault}
+use Rattle.usb_explain.specs.declared.finding_words.PacketFault.TheVariants as packets
+use Rattle.usb_explain.specs.declared.finding_words.Told.{Told}
+use Rattle.usb_explain.specs.declared.finding_words.Told.TheVariants as told
+use Rattle.usb_explain.specs.FindingLines.{caused, causes_words, counts_words, device_words, finding_line, has_more, packet_words, qualifier_words, reserved_words, rule_of, told_words}
+use Rattle.usb_explain.specs.declared.descriptor_role.Role.{Role}
 use Rattle.usb_explain.specs.declared.position.Standing.{Standing}
 use Rattle.usb_explain.specs.Faults.{fault_text, fault_words, file_message, following_words, likeness_text, likeness_words, numbered, trailing_words}
 use Rattle.usb_explain.specs.Findings.{is_here, line_of, told_of}
 use Rattle.usb_explain.specs.Contexts.{depth_of}
-use Rattle.usb_listing_reader.proofs.PrintableLemmas.{Printable}
+use Rattle.usb_text.proofs.Printables.{Printable}
 use Rattle.usb_explain.specs.Lines.{IsLine, IsLineIfAny}
 use Rattle.usb_explain.proofs.plain.Texts.{both_plain, decimal_plain, either_plain, ended, parts, spaces_plain}
 use Rattle.usb_explain.proofs.plain.Words.{count_plain}

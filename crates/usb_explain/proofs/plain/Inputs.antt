@@ -1,7 +1,7 @@
 -- Inputs are bytes, and their strings have numbers of two bytes: so their explanations are in lines.
 use Rattle.std.proofs.Common.{◌≡◌, false, ℕ, List, [], ◌∷◌, ◌++◌, Option, Some, None, length, take, refl, subst, arith}
 use Rattle.std.specs.List.{AllByRecursion, flat_map}
-use Rattle.usb_base.specs.Bytes.{AreBytes, little_endian}
+use Rattle.usb_fields.specs.Bytes.{AreBytes, little_endian}
 use Rattle.usb_fields.specs.Device.{device_bytes}
 use Rattle.usb_fields.specs.Units.{units_bytes}
 use Rattle.usb_file_data.specs.declared.file.DescriptorFile.{DescriptorFile}
@@ -12,8 +12,8 @@ use Rattle.usb_file_data.specs.declared.input.Input.{Input}
 use Rattle.usb_file_data.specs.declared.input.Input.TheVariants as inputs
 use Rattle.usb_file.specs.Inputs.{IsInput}
 use Rattle.usb_file.specs.Likeness.{likeness_of}
-use Rattle.usb_listing_reader.proofs.PrintableLemmas.{Printable}
-use Rattle.usb_listing_reader.proofs.RowLemmas.{bytes_front}
+use Rattle.usb_text.proofs.Printables.{Printable}
+use Rattle.usb_fields.proofs.ByteParts.{bytes_front}
 use Rattle.usb_explain.specs.declared.manner.Manner.{Manner}
 use Rattle.usb_explain.specs.Explanations.{broken_explanation, broken_name, explanation, first_line, input_name, last_line}
 use Rattle.usb_explain.specs.Faults.{fault_lines, place_of_fault}

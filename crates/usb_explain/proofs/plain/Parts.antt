@@ -1,6 +1,6 @@
 -- Bytes and fields by their places are as wide as they are.
 use Rattle.std.proofs.Common.{ℕ, zero, suc, ◌+◌, ◌<◌, List, [], ◌∷◌, slice_index, arith}
-use Rattle.usb_base.specs.Bytes.{AreBytes, little_endian_at}
+use Rattle.usb_fields.specs.Bytes.{AreBytes, little_endian_at}
 
 -- a byte; where there is none it reads as 0
 pub byte_fits : (b : List ℕ) (at : ℕ) → AreBytes b → slice_index b at < 256

@@ -1,15 +1,15 @@
 -- The names of class descriptors are plain, and each of their fields is said in one line.
 use Rattle.std.proofs.Common.{ℕ, ◌<◌, List, ◌++◌, Option, Some, None, codes, drop, slice_index, refl}
-use Rattle.usb_base.specs.Bytes.{AreBytes}
+use Rattle.usb_fields.specs.Bytes.{AreBytes}
 use Rattle.usb_names.specs.declared.codes.ClassCodes.{ClassCodes}
 use Rattle.usb_names.specs.Rows.{Row}
 use Rattle.usb_text.specs.Numbers.{byte_code}
-use Rattle.usb_listing_reader.proofs.RowLemmas.{bytes_back}
-use Rattle.usb_explained_lines.specs.declared.context.Context.{Context}
-use Rattle.usb_explained_lines.specs.Lines.{field_line}
-use Rattle.usb_explained_lines.specs.Names.{StringNames}
-use Rattle.usb_explained_lines.specs.Raws.{raw_lines, raw_words, row_layout, row_lines, row_of_bytes, row_words, unnamed_words}
-use Rattle.usb_listing_reader.proofs.PrintableLemmas.{Printable}
+use Rattle.usb_fields.proofs.ByteParts.{bytes_back}
+use Rattle.usb_explain.specs.declared.line_context.Context.{Context}
+use Rattle.usb_explain.specs.LineForms.{field_line}
+use Rattle.usb_explain.specs.StringNames.{StringNames}
+use Rattle.usb_explain.specs.Raws.{raw_lines, raw_words, row_layout, row_lines, row_of_bytes, row_words, unnamed_words}
+use Rattle.usb_text.proofs.Printables.{Printable}
 use Rattle.usb_explain.specs.Lines.{SayFields}
 use Rattle.usb_explain.proofs.plain.Parts.{byte_fits}
 use Rattle.usb_explain.proofs.plain.Names.{MaybePlainRow, row_plain}

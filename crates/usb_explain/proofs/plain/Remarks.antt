@@ -1,19 +1,17 @@
 -- Each remark is made in a line.
 use Rattle.std.proofs.Common.{ℕ, ◌+◌, ◌*◌, List, [], ◌∷◌, ◌++◌, codes, refl}
-use Rattle.std.specs.Fmt.{decimal}
 use Rattle.std.specs.List.{AllByRecursion}
 use Rattle.usb_set.specs.declared.endpoint.TransferType.{TransferType}
 use Rattle.usb_set.specs.declared.endpoint.TransferType.TheVariants.{Control, Isochronous, Bulk, Interrupt}
-use Rattle.usb_words.specs.declared.speed.SetSpeed.{SetSpeed}
-use Rattle.usb_words.specs.Speeds.{speed_words}
-use Rattle.usb_explained_lines.specs.Lines.{spaces}
-use Rattle.usb_remarks.specs.declared.remark.Range.{Range}
-use Rattle.usb_remarks.specs.declared.remark.Sizes.{Sizes}
-use Rattle.usb_remarks.specs.declared.remark.Sizes.TheVariants.{NoEndpoint, Only, UpTo, EightTo64, EightTo64Or512}
-use Rattle.usb_remarks.specs.declared.remark.Remark.{Remark}
-use Rattle.usb_remarks.specs.declared.remark.Remark.TheVariants as remarks
-use Rattle.usb_remarks.specs.Lines.{a_type, interval_words, packet_words, remark_line, remark_words, size_words, total_words, type_name}
-use Rattle.usb_listing_reader.proofs.PrintableLemmas.{Printable}
+use Rattle.usb_explain.specs.declared.speed.SetSpeed.{SetSpeed}
+use Rattle.usb_explain.specs.LineForms.{spaces}
+use Rattle.usb_explain.specs.declared.remark.Range.{Range}
+use Rattle.usb_explain.specs.declared.remark.Sizes.{Sizes}
+use Rattle.usb_explain.specs.declared.remark.Sizes.TheVariants.{NoEndpoint, Only, UpTo, EightTo64, EightTo64Or512}
+use Rattle.usb_explain.specs.declared.remark.Remark.{Remark}
+use Rattle.usb_explain.specs.declared.remark.Remark.TheVariants as remarks
+use Rattle.usb_explain.specs.RemarkLines.{a_type, interval_words, packet_words, remark_line, remark_words, total_words, type_name}
+use Rattle.usb_text.proofs.Printables.{Printable}
 use Rattle.usb_explain.specs.Lines.{IsLine}
 use Rattle.usb_explain.proofs.plain.Texts.{decimal_plain, ended, parts, spaces_plain}
 use Rattle.usb_explain.proofs.plain.Words.{count_plain, speed_plain}

@@ -2,14 +2,14 @@
 use Rattle.std.proofs.Common.{◌≡◌, false, ℕ, zero, suc, ◌/◌, ◌%◌, ◌==◌, List, [], ◌∷◌, ◌++◌, Option, Some, None, drop, length, option_and_then, codes, refl, subst}
 use Rattle.std.specs.Prelude.{slice_get}
 use Rattle.std.specs.List.{AllByRecursion}
-use Rattle.usb_base.specs.Bytes.{AreBytes}
+use Rattle.usb_fields.specs.Bytes.{AreBytes}
 use Rattle.usb_file_data.specs.declared.file.Strings.{Strings}
 use Rattle.usb_file_data.proofs.Lists.{bytes_before, bytes_behind}
 use Rattle.usb_text.specs.Numbers.{count}
-use Rattle.usb_listing_reader.proofs.PrintableLemmas.{Printable}
-use Rattle.usb_listing_reader.proofs.RowLemmas.{bytes_back}
-use Rattle.usb_explained_lines.specs.Descriptors.{fields}
-use Rattle.usb_explained_lines.specs.declared.role.Role.{Role}
+use Rattle.usb_text.proofs.Printables.{Printable}
+use Rattle.usb_fields.proofs.ByteParts.{bytes_back}
+use Rattle.usb_explain.specs.Descriptors.{fields}
+use Rattle.usb_explain.specs.declared.descriptor_role.Role.{Role}
 use Rattle.usb_explain.specs.declared.position.Standing.{Standing}
 use Rattle.usb_explain.specs.Explanations.{broken_name, first_line, last_line}
 use Rattle.usb_explain.specs.Contexts.{context_of, depth_of}

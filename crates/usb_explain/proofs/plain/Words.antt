@@ -1,20 +1,20 @@
 -- The words of numbers, class codes, endpoints and speeds are plain.
 use Rattle.std.proofs.Common.{ℕ, ◌/◌, ◌%◌, ◌<◌, ◌==◌, List, [], ◌∷◌, ◌++◌, Option, Some, None, codes, refl, arith}
 use Rattle.hex.specs.Hex.{encode_lower}
-use Rattle.usb_base.specs.declared.direction.Direction.{Direction}
-use Rattle.usb_base.specs.declared.direction.Direction.TheVariants.{Out, In}
-use Rattle.usb_base.specs.Directions.{direction_of}
+use Rattle.usb_fields.specs.declared.direction.Direction.{Direction}
+use Rattle.usb_fields.specs.declared.direction.Direction.TheVariants.{Out, In}
+use Rattle.usb_fields.specs.Directions.{direction_of}
 use Rattle.usb_set.specs.declared.endpoint.TransferType.{TransferType}
 use Rattle.usb_set.specs.declared.endpoint.TransferType.TheVariants.{Control, Isochronous, Bulk, Interrupt}
 use Rattle.usb_set.specs.Endpoints.{packet_size_of, transactions_of, transfer_type_of}
 use Rattle.usb_names.specs.Classes.{classes, name_in, protocol_in, protocols, subclasses}
-use Rattle.usb_words.specs.declared.speed.SetSpeed.{SetSpeed}
-use Rattle.usb_words.specs.declared.speed.SetSpeed.TheVariants.{Low, Full, LowOrFull, High, FullOrHigh, Super}
+use Rattle.usb_explain.specs.declared.speed.SetSpeed.{SetSpeed}
+use Rattle.usb_explain.specs.declared.speed.SetSpeed.TheVariants.{Low, Full, LowOrFull, High, FullOrHigh, Super}
 use Rattle.usb_text.specs.Numbers.{byte_code, count, meaning, release, word_code}
-use Rattle.usb_words.specs.Names.{class_field, class_or_code, class_words, function_class_field, function_class_words, further, named, protocol_field, subclass_field}
-use Rattle.usb_words.specs.Endpoints.{attributes_words, direction_words, end_words, has_packets, packets_words, size_words, transfer_words, way_words}
-use Rattle.usb_words.specs.Speeds.{frames, full_interval, full_period, high_interval, interval_at, microframes, period, period_words, power_words, speed_words}
-use Rattle.usb_listing_reader.proofs.PrintableLemmas.{Printable}
+use Rattle.usb_explain.specs.Names.{class_field, class_or_code, class_words, function_class_field, function_class_words, further, named, protocol_field, subclass_field}
+use Rattle.usb_explain.specs.Endpoints.{attributes_words, direction_words, end_words, has_packets, packets_words, size_words, transfer_words, way_words}
+use Rattle.usb_explain.specs.Speeds.{frames, full_interval, full_period, high_interval, interval_at, microframes, period, period_words, power_words, speed_words}
+use Rattle.usb_text.proofs.Printables.{Printable}
 use Rattle.usb_explain.proofs.plain.Texts.{MaybePlain, byte_digits, decimal_plain, dropped, either_plain, parts, word_digits}
 use Rattle.usb_explain.proofs.plain.Names.{class_plain, protocol_plain, subclass_plain}
 

@@ -3,11 +3,11 @@ use Rattle.std.proofs.Common.{◌≡◌, ◌<◌, ℕ, suc, ◌+◌, ◌==◌, �
 use Rattle.std.specs.List.{list_any}
 use Rattle.std.proofs.Math.Seq.{drop-append_seam, drop-cons, take-append_seam}
 use Rattle.std.proofs.lemmas.Bool.{le-leb, ne_eqb, not-false, or_parts}
-use Rattle.usb_base.specs.Marks.{marked, unmarked}
-use Rattle.usb_rules.specs.Places.{at_each, is_among, when}
-use Rattle.usb_rules.specs.Rules.{interface_numbers, is_first, number_of}
-use Rattle.usb_rules.proofs.Entering.{stands_again}
-use Rattle.usb_rules.proofs.Walking.{stands_more}
+use Rattle.usb_fields.specs.Marks.{marked, unmarked}
+use Rattle.usb_file_data.specs.Places.{at_each, is_among, when}
+use Rattle.usb_file_data.specs.Rules.{interface_numbers, is_first, number_of}
+use Rattle.usb_file_data.proofs.Entering.{stands_again}
+use Rattle.usb_file_data.proofs.Walking.{stands_more}
 use Rattle.usb_set.specs.declared.extra.Extra.{Extra}
 use Rattle.usb_set.specs.declared.extra.Extra.TheVariants as extras
 use Rattle.usb_set.specs.declared.tree.Configuration.{Configuration}
@@ -20,10 +20,10 @@ use Rattle.usb_set.specs.Layout.{has_typed_raw, is_typed_raw}
 use Rattle.usb_set.specs.inside.Trees.{endpoint_bytes, extra_bytes, is_endpoint_typed, is_setting_typed, setting_bytes}
 use Rattle.usb_set.proofs.ExtraLemmas.{untyped}
 use Rattle.usb_set.proofs.Trees.{setting_typed_parts, typed_parts}
-use Rattle.usb_words.specs.Counts.{endpoints_before_interface, interfaces_beyond}
-use Rattle.usb_words.specs.Cut.{descriptors}
-use Rattle.usb_words.specs.DescriptorTypes.{is_endpoint, is_interface}
-use Rattle.usb_words.proofs.Cuts.{descriptors_step}
+use Rattle.usb_explain.specs.Counts.{endpoints_before_interface, interfaces_beyond}
+use Rattle.usb_explain.specs.Cut.{descriptors}
+use Rattle.usb_explain.specs.DescriptorTypes.{is_endpoint, is_interface}
+use Rattle.usb_explain.proofs.Cuts.{descriptors_step}
 use Rattle.usb_explain.proofs.rest.Steps.{length_is}
 
 pub four_parts : {A : Type 0} (a b c d : List A) → ((a ++ b) ++ c) ++ d ≡ a ++ (b ++ (c ++ d))

@@ -3,17 +3,17 @@ use Rattle.std.proofs.Common.{◌≡◌, ◌≤◌, ℕ, ◌+◌, ◌-◌, ◌&&
 use Rattle.std.specs.List.{list_any}
 use Rattle.std.proofs.lemmas.Bool.{le-leb, or_parts}
 use Rattle.std.proofs.lemmas.Option.{none-some}
-use Rattle.usb_rules.specs.declared.finding.Finding.{Finding}
-use Rattle.usb_rules.specs.declared.rule.Rule.{Rule}
-use Rattle.usb_rules.specs.declared.rule.Rule.TheVariants as rules
-use Rattle.usb_rules.specs.InOrder.{association_count, at_associations, at_endpoint, endpoint_associations, endpoint_in_order}
-use Rattle.usb_rules.specs.Places.{at_each_counted, finding, when}
-use Rattle.usb_rules.specs.Rules.{repeats_address, shares_address, wrong_address, wrong_packet_size}
+use Rattle.usb_file_data.specs.declared.finding.Finding.{Finding}
+use Rattle.usb_file_data.specs.declared.rule.Rule.{Rule}
+use Rattle.usb_file_data.specs.declared.rule.Rule.TheVariants as rules
+use Rattle.usb_file_data.specs.InOrder.{association_count, at_associations, at_endpoint, endpoint_associations, endpoint_in_order}
+use Rattle.usb_file_data.specs.Places.{at_each_counted, finding, when}
+use Rattle.usb_file_data.specs.Rules.{repeats_address, shares_address, wrong_address, wrong_packet_size}
 use Rattle.usb_set.specs.declared.tree.Endpoint.{Endpoint}
 use Rattle.usb_set.specs.declared.tree.Setting.{Setting}
 use Rattle.usb_set.specs.Descriptors.{descriptor_bytes, endpoint_descriptor}
 use Rattle.usb_set.specs.inside.Trees.{endpoint_bytes, extra_bytes, is_endpoint_typed}
-use Rattle.usb_explained_lines.specs.declared.role.Role.TheVariants as roles
+use Rattle.usb_explain.specs.declared.descriptor_role.Role.TheVariants as roles
 use Rattle.usb_explain.specs.declared.position.Owner.{Owner}
 use Rattle.usb_explain.specs.declared.position.Owner.TheVariants as owners
 use Rattle.usb_explain.specs.declared.position.SetStanding.{SetStanding}
@@ -53,7 +53,7 @@ here_endpoint : (is_dump : Bool) (s : Standing) (d behind : List ℕ) (rule : Ru
     → is_some (endpoint_told d rule) ≡ true → is_here is_dump s roles.Endpoint d behind (finding rule s.set.part s.set.number j k) ≡ true
 unfolding finding_at told_at
 here_endpoint is_dump s d behind rule j k e h =
-    here_is is_dump s roles.Endpoint d behind (finding rule s.set.part s.set.number j k)
+    here_is is_dump s roles.Endpoint d behind rule s.set.part s.set.number j k
     (ap (λ g. is_same_place (finding rule s.set.part s.set.number j k) g) (in_setting_is s.set rule s.set.setting j k e)
     ∙ same_place rule s.set.part s.set.number j k) h
 

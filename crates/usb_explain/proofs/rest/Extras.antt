@@ -1,16 +1,17 @@
 -- A walk goes through the extras of a set, and tells their findings.
-use Rattle.std.proofs.Common.{◌≡◌, ◌≤◌, ℕ, ◌+◌, ◌-◌, Bool, true, false, List, [], ◌∷◌, ◌++◌, flat_map, if◌then◌else◌, length, Some, None, is_some, refl, sym, ap, subst, ◌∙◌, arith, append_assoc, length-append}
+use Rattle.std.proofs.Common.{◌≡◌, ◌≤◌, ℕ, ◌+◌, ◌-◌, Bool, true, false, List, [], ◌∷◌, ◌++◌, flat_map, if◌then◌else◌, length, Some, None, is_some, option_and_then, refl, sym, ap, subst, ◌∙◌, arith, append_assoc, length-append}
 use Rattle.std.specs.List.{list_any}
 use Rattle.std.proofs.lemmas.Bool.{le-leb, eq-eqb, ne_eqb, or_parts}
 use Rattle.std.proofs.lemmas.List.Concat.{flat_map-append}
-use Rattle.usb_rules.specs.declared.finding.Finding.{Finding}
-use Rattle.usb_rules.specs.declared.finding.Part.{Part}
-use Rattle.usb_rules.specs.declared.rule.Rule.{Rule}
-use Rattle.usb_rules.specs.declared.rule.Rule.TheVariants as rules
-use Rattle.usb_rules.specs.InOrder.{association_count, at_associations}
-use Rattle.usb_rules.specs.Places.{at_each, finding, when}
-use Rattle.usb_rules.specs.Rules.{binds_missing_interface}
-use Rattle.usb_rules.proofs.Walking.{each_append}
+use Rattle.usb_file_data.specs.declared.finding.Finding.{Finding}
+use Rattle.usb_file_data.specs.declared.finding.Part.{Part}
+use Rattle.usb_file_data.specs.declared.rule.Rule.{Rule}
+use Rattle.usb_file_data.specs.declared.rule.Rule.TheVariants as rules
+use Rattle.usb_file_data.specs.InOrder.{association_count, at_associations}
+use Rattle.usb_file_data.specs.Places.{at_each, finding, when}
+use Rattle.usb_file_data.specs.Rules.{binds_missing_interface}
+use Rattle.usb_file_data.proofs.RuleNumbers.{numbered_rule}
+use Rattle.usb_file_data.proofs.Walking.{each_append}
 use Rattle.usb_set.specs.declared.extra.Association.{Association}
 use Rattle.usb_set.specs.declared.extra.Extra.{Extra}
 use Rattle.usb_set.specs.declared.extra.Extra.TheVariants as extras
@@ -21,14 +22,14 @@ use Rattle.usb_set.specs.Layout.{is_typed, is_typed_raw}
 use Rattle.usb_set.specs.Parts.{association_in}
 use Rattle.usb_set.specs.inside.Trees.{extra_bytes}
 use Rattle.usb_set.proofs.ExtraLemmas.{untyped}
-use Rattle.usb_words.specs.Cut.{descriptor_length}
-use Rattle.usb_explained_lines.specs.declared.role.Role.{Role}
-use Rattle.usb_explained_lines.specs.declared.role.Role.TheVariants as roles
+use Rattle.usb_explain.specs.Cut.{descriptor_length}
+use Rattle.usb_explain.specs.declared.descriptor_role.Role.{Role}
+use Rattle.usb_explain.specs.declared.descriptor_role.Role.TheVariants as roles
 use Rattle.usb_explain.specs.declared.position.Owner.{Owner}
 use Rattle.usb_explain.specs.declared.position.Owner.TheVariants as owners
 use Rattle.usb_explain.specs.declared.position.Standing.{Standing}
-use Rattle.usb_explained_lines.specs.declared.told.Told.{Told}
-use Rattle.usb_explain.specs.Findings.{finding_at, is_here, is_same_place, part_number, told_at, told_of}
+use Rattle.usb_explain.specs.declared.finding_words.Told.{Told}
+use Rattle.usb_explain.specs.Findings.{finding_at, is_here, is_same_place, part_number, told_at, told_by, told_of}
 use Rattle.usb_explain.specs.Contexts.{below, depth_of}
 use Rattle.usb_explain.specs.Steps.{noted}
 use Rattle.usb_explain.specs.Roles.{inner_role, typed_role}
@@ -51,10 +52,13 @@ seen_goes E subject v P role d behind mine w later depth counts e step holds onw
 
 -- ---- whose a finding is
 
-pub here_is : (is_dump : Bool) (s : Standing) (role : Role) (d behind : List ℕ) (f : Finding) → is_same_place f (finding_at s role f.rule) ≡ true
-    → is_some (told_at is_dump s role d behind f.rule) ≡ true → is_here is_dump s role d behind f ≡ true
+pub here_is : (is_dump : Bool) (s : Standing) (role : Role) (d behind : List ℕ) (rule : Rule) (part : Part) (i j k : ℕ)
+    → is_same_place (finding rule part i j k) (finding_at s role rule) ≡ true → is_some (told_at is_dump s role d behind rule) ≡ true
+    → is_here is_dump s role d behind (finding rule part i j k) ≡ true
 unfolding told_of
-here_is is_dump s role d behind f h k = ap (λ b. is_some (if b then told_at is_dump s role d behind f.rule else None)) h ∙ k
+here_is is_dump s role d behind rule part i j k same told =
+    ap (λ o. is_some (option_and_then (told_by is_dump s role d behind (finding rule part i j k)) o)) (numbered_rule rule)
+    ∙ ap (λ b. is_some (if b then told_at is_dump s role d behind rule else None)) same ∙ told
 
 pub same_place : (rule : Rule) (p : Part) (i j k : ℕ) → is_same_place (finding rule p i j k) (finding rule p i j k) ≡ true
 same_place rule p i j k = rw (eq-eqb (part_number p) (part_number p) refl, eq-eqb i i refl, eq-eqb j j refl, eq-eqb k k refl) refl
@@ -63,7 +67,7 @@ here_association : (is_dump : Bool) (s : Standing) (d behind : List ℕ)
     → is_here is_dump s roles.Association d behind (finding rules.V13 s.set.part s.set.number s.set.associations 0) ≡ true
 unfolding finding_at told_at
 here_association is_dump s d behind =
-    here_is is_dump s roles.Association d behind (finding rules.V13 s.set.part s.set.number s.set.associations 0)
+    here_is is_dump s roles.Association d behind rules.V13 s.set.part s.set.number s.set.associations 0
     (same_place rules.V13 s.set.part s.set.number s.set.associations 0) refl
 
 -- ---- what is left

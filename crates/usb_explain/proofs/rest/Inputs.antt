@@ -4,21 +4,21 @@ use Rattle.std.specs.List.{flat_map, list_any}
 use Rattle.std.proofs.Math.Seq.{drop-nil}
 use Rattle.std.proofs.lemmas.List.Concat.{flat_map-append}
 use Rattle.std.proofs.lemmas.Bool.{eq-eqb, eqb-true, le-leb, not-false, or_parts}
-use Rattle.usb_base.specs.Bytes.{little_endian}
-use Rattle.usb_base.specs.Fields.{fields_bytes}
+use Rattle.usb_fields.specs.Bytes.{little_endian}
+use Rattle.usb_fields.specs.Fields.{fields_bytes}
 use Rattle.usb_fields.specs.declared.device.DeviceDescriptor.{DeviceDescriptor}
 use Rattle.usb_fields.specs.declared.qualifier.Qualifier.{Qualifier}
 use Rattle.usb_fields.specs.Device.{device_bytes, device_fields}
 use Rattle.usb_fields.specs.Qualifier.{qualifier_bytes, qualifier_fields}
 use Rattle.usb_fields.specs.Units.{units_bytes}
-use Rattle.usb_rules.specs.declared.finding.Finding.{Finding}
-use Rattle.usb_rules.specs.declared.finding.Part.TheVariants as parts
-use Rattle.usb_rules.specs.declared.rule.Rule.TheVariants as rules
-use Rattle.usb_rules.specs.Findings.{part_of_kind}
-use Rattle.usb_rules.specs.InOrder.{by_rule, file_in_order, other_in_order, part_in_order, set_in_order, set_findings_in_order, without_sets}
-use Rattle.usb_rules.specs.Places.{finding, when}
-use Rattle.usb_rules.specs.Rules.{wrong_device, wrong_dumped_device, wrong_qualifier}
-use Rattle.usb_rules.proofs.Sorting.{sorted, sorted_set}
+use Rattle.usb_file_data.specs.declared.finding.Finding.{Finding}
+use Rattle.usb_file_data.specs.declared.finding.Part.TheVariants as parts
+use Rattle.usb_file_data.specs.declared.rule.Rule.TheVariants as rules
+use Rattle.usb_file_data.specs.Findings.{part_of_kind}
+use Rattle.usb_file_data.specs.InOrder.{by_rule, file_in_order, other_in_order, part_in_order, set_in_order, set_findings_in_order, without_sets}
+use Rattle.usb_file_data.specs.Places.{finding, when}
+use Rattle.usb_file_data.specs.Rules.{wrong_device, wrong_dumped_device, wrong_qualifier}
+use Rattle.usb_file_data.proofs.Sorting.{sorted, sorted_set}
 use Rattle.usb_set.specs.declared.tree.Configuration.{Configuration}
 use Rattle.usb_set.specs.declared.tree.SetKind.{SetKind}
 use Rattle.usb_set.specs.declared.tree.SetKind.TheVariants as kinds
@@ -34,14 +34,14 @@ use Rattle.usb_file_data.specs.declared.input.Input.{Input}
 use Rattle.usb_file_data.specs.declared.input.Input.TheVariants as inputs
 use Rattle.usb_file.specs.Dumps.{Dump}
 use Rattle.usb_file.specs.Inputs.{IsInput}
-use Rattle.usb_rules.specs.Findings.{input_findings}
+use Rattle.usb_file_data.specs.Findings.{input_findings}
 use Rattle.usb_file_data.proofs.Counts.{all_strings}
 use Rattle.usb_file_data.proofs.Units.{length-units_bytes}
-use Rattle.usb_words.specs.Cut.{descriptor_length}
-use Rattle.usb_words.specs.declared.speed.SetSpeed.{SetSpeed}
+use Rattle.usb_explain.specs.Cut.{descriptor_length}
+use Rattle.usb_explain.specs.declared.speed.SetSpeed.{SetSpeed}
 use Rattle.usb_explain.specs.declared.manner.Manner.{Manner}
-use Rattle.usb_explained_lines.specs.declared.role.Role.{Role}
-use Rattle.usb_explained_lines.specs.declared.role.Role.TheVariants as roles
+use Rattle.usb_explain.specs.declared.descriptor_role.Role.{Role}
+use Rattle.usb_explain.specs.declared.descriptor_role.Role.TheVariants as roles
 use Rattle.usb_explain.specs.declared.position.Standing.{Standing}
 use Rattle.usb_explain.specs.Explanations.{explanation, first_line, input_name, whole_end}
 use Rattle.usb_explain.specs.Findings.{finding_at, is_here, none_told, told_at}
@@ -102,12 +102,12 @@ none_some n e = ap (λ n. is_some (none_told n)) e
 here_no_set : (is_dump : Bool) (s : Standing) (d behind : List ℕ) → slice_index d 17 ≡ 0 → is_here is_dump s roles.Device d behind (finding rules.V10 parts.Main 0 0 0) ≡ true
 unfolding finding_at told_at
 here_no_set is_dump s d behind e =
-    here_is is_dump s roles.Device d behind (finding rules.V10 parts.Main 0 0 0) (same_place rules.V10 parts.Main 0 0 0) (none_some (slice_index d 17) e)
+    here_is is_dump s roles.Device d behind rules.V10 parts.Main 0 0 0 (same_place rules.V10 parts.Main 0 0 0) (none_some (slice_index d 17) e)
 
 here_device : (is_dump : Bool) (s : Standing) (d behind : List ℕ) → is_here is_dump s roles.Device d behind (finding rules.V11 parts.Device 0 0 0) ≡ true
 unfolding finding_at told_at
 here_device is_dump s d behind =
-    here_is is_dump s roles.Device d behind (finding rules.V11 parts.Device 0 0 0) (same_place rules.V11 parts.Device 0 0 0) refl
+    here_is is_dump s roles.Device d behind rules.V11 parts.Device 0 0 0 (same_place rules.V11 parts.Device 0 0 0) refl
 
 pub device_after : (d ahead : List ℕ) (subject : Subject) (told : ℕ)
     → out (seen (passed roles.Device d (with_told told (entered roles.Device subject.manner.speed ahead start)))) ≡ outside true false 0 0
@@ -152,12 +152,12 @@ qualifier_role s q e = both_hold (is_some s.device) true roles.Qualifier e refl
 here_no_other : (is_dump : Bool) (s : Standing) (d behind : List ℕ) → slice_index d 8 ≡ 0 → is_here is_dump s roles.Qualifier d behind (finding rules.V10 parts.Other 0 0 0) ≡ true
 unfolding finding_at told_at
 here_no_other is_dump s d behind e =
-    here_is is_dump s roles.Qualifier d behind (finding rules.V10 parts.Other 0 0 0) (same_place rules.V10 parts.Other 0 0 0) (none_some (slice_index d 8) e)
+    here_is is_dump s roles.Qualifier d behind rules.V10 parts.Other 0 0 0 (same_place rules.V10 parts.Other 0 0 0) (none_some (slice_index d 8) e)
 
 here_qualifier : (is_dump : Bool) (s : Standing) (d behind : List ℕ) → is_here is_dump s roles.Qualifier d behind (finding rules.V11 parts.Other 0 0 0) ≡ true
 unfolding finding_at told_at
 here_qualifier is_dump s d behind =
-    here_is is_dump s roles.Qualifier d behind (finding rules.V11 parts.Other 0 0 0) (same_place rules.V11 parts.Other 0 0 0) refl
+    here_is is_dump s roles.Qualifier d behind rules.V11 parts.Other 0 0 0 (same_place rules.V11 parts.Other 0 0 0) refl
 
 -- outside of sets nothing is left of one
 pub nothing_less : (o : Out) (s : Standing) (n : ℕ) → o.left ≡ 0 → out (seen s) ≡ o → record (out (seen s)) { left = s.left - n } ≡ o

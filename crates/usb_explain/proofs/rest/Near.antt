@@ -4,8 +4,8 @@ use Rattle.std.proofs.Math.Seq.{drop-length, drop-nil, take-append_seam}
 use Rattle.std.proofs.lemmas.Bool.{cond-false, eq-eqb, eqb-true}
 use Rattle.std.proofs.lemmas.Bool.Decides.{nat_tests}
 use Rattle.std.proofs.lemmas.Option.{none-some}
-use Rattle.usb_base.specs.Bytes.{AreBytes}
-use Rattle.usb_rules.specs.declared.finding.Finding.{Finding}
+use Rattle.usb_fields.specs.Bytes.{AreBytes}
+use Rattle.usb_file_data.specs.declared.finding.Finding.{Finding}
 use Rattle.usb_set.specs.declared.fault.SetWhy.{SetWhy}
 use Rattle.usb_set.specs.declared.fault.SetWhy.TheVariants as whys
 use Rattle.usb_set.specs.declared.tree.SetKind.{SetKind}
@@ -17,10 +17,10 @@ use Rattle.usb_set.proofs.ByteByByte.{header_long, whole_length}
 use Rattle.usb_set.proofs.Sound.{Sound, sound}
 use Rattle.usb_set.proofs.Stands.{item_within}
 use Rattle.usb_file_data.proofs.Lists.{bytes_behind}
-use Rattle.usb_words.specs.declared.speed.SetSpeed.{SetSpeed}
-use Rattle.usb_explained_lines.specs.declared.role.Role.{Role}
-use Rattle.usb_explained_lines.specs.declared.role.Role.TheVariants.{Device, Qualifier, Association, Interface, Endpoint, Raw, Languages, Text}
-use Rattle.usb_explained_lines.specs.declared.role.Role.TheVariants as roles
+use Rattle.usb_explain.specs.declared.speed.SetSpeed.{SetSpeed}
+use Rattle.usb_explain.specs.declared.descriptor_role.Role.{Role}
+use Rattle.usb_explain.specs.declared.descriptor_role.Role.TheVariants.{Device, Qualifier, Association, Interface, Endpoint, Raw, Languages, Text}
+use Rattle.usb_explain.specs.declared.descriptor_role.Role.TheVariants as roles
 use Rattle.usb_explain.specs.declared.position.Standing.{Standing}
 use Rattle.usb_explain.specs.Laws.{Cut, Shown}
 use Rattle.usb_explain.specs.SetStart.{entered}

@@ -3,15 +3,15 @@ use Rattle.std.proofs.Common.{◌≡◌, ◌≤◌, ℕ, ◌+◌, ◌-◌, ◌==
 use Rattle.std.specs.List.{list_any}
 use Rattle.std.specs.Option.{option_map}
 use Rattle.std.proofs.lemmas.Bool.{cond-true, le-leb, eq-eqb, or_parts}
-use Rattle.usb_base.specs.Bytes.{little_endian_at}
-use Rattle.usb_rules.specs.declared.finding.Finding.{Finding}
-use Rattle.usb_rules.specs.declared.finding.Part.TheVariants as parts
-use Rattle.usb_rules.specs.declared.rule.Rule.{Rule}
-use Rattle.usb_rules.specs.declared.rule.Rule.TheVariants as rules
-use Rattle.usb_rules.specs.Findings.{part_of_kind}
-use Rattle.usb_rules.specs.InOrder.{association_count, at_associations, at_configuration, set_in_order, setting_associations, setting_in_order}
-use Rattle.usb_rules.specs.Places.{at_each, at_each_counted, finding}
-use Rattle.usb_rules.specs.Rules.{has_number_gap, interface_numbers, wrong_attributes, wrong_interface_count, wrong_value}
+use Rattle.usb_fields.specs.Bytes.{little_endian_at}
+use Rattle.usb_file_data.specs.declared.finding.Finding.{Finding}
+use Rattle.usb_file_data.specs.declared.finding.Part.TheVariants as parts
+use Rattle.usb_file_data.specs.declared.rule.Rule.{Rule}
+use Rattle.usb_file_data.specs.declared.rule.Rule.TheVariants as rules
+use Rattle.usb_file_data.specs.Findings.{part_of_kind}
+use Rattle.usb_file_data.specs.InOrder.{association_count, at_associations, at_configuration, set_in_order, setting_associations, setting_in_order}
+use Rattle.usb_file_data.specs.Places.{at_each, at_each_counted, finding}
+use Rattle.usb_file_data.specs.Rules.{has_number_gap, interface_numbers, wrong_attributes, wrong_interface_count, wrong_value}
 use Rattle.usb_set.specs.declared.fault.EncodeFault.TheVariants as encoding
 use Rattle.usb_set.specs.declared.tree.Configuration.{Configuration}
 use Rattle.usb_set.specs.declared.tree.SetKind.{SetKind}
@@ -25,12 +25,12 @@ use Rattle.usb_set.proofs.Sets.{length-set_bytes}
 use Rattle.usb_set.proofs.Trees.{set_bytes_is, typed_parts}
 use Rattle.usb_file_data.specs.File.{has_no_layout, is_other_kind, sets_bytes, whole_set}
 use Rattle.usb_file_data.proofs.WholeSets.{no_some}
-use Rattle.usb_words.specs.declared.speed.SetSpeed.{SetSpeed}
-use Rattle.usb_words.specs.Surveys.{survey_of}
-use Rattle.usb_explained_lines.specs.declared.told.Told.{Told}
-use Rattle.usb_explained_lines.specs.declared.told.Told.TheVariants as told
-use Rattle.usb_explained_lines.specs.declared.role.Role.{Role}
-use Rattle.usb_explained_lines.specs.declared.role.Role.TheVariants as roles
+use Rattle.usb_explain.specs.declared.speed.SetSpeed.{SetSpeed}
+use Rattle.usb_explain.specs.Surveys.{survey_of}
+use Rattle.usb_explain.specs.declared.finding_words.Told.{Told}
+use Rattle.usb_explain.specs.declared.finding_words.Told.TheVariants as told
+use Rattle.usb_explain.specs.declared.descriptor_role.Role.{Role}
+use Rattle.usb_explain.specs.declared.descriptor_role.Role.TheVariants as roles
 use Rattle.usb_explain.specs.declared.position.Owner.TheVariants as owners
 use Rattle.usb_explain.specs.declared.position.SetStanding.{SetStanding}
 use Rattle.usb_explain.specs.declared.position.Standing.{Standing}
@@ -102,10 +102,10 @@ here_set : (kind : SetKind) (is_dump : Bool) (running : Option SetSpeed) (s : St
     is_here is_dump (entered roles.Configuration running (d ++ behind) s) roles.Configuration d behind (finding rule (part_of_kind kind) (count_in kind (out (seen s))) 0 0) ≡ true)
 unfolding opened finding_at told_at
 here_set kinds.Configuration is_dump running s len body behind rule h =
-    here_is is_dump (opened running (len ∷ 2 ∷ body ++ behind) s) roles.Configuration (len ∷ 2 ∷ body) behind (finding rule parts.Main s.main_sets 0 0)
+    here_is is_dump (opened running (len ∷ 2 ∷ body ++ behind) s) roles.Configuration (len ∷ 2 ∷ body) behind rule parts.Main s.main_sets 0 0
     (same_place rule parts.Main s.main_sets 0 0) (h (opened running (len ∷ 2 ∷ body ++ behind) s).set)
 here_set kinds.OtherSpeed is_dump running s len body behind rule h =
-    here_is is_dump (opened running (len ∷ 7 ∷ body ++ behind) s) roles.Configuration (len ∷ 7 ∷ body) behind (finding rule parts.Other s.other_sets 0 0)
+    here_is is_dump (opened running (len ∷ 7 ∷ body ++ behind) s) roles.Configuration (len ∷ 7 ∷ body) behind rule parts.Other s.other_sets 0 0
     (same_place rule parts.Other s.other_sets 0 0) (h (opened running (len ∷ 7 ∷ body ++ behind) s).set)
 
 -- either type of its first descriptor begins a set

@@ -2,19 +2,19 @@
 use Rattle.std.proofs.Common.{◌≡◌, ℕ, ◌+◌, ◌-◌, Bool, true, false, List, [], ◌∷◌, ◌++◌, flat_map, length, map, take, Some, is_some, refl, ap, subst, ◌∙◌, arith, append_assoc, length-append}
 use Rattle.std.specs.List.{list_any}
 use Rattle.std.proofs.lemmas.Bool.{le-leb, or_parts}
-use Rattle.usb_rules.specs.declared.finding.Finding.{Finding}
-use Rattle.usb_rules.specs.declared.rule.Rule.{Rule}
-use Rattle.usb_rules.specs.declared.rule.Rule.TheVariants as rules
-use Rattle.usb_rules.specs.InOrder.{association_count, at_associations, at_interface, endpoint_associations, endpoint_in_order, setting_associations, setting_in_order}
-use Rattle.usb_rules.specs.Places.{at_each_counted, finding, when}
-use Rattle.usb_rules.specs.Rules.{lacks_default_setting, repeats_setting, wrong_endpoint_count}
+use Rattle.usb_file_data.specs.declared.finding.Finding.{Finding}
+use Rattle.usb_file_data.specs.declared.rule.Rule.{Rule}
+use Rattle.usb_file_data.specs.declared.rule.Rule.TheVariants as rules
+use Rattle.usb_file_data.specs.InOrder.{association_count, at_associations, at_interface, endpoint_associations, endpoint_in_order, setting_associations, setting_in_order}
+use Rattle.usb_file_data.specs.Places.{at_each_counted, finding, when}
+use Rattle.usb_file_data.specs.Rules.{lacks_default_setting, repeats_setting, wrong_endpoint_count}
 use Rattle.usb_set.specs.declared.tree.Endpoint.{Endpoint}
 use Rattle.usb_set.specs.declared.tree.Setting.{Setting}
 use Rattle.usb_set.specs.Descriptors.{descriptor_bytes, interface_descriptor}
 use Rattle.usb_set.specs.inside.Trees.{endpoint_bytes, extra_bytes, is_setting_typed, setting_bytes}
 use Rattle.usb_set.proofs.Trees.{setting_typed_parts}
-use Rattle.usb_explained_lines.specs.declared.role.Role.TheVariants as roles
-use Rattle.usb_explained_lines.specs.declared.told.Told.TheVariants as told
+use Rattle.usb_explain.specs.declared.descriptor_role.Role.TheVariants as roles
+use Rattle.usb_explain.specs.declared.finding_words.Told.TheVariants as told
 use Rattle.usb_explain.specs.declared.position.Owner.TheVariants as owners
 use Rattle.usb_explain.specs.declared.position.Standing.{Standing}
 use Rattle.usb_explain.specs.Findings.{finding_at, interface_told, is_here, told_at}
@@ -36,7 +36,7 @@ here_interface : (is_dump : Bool) (s : Standing) (d behind : List ℕ) (rule : R
     → is_here is_dump s roles.Interface d behind (finding rule s.set.part s.set.number s.set.settings 0) ≡ true
 unfolding finding_at told_at
 here_interface is_dump s d behind rule h =
-    here_is is_dump s roles.Interface d behind (finding rule s.set.part s.set.number s.set.settings 0) (same_place rule s.set.part s.set.number s.set.settings 0) (h (take (s.left - length d) behind))
+    here_is is_dump s roles.Interface d behind rule s.set.part s.set.number s.set.settings 0 (same_place rule s.set.part s.set.number s.set.settings 0) (h (take (s.left - length d) behind))
 
 interface_role : (s : Standing) (t : Setting) → inner_role s (descriptor_bytes (interface_descriptor t)) ≡ Some roles.Interface
 unfolding inner_role

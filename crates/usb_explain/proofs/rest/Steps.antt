@@ -4,10 +4,10 @@ use Rattle.std.specs.Option.{option_map}
 use Rattle.std.proofs.lemmas.Bool.{cond-false, cond-true, le-leb, ne_eqb}
 use Rattle.std.proofs.lemmas.Bool.Decides.{nat_tests}
 use Rattle.std.proofs.Math.Seq.{drop-append_seam, take-append_seam}
-use Rattle.usb_words.specs.Cut.{descriptor_length}
-use Rattle.usb_explained_lines.specs.declared.role.Role.{Role}
+use Rattle.usb_explain.specs.Cut.{descriptor_length}
+use Rattle.usb_explain.specs.declared.descriptor_role.Role.{Role}
 use Rattle.usb_explain.specs.declared.position.Standing.{Standing}
-use Rattle.usb_explained_lines.specs.declared.told.Told.{Told}
+use Rattle.usb_explain.specs.declared.finding_words.Told.{Told}
 use Rattle.usb_explain.specs.Contexts.{depth_of}
 use Rattle.usb_explain.specs.Laws.{Shown, counts_at, entry_of}
 use Rattle.usb_explain.specs.SetStart.{entered}

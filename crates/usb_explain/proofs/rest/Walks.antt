@@ -1,24 +1,26 @@
 -- Walks that come to the end of the bytes, and their text.
-use Rattle.std.proofs.Common.{◌≡◌, ◌≤◌, ℕ, zero, suc, List, [], ◌++◌, flat_map, length, map, drop, Some, sym, ap, subst, ◌∙◌, arith, append-nil, length-drop, Bool, true, false, cond, ◌∷◌, refl}
-use Rattle.usb_explained_lines.specs.declared.role.Role.{Role}
+use Rattle.std.proofs.Common.{◌≡◌, ◌≤◌, ℕ, zero, suc, List, [], ◌++◌, flat_map, length, map, drop, Option, Some, None, is_some, option_and_then, sym, ap, subst, ◌∙◌, arith, append-nil, length-drop, Bool, true, false, cond, ◌∷◌, refl}
+use Rattle.usb_explain.specs.declared.descriptor_role.Role.{Role}
 use Rattle.usb_explain.specs.declared.position.Standing.{Standing}
 use Rattle.usb_explain.specs.Explanations.{last_line, whole_end}
 use Rattle.usb_explain.specs.Laws.{Cut, EachFindingOnce, Follow, NothingLeft, Shown, TellsItsOwn, counts_at, entry_of, findings_of, lines_of, span_of}
-use Rattle.usb_explain.specs.Findings.{found_at, is_here}
+use Rattle.usb_explain.specs.Findings.{found_at, is_here, told_by, told_of}
 use Rattle.std.specs.List.{AllByRecursion, take_while}
 use Rattle.std.proofs.lemmas.List.Sums.{take_while-cons}
 use Rattle.usb_explain.specs.Roles.{next_role}
 use Rattle.usb_explain.specs.Standings.{start}
 use Rattle.usb_explain.specs.Subjects.{Subject}
 use Rattle.usb_explain.specs.Trees.{counts_in, outline}
-use Rattle.usb_explained_lines.specs.Rest.{rest_lines}
+use Rattle.usb_explain.specs.Rest.{rest_lines}
 use Rattle.usb_explain.specs.Walks.{behind_next, walked}
 use Rattle.usb_file_data.specs.declared.input.Input.{Input}
-use Rattle.usb_rules.specs.Findings.{input_findings}
+use Rattle.usb_file_data.specs.Findings.{input_findings}
 use Rattle.usb_explain.proofs.Standings.{start_at, start_told}
-use Rattle.usb_rules.specs.declared.finding.Finding.{Finding}
-use Rattle.usb_rules.specs.InOrder.{by_rule}
-use Rattle.usb_rules.proofs.Sorting.{as_many}
+use Rattle.usb_file_data.specs.declared.finding.Finding.{Finding}
+use Rattle.usb_file_data.specs.InOrder.{by_rule}
+use Rattle.usb_file_data.specs.Numbers.{rule_numbered}
+use Rattle.usb_file_data.specs.declared.rule.Rule.{Rule}
+use Rattle.usb_file_data.proofs.Sorting.{HasRule, as_many}
 use Rattle.usb_explain.proofs.Spans.{Aim, Ended, adding, ended_more, ended_none, left_behind, cut_parts, next_bounds, ends_at, shown_next}
 
 -- a walk from here ends so, if it may take as many steps as there are bytes
@@ -81,6 +83,29 @@ all_own : (subject : Subject) (shown : List Shown) → AllByRecursion (TellsItsO
 all_own subject [] = tt
 all_own subject (d ∷ ds) = (tells_own subject d, all_own subject ds)
 
+-- what is told at a descriptor has a rule
+has_rule : (is_dump : Bool) (s : Standing) (role : Role) (d behind : List ℕ) (f : Finding) (rule : Option Rule)
+    → is_some (option_and_then (told_by is_dump s role d behind f) rule) ≡ true → is_some rule ≡ true
+has_rule is_dump s role d behind f None h = h
+has_rule is_dump s role d behind f (Some rule) h = refl
+
+have_rules : (is_dump : Bool) (s : Standing) (role : Role) (d behind : List ℕ) (found : List Finding)
+    → AllByRecursion (λ f. is_here is_dump s role d behind f ≡ true) found → AllByRecursion HasRule found
+unfolding told_of
+have_rules is_dump s role d behind [] own = tt
+have_rules is_dump s role d behind (f ∷ found) own =
+    (has_rule is_dump s role d behind f (rule_numbered f.rule) own.0, have_rules is_dump s role d behind found own.1)
+
+both_all : (P : Finding → Type 0) (xs ys : List Finding) → AllByRecursion P xs → AllByRecursion P ys → AllByRecursion P (xs ++ ys)
+both_all P [] ys one two = two
+both_all P (x ∷ xs) ys one two = (one.0, both_all P xs ys one.1 two)
+
+all_have_rules : (subject : Subject) (shown : List Shown) → AllByRecursion (TellsItsOwn subject) shown → AllByRecursion HasRule (flat_map (findings_of subject) shown)
+all_have_rules subject [] own = tt
+all_have_rules subject (d ∷ ds) own =
+    both_all HasRule (findings_of subject d) (flat_map (findings_of subject) ds)
+    (have_rules subject.is_dump d.standing d.role d.bytes d.behind (findings_of subject d) own.0) (all_have_rules subject ds own.1)
+
 -- it tells each finding
 nothing_untold : (subject : Subject) (input : Input) (b : List ℕ) (first text : List ℕ) (findings : List Finding)
     → text ≡ first ++ walked (length b) subject (whole_end subject (length subject.found) b) start b → by_rule subject.found ≡ findings
@@ -90,18 +115,20 @@ nothing_untold subject input b first text findings e sorts ended =
     let ends : length (flat_map (λ d. d.bytes) w.shown) ≡ w.end = ends_at w.shown w.end w.spans in
     let cut : Cut b w.shown [] = subst (λ l. Cut b w.shown l) ended.aimed.0 w.cut in
     let left : drop w.end b ≡ [] = left_behind (flat_map (λ d. d.bytes) w.shown) [] b w.end (cut_parts w.shown b [] cut) ends in
-    let many : length subject.found ≡ length findings = sym (as_many subject.found) ∙ ap (λ (l : List Finding). length l) sorts in
-    let at_end : whole_end subject (length subject.found) b w.end ≡ last_line (length findings) =
-    ap (λ l. rest_lines subject.manner.look w.end l ++ last_line (length subject.found)) left ∙ ap (λ n. last_line n) many in
     let told : flat_map (findings_of subject) w.shown ≡ subject.found =
     sym (append-nil (flat_map (findings_of subject) w.shown)) ∙ ap (λ l. flat_map (findings_of subject) w.shown ++ l) (sym ended.all_told) ∙ w.tells
     ∙ ap (λ k. drop k subject.found) start_told in
+    let own = all_own subject w.shown in
+    let ruled : AllByRecursion HasRule subject.found = subst (λ l. AllByRecursion HasRule l) told (all_have_rules subject w.shown own) in
+    let many : length subject.found ≡ length findings = sym (as_many subject.found ruled) ∙ ap (λ (l : List Finding). length l) sorts in
+    let at_end : whole_end subject (length subject.found) b w.end ≡ last_line (length findings) =
+    ap (λ l. rest_lines subject.manner.look w.end l ++ last_line (length subject.found)) left ∙ ap (λ n. last_line n) many in
     record {
       shown = w.shown;
       lines = e ∙ ap (λ l. first ++ l) (w.lines subject.manner.look (whole_end subject (length subject.found) b) ∙ ap (λ l. flat_map (lines_of subject) w.shown ++ l) at_end);
       cut = cut;
       told = ap (λ l. by_rule l) told ∙ sorts;
-      own = all_own subject w.shown;
+      own = own;
     }
 
 -- with the counts of the input, and the entries of its outline

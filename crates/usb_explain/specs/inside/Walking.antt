@@ -1,7 +1,7 @@
 -- What a walk keeps.
 use Rattle.std.specs.Prelude.{◌≡◌, ◌≤◌, ℕ, List, ◌++◌, length, Option, Some, None}
-use Rattle.usb_listing.specs.Output.{Held}
-use Rattle.usb_listing.specs.inside.Pages.{Puts}
+use Rattle.usb_text.specs.Output.{Held}
+use Rattle.usb_text.specs.inside.Pages.{Puts}
 use Rattle.usb_explain.specs.declared.position.SettingStanding.{SettingStanding}
 use Rattle.usb_explain.specs.declared.position.Standing.{Standing}
 use Rattle.usb_explain.specs.Standings.{start}

@@ -7,7 +7,7 @@ use Rattle.usb_fields.specs.Qualifier.{qualifier_bytes, qualifier_fault}
 use Rattle.usb_fields.specs.Units.{units_bytes, unit_fault}
 use Rattle.usb_set.specs.declared.tree.Configuration.{Configuration}
 use Rattle.usb_set.specs.declared.fault.SetWhy.{SetWhy}
-use Rattle.usb_base.specs.Bytes.{AreBytes}
+use Rattle.usb_fields.specs.Bytes.{AreBytes}
 use Rattle.usb_set.specs.Faults.{Begins, Faulty}
 use Rattle.usb_set.specs.Judgement.{Judgement}
 

@@ -1,10 +1,10 @@
 -- What may still be asked for falls with each answer.
 use Rattle.std.specs.Prelude.{◌≡◌, ◌<◌, ◌≤◌}
-use Rattle.usb_base.specs.declared.speed.Speed.{Speed}
+use Rattle.usb_fields.specs.declared.speed.Speed.{Speed}
 use Rattle.usb_fields.specs.Packet.{Reply as Answer}
-use Rattle.usb_transfer.specs.Limits.{LimitView}
-use Rattle.usb_transfer.specs.Transfer.{TransferView, taken}
-use Rattle.usb_transfer.specs.Bound.{left}
+use Rattle.usb_host.specs.Limits.{LimitView}
+use Rattle.usb_host.specs.Transfer.{TransferView, taken}
+use Rattle.usb_host.specs.Bound.{left}
 use Rattle.usb_host.specs.declared.place.Place.{Place}
 use Rattle.usb_host.specs.declared.kept.Kept.{Kept}
 use Rattle.usb_host.specs.Steps.{ResetDue, Reading, HostView, new_host, reset, Takes}

@@ -1,6 +1,6 @@
 -- A host, as the code holds it.
 use Rattle.std.specs.Prelude.{ℕ, ◌<◌, Bool, if◌then◌else◌}
-use Rattle.usb_transfer.specs.Transfer.{TransferView}
+use Rattle.usb_host.specs.Transfer.{TransferView}
 use Rattle.usb_host.specs.declared.place.Place.{Place}
 use Rattle.usb_host.specs.declared.kept.Kept.{Kept}
 use Rattle.usb_host.specs.declared.host.Host.TheInside.{Inside}

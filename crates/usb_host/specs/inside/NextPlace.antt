@@ -3,10 +3,10 @@ use Rattle.std.specs.Prelude.{◌≡◌, ◌+◌, ◌≤◌, true, false, Bool, 
 use Rattle.std.specs.declared.alloc.AllocError.{AllocError}
 use Rattle.usb_set.specs.declared.fault.SetFault.{SetFault}
 use Rattle.usb_set.specs.declared.decoder.Progress.{Progress}
-use Rattle.usb_transfer.specs.declared.why.Why.{Why}
-use Rattle.usb_transfer.specs.declared.why.Why.TheVariants.{Memory}
-use Rattle.usb_transfer.specs.Plan.{Plan, Begin}
-use Rattle.usb_transfer.specs.Transfer.{Hearing, Brings, Completes}
+use Rattle.usb_host.specs.declared.why.Why.{Why}
+use Rattle.usb_host.specs.declared.why.Why.TheVariants.{Memory}
+use Rattle.usb_host.specs.Plan.{Plan, Begin}
+use Rattle.usb_host.specs.Transfer.{Hearing, Brings, Completes}
 use Rattle.usb_host.specs.declared.kept.Kept.{Kept}
 use Rattle.usb_host.specs.declared.kept.Kept.TheVariants as kept
 use Rattle.usb_host.specs.declared.place.Place.{Place}
@@ -21,16 +21,20 @@ use Rattle.usb_host.specs.inside.Places.{place_of}
 use Rattle.usb_host.specs.Keeping.{Keeps}
 use Rattle.usb_host.specs.Steps.{blames_bus, LacksMemory, Grows}
 
--- what is due next, beside this draft; or why the read of this place is refused, or memory was wanting where that is asked for
-abbrev pub LeadsTo : Place → Place → Draft → Result Due Why → Type 0
-LeadsTo here target d (Ok due) = place_of due d ≡ target
-LeadsTo here target d (Err why) = (Grows Completes here × (why ≡ Memory)) ⊎ (target ≡ stopped here why)
-
 -- whether an enumeration has ended at a place
 abbrev pub is_end : Place → Bool
 is_end (Reported f) = true
 is_end (Stopped trouble) = true
 is_end place = false
+
+-- memory was wanting after a read that leads on to this place
+abbrev pub GrowsTo : Hearing → Place → Place → Type 0
+GrowsTo heard here target = Grows heard here × (is_end target ≡ false)
+
+-- what is due next, beside this draft; or why the read of this place is refused, or memory was wanting where that is asked for
+abbrev pub LeadsTo : Place → Place → Draft → Result Due Why → Type 0
+LeadsTo here target d (Ok due) = place_of due d ≡ target
+LeadsTo here target d (Err why) = (GrowsTo Completes here target × (why ≡ Memory)) ⊎ (target ≡ stopped here why)
 
 -- the transfer of a plan, where there is one
 abbrev pub requested : Plan → Option Request
@@ -47,7 +51,7 @@ Adds old piece wants new = (result : Result Progress SetFault) × Keeps old piec
 
 -- where a read leads to that has ended so, or the end where memory is asked for and wanting
 abbrev pub Leads : Hearing → Place → Place → Place → Type 0
-Leads heard here target next = (Grows heard here × (next ≡ stopped here Memory)) ⊎ (next ≡ target)
+Leads heard here target next = (GrowsTo heard here target × (next ≡ stopped here Memory)) ⊎ (next ≡ target)
 
 -- a read of bytes that are kept has at most 255 of them
 abbrev pub HasRoom : Kept → ℕ → Type 0

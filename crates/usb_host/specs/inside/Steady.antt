@@ -1,6 +1,6 @@
 -- What every host keeps that has heard bytes.
 use Rattle.std.specs.Prelude.{◌*◌, ◌<◌, ◌≤◌, length, slice_index}
-use Rattle.usb_base.specs.Bytes.{AreBytes}
+use Rattle.usb_fields.specs.Bytes.{AreBytes}
 use Rattle.usb_host.specs.declared.place.Place.{Place}
 use Rattle.usb_host.specs.declared.place.Place.TheVariants.{First, Address, Device, Header, Set, Qualifier, Languages, Text, Configure, Reported, Stopped}
 use Rattle.usb_host.specs.declared.kept.Kept.{Kept}

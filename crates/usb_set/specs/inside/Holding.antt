@@ -1,6 +1,6 @@
 -- What a decoder holds: the bytes taken are a function of it.
 use Rattle.std.specs.Prelude.{◌≡◌, ℕ, List, [], ◌++◌, Option, Some, None}
-use Rattle.usb_base.specs.Bytes.{AreBytes}
+use Rattle.usb_fields.specs.Bytes.{AreBytes}
 use Rattle.usb_set.specs.declared.fault.SetFault.{SetFault}
 use Rattle.usb_set.specs.Decoding.{Decoding, gathers, has, refused}
 use Rattle.usb_set.specs.Layout.{set_bytes}

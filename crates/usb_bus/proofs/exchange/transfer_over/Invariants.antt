@@ -1,13 +1,13 @@
 use Rattle.std.proofs.Common.{◌≡◌, ◌≤◌, ◌+◌, []}
-use Rattle.usb_transfer.specs.Bound.{left}
+use Rattle.usb_host.specs.Bound.{left}
 use Rattle.usb_device.specs.Requests.{answer}
-use Rattle.usb_bus.specs.inside.Running.{failure_of, Leads}
+use Rattle.usb_bus.specs.inside.Running.{failure_of, LeadsTo}
 use Rattle.usb_bus.proofs.exchange.transfer_over.Given as goal
 
 abbrev pub invariant-loop-t : goal.invariant-loop-t
 invariant-loop-t l =
     record {
-      leads : Leads (answer l.initial.device.description.file) l.initial.device.description.file.device.packet l.fates l.before
+      leads : LeadsTo (answer l.initial.device.description.file) l.initial.device.description.file.device.packet l.fates l.before
           (record { transfer = l.initial.transfer; got = [] }) l.initial.device.device l.transactions
           (record { transfer = l.transfer; got = l.bytes.items }) l.device.device;
       description : l.device.description ≡ l.initial.device.description;

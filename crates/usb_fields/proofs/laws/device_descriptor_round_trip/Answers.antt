@@ -1,6 +1,6 @@
 use Rattle.std.proofs.Common.{get_or, arith}
-use Rattle.usb_base.specs.Bytes.{little_endian_at}
-use Rattle.usb_base.proofs.ByteLemmas.{written_field}
+use Rattle.usb_fields.specs.Bytes.{little_endian_at}
+use Rattle.usb_fields.proofs.ByteLemmas.{written_field}
 use Rattle.usb_fields.proofs.Legal.{headed, all_cells}
 use Rattle.usb_fields.proofs.laws.device_descriptor_round_trip.Goals as goal
 

@@ -1,6 +1,6 @@
 use Rattle.std.proofs.Common.{◌≡◌, ◌+◌, ◌*◌, ◌≤◌, ◌++◌, length, take, vec_len, vec_capacity}
 use Rattle.std.specs.List.{flat_map}
-use Rattle.usb_base.specs.Bytes.{little_endian}
+use Rattle.usb_fields.specs.Bytes.{little_endian}
 use Rattle.usb_fields.proofs.units.put_units.Given as goal
 
 abbrev pub invariant-loop-unit : goal.invariant-loop-unit

@@ -1,6 +1,6 @@
 use Rattle.std.proofs.Common.{◌≡◌, ◌++◌, ◌+◌, ◌*◌, ◌%◌, ◌≤◌, length, vec_capacity}
 use Rattle.std.specs.List.{flat_map}
-use Rattle.usb_base.specs.Bytes.{little_endian}
+use Rattle.usb_fields.specs.Bytes.{little_endian}
 use Rattle.usb_fields.proofs.units.units_in.Given as goal
 
 abbrev pub invariant-loop-rest : goal.invariant-loop-rest

@@ -1,6 +1,6 @@
 use Rattle.std.proofs.Common.{◌≡◌, ℕ, ◌+◌, ◌-◌, ◌<◌, ◌≤◌, List, [], ◌∷◌, ◌++◌, Bool, length, length-append, ap, sym, ◌∙◌, arith}
 use Rattle.std.specs.Prelude.{not}
-use Rattle.usb_base.specs.Marks.{IsNextAbsent, is_marked}
+use Rattle.usb_fields.specs.Marks.{IsNextAbsent, is_marked}
 use Rattle.usb_file_data.specs.inside.Marks.{marked_among}
 use Rattle.usb_file_data.proofs.Folds.{among_found, among_skip}
 use Rattle.usb_file_data.proofs.named_strings.put_marked.Goals as goal

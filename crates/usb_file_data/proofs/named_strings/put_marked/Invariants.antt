@@ -1,5 +1,5 @@
 use Rattle.std.proofs.Common.{◌≡◌, ◌-◌, ◌≤◌, length}
-use Rattle.usb_base.specs.Marks.{is_marked}
+use Rattle.usb_fields.specs.Marks.{is_marked}
 use Rattle.usb_file_data.specs.inside.Marks.{marked_among}
 use Rattle.usb_file_data.proofs.named_strings.put_marked.Given as goal
 

@@ -1,6 +1,6 @@
 use Rattle.std.proofs.Common.{◌≡◌, drop}
 use Rattle.std.specs.Prelude.{fold, map}
-use Rattle.usb_base.specs.Marks.{marked, is_marked}
+use Rattle.usb_fields.specs.Marks.{marked, is_marked}
 use Rattle.usb_file_data.specs.Named.{interface_string_index}
 use Rattle.usb_file_data.proofs.string_marks.mark_settings.Given as goal
 

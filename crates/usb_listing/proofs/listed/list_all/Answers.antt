@@ -1,6 +1,6 @@
 use Rattle.std.proofs.Common.{◌≡◌, Some, length, refl, rules, slice_get}
 use Rattle.std.proofs.lemmas.Option.{slice_get_read}
-use Rattle.usb_listing.proofs.Pages.{on_err}
+use Rattle.usb_text.proofs.Pages.{on_err}
 use Rattle.usb_listing.proofs.Rows.{row_broken, row_put}
 use Rattle.usb_listing.proofs.listed.list_all.Goals as goal
 

@@ -1,6 +1,6 @@
 use Rattle.std.proofs.Common.{take}
 use Rattle.std.specs.List.{flat_map}
-use Rattle.usb_listing.specs.inside.Pages.{Puts}
+use Rattle.usb_text.specs.inside.Pages.{Puts}
 use Rattle.usb_listing.proofs.listed.list_all.Given as goal
 
 abbrev pub invariant-loop-item : goal.invariant-loop-item

@@ -1,7 +1,7 @@
 use Rattle.std.proofs.Common.{[]}
 use Rattle.std.proofs.lemmas.Result.{on_err_weaker}
-use Rattle.usb_listing.proofs.Pages.{not_begun, on_err, puts_whole_front}
-use Rattle.usb_listing.proofs.HasBytes.{device_has, longer}
+use Rattle.usb_text.proofs.Pages.{longer, not_begun, on_err, puts_whole_front}
+use Rattle.usb_listing.proofs.HasBytes.{device_has}
 use Rattle.usb_listing.proofs.listing.list.Goals as goal
 
 pub returns-clause-err : goal.returns-clause-err

@@ -1,5 +1,5 @@
-use Rattle.usb_listing.proofs.Pages.{not_begun, on_err}
-use Rattle.usb_listing.proofs.HasBytes.{longer, qualifier_has}
+use Rattle.usb_text.proofs.Pages.{longer, not_begun, on_err}
+use Rattle.usb_listing.proofs.HasBytes.{qualifier_has}
 use Rattle.usb_listing.proofs.listing.list_other.Goals as goal
 
 pub returns-in_err-put_qualifier-in-Some-clause-err : goal.returns-in_err-put_qualifier-in-Some-clause-err

@@ -1,5 +1,5 @@
-use Rattle.usb_listing.proofs.Pages.{not_begun, on_err}
-use Rattle.usb_listing.proofs.HasBytes.{languages_has, longer}
+use Rattle.usb_text.proofs.Pages.{longer, not_begun, on_err}
+use Rattle.usb_listing.proofs.HasBytes.{languages_has}
 use Rattle.usb_listing.proofs.string_listing.list_strings.Goals as goal
 
 pub returns-in_err-put_languages-in-Some-clause-err : goal.returns-in_err-put_languages-in-Some-clause-err

@@ -14,8 +14,8 @@ returns c =
     let begun : app_of c.subcommand_required-usbdesc.result ≡ requiring (versioned (new_app (codes "usbdesc"))) =
     ap app_of_fields c.subcommand_required-usbdesc.ensures ∙ ap requiring (ap app_of_fields c.about.ensures
     ∙ (ap app_of_fields c.version.ensures ∙ ap versioned c.new.ensures.app)) in
-    let shows = c.in_ok-usbdesc.ensures ∙ ap (λ a. with_app a (new_app (codes "show"))) begun in
-    let checks = c.in_ok-usbdesc-2.ensures ∙ ap (λ a. with_app a (new_app (codes "check"))) shows in
-    let builds = c.in_ok-usbdesc-3.ensures ∙ ap (λ a. with_app a (new_app (codes "build"))) checks in
+    let shows = c.in_ok-usbdesc.ensures ∙ ap₂ with_app begun c.in_ok-show.ensures.app in
+    let checks = c.in_ok-usbdesc-2.ensures ∙ ap₂ with_app shows c.in_ok-check.ensures.app in
+    let builds = c.in_ok-usbdesc-3.ensures ∙ ap₂ with_app checks c.in_ok-build.ensures.app in
     let explains = c.in_ok-usbdesc-4.ensures ∙ ap₂ with_app builds c.in_ok-explain.ensures.app in
-    IfOk-weaker c.add_command-2.result _ _ (λ _ added. added ∙ ap₂ with_app explains c.in_ok-enumerate.ensures.app) c.add_command-2.ensures
+    IfOk-weaker c.add_command-5.result _ _ (λ _ added. added ∙ ap₂ with_app explains c.in_ok-enumerate.ensures.app) c.add_command-5.ensures

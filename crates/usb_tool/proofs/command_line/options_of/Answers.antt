@@ -1,6 +1,5 @@
 use Rattle.std.proofs.Common.{◌∙◌, ap, codes}
 use Rattle.clap.specs.Words.{found_of}
-use Rattle.usb_tool.specs.CommandLine.{is_given}
 use Rattle.clap.proofs.WalkLemmas.{first_value-rows}
 use Rattle.usb_tool.proofs.command_line.options_of.Goals as goal
 
@@ -13,6 +12,4 @@ returns c =
       naks = c.get_str-3.ensures ∙ first_value-rows found (codes "naks");
       attempts = c.get_str-4.ensures ∙ first_value-rows found (codes "attempts");
       fates = c.get_str-5.ensures ∙ first_value-rows found (codes "fates");
-      log = c.is_given.ensures ∙ ap is_given (c.get_str-6.ensures ∙ first_value-rows found (codes "log"));
-      with_strings = c.is_given-2.ensures ∙ ap is_given (c.get_str-7.ensures ∙ first_value-rows found (codes "with-strings"));
     }

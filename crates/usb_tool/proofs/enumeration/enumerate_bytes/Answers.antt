@@ -1,7 +1,8 @@
 use Rattle.std.proofs.Common.{◌≢◌, rules, subst}
-use Rattle.usb_description.specs.Described.{Described}
-use Rattle.usb_description.specs.declared.fault.DescriptionFault.TheVariants.{Memory}
-use Rattle.usb_listing.proofs.Pages.{appends_nothing, keeps_refl}
+use Rattle.usb_device.specs.Described.{Described}
+use Rattle.usb_device.specs.declared.fault.DescriptionFault.TheVariants.{Memory}
+use Rattle.usb_text.proofs.Pages.{appends_nothing, keeps_refl}
+use Rattle.usb_tool.specs.Enumerations.{under}
 use Rattle.usb_tool.specs.inside.Telling.{MakesRun}
 use Rattle.usb_tool.proofs.Telling.{first_reason, refusal_told, refused_some, result_cut, result_written, run_text_some, run_told}
 use Rattle.usb_tool.proofs.enumeration.enumerate_bytes.Goals as goal
@@ -9,8 +10,9 @@ use Rattle.usb_tool.proofs.enumeration.enumerate_bytes.Goals as goal
 pub returns-in-Err : goal.returns-in-Err
 returns-in-Err g c =
     let known : c.in-Err.fault ≢ Memory = search rules in
-    let why = first_reason c.in_ok-file.file c.args.settings.now.speed c.in-Err.fault c.in-Err.ensures.err known in
-    let told = refusal_told c.args.settings.now c.in_ok-file.file c.args.bytes.now c.in-Err.fault c.in_ok-file.ensures.ok why in
+    let why = first_reason c.in_ok-file.file c.args.s c.in-Err.fault c.in-Err.ensures.err known in
+    let set = under c.args.l c.args.s c.args.fates.now c.args.flags in
+    let told = refusal_told set c.in_ok-file.file c.args.bytes.now c.in-Err.fault c.in_ok-file.ensures.ok why in
     let held = g.W.Write.contents c.args.w.now in
     let unlogged = appends_nothing held held (keeps_refl held) in
     record {
@@ -21,13 +23,14 @@ returns-in-Err g c =
 pub returns : goal.returns
 returns g c =
     let run = c.in_ok-run.run' in
+    let set = under c.args.l c.args.s c.args.fates.now c.args.flags in
     let held = g.W.Write.contents c.args.w.now in
     let mid = g.W.Write.contents c.run_over.new.w in
     let made =
-    subst (λ (d : Described). MakesRun (record c.args.settings.now { speed = d.speed }) d.file held mid run) c.in-Ok.ensures.ok
+    subst (λ (d : Described). MakesRun (under c.args.l d.speed c.args.fates.now c.args.flags) d.file held mid run) c.in-Ok.ensures.ok
     c.in_ok-run.ensures.ok
     in
-    let told = run_told c.args.settings.now c.in_ok-file.file c.args.bytes.now run made.log c.in_ok-file.ensures.ok
+    let told = run_told set c.in_ok-file.file c.args.bytes.now run made.log c.in_ok-file.ensures.ok
     c.in-Ok.ensures.accepted made.enumerated in
     record {
       ok = result_written _ _ _ _ _ _ _ _ told made.written _ c.tell_run.ensures.ok;

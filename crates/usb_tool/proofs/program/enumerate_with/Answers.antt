@@ -1,12 +1,23 @@
-use Rattle.std.proofs.Common.{inl}
-use Rattle.usb_tool.specs.Enumerations.{EnumerateFails, Enumerated}
+use Rattle.std.proofs.Common.{◌≡◌, ap, inl, subst}
+use Rattle.std.specs.Prelude.{IfErr, IfOk}
+use Rattle.usb_tool.specs.Enumerations.{Conditions, EnumerateFails, Enumerated, under}
 use Rattle.usb_tool.proofs.Running.{command_ends}
 use Rattle.usb_tool.proofs.program.enumerate_with.Goals as goal
 
 pub returns-in-Ok : goal.returns-in-Ok
-returns-in-Ok g c = inl (record {
-  settings = c.in-Ok.settings;
-  settled = c.in-Ok.ensures.ok;
-  ended = command_ends (Enumerated c.in-Ok.settings) (EnumerateFails c.in-Ok.settings) _ _ _ _ _ _
-      c.run_enumerate.ensures.enumerated c.run_enumerate.ensures.err c.report.ensures;
-})
+returns-in-Ok g c =
+    let s = c.in-Ok.settings in
+    let taken = under s.limits s.speed s.fates.items c.args.flags in
+    let from = g.R.Read.remaining c.args.r.now in
+    let to = g.R.Read.remaining c.run_enumerate_with.new.r in
+    let held = g.W.Write.contents c.args.w.now in
+    let holds = g.W.Write.contents c.run_enumerate_with.new.w in
+    let same : under s.limits s.speed c.deref.result.now c.args.flags ≡ taken = ap (λ fates. under s.limits s.speed fates c.args.flags) c.deref.ensures.value in
+    inl (record {
+      settings = s;
+      settled = c.in-Ok.ensures.ok;
+      ended = command_ends (Enumerated taken) (EnumerateFails taken) _ from to held holds _ _ _
+          (subst (λ (k : Conditions). IfOk c.run_enumerate_with.result (Enumerated k from to held holds)) same c.run_enumerate_with.ensures.enumerated)
+          (subst (λ (k : Conditions). IfErr c.run_enumerate_with.result (EnumerateFails k from to held holds)) same c.run_enumerate_with.ensures.err)
+          c.report.ensures.line c.report.ensures.status;
+    })

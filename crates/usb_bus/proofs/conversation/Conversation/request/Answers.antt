@@ -1,10 +1,10 @@
 use Rattle.std.proofs.Common.{◌≡◌, [], Err, Ok, ap, sym, ◌∙◌, subst}
-use Rattle.usb_transfer.specs.Transfer.{begun}
+use Rattle.usb_host.specs.Transfer.{begun}
 use Rattle.usb_device.specs.Requests.{answer}
 use Rattle.usb_bus.specs.Bus.{HostEnd}
 use Rattle.usb_bus.specs.Converse.{IsTalk, TalkView}
 use Rattle.usb_bus.specs.inside.Conversations.{view_of}
-use Rattle.usb_bus.specs.inside.Running.{failure_of, Leads, settled}
+use Rattle.usb_bus.specs.inside.Running.{failure_of, LeadsTo, settled}
 use Rattle.usb_bus.proofs.Conversing.{none_told, talk_on}
 use Rattle.usb_bus.proofs.conversation.Conversation.request.Goals.{in-Ok+in_ok-push-in-Ok, in-Err}
 use Rattle.usb_bus.proofs.conversation.Conversation.request.Goals as goal
@@ -21,7 +21,7 @@ returns-clause-goes_on c requests t =
     let on = none_told i.talk.stopped (sym c.is_some.ensures ∙ c.if-is_some.false) in
     let is_new : c.new-transfer.result ≡ begun i.address file.device.packet i.naks q =
     c.new-transfer.ensures.view ∙ ap (λ x. begun i.address x i.naks q) c.self.invariant.0 in
-    let leads = subst (λ x. Leads (answer file) file.device.packet fates i.talk.transactions (record { transfer = x; got = [] }) i.device.device
+    let leads = subst (λ x. LeadsTo (answer file) file.device.packet fates i.talk.transactions (record { transfer = x; got = [] }) i.device.device
     c.in_ok-ended.ended.transactions h c.transfer_over.new.device.device) is_new c.in_ok-ended.ensures.leads in
     let asked = c.in_ok-ended.ensures.request ∙ ap (λ x. x.request) is_new in
     let brought : settled q.length h.got (failure_of h.transfer.stage) ≡ c.settle.result =

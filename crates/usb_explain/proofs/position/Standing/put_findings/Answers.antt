@@ -1,5 +1,5 @@
 use Rattle.std.proofs.Common.{List, ap, arith, length, length-drop}
-use Rattle.usb_rules.specs.declared.finding.Finding.{Finding}
+use Rattle.usb_file_data.specs.declared.finding.Finding.{Finding}
 use Rattle.usb_explain.proofs.Telling.{lines_on, one_on}
 use Rattle.usb_explain.proofs.position.Standing.put_findings.Goals as goal
 

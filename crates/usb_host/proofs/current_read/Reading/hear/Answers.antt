@@ -1,6 +1,6 @@
 use Rattle.std.specs.Prelude.{None}
 use Rattle.usb_fields.specs.Packet.{reply_of}
-use Rattle.usb_transfer.specs.Transfer.{taken}
+use Rattle.usb_host.specs.Transfer.{taken}
 use Rattle.usb_host.specs.inside.Places.{kept_of}
 use Rattle.usb_host.specs.inside.Reads.{kept_in, place_in}
 use Rattle.usb_host.proofs.TakeLemmas.{hears_brings, hears_steady, hears_goes, hears_completes, hears_fails}

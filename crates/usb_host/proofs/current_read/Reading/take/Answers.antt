@@ -2,7 +2,7 @@ use Rattle.std.proofs.Common.{sym, subst}
 use Rattle.usb_fields.specs.Packet.{reply_of}
 use Rattle.usb_host.specs.inside.Reads.{GoesOn, IsStanding, kept_in, place_in, standing, stands}
 use Rattle.usb_host.specs.Steps.{TakesHeard}
-use Rattle.usb_transfer.specs.Transfer.{taken}
+use Rattle.usb_host.specs.Transfer.{taken}
 use Rattle.usb_host.proofs.StandLemmas.{takes_on, takes_end}
 use Rattle.usb_host.proofs.current_read.Reading.take.Goals as goal
 

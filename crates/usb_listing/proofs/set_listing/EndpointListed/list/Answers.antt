@@ -1,6 +1,6 @@
 use Rattle.std.proofs.lemmas.Result.{on_err_weaker, on_ok_weaker}
-use Rattle.usb_listing.proofs.Pages.{broken_passed, not_begun, on_err, puts_after, puts_passed}
-use Rattle.usb_listing.proofs.HasBytes.{endpoint_has, longer}
+use Rattle.usb_text.proofs.Pages.{broken_passed, longer, not_begun, on_err, puts_after, puts_passed}
+use Rattle.usb_listing.proofs.HasBytes.{endpoint_has}
 use Rattle.usb_listing.proofs.set_listing.EndpointListed.list.Goals as goal
 
 pub returns-clause-ok : goal.returns-clause-ok

@@ -1,4 +1,4 @@
-use Rattle.usb_listing.proofs.Pages.{not_begun, on_err}
+use Rattle.usb_text.proofs.Pages.{not_begun, on_err}
 use Rattle.usb_listing.proofs.HasBytes.{extra_has}
 use Rattle.usb_listing.proofs.set_listing.ExtraListed.list.Goals as goal
 

@@ -1,4 +1,4 @@
-use Rattle.usb_listing.proofs.Pages.{not_begun, on_err}
+use Rattle.usb_text.proofs.Pages.{not_begun, on_err}
 use Rattle.usb_listing.proofs.HasBytes.{string_has}
 use Rattle.usb_listing.proofs.string_listing.SequenceU16Listed.list.Goals as goal
 

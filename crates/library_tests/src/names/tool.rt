@@ -1,0 +1,201 @@
+//! The names of usb_tool.
+use crate::names::files::file;
+use anyhow::Result as Outcome;
+use std::alloc::{AllocError, Global};
+use usb_device::{Description, State};
+use usb_fields::{Sequence, Setup, Speed};
+use usb_file::{DescriptorFile, FileFault, ListFault, NoMemory, list, write_file};
+use usb_host::{Limits, Trouble, Why};
+use usb_set::SetFault;
+use usb_tool::{
+    Fate, FatesFault, Line, Options, Reply, Run, Talk, ToolFault, converse, enumerate, laws,
+    read_fates, read_line, read_speed, run_build, run_check, run_enumerate, run_show, verdict,
+};
+
+fn fate_letter(fate: Fate) -> char {
+    match fate {
+        Fate::Pass => '.',
+        Fate::Busy => 'n',
+        Fate::LostDown => 'd',
+        Fate::LostUp => 'u',
+        Fate::LostAck => 'a',
+    }
+}
+
+fn reply_bytes(reply: &Reply) -> Option<&[u8]> {
+    match reply {
+        Reply::Bytes(bytes) => {
+            let bytes: &Sequence<u8> = bytes;
+            Some(bytes.as_slice())
+        }
+        Reply::Done => None,
+        Reply::Refused => None,
+    }
+}
+
+fn fates_fault_number(fault: FatesFault) -> u8 {
+    match fault {
+        FatesFault::Letter => 1,
+        FatesFault::Memory => 2,
+    }
+}
+
+/// Hexadecimal text is read beside what has these numbers.
+fn fault_number(fault: ToolFault) -> u8 {
+    match fault {
+        ToolFault::Read => 1,
+        ToolFault::Write => 2,
+        ToolFault::TooLarge => 3,
+        ToolFault::File(fault) => {
+            let _: FileFault = fault;
+            4
+        }
+        ToolFault::List(fault) => {
+            let _: ListFault = fault;
+            5
+        }
+        ToolFault::Set(fault) => {
+            let _: SetFault = fault;
+            6
+        }
+        ToolFault::Trailing(at) => {
+            let _: usize = at;
+            7
+        }
+        ToolFault::Memory => 8,
+        _ => 9,
+    }
+}
+
+/// Other lines are beside these.
+fn line_number(line: &Line<'_>) -> u8 {
+    match line {
+        Line::Show => 1,
+        Line::Check => 2,
+        Line::Build => 3,
+        Line::Enumerate(options) => {
+            let _: &Options<'_> = options;
+            4
+        }
+        _ => 5,
+    }
+}
+
+#[test]
+fn both_ends_over_a_bus(rt: HostRuntime) -> Outcome<()> {
+    let description = Description::new(rt.alloc(), file(rt.alloc())?, Speed::Full)?;
+    let limits = Limits::new(1, 16, 3)?;
+    let run: Run = enumerate(rt.alloc(), &description, limits, &[Fate::LostDown]);
+    let Run {
+        outcome,
+        attempts,
+        transactions,
+        state,
+    } = run;
+    let outcome: Result<DescriptorFile, Trouble> = outcome;
+    assert!(rt; outcome? == *description.file());
+    let counts: (u8, u64) = (attempts, transactions);
+    assert_eq!(rt; counts, (1, 32));
+    let state: State = state;
+    assert_eq!(rt; (state.address, state.selected), (1, 1));
+
+    // GET_DESCRIPTOR of the language list.
+    let requests = [Setup::from_bytes(&[0x80, 6, 0, 3, 0, 0, 255, 0])];
+    let talk: Result<Talk, NoMemory> = converse(rt.alloc(), &description, 16, &requests, &[]);
+    let Talk {
+        replies,
+        stopped,
+        transactions,
+        state,
+    } = talk?;
+    let replies: Sequence<Reply> = replies;
+    assert_eq!(rt;
+        replies.first().and_then(reply_bytes),
+        Some([4u8, 3, 9, 4].as_slice())
+    );
+    let stopped: Option<Why> = stopped;
+    let transactions: u128 = transactions;
+    assert_eq!(rt; (stopped, transactions), (None, 3));
+    let state: State = state;
+    assert_eq!(rt; state.address, 0);
+    Ok(())
+}
+
+/// The laws of both ends, which do nothing when they are called.
+#[test]
+fn laws_of_both_ends(_rt: HostRuntime) {
+    laws::both_ends_stay_in_one_transfer();
+    laws::an_attempt_stays_together_or_falls_silent();
+    laws::a_reset_brings_both_ends_together();
+}
+
+/// The listing of the file.
+fn listing(alloc: Global) -> Outcome<Vec<u8>> {
+    let mut text = Vec::new(alloc);
+    list(alloc, &file(alloc)?, &mut text)?;
+    Ok(text)
+}
+
+#[test]
+fn commands(rt: HostRuntime) -> Outcome<()> {
+    let bytes = write_file(rt.alloc(), &file(rt.alloc())?)?;
+    let text = listing(rt.alloc())?;
+    let mut input: &[u8] = &bytes;
+    let mut shown: Vec<u8> = Vec::new(rt.alloc());
+    let status: Result<u8, ToolFault> = run_show(rt.alloc(), &mut input, &mut shown);
+    assert_eq!(rt; (verdict(&status), shown.as_slice()), (0, text.as_slice()));
+
+    let mut input: &[u8] = &bytes;
+    let mut checked: Vec<u8> = Vec::new(rt.alloc());
+    let status: Result<u8, ToolFault> = run_check(rt.alloc(), &mut input, &mut checked);
+    assert_eq!(rt;
+        (verdict(&status), checked.as_slice()),
+        (0, b"no findings\n".as_slice())
+    );
+
+    let mut input: &[u8] = &text;
+    let mut built: Vec<u8> = Vec::new(rt.alloc());
+    let status: Result<u8, ToolFault> = run_build(rt.alloc(), &mut input, &mut built);
+    assert_eq!(rt; (verdict(&status), built.as_slice()), (0, bytes.as_slice()));
+
+    let mut input: &[u8] = &bytes;
+    let mut told: Vec<u8> = Vec::new(rt.alloc());
+    let limits = Limits::new(1, 16, 3)?;
+    let fates: &[Fate] = &[Fate::LostDown];
+    let status: Result<u8, ToolFault> = run_enumerate(
+        rt.alloc(),
+        &mut input,
+        &mut told,
+        limits,
+        Speed::Full,
+        fates,
+    );
+    assert_eq!(rt; verdict(&status), 0);
+    assert!(rt; told.starts_with(b"success attempts 1 transactions 32 address 1 value 1\n"));
+    Ok(())
+}
+
+#[test]
+fn faults_of_commands(rt: HostRuntime) {
+    let mut input: &[u8] = &[];
+    let mut checked: Vec<u8> = Vec::new(rt.alloc());
+    let status: Result<u8, ToolFault> = run_check(rt.alloc(), &mut input, &mut checked);
+    let status_number: u8 = verdict(&status);
+    assert_eq!(rt; status_number, 3);
+    assert_eq!(rt; status.map_err(fault_number), Err(4));
+}
+
+#[test]
+fn options(rt: HostRuntime) -> Outcome<()> {
+    let speed: Option<Speed> = read_speed("high");
+    assert_eq!(rt; speed, Some(Speed::High));
+    let fates: Result<Vec<Fate>, FatesFault> = read_fates(rt.alloc(), ".ndua");
+    let mut letters = String::new(rt.alloc());
+    for fate in &fates? {
+        letters.push(fate_letter(*fate))?;
+    }
+    assert_eq!(rt; letters.as_str(), ".ndua");
+    let fault = read_fates(rt.alloc(), ".x").err().map(fates_fault_number);
+    assert_eq!(rt; fault, Some(1));
+    Ok(())
+}

@@ -1,4 +1,0 @@
-pub mod ByteLemmas
-pub mod Cells
-pub mod FieldLemmas
-pub mod WordLemmas

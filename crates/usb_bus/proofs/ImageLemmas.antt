@@ -1,0 +1,213 @@
+-- A host that keeps a cursor and a decoder goes as one that keeps all replies and all bytes.
+use Rattle.std.proofs.Common.{◌≡◌, ℕ, ◌+◌, ◌==◌, Bool, true, false, nat_lt, if◌then◌else◌, List, [], ◌∷◌, ◌++◌, length, ◌⊎◌, inl, inr, refl, ap, sym, ◌∙◌, subst, length-append}
+use Rattle.std.specs.Prelude.{Result, Option}
+use Rattle.usb_fields.specs.declared.speed.Speed.{Speed}
+use Rattle.usb_fields.specs.declared.packet.Toggle.{Toggle}
+use Rattle.usb_fields.specs.declared.packet.Toggle.TheVariants.{Data0, Data1}
+use Rattle.usb_fields.specs.Packets.{is_same_toggle}
+use Rattle.usb_fields.specs.Packet.{Reply as Packet, NakReply, DataReply, NoReply}
+use Rattle.usb_set.specs.declared.fault.SetFault.{SetFault}
+use Rattle.usb_set.specs.declared.decoder.Progress.{Progress}
+use Rattle.usb_set.specs.Decoding.{Decoding}
+use Rattle.usb_host.specs.declared.why.Why.TheVariants.{NoAnswer, Busy, Stalled, TooLong, Unexpected, Malformed, Memory}
+use Rattle.usb_host.specs.declared.stage.TransferStage.{TransferStage}
+use Rattle.usb_host.specs.declared.stage.TransferStage.TheVariants.{Setup, DataIn, DataOut, StatusOut, StatusIn, Completed, Failed as TheFailed}
+use Rattle.usb_host.specs.Transfer.{TransferView, Hearing, Goes, Brings, Completes, Fails, Taken, taken, taken_at, taken_data, taken_status, kept_packet, struck, delayed}
+use Rattle.usb_device.specs.Step.{DeviceView}
+use Rattle.usb_host.specs.declared.reply.Reply.{Reply}
+use Rattle.usb_host.specs.declared.reply.Reply.TheVariants as replied
+use Rattle.usb_bus.specs.Bus.{HostEnd, hears, host_after, with_heard}
+use Rattle.usb_host.specs.Plan.{Plan}
+use Rattle.usb_bus.specs.Attempt.{Phase, Running, phase_of, reply_from, advance}
+use Rattle.usb_set.specs.declared.tree.Configuration.{Configuration}
+use Rattle.usb_host.specs.Limits.{LimitView}
+use Rattle.usb_host.specs.declared.place.Place.{Place}
+use Rattle.usb_host.specs.declared.place.Place.TheVariants.{First, Address, Device, Header, Set, Qualifier, Languages, Text, Configure, Reported, Stopped}
+use Rattle.usb_host.specs.declared.kept.Kept.{Kept}
+use Rattle.usb_host.specs.declared.kept.Kept.TheVariants as kept
+use Rattle.usb_host.specs.Order.{asks, next, stopped, bytes_lead, set_leads, done_leads, refused_leads}
+use Rattle.usb_host.specs.Keeping.{nothing_kept, set_kept}
+use Rattle.usb_host.specs.Gathered.{reached}
+use Rattle.usb_host.specs.Steps.{HostPhase, Reading, Ended, Grows, KeepsHeard, LacksMemory, TakesHeard, enter, read_leads, completed_leads, goes_on}
+use Rattle.usb_host.specs.inside.Steady.{FitsPlace}
+use Rattle.usb_bus.specs.inside.Image.{KeptFrom, IsInWork, IsTransfer, IsImage, plan_of}
+use Rattle.usb_bus.specs.inside.Readers.{ReadsSets}
+use Rattle.usb_bus.proofs.FollowLemmas.{walk_append}
+use Rattle.usb_bus.proofs.KeepLemmas.{SetLaws, feeds, same_set}
+use Rattle.usb_bus.proofs.OpenLemmas.{nothing_is_open}
+
+fits_kept : (place : Place) (b b' : List ℕ) → FitsPlace place (kept.Bytes b) → FitsPlace place (kept.Bytes b')
+fits_kept (Set kind f total) b b' h = h
+fits_kept place b b' h = tt
+
+fits_decoded : (place : Place) (d d' : Decoding) (o o' : Bool) → FitsPlace place (kept.Set d o) → FitsPlace place (kept.Set d' o')
+fits_decoded (Set kind f total) d d' o o' h = tt
+fits_decoded place d d' o o' h = h
+
+fits_nothing : (place : Place) → FitsPlace place (nothing_kept place)
+fits_nothing (Set kind f total) = tt
+fits_nothing place = tt
+
+nothing_from : (place : Place) → KeptFrom [] (nothing_kept place)
+nothing_from (Set kind f total) = (refl, nothing_is_open, refl)
+nothing_from place = refl
+
+-- the count of bytes stays that of the bytes
+abbrev Counts : List ℕ → Taken → Type 0
+Counts got x = x.transfer.kept ≡ length (with_heard got x.heard)
+
+if_counts : (got : List ℕ) (b : Bool) (x y : Taken) → Counts got x → Counts got y → Counts got (if b then x else y)
+if_counts got true x y p q = p
+if_counts got false x y p q = q
+
+struck_counts : (got : List ℕ) (t : TransferView) → t.kept ≡ length got → Counts got (struck t)
+struck_counts got t e = if_counts got (nat_lt t.strikes 2) _ _ e e
+
+delayed_counts : (got : List ℕ) (t : TransferView) → t.kept ≡ length got → Counts got (delayed t)
+delayed_counts got t e = if_counts got (nat_lt t.nak_count t.naks) _ _ e e
+
+kept_counts : (got : List ℕ) (t : TransferView) (bytes : List ℕ) → t.kept ≡ length got → Counts got (kept_packet t bytes)
+kept_counts got t bytes e = ap (λ n. n + length bytes) e ∙ sym (length-append got bytes)
+
+data_counts : (got : List ℕ) (t : TransferView) (toggle : Toggle) (bytes : List ℕ) → t.kept ≡ length got → Counts got (taken_data t toggle bytes)
+data_counts got t toggle bytes e =
+    if_counts got (nat_lt t.packet (length bytes)) _ _ e
+    (if_counts got (is_same_toggle toggle t.awaited) _ _
+    (if_counts got (nat_lt t.request.length (t.kept + length bytes)) _ _ e (kept_counts got t bytes e)) (struck_counts got t e))
+
+status_counts : (got : List ℕ) (t : TransferView) (toggle : Toggle) (bytes : List ℕ) → t.kept ≡ length got → Counts got (taken_status t toggle bytes)
+status_counts got t toggle (byte ∷ bytes) e = e
+status_counts got t Data0 [] e = struck_counts got t e
+status_counts got t Data1 [] e = e
+
+counts : (got : List ℕ) (t : TransferView) (stage : TransferStage) (packet : Packet) → t.kept ≡ length got → Counts got (taken_at t stage packet)
+counts got t Setup NoReply e = struck_counts got t e
+counts got t DataIn NakReply e = delayed_counts got t e
+counts got t DataIn (DataReply toggle bytes) e = data_counts got t toggle bytes e
+counts got t DataIn NoReply e = struck_counts got t e
+counts got t DataOut NakReply e = delayed_counts got t e
+counts got t DataOut NoReply e = struck_counts got t e
+counts got t StatusOut NakReply e = delayed_counts got t e
+counts got t StatusOut NoReply e = struck_counts got t e
+counts got t StatusIn NakReply e = delayed_counts got t e
+counts got t StatusIn (DataReply toggle bytes) e = status_counts got t toggle bytes e
+counts got t StatusIn NoReply e = struck_counts got t e
+counts got t _ _ e = e
+
+module _ (laws : SetLaws) (set_of : List ℕ → Option Configuration) (limits : LimitView) (speed : Speed) (exact : ReadsSets set_of) where
+  abbrev at : List Reply → Place
+  at replies = reached set_of speed First replies
+
+  abbrev plan : List Reply → Plan
+  plan replies = plan_of set_of limits speed replies
+
+  abbrev Image : List Reply → Phase → HostPhase → Type 0
+  Image replies p phase = IsImage set_of limits speed replies p phase
+
+  -- the next read begins
+  entered_by : (replies : List Reply) (place : Place) → at replies ≡ place → Image replies (phase_of limits.naks (asks limits.address place)) (enter limits place)
+  entered_by replies First e = (e, tt, fits_nothing First, record { is_transfer = refl; is_count = refl; is_kept = nothing_from First })
+  entered_by replies (Address first) e = (e, tt, fits_nothing (Address first), record { is_transfer = refl; is_count = refl; is_kept = nothing_from (Address first) })
+  entered_by replies (Device first) e = (e, tt, fits_nothing (Device first), record { is_transfer = refl; is_count = refl; is_kept = nothing_from (Device first) })
+  entered_by replies (Header kind f) e = (e, tt, fits_nothing (Header kind f), record { is_transfer = refl; is_count = refl; is_kept = nothing_from (Header kind f) })
+  entered_by replies (Set kind f total) e = (e, tt, fits_nothing (Set kind f total), record { is_transfer = refl; is_count = refl; is_kept = nothing_from (Set kind f total) })
+  entered_by replies (Qualifier f) e = (e, tt, fits_nothing (Qualifier f), record { is_transfer = refl; is_count = refl; is_kept = nothing_from (Qualifier f) })
+  entered_by replies (Languages f named) e = (e, tt, fits_nothing (Languages f named), record { is_transfer = refl; is_count = refl; is_kept = nothing_from (Languages f named) })
+  entered_by replies (Text f s named) e = (e, tt, fits_nothing (Text f s named), record { is_transfer = refl; is_count = refl; is_kept = nothing_from (Text f s named) })
+  entered_by replies (Configure f) e = (e, tt, fits_nothing (Configure f), record { is_transfer = refl; is_count = refl; is_kept = nothing_from (Configure f) })
+  entered_by replies (Reported f) e = e
+  entered_by replies (Stopped trouble) e = refl
+
+  pub entered : (replies : List Reply) (place : Place) → at replies ≡ place → Image replies (phase_of limits.naks (plan replies)) (enter limits place)
+  entered replies place e =
+      subst (λ x. Image replies (phase_of limits.naks (asks limits.address x)) (enter limits place)) (sym e) (entered_by replies place e)
+
+  -- a transfer that has completed leads to one place
+  done_same : (place : Place) → IsInWork place → next set_of speed place replied.Done ≡ done_leads place
+  done_same (Reported f) h = absurd (h)
+  done_same (Stopped trouble) h = absurd (h)
+  done_same place h = refl
+
+  refused_same : (place : Place) → IsInWork place → next set_of speed place replied.Refused ≡ refused_leads place
+  refused_same (Reported f) h = absurd (h)
+  refused_same (Stopped trouble) h = absurd (h)
+  refused_same place h = refl
+
+  bytes_next : (place : Place) (b b' : List ℕ) → IsInWork place → FitsPlace place (kept.Bytes b) → next set_of speed place (replied.Bytes b') ≡ bytes_lead speed place b'
+  bytes_next (Reported f) b b' h fits = absurd (h)
+  bytes_next (Stopped trouble) b b' h fits = absurd (h)
+  bytes_next (Set kind f total) b b' h fits = absurd (fits)
+  bytes_next place b b' h fits = refl
+
+  bytes_same : (place : Place) (e : HostEnd) (t : TransferView) (k : Kept) → IsInWork place → FitsPlace place k → IsTransfer e t k →
+      next set_of speed place (replied.Bytes e.got) ≡ read_leads speed place t.kept k
+  bytes_same place e t (kept.Bytes bytes) open_ fits is =
+      bytes_next place bytes e.got open_ fits ∙ ap (λ b. bytes_lead speed place b) (sym is.is_kept)
+  bytes_same (Set kind f total) e t (kept.Set d over) open_ fits is =
+      ap (λ o. set_leads speed (Set kind f total) kind f total (length e.got) o) (same_set laws set_of exact e.got d over is.is_kept)
+      ∙ ap (λ n. set_leads speed (Set kind f total) kind f total n (set_kept d over)) (sym is.is_count)
+  bytes_same place e t (kept.Set d over) open_ fits is = absurd (fits)
+
+  completed_same : (place : Place) (e : HostEnd) (t : TransferView) (k : Kept) → IsInWork place → FitsPlace place k → IsTransfer e t k →
+      next set_of speed place (reply_from e) ≡ completed_leads speed place t k
+  completed_same place e t k open_ fits is =
+      ap (λ x. next set_of speed place (if x.request.length == 0 then replied.Done else replied.Bytes e.got)) is.is_transfer
+      ∙ by_length (t.request.length == 0)
+    where
+      by_length : (z : Bool) → next set_of speed place (if z then replied.Done else replied.Bytes e.got)
+          ≡ (if z then done_leads place else read_leads speed place t.kept k)
+      by_length true = done_same place open_
+      by_length false = bytes_same place e t k open_ fits is
+
+  advanced : (replies : List Reply) (e : HostEnd) (stage : TransferStage) (d : DeviceView) (place : Place) (t : TransferView) (k : Kept) →
+      at replies ≡ place → IsInWork place → FitsPlace place k → IsTransfer e t k →
+      (let x = advance plan limits.naks replies e stage d in Image x.replies x.phase (goes_on limits speed place t k stage))
+  advanced replies e Completed d place t k here open_ fits is =
+      entered (replies ++ reply_from e ∷ []) (completed_leads speed place t k)
+      (walk_append set_of speed First replies (reply_from e)
+      ∙ ap (λ x. next set_of speed x (reply_from e)) here ∙ completed_same place e t k open_ fits is)
+  advanced replies e (TheFailed Stalled) d place t k here open_ fits is =
+      entered (replies ++ replied.Refused ∷ []) (refused_leads place)
+      (walk_append set_of speed First replies replied.Refused
+      ∙ ap (λ x. next set_of speed x replied.Refused) here ∙ refused_same place open_)
+  advanced replies e (TheFailed NoAnswer) d place t k here open_ fits is = refl
+  advanced replies e (TheFailed Busy) d place t k here open_ fits is = refl
+  advanced replies e (TheFailed TooLong) d place t k here open_ fits is = refl
+  advanced replies e (TheFailed Unexpected) d place t k here open_ fits is = refl
+  advanced replies e (TheFailed Malformed) d place t k here open_ fits is = refl
+  advanced replies e (TheFailed Memory) d place t k here open_ fits is = refl
+  advanced replies e Setup d place t k here open_ fits is = (here, open_, fits, is)
+  advanced replies e DataIn d place t k here open_ fits is = (here, open_, fits, is)
+  advanced replies e DataOut d place t k here open_ fits is = (here, open_, fits, is)
+  advanced replies e StatusOut d place t k here open_ fits is = (here, open_, fits, is)
+  advanced replies e StatusIn d place t k here open_ fits is = (here, open_, fits, is)
+
+  -- what is kept goes with the bytes
+  keeps : (place : Place) (got : List ℕ) (old new : Kept) (heard : Hearing) (result : Result Progress SetFault) → FitsPlace place old → KeptFrom got old →
+      KeepsHeard old heard result new → (LacksMemory heard old result → ⊥) → FitsPlace place new × KeptFrom (with_heard got heard) new
+  keeps place got old new Goes result fits is e fine = (subst (λ w. FitsPlace place w) (sym e) fits, subst (λ w. KeptFrom got w) (sym e) is)
+  keeps place got old new Completes result fits is e fine = (subst (λ w. FitsPlace place w) (sym e) fits, subst (λ w. KeptFrom got w) (sym e) is)
+  keeps place got old new (Fails why) result fits is e fine = (subst (λ w. FitsPlace place w) (sym e) fits, subst (λ w. KeptFrom got w) (sym e) is)
+  keeps place got (kept.Bytes bytes) (kept.Bytes new) (Brings piece) result fits is e fine =
+      (fits_kept place bytes new fits, e ∙ ap (λ b. b ++ piece) is)
+  keeps place got (kept.Bytes bytes) (kept.Set new now) (Brings piece) result fits is e fine = absurd (e)
+  keeps place got (kept.Set d over) (kept.Bytes new) (Brings piece) result fits is e fine = absurd (e)
+  keeps place got (kept.Set d over) (kept.Set new now) (Brings piece) result fits is e fine =
+      (fits_decoded place d new over now fits, elim (feeds laws got piece d new over now result is e.0 e.1) [ inl wants ↦ absurd (fine wants) | inr ok ↦ ok ])
+
+  pub stays : (replies : List Reply) (h : HostEnd) (d : DeviceView) (place : Place) (t : TransferView) (k : Kept) (packet : Packet) (new : HostPhase) →
+      Image replies (Running h) (Reading place t k) → TakesHeard limits speed place k (taken t packet) new →
+      ((result : Result Progress SetFault) × (LacksMemory (taken t packet).heard k result ⊎ Grows (taken t packet).heard place)
+      × (new ≡ Ended (stopped place Memory)))
+      ⊎ (let e = hears h packet in let x = advance plan limits.naks replies e e.transfer.stage d in Image x.replies x.phase new)
+  stays replies h d place t k packet new (here, open_, fits, is) (result, after, works, inl (wants, e)) =
+      inl (result, elim wants [ inl lacks ↦ inl lacks | inr grows ↦ inr grows.0 ], e)
+  stays replies h d place t k packet new (here, open_, fits, is) (result, after, works, inr (fine, e)) =
+      let by = taken t packet in
+      let end : HostEnd = host_after h.got by in
+      let w = keeps place h.got k after by.heard result fits is.is_kept works fine in
+      let image = advanced replies end by.transfer.stage d place by.transfer after here open_ w.0
+      (record { is_transfer = refl; is_count = counts h.got t t.stage packet is.is_count; is_kept = w.1 }) in
+      let same : hears h packet ≡ end = ap (λ x. host_after h.got (taken x packet)) is.is_transfer in
+      inr (subst (λ s. (let z = hears h packet in let x = advance plan limits.naks replies z z.transfer.stage d in Image x.replies x.phase s)) (sym e)
+      (subst (λ z. (let x = advance plan limits.naks replies z z.transfer.stage d in Image x.replies x.phase (goes_on limits speed place by.transfer after by.transfer.stage))) (sym same) image))

@@ -1,0 +1,158 @@
+-- A run that goes on, and its log.
+use Rattle.std.proofs.Common.{◌≡◌, ℕ, suc, ◌-◌, List, [], ◌∷◌, ◌++◌, Option, Some, None, inl, inr, ap, sym, ◌∙◌, refl, arith, subst, append_assoc}
+use Rattle.std.specs.Io.KnownBytes.{Appends, Keeps}
+use Rattle.usb_fields.specs.declared.speed.Speed.{Speed}
+use Rattle.usb_file_data.specs.declared.file.DescriptorFile.{DescriptorFile}
+use Rattle.usb_text.specs.Output.{Held}
+use Rattle.usb_text.proofs.Pages.{appends_more, appends_nothing, keeps_refl}
+use Rattle.std.specs.Option.{is_some}
+use Rattle.std.specs.Prelude.{◌⊎◌, Bool, true, codes, IfErr, IfOk, Result, Ok, Err}
+use Rattle.usb_fields.specs.Packet.{Reply, Sent}
+use Rattle.usb_host.specs.Transfer.{TransferView, due}
+use Rattle.usb_host.specs.declared.step.Step.{Step}
+use Rattle.usb_host.specs.Order.{step_of}
+use Rattle.usb_host.specs.declared.why.Why.{Why}
+use Rattle.usb_device.specs.Step.{DeviceView}
+use Rattle.usb_bus.specs.Run.{fate_at}
+use Rattle.usb_host.specs.Limits.{LimitView}
+use Rattle.usb_bus.specs.declared.fate.Fate.{Fate}
+use Rattle.usb_host.specs.Steps.{Ended, HostPhase, Reading, ResetDue, WantsReset, WantsSent, sends, step_in, transfer_in, wanted}
+use Rattle.usb_bus.specs.EnumerationRun.{Pair, new_pair}
+use Rattle.usb_bus.specs.Stepping.{Moves, answered}
+use Rattle.usb_bus.specs.Exchanges.{answered_in, cause_of}
+use Rattle.usb_bus.specs.Lines.{data_words, device_part, device_words, given_up_part}
+use Rattle.usb_bus.specs.Bus.{brought}
+use Rattle.usb_bus.specs.inside.Seeing.{HasSeen, done_lines}
+use Rattle.usb_bus.specs.Log.{CutsOff, WritesLog, WritesLogLess, answered_part, count_before, exchange_lines, lines_with, log_text, step_lines, transfer_part}
+use Rattle.usb_bus.proofs.EnumerateLemmas.{runs_on}
+use Rattle.usb_bus.specs.inside.Walking.{AllWork, StepWork, Breaks, Leads, Walks}
+use Rattle.usb_bus.specs.declared.run.Run.{Run}
+use Rattle.usb_text.specs.declared.output.OutFault.{OutFault}
+
+-- a transfer wants no reset
+no_reset : (o : Option Sent) → sends o ≡ WantsReset → ⊥
+no_reset None e = absurd (cc)
+no_reset (Some sent) e = absurd (cc)
+
+-- what was seen of a transaction, and what both ends have then, are its lines
+seen_lines : (size number : ℕ) (fate : Fate) (step : Step) (t : TransferView) (answer : Reply) (y : Pair) (lines packet : List ℕ) (why : Option Why)
+    → HasSeen number fate (Some step) (Some t) answer y.host.phase [] lines packet why
+    → done_lines size true lines packet why y.host y.device ≡ lines_with size number fate (Some step) (Some t) answer y
+unfolding exchange_lines
+seen_lines size number fate step t answer y lines packet why (put, held, cause) =
+    let before = transfer_part step t in
+    let part = answered_part number fate t answer y.host.phase in
+    let device = device_part (device_words size y.device) (data_words answer) in
+    let last = given_up_part y.host.resets (cause_of t (brought fate answer) y.host.phase) in
+    rw (put, held, cause)
+    (ap (λ l. l ++ codes "\n" ++ last) (append_assoc before part device)
+    ∙ ap (λ l. l ++ last) (append_assoc before (part ++ device) (codes "\n"))
+    ∙ append_assoc before (part ++ device ++ codes "\n") last)
+
+-- The lines of a step are those with the answer that was seen.
+lines_at : (f : DescriptorFile) (fates : List Fate) (d : DeviceView) (y : Pair) (phase : HostPhase) (n now : ℕ) (lines packet : List ℕ) (why : Option Why)
+    → (wanted phase ≡ WantsReset)
+    ⊎ ((sent : Sent) × (wanted phase ≡ WantsSent sent) × (now ≡ suc n)
+    × HasSeen now (fate_at fates n) (step_in phase) (transfer_in phase) (answered f d sent (fate_at fates n)) y.host.phase [] lines packet why)
+    → done_lines f.device.packet (is_some (transfer_in phase)) lines packet why y.host y.device
+    ≡ lines_with f.device.packet now (fate_at fates (now - 1)) (step_in phase) (transfer_in phase) (answered_in f d (wanted phase) (fate_at fates (now - 1))) y
+lines_at f fates d y ResetDue n now lines packet why by = refl
+lines_at f fates d y (Ended place) n now lines packet why by = refl
+lines_at f fates d y (Reading place t k) n now lines packet why (inl reset) = absurd (no_reset (due t) reset)
+lines_at f fates d y (Reading place t k) n now lines packet why (inr (sent, wants, number, seen)) =
+    let before : now - 1 ≡ n = omega arith in
+    let same : answered_in f d (wanted (Reading place t k)) (fate_at fates (now - 1)) ≡ answered f d sent (fate_at fates n) = rw (before, wants) refl in
+    let at : fate_at fates (now - 1) ≡ fate_at fates n = ap (fate_at fates) before in
+    seen_lines f.device.packet now (fate_at fates n) (step_of place) t (answered f d sent (fate_at fates n)) y lines packet why seen
+    ∙ ap (λ a. lines_with f.device.packet now (fate_at fates n) (Some (step_of place)) (Some t) a y) (sym same)
+    ∙ ap (λ fate. lines_with f.device.packet now fate (Some (step_of place)) (Some t) (answered_in f d (wanted (Reading place t k)) (fate_at fates (now - 1))) y) (sym at)
+
+-- by what is known of each part of it
+pub step_put : (f : DescriptorFile) (fates : List Fate) (x y : Pair) (n now number size : ℕ) (fate : Fate) (is : Bool) (step : Option Step) (transfer : Option TransferView)
+    (old lines packet : List ℕ) (why : Option Why) (text : List ℕ) → Moves f fates x n y now
+    → ((sent : Sent) → wanted x.host.phase ≡ WantsSent sent
+    → HasSeen number fate step transfer (answered f x.device sent (fate_at fates n)) y.host.phase old lines packet why)
+    → text ≡ done_lines size is lines packet why y.host y.device → is ≡ is_some (transfer_in x.host.phase) → old ≡ [] → size ≡ f.device.packet → fate ≡ fate_at fates n
+    → (now ≡ suc n → number ≡ now) → step ≡ step_in x.host.phase → transfer ≡ transfer_in x.host.phase → text ≡ step_lines f fates now x y
+step_put f fates x y n now number size fate is step transfer old lines packet why text (inl (r, e)) seen put kind none of at count in_work before =
+    put ∙ rw (of, kind) (lines_at f fates x.device y x.host.phase n now lines packet why (inl r.due))
+step_put f fates x y n now number size fate is step transfer old lines packet why text (inr (t, e)) seen put kind none of at count in_work before =
+    let was = seen t.sent t.due in
+    let counted = count e in
+    put ∙ rw (of, kind) (lines_at f fates x.device y x.host.phase n now lines packet why
+    (inr (
+      t.sent,
+      t.due,
+      e,
+      rw (sym counted, sym at, sym none, sym in_work, sym before)
+          (subst (λ u. HasSeen number fate step transfer (answered f x.device t.sent u) y.host.phase old lines packet why) (sym at) was),
+    )))
+
+-- the count before a step
+before_is : (f : DescriptorFile) (fates : List Fate) (x y : Pair) (n now : ℕ) → Moves f fates x n y now → count_before (wanted x.host.phase) now ≡ n
+before_is f fates x y n now (inl (r, e)) = rw r.due e
+before_is f fates x y n now (inr (t, e)) = rw t.due (omega arith)
+
+-- a run that goes on, and what is done at each step
+module _ {W : Type 0} (f : DescriptorFile) (speed : Speed) (limits : LimitView) (fates : List Fate) (does : StepWork W) where
+  pub leads_none : (last : Pair) (w : W) → last ≡ new_pair limits speed → Leads f speed limits fates does 0 last w w
+  leads_none last w new = record { earlier = []; runs = (new, refl); work = refl }
+
+  pub leads_on : (x y : Pair) (n now : ℕ) (from mid to : W)
+      → Leads f speed limits fates does n x from mid → Moves f fates x n y now → does x y now mid to → Leads f speed limits fates does now y from to
+  leads_on x y n now from mid to l moves did = record {
+    earlier = x ∷ l.earlier;
+    runs = runs_on f fates (new_pair limits speed) l.earlier x y n now l.runs moves;
+    work = (mid, subst (λ m. AllWork does l.earlier m x from mid) (sym (before_is f fates x y n now moves)) l.work, did);
+  }
+
+-- the lines of all steps are the log
+pub log_written : {W : Type 0} (contents : W → Held) (f : DescriptorFile) (fates : List Fate) (earlier : List Pair) (n : ℕ) (last : Pair) (from to : W)
+    → AllWork (λ x y m a b. Appends (contents a) (contents b) (step_lines f fates m x y)) earlier n last from to
+    → Appends (contents from) (contents to) (log_text f fates earlier n last)
+unfolding log_text
+log_written contents f fates [] n last from to same =
+    appends_nothing (contents from) (contents to) (subst (λ w. Keeps (contents from) (contents w)) (sym same) (keeps_refl (contents from)))
+log_written contents f fates (x ∷ earlier) n last from to (mid, before, step) =
+    appends_more (contents from) (contents mid) (contents to) _ _
+    (log_written contents f fates earlier (count_before (wanted x.host.phase) n) x from mid before) step
+
+-- of a run that ended, and of one that was broken
+module _ {W : Type 0} (contents : W → Held) (f : DescriptorFile) (speed : Speed) (limits : LimitView) (fates : List Fate) (from to : W) where
+  abbrev writes : StepWork W
+  writes x y n a b = Appends (contents a) (contents b) (step_lines f fates n x y)
+
+  abbrev cuts : OutFault → StepWork W
+  cuts fault x y n a b = CutsOff fault (contents a) (contents b) (step_lines f fates n x y)
+
+  pub log_of : (r : Result Run OutFault) → IfOk r (Walks f speed limits fates writes from to) → IfOk r (WritesLog f speed limits fates (contents from) (contents to))
+  log_of (Err fault) walks = tt
+  log_of (Ok run) w = record {
+    log = log_text f fates w.leads.earlier run.transactions w.last;
+    of_run = record {
+      earlier = w.leads.earlier;
+      last = w.last;
+      runs = w.leads.runs;
+      attempts = w.attempts;
+      outcome = w.outcome;
+      state = w.state;
+      text = refl;
+    };
+    written = log_written contents f fates w.leads.earlier run.transactions w.last from to w.leads.work;
+  }
+
+  pub log_less : (r : Result Run OutFault) → IfErr r (λ fault. Breaks f speed limits fates writes (cuts fault) from to)
+      → IfErr r (WritesLogLess f speed limits fates (contents from) (contents to))
+  log_less (Ok run) breaks = tt
+  log_less (Err fault) b = record {
+    earlier = b.leads.earlier;
+    before = b.before;
+    transactions = b.transactions;
+    runs = b.leads.runs;
+    last = b.last;
+    now = b.now;
+    moves = b.moves;
+    between = contents b.mid;
+    logged = log_written contents f fates b.leads.earlier b.transactions b.before from b.mid b.leads.work;
+    written = b.broken;
+  }

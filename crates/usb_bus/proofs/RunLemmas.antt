@@ -1,0 +1,307 @@
+-- A run of both ends is the image of attempts by a plan.
+use Rattle.std.proofs.Common.{◌≡◌, ℕ, zero, suc, ◌<◌, ◌≤◌, Bool, true, false, if◌then◌else◌, nat_lt, List, [], ◌∷◌, ◌++◌, Option, Some, None, ◌⊎◌, inl, inr, refl, ap, sym, ◌∙◌, arith, subst}
+use Rattle.std.proofs.lemmas.Bool.Decides.{nat_tests}
+use Rattle.usb_fields.specs.declared.speed.Speed.{Speed}
+use Rattle.usb_fields.specs.Packet.{Sent, Reply as Answer}
+use Rattle.usb_set.specs.declared.tree.Configuration.{Configuration}
+use Rattle.usb_file_data.specs.declared.file.DescriptorFile.{DescriptorFile}
+use Rattle.usb_host.specs.declared.why.Why.{Why}
+use Rattle.usb_host.specs.declared.why.Why.TheVariants.{NoAnswer, Busy, Stalled, TooLong, Unexpected, Malformed, Memory}
+use Rattle.usb_host.specs.declared.stage.TransferStage.{TransferStage}
+use Rattle.usb_host.specs.declared.stage.TransferStage.TheVariants.{Setup, DataIn, DataOut, StatusOut, StatusIn, Completed, Failed as TheFailed}
+use Rattle.usb_host.specs.declared.reply.Reply.{Reply}
+use Rattle.usb_host.specs.Limits.{LimitView}
+use Rattle.usb_host.specs.Plan.{Plan}
+use Rattle.usb_host.specs.Transfer.{TransferView, due, taken}
+use Rattle.usb_fields.specs.declared.setup.Setup.{Setup as SetupPacket}
+use Rattle.usb_device.specs.declared.state.State.{State}
+use Rattle.usb_device.specs.Requests.{Outcome}
+use Rattle.usb_device.specs.Step.{DeviceView, new_device}
+use Rattle.usb_bus.specs.declared.fate.Fate.{Fate}
+use Rattle.usb_bus.specs.declared.fate.Fate.TheVariants.{Pass}
+use Rattle.usb_bus.specs.Fates.{losses, busies}
+use Rattle.usb_bus.specs.Bus.{HostEnd, carried, exchanged, hears}
+use Rattle.usb_bus.specs.Attempt.{Phase, Running, Succeeded, Broken, Attempt, proceed, advance, attempt_step}
+use Rattle.usb_bus.specs.Run.{fate_at, fates_used}
+use Rattle.usb_host.specs.declared.step.Step.{Step}
+use Rattle.usb_host.specs.declared.step.Trouble.{Trouble}
+use Rattle.usb_host.specs.declared.place.Place.{Place}
+use Rattle.usb_host.specs.declared.place.Place.TheVariants.{First, Reported, Stopped}
+use Rattle.usb_host.specs.declared.kept.Kept.{Kept}
+use Rattle.usb_host.specs.Order.{stopped}
+use Rattle.usb_host.specs.Gathered.{reached}
+use Rattle.usb_host.specs.Steps.{HostPhase, ResetDue, Reading, Ended, HostView, WantsReset, WantsSent, wanted, sends, enter, settled, blames_bus, TakesHeard, TakesIn}
+use Rattle.usb_bus.specs.Enumerate.{brings, configured_state, ends_heard}
+use Rattle.usb_host.proofs.AskingLemmas.{wants_reset, reset_is}
+use Rattle.usb_bus.specs.Series.{Series, fresh, settle, series_step, series_run}
+use Rattle.usb_bus.specs.inside.Judged.{Verdict}
+use Rattle.usb_bus.specs.inside.Image.{plan_of, IsImage, StaysImage}
+use Rattle.usb_bus.specs.EnumerationRun.{Pair, new_pair, IsReset, IsTransactionAt, RunsAt}
+use Rattle.usb_bus.specs.inside.Ends.{PlaceEndsWell, GoesWell}
+use Rattle.usb_bus.proofs.HeardLemmas.{wanting_heard}
+
+-- one transaction more
+fates_used-more : (fates : List Fate) (n : ℕ) → fates_used fates (suc n) ≡ fates_used fates n ++ fate_at fates n ∷ []
+fates_used-more [] zero = refl
+fates_used-more (f ∷ fates) zero = refl
+fates_used-more [] (suc n) = ap (λ fs. Pass ∷ fs) (fates_used-more [] n)
+fates_used-more (f ∷ fates) (suc n) = ap (λ fs. f ∷ fs) (fates_used-more fates n)
+
+-- what is sent is due
+is_due : (o : Option Sent) (sent : Sent) → sends o ≡ WantsSent sent → o ≡ Some sent
+is_due None sent e = absurd (cc)
+is_due (Some other) sent e = cc
+
+ends_with : (fates : List Fate) (fate : Fate) → ends_heard (fates ++ fate ∷ []) ≡ brings fate
+ends_with [] fate = refl
+ends_with (f ∷ []) fate = refl
+ends_with (f ∷ g ∷ fates) fate = ends_with (g ∷ fates) fate
+
+last_heard : (fates : List Fate) (m n : ℕ) → n ≡ suc m → brings (fate_at fates m) ≡ true → ends_heard (fates_used fates n) ≡ true
+last_heard fates m n count arrived =
+    ap (λ k. ends_heard (fates_used fates k)) count ∙ ap ends_heard (fates_used-more fates m) ∙ ends_with (fates_used fates m) (fate_at fates m) ∙ arrived
+
+module _ (set_of : List ℕ → Option Configuration) (limits : LimitView) (speed : Speed) where
+  abbrev plan : List Reply → Plan
+  plan replies = plan_of set_of limits speed replies
+
+  abbrev Image : List Reply → Phase → HostPhase → Type 0
+  Image replies p phase = IsImage set_of limits speed replies p phase
+
+  abbrev begin : ℕ → Series
+  begin attempts = fresh plan limits.naks limits.attempts attempts
+
+  -- an attempt that goes on, or has ended
+  abbrev Stands : ℕ → HostPhase → DeviceView → Series → Type 0
+  Stands resets phase d x = (resets ≤ limits.attempts) × (x.attempts ≡ resets) × Image x.attempt.replies x.attempt.phase phase × (x.attempt.device ≡ d)
+
+  -- how both ends stand against the attempts of a plan
+  abbrev Matches : ℕ → HostPhase → DeviceView → Series → Type 0
+  Matches resets ResetDue d x = (resets < limits.attempts) × (x ≡ begin (suc resets))
+  Matches resets (Reading place t k) d x = Stands resets (Reading place t k) d x
+  Matches resets (Ended place) d x = Stands resets (Ended place) d x
+
+  record Follows (y : Pair) (x : Series) : Type 0 where
+    limits_are : y.host.limits ≡ limits
+    speed_is : y.host.speed ≡ speed
+    matches : Matches y.host.resets y.host.phase y.device x
+
+  -- or memory was wanting
+  abbrev IsWanting : HostView → Type 0
+  IsWanting v = (place : Place) × (v.phase ≡ Ended (stopped place Memory))
+
+  -- an attempt that failed by the bus
+  agains_match : (attempts : ℕ) (y : Attempt) (trouble : Trouble) (d : DeviceView) (small : Bool) → nat_lt attempts limits.attempts ≡ small →
+      attempts ≤ limits.attempts → y.phase ≡ Broken trouble.why → y.device ≡ d →
+      Matches attempts (if small then ResetDue else Ended (Stopped trouble)) d
+      (if small then begin (suc attempts) else record { attempts = attempts; attempt = y })
+  agains_match attempts y trouble d true e few p device = (let below : attempts < limits.attempts = grind (arith, nat_tests) in below, refl)
+  agains_match attempts y trouble d false e few p device =
+      (few, refl, subst (λ q. Image y.replies q (Ended (Stopped trouble))) (sym p) refl, device)
+
+  stays_broken : (attempts : ℕ) (y : Attempt) (trouble : Trouble) (d : DeviceView) → attempts ≤ limits.attempts → y.phase ≡ Broken trouble.why → y.device ≡ d →
+      Stands attempts (Ended (Stopped trouble)) d (record { attempts = attempts; attempt = y })
+  stays_broken attempts y trouble d few p device =
+      (few, refl, subst (λ q. Image y.replies q (Ended (Stopped trouble))) (sym p) refl, device)
+
+  broken_matches : (attempts : ℕ) (y : Attempt) (step : Step) (why : Why) (d : DeviceView) → y.phase ≡ Broken why → attempts ≤ limits.attempts → y.device ≡ d →
+      (let trouble : Trouble = record { step = step; why = why } in
+      Matches attempts (settled limits.attempts attempts (Ended (Stopped trouble))) d (settle plan limits.naks limits.attempts attempts y (Broken why)))
+  broken_matches attempts y step NoAnswer d e few device =
+      agains_match attempts y (record { step = step; why = NoAnswer }) d (nat_lt attempts limits.attempts) refl few e device
+  broken_matches attempts y step Busy d e few device =
+      agains_match attempts y (record { step = step; why = Busy }) d (nat_lt attempts limits.attempts) refl few e device
+  broken_matches attempts y step Stalled d e few device = stays_broken attempts y (record { step = step; why = Stalled }) d few e device
+  broken_matches attempts y step TooLong d e few device = stays_broken attempts y (record { step = step; why = TooLong }) d few e device
+  broken_matches attempts y step Unexpected d e few device = stays_broken attempts y (record { step = step; why = Unexpected }) d few e device
+  broken_matches attempts y step Malformed d e few device = stays_broken attempts y (record { step = step; why = Malformed }) d few e device
+  broken_matches attempts y step Memory d e few device = stays_broken attempts y (record { step = step; why = Memory }) d few e device
+
+  settles_match : (attempts : ℕ) (y : Attempt) (p : Phase) (phase : HostPhase) (d : DeviceView) → y.phase ≡ p → attempts ≤ limits.attempts → Image y.replies p phase →
+      y.device ≡ d → Matches attempts (settled limits.attempts attempts phase) d (settle plan limits.naks limits.attempts attempts y p)
+  settles_match attempts y (Running h) (Reading place t k) d e few image device = (few, refl, subst (λ q. Image y.replies q (Reading place t k)) (sym e) image, device)
+  settles_match attempts y (Running h) ResetDue d e few image device = absurd (image)
+  settles_match attempts y (Running h) (Ended place) d e few image device = absurd (image)
+  settles_match attempts y Succeeded (Ended (Reported f)) d e few image device =
+      (few, refl, subst (λ q. Image y.replies q (Ended (Reported f))) (sym e) image, device)
+  settles_match attempts y Succeeded phase d e few image device = absurd (image)
+  settles_match attempts y (Broken why) (Ended (Stopped trouble)) d e few image device =
+      subst (λ z. Matches attempts (settled limits.attempts attempts (Ended (Stopped trouble))) d (settle plan limits.naks limits.attempts attempts y (Broken z))) (sym image)
+      (broken_matches attempts y trouble.step trouble.why d (e ∙ ap Broken image) few device)
+  settles_match attempts y (Broken why) phase d e few image device = absurd (image)
+
+  -- a reset
+  resets_match : (x y : Pair) (s : Series) → IsReset x y → Follows x s → Follows y s
+  resets_match x y s r m =
+      let is = wants_reset x.host.phase r.due in
+      let before = subst (λ p. Matches x.host.resets p x.device s) is m.matches in
+      let host_is : y.host ≡ record x.host { resets = suc x.host.resets; phase = enter x.host.limits First } = r.host ∙ reset_is x.host is in
+      let attempt_is : s.attempt ≡ proceed plan limits.naks [] new_device = ap (λ z. z.attempt) before.1 in
+      let now : Stands (suc x.host.resets) (enter limits First) y.device s = (
+        (let below = before.0 in omega arith),
+        ap (λ z. z.attempts) before.1,
+        subst (λ z. Image z.replies z.phase (enter limits First)) (sym attempt_is)
+            (refl, tt, tt, record { is_transfer = refl; is_count = refl; is_kept = refl }),
+        ap (λ z. z.device) attempt_is ∙ sym r.device,
+      ) in
+      record {
+        limits_are = ap (λ h. h.limits) host_is ∙ m.limits_are;
+        speed_is = ap (λ h. h.speed) host_is ∙ m.speed_is;
+        matches =
+            subst (λ h. Matches h.resets h.phase y.device s) (sym host_is)
+            (subst (λ l. Matches (suc x.host.resets) (enter l First) y.device s) (sym m.limits_are) now);
+      }
+
+  module _ (stays : StaysImage set_of limits speed) (f : DescriptorFile) (table : State → SetupPacket → Outcome) where
+    abbrev stepped : Fate → Series → Series
+    stepped fate s = series_step plan limits.naks limits.attempts table f.device.packet fate s
+
+    advanced_device : (replies : List Reply) (h : HostEnd) (stage : TransferStage) (d : DeviceView) → (advance plan limits.naks replies h stage d).device ≡ d
+    advanced_device replies h Completed d = refl
+    advanced_device replies h (TheFailed NoAnswer) d = refl
+    advanced_device replies h (TheFailed Busy) d = refl
+    advanced_device replies h (TheFailed Stalled) d = refl
+    advanced_device replies h (TheFailed TooLong) d = refl
+    advanced_device replies h (TheFailed Unexpected) d = refl
+    advanced_device replies h (TheFailed Malformed) d = refl
+    advanced_device replies h (TheFailed Memory) d = refl
+    advanced_device replies h Setup d = refl
+    advanced_device replies h DataIn d = refl
+    advanced_device replies h DataOut d = refl
+    advanced_device replies h StatusOut d = refl
+    advanced_device replies h StatusIn d = refl
+
+    abbrev Stepped : Fate → List Reply → Phase → DeviceView → Sent → HostPhase → Type 0
+    Stepped fate replies p d sent new =
+        let y = attempt_step plan limits.naks table f.device.packet fate replies p d in
+        Image y.replies y.phase new × (y.device ≡ (carried table f.device.packet d sent fate).device)
+
+    attempt_matches : (fate : Fate) (replies : List Reply) (p : Phase) (d : DeviceView) (place : Place) (t : TransferView) (k : Kept) (sent : Sent) (new : HostPhase) →
+        Image replies p (Reading place t k) → due t ≡ Some sent →
+        TakesHeard limits speed place k (taken t (carried table f.device.packet d sent fate).reply) new →
+        ((new ≡ Ended (stopped place Memory)) × (brings fate ≡ true)) ⊎ Stepped fate replies p d sent new
+    attempt_matches fate replies (Running h) d place t k sent new image asks takes =
+        let r = carried table f.device.packet d sent fate in
+        let z = hears h r.reply in
+        let asked : due h.transfer ≡ Some sent = ap due image.3.is_transfer ∙ asks in
+        let there : exchanged table f.device.packet h d (due h.transfer) fate ≡ record { host = z; device = r.device } =
+        ap (λ o. exchanged table f.device.packet h d o fate) asked in
+        elim (stays replies h r.device place t k r.reply new image takes) [
+          | inl (result, wants, e) ↦ inl (e, wanting_heard table f.device.packet t k place sent fate d result asks wants)
+          | inr ok ↦
+              inr (subst (λ e. (let y = advance plan limits.naks replies e.host e.host.transfer.stage e.device in Image y.replies y.phase new × (y.device ≡ r.device)))
+              (sym there) (ok, advanced_device replies z z.transfer.stage r.device))
+        ]
+    attempt_matches fate replies Succeeded d place t k sent new image asks takes = absurd (image)
+    attempt_matches fate replies (Broken why) d place t k sent new image asks takes = absurd (image)
+
+    -- a transaction
+    reading_matches : (fate : Fate) (x y : Pair) (s : Series) (sent : Sent) (p : HostPhase) → wanted p ≡ WantsSent sent → Follows x s → Matches x.host.resets p x.device s →
+        TakesIn x.host p (carried table f.device.packet x.device sent fate).reply y.host →
+        y.device ≡ (carried table f.device.packet x.device sent fate).device →
+        (IsWanting y.host × (brings fate ≡ true)) ⊎ Follows y (stepped fate s)
+    reading_matches fate x y s sent ResetDue asks m before takes device = absurd (cc)
+    reading_matches fate x y s sent (Ended place) asks m before takes device = absurd (cc)
+    reading_matches fate x y s sent (Reading place t k) asks m (few, attempts_are, image, device_is) (phase, heard, host_is) device =
+        let a = s.attempt in
+        let answered : DeviceView → Answer = λ d. (carried table f.device.packet d sent fate).reply in
+        let heard_here : TakesHeard limits speed place k (taken t (answered a.device)) phase =
+        subst (λ d. TakesHeard limits speed place k (taken t (answered d)) phase) (sym device_is)
+        (subst (λ v. TakesHeard limits v place k (taken t (answered x.device)) phase) m.speed_is
+        (subst (λ l. TakesHeard l x.host.speed place k (taken t (answered x.device)) phase) m.limits_are heard)) in
+        let phase_is : y.host.phase ≡ settled limits.attempts x.host.resets phase =
+        ap (λ h. h.phase) host_is ∙ ap (λ l. settled l.attempts x.host.resets phase) m.limits_are in
+        elim (attempt_matches fate a.replies a.phase a.device place t k sent phase image (is_due (due t) sent asks) heard_here) [
+          | inl (wants, arrived) ↦ inl ((place, phase_is ∙ ap (λ z. settled limits.attempts x.host.resets z) wants), arrived)
+          | inr ok ↦
+              let z = attempt_step plan limits.naks table f.device.packet fate a.replies a.phase a.device in
+              let same_device : z.device ≡ y.device = ok.1 ∙ ap (λ d. (carried table f.device.packet d sent fate).device) device_is ∙ sym device in
+              let now = settles_match s.attempts z z.phase phase y.device refl (subst (λ n. n ≤ limits.attempts) (sym attempts_are) few) ok.0 same_device in
+              let resets_are : s.attempts ≡ y.host.resets = attempts_are ∙ sym (ap (λ h. h.resets) host_is) in
+              let later : y.host.phase ≡ settled limits.attempts s.attempts phase = phase_is ∙ ap (λ n. settled limits.attempts n phase) (sym attempts_are) in
+              inr (record {
+                limits_are = ap (λ h. h.limits) host_is ∙ m.limits_are;
+                speed_is = ap (λ h. h.speed) host_is ∙ m.speed_is;
+                matches =
+                    subst (λ p. Matches y.host.resets p y.device (stepped fate s)) (sym later)
+                    (subst (λ n. Matches n (settled limits.attempts s.attempts phase) y.device (stepped fate s)) resets_are now);
+              })
+        ]
+
+    transaction_matches : (fate : Fate) (x y : Pair) (s : Series) → IsTransactionAt table f.device.packet fate x y → Follows x s → (IsWanting y.host × (brings fate ≡ true)) ⊎ Follows y (stepped fate s)
+    transaction_matches fate x y s t m = reading_matches fate x y s t.sent x.host.phase t.due m m.matches t.host t.device
+
+    -- a host for which memory was wanting has ended
+    wants_no_reset : (v : HostView) → IsWanting v → wanted v.phase ≡ WantsReset → ⊥
+    wants_no_reset v w e = absurd (let z = sym e ∙ ap wanted w.1 in cc)
+
+    sends_nothing : (v : HostView) (sent : Sent) → IsWanting v → wanted v.phase ≡ WantsSent sent → ⊥
+    sends_nothing v sent w e = absurd (let z = sym e ∙ ap wanted w.1 in cc)
+
+    series_more : (used : List Fate) (fate : Fate) (s : Series) →
+        series_run plan limits.naks limits.attempts table f.device.packet (used ++ fate ∷ []) s
+        ≡ stepped fate (series_run plan limits.naks limits.attempts table f.device.packet used s)
+    series_more [] fate s = refl
+    series_more (g ∷ used) fate s = series_more used fate (stepped g s)
+
+    abbrev after : List Fate → ℕ → Series
+    after fates n = series_run plan limits.naks limits.attempts table f.device.packet (fates_used fates n) (begin 1)
+
+    runs_match : (some : 0 < limits.attempts) (fates : List Fate) (earlier : List Pair) (n : ℕ) (last : Pair) → RunsAt table f.device.packet fates (new_pair limits speed) earlier n last →
+        (IsWanting last.host × (ends_heard (fates_used fates n) ≡ true)) ⊎ Follows last (after fates n)
+    runs_match some fates [] n last (e, none) =
+        let new : Follows (new_pair limits speed) (begin 1) = record { limits_are = refl; speed_is = refl; matches = (some, refl) } in
+        inr (subst (λ m. Follows last (after fates m)) (sym none) (subst (λ y. Follows y (begin 1)) (sym e) new))
+    runs_match some fates (x ∷ earlier) n last (inl (r, more)) =
+        elim (runs_match some fates earlier n x more) [
+          | inl (wants, heard) ↦ absurd (wants_no_reset x.host wants r.due)
+          | inr m ↦ inr (resets_match x last (after fates n) r m)
+        ]
+    runs_match some fates (x ∷ earlier) n last (inr (m, count, t, more)) =
+        elim (runs_match some fates earlier m x more) [
+          | inl (wants, heard) ↦ absurd (sends_nothing x.host t.sent wants t.due)
+          | inr ok ↦
+              let same : stepped (fate_at fates m) (after fates m) ≡ after fates n =
+              sym (series_more (fates_used fates m) (fate_at fates m) (begin 1))
+              ∙ ap (λ used. series_run plan limits.naks limits.attempts table f.device.packet used (begin 1)) (sym (fates_used-more fates m))
+              ∙ ap (λ k. after fates k) (sym count) in
+              elim (transaction_matches (fate_at fates m) x last (after fates m) t ok) [
+                | inl (wants, arrived) ↦ inl (wants, last_heard fates m n count arrived)
+                | inr there ↦ inr (subst (λ s. Follows last s) same there)
+              ]
+        ]
+
+    abbrev Judged : List Reply → List Fate → Series → Phase → Type 0
+    Judged all used x p =
+        Verdict limits.naks limits.attempts all (configured_state limits.address f) (losses used) (busies used) x.attempts x.attempt p
+
+    module _ (all : List Reply) (reads : reached set_of speed First all ≡ Reported f) (used : List Fate) where
+      blames : (why : Why) → (why ≡ NoAnswer) ⊎ (why ≡ Busy) → blames_bus why ≡ true
+      blames why (inl e) = ap blames_bus e
+      blames why (inr e) = ap blames_bus e
+
+      ends : (x : Series) (p : Phase) (place : Place) (resets : ℕ) (d : DeviceView) → Image x.attempt.replies p (Ended place) → resets ≤ limits.attempts → x.attempts ≡ resets →
+          x.attempt.device ≡ d → Judged all used x p → PlaceEndsWell f limits used resets d.state place
+      ends x (Running h) place resets d image few is device v = absurd (image)
+      ends x Succeeded (Reported g) resets d image few is device v =
+          let same : Reported g ≡ Reported f = sym image ∙ ap (λ rs. reached set_of speed First rs) v.0 ∙ reads in
+          (cc, ap (λ z. z.state) (sym device) ∙ v.1)
+      ends x Succeeded place resets d image few is device v = absurd (image)
+      ends x (Broken why) (Stopped trouble) resets d image few is device v =
+          inr (subst (λ w. blames_bus w ≡ true) image (blames why v.0), (let full = v.1 in omega arith), v.2)
+      ends x (Broken why) place resets d image few is device v = absurd (image)
+
+      goes : (x : Series) (resets : ℕ) (phase : HostPhase) (d : DeviceView) → Matches resets phase d x → Judged all used x x.attempt.phase → GoesWell f limits used resets d.state phase
+      goes x resets ResetDue d m v = tt
+      goes x resets (Reading place t k) d m v = tt
+      goes x resets (Ended place) d m v = ends x x.attempt.phase place resets d m.2 m.0 m.1 m.3 v
+
+    pub run_ends : (some : 0 < limits.attempts) (all : List Reply) → reached set_of speed First all ≡ Reported f →
+        (fates : List Fate) (earlier : List Pair) (n : ℕ) (last : Pair) → RunsAt table f.device.packet fates (new_pair limits speed) earlier n last →
+        (let x = after fates n in Judged all (fates_used fates n) x x.attempt.phase) →
+        GoesWell f limits (fates_used fates n) last.host.resets last.device.state last.host.phase
+    run_ends some all reads fates earlier n last r v =
+        elim (runs_match some fates earlier n last r) [
+          | inl (wants, heard) ↦ subst (λ p. GoesWell f limits (fates_used fates n) last.host.resets last.device.state p) (sym wants.1) (inl (refl, heard))
+          | inr m ↦ goes all reads (fates_used fates n) (after fates n) last.host.resets last.host.phase last.device m.matches v
+        ]

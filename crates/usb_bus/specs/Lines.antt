@@ -1,0 +1,163 @@
+-- The lines of a log.
+use Rattle.std.specs.Prelude.{ℕ, suc, List, [], ◌∷◌, ◌++◌, ◌==◌, length, if◌then◌else◌, Bool, true, false, Option, Some, None, codes}
+use Rattle.std.specs.Fmt.{decimal}
+use Rattle.hex.specs.Hex.{encode_lower}
+use Rattle.usb_fields.specs.Packet.{Token, SetupToken, InToken, OutToken, Sent, Reply, AckReply, NakReply, StallReply, DataReply, NoReply}
+use Rattle.usb_fields.specs.Setup.{setup_bytes}
+use Rattle.usb_fields.specs.declared.packet.Toggle.{Toggle}
+use Rattle.usb_fields.specs.declared.packet.Toggle.TheVariants.{Data0, Data1}
+use Rattle.usb_text.specs.Columns.{column}
+use Rattle.usb_text.specs.Numbers.{count}
+use Rattle.usb_host.specs.declared.why.Why.{Why}
+use Rattle.usb_host.specs.declared.why.Why.TheVariants.{NoAnswer, Busy, Stalled, TooLong, Unexpected, Malformed, Memory}
+use Rattle.usb_host.specs.Why.{why_message}
+use Rattle.usb_host.specs.Transfer.{TransferView, Hearing, Goes, Brings, Completes, Fails, due}
+use Rattle.usb_device.specs.declared.stage.Stage.{Stage}
+use Rattle.usb_device.specs.declared.stage.Stage.TheVariants as stages
+use Rattle.usb_device.specs.Stages.{stage_kind}
+use Rattle.usb_device.specs.Step.{DeviceView}
+use Rattle.usb_device.specs.View.{acknowledged}
+use Rattle.usb_bus.specs.declared.fate.Fate.{Fate}
+use Rattle.usb_bus.specs.declared.fate.Fate.TheVariants as fates
+use Rattle.usb_host.specs.StepText.{step_text}
+use Rattle.usb_host.specs.declared.step.Step.{Step}
+use Rattle.usb_bus.specs.Requests.{numbered, request_words}
+use Rattle.usb_bus.specs.Bus.{brought}
+use Rattle.usb_bus.specs.Exchanges.{is_lost_ack, is_lost_down, is_lost_up}
+
+-- a bus reset begins an attempt
+unfoldable pub reset_line : ℕ → List ℕ
+reset_line attempt = numbered (codes "attempt ") attempt ++ codes ": bus reset\n"
+
+-- the address that a transaction goes to
+abbrev pub address_words : Option Sent → List ℕ
+address_words None = []
+address_words (Some sent) = numbered (codes ", to address ") sent.address
+
+-- a transfer begins: its step, its request, the address that its first transaction goes to, and its setup packet
+unfoldable pub transfer_line : Step → TransferView → List ℕ
+transfer_line step t =
+    step_text step ++ codes ": " ++ request_words t.request ++ address_words (due t)
+    ++ codes ", " ++ encode_lower (setup_bytes t.request) ++ codes "\n"
+
+-- the letter of a fate, as `--fates` has it
+abbrev pub fate_letter : Fate → List ℕ
+fate_letter fates.Pass = codes "."
+fate_letter fates.Busy = codes "n"
+fate_letter fates.LostDown = codes "d"
+fate_letter fates.LostUp = codes "u"
+fate_letter fates.LostAck = codes "a"
+
+-- words, and that what they tell of was lost
+abbrev pub marked : List ℕ → Bool → List ℕ
+marked words true = words ++ codes " lost"
+marked words false = words
+
+-- what the host sends
+abbrev pub token_words : Token → List ℕ
+token_words (SetupToken bytes) = codes "> SETUP"
+token_words InToken = codes "> IN"
+token_words (OutToken toggle bytes) = codes "> OUT"
+
+abbrev pub sent_words : Option Sent → Bool → List ℕ
+sent_words None lost = []
+sent_words (Some sent) lost = marked (token_words sent.token) lost
+
+-- what the device answers
+abbrev pub toggle_words : Toggle → List ℕ
+toggle_words Data0 = codes "< DATA0"
+toggle_words Data1 = codes "< DATA1"
+
+abbrev pub answer_words : Reply → Bool → List ℕ
+answer_words AckReply lost = marked (codes "< ACK") lost
+answer_words NakReply lost = marked (codes "< NAK") lost
+answer_words StallReply lost = marked (codes "< STALL") lost
+answer_words (DataReply toggle bytes) lost = marked (toggle_words toggle) lost
+answer_words NoReply lost = []
+
+-- the host's ACK of a data packet that has reached it
+abbrev pub ack_words : Reply → Bool → List ℕ
+ack_words (DataReply toggle bytes) lost = marked (codes "> ACK") lost
+ack_words reply lost = []
+
+-- The packets of a transaction: its number, its fate, what is sent, what the device answers, and the host's ACK.
+unfoldable pub packets_part : ℕ → Fate → Option Sent → Reply → List ℕ
+packets_part number fate sent answer =
+    codes "  " ++ column 6 (decimal number) ++ column 2 (fate_letter fate) ++ column 13 (sent_words sent (is_lost_down fate))
+    ++ column 15 (answer_words answer (is_lost_up fate)) ++ column 12 (ack_words (brought fate answer) (is_lost_ack fate))
+
+-- a strike: nothing came, or a data packet that came before
+abbrev pub strike_words : ℕ → List ℕ
+strike_words strikes = codes "strike " ++ decimal strikes
+
+-- a transfer goes on with no new byte
+abbrev pub going_words : TransferView → Reply → List ℕ
+going_words t AckReply = codes "accepted"
+going_words t NakReply = codes "NAK " ++ decimal t.nak_count
+going_words t (DataReply toggle bytes) = codes "duplicate, " ++ strike_words t.strikes
+going_words t StallReply = strike_words t.strikes
+going_words t NoReply = strike_words t.strikes
+
+-- a transfer has failed
+abbrev pub failure_words : TransferView → Why → List ℕ
+failure_words t NoAnswer = codes "strike 3: no answer"
+failure_words t Busy = codes "NAK " ++ decimal (suc t.nak_count) ++ codes ": busy"
+failure_words t Stalled = codes "stalled"
+failure_words t TooLong = codes "too long"
+failure_words t Unexpected = codes "unexpected"
+failure_words t Malformed = codes "malformed"
+failure_words t Memory = codes "out of memory"
+
+-- what a transfer has made of a reply, where this is the transfer after it
+abbrev pub heard_words : TransferView → Reply → Hearing → List ℕ
+heard_words t reply Goes = going_words t reply
+heard_words t reply (Brings bytes) = codes "has " ++ decimal t.kept ++ codes " of " ++ decimal t.request.length
+heard_words t reply Completes = codes "complete"
+heard_words t reply (Fails why) = failure_words t why
+
+-- What the host has: what its transfer has made of the reply. A transfer that completes may end the enumeration, by what
+-- it brought, and out of memory ends it anywhere.
+abbrev pub host_words : TransferView → Reply → Hearing → Option Why → List ℕ
+host_words t reply heard (Some Memory) = codes "out of memory"
+host_words t reply heard (Some Malformed) = heard_words t reply heard ++ codes ": malformed"
+host_words t reply heard why = heard_words t reply heard
+
+-- the stage that a device is in, with so many bytes of its data stage acknowledged
+abbrev pub stage_words : Stage → ℕ → List ℕ
+stage_words stages.Idle sent = codes "idle"
+stage_words stages.Halted sent = codes "halted"
+stage_words stages.Sending sent = codes "sending " ++ decimal sent
+stage_words stages.StatusOut sent = codes "status out"
+stage_words stages.Over sent = codes "over"
+stage_words stages.StatusIn sent = codes "status in"
+
+-- what the device has, where this is its packet size: its address, its configuration value, and its stage
+unfoldable pub device_words : ℕ → DeviceView → List ℕ
+device_words packet d =
+    decimal d.state.address ++ codes "/" ++ decimal d.state.selected ++ codes " "
+    ++ stage_words (stage_kind d.stage) (acknowledged packet d.stage)
+
+-- a data packet: how many bytes it has, and the bytes
+abbrev pub bytes_words : List ℕ → List ℕ
+bytes_words [] = codes "-"
+bytes_words (byte ∷ bytes) = encode_lower (byte ∷ bytes)
+
+abbrev pub packet_words : List ℕ → List ℕ
+packet_words bytes = column 9 (count (length bytes) (codes "byte")) ++ bytes_words bytes
+
+-- the data packet that the device has answered, if it has
+abbrev pub data_words : Reply → List ℕ
+data_words (DataReply toggle bytes) = packet_words bytes
+data_words reply = []
+
+-- what the device has, and after it the data packet, if there is one
+abbrev pub device_part : List ℕ → List ℕ → List ℕ
+device_part words packet = if length packet == 0 then words else column 22 words ++ packet
+
+-- an attempt is given up, for this reason
+unfoldable pub given_up_line : ℕ → Why → List ℕ
+given_up_line attempt why = numbered (codes "attempt ") attempt ++ codes " given up: " ++ why_message why ++ codes "\n"
+
+abbrev pub given_up_part : ℕ → Option Why → List ℕ
+given_up_part attempt None = []
+given_up_part attempt (Some why) = given_up_line attempt why

@@ -1,0 +1,106 @@
+-- The log of a run: the lines of its steps, and of no others.
+use Rattle.std.specs.Prelude.{◌≡◌, ℕ, ◌-◌, List, [], ◌∷◌, ◌++◌, Option, Some, codes, if◌then◌else◌}
+use Rattle.std.specs.Io.KnownBytes.{Appends, Keeps}
+use Rattle.usb_fields.specs.declared.speed.Speed.{Speed}
+use Rattle.usb_file_data.specs.declared.file.DescriptorFile.{DescriptorFile}
+use Rattle.usb_text.specs.declared.output.OutFault.{OutFault}
+use Rattle.usb_text.specs.declared.output.OutFault.TheVariants as outs
+use Rattle.usb_text.specs.Output.{AppendsLess, Held}
+use Rattle.usb_text.specs.Columns.{column}
+use Rattle.usb_fields.specs.Packet.{Reply}
+use Rattle.usb_host.specs.declared.why.Why.{Why}
+use Rattle.usb_host.specs.Limits.{LimitView}
+use Rattle.usb_host.specs.Transfer.{TransferView, due, is_untried, taken}
+use Rattle.usb_bus.specs.declared.fate.Fate.{Fate}
+use Rattle.usb_bus.specs.Run.{fate_at}
+use Rattle.usb_host.specs.declared.step.Step.{Step}
+use Rattle.usb_host.specs.Steps.{HostPhase, Wanted, WantsNothing, WantsReset, WantsSent, outcome_of, step_in, transfer_in, wanted}
+use Rattle.usb_bus.specs.declared.run.Run.{Run}
+use Rattle.usb_bus.specs.EnumerationRun.{Pair, Runs, new_pair}
+use Rattle.usb_bus.specs.Stepping.{Moves}
+use Rattle.usb_bus.specs.Bus.{brought}
+use Rattle.usb_bus.specs.Exchanges.{answered_in, cause_of, trouble_why}
+use Rattle.usb_bus.specs.Lines.{data_words, device_part, device_words, given_up_part, host_words, packets_part, reset_line, transfer_line}
+
+-- the line of a transfer, before its first transaction
+abbrev pub transfer_part : Step → TransferView → List ℕ
+transfer_part step t = if is_untried t.stage t.strikes then transfer_line step t else []
+
+-- What the host has after a transaction, where this was its transfer, this came of what the device answered, and the host
+-- has ended for this reason, if it has.
+abbrev pub host_part : TransferView → Reply → Option Why → List ℕ
+host_part t reply why = column 23 (host_words (taken t reply).transfer reply (taken t reply).heard why)
+
+-- what of a transaction's line is known once the host is so: its packets, and what the host has then
+abbrev pub answered_part : ℕ → Fate → TransferView → Reply → HostPhase → List ℕ
+answered_part number fate t answer phase =
+    packets_part number fate (due t) answer ++ host_part t (brought fate answer) (trouble_why (outcome_of phase))
+
+-- The line of a transaction: its packets, what the host has then, what the device has, and its data packet; and another line
+-- where the attempt is given up. This was the host's transfer before it, this the device's answer, and so both ends are after
+-- it; the device's packets have this size.
+unfoldable pub exchange_lines : ℕ → ℕ → Fate → TransferView → Reply → Pair → List ℕ
+exchange_lines packet number fate t answer after =
+    answered_part number fate t answer after.host.phase
+    ++ device_part (device_words packet after.device) (data_words answer) ++ codes "\n"
+    ++ given_up_part after.host.resets (cause_of t (brought fate answer) after.host.phase)
+
+-- The lines of a step: a transaction where a transfer is in work, with this answer, and else a bus reset.
+abbrev pub lines_with : ℕ → ℕ → Fate → Option Step → Option TransferView → Reply → Pair → List ℕ
+lines_with packet number fate (Some step) (Some t) answer after = transfer_part step t ++ exchange_lines packet number fate t answer after
+lines_with packet number fate step transfer answer after = reset_line after.host.resets
+
+-- the same of a step from one pair to the next, after which there were so many transactions
+abbrev pub step_lines : DescriptorFile → List Fate → ℕ → Pair → Pair → List ℕ
+step_lines f fates n before after =
+    let fate = fate_at fates (n - 1) in
+    let wants = wanted before.host.phase in
+    lines_with f.device.packet n fate (step_in before.host.phase) (transfer_in before.host.phase) (answered_in f before.device wants fate) after
+
+-- how many transactions there were before a step that the host wanted, where there are n after it
+abbrev pub count_before : Wanted → ℕ → ℕ
+count_before WantsReset n = n
+count_before (WantsSent sent) n = n - 1
+count_before WantsNothing n = n
+
+-- The log of a run of n transactions over these pairs, the newest first, up to the last one: a line for each reset and each
+-- transaction, in their order, before the first transaction of a transfer a line of that, and after the last one of an attempt
+-- that is given up a line of that.
+unfoldable pub log_text : DescriptorFile → List Fate → List Pair → ℕ → Pair → List ℕ
+log_text f fates [] n last = []
+log_text f fates (x ∷ earlier) n last =
+    log_text f fates earlier (count_before (wanted x.host.phase) n) x ++ step_lines f fates n x last
+
+-- this run has ended, with what `run` says, and this is its log
+pub record IsLogOf (f : DescriptorFile) (speed : Speed) (limits : LimitView) (fates : List Fate) (run : Run) (log : List ℕ) : Type 0 where
+  pub earlier : List Pair
+  pub last : Pair
+  pub runs : Runs f fates (new_pair limits speed) earlier run.transactions last
+  pub attempts : last.host.resets ≡ run.attempts
+  pub outcome : outcome_of last.host.phase ≡ Some run.outcome
+  pub state : last.device.state ≡ run.state
+  pub text : log ≡ log_text f fates earlier run.transactions last
+
+-- the log of that run was written
+pub record WritesLog (f : DescriptorFile) (speed : Speed) (limits : LimitView) (fates : List Fate) (held holds : Held) (run : Run) : Type 0 where
+  pub log : List ℕ
+  pub of_run : IsLogOf f speed limits fates run log
+  pub written : Appends held holds log
+
+-- what was written of lines: a prefix, which lacks at least their last byte, and nothing where memory was wanting for them
+abbrev pub CutsOff : OutFault → Held → Held → List ℕ → Type 0
+CutsOff outs.Write held holds lines = AppendsLess held holds lines
+CutsOff outs.Memory held holds lines = Keeps held holds
+
+-- The log of a run so far was written. Then a step was made, which leads from `before` to `last`, and its lines were cut off.
+pub record WritesLogLess (f : DescriptorFile) (speed : Speed) (limits : LimitView) (fates : List Fate) (held holds : Held) (fault : OutFault) : Type 0 where
+  pub earlier : List Pair
+  pub before : Pair
+  pub transactions : ℕ
+  pub runs : Runs f fates (new_pair limits speed) earlier transactions before
+  pub last : Pair
+  pub now : ℕ
+  pub moves : Moves f fates before transactions last now
+  pub between : Held
+  pub logged : Appends held between (log_text f fates earlier transactions before)
+  pub written : CutsOff fault between holds (step_lines f fates now before last)

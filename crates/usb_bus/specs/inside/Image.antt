@@ -1,0 +1,73 @@
+-- A host that keeps a place and hands the packets of a set to a decoder, against one that keeps all replies and all bytes.
+use Rattle.std.specs.Prelude.{◌≡◌, ℕ, nat_lt, List, length, Option, Result, ◌⊎◌, Bool, false}
+use Rattle.usb_fields.specs.declared.speed.Speed.{Speed}
+use Rattle.usb_fields.specs.Packet.{Reply as Answer}
+use Rattle.usb_set.specs.declared.tree.Configuration.{Configuration}
+use Rattle.usb_set.specs.declared.fault.SetFault.{SetFault}
+use Rattle.usb_set.specs.declared.decoder.Progress.{Progress}
+use Rattle.usb_set.specs.Decoding.{Decoding, gathers, has, refused}
+use Rattle.usb_set.specs.Faults.{Begins, Faulty, IsOpen}
+use Rattle.usb_host.specs.declared.why.Why.TheVariants.{Memory}
+use Rattle.usb_host.specs.declared.reply.Reply.{Reply}
+use Rattle.usb_host.specs.Limits.{LimitView}
+use Rattle.usb_host.specs.Plan.{Plan}
+use Rattle.usb_host.specs.Transfer.{TransferView, taken}
+use Rattle.usb_device.specs.Step.{DeviceView}
+use Rattle.usb_bus.specs.Bus.{HostEnd, hears}
+use Rattle.usb_bus.specs.Attempt.{Phase, Running, Succeeded, Broken, advance}
+use Rattle.usb_host.specs.declared.place.Place.{Place}
+use Rattle.usb_host.specs.declared.place.Place.TheVariants.{First, Reported, Stopped}
+use Rattle.usb_host.specs.declared.kept.Kept.{Kept}
+use Rattle.usb_host.specs.declared.kept.Kept.TheVariants.{Bytes, Set}
+use Rattle.usb_host.specs.Order.{asks, stopped}
+use Rattle.usb_host.specs.Gathered.{reached}
+use Rattle.usb_host.specs.Steps.{HostPhase, Reading, Ended, Grows, LacksMemory, TakesHeard}
+use Rattle.usb_host.specs.inside.Steady.{FitsPlace}
+
+-- What bytes that came in pieces have made of a decoder that was not out of memory, and whether bytes came after
+-- the set's last.
+abbrev pub DecodedFrom : List ℕ → Decoding → Bool → Type 0
+DecodedFrom got (gathers s) over = (s ≡ got) × IsOpen got × (over ≡ false)
+DecodedFrom got (has c) over = (n : ℕ) × Begins got c n × (over ≡ nat_lt n (length got))
+DecodedFrom got (refused fault) over = Faulty got fault.at fault.why
+
+-- what is kept says the same as these bytes
+abbrev pub KeptFrom : List ℕ → Kept → Type 0
+KeptFrom got (Bytes bytes) = bytes ≡ got
+KeptFrom got (Set d over) = DecodedFrom got d over
+
+-- there is a read at this place
+abbrev pub IsInWork : Place → Type 0
+IsInWork (Reported f) = ⊥
+IsInWork (Stopped trouble) = ⊥
+IsInWork place = Unit {0}
+
+-- one transfer, and what is kept says the same as all bytes
+pub record IsTransfer (h : HostEnd) (t : TransferView) (k : Kept) : Type 0 where
+  pub is_transfer : h.transfer ≡ t
+  pub is_count : t.kept ≡ length h.got
+  pub is_kept : KeptFrom h.got k
+
+module _ (set_of : List ℕ → Option Configuration) (limits : LimitView) (speed : Speed) where
+  -- the plan of an enumeration: what comes next of the replies so far
+  abbrev pub plan_of : List Reply → Plan
+  plan_of replies = asks limits.address (reached set_of speed First replies)
+
+  -- after these replies, a host in this phase is the image of a plan in that one
+  abbrev pub IsImage : List Reply → Phase → HostPhase → Type 0
+  IsImage replies (Running h) (Reading place t k) =
+      (reached set_of speed First replies ≡ place) × IsInWork place × FitsPlace place k × IsTransfer h t k
+  IsImage replies Succeeded (Ended (Reported f)) = reached set_of speed First replies ≡ Reported f
+  IsImage replies (Broken why) (Ended (Stopped trouble)) = why ≡ trouble.why
+  IsImage replies phase other = ⊥
+
+  -- whatever is answered, it stays one, or memory was wanting where that is asked for
+  abbrev pub StaysImage : Type 0
+  StaysImage =
+      (replies : List Reply) (h : HostEnd) (d : DeviceView) (place : Place) (t : TransferView) (k : Kept) (answer : Answer) (new : HostPhase) →
+      IsImage replies (Running h) (Reading place t k) → TakesHeard limits speed place k (taken t answer) new →
+      ((result : Result Progress SetFault) × (LacksMemory (taken t answer).heard k result ⊎ Grows (taken t answer).heard place)
+      × (new ≡ Ended (stopped place Memory)))
+      ⊎ (let e = hears h answer in
+      let x = advance plan_of limits.naks replies e e.transfer.stage d in
+      IsImage x.replies x.phase new)

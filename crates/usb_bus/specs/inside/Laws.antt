@@ -1,0 +1,82 @@
+-- The laws of attempts, of scripts and of runs that prove what holds of an enumeration.
+use Rattle.std.specs.Prelude.{◌≡◌, ℕ, false, List, [], Option, ◌<◌, ◌≤◌}
+use Rattle.usb_fields.specs.Bytes.{AreBytes}
+use Rattle.usb_fields.specs.declared.setup.Setup.{Setup as SetupPacket}
+use Rattle.usb_fields.specs.declared.speed.Speed.{Speed}
+use Rattle.usb_set.specs.declared.tree.Configuration.{Configuration}
+use Rattle.usb_file_data.specs.declared.file.DescriptorFile.{DescriptorFile}
+use Rattle.usb_file_data.specs.File.{file_bytes}
+use Rattle.usb_host.specs.declared.reply.Reply.{Reply}
+use Rattle.usb_host.specs.Limits.{LimitView, IsInRange}
+use Rattle.usb_host.specs.Plan.{Plan}
+use Rattle.usb_device.specs.Accepted.{Accepted}
+use Rattle.usb_device.specs.declared.state.State.{State}
+use Rattle.usb_device.specs.Requests.{Outcome, answer}
+use Rattle.usb_device.specs.Step.{new_device}
+use Rattle.usb_bus.specs.declared.fate.Fate.{Fate}
+use Rattle.usb_bus.specs.Fates.{losses, busies}
+use Rattle.usb_bus.specs.inside.Sound.{Follows}
+use Rattle.usb_bus.specs.Run.{fates_used}
+use Rattle.usb_host.specs.declared.place.Place.TheVariants.{First, Reported}
+use Rattle.usb_host.specs.Cost.{most}
+use Rattle.usb_host.specs.Gathered.{reached}
+use Rattle.usb_bus.specs.inside.Script.{replies_in, script}
+use Rattle.usb_bus.specs.Enumerate.{configured_state}
+use Rattle.usb_bus.specs.Series.{fresh, series_run}
+use Rattle.usb_bus.specs.inside.Judged.{Verdict}
+use Rattle.usb_bus.specs.inside.Image.{plan_of, StaysImage}
+use Rattle.usb_bus.specs.inside.Readers.{ReadsSets}
+use Rattle.usb_bus.specs.Beside.{IsBeside}
+use Rattle.usb_bus.specs.EnumerationRun.{Pair, new_pair, RunsAt}
+use Rattle.usb_bus.specs.inside.Ends.{GoesWell}
+
+-- For any plan that a device answers as expected, with a reset before each attempt, over every list of fates.
+abbrev pub SeriesHaveCauses : Type 0
+SeriesHaveCauses =
+    (plan : List Reply → Plan) (naks limit : ℕ) (answer : State → SetupPacket → Outcome) (cut : ℕ) (all : List Reply) (last : State)
+    (fates : List Fate) → Follows plan naks answer cut false all last new_device.state [] all →
+    (let x = series_run plan naks limit answer cut fates (fresh plan naks limit 1) in
+    Verdict naks limit all last (losses fates) (busies fates) x.attempts x.attempt x.attempt.phase)
+
+-- An enumeration of a device with accepted descriptors whose numbers fit their fields, and with any owner beside its table,
+-- over every list of fates: a success has all replies of the script, and the device is configured.
+abbrev pub EnumerationsHaveCauses : Type 0
+EnumerationsHaveCauses =
+    (set_of : List ℕ → Option Configuration) (limits : LimitView) (speed : Speed) (f : DescriptorFile) (table : State → SetupPacket → Outcome) (fates : List Fate) →
+    IsBeside (answer f) table → ReadsSets set_of → Accepted f speed → AreBytes (file_bytes f) → IsInRange limits.address limits.attempts →
+    (let plan = plan_of set_of limits speed in
+    let x = series_run plan limits.naks limits.attempts table f.device.packet fates (fresh plan limits.naks limits.attempts 1) in
+    Verdict limits.naks limits.attempts (replies_in (script limits.address f.device.packet speed f))
+    (configured_state limits.address f) (losses fates) (busies fates) x.attempts x.attempt x.attempt.phase)
+
+-- The replies of the script lead to a report of the descriptors.
+abbrev pub ReadsTheDescription : Type 0
+ReadsTheDescription =
+    (set_of : List ℕ → Option Configuration) (address : ℕ) (speed : Speed) (f : DescriptorFile) →
+    ReadsSets set_of → Accepted f speed → AreBytes (file_bytes f) →
+    reached set_of speed First (replies_in (script address f.device.packet speed f)) ≡ Reported f
+
+-- A host that keeps a place, and hands the packets of a set to its decoder as they come, goes as one that keeps all replies
+-- and all bytes, unless out of memory.
+abbrev pub KeepsTheImage : Type 0
+KeepsTheImage = (set_of : List ℕ → Option Configuration) (limits : LimitView) (speed : Speed) → ReadsSets set_of → StaysImage set_of limits speed
+
+-- Whatever a bus does to a host and a device with accepted descriptors, a report is these descriptors, and any other end has
+-- a cause.
+abbrev pub RunsEndWell : Type 0
+RunsEndWell =
+    (limits : LimitView) (speed : Speed) (f : DescriptorFile) (table : State → SetupPacket → Outcome) (fates : List Fate) (earlier : List Pair) (n : ℕ) (last : Pair) →
+    IsBeside (answer f) table → Accepted f speed → AreBytes (file_bytes f) → IsInRange limits.address limits.attempts →
+    RunsAt table f.device.packet fates (new_pair limits speed) earlier n last →
+    GoesWell f limits (fates_used fates n) last.host.resets last.device.state last.host.phase
+
+-- And the host begins no attempt too many, and asks for no transaction too many.
+abbrev pub RunsKeepLimits : Type 0
+RunsKeepLimits =
+    (limits : LimitView) (speed : Speed) (f : DescriptorFile) (table : State → SetupPacket → Outcome) (fates : List Fate) (earlier : List Pair) (n : ℕ) (last : Pair) →
+    IsBeside (answer f) table → AreBytes (file_bytes f) → 0 < limits.attempts → RunsAt table f.device.packet fates (new_pair limits speed) earlier n last →
+    (last.host.resets ≤ limits.attempts) × (n ≤ most limits)
+
+-- There is a reader of sets that the laws are about.
+abbrev pub SetsAreRead : Type 0
+SetsAreRead = (set_of : List ℕ → Option Configuration) × ReadsSets set_of

@@ -1,0 +1,111 @@
+//! An enumeration, from a new host and a new device to its outcome.
+ghost use Rattle.std.specs.Prelude.{◌≡◌, ◌≢◌, ◌<◌, ◌+◌, ◌^◌, IfSome, IsNone};
+ghost use Rattle.usb_fields.specs.Packet.{Sent};
+ghost use Rattle.usb_bus.specs.Run.{fate_at};
+ghost use Rattle.usb_host.specs.Cost.{left_to_ask};
+ghost use Rattle.usb_host.specs.Steps.{WantsSent, wanted};
+ghost use Rattle.usb_bus.specs.Enumerate.{EndsWell, IsEnumeration};
+ghost use Rattle.usb_bus.specs.Stepping.{IsStep, NoneIsLeft, answered, both};
+
+use crate::fate::Fate;
+use crate::host_exchange::exchange;
+use crate::observer::{Nobody, Observer};
+use crate::run::Run;
+use crate::steps::run_with;
+use std::alloc::Global;
+use usb_device::{Description, Device};
+use usb_host::{Action, Host, Limits};
+
+/// One step of an enumeration: what the host wants next, done at both ends. That is a bus reset, which has no fate, or
+/// the transaction after so many, under its fate. Answers how many transactions there were then, or `None` where the
+/// host wants nothing more.
+///
+/// [`enumerate`] goes on by this from a new host and a new device to the end. A caller that does the same walks that
+/// run, and sees both ends before and after each step.
+///
+/// ```rust
+/// let (mut host, mut device) = (Host::new(alloc, limits, description.speed()), Device::new(&description));
+/// assert_eq!(rt; step(&mut host, &mut device, &[Fate::LostDown], 0), Some(0));
+/// assert_eq!(rt; host.attempts(), 1);
+/// assert_eq!(rt; step(&mut host, &mut device, &[Fate::LostDown], 0), Some(1));
+/// ```
+///
+/// # Requires
+///
+/// The transactions so far and those that the host may still ask for are fewer than 2^64. For a new host, with none so
+/// far, they are.
+pub fn step(
+    host: &mut Host,
+    device: &mut Device<'_>,
+    fates: &[Fate],
+    transactions: u64,
+) -> Option<u64>
+    requires few { transactions + left_to_ask host.old < 2 ^ 64 }
+    ensures made { IfSome result (IsStep device.old.description.file fates.now (both host.old device.old.device) transactions (both host.new device.new.device)) }
+    ensures none { IsNone result → NoneIsLeft (both host.old device.old.device) (both host.new device.new.device) }
+    ensures description { device.new.description ≡ device.old.description }
+{
+    step_seen(host, device, fates, transactions, &mut Nobody)
+}
+
+/// The same [`step`], with an observer. Where the step is a transaction, it sees what the device answers, and the host that
+/// has taken what came of it; at a bus reset and at the end it sees nothing.
+#[tactic(auto, using(crate::proofs::EnumerateLemmas::take_falls, crate::proofs::EnumerateLemmas::reset_falls))]
+pub fn step_seen<O: Observer>(
+    host: &mut Host,
+    device: &mut Device<'_>,
+    fates: &[Fate],
+    transactions: u64,
+    observer: &mut O,
+) -> Option<u64>
+    requires few { transactions + left_to_ask host.old < 2 ^ 64 }
+    ensures made { IfSome result (IsStep device.old.description.file fates.now (both host.old device.old.device) transactions (both host.new device.new.device)) }
+    ensures none { IsNone result → NoneIsLeft (both host.old device.old.device) (both host.new device.new.device) }
+    ensures description { device.new.description ≡ device.old.description }
+    ensures seen { (sent : Sent) → wanted host.old.phase ≡ WantsSent sent → O.sees observer.old (answered device.old.description.file device.old.device sent (fate_at fates.now transactions)) host.new observer.new }
+    ensures unseen { ((sent : Sent) → wanted host.old.phase ≢ WantsSent sent) → observer.new ≡ observer.old }
+{
+    match host.next() {
+        Action::Reset => {
+            device.reset();
+            host.reset_done();
+            Some(transactions)
+        }
+        Action::Send(t) => {
+            let fate = Fate::at(fates, u128::from(transactions));
+            exchange(host, device, &t, fate, observer);
+            Some(transactions + 1)
+        }
+        Action::Ended => None,
+    }
+}
+
+/// Enumerates a device with this description, over a bus with these fates: a host with these limits reads all its
+/// descriptors, gives it the limits' address and configures it (USB 2.0, 9.1.2).
+///
+/// Both ends are new. The k-th transaction of all attempts has the k-th fate, and after the list's end all pass. A bus
+/// reset is no transaction: it has no fate, and reaches the device. Where an attempt fails for the bus's sake, the host
+/// begins again with a reset, as often as the limits allow. There are at most attempts * (NAKs + 3) * 5,273,453
+/// transactions.
+///
+/// What was read, or why there is none, is the [`Run`]'s outcome. So is *out of memory*, which ends an
+/// enumeration at once.
+///
+/// ```rust
+/// // The ACK of the address's status stage is lost: the host asks at address 1, where no device is yet.
+/// let fates = [Fate::Pass, Fate::Pass, Fate::Pass, Fate::Pass, Fate::LostAck];
+/// let run = enumerate(alloc, &description, Limits::new(1, 16, 3)?, &fates);
+/// assert_eq!(rt; run.outcome, Ok(file));
+/// assert_eq!(rt; run.attempts, 2);
+/// ```
+pub fn enumerate(alloc: Global, d: &Description, limits: Limits, fates: &[Fate]) -> Run
+    ensures run { IsEnumeration d.now.file d.now.speed limits fates.now result }
+
+    // A success has read the description and configured the device, any other end has its cause, and the limits are kept.
+    ensures ends_well { EndsWell d.now.file limits fates.now result }
+{
+    match run_with(alloc, d, limits, fates, &mut Nobody, &mut ()) {
+        Ok(run) => run,
+        Err(never) => match never {},
+    }
+}

@@ -1,0 +1,198 @@
+//! An enumeration that is logged.
+ghost use Rattle.std.specs.Prelude.{◌≡◌, [], IfErr, IfOk, OnOk};
+ghost use Rattle.usb_fields.specs.Packet.{reply_of};
+ghost use Rattle.usb_bus.specs.Enumerate.{EndsWell};
+ghost use Rattle.usb_bus.specs.Log.{WritesLog, WritesLogLess};
+ghost use Rattle.usb_bus.specs.inside.Seeing.{HasSeen, done_lines};
+
+use crate::ends::put_data;
+use crate::enumeration::step_seen;
+use crate::fate::Fate;
+use crate::observer::Observer;
+use crate::run::Run;
+use crate::step_lines::{Before, Turn, put_answered, put_done, put_reset};
+use crate::steps::{Steps, run_with};
+use std::alloc::{AllocError, Global};
+use std::io::Write;
+use usb_device::{Description, Device};
+use usb_fields::Answer;
+use usb_host::{Host, Limits, Why};
+use usb_text::{OutFault, Text, write_all};
+
+/// The lines of a step, while they are put.
+#[derive(Drop)]
+struct Log {
+    alloc: Global,
+    before: Before,
+    turn: Turn,
+    lines: Text,
+    /// The data packet that was answered: it goes after what the device has then.
+    packet: Text,
+    /// Why the attempt is given up, if it is.
+    cause: Option<Why>,
+    /// Whether there was memory for them.
+    is_whole: bool,
+}
+
+impl Log {
+    /// Before the first step.
+    fn new(alloc: Global) -> Log {
+        Log {
+            alloc,
+            before: Before {
+                step: None,
+                transfer: None,
+            },
+            turn: Turn {
+                number: 0,
+                fate: Fate::Pass,
+            },
+            lines: Text::new(alloc),
+            packet: Text::new(alloc),
+            cause: None,
+            is_whole: true,
+        }
+    }
+
+    /// A step begins, before which the host is this.
+    fn begin(&mut self, before: Before, turn: Turn)
+        ensures before { self.new.before ≡ before }
+        ensures turn { self.new.turn ≡ turn }
+        ensures lines { self.new.lines ≡ [] }
+    {
+        self.before = before;
+        self.turn = turn;
+        self.lines.clear();
+    }
+
+    /// Puts what is known of a transaction once the host has taken what came of this answer.
+    fn put_answered(&mut self, answer: Answer<'_>, host: &Host) -> Result<(), AllocError>
+        ensures { OnOk result (HasSeen self.old.turn.number self.old.turn.fate self.old.before.step self.old.before.transfer (reply_of answer.entry) host.now.phase self.old.lines self.new.lines self.new.packet self.new.cause) }
+    {
+        let (Some(step), Some(transfer)) = (self.before.step, self.before.transfer) else {
+            return Ok(());
+        };
+        self.packet.clear();
+        put_data(&mut self.packet, answer)?;
+        self.cause = put_answered(
+            self.alloc,
+            &mut self.lines,
+            step,
+            transfer,
+            self.turn,
+            answer,
+            host,
+        )?;
+        Ok(())
+    }
+
+    /// Puts the rest of the lines of a step that is done: of a transaction, or else of a reset.
+    fn put_done(
+        &mut self,
+        is_transaction: bool,
+        host: &Host,
+        device: &Device<'_>,
+    ) -> Result<(), AllocError>
+        ensures { OnOk result (self.new.lines ≡ done_lines device.now.description.file.device.packet is_transaction self.old.lines self.old.packet self.old.cause host.now device.now.device) }
+    {
+        if is_transaction {
+            return put_done(
+                self.alloc,
+                &mut self.lines,
+                &self.packet,
+                self.cause,
+                host,
+                device,
+            );
+        }
+        self.lines.clear();
+        put_reset(&mut self.lines, u64::from(host.attempts()))
+    }
+}
+
+impl Observer for Log {
+    ghost use Rattle.std.specs.Prelude.{◌≡◌, true};
+    ghost use Rattle.usb_bus.specs.inside.Seeing.{HasSeen};
+
+    ghost sees = { λ old reply host new. new.is_whole ≡ true → HasSeen old.turn.number old.turn.fate old.before.step old.before.transfer reply host.phase old.lines new.lines new.packet new.cause };
+
+    fn answered(&mut self, answer: Answer<'_>, host: &Host) {
+        self.is_whole = self.put_answered(answer, host).is_ok();
+    }
+}
+
+/// The lines of each step are written.
+impl<W: Write> Steps<W> for Log {
+    ghost use Rattle.std.specs.Io.KnownBytes.{Appends};
+    ghost use Rattle.usb_bus.specs.Log.{CutsOff, step_lines};
+
+    type Fault = OutFault;
+
+    ghost does = { λ f fates x y n from to. Appends (W.contents from) (W.contents to) (step_lines f fates n x y) };
+
+    ghost breaks = { λ f fates x y n from to fault. CutsOff fault (W.contents from) (W.contents to) (step_lines f fates n x y) };
+
+    fn step(
+        &mut self,
+        host: &mut Host,
+        device: &mut Device<'_>,
+        fates: &[Fate],
+        transactions: u64,
+        w: &mut W,
+    ) -> Result<Option<u64>, OutFault> {
+        let before = Before::of(host);
+        let turn = Turn {
+            number: transactions.saturating_add(1),
+            fate: Fate::at(fates, u128::from(transactions)),
+        };
+        let is_transaction = before.transfer.is_some();
+        self.begin(before, turn);
+        let Some(now) = step_seen(host, device, fates, transactions, self) else {
+            return Ok(None);
+        };
+        if !self.is_whole {
+            return Err(OutFault::Memory);
+        }
+        self.put_done(is_transaction, host, device)?;
+        write_all(w, self.lines.as_bytes())?;
+        Ok(Some(now))
+    }
+}
+
+/// Enumerates a device with this description as [`enumerate`](crate::enumerate) does, and writes a log of it: a line for
+/// each bus reset and each transaction, in their order, one for each transfer before its first transaction, and one for each
+/// attempt that is given up.
+///
+/// The lines of a step are written as soon as it is done, and none are kept. What the other promises say of the
+/// run is what `enumerate` says.
+///
+/// ```rust
+/// let mut log = Vec::new(alloc);
+/// let fates = [Fate::LostDown; 9];
+/// let run = enumerate_logged(alloc, &description, Limits::new(1, 16, 3)?, &fates, &mut log)?;
+/// assert_eq!(rt; run.transactions, 9);
+/// assert!(rt; log.starts_with(b"attempt 1: bus reset\n"));
+/// ```
+///
+/// # Errors
+///
+/// `Write` where the writer failed, and `Memory` where the lines of a step took more memory than there is. The
+/// enumeration ends then. Its log was written up to that step, and of the step's lines a prefix, which lacks at
+/// least their last byte; of those that memory was wanting for, nothing. Out of memory in the host is no error: it ends
+/// the enumeration.
+pub fn enumerate_logged<W: Write>(
+    alloc: Global,
+    d: &Description,
+    limits: Limits,
+    fates: &[Fate],
+    w: &mut W,
+) -> Result<Run, OutFault>
+    ensures log { IfOk result (WritesLog d.now.file d.now.speed limits fates.now (W.contents w.old) (W.contents w.new)) }
+    ensures err { IfErr result (WritesLogLess d.now.file d.now.speed limits fates.now (W.contents w.old) (W.contents w.new)) }
+
+    // What `enumerate` promises of the run.
+    ensures ends_well { IfOk result (EndsWell d.now.file limits fates.now) }
+{
+    let mut log = Log::new(alloc);
+    run_with(alloc, d, limits, fates, &mut log, w)
+}

@@ -1,0 +1,155 @@
+//! The lines of a step, part by part.
+ghost use Rattle.std.specs.Prelude.{◌≡◌, ◌++◌, codes, IfOk, OnOk};
+ghost use Rattle.usb_fields.specs.Packet.{reply_of};
+ghost use Rattle.usb_host.specs.Transfer.{sent_by};
+ghost use Rattle.usb_host.specs.Steps.{step_in, transfer_in};
+ghost use Rattle.usb_bus.specs.Bus.{brought};
+ghost use Rattle.usb_bus.specs.Exchanges.{cause_of};
+ghost use Rattle.usb_bus.specs.Lines.{address_words, device_part, device_words, given_up_line, given_up_part, reset_line, transfer_line};
+ghost use Rattle.usb_bus.specs.Log.{answered_part, transfer_part};
+
+use crate::ends::{cause, put_device, put_host, trouble_of};
+use crate::fate::Fate;
+use crate::packets::put_packets;
+use crate::request::{put_numbered, put_request};
+use std::alloc::{AllocError, Global};
+use usb_device::Device;
+use usb_fields::{Answer, Transaction};
+use usb_host::{Host, Step, Transfer, Why};
+use usb_text::Text;
+
+/// Which transaction it is, counted from 1, and what the bus does to it.
+#[derive(Clone, Copy, Debug)]
+pub(crate) struct Turn {
+    pub(crate) number: u64,
+    pub(crate) fate: Fate,
+}
+
+/// A host before a step, as far as the step's lines show it.
+#[derive(Clone, Copy)]
+pub(crate) struct Before {
+    pub(crate) step: Option<Step>,
+    pub(crate) transfer: Option<Transfer>,
+}
+
+impl Before {
+    /// This host now.
+    pub(crate) fn of(host: &Host) -> Before
+        ensures step { result.step ≡ step_in host.now.phase }
+        ensures transfer { result.transfer ≡ transfer_in host.now.phase }
+    {
+        Before {
+            step: host.step(),
+            transfer: host.transfer(),
+        }
+    }
+}
+
+/// Puts the line of a reset.
+#[tactic(auto, unfolding(crate::specs::Lines::reset_line))]
+pub(crate) fn put_reset(text: &mut Text, attempt: u64) -> Result<(), AllocError>
+    ensures { OnOk result (text.new ≡ text.old ++ reset_line attempt) }
+{
+    put_numbered(text, "attempt ", attempt)?;
+    text.put(": bus reset\n")
+}
+
+/// Puts the line of a transfer, before its first transaction.
+fn put_transfer(
+    alloc: Global,
+    text: &mut Text,
+    step: Step,
+    transfer: &Transfer,
+) -> Result<(), AllocError>
+    ensures { OnOk result (text.new ≡ text.old ++ transfer_part step transfer.now) }
+{
+    if transfer.is_untried() {
+        put_transfer_line(alloc, text, step, transfer)
+    } else {
+        Ok(())
+    }
+}
+
+#[tactic(auto, unfolding(crate::specs::Lines::transfer_line))]
+fn put_transfer_line(
+    alloc: Global,
+    text: &mut Text,
+    step: Step,
+    transfer: &Transfer,
+) -> Result<(), AllocError>
+    ensures { OnOk result (text.new ≡ text.old ++ transfer_line step transfer.now) }
+{
+    let step = step.to_string(alloc)?;
+    let setup = transfer.request();
+    text.put(&step)?;
+    text.put(": ")?;
+    put_request(text, &setup)?;
+    put_address(text, transfer.next())?;
+    text.put(", ")?;
+    text.put_digits(&setup.to_bytes())?;
+    text.put("\n")
+}
+
+fn put_address(text: &mut Text, sent: Option<Transaction<'static>>) -> Result<(), AllocError>
+    ensures { OnOk result (text.new ≡ text.old ++ address_words (sent_by sent.entry)) }
+{
+    match sent {
+        None => Ok(()),
+        Some(transaction) => { put_numbered(text, ", to address ", u64::from(transaction.address)) }
+    }
+}
+
+/// Puts what is known of a transaction once the host has taken what came of this answer: the line of its transfer before the
+/// first one, its packets, and what the host has. Answers why the attempt is given up, if it is.
+pub(crate) fn put_answered(
+    alloc: Global,
+    text: &mut Text,
+    step: Step,
+    transfer: Transfer,
+    turn: Turn,
+    answer: Answer<'_>,
+    host: &Host,
+) -> Result<Option<Why>, AllocError>
+    ensures lines { OnOk result (text.new ≡ text.old ++ transfer_part step transfer ++ answered_part turn.number turn.fate transfer (reply_of answer.entry) host.now.phase) }
+    ensures cause { IfOk result (λ why. why ≡ cause_of transfer (brought turn.fate (reply_of answer.entry)) host.now.phase) }
+{
+    put_transfer(alloc, text, step, &transfer)?;
+    put_packets(text, turn, transfer.next(), answer)?;
+    let came = turn.fate.brought(answer);
+    let mut after = transfer;
+    let heard = after.take(came);
+    let trouble = trouble_of(host);
+    put_host(text, &after, came, heard, trouble)?;
+    Ok(cause(heard, host, trouble))
+}
+
+/// Puts the rest of the lines of a transaction: what the device has, this packet, if there is one, and for which reason the
+/// attempt is given up, if it is.
+pub(crate) fn put_done(
+    alloc: Global,
+    text: &mut Text,
+    packet: &Text,
+    why: Option<Why>,
+    host: &Host,
+    device: &Device<'_>,
+) -> Result<(), AllocError>
+    ensures { OnOk result (text.new ≡ text.old ++ device_part (device_words device.now.description.file.device.packet device.now.device) packet.now ++ codes "\n" ++ given_up_part host.now.resets why) }
+{
+    put_device(text, device, packet)?;
+    text.put("\n")?;
+    match why {
+        None => Ok(()),
+        Some(why) => put_given_up(alloc, text, u64::from(host.attempts()), why),
+    }
+}
+
+#[tactic(auto, unfolding(crate::specs::Lines::given_up_line))]
+fn put_given_up(alloc: Global, text: &mut Text, attempt: u64, why: Why) -> Result<(), AllocError>
+    ensures { OnOk result (text.new ≡ text.old ++ given_up_line attempt why) }
+{
+    let why = why.to_string(alloc)?;
+    put_numbered(text, "attempt ", attempt)?;
+    text.put(" given up: ")?;
+    text.put(&why)?;
+    text.put("\n")
+}

@@ -1,0 +1,125 @@
+-- A reply of a device has at most 64 bytes: the packets of an accepted description have no more.
+use Rattle.std.proofs.Common.{◌≡◌, ℕ, zero, suc, ◌-◌, ◌≤◌, ◌==◌, nat_lt, Bool, true, false, List, [], ◌∷◌, ◌++◌, length, take, drop, if◌then◌else◌, refl, arith, sym, subst}
+use Rattle.std.proofs.lemmas.Bool.Decides.{nat_tests}
+use Rattle.usb_fields.specs.declared.packet.Toggle.{Toggle}
+use Rattle.usb_fields.specs.declared.packet.Toggle.TheVariants.{Data0, Data1}
+use Rattle.usb_fields.specs.declared.speed.Speed.{Speed}
+use Rattle.usb_fields.specs.declared.setup.Setup.{Setup}
+use Rattle.usb_fields.specs.Packet.{Token, SetupToken, InToken, OutToken, Sent, Reply, NoReply}
+use Rattle.usb_fields.specs.Packets.{packets, packets_within}
+use Rattle.usb_file_data.specs.declared.file.DescriptorFile.{DescriptorFile}
+use Rattle.usb_file_data.specs.declared.finding.Finding.{Finding}
+use Rattle.usb_file_data.specs.Findings.{descriptors, findings}
+use Rattle.usb_file_data.specs.Rules.{wrong_device}
+use Rattle.usb_file_data.specs.Places.{when}
+use Rattle.usb_device.specs.Accepted.{Accepted}
+use Rattle.usb_device.specs.declared.state.State.{State}
+use Rattle.usb_device.specs.Requests.{Outcome, answer}
+use Rattle.usb_device.specs.Step.{DeviceStage, Idle, Halted, Sending, StatusOut, Over, StatusIn, DeviceView, Served, next_packet, replies, served, served_here, served_in, served_out, status_out}
+use Rattle.usb_device.specs.View.{served_by}
+use Rattle.usb_device.specs.Transactions.{HasRoom}
+
+no_left : {X : Type 0} (xs ys : List X) → xs ++ ys ≡ [] → xs ≡ []
+no_left [] ys none = refl
+no_left (x ∷ xs) ys none = cc
+
+no_right : {X : Type 0} (xs ys : List X) → xs ++ ys ≡ [] → ys ≡ []
+no_right [] ys none = none
+no_right (x ∷ xs) ys none = cc
+
+not_when : {X : Type 0} (holds : Bool) (x : X) → when holds x ≡ [] → holds ≡ false
+not_when true x none = cc
+not_when false x none = refl
+
+-- where the rules on the device descriptor are not broken, packets have at most 64 bytes
+packet_of : (f : DescriptorFile) → descriptors (wrong_device f.device) f ≡ [] → f.device.packet ≤ 64
+packet_of f none =
+    let device : wrong_device f.device ≡ false = not_when (wrong_device f.device) _ (no_left _ _ none) in
+    grind (arith, nat_tests)
+
+packet_among : (before after more : List Finding) (f : DescriptorFile) → before ++ descriptors (wrong_device f.device) f ++ after ++ more ≡ [] → f.device.packet ≤ 64
+packet_among before after more f none =
+    let here = no_left (before ++ descriptors (wrong_device f.device) f) after (no_left (before ++ descriptors (wrong_device f.device) f ++ after) more none) in
+    packet_of f (no_right before (descriptors (wrong_device f.device) f) here)
+
+packet_fits : (f : DescriptorFile) → findings f ≡ [] → f.device.packet ≤ 64
+packet_fits f none = packet_among _ _ _ f none
+
+-- each packet has at most so many bytes
+abbrev AreShort : ℕ → List (List ℕ) → Type 0
+AreShort n [] = Unit {0}
+AreShort n (p ∷ ps) = (length p ≤ n) × AreShort n ps
+
+take_short : (n : ℕ) (b : List ℕ) → length (take n b) ≤ n
+take_short zero b = omega arith
+take_short (suc n) [] = omega arith
+take_short (suc n) (x ∷ b) = omega (arith, take_short n b)
+
+if_none : (c : Bool) (n : ℕ) (ps : List (List ℕ)) → AreShort n ps → AreShort n (if c then [] else ps)
+if_none true n ps h = tt
+if_none false n ps h = h
+
+if_last : (c : Bool) (n : ℕ) (b : List ℕ) (ps : List (List ℕ)) → nat_lt (length b) n ≡ c → AreShort n ps → AreShort n (if c then b ∷ [] else take n b ∷ ps)
+if_last true n b ps is h = (grind (arith, nat_tests), tt)
+if_last false n b ps is h = (take_short n b, h)
+
+within_short : (most : ℕ) (b : List ℕ) (n m : ℕ) → AreShort n (packets_within most b n m)
+unfolding packets_within
+within_short zero b n m = tt
+within_short (suc most) b n m =
+    if_none (m == 0) n _ (if_last (nat_lt (length b) n) n b (packets_within most (drop n b) n (m - n)) refl (within_short most (drop n b) n (m - n)))
+
+packets_short : (b : List ℕ) (n m : ℕ) → AreShort n (packets b n m)
+unfolding packets
+packets_short b n m = within_short m b n m
+
+drop_short : (k n : ℕ) (ps : List (List ℕ)) → AreShort n ps → AreShort n (drop k ps)
+drop_short zero n ps h = h
+drop_short (suc k) n [] h = tt
+drop_short (suc k) n (p ∷ ps) h = drop_short k n ps h.1
+
+next_fits : (s : State) (stage : DeviceStage) (k n : ℕ) (ps : List (List ℕ)) → n ≤ 64 → AreShort n ps → HasRoom (next_packet s stage k ps).reply
+next_fits s stage k n [] small h = tt
+next_fits s stage k n (p ∷ ps) small h = omega (arith, h.0)
+
+status_fits : (s : State) (stage : DeviceStage) (toggle : Toggle) (bytes : List ℕ) → HasRoom (status_out s stage toggle bytes).reply
+status_fits s stage Data0 bytes = tt
+status_fits s stage Data1 [] = tt
+status_fits s stage Data1 (x ∷ bytes) = tt
+
+out_fits : (s : State) (stage : DeviceStage) (toggle : Toggle) (bytes : List ℕ) → HasRoom (served_out s stage toggle bytes).reply
+out_fits s Idle toggle bytes = tt
+out_fits s (Halted refused) toggle bytes = tt
+out_fits s (Sending b m k) toggle bytes = status_fits s (Sending b m k) toggle bytes
+out_fits s StatusOut toggle bytes = status_fits s StatusOut toggle bytes
+out_fits s Over toggle bytes = status_fits s Over toggle bytes
+out_fits s (StatusIn q carried) toggle bytes = tt
+
+module _ (table : State → Setup → Outcome) (n : ℕ) (small : n ≤ 64) where
+  in_fits : (s : State) (stage : DeviceStage) → HasRoom (served_in table n s stage).reply
+  in_fits s Idle = tt
+  in_fits s (Halted refused) = tt
+  in_fits s (Sending b m k) = next_fits s (Sending b m k) k n (drop k (packets b n m)) small (drop_short k n (packets b n m) (packets_short b n m))
+  in_fits s StatusOut = tt
+  in_fits s Over = tt
+  in_fits s (StatusIn q carried) = omega arith
+
+  here_fits : (d : DeviceView) (token : Token) (ready : Bool) → HasRoom (served_here table n d token ready).reply
+  here_fits d (SetupToken b) ready = tt
+  here_fits d InToken false = tt
+  here_fits d InToken true = in_fits d.state d.stage
+  here_fits d (OutToken toggle bytes) false = tt
+  here_fits d (OutToken toggle bytes) true = out_fits d.state d.stage toggle bytes
+
+  if_here : (c : Bool) (s : Served) (d : DeviceView) → HasRoom s.reply → HasRoom (if c then s else replies NoReply d.state d.stage false).reply
+  if_here true s d h = h
+  if_here false s d h = tt
+
+  served_fits : (d : DeviceView) (sent : Sent) (ready : Bool) → HasRoom (served table n d sent ready).reply
+  served_fits d sent ready = if_here (sent.address == d.state.address) (served_here table n d sent.token ready) d (here_fits d sent.token ready)
+
+-- a reply of a device with accepted descriptors
+pub reply_has_room : (f : DescriptorFile) (speed : Speed) (d : DeviceView) (sent : Sent) (ready : Bool) (reply : Reply) → Accepted f speed
+    → reply ≡ (served_by f d sent ready).reply → HasRoom reply
+reply_has_room f speed d sent ready reply accepted is =
+    subst (λ (r : Reply). HasRoom r) (sym is) (served_fits (answer f) f.device.packet (packet_fits f accepted.rules) d sent ready)

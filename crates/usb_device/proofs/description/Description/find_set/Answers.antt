@@ -1,0 +1,13 @@
+use Rattle.std.proofs.Common.{◌≡◌, ◌+◌, ◌<◌, length, subst, arith}
+use Rattle.usb_device.specs.Descriptors.{set_at}
+use Rattle.usb_device.specs.Described.{Described}
+use Rattle.usb_device.specs.Places.{IsFound}
+use Rattle.usb_device.proofs.PlaceLemmas.{set_found}
+use Rattle.usb_device.proofs.description.Description.find_set.Goals as goal
+
+pub returns-then-from-len : goal.returns-then-from-len
+returns-then-from-len c =
+    let index : c.from-then-from-len.result ≡ c.args.index = omega arith in
+    let within : c.args.index < length c.self.inside.file.sets = omega arith in
+    rw index (subst (λ (d : Described). IsFound d.file (set_at d.file.sets c.args.index) (1 + c.args.index)) c.self.view_is
+    (set_found c.self.inside.file c.args.index within))

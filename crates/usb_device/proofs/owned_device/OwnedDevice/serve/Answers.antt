@@ -1,0 +1,10 @@
+use Rattle.usb_fields.specs.Packet.{reply_of, sent_of}
+use Rattle.usb_device.specs.EndpointZero.{device_of}
+use Rattle.usb_device.proofs.Replies.{reply_has_room}
+use Rattle.usb_device.proofs.owned_device.OwnedDevice.serve.Goals as goal
+
+pub tell-requires : goal.tell-requires
+tell-requires c =
+    let d = c.self.inside.description in
+    reply_has_room d.file d.speed (device_of d.file c.self.inside.endpoint_zero) (sent_of c.args.t.now) c.args.ready (reply_of c.serve.result)
+    c.file-file.ensures.accepted c.serve.ensures.answer

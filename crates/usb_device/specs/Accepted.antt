@@ -1,0 +1,84 @@
+-- Which descriptors a device can be made of, at which speed.
+use Rattle.std.specs.Prelude.{◌≡◌, ℕ, ◌==◌, ◌||◌, ◌&&◌, nat_lt, Bool, false, not, List, [], ◌∷◌, length, Option, Some, None, is_some, if◌then◌else◌}
+use Rattle.std.specs.List.{list_any}
+use Rattle.usb_fields.specs.declared.speed.Speed.{Speed}
+use Rattle.usb_fields.specs.declared.speed.Speed.TheVariants.{Low, Full, High}
+use Rattle.usb_file_data.specs.declared.file.DescriptorFile.{DescriptorFile}
+use Rattle.usb_file_data.specs.declared.file.Strings.{Strings}
+use Rattle.usb_file_data.specs.File.{has_wrong_count, has_wrong_kind, has_wrong_layout, are_wrong_strings}
+use Rattle.usb_file_data.specs.Named.{named_indices}
+use Rattle.usb_file_data.specs.declared.finding.Finding.{Finding}
+use Rattle.usb_file_data.specs.Findings.{findings}
+use Rattle.usb_device.specs.declared.fault.DescriptionFault.{DescriptionFault}
+use Rattle.usb_device.specs.declared.fault.DescriptionFault.TheVariants as faults
+
+-- whether the number is in the list
+abbrev pub is_among : List ℕ → ℕ → Bool
+is_among numbers n = list_any (λ other. other == n) numbers
+
+-- whether a number stands twice in the list
+abbrev pub repeats : List ℕ → Bool
+repeats [] = false
+repeats (n ∷ numbers) = is_among numbers n || repeats numbers
+
+-- whether a language is twice in the language list, so that its second strings could not be asked for (9.6.7)
+abbrev pub repeats_language : Option Strings → Bool
+repeats_language None = false
+repeats_language (Some s) = repeats s.languages
+
+-- whether the sets have no bytes, or are not as many or of the kind that is declared
+unfoldable pub has_wrong_sets : DescriptorFile → Bool
+has_wrong_sets f = has_wrong_count f || has_wrong_kind f || has_wrong_layout f
+
+-- whether the strings are not those that the file names, or are not distinct
+unfoldable pub has_wrong_strings : DescriptorFile → Bool
+has_wrong_strings f = are_wrong_strings (length (named_indices f)) f.strings || repeats_language f.strings
+
+-- whether a device with these descriptors can't run at the speed: endpoint zero has packets of 8 bytes at low speed
+-- and of 64 at high speed, and a low-speed device has no second speed (5.5.3 and 9.6.1)
+abbrev pub has_other_packets : DescriptorFile → Speed → Bool
+has_other_packets f Low = not (f.device.packet == 8) || is_some f.other
+has_other_packets f Full = false
+has_other_packets f High = not (f.device.packet == 64)
+
+-- whether there is a second speed in a release of the standard that has none: bcdUSB is below 2.00 (9.6.2)
+abbrev pub has_early_second_speed : DescriptorFile → Bool
+has_early_second_speed f = is_some f.other && nat_lt f.device.usb 0x0200
+
+-- whether the speed and the descriptors contradict each other
+abbrev pub has_wrong_speed : DescriptorFile → Speed → Bool
+has_wrong_speed f s = has_other_packets f s || has_early_second_speed f
+
+-- The descriptors are accepted at the speed: they have bytes, no rule is broken, each string can be asked for, and a
+-- device of this speed can have them.
+pub record Accepted (f : DescriptorFile) (s : Speed) : Type 0 where
+  pub sets : has_wrong_sets f ≡ false
+  pub rules : findings f ≡ []
+  pub strings : has_wrong_strings f ≡ false
+  pub speed : has_wrong_speed f s ≡ false
+
+-- the first finding, or else what is wrong with the strings or the speed
+abbrev pub later_refusal : List Finding → DescriptorFile → Speed → Option DescriptionFault
+later_refusal (first ∷ more) f s = Some (faults.Finding first)
+later_refusal [] f s =
+    if has_wrong_strings f then Some faults.Texts
+    else if has_wrong_speed f s then Some faults.Speed
+    else None
+
+-- the first reason why a device can't be made of the descriptors
+abbrev pub refusal_of : DescriptorFile → Speed → Option DescriptionFault
+refusal_of f s = if has_wrong_sets f then Some faults.Unwritable else later_refusal (findings f) f s
+
+-- *Out of memory* is reported only of descriptors whose sets have bytes, since the rules are looked through after that, and
+-- else the first reason.
+abbrev pub Refuses : DescriptorFile → Speed → DescriptionFault → Type 0
+Refuses f s faults.Memory = has_wrong_sets f ≡ false
+Refuses f s fault = refusal_of f s ≡ Some fault
+
+-- the number of a refusal
+abbrev pub fault_number : DescriptionFault → ℕ
+fault_number (faults.Finding first) = 1
+fault_number faults.Texts = 2
+fault_number faults.Speed = 3
+fault_number faults.Memory = 4
+fault_number faults.Unwritable = 5

@@ -1,0 +1,72 @@
+-- Transactions and packets as numbers.
+use Rattle.std.specs.Prelude.{ℕ, ◌≤◌, List, ◌++◌, length, drop, replicate, ◌==◌, Option, Some, None, if◌then◌else◌}
+use Rattle.std.specs.Option.{option_map}
+use Rattle.usb_fields.specs.declared.packet.Toggle.{Toggle}
+use Rattle.usb_fields.specs.declared.packet.Toggle.TheVariants.{Data0, Data1}
+use Rattle.usb_fields.specs.declared.speed.Speed.{Speed}
+use Rattle.usb_fields.specs.declared.speed.Speed.TheVariants as speeds
+use Rattle.usb_fields.specs.Packet.{Token, SetupToken, InToken, OutToken, Sent, Reply, AckReply, NakReply, StallReply, DataReply, NoReply}
+use Rattle.usb_device.specs.declared.transaction.UsbTransaction.{UsbTransaction}
+use Rattle.usb_device.specs.declared.transaction.UsbPacket.{UsbPacket}
+
+-- the toggle of a number, if it has a meaning
+abbrev pub toggle_told : ℕ → Option Toggle
+toggle_told number = if number == 0 then Some Data0 else if number == 1 then Some Data1 else None
+
+abbrev pub toggle_number : Toggle → ℕ
+toggle_number Data0 = 0
+toggle_number Data1 = 1
+
+-- the speed of a number
+abbrev pub speed_told : ℕ → Option Speed
+speed_told number =
+    if number == 1 then Some speeds.Low else if number == 2 then Some speeds.Full else if number == 3 then Some speeds.High else None
+
+-- the token that a stage says, whose OUT has this toggle and these bytes
+abbrev pub token_told : UsbTransaction → List ℕ → Option Token
+token_told t bytes =
+    if t.stage == 0 then Some (SetupToken t.setup)
+    else if t.stage == 1 then Some InToken
+    else if t.stage == 2 then option_map (λ toggle. OutToken toggle bytes) (toggle_told t.toggle)
+    else None
+
+-- what a host sends by these numbers, where they have a meaning
+abbrev pub sent_told : UsbTransaction → List ℕ → Option Sent
+sent_told t bytes = option_map (λ token. record { address = t.address; token = token }) (token_told t bytes)
+
+-- the numbers of what a host sends, but for the bytes of OUT
+abbrev pub token_numbers : ℕ → Token → UsbTransaction
+token_numbers address (SetupToken bytes) = record { address = address; stage = 0; toggle = 0; setup = bytes }
+token_numbers address InToken = record { address = address; stage = 1; toggle = 0; setup = replicate 8 0 }
+token_numbers address (OutToken toggle bytes) =
+    record { address = address; stage = 2; toggle = toggle_number toggle; setup = replicate 8 0 }
+
+abbrev pub transaction_of : Sent → UsbTransaction
+transaction_of sent = token_numbers sent.address sent.token
+
+-- a reply of at most 64 bytes
+abbrev pub HasRoom : Reply → Type 0
+HasRoom AckReply = Unit {0}
+HasRoom NakReply = Unit {0}
+HasRoom StallReply = Unit {0}
+HasRoom (DataReply toggle bytes) = length bytes ≤ 64
+HasRoom NoReply = Unit {0}
+
+-- the packet of a reply, where another one stood: what stands after its bytes stays
+abbrev pub packet_of : Reply → UsbPacket → UsbPacket
+packet_of AckReply old = record old { reply = 0; toggle = 0; length = 0 }
+packet_of NakReply old = record old { reply = 1; toggle = 0; length = 0 }
+packet_of StallReply old = record old { reply = 2; toggle = 0; length = 0 }
+packet_of (DataReply toggle bytes) old =
+    record { reply = 3; toggle = toggle_number toggle; length = length bytes; bytes = bytes ++ drop (length bytes) old.bytes }
+packet_of NoReply old = record old { reply = 4; toggle = 0; length = 0 }
+
+-- the reply of these numbers, where they have a meaning
+abbrev pub reply_told : ℕ → ℕ → List ℕ → Option Reply
+reply_told reply toggle bytes =
+    if reply == 0 then Some AckReply
+    else if reply == 1 then Some NakReply
+    else if reply == 2 then Some StallReply
+    else if reply == 3 then option_map (λ t. DataReply t bytes) (toggle_told toggle)
+    else if reply == 4 then Some NoReply
+    else None

@@ -1,0 +1,106 @@
+//! Whether a device can be made of a descriptor file.
+ghost use Rattle.std.specs.Prelude.{◌≡◌, ◌≤◌, length, OnOk, IfErr, false};
+ghost use Rattle.std.specs.List.{list_any};
+ghost use Rattle.usb_file_data.specs.Named.{named_indices};
+ghost use Rattle.usb_device.specs.Accepted.{has_early_second_speed, has_other_packets, has_wrong_sets, has_wrong_speed, has_wrong_strings, refusal_of, repeats, repeats_language, is_among, Accepted, Refuses};
+
+use crate::fault::DescriptionFault;
+use std::alloc::Global;
+use usb_fields::{Speed, USB_2_0};
+use usb_file_data::{DescriptorFile, Strings, WriteFault, are_wrong_strings, check, write_refusal};
+
+/// Rejects a file that is no description of a device of this speed. Its sets have bytes, and it names so many strings.
+pub(crate) fn examine(
+    alloc: Global,
+    f: &DescriptorFile,
+    count: usize,
+    speed: Speed,
+) -> Result<(), DescriptionFault>
+    requires sets { has_wrong_sets f.now ≡ false }
+    requires count { count ≡ length (named_indices f.now) }
+    requires most { count ≤ 255 }
+    ensures ok { OnOk result (Accepted f.now speed) }
+    ensures err { IfErr result (λ fault. Refuses f.now speed fault) }
+{
+    let findings = check(alloc, f)?;
+    if let Some(first) = findings.first() {
+        return Err(DescriptionFault::Finding(*first));
+    }
+    if has_wrong_strings(f, count) {
+        return Err(DescriptionFault::Texts);
+    }
+    if has_wrong_speed(f, speed) {
+        return Err(DescriptionFault::Speed);
+    }
+    Ok(())
+}
+
+/// Whether the sets have no bytes, or are not as declared.
+#[tactic(auto, unfolding(crate::specs::Accepted::has_wrong_sets))]
+pub(crate) fn has_wrong_sets(f: &DescriptorFile) -> bool
+    ensures { result ≡ has_wrong_sets f.now }
+{
+    match write_refusal(f) {
+        Some(WriteFault::Count | WriteFault::Kind | WriteFault::Layout) => true,
+        Some(WriteFault::Texts | WriteFault::Memory) | None => false,
+    }
+}
+
+/// Whether the strings are not those of so many named indices, or are not distinct.
+#[tactic(auto, unfolding(crate::specs::Accepted::has_wrong_strings))]
+fn has_wrong_strings(f: &DescriptorFile, count: usize) -> bool
+    requires count { count ≡ length (named_indices f.now) }
+    requires most { count ≤ 255 }
+    ensures { result ≡ has_wrong_strings f.now }
+{
+    are_wrong_strings(count, &f.strings) || repeats_language(&f.strings)
+}
+
+/// Whether a language is twice in the language list.
+fn repeats_language(strings: &Option<Strings>) -> bool
+    ensures { result ≡ repeats_language strings.now }
+{
+    match strings {
+        Some(strings) => repeats(&strings.languages),
+        None => false,
+    }
+}
+
+/// Whether a number is twice in the list.
+fn repeats(numbers: &[u16]) -> bool
+    ensures { result ≡ repeats numbers.now }
+{
+    match numbers {
+        [] => false,
+        [first, rest @ ..] => is_among(rest, *first) || repeats(rest),
+    }
+}
+
+fn is_among(numbers: &[u16], n: u16) -> bool
+    ensures { result ≡ is_among numbers.now n }
+{
+    numbers.iter().any(|other| *other == n)
+}
+
+/// Whether the speed and the descriptors contradict each other.
+fn has_wrong_speed(f: &DescriptorFile, speed: Speed) -> bool
+    ensures { result ≡ has_wrong_speed f.now speed }
+{
+    has_other_packets(f, speed) || has_early_second_speed(f)
+}
+
+fn has_other_packets(f: &DescriptorFile, speed: Speed) -> bool
+    ensures { result ≡ has_other_packets f.now speed }
+{
+    match speed {
+        Speed::Low => f.device.packet != 8 || f.other.is_some(),
+        Speed::Full => false,
+        Speed::High => f.device.packet != 64,
+    }
+}
+
+fn has_early_second_speed(f: &DescriptorFile) -> bool
+    ensures { result ≡ has_early_second_speed f.now }
+{
+    f.other.is_some() && f.device.usb < USB_2_0
+}

@@ -1,5 +1,0 @@
-use Rattle.usb_enumeration.proofs.ReaderLemmas.{sets_are_read}
-use Rattle.usb_enumeration.proofs.lemmas.descriptions_are_read.Goals as goal
-
-pub returns : goal.returns
-returns c = sets_are_read c.one_layout.ensures.begins c.one_judgement.ensures.not_both c.one_judgement.ensures.some

@@ -1,8 +1,0 @@
-use Rattle.std.proofs.lemmas.Result.{on_ok_weaker}
-use Rattle.usb_enumeration.specs.Lines.{reset_line}
-use Rattle.usb_enumeration.proofs.JoinLemmas.{joined}
-use Rattle.usb_enumeration.proofs.step_lines.put_reset.Goals as goal
-
-pub returns : goal.returns
-unfolding reset_line
-returns c = on_ok_weaker c.put.result (joined _ _ _ _ _ c.in_ok-put_numbered.ensures) c.put.ensures

@@ -1,0 +1,14 @@
+use Rattle.std.proofs.Common.{◌≤◌, ◌+◌, length}
+use Rattle.usb_explain.specs.Cut.{descriptors}
+use Rattle.usb_explain.specs.inside.Gathered.{Gathers}
+use Rattle.usb_explain.proofs.survey.Survey.of.Given as goal
+
+abbrev pub invariant-loop-length : goal.invariant-loop-length
+invariant-loop-length l = record {
+  gathers : Gathers (descriptors l.set) l.gathered (descriptors l.rest);
+  interfaces : l.gathered.interfaces.count + length l.rest ≤ length l.set;
+  associations : l.gathered.associations.count + length l.rest ≤ length l.set;
+}
+
+abbrev pub decreases-loop-length : goal.decreases-loop-length
+decreases-loop-length l = length l.rest

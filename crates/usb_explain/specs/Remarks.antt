@@ -1,0 +1,158 @@
+-- What is remarked of a descriptor: what can't be at the speed of its set, values that the standard reserves (USB 2.0,
+-- 5.5.3, 5.6.3, 5.7.3, 5.8.3, 9.6.5 and 9.6.6; the association's ECN), and the length that a class header has.
+use Rattle.std.specs.Prelude.{ℕ, List, [], ◌∷◌, ◌++◌, slice_index, Bool, true, false, nat_le, not, ◌==◌, ◌&&◌, ◌||◌, ◌/◌, ◌%◌, Option, Some, None, option_and_then, if◌then◌else◌}
+use Rattle.std.specs.Option.{option_or}
+use Rattle.usb_fields.specs.Bytes.{little_endian_at}
+use Rattle.usb_set.specs.declared.endpoint.TransferType.{TransferType}
+use Rattle.usb_set.specs.declared.endpoint.TransferType.TheVariants.{Control, Isochronous, Bulk, Interrupt}
+use Rattle.usb_set.specs.Endpoints.{packet_size_of, transfer_type_of}
+use Rattle.usb_explain.specs.declared.speed.SetSpeed.{SetSpeed}
+use Rattle.usb_explain.specs.declared.speed.SetSpeed.TheVariants.{Low, Full, LowOrFull, High, FullOrHigh, Super}
+use Rattle.usb_explain.specs.declared.line_context.Context.{Context}
+use Rattle.usb_explain.specs.declared.descriptor_role.Role.{Role}
+use Rattle.usb_explain.specs.declared.descriptor_role.Role.TheVariants as roles
+use Rattle.usb_explain.specs.declared.remark.Range.{Range}
+use Rattle.usb_explain.specs.declared.remark.Sizes.{Sizes}
+use Rattle.usb_explain.specs.declared.remark.Sizes.TheVariants.{NoEndpoint, Only, UpTo, EightTo64, EightTo64Or512}
+use Rattle.usb_explain.specs.declared.remark.Remark.{Remark}
+use Rattle.usb_explain.specs.declared.remark.Remark.TheVariants as remarks
+use Rattle.usb_explain.specs.Headers.{header_remark}
+
+-- a remark that is made where something holds
+abbrev pub remark_if : Bool → Remark → Option Remark
+remark_if holds remark = if holds then Some remark else None
+
+-- ---- bInterval
+
+-- from the one to the other
+abbrev pub from_to : ℕ → ℕ → Option Range
+from_to least most = Some (record { least = least; most = most })
+
+-- The values of bInterval of a periodic endpoint (9.6.6). Where two speeds are open it is enough that one of them has a value.
+abbrev pub interval_range : SetSpeed → TransferType → Option Range
+interval_range Low Interrupt = from_to 10 255
+interval_range Full Interrupt = from_to 1 255
+interval_range LowOrFull Interrupt = from_to 1 255
+interval_range High Interrupt = from_to 1 16
+interval_range FullOrHigh Interrupt = from_to 1 255
+interval_range Super Interrupt = from_to 1 16
+interval_range Low Isochronous = None
+interval_range LowOrFull Isochronous = None
+interval_range _ Isochronous = from_to 1 16
+interval_range _ _ = None
+
+-- a value is one of a range
+abbrev pub is_within : Range → ℕ → Bool
+is_within range n = nat_le range.least n && nat_le n range.most
+
+-- bInterval that is out of its range
+abbrev pub out_of_range : SetSpeed → TransferType → ℕ → Range → Option Remark
+out_of_range speed transfer n range = remark_if (not (is_within range n)) (remarks.Interval transfer speed range)
+
+abbrev pub interval_remark : SetSpeed → TransferType → ℕ → Option Remark
+interval_remark speed transfer n = option_and_then (out_of_range speed transfer n) (interval_range speed transfer)
+
+-- ---- bits 10 to 0 of wMaxPacketSize
+
+-- The sizes of packets: control (5.5.3), isochronous (5.6.3), bulk (5.8.3) and interrupt (5.7.3). Where two speeds are open it
+-- is enough that one of them has a size. Those of SuperSpeed are left out.
+abbrev pub sizes_at : SetSpeed → TransferType → Option Sizes
+sizes_at Low Control = Some (Only 8)
+sizes_at Low Isochronous = Some NoEndpoint
+sizes_at Low Bulk = Some NoEndpoint
+sizes_at Low Interrupt = Some (UpTo 8)
+sizes_at Full Control = Some EightTo64
+sizes_at Full Isochronous = Some (UpTo 1023)
+sizes_at Full Bulk = Some EightTo64
+sizes_at Full Interrupt = Some (UpTo 64)
+sizes_at LowOrFull Control = Some EightTo64
+sizes_at LowOrFull Isochronous = Some (UpTo 1023)
+sizes_at LowOrFull Bulk = Some EightTo64
+sizes_at LowOrFull Interrupt = Some (UpTo 64)
+sizes_at High Control = Some (Only 64)
+sizes_at High Isochronous = Some (UpTo 1024)
+sizes_at High Bulk = Some (Only 512)
+sizes_at High Interrupt = Some (UpTo 1024)
+sizes_at FullOrHigh Control = Some EightTo64
+sizes_at FullOrHigh Isochronous = Some (UpTo 1024)
+sizes_at FullOrHigh Bulk = Some EightTo64Or512
+sizes_at FullOrHigh Interrupt = Some (UpTo 1024)
+sizes_at Super _ = None
+
+-- 8, 16, 32 or 64
+abbrev pub is_eight_to_64 : ℕ → Bool
+is_eight_to_64 n = (n == 8) || (n == 16) || (n == 32) || (n == 64)
+
+-- a size is one of these
+abbrev pub is_size : Sizes → ℕ → Bool
+is_size NoEndpoint n = false
+is_size (Only size) n = n == size
+is_size (UpTo most) n = nat_le n most
+is_size EightTo64 n = is_eight_to_64 n
+is_size EightTo64Or512 n = is_eight_to_64 n || (n == 512)
+
+-- packets of another size
+abbrev pub of_another_size : SetSpeed → TransferType → ℕ → Sizes → Option Remark
+of_another_size speed transfer n sizes = remark_if (not (is_size sizes n)) (remarks.Packet transfer speed sizes)
+
+abbrev pub size_remark : SetSpeed → TransferType → ℕ → Option Remark
+size_remark speed transfer n = option_and_then (of_another_size speed transfer n) (sizes_at speed transfer)
+
+-- ---- bits 12 to 11 of wMaxPacketSize
+
+-- they count the transactions of a microframe, at high speed or where it is open (9.6.6)
+abbrev pub counts_transactions : SetSpeed → TransferType → Bool
+counts_transactions High Isochronous = true
+counts_transactions High Interrupt = true
+counts_transactions FullOrHigh Isochronous = true
+counts_transactions FullOrHigh Interrupt = true
+counts_transactions _ _ = false
+
+-- 3 is reserved where they count, and elsewhere they are zero
+abbrev pub multiple_remark : SetSpeed → TransferType → ℕ → Option Remark
+multiple_remark speed transfer max_packet =
+    let more = max_packet / 2048 % 4 in
+    if counts_transactions speed transfer then remark_if (more == 3) remarks.ReservedMultiple
+    else remark_if (not (more == 0)) remarks.PacketBits
+
+-- ---- bmAttributes
+
+-- Bits 5 to 2 are zero but for an isochronous endpoint, whose bits 5 to 4 aren't 3 (9.6.6). At SuperSpeed bit 4 is one for an
+-- interrupt endpoint that notifies (USB 3.2, 9.6.6).
+abbrev pub type_bits_remark : SetSpeed → TransferType → ℕ → Option Remark
+type_bits_remark speed Isochronous attributes = remark_if (attributes / 16 % 4 == 3) remarks.ReservedUsage
+type_bits_remark Super Interrupt attributes =
+    remark_if (not (attributes / 4 % 4 == 0) || not (attributes / 32 % 2 == 0)) remarks.TypeBits
+type_bits_remark speed _ attributes = remark_if (not (attributes / 4 % 16 == 0)) remarks.TypeBits
+
+-- the first that holds: of those bits, or that bits 7 to 6 aren't zero
+abbrev pub attributes_remark : SetSpeed → TransferType → ℕ → Option Remark
+attributes_remark speed transfer attributes =
+    option_or (type_bits_remark speed transfer attributes) (remark_if (not (attributes / 64 == 0)) remarks.HighBits)
+
+-- ---- descriptors
+
+-- class 00 of an interface or of a function
+abbrev pub class_remark : ℕ → Option Remark
+class_remark class = remark_if (class == 0) remarks.ReservedClass
+
+-- a remark that there may be
+abbrev pub there : Option Remark → List Remark
+there None = []
+there (Some remark) = remark ∷ []
+
+-- the remarks on an endpoint of this transfer type
+unfoldable pub typed_remarks : SetSpeed → TransferType → List ℕ → List Remark
+typed_remarks speed transfer b =
+    there (interval_remark speed transfer (slice_index b 6))
+    ++ there (size_remark speed transfer (packet_size_of (little_endian_at b 4)))
+    ++ there (multiple_remark speed transfer (little_endian_at b 4))
+    ++ there (attributes_remark speed transfer (slice_index b 3))
+
+-- the remarks on a descriptor of this role, with the bytes of its set after it where they are all there
+unfoldable pub remarks_on : Role → Context → List ℕ → Option (List ℕ) → List Remark
+remarks_on roles.Association context b rest = there (class_remark (slice_index b 4))
+remarks_on roles.Interface context b rest = there (class_remark (slice_index b 5))
+remarks_on roles.Endpoint context b rest = typed_remarks context.speed (transfer_type_of (slice_index b 3)) b
+remarks_on roles.Raw context b rest = there (header_remark context.interface b rest)
+remarks_on _ context b rest = []

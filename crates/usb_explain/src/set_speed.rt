@@ -1,0 +1,149 @@
+//! The speed of a set.
+ghost use Rattle.std.specs.Prelude.{◌≡◌, option_and_then};
+ghost use Rattle.usb_explain.specs.SetSpeeds.{decided_speed, hinted_speed, low_is_excluded, is_high_hub, packet_excludes_low, other_speed, proved_speed, speed_by, speed_of_device, speed_of_packet, without_low};
+
+use crate::speed::SetSpeed;
+use crate::speed_evidence::Evidence;
+
+/// What is known of the speed of a set beside its descriptors.
+#[derive(Clone, Copy, Debug, PartialEq, Eq, Hash)]
+pub struct Background {
+    /// The speed, where it is known.
+    pub known: Option<SetSpeed>,
+    /// bMaxPacketSize0 at this speed.
+    pub packet: Option<u8>,
+    /// The other speed of the device, as far as it is known, where it has one.
+    pub other: Option<SetSpeed>,
+}
+
+/// The other speed of a device of full and high speed, which runs at one of the two.
+pub fn other_speed(speed: SetSpeed) -> Option<SetSpeed>
+    ensures { result ≡ other_speed speed }
+{
+    match speed {
+        SetSpeed::Full => Some(SetSpeed::High),
+        SetSpeed::High => Some(SetSpeed::Full),
+        _ => None,
+    }
+}
+
+/// The speed of a device's own sets by bcdUSB, bDeviceClass and bDeviceProtocol, where these leave no choice (9.6.1, 11.23.1;
+/// USB 3.2, 9.6.1).
+pub fn speed_of_device(usb: u16, class: u8, protocol: u8) -> Option<SetSpeed>
+    ensures { result ≡ speed_of_device usb class protocol }
+{
+    if usb >= 0x0300 {
+        Some(SetSpeed::Super)
+    } else if usb < 0x0200 {
+        Some(SetSpeed::LowOrFull)
+    } else if is_high_hub(class, protocol) {
+        Some(SetSpeed::High)
+    } else {
+        None
+    }
+}
+
+/// A hub with transaction translators, by its class and protocol.
+fn is_high_hub(class: u8, protocol: u8) -> bool
+    ensures { result ≡ is_high_hub class protocol }
+{
+    class == 9 && (protocol == 1 || protocol == 2)
+}
+
+/// The speed of a set. The first of these decides: the speed that is known; bMaxPacketSize0, which is 64 at high speed; what
+/// its descriptors prove; the device's other speed; an interval. Low or full speed is full speed where low speed is
+/// excluded (5.5.3).
+pub fn speed_by(background: Background, evidence: Evidence) -> SetSpeed
+    ensures { result ≡ speed_by background evidence }
+{
+    without_low(
+        low_is_excluded(background, evidence),
+        decided_speed(background, evidence),
+    )
+}
+
+fn decided_speed(background: Background, evidence: Evidence) -> SetSpeed
+    ensures { result ≡ decided_speed background evidence }
+{
+    let known = background.known.or(speed_of_packet(background.packet));
+    let decided = known
+        .or(proved_speed(evidence))
+        .or(speed_beside(background.other));
+    match decided {
+        None => hinted_speed(evidence),
+        Some(speed) => speed,
+    }
+}
+
+/// The speed of a device whose other speed is known.
+fn speed_beside(other: Option<SetSpeed>) -> Option<SetSpeed>
+    ensures { result ≡ option_and_then other_speed other }
+{
+    match other {
+        None => None,
+        Some(speed) => other_speed(speed),
+    }
+}
+
+fn low_is_excluded(background: Background, evidence: Evidence) -> bool
+    ensures { result ≡ low_is_excluded background evidence }
+{
+    background.other.is_some() || packet_excludes_low(background.packet) || evidence.above_low
+}
+
+fn packet_excludes_low(packet: Option<u8>) -> bool
+    ensures { result ≡ packet_excludes_low packet }
+{
+    match packet {
+        None => false,
+        Some(packet) => packet > 8,
+    }
+}
+
+fn without_low(is_low_excluded: bool, speed: SetSpeed) -> SetSpeed
+    ensures { result ≡ without_low is_low_excluded speed }
+{
+    match (is_low_excluded, speed) {
+        (true, SetSpeed::LowOrFull) => SetSpeed::Full,
+        _ => speed,
+    }
+}
+
+fn speed_of_packet(packet: Option<u8>) -> Option<SetSpeed>
+    ensures { result ≡ speed_of_packet packet }
+{
+    match packet {
+        None => None,
+        Some(packet) => {
+            if packet == 64 {
+                None
+            } else {
+                Some(SetSpeed::LowOrFull)
+            }
+        }
+    }
+}
+
+fn proved_speed(evidence: Evidence) -> Option<SetSpeed>
+    ensures { result ≡ proved_speed evidence }
+{
+    if evidence.companion {
+        Some(SetSpeed::Super)
+    } else if evidence.high {
+        Some(SetSpeed::High)
+    } else if evidence.full {
+        Some(SetSpeed::Full)
+    } else {
+        None
+    }
+}
+
+fn hinted_speed(evidence: Evidence) -> SetSpeed
+    ensures { result ≡ hinted_speed evidence }
+{
+    if evidence.slow {
+        SetSpeed::LowOrFull
+    } else {
+        SetSpeed::FullOrHigh
+    }
+}

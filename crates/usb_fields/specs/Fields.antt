@@ -1,0 +1,44 @@
+-- The fields of a descriptor: what each is called, how wide it is, and its number (USB 2.0, 9.6).
+use Rattle.std.specs.Prelude.{ℕ, List, [], ◌∷◌, map}
+use Rattle.std.specs.List.{flat_map}
+use Rattle.usb_fields.specs.Bytes.{little_endian, big_endian}
+use Rattle.usb_fields.specs.declared.width.Width.{Width}
+use Rattle.usb_fields.specs.declared.width.Width.TheVariants.{One, Two}
+
+-- A field of the descriptors that are values of this type, of one byte or of two: its name in the standard, and the
+-- number that it has in such a value.
+pub data Field (Descriptor : Type 0) : Type 0 where
+  byte : (name : List ℕ) → (number : Descriptor → ℕ) → Field Descriptor
+  word : (name : List ℕ) → (number : Descriptor → ℕ) → Field Descriptor
+
+module _ {Descriptor : Type 0} where
+  -- the name of a field
+  abbrev pub field_name : Field Descriptor → List ℕ
+  field_name (byte name number) = name
+  field_name (word name number) = name
+
+  -- its width
+  abbrev pub field_width : Field Descriptor → Width
+  field_width (byte name number) = One
+  field_width (word name number) = Two
+
+  -- its bytes in a descriptor, the low one first (8.1)
+  abbrev pub field_bytes : Descriptor → Field Descriptor → List ℕ
+  field_bytes d (byte name number) = number d ∷ []
+  field_bytes d (word name number) = little_endian (number d)
+
+  -- its bytes as they are written out, the high one first
+  abbrev pub field_text : Descriptor → Field Descriptor → List ℕ
+  field_text d (byte name number) = number d ∷ []
+  field_text d (word name number) = big_endian (number d)
+
+  -- the names of fields, and their widths
+  abbrev pub names : List (Field Descriptor) → List (List ℕ)
+  names fields = map field_name fields
+
+  abbrev pub widths : List (Field Descriptor) → List Width
+  widths fields = map field_width fields
+
+  -- the bytes of a descriptor's fields, one field after another
+  abbrev pub fields_bytes : List (Field Descriptor) → Descriptor → List ℕ
+  fields_bytes fields d = flat_map (field_bytes d) fields

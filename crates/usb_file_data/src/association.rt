@@ -1,0 +1,80 @@
+//! V13: an association binds interfaces that are there.
+ghost use Rattle.std.specs.Prelude.{◌≡◌, ◌+◌, ◌∷◌, ◌++◌, [], IfOk, OnOk, length};
+ghost use Rattle.usb_set.specs.Parts.{association_in};
+ghost use Rattle.usb_file_data.specs.InOrder.{association_count};
+ghost use Rattle.usb_file_data.specs.inside.Interfaces.{kept, misses_some};
+ghost use Rattle.usb_file_data.specs.inside.Walk.{in_extras};
+
+use crate::found::Found;
+use crate::interfaces::Interfaces;
+use crate::place::Place;
+use crate::rule::Rule;
+use std::alloc::AllocError;
+use usb_set::{Association, Extra, Sequence};
+
+/// Of the associations among these extras, of which the first has this number in its set. Answers the number of the next.
+///
+/// Most descriptors own no extras, and for them nothing is called.
+#[inline(always)]
+pub(crate) fn check_extras(
+    found: &mut Found,
+    interfaces: &Interfaces,
+    place: &Place,
+    number: usize,
+    extras: &Sequence<Extra>,
+) -> Result<usize, AllocError>
+    ensures reported { OnOk result (found.new ≡ found.old ++ in_extras place.now (kept interfaces.now).numbers number extras.now) }
+    ensures next { IfOk result (λ next. next ≡ number + association_count extras.now) }
+{
+    if extras.is_empty() {
+        return Ok(number);
+    }
+    check_each(found, interfaces, *place, number, extras)
+}
+
+/// The same, extra by extra.
+fn check_each(
+    found: &mut Found,
+    interfaces: &Interfaces,
+    place: Place,
+    number: usize,
+    extras: &[Extra],
+) -> Result<usize, AllocError>
+    ensures reported { OnOk result (found.new ≡ found.old ++ in_extras place (kept interfaces.now).numbers number extras.now) }
+    ensures next { IfOk result (λ next. next ≡ number + association_count extras.now) }
+{
+    let mut next = number;
+    for extra in extras {
+        next = check_extra(found, interfaces, place, next, extra)?;
+    }
+    Ok(next)
+}
+
+/// Of an extra, if it is an association.
+fn check_extra(
+    found: &mut Found,
+    interfaces: &Interfaces,
+    place: Place,
+    number: usize,
+    extra: &Extra,
+) -> Result<usize, AllocError>
+    ensures reported { OnOk result (found.new ≡ found.old ++ in_extras place (kept interfaces.now).numbers number (extra.now ∷ [])) }
+    ensures next { IfOk result (λ next. next ≡ number + length (association_in extra.now)) }
+{
+    match extra {
+        Extra::Association(a) => {
+            let misses = binds_missing_interface(interfaces, a);
+            found.report(Rule::V13, misses, place.at_setting(number))?;
+            // No memory holds so many associations that this is refused.
+            number.checked_add(1).ok_or(AllocError)
+        }
+        _ => Ok(number),
+    }
+}
+
+/// Whether it binds no interface, or one that isn't there.
+fn binds_missing_interface(interfaces: &Interfaces, a: &Association) -> bool
+    ensures { result ≡ misses_some (kept interfaces.now).numbers a.now }
+{
+    a.count == 0 || interfaces.next_absent(a.first) < usize::from(a.first) + usize::from(a.count)
+}

@@ -1,0 +1,185 @@
+//! All rules that a set keeps or breaks by itself.
+ghost use Rattle.std.specs.Prelude.{◌≡◌, ◌+◌, ◌++◌, true, false, IfOk, OnOk};
+ghost use Rattle.usb_fields.specs.Marks.{is_marked, marked};
+ghost use Rattle.usb_file_data.specs.InOrder.{setting_associations};
+ghost use Rattle.usb_file_data.specs.inside.Addresses.{claimed, owned, kept as claims};
+ghost use Rattle.usb_file_data.specs.inside.Interfaces.{NoneBreaksV3OrV4, AreEntered, entered, kept as entries, compared_with};
+ghost use Rattle.usb_file_data.specs.inside.Walk.{in_configuration, in_endpoint, in_interface, in_set, in_setting};
+
+use crate::addresses::Addresses;
+use crate::association::check_extras;
+use crate::attributes::check_attributes;
+use crate::default_setting::lacks_default_setting;
+use crate::endpoint::{check_address, check_packet_size};
+use crate::endpoint_count::check_endpoint_count;
+use crate::found::Found;
+use crate::interface_number::{check_interface_count, check_number_gap};
+use crate::interfaces::Interfaces;
+use crate::place::Place;
+use crate::repeated_address::check_repeated_address;
+use crate::repeated_setting::check_repeated_setting;
+use crate::rule::Rule;
+use crate::shared_address::check_shared_address;
+use crate::value::check_value;
+use std::alloc::{AllocError, Global};
+use usb_fields::Marks;
+use usb_set::{Configuration, Endpoint, Setting};
+
+/// What is kept of a set while the walk goes over it.
+#[derive(Drop)]
+pub(crate) struct Known {
+    /// The interfaces of the whole set.
+    whole: Interfaces,
+    earlier: Earlier,
+}
+
+impl Known {
+    pub(crate) fn new(alloc: Global) -> Known {
+        Known {
+            whole: Interfaces::new(alloc),
+            earlier: Earlier {
+                interfaces: Interfaces::new(alloc),
+                addresses: Addresses::new(),
+            },
+        }
+    }
+}
+
+/// What is kept of the settings before.
+#[derive(Drop)]
+struct Earlier {
+    interfaces: Interfaces,
+    addresses: Addresses,
+}
+
+/// Of a set at its place, among the values of those before it in its part.
+pub(crate) fn check_set_at(
+    found: &mut Found,
+    known: &mut Known,
+    values: &mut Marks,
+    place: Place,
+    c: &Configuration,
+) -> Result<(), AllocError>
+    ensures reported { OnOk result (found.new ≡ found.old ++ in_set place (is_marked values.old) c.now) }
+    ensures marked { OnOk result (is_marked values.new ≡ marked (is_marked values.old) c.now.value) }
+{
+    let may_break = enter_all(&mut known.whole, &c.settings)?;
+    let whole = &known.whole;
+    check_configuration(found, whole, values, place, c)?;
+    let earlier = &mut known.earlier;
+    earlier.interfaces.clear();
+    earlier.addresses.clear();
+    let mut number = check_extras(found, whole, &place, 0, &c.extras)?;
+    for (setting, s) in c.settings.iter().enumerate() {
+        number = check_setting(
+            found,
+            whole,
+            earlier,
+            may_break,
+            place.at_setting(setting),
+            number,
+            s,
+        )?;
+    }
+    Ok(())
+}
+
+/// Enters these settings and no others. Answers whether one of them may break V3 or V4.
+fn enter_all(interfaces: &mut Interfaces, settings: &[Setting]) -> Result<bool, AllocError>
+    ensures entered { OnOk result (AreEntered settings.now (entries interfaces.new)) }
+    ensures keep { IfOk result (λ may_break. may_break ≡ false → NoneBreaksV3OrV4 settings.now) }
+{
+    interfaces.clear();
+    let mut again = false;
+    for (setting, s) in settings.iter().enumerate() {
+        let repeated = interfaces.add(setting, s)?;
+        again |= repeated;
+    }
+    Ok(again || interfaces.lacks_default())
+}
+
+/// Of the first descriptor of a set.
+fn check_configuration(
+    found: &mut Found,
+    whole: &Interfaces,
+    values: &mut Marks,
+    place: Place,
+    c: &Configuration,
+) -> Result<(), AllocError>
+    requires { AreEntered c.now.settings (entries whole.now) }
+    ensures reported { OnOk result (found.new ≡ found.old ++ in_configuration place (is_marked values.old) c.now) }
+    ensures marked { OnOk result (is_marked values.new ≡ marked (is_marked values.old) c.now.value) }
+{
+    check_interface_count(found, whole, place, c)?;
+    check_number_gap(found, whole, place, c)?;
+    check_attributes(found, place, c)?;
+    check_value(found, values, place, c)
+}
+
+/// Of a setting, before which the set has so many associations. Answers how many it has before the next one.
+fn check_setting(
+    found: &mut Found,
+    whole: &Interfaces,
+    earlier: &mut Earlier,
+    may_break: bool,
+    place: Place,
+    number: usize,
+    s: &Setting,
+) -> Result<usize, AllocError>
+    ensures reported { OnOk result (found.new ≡ found.old ++ in_setting place (entries whole.now).numbers (entries whole.now).alternates (compared_with may_break (entries earlier.old.interfaces)).numbers (compared_with may_break (entries earlier.old.interfaces)).alternates (claims earlier.old.addresses).elsewhere number s.now) }
+    ensures interfaces { OnOk result (may_break ≡ true → entries earlier.new.interfaces ≡ entered place.setting s.now (entries earlier.old.interfaces)) }
+    ensures addresses { OnOk result ((claims earlier.new.addresses).elsewhere ≡ owned s.now.number s.now.endpoints (claims earlier.old.addresses).elsewhere) }
+    ensures next { IfOk result (λ next. next ≡ number + setting_associations s.now) }
+{
+    check_interface(found, whole, &mut earlier.interfaces, may_break, place, s)?;
+    let mut next = check_extras(found, whole, &place, number, &s.extras)?;
+    earlier.addresses.begin(s.number);
+    for (endpoint, e) in s.endpoints.iter().enumerate() {
+        check_endpoint(
+            found,
+            &mut earlier.addresses,
+            place.at_endpoint(endpoint),
+            e,
+        )?;
+        next = check_extras(found, whole, &place, next, &e.extras)?;
+    }
+    Ok(next)
+}
+
+/// Of an interface descriptor, in a set of which a setting may break V3 or V4, or none does.
+fn check_interface(
+    found: &mut Found,
+    whole: &Interfaces,
+    interfaces: &mut Interfaces,
+    may_break: bool,
+    place: Place,
+    s: &Setting,
+) -> Result<(), AllocError>
+    ensures reported { OnOk result (found.new ≡ found.old ++ in_interface place (entries whole.now).alternates (compared_with may_break (entries interfaces.old)).numbers (compared_with may_break (entries interfaces.old)).alternates s.now) }
+    ensures interfaces { OnOk result (may_break ≡ true → entries interfaces.new ≡ entered place.setting s.now (entries interfaces.old)) }
+{
+    if !may_break {
+        return check_endpoint_count(found, place, s);
+    }
+    let lacks = lacks_default_setting(whole, interfaces, s);
+    check_repeated_setting(found, interfaces, place, s)?;
+    found.report(Rule::V4, lacks, place)?;
+    check_endpoint_count(found, place, s)
+}
+
+/// Of the descriptor of an endpoint.
+fn check_endpoint(
+    found: &mut Found,
+    addresses: &mut Addresses,
+    place: Place,
+    e: &Endpoint,
+) -> Result<(), AllocError>
+    ensures reported { OnOk result (found.new ≡ found.old ++ in_endpoint place (claims addresses.old).here (λ b. (claims addresses.old).elsewhere b (claims addresses.old).number) e.now) }
+    ensures claimed { OnOk result (claims addresses.new ≡ claimed e.now.address (claims addresses.old)) }
+{
+    let claimed = addresses.claim(e.address);
+    check_address(found, place, e)?;
+    check_repeated_address(found, claimed, place)?;
+    check_shared_address(found, claimed, place)?;
+    check_packet_size(found, place, e)
+}

@@ -1,0 +1,374 @@
+//! One control transfer, driven reply by reply (USB 2.0, 8.5.3).
+ghost use Rattle.std.specs.Prelude.{IsSome, ◌≡◌, ◌<◌, ◌≤◌, ◌+◌, ◌^◌};
+ghost use Rattle.usb_fields.specs.Packet.{reply_of};
+ghost use Rattle.usb_host.specs.Transfer.{stage_after_setup};
+
+use crate::heard::Heard;
+use crate::stage::TransferStage;
+use crate::why::Why;
+use std::marker::Model;
+use usb_fields::{Answer, Direction, Setup, Stage, Toggle, Transaction};
+
+/// The strikes that a transfer retries with no progress between them: one more ends it.
+const STRIKES: u8 = 2;
+
+/// One control transfer, as the host drives it.
+///
+/// The caller sends what [`Transfer::next`] says, hands what came back to [`Transfer::take`], and goes on until
+/// `next` says `None`. Data packets are kept by their toggle (USB 2.0, 8.6): one that comes again is acknowledged and
+/// discarded.
+///
+/// ```rust
+/// let mut transfer = Transfer::new(0, 64, 16, Setup::from_bytes(&[0x80, 6, 0, 1, 0, 0, 2, 0]));
+/// transfer.take(Answer::Ack);
+/// let heard = transfer.take(Answer::Data(Toggle::Data1, &[18, 1]));
+/// assert_eq!(rt; heard, Heard::Bytes(&[18, 1]));
+/// assert_eq!(rt; transfer.take(Answer::Ack), Heard::Complete);
+/// assert_eq!(rt; transfer.next(), None);
+/// ```
+#[derive(Clone, Copy, Debug)]
+pub struct Transfer {
+    address: u8,
+    packet: u8,
+    naks: u16,
+    request: Setup,
+    stage: TransferStage,
+    awaited: Toggle,
+    kept: u16,
+    strikes: u8,
+    nak_count: u16,
+}
+
+impl Model for Transfer {
+    ghost use Rattle.usb_host.specs.Transfer.{TransferView};
+
+    ghost Value = { TransferView };
+
+    ghost use Rattle.usb_host.specs.inside.Transfers.{view_of, fields_of, IsTransfer};
+
+    ghost view = { view_of };
+
+    ghost invariant = { λ t. IsTransfer (view_of t) };
+
+    ghost inverse = { fields_of };
+}
+
+impl Transfer {
+    ghost use Rattle.usb_host.specs.Heard.{heard_of};
+    ghost use Rattle.usb_host.specs.Transfer.{begun, due, sent_by, taken, taken_data, taken_status, moved, completed, failed, struck, delayed, with_packet, is_untried};
+    ghost use Rattle.usb_host.specs.Bound.{left, most_transactions};
+
+    /// A transfer that begins with this setup packet, with no byte, no strike and no NAK.
+    ///
+    /// `packet` is the packet size of the device's endpoint zero, in bytes, and `naks` the number of NAKs without
+    /// progress after which one more ends the transfer.
+    ///
+    /// ```rust
+    /// let transfer = Transfer::new(5, 64, 16, Setup::from_bytes(&[0x80, 6, 0, 1, 0, 0, 18, 0]));
+    /// ```
+    ///
+    /// # Requires
+    ///
+    /// The packet size is above 0.
+    pub fn new(address: u8, packet: u8, naks: u16, s: Setup) -> Transfer
+        requires { 0 < packet }
+        ensures view { result ≡ begun address packet naks s }
+        ensures most { left result ≤ most_transactions packet naks s }
+        ensures few { left result < 2 ^ 33 }
+    {
+        Transfer {
+            address,
+            packet,
+            naks,
+            request: s,
+            stage: TransferStage::Setup,
+            awaited: Toggle::Data1,
+            kept: 0,
+            strikes: 0,
+            nak_count: 0,
+        }
+    }
+
+    /// The transaction that is due, by the stage, the address and the request; `None` once the transfer has ended.
+    ///
+    /// ```rust
+    /// while let Some(transaction) = transfer.next() {
+    ///     transfer.take(send(&transaction));
+    /// }
+    /// ```
+    #[inline(always)]
+    pub fn next(&self) -> Option<Transaction<'static>>
+        ensures { sent_by result ≡ due self.now }
+    {
+        let stage = match self.stage {
+            TransferStage::Setup => Stage::Setup(self.request.to_bytes()),
+            TransferStage::DataIn | TransferStage::StatusIn => Stage::In,
+            TransferStage::DataOut | TransferStage::StatusOut => Stage::Out(Toggle::Data1, &[]),
+            TransferStage::Completed | TransferStage::Failed(_) => return None,
+        };
+        Some(Transaction {
+            address: self.address,
+            stage,
+        })
+    }
+
+    /// The setup packet with which it began.
+    ///
+    /// ```rust
+    /// assert_eq!(rt; transfer.request().length, 18);
+    /// ```
+    #[inline(always)]
+    pub fn request(&self) -> Setup
+        ensures { result ≡ self.now.request }
+    {
+        self.request
+    }
+
+    /// How many bytes of the data stage were kept so far, at most wLength.
+    ///
+    /// ```rust
+    /// assert_eq!(rt; transfer.kept(), 18);
+    /// ```
+    #[inline(always)]
+    pub fn kept(&self) -> u16
+        ensures count { result ≡ self.now.kept }
+        ensures most { result ≤ self.now.request.length }
+    {
+        self.kept
+    }
+
+    /// The strikes since the last progress, at most 2: transactions that brought nothing, or a packet that came before.
+    ///
+    /// ```rust
+    /// assert_eq!(rt; transfer.strikes(), 0);
+    /// ```
+    pub fn strikes(&self) -> u8
+        ensures { result ≡ self.now.strikes }
+    {
+        self.strikes
+    }
+
+    /// The NAKs since the last progress, at most the limit.
+    ///
+    /// ```rust
+    /// assert_eq!(rt; transfer.nak_count(), 0);
+    /// ```
+    pub fn nak_count(&self) -> u16
+        ensures { result ≡ self.now.nak_count }
+    {
+        self.nak_count
+    }
+
+    /// Whether there was no transaction yet.
+    ///
+    /// ```rust
+    /// let mut transfer = Transfer::new(0, 64, 16, setup);
+    /// assert!(rt; transfer.is_untried());
+    /// transfer.take(Answer::Silence);
+    /// assert!(rt; !transfer.is_untried());
+    /// ```
+    pub fn is_untried(&self) -> bool
+        ensures { result ≡ is_untried self.now.stage self.now.strikes }
+    {
+        self.stage == TransferStage::Setup && self.strikes == 0
+    }
+
+    /// Takes the reply to the transaction that was due, which moves the transfer as the table of stages says. A transfer
+    /// that has ended answers the same `Complete` or `Failed` from then on, and does not change. Whatever is replied, at
+    /// most `(naks + 3) * (wLength / packet size + 3)` transactions are due.
+    ///
+    /// ```rust
+    /// match transfer.take(answer) {
+    ///     Heard::Again => {}
+    ///     Heard::Bytes(bytes) => data.extend_from_slice(bytes)?,
+    ///     Heard::Complete => return Ok(data),
+    ///     Heard::Failed(why) => return Err(why),
+    /// }
+    /// ```
+    #[inline(always)]
+    pub fn take<'a>(&mut self, a: Answer<'a>) -> Heard<'a>
+        ensures heard { heard_of result ≡ (taken self.old (reply_of a.entry)).heard }
+        ensures after { self.new ≡ (taken self.old (reply_of a.entry)).transfer }
+        ensures fewer { IsSome (due self.old) → left self.new < left self.old }
+    {
+        // For the proof alone: a field that is read brings in what holds of a transfer.
+        let _packet = self.packet;
+        self.take_at(a)
+    }
+
+    /// The same by the stage.
+    #[inline(always)]
+    fn take_at<'a>(&mut self, a: Answer<'a>) -> Heard<'a>
+        ensures heard { heard_of result ≡ (taken self.old (reply_of a.entry)).heard }
+        ensures after { self.new ≡ (taken self.old (reply_of a.entry)).transfer }
+    {
+        match self.stage {
+            TransferStage::Setup => match a {
+                Answer::Ack => {
+                    let stage = after_setup(self.request);
+                    self.go_on(stage)
+                }
+                Answer::Silence => self.strike(),
+                Answer::Nak | Answer::Stall | Answer::Data(_, _) => self.fail(Why::Unexpected),
+            },
+            TransferStage::DataIn => match a {
+                Answer::Data(toggle, bytes) => self.take_data(toggle, bytes),
+                Answer::Nak => self.delay(),
+                Answer::Silence => self.strike(),
+                Answer::Stall => self.fail(Why::Stalled),
+                Answer::Ack => self.fail(Why::Unexpected),
+            },
+            TransferStage::DataOut => match a {
+                Answer::Nak => self.delay(),
+                Answer::Silence => self.strike(),
+                Answer::Stall => self.fail(Why::Stalled),
+                Answer::Ack | Answer::Data(_, _) => self.fail(Why::Unexpected),
+            },
+            TransferStage::StatusOut => match a {
+                Answer::Ack => self.complete(),
+                Answer::Nak => self.delay(),
+                Answer::Silence => self.strike(),
+                Answer::Stall => self.fail(Why::Stalled),
+                Answer::Data(_, _) => self.fail(Why::Unexpected),
+            },
+            TransferStage::StatusIn => match a {
+                Answer::Data(toggle, bytes) => self.take_status(toggle, bytes),
+                Answer::Nak => self.delay(),
+                Answer::Silence => self.strike(),
+                Answer::Stall => self.fail(Why::Stalled),
+                Answer::Ack => self.fail(Why::Unexpected),
+            },
+            TransferStage::Completed => Heard::Complete,
+            TransferStage::Failed(why) => Heard::Failed(why),
+        }
+    }
+
+    /// A packet in the data stage. Its length is tested before its toggle: a packet over the packet size is none of
+    /// this device's, whether it came before or not.
+    #[inline(always)]
+    fn take_data<'a>(&mut self, toggle: Toggle, bytes: &'a [u8]) -> Heard<'a>
+        ensures heard { heard_of result ≡ (taken_data self.old toggle bytes.now).heard }
+        ensures after { self.new ≡ (taken_data self.old toggle bytes.now).transfer }
+    {
+        if bytes.len() > usize::from(self.packet) {
+            return self.fail(Why::TooLong);
+        }
+        if toggle != self.awaited {
+            return self.strike();
+        }
+        if bytes.len() > usize::from(self.request.length - self.kept) {
+            return self.fail(Why::TooLong);
+        }
+        self.keep(bytes.len() as u16);
+        Heard::Bytes(bytes)
+    }
+
+    /// A packet in the status stage.
+    #[inline(always)]
+    fn take_status(&mut self, toggle: Toggle, bytes: &[u8]) -> Heard<'static>
+        ensures heard { heard_of result ≡ (taken_status self.old toggle bytes.now).heard }
+        ensures after { self.new ≡ (taken_status self.old toggle bytes.now).transfer }
+    {
+        if !bytes.is_empty() {
+            return self.fail(Why::TooLong);
+        }
+        match toggle {
+            Toggle::Data0 => self.strike(),
+            Toggle::Data1 => self.complete(),
+        }
+    }
+
+    /// Progress: on to this stage.
+    #[inline(always)]
+    fn go_on(&mut self, stage: TransferStage) -> Heard<'static>
+        ensures heard { heard_of result ≡ (moved self.old stage).heard }
+        ensures after { self.new ≡ (moved self.old stage).transfer }
+    {
+        self.stage = stage;
+        self.strikes = 0;
+        self.nak_count = 0;
+        Heard::Again
+    }
+
+    /// Progress to the end.
+    #[inline(always)]
+    fn complete(&mut self) -> Heard<'static>
+        ensures heard { heard_of result ≡ (completed self.old).heard }
+        ensures after { self.new ≡ (completed self.old).transfer }
+    {
+        self.stage = TransferStage::Completed;
+        self.strikes = 0;
+        self.nak_count = 0;
+        Heard::Complete
+    }
+
+    /// Progress by a data packet of so many bytes.
+    #[inline(always)]
+    fn keep(&mut self, count: u16)
+        requires { self.old.kept + count ≤ self.old.request.length }
+        ensures { self.new ≡ with_packet self.old count }
+    {
+        let is_short = count < u16::from(self.packet);
+        self.kept += count;
+        self.stage = if is_short || self.kept == self.request.length {
+            TransferStage::StatusOut
+        } else {
+            TransferStage::DataIn
+        };
+        self.awaited = self.awaited.flip();
+        self.strikes = 0;
+        self.nak_count = 0;
+    }
+
+    /// The end, for this reason.
+    #[inline(always)]
+    fn fail(&mut self, why: Why) -> Heard<'static>
+        ensures heard { heard_of result ≡ (failed self.old why).heard }
+        ensures after { self.new ≡ (failed self.old why).transfer }
+    {
+        self.stage = TransferStage::Failed(why);
+        Heard::Failed(why)
+    }
+
+    /// No reply, or a packet that came before.
+    #[inline(always)]
+    fn strike(&mut self) -> Heard<'static>
+        ensures heard { heard_of result ≡ (struck self.old).heard }
+        ensures after { self.new ≡ (struck self.old).transfer }
+    {
+        if self.strikes < STRIKES {
+            self.strikes += 1;
+            Heard::Again
+        } else {
+            self.fail(Why::NoAnswer)
+        }
+    }
+
+    /// A NAK.
+    #[inline(always)]
+    fn delay(&mut self) -> Heard<'static>
+        ensures heard { heard_of result ≡ (delayed self.old).heard }
+        ensures after { self.new ≡ (delayed self.old).transfer }
+    {
+        if self.nak_count < self.naks {
+            self.nak_count += 1;
+            Heard::Again
+        } else {
+            self.fail(Why::Busy)
+        }
+    }
+}
+
+/// The stage that an acknowledged setup packet leads to.
+#[inline(always)]
+fn after_setup(request: Setup) -> TransferStage
+    ensures { result ≡ stage_after_setup request }
+{
+    if request.length == 0 {
+        return TransferStage::StatusIn;
+    }
+    match request.direction() {
+        Direction::In => TransferStage::DataIn,
+        Direction::Out => TransferStage::DataOut,
+    }
+}

@@ -1,0 +1,69 @@
+-- The descriptor of a line, read: what stands after the first word.
+use Rattle.std.specs.Prelude.{ℕ, ◌==◌, if◌then◌else◌, option_and_then, drop, length, is_some, Bool, Option, Some, None, List, [], ◌∷◌}
+use Rattle.std.specs.Option.{option_map}
+use Rattle.usb_listing.specs.Table.{Row}
+use Rattle.usb_listing.specs.declared.word.Word.{Word}
+use Rattle.usb_listing.specs.declared.word.Word.TheVariants as words
+use Rattle.usb_listing.specs.declared.values.Written.TheVariants as forms
+use Rattle.usb_listing.specs.Words.{first_word, word_text}
+use Rattle.usb_listing.specs.Says.{Item, fields, is_typed_raw, languages, row_for, string}
+use Rattle.usb_listing.specs.inside.Fields.{behind_space, bytes_in}
+use Rattle.usb_listing.specs.inside.Finding.{word_in}
+use Rattle.usb_listing.specs.inside.Units.{values_from}
+
+-- the bytes of a descriptor of this row
+abbrev pub row_bytes : Option Row → List ℕ → Option (List ℕ)
+row_bytes None text = None
+row_bytes (Some row) text = bytes_in (0 ∷ row.front) row.widths row.tail text
+
+-- the bytes of a descriptor whose line has this word
+unfoldable pub fields_in : Word → List ℕ → Option (List ℕ)
+fields_in word text = row_bytes (row_for word) text
+
+-- the descriptor of bytes, if it is no raw one of a type that a set reads
+abbrev pub untyped : Word → List ℕ → Option Item
+untyped word b = if is_typed_raw word b then None else Some (fields word b)
+
+-- whether the line of this word says fields
+abbrev pub says_fields : Word → Bool
+says_fields word = is_some (row_for word)
+
+-- what stands before a quote (22h) that ends the text
+abbrev pub before_quote : List ℕ → Option (List ℕ)
+before_quote [] = None
+before_quote (x ∷ []) = if x == 34 then Some [] else None
+before_quote (x ∷ y ∷ text) = option_map (λ (front : List ℕ). x ∷ front) (before_quote (y ∷ text))
+
+-- what stands between quotes, after the first of them
+abbrev pub in_quotes : Option (List ℕ) → Option (List ℕ)
+in_quotes None = None
+in_quotes (Some []) = None
+in_quotes (Some (x ∷ text)) = if x == 34 then before_quote text else None
+
+-- the text of a string, after a space and between quotes
+unfoldable pub quoted : List ℕ → Option (List ℕ)
+quoted text = in_quotes (behind_space text)
+
+-- the language codes, where there is one
+abbrev pub some_language : Option (List ℕ) → Option (List ℕ)
+some_language None = None
+some_language (Some []) = None
+some_language (Some (u ∷ us)) = Some (u ∷ us)
+
+-- the language codes of a language list
+unfoldable pub languages_in : List ℕ → Option (List ℕ)
+languages_in text = some_language (values_from forms.Field 126 [] text)
+
+-- the units of a string
+unfoldable pub string_in : List ℕ → Option (List ℕ)
+string_in text = option_and_then (values_from forms.Unit 126 []) (quoted text)
+
+-- what a line says whose first word is this, and after it this text
+unfoldable pub item_in : Word → List ℕ → Option Item
+item_in words.Languages text = option_map languages (languages_in text)
+item_in words.String text = option_map string (string_in text)
+item_in word text = option_and_then (untyped word) (fields_in word text)
+
+-- what the line says: its first word decides how the rest is read
+unfoldable pub item_of_line : List ℕ → Option Item
+item_of_line line = option_and_then (λ (word : Word). item_in word (drop (length (word_text word)) line)) (word_in (first_word line))

@@ -1,0 +1,79 @@
+//! Why a text is no listing.
+ghost use Rattle.std.specs.Prelude.{◌≡◌};
+ghost use Rattle.usb_listing.specs.Numbers.{why_number};
+
+use thiserror::Error;
+
+/// What is wrong with a line of a listing. Of several that hold of one line the first is reported.
+///
+/// ```rust
+/// assert_eq!(rt; ListWhy::TooLong.number(), 5);
+/// ```
+#[derive(Clone, Copy, Debug, Drop, Error, PartialEq, Eq, Hash)]
+pub enum ListWhy {
+    /// The last line lacks its line feed, or a byte is none of 20 to 7e hexadecimal.
+    #[error("no whole line of printable text")]
+    Line,
+    /// The line begins with none of the ten words.
+    #[error("no known word")]
+    Word,
+    /// The word isn't allowed here.
+    #[error("the word can't stand here")]
+    Place,
+    /// A field is missing, superfluous or not in its form.
+    #[error("a field is missing, superfluous or not in its form")]
+    Field,
+    /// The descriptor takes its set over 65,535 bytes.
+    #[error("the set is over 65,535 bytes")]
+    TooLong,
+    /// The text ended and something is still due: the line is the one after the last.
+    #[error("the text ends before the file does")]
+    Missing,
+    /// Out of memory on this line.
+    #[error("out of memory")]
+    Memory,
+}
+
+impl ListWhy {
+    /// The fault's number, from 1 to 7.
+    pub fn number(self) -> u8
+        ensures { result ≡ why_number self }
+    {
+        match self {
+            ListWhy::Line => 1,
+            ListWhy::Word => 2,
+            ListWhy::Place => 3,
+            ListWhy::Field => 4,
+            ListWhy::TooLong => 5,
+            ListWhy::Missing => 6,
+            ListWhy::Memory => 7,
+        }
+    }
+}
+
+/// A fault of a listing, and the line where it is.
+///
+/// ```rust
+/// // A raw descriptor can't come first.
+/// if let Err(fault) = assemble(alloc, b"raw 21 -\n") {
+///     assert_eq!(rt; (fault.number(), fault.line), (3, 1));
+/// }
+/// ```
+#[derive(Clone, Copy, Debug, Drop, Error, PartialEq, Eq, Hash)]
+#[error("line {line}: {why}")]
+pub struct ListFault {
+    /// The line, counted from 1.
+    pub line: usize,
+    /// What is wrong with it.
+    #[source]
+    pub why: ListWhy,
+}
+
+impl ListFault {
+    /// The fault's number, from 1 to 7.
+    pub fn number(self) -> u8
+        ensures { result ≡ why_number self.why }
+    {
+        self.why.number()
+    }
+}

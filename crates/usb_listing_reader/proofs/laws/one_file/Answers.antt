@@ -1,9 +1,0 @@
-use Rattle.std.proofs.Common.{sym, ◌∙◌}
-use Rattle.usb_listing_reader.proofs.LawLemmas.{one_file}
-use Rattle.usb_listing_reader.proofs.laws.one_file.Goals as goal
-
-pub returns-clause-read : goal.returns-clause-read
-returns-clause-read c = one_file
-
-pub returns-clause-listed : goal.returns-clause-listed
-returns-clause-listed c = λ f s t x y. x.lines ∙ sym y.lines

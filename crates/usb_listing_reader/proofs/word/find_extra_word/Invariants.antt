@@ -1,7 +1,0 @@
-use Rattle.std.proofs.Common.{◌≡◌, drop, map}
-use Rattle.usb_listing_reader.specs.declared.word.Word.TheVariants as words
-use Rattle.usb_listing_reader.specs.inside.Finding.{word_among}
-use Rattle.usb_listing_reader.proofs.word.find_extra_word.Given as goal
-
-abbrev pub invariant-loop-word : goal.invariant-loop-word
-invariant-loop-word l = word_among (map words.Extra (drop l.word-index l.words)) l.text ≡ word_among (map words.Extra l.words) l.text

@@ -1,4 +1,0 @@
-pub mod Headers
-pub mod Remarks
-pub mod Lines
-pub mod Laws

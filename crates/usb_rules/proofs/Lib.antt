@@ -1,4 +1,0 @@
-pub mod Entering
-pub mod Owning
-pub mod Walking
-pub mod Sorting

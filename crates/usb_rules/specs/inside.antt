@@ -1,4 +1,0 @@
--- What no public contract cites.
-pub mod Interfaces
-pub mod Walk
-pub mod Addresses

@@ -1,0 +1,127 @@
+//! One pass over a set, which judges its descriptors and counts their bytes.
+ghost use Rattle.std.specs.Prelude.{◌≡◌, ◌+◌, ◌-◌, ◌≤◌, length, false, nat_lt};
+ghost use Rattle.std.specs.List.{flat_map, list_any};
+ghost use Rattle.usb_set.specs.Layout.{has_long_descriptor, has_typed_raw, is_typed_raw, set_bytes};
+ghost use Rattle.usb_set.specs.inside.Measuring.{measured};
+ghost use Rattle.usb_set.specs.inside.Trees.{endpoint_bytes, extra_bytes, is_endpoint_long, is_endpoint_typed, is_extra_long, is_setting_long, is_setting_typed, is_tree_long, is_tree_typed, setting_bytes, tree_bytes};
+
+use crate::extra::Extra;
+use crate::tree::{Configuration, Endpoint, Setting};
+use crate::with_extra;
+use usb_fields::descriptor_length;
+
+/// One more than wTotalLength can say: the count of a set that has no bytes.
+pub(crate) const TOO_LONG: usize = Configuration::MOST_BYTES + 1;
+
+/// A part of a set that the pass goes over. All parts are inlined, since one loop nest is the quicker.
+trait Measured {
+    ghost use Rattle.std.specs.Prelude.{ℕ, Bool, List};
+
+    /// Whether one of its descriptors is over 255 bytes.
+    ghost is_long: { Self → Bool };
+
+    /// Whether one of them is raw and has a type that a set reads.
+    ghost is_typed: { Self → Bool };
+
+    /// Its bytes.
+    ghost bytes: { Self → List ℕ };
+
+    /// The count after it.
+    fn len_after(&self, start: usize) -> usize
+        requires { start ≤ 65536 }
+        ensures { result ≡ measured start (is_long self.now) (is_typed self.now) (length (bytes self.now)) };
+}
+
+/// The count after several parts, one after another.
+#[inline(always)]
+#[tactic(auto, using(crate::proofs::Measures::measured_then))]
+fn all_len<T: Measured>(start: usize, parts: &[T]) -> usize
+    requires { start ≤ 65536 }
+    ensures { result ≡ measured start (list_any T.is_long parts.now) (list_any T.is_typed parts.now) (length (flat_map T.bytes parts.now)) }
+{
+    let mut total = start;
+    for part in parts {
+        total = part.len_after(total);
+    }
+    total
+}
+
+/// The count after a descriptor of `fixed` bytes and a tail.
+#[inline(always)]
+fn descriptor_len(start: usize, fixed: u8, tail: usize) -> usize
+    requires start { start ≤ 65536 }
+    requires fixed { fixed ≤ 9 }
+    ensures { result ≡ measured start (nat_lt (255 - fixed) tail) false (fixed + tail) }
+{
+    if tail > usize::from(descriptor_length::LONGEST - fixed) {
+        TOO_LONG
+    } else {
+        (start + usize::from(fixed) + tail).min(TOO_LONG)
+    }
+}
+
+impl Measured for Extra {
+    ghost is_long = { is_extra_long };
+
+    ghost is_typed = { is_typed_raw };
+
+    ghost bytes = { extra_bytes };
+
+    #[inline(always)]
+    fn len_after(&self, start: usize) -> usize {
+        if self.is_typed_raw() {
+            return TOO_LONG;
+        }
+        with_extra!(self, item => {
+            let fixed = descriptor_length::HEAD + item.field_bytes().len() as u8;
+            descriptor_len(start, fixed, item.tail().len())
+        })
+    }
+}
+
+impl Measured for Endpoint {
+    ghost is_long = { is_endpoint_long };
+
+    ghost is_typed = { is_endpoint_typed };
+
+    ghost bytes = { endpoint_bytes };
+
+    #[inline(always)]
+    #[tactic(auto, using(crate::proofs::Measures::measured_then))]
+    fn len_after(&self, start: usize) -> usize {
+        all_len(
+            descriptor_len(start, descriptor_length::ENDPOINT, self.tail.len()),
+            &self.extras,
+        )
+    }
+}
+
+impl Measured for Setting {
+    ghost is_long = { is_setting_long };
+
+    ghost is_typed = { is_setting_typed };
+
+    ghost bytes = { setting_bytes };
+
+    #[inline(always)]
+    #[tactic(auto, using(crate::proofs::Measures::measured_then))]
+    fn len_after(&self, start: usize) -> usize {
+        let head = descriptor_len(start, descriptor_length::INTERFACE, self.tail.len());
+        all_len(all_len(head, &self.extras), &self.endpoints)
+    }
+}
+
+#[tactic(auto, using(crate::proofs::Measures::measured_then))]
+fn tree_len(c: &Configuration) -> usize
+    ensures { result ≡ measured 0 (is_tree_long c.now) (is_tree_typed c.now) (length (tree_bytes c.now 0)) }
+{
+    let head = descriptor_len(0, descriptor_length::CONFIGURATION, c.tail.len());
+    all_len(all_len(head, &c.extras), &c.settings)
+}
+
+/// How many bytes the set has, or [`TOO_LONG`] where it has none.
+pub(crate) fn set_len(c: &Configuration) -> usize
+    ensures { result ≡ measured 0 (has_long_descriptor c.now) (has_typed_raw c.now) (length (set_bytes c.now 0)) }
+{
+    tree_len(c)
+}

@@ -1,5 +1,0 @@
-use Rattle.std.proofs.Common.{length}
-use Rattle.usb_string_words.proofs.characters.+put_shown_in.Given as goal
-
-abbrev pub decreases-put_shown_in : goal.decreases-put_shown_in
-decreases-put_shown_in l = length l.b.now

@@ -1,0 +1,159 @@
+-- Which texts are hexadecimal, and which bytes they have.
+--
+-- A text is a run of items: white space or a comma, a mark `0x` or `\x`, and two digits, which are a byte. Where it begins
+-- with an offset of zeros, as `xxd`, `hexdump -C` and Wireshark write it, each line has columns: an offset, the bytes and
+-- their characters. Then only the bytes are read.
+use Rattle.std.specs.Prelude.{◌≡◌, ℕ, ◌+◌, ◌-◌, ◌*◌, ◌<◌, ◌==◌, ◌||◌, ◌&&◌, ◌⊎◌, Bool, true, false, not, nat_le, if◌then◌else◌, List, [], ◌∷◌, ◌++◌, length, take, slice_index, Option, Some, None, option_map, count_by}
+use Rattle.hex.specs.Hex.{hex_digit_value, is_hex_digit}
+use Rattle.usb_text.specs.declared.form.Form.{Form}
+use Rattle.usb_text.specs.declared.form.Form.TheVariants.{Plain, Colons, Spaces}
+use Rattle.usb_text.specs.declared.fault.HexFault.{HexFault}
+use Rattle.usb_text.specs.declared.fault.HexFault.TheVariants as faults
+
+abbrev pub is_zero : ℕ → Bool
+is_zero c = c == 48
+
+abbrev pub is_space : ℕ → Bool
+is_space c = c == 32
+
+abbrev pub is_in_line : ℕ → Bool
+is_in_line c = not (c == 10)
+
+-- tab, line feed, carriage return, space or comma
+abbrev pub is_gap : ℕ → Bool
+is_gap c = (c == 9) || (c == 10) || (c == 13) || (c == 32) || (c == 44)
+
+-- `0x` or `\x`
+abbrev pub is_mark : ℕ → ℕ → Bool
+is_mark a b = ((a == 48) || (a == 92)) && (b == 120)
+
+abbrev pub joined : Option ℕ → Option ℕ → Option ℕ
+joined (Some high) (Some low) = Some (high * 16 + low)
+joined (Some high) None = None
+joined None low = None
+
+-- the byte of two digits of either case
+abbrev pub byte_of : ℕ → ℕ → Option ℕ
+byte_of high low = joined (hex_digit_value high) (hex_digit_value low)
+
+-- what is left after all leading characters of a kind
+unfoldable pub after_all : (ℕ → Bool) → List ℕ → List ℕ
+after_all is [] = []
+after_all is (c ∷ rest) = if is c then after_all is rest else c ∷ rest
+
+-- four characters or more were before what is left of a text
+abbrev pub is_offset : List ℕ → List ℕ → Bool
+is_offset text rest = nat_le (4 + length rest) (length text)
+
+abbrev pub has_two_spaces : List ℕ → Bool
+has_two_spaces text = (slice_index text 0 == 32) && (slice_index text 1 == 32)
+
+abbrev pub has_three_spaces : List ℕ → Bool
+has_three_spaces text = has_two_spaces text && (slice_index text 2 == 32)
+
+abbrev pub has_colon : List ℕ → Bool
+has_colon text = slice_index text 0 == 58
+
+-- the form that the end of an offset says: `xxd` has a colon there, the others spaces
+abbrev pub form_by : List ℕ → Form
+form_by rest = if has_colon rest then Colons else if has_two_spaces rest then Spaces else Plain
+
+-- the form of a text
+unfoldable pub form_of : List ℕ → Form
+form_of text =
+    let rest = after_all is_zero text in
+    if is_offset text rest then form_by rest else Plain
+
+abbrev pub after_colon : List ℕ → List ℕ
+after_colon [] = []
+after_colon (c ∷ rest) = if c == 58 then rest else c ∷ rest
+
+-- what is left of columns after the offset of a line: four digits or more, a colon, and spaces
+abbrev pub after_offset : List ℕ → List ℕ
+after_offset text =
+    let rest = after_all is_hex_digit text in
+    if is_offset text rest then after_all is_space (after_colon rest) else text
+
+-- what is left after the start of a line
+abbrev pub in_line : Form → List ℕ → List ℕ
+in_line Plain text = text
+in_line Colons text = after_offset text
+in_line Spaces text = after_offset text
+
+-- the characters of a line's bytes begin here: after two spaces for `xxd`, after three or a bar for the others
+abbrev pub has_characters : Form → List ℕ → Bool
+has_characters Plain text = false
+has_characters Colons text = has_two_spaces text
+has_characters Spaces text = (slice_index text 0 == 124) || has_three_spaces text
+
+-- an item at the start of a text: the byte that it is, if it is one, and what is left
+abbrev pub Item : Type 0
+Item = Option (Option ℕ × List ℕ)
+
+abbrev pub gap_or : Form → ℕ → List ℕ → Item → Item
+gap_or form c rest other =
+    if c == 10 then Some (None, in_line form rest)
+    else if is_gap c then Some (None, rest)
+    else other
+
+abbrev pub mark_or : ℕ → ℕ → List ℕ → Item → Item
+mark_or c d rest other = if is_mark c d then Some (None, rest) else other
+
+abbrev pub digits : ℕ → ℕ → List ℕ → Item
+digits c d rest = option_map (λ byte. (Some byte, rest)) (byte_of c d)
+
+unfoldable pub plain_item : Form → List ℕ → Item
+plain_item form [] = None
+plain_item form (c ∷ []) = gap_or form c [] None
+plain_item form (c ∷ d ∷ rest) = gap_or form c (d ∷ rest) (mark_or c d rest (digits c d rest))
+
+-- the characters of a line are one item, up to its line feed
+unfoldable pub item : Form → List ℕ → Item
+item form [] = None
+item form (c ∷ rest) =
+    if has_characters form (c ∷ rest) then Some (None, after_all is_in_line rest) else plain_item form (c ∷ rest)
+
+abbrev pub bytes_of : Option ℕ → List ℕ
+bytes_of None = []
+bytes_of (Some byte) = byte ∷ []
+
+-- the items at the start of a text, as many as there are, have these bytes, and this is left
+pub data Reads (form : Form) : List ℕ → List ℕ → List ℕ → Type 0 where
+  ends : {text : List ℕ} → item form text ≡ None → Reads form text [] text
+  goes_on : {text rest bytes left : List ℕ} {byte : Option ℕ} → item form text ≡ Some (byte, rest)
+      → Reads form rest bytes left → Reads form text (bytes_of byte ++ bytes) left
+
+-- so it is of a whole text
+abbrev pub ReadsText : List ℕ → List ℕ → List ℕ → Type 0
+ReadsText text bytes left = Reads (form_of text) (in_line (form_of text) text) bytes left
+
+-- the text is hexadecimal, and has these bytes, one at least
+pub record HexText (text bytes : List ℕ) : Type 0 where
+  pub read : ReadsText text bytes []
+  pub some : 0 < length bytes
+
+abbrev pub is_line_feed : ℕ → Bool
+is_line_feed c = c == 10
+
+-- the column after a text that begins in this one
+unfoldable pub column_after : ℕ → List ℕ → ℕ
+column_after column [] = column
+column_after column (c ∷ rest) = column_after (if c == 10 then 1 else column + 1) rest
+
+-- the fault at what is left of a text; lines and columns are counted from 1
+abbrev pub fault_at : List ℕ → List ℕ → HexFault
+fault_at text left =
+    let before = take (length text - length left) text in
+    faults.Text (1 + count_by is_line_feed before) (column_after 1 before)
+
+-- The text is not hexadecimal: it goes on where no item begins, or it has no byte. The fault is there, or at its end.
+pub record HexFaulty (text : List ℕ) (fault : HexFault) : Type 0 where
+  pub bytes : List ℕ
+  pub left : List ℕ
+  pub read : ReadsText text bytes left
+  pub wrong : (0 < length left) ⊎ (bytes ≡ [])
+  pub place : fault ≡ fault_at text left
+
+-- why a text is not read: so it is, or out of memory
+abbrev pub HexRefused : List ℕ → HexFault → Type 0
+HexRefused text fault = (fault ≡ faults.Memory) ⊎ HexFaulty text fault

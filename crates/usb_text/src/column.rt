@@ -1,0 +1,119 @@
+//! The columns of a line.
+ghost use Rattle.std.specs.Prelude.{◌≡◌, ◌≤◌, length};
+ghost use Rattle.hex.specs.Hex.{is_hex_digit};
+ghost use Rattle.usb_text.specs.HexText.{after_all, after_colon, after_offset, has_characters, in_line, is_in_line, is_offset, is_space, is_zero};
+
+use crate::digit::digit;
+use crate::form::Form;
+
+/// What is left after all leading zeros.
+#[tactic(auto, unfolding(crate::specs::HexText::after_all))]
+pub(crate) fn after_zeros(text: &[u8]) -> &[u8]
+    ensures is { result.now ≡ after_all is_zero text.now }
+    ensures within { length result.now ≤ length text.now }
+{
+    let mut rest = text;
+    while let [b'0', tail @ ..] = rest {
+        rest = tail;
+    }
+    rest
+}
+
+/// What is left after all leading digits.
+#[tactic(auto, unfolding(crate::specs::HexText::after_all))]
+fn after_digits(text: &[u8]) -> &[u8]
+    ensures is { result.now ≡ after_all is_hex_digit text.now }
+    ensures within { length result.now ≤ length text.now }
+{
+    let mut rest = text;
+    while let [c, tail @ ..] = rest {
+        if digit(*c).is_none() {
+            break;
+        }
+        rest = tail;
+    }
+    rest
+}
+
+/// What is left after all leading spaces.
+#[tactic(auto, unfolding(crate::specs::HexText::after_all))]
+fn after_spaces(text: &[u8]) -> &[u8]
+    ensures is { result.now ≡ after_all is_space text.now }
+    ensures within { length result.now ≤ length text.now }
+{
+    let mut rest = text;
+    while let [b' ', tail @ ..] = rest {
+        rest = tail;
+    }
+    rest
+}
+
+/// What is left after the rest of a line, from its line feed on.
+#[tactic(auto, unfolding(crate::specs::HexText::after_all))]
+pub(crate) fn after_line(text: &[u8]) -> &[u8]
+    ensures is { result.now ≡ after_all is_in_line text.now }
+    ensures within { length result.now ≤ length text.now }
+{
+    let mut rest = text;
+    while let [c, tail @ ..] = rest {
+        if *c == b'\n' {
+            break;
+        }
+        rest = tail;
+    }
+    rest
+}
+
+/// Whether four characters or more were before what is left of a text.
+pub(crate) fn is_offset(text: &[u8], rest: &[u8]) -> bool
+    requires { length rest.now ≤ length text.now }
+    ensures { result ≡ is_offset text.now rest.now }
+{
+    text.len() - rest.len() >= 4
+}
+
+/// What is left after a colon, if there is one.
+fn after_colon(text: &[u8]) -> &[u8]
+    ensures is { result.now ≡ after_colon text.now }
+    ensures within { length result.now ≤ length text.now }
+{
+    match text {
+        [b':', rest @ ..] => rest,
+        _ => text,
+    }
+}
+
+/// What is left after the offset of a line.
+fn after_offset(text: &[u8]) -> &[u8]
+    ensures is { result.now ≡ after_offset text.now }
+    ensures within { length result.now ≤ length text.now }
+{
+    let rest = after_digits(text);
+    if is_offset(text, rest) {
+        after_spaces(after_colon(rest))
+    } else {
+        text
+    }
+}
+
+/// What is left after the start of a line.
+pub(crate) fn in_line(form: Form, text: &[u8]) -> &[u8]
+    ensures is { result.now ≡ in_line form text.now }
+    ensures within { length result.now ≤ length text.now }
+{
+    match form {
+        Form::Plain => text,
+        Form::Colons | Form::Spaces => after_offset(text),
+    }
+}
+
+/// Whether the characters of a line's bytes begin here.
+pub(crate) fn has_characters(form: Form, text: &[u8]) -> bool
+    ensures { result ≡ has_characters form text.now }
+{
+    match form {
+        Form::Plain => false,
+        Form::Colons => matches!(text, [b' ', b' ', ..]),
+        Form::Spaces => matches!(text, [b'|', ..] | [b' ', b' ', b' ', ..]),
+    }
+}

@@ -1,0 +1,72 @@
+//! The characters beyond ASCII that are shown.
+ghost use Rattle.std.specs.Prelude.{◌≡◌, true, false, MatchOption};
+ghost use Rattle.std.specs.List.{list_any};
+ghost use Rattle.usb_text.specs.Shown.{has_code, hidden, is_shown};
+
+/// Code points from the first to the last.
+#[derive(Clone, Copy, Debug, PartialEq, Eq, Hash)]
+pub(crate) struct CodeRange {
+    pub(crate) first: u32,
+    pub(crate) last: u32,
+}
+
+/// The code points from the first to the last.
+const fn range(first: u32, last: u32) -> CodeRange
+    ensures { result ≡ record { first = first; last = last } }
+{
+    CodeRange { first, last }
+}
+
+/// Code points of the Basic Multilingual Plane and the next that steer a text or leave no mark in it.
+fn is_hidden(code: u32) -> bool
+    ensures { result ≡ list_any (has_code code) hidden }
+{
+    let hidden = [
+        range(0x00ad, 0x00ad),
+        range(0x0600, 0x0605),
+        range(0x061c, 0x061c),
+        range(0x06dd, 0x06dd),
+        range(0x070f, 0x070f),
+        range(0x0890, 0x0891),
+        range(0x08e2, 0x08e2),
+        range(0x1680, 0x1680),
+        range(0x180e, 0x180e),
+        range(0x2000, 0x200f),
+        range(0x2028, 0x202f),
+        range(0x205f, 0x206f),
+        range(0x3000, 0x3000),
+        range(0xd800, 0xdfff),
+        range(0xe000, 0xf8ff),
+        range(0xfdd0, 0xfdef),
+        range(0xfeff, 0xfeff),
+        range(0xfff0, 0xfffb),
+        range(0x1_10bd, 0x1_10bd),
+        range(0x1_10cd, 0x1_10cd),
+        range(0x1_3430, 0x1_343f),
+        range(0x1_bca0, 0x1_bca3),
+        range(0x1_d173, 0x1_d17a),
+    ];
+    hidden
+        .iter()
+        .any(|range| range.first <= code && code <= range.last)
+}
+
+/// Whether a code point is shown as its character.
+#[tactic(auto, unfolding(crate::specs::Shown::is_shown))]
+fn is_shown(code: u32) -> bool
+    ensures { result ≡ is_shown code }
+{
+    code >= 0xa1 && code < 0xe_0000 && code % 0x1_0000 < 0xfffe && !is_hidden(code)
+}
+
+/// The character of a code point, if it is shown.
+#[tactic(auto, unfolding(crate::specs::Shown::is_shown))]
+pub(crate) fn shown(code: u32) -> Option<char>
+    ensures { MatchOption result (is_shown code ≡ false) (λ c. (c ≡ code) × (is_shown code ≡ true)) }
+{
+    if is_shown(code) {
+        char::from_u32(code)
+    } else {
+        None
+    }
+}
