@@ -6,18 +6,18 @@ from . import sources
 
 # What is read with USB 2.0 beside it, and what is said of both ends of a pipe. All other files are the project's own.
 STANDARD = """
-usb_fields/Bytes usb_fields/Directions usb_fields/Fields usb_fields/Fault usb_fields/Device usb_fields/Qualifier usb_fields/Units
-usb_fields/Setup usb_fields/Packet usb_fields/Packets usb_set/Descriptors usb_set/Parts usb_set/Owners usb_set/Layout
-usb_set/Endpoints usb_explain/Remarks usb_file_data/Named usb_file_data/StringPlaces usb_file_data/Places usb_file_data/Rules usb_device/Descriptors
-usb_device/Described usb_device/States usb_device/Requests usb_device/Step usb_device/Beside usb_device/View
-usb_host/Transfer usb_host/Requests usb_host/Read usb_host/Order
+usb_fields/Bytes usb_fields/Setup usb_fields/Fields usb_fields/Device usb_fields/Device usb_fields/Device usb_fields/Units
+usb_fields/Setup usb_fields/Packets usb_fields/Packets usb_set/Descriptors usb_set/Owners usb_set/Owners usb_set/Layout
+usb_set/Descriptors usb_explain/Remarks usb_file_data/File usb_file_data/File usb_file_data/Places usb_file_data/Rules usb_device/Descriptors
+usb_device/Descriptors usb_device/States usb_device/Requests usb_device/Step usb_device/Beside usb_device/View
+usb_host/Transfer usb_host/Read usb_host/Read usb_host/Order
 """.split()
 BOTH = ["usb_host/Plan"]
 BOTH_CRATES = ["usb_bus"]
 # But for the lines of a log, whose text is the project's own.
-LOG = ["usb_bus/Requests", "usb_bus/Exchanges", "usb_bus/Lines", "usb_bus/Log"]
+LOG = ["usb_bus/Lines", "usb_bus/Exchanges", "usb_bus/Lines", "usb_bus/Log"]
 # Cited by contracts, and not to be read: how the code holds a device whose calls say all that is known of it.
-LEFT_OUT = ["usb_device/Stages", "usb_device/EndpointZero"]
+LEFT_OUT = ["usb_device/Stages", "usb_device/View"]
 
 
 def short_name(path):

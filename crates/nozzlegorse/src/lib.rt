@@ -29,14 +29,9 @@ pub mod descriptors {
 /// mean, in words.
 pub mod files {
     pub use usb_explain::{Look, Manner, SetSpeed, explain, explain_broken};
-    pub use usb_file::{
-        DescriptorFile, FILE_LIMIT, FileFault, FileWhy, Input, InputFault, Likeness, NoMemory,
-        Other, Strings, WriteFault, likeness_of, named, read_file, read_input, write_file,
-        write_refusal,
-    };
-    pub use usb_listing::{
-        LISTING_LIMIT, ListFault, ListWhy, assemble, assemble_commented, list, list_set,
-    };
+    pub use usb_file::{DescriptorFile, FILE_LIMIT, Input, NoMemory, Other, Strings, WriteFault, named, read_file, read_input, write_file, write_refusal};
+    pub use usb_file_data::{FileFault, FileWhy, InputFault, Likeness, likeness_of};
+    pub use usb_listing::{LISTING_LIMIT, ListFault, ListWhy, assemble, assemble_commented, list, list_set};
     pub use usb_text::OutFault;
 }
 

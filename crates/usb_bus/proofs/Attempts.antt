@@ -5,10 +5,10 @@ use Rattle.std.proofs.lemmas.Bool.Decides.{nat_tests, eqb_tells}
 use Rattle.std.proofs.lemmas.List.{append-nil, take_at}
 use Rattle.usb_fields.specs.declared.packet.Toggle.{Toggle}
 use Rattle.usb_fields.specs.declared.setup.Setup.{Setup as SetupPacket}
-use Rattle.usb_fields.specs.Packet.{NoReply, Sent, Token}
+use Rattle.usb_fields.specs.Packets.{NoReply, Sent, Token}
 use Rattle.usb_host.specs.declared.why.Why.TheVariants.{NoAnswer, Busy, Stalled, TooLong, Unexpected, Malformed, Memory}
-use Rattle.usb_host.specs.declared.stage.TransferStage.{TransferStage}
-use Rattle.usb_host.specs.declared.stage.TransferStage.TheVariants.{Setup, Completed, Failed}
+use Rattle.usb_host.specs.declared.transfer.TransferStage.{TransferStage}
+use Rattle.usb_host.specs.declared.transfer.TransferStage.TheVariants.{Setup, Completed, Failed}
 use Rattle.usb_device.specs.declared.state.State.{State}
 use Rattle.usb_device.specs.Requests.{Outcome}
 use Rattle.usb_device.specs.Step.{DeviceView, carried_out, is_set_address}
@@ -16,14 +16,12 @@ use Rattle.usb_host.specs.declared.reply.Reply.{Reply}
 use Rattle.usb_host.specs.declared.reply.Reply.TheVariants as replied
 use Rattle.usb_bus.specs.declared.fate.Fate.{Fate}
 use Rattle.usb_bus.specs.declared.fate.Fate.TheVariants as fates
-use Rattle.usb_bus.specs.Fates.{lost, busy, ack_lost, losses, busies, acks_lost}
-use Rattle.usb_bus.specs.Bus.{HostEnd, carried, step}
+use Rattle.usb_bus.specs.Bus.{lost, busy, ack_lost, losses, busies, acks_lost, HostEnd, carried, step}
 use Rattle.usb_bus.specs.Run.{due_in}
 use Rattle.usb_bus.specs.Together.{IsSilent, Stages, StaysTogether}
 use Rattle.usb_host.specs.Plan.{Plan, Begin}
 use Rattle.usb_host.specs.Transfer.{TransferView, addressed, due, token_due}
-use Rattle.usb_bus.specs.Attempt.{Answers, Phase, Running, Succeeded, Broken, Attempt, reply_from, reply_to, proceed, advance, attempt_step, attempt_run, is_moved_last, is_moving}
-use Rattle.usb_bus.specs.Ending.{AttemptEnds}
+use Rattle.usb_bus.specs.Attempt.{Answers, Phase, Running, Succeeded, Broken, Attempt, reply_from, reply_to, proceed, advance, attempt_step, attempt_run, is_moved_last, is_moving, AttemptEnds}
 use Rattle.usb_bus.specs.inside.Sound.{AttemptsAreSound, Follows, HasMoved, Sound, TogetherOn}
 use Rattle.usb_bus.proofs.Cutting.{alike_cut}
 use Rattle.usb_bus.proofs.Keeps.{keeps}

@@ -2,14 +2,14 @@
 use Rattle.std.proofs.Common.{◌≡◌, ℕ, suc, ◌==◌, ◌&&◌, not, Bool, true, false, List, [], ◌∷◌, take, Option, Some, None, ◌⊎◌, inl, inr, refl, ap, sym, ◌∙◌, subst}
 use Rattle.usb_fields.specs.Bytes.{AreBytes}
 use Rattle.usb_fields.specs.declared.setup.Setup.{Setup as SetupPacket}
-use Rattle.usb_fields.specs.declared.speed.Speed.{Speed}
+use Rattle.usb_fields.specs.declared.packet.Speed.{Speed}
 use Rattle.usb_set.specs.declared.tree.SetKind.{SetKind}
 use Rattle.usb_set.specs.declared.tree.SetKind.TheVariants as kinds
 use Rattle.usb_set.specs.declared.tree.Configuration.{Configuration}
 use Rattle.usb_file_data.specs.declared.file.DescriptorFile.{DescriptorFile}
 use Rattle.usb_file_data.specs.declared.file.Other.{Other}
 use Rattle.usb_file_data.specs.declared.file.Strings.{Strings}
-use Rattle.usb_file_data.specs.Named.{named_indices}
+use Rattle.usb_file_data.specs.File.{named_indices}
 use Rattle.usb_host.specs.declared.reply.Reply.TheVariants as replied
 use Rattle.usb_device.specs.declared.state.State.{State}
 use Rattle.usb_device.specs.Requests.{Outcome, Bytes, Done, Refused, answer, when}
@@ -17,8 +17,7 @@ use Rattle.usb_device.specs.Step.{carried_out}
 use Rattle.usb_bus.specs.Attempt.{reply_to}
 use Rattle.usb_host.specs.Read.{may_have_second}
 use Rattle.usb_device.specs.Beside.{Response, Gives, Does, Declines, asks_for_bytes, beside, is_open, kept_open, kept_to, otherwise, overflows}
-use Rattle.usb_bus.specs.Answering.{IsTable}
-use Rattle.usb_bus.specs.Beside.{HasBytes, IsBeside, IsOfBytes}
+use Rattle.usb_bus.specs.Beside.{IsTable, HasBytes, IsBeside, IsOfBytes}
 use Rattle.usb_bus.proofs.ByteLemmas.{take_fit, when_fits}
 use Rattle.usb_bus.specs.inside.Following.{IsServed, Serves}
 use Rattle.usb_bus.specs.inside.Script.{Exchange, set_script, text_script, string_script, other_script, last_script, named_script, second_script, script}

@@ -6,9 +6,9 @@ use Rattle.std.specs.Prelude.{option_and_then}
 use Rattle.std.proofs.lemmas.Bool.Decides.{nat_tests}
 use Rattle.std.proofs.lemmas.Nat.Bits.{bit_at-lt}
 use Rattle.usb_fields.specs.Bytes.{AreBytes}
-use Rattle.usb_fields.specs.declared.direction.Direction.{Direction}
-use Rattle.usb_fields.specs.declared.direction.Direction.TheVariants as directions
-use Rattle.usb_fields.specs.Directions.{direction_of}
+use Rattle.usb_fields.specs.declared.setup.Direction.{Direction}
+use Rattle.usb_fields.specs.declared.setup.Direction.TheVariants as directions
+use Rattle.usb_fields.specs.Setup.{direction_of, setup_of, class_of, recipient_of}
 use Rattle.usb_fields.specs.declared.packet.Toggle.{Toggle}
 use Rattle.usb_fields.specs.declared.packet.Toggle.TheVariants.{Data0, Data1}
 use Rattle.usb_fields.specs.declared.setup.Setup.{Setup as SetupPacket}
@@ -16,20 +16,15 @@ use Rattle.usb_fields.specs.declared.setup.Class.{Class}
 use Rattle.usb_fields.specs.declared.setup.Class.TheVariants as classes
 use Rattle.usb_fields.specs.declared.setup.Recipient.{Recipient}
 use Rattle.usb_fields.specs.declared.setup.Recipient.TheVariants.{Device, Interface, Endpoint, Other, Reserved}
-use Rattle.usb_fields.specs.declared.speed.Speed.{Speed}
-use Rattle.usb_fields.specs.Setup.{setup_of, class_of, recipient_of}
-use Rattle.usb_fields.specs.Device.{device_bytes}
-use Rattle.usb_fields.specs.Qualifier.{qualifier_bytes}
+use Rattle.usb_fields.specs.declared.packet.Speed.{Speed}
+use Rattle.usb_fields.specs.Device.{device_bytes, qualifier_bytes}
 use Rattle.usb_fields.specs.Units.{units_bytes}
-use Rattle.usb_fields.specs.Packet.{Token, SetupToken, InToken, OutToken, Sent, Reply, NoReply}
-use Rattle.usb_fields.specs.Packets.{packets, packets_within}
+use Rattle.usb_fields.specs.Packets.{Token, SetupToken, InToken, OutToken, Sent, Reply, NoReply, packets, packets_within}
 use Rattle.usb_set.specs.declared.tree.Configuration.{Configuration}
 use Rattle.usb_file_data.specs.declared.file.DescriptorFile.{DescriptorFile}
 use Rattle.usb_file_data.specs.declared.file.Other.{Other as SecondSpeed}
 use Rattle.usb_file_data.specs.declared.file.Strings.{Strings}
-use Rattle.usb_file_data.specs.File.{whole_set, sets_bytes, other_bytes, each_string_bytes, strings_bytes, file_bytes}
-use Rattle.usb_file_data.specs.Named.{named_indices}
-use Rattle.usb_file_data.specs.StringPlaces.{string_place}
+use Rattle.usb_file_data.specs.File.{whole_set, sets_bytes, other_bytes, each_string_bytes, strings_bytes, file_bytes, named_indices, string_place}
 use Rattle.usb_device.specs.Descriptors.{set_at, other_set_at, qualifier_of, string_at, descriptor}
 use Rattle.usb_host.specs.Limits.{LimitView}
 use Rattle.usb_device.specs.declared.state.State.{State}
@@ -46,7 +41,7 @@ use Rattle.usb_host.specs.Laws.{Asks, HostsEnd}
 use Rattle.usb_host.specs.Steps.{HostView, new_host}
 use Rattle.usb_host.proofs.ReadLemmas.{byte_at}
 use Rattle.usb_bus.specs.Beside.{HasBytes, IsBeside, IsOfBytes}
-use Rattle.usb_bus.specs.EnumerationRun.{Pair, new_pair, RunsAt}
+use Rattle.usb_bus.specs.Enumerate.{Pair, new_pair, RunsAt}
 use Rattle.usb_bus.proofs.DescribeLemmas.{before, behind}
 
 -- ---- parts of bytes

@@ -7,8 +7,8 @@ use Rattle.usb_fields.specs.declared.setup.Setup.{Setup as SetupPacket}
 use Rattle.usb_file_data.specs.declared.file.DescriptorFile.{DescriptorFile}
 use Rattle.usb_host.specs.declared.why.Why.{Why}
 use Rattle.usb_host.specs.declared.why.Why.TheVariants.{NoAnswer, Busy, Stalled, TooLong, Unexpected, Malformed, Memory}
-use Rattle.usb_host.specs.declared.stage.TransferStage.{TransferStage}
-use Rattle.usb_host.specs.declared.stage.TransferStage.TheVariants.{Setup, DataIn, DataOut, StatusOut, StatusIn, Completed, Failed}
+use Rattle.usb_host.specs.declared.transfer.TransferStage.{TransferStage}
+use Rattle.usb_host.specs.declared.transfer.TransferStage.TheVariants.{Setup, DataIn, DataOut, StatusOut, StatusIn, Completed, Failed}
 use Rattle.usb_host.specs.Transfer.{due, addressed, token_due}
 use Rattle.usb_device.specs.Requests.{answer}
 use Rattle.usb_device.specs.States.{zero as zero_state}
@@ -16,16 +16,13 @@ use Rattle.usb_device.specs.declared.state.State.{State}
 use Rattle.usb_device.specs.Step.{DeviceView}
 use Rattle.usb_bus.specs.declared.fate.Fate.{Fate}
 use Rattle.usb_host.specs.declared.reply.Reply.{Reply}
-use Rattle.usb_bus.specs.declared.talk.Talk.{Talk}
-use Rattle.usb_bus.specs.Fates.{losses, busies, acks_lost}
-use Rattle.usb_bus.specs.Bus.{HostEnd}
+use Rattle.usb_bus.specs.declared.conversation.Talk.{Talk}
+use Rattle.usb_bus.specs.Bus.{losses, busies, acks_lost, HostEnd}
 use Rattle.usb_host.specs.Plan.{Plan}
-use Rattle.usb_bus.specs.Attempt.{Phase, Attempt, Running, Succeeded, Broken, proceed, advance, attempt_run, begins, phase_of}
-use Rattle.usb_bus.specs.Talk.{Place, ends_with_address, talk_plan, reached, onward, followed, asked_at, replies_to, state_after}
+use Rattle.usb_bus.specs.Attempt.{Phase, Attempt, Running, Succeeded, Broken, proceed, advance, attempt_run, begins, phase_of, AttemptEnds, IsCause}
+use Rattle.usb_bus.specs.Converse.{Place, ends_with_address, talk_plan, reached, onward, followed, asked_at, replies_to, state_after, first_place, talk_start, end_of, standing, IsTalk, IsTalkRun, IsTalkTo, HasFirstReplies, HasLastState, TalkView}
 use Rattle.usb_bus.specs.Run.{fates_used, due_in, Steps}
-use Rattle.usb_bus.specs.Converse.{first_place, talk_start, end_of, standing, IsTalk, IsTalkRun, IsTalkTo, HasFirstReplies, HasLastState, TalkView}
 use Rattle.usb_bus.specs.inside.Running.{failure_of, point, LeadsTo, settled}
-use Rattle.usb_bus.specs.Ending.{AttemptEnds, IsCause}
 use Rattle.usb_bus.proofs.Talks.{talk_ends, reached_append}
 use Rattle.usb_bus.proofs.TableLemmas.{table_kept}
 use Rattle.usb_bus.proofs.Runs.{losses-fates_used, busies-fates_used, acks_lost-fates_used, points, length-points, Steps-append, Steps-points, Steps-run, Steps-same}

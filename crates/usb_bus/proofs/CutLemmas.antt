@@ -4,7 +4,7 @@ use Rattle.std.proofs.lemmas.Bool.{cases_lt}
 use Rattle.std.proofs.lemmas.List.{take_all}
 use Rattle.usb_fields.specs.Packets.{packets}
 use Rattle.usb_fields.proofs.PacketLemmas.{packets-none, packets-short, packets-whole}
-use Rattle.usb_bus.specs.Answering.{CutsAlike}
+use Rattle.usb_bus.specs.Beside.{CutsAlike}
 
 -- one packet of 8 bytes
 as_one : (b : List ℕ) (n : ℕ) → 8 ≤ n → length b ≡ 8 → packets b n 8 ≡ b ∷ []

@@ -3,8 +3,8 @@ use Rattle.std.proofs.Common.{◌≡◌, ℕ, zero, suc, ◌+◌, ◌-◌, ◌<�
 use Rattle.std.proofs.lemmas.Bool.{cases_lt}
 use Rattle.usb_fields.specs.Packets.{packets, joined}
 use Rattle.usb_fields.proofs.PacketLemmas.{packets-none, packets-short, packets-whole, joined-packets}
-use Rattle.usb_bus.specs.Answering.{CutsAlike}
-use Rattle.usb_bus.specs.inside.Due.{Due, IsCut}
+use Rattle.usb_bus.specs.Beside.{CutsAlike}
+use Rattle.usb_bus.specs.inside.Sound.{Due, IsCut}
 
 -- one packet more before those that are due
 Due-cons : (n m t : ℕ) (p : List ℕ) (ps : List (List ℕ)) → length p ≡ n → t + length p < m → Due n m (t + length p) ps → Due n m t (p ∷ ps)

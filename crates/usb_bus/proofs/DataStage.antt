@@ -5,16 +5,15 @@ use Rattle.std.proofs.lemmas.Bool.Decides.{nat_tests}
 use Rattle.usb_fields.specs.declared.packet.Toggle.{Toggle}
 use Rattle.usb_fields.specs.declared.packet.Toggle.TheVariants.{Data0, Data1}
 use Rattle.usb_fields.specs.declared.setup.Setup.{Setup as SetupPacket}
-use Rattle.usb_fields.specs.Packet.{flipped}
-use Rattle.usb_fields.specs.Packets.{packets, joined, toggle_of, is_same_toggle}
-use Rattle.usb_host.specs.declared.stage.TransferStage.TheVariants.{DataIn}
+use Rattle.usb_fields.specs.Packets.{flipped, packets, joined, toggle_of, is_same_toggle}
+use Rattle.usb_host.specs.declared.transfer.TransferStage.TheVariants.{DataIn}
 use Rattle.usb_device.specs.declared.state.State.{State}
 use Rattle.usb_device.specs.Requests.{Outcome, Bytes}
 use Rattle.usb_device.specs.Step.{Sending}
 use Rattle.usb_bus.specs.declared.fate.Fate.{Fate}
 use Rattle.usb_bus.specs.declared.fate.Fate.TheVariants.{Pass, Busy, LostDown, LostUp, LostAck}
 use Rattle.usb_bus.specs.Together.{IsReading}
-use Rattle.usb_bus.specs.inside.Due.{Due}
+use Rattle.usb_bus.specs.inside.Sound.{Due}
 use Rattle.usb_bus.proofs.OtherStages.{both, Goal}
 
 pub is_same_toggle-same : (t : Toggle) → is_same_toggle t t ≡ true

@@ -3,24 +3,21 @@ use Rattle.std.proofs.Common.{◌≡◌, ℕ, ◌<◌, ◌≤◌, false, List, [
 use Rattle.std.specs.List.{list_any}
 use Rattle.std.proofs.lemmas.Bool.Decides.{nat_tests}
 use Rattle.usb_fields.specs.Bytes.{AreBytes}
-use Rattle.usb_fields.specs.declared.speed.Speed.{Speed}
-use Rattle.usb_fields.specs.Device.{device_bytes}
-use Rattle.usb_fields.specs.Qualifier.{qualifier_bytes}
+use Rattle.usb_fields.specs.declared.packet.Speed.{Speed}
+use Rattle.usb_fields.specs.Device.{device_bytes, qualifier_bytes}
 use Rattle.usb_set.specs.declared.tree.SetKind.{SetKind}
 use Rattle.usb_set.specs.declared.tree.SetKind.TheVariants as kinds
 use Rattle.usb_set.specs.declared.tree.Configuration.{Configuration}
-use Rattle.usb_set.specs.Layout.{Layout, set_bytes, has_long_descriptor, has_typed_raw}
-use Rattle.usb_set.specs.Encoding.{set_length}
+use Rattle.usb_set.specs.Layout.{Layout, set_bytes, has_long_descriptor, has_typed_raw, set_length}
 use Rattle.usb_set.specs.declared.fault.EncodeFault.TheVariants as encoding
 use Rattle.usb_file_data.specs.declared.file.DescriptorFile.{DescriptorFile}
 use Rattle.usb_file_data.specs.declared.file.Other.{Other}
 use Rattle.usb_file_data.specs.declared.file.Strings.{Strings}
-use Rattle.usb_file_data.specs.Named.{named_indices, other_sets}
-use Rattle.usb_file_data.specs.File.{whole_set, has_no_layout, sets_bytes, other_bytes, strings_bytes, file_bytes, is_long_string}
+use Rattle.usb_file_data.specs.File.{named_indices, other_sets, whole_set, has_no_layout, sets_bytes, other_bytes, strings_bytes, file_bytes, is_long_string}
 use Rattle.usb_device.specs.Accepted.{Accepted}
 use Rattle.usb_host.specs.Order.{first_value, other_declared}
 use Rattle.usb_host.proofs.ReadLemmas.{byte_at, qualifier_read, units_read}
-use Rattle.usb_bus.specs.inside.Readers.{ReadsSets}
+use Rattle.usb_bus.specs.inside.Image.{ReadsSets}
 use Rattle.usb_bus.specs.inside.Described.{EachIsRead, TextsAreRead, OtherIsRead, StringsAreRead, IsDescribed}
 use Rattle.usb_bus.proofs.AcceptLemmas.{AreSound, AreStrings, sets_sound, other_sets_sound, strings_right}
 use Rattle.usb_bus.proofs.HeadLemmas.{length_is, headed_bytes}

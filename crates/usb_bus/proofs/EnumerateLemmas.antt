@@ -3,14 +3,14 @@ use Rattle.std.proofs.Common.{◌≡◌, ℕ, suc, ◌+◌, ◌*◌, ◌/◌, �
 use Rattle.std.specs.Prelude.{IfOk, IfErr}
 use Rattle.std.proofs.lemmas.Nat.{mul-le, le-div, div_below}
 use Rattle.std.proofs.Math.Nat.{div-mul-le_self}
-use Rattle.usb_fields.specs.Packet.{Reply as Answer}
+use Rattle.usb_fields.specs.Packets.{Reply as Answer}
 use Rattle.usb_file_data.specs.declared.file.DescriptorFile.{DescriptorFile}
 use Rattle.usb_host.specs.declared.why.Why.{Why}
 use Rattle.usb_host.specs.declared.why.Why.TheVariants.{Memory}
 use Rattle.usb_host.specs.Limits.{LimitView}
 use Rattle.usb_device.specs.declared.state.State.{State}
 use Rattle.usb_bus.specs.declared.fate.Fate.{Fate}
-use Rattle.usb_bus.specs.Fates.{losses, busies}
+use Rattle.usb_bus.specs.Bus.{losses, busies}
 use Rattle.usb_bus.specs.Run.{fates_used}
 use Rattle.usb_bus.proofs.Runs.{losses-fates_used, busies-fates_used}
 use Rattle.usb_host.specs.declared.step.Trouble.{Trouble}
@@ -18,10 +18,8 @@ use Rattle.usb_host.specs.declared.place.Place.{Place}
 use Rattle.usb_host.specs.declared.place.Place.TheVariants.{Reported, Stopped}
 use Rattle.usb_host.specs.Cost.{most, left_to_ask}
 use Rattle.usb_host.specs.Steps.{HostPhase, ResetDue, Reading, Ended, HostView, WantsReset, wanted, blames_bus, outcome_at, outcome_of, reset, Takes, TakesIn}
-use Rattle.usb_bus.specs.Enumerate.{HasReadAll, HasCause}
-use Rattle.usb_bus.specs.EnumerationRun.{Pair, Runs}
-use Rattle.usb_bus.specs.inside.Ends.{PlaceEndsWell, GoesWell}
-use Rattle.usb_bus.specs.Stepping.{Moves, measure}
+use Rattle.usb_bus.specs.Enumerate.{HasReadAll, HasCause, Pair, Runs, Moves, measure}
+use Rattle.usb_bus.specs.inside.Running.{PlaceEndsWell, GoesWell}
 use Rattle.usb_host.proofs.AskingLemmas.{wants_reset, reset_is}
 
 -- one step more

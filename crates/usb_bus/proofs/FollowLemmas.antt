@@ -8,8 +8,8 @@ use Rattle.usb_device.specs.Step.{carried_out}
 use Rattle.usb_host.specs.declared.reply.Reply.{Reply}
 use Rattle.usb_host.specs.Plan.{Begin, Success}
 use Rattle.usb_bus.specs.inside.Sound.{Follows}
-use Rattle.usb_bus.specs.Answering.{IsTable}
-use Rattle.usb_fields.specs.declared.speed.Speed.{Speed}
+use Rattle.usb_bus.specs.Beside.{IsTable}
+use Rattle.usb_fields.specs.declared.packet.Speed.{Speed}
 use Rattle.usb_set.specs.declared.tree.Configuration.{Configuration}
 use Rattle.std.specs.Prelude.{Option}
 use Rattle.usb_host.specs.Limits.{LimitView}

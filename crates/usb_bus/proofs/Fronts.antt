@@ -2,7 +2,7 @@
 use Rattle.std.proofs.Common.{◌≡◌, ℕ, zero, suc, ◌+◌, ◌<◌, ◌≤◌, List, [], ◌∷◌, ◌++◌, length, take, drop, refl, sym, ap, ◌∙◌, arith, subst, append_assoc, length-append, zero-add}
 use Rattle.std.proofs.lemmas.List.{append-nil}
 use Rattle.usb_fields.specs.Packets.{packets, joined}
-use Rattle.usb_bus.specs.inside.Due.{Due, IsCut}
+use Rattle.usb_bus.specs.inside.Sound.{Due, IsCut}
 
 pub drop_suc : (k : ℕ) (xs : List (List ℕ)) (p : List ℕ) (rest : List (List ℕ)) →
     drop k xs ≡ p ∷ rest → drop (suc k) xs ≡ rest

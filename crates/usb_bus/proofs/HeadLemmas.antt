@@ -5,8 +5,7 @@ use Rattle.std.specs.List.{flat_map}
 use Rattle.usb_set.specs.declared.tree.SetKind.{SetKind}
 use Rattle.usb_set.specs.declared.tree.Configuration.{Configuration}
 use Rattle.usb_set.specs.Descriptors.{type_number, descriptor_bytes}
-use Rattle.usb_set.specs.Layout.{later_descriptors}
-use Rattle.usb_set.specs.Encoding.{set_length}
+use Rattle.usb_set.specs.Layout.{later_descriptors, set_length}
 use Rattle.usb_set.proofs.Sets.{length-set_bytes}
 use Rattle.usb_file_data.specs.File.{whole_set, has_no_layout, is_other_kind}
 use Rattle.usb_file_data.proofs.WholeSets.{whole_length}

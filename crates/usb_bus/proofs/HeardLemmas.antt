@@ -2,13 +2,13 @@
 use Rattle.std.proofs.Common.{◌≡◌, ℕ, ◌==◌, nat_lt, Bool, true, false, if◌then◌else◌, [], ◌⊎◌, inl, inr, refl, subst}
 use Rattle.std.specs.Prelude.{Some, Result}
 use Rattle.usb_fields.specs.declared.packet.Toggle.TheVariants.{Data1}
-use Rattle.usb_fields.specs.Packet.{Sent, SetupToken, InToken, OutToken, Reply as Answer, NoReply}
+use Rattle.usb_fields.specs.Packets.{Sent, SetupToken, InToken, OutToken, Reply as Answer, NoReply}
 use Rattle.usb_fields.specs.declared.setup.Setup.{Setup as SetupPacket}
 use Rattle.usb_fields.specs.Setup.{setup_bytes}
 use Rattle.usb_set.specs.declared.fault.SetFault.{SetFault}
 use Rattle.usb_set.specs.declared.decoder.Progress.{Progress}
-use Rattle.usb_host.specs.declared.stage.TransferStage.{TransferStage}
-use Rattle.usb_host.specs.declared.stage.TransferStage.TheVariants.{Setup, DataIn, DataOut, StatusOut, StatusIn, Completed, Failed}
+use Rattle.usb_host.specs.declared.transfer.TransferStage.{TransferStage}
+use Rattle.usb_host.specs.declared.transfer.TransferStage.TheVariants.{Setup, DataIn, DataOut, StatusOut, StatusIn, Completed, Failed}
 use Rattle.usb_host.specs.Transfer.{TransferView, Hearing, Taken, addressed, delayed, due, struck, taken, taken_at, token_due}
 use Rattle.usb_device.specs.declared.state.State.{State}
 use Rattle.usb_device.specs.Requests.{Outcome}
@@ -17,7 +17,7 @@ use Rattle.usb_bus.specs.declared.fate.Fate.{Fate}
 use Rattle.usb_bus.specs.declared.fate.Fate.TheVariants as fates
 use Rattle.usb_bus.specs.Bus.{carried}
 use Rattle.usb_host.specs.declared.place.Place.{Place}
-use Rattle.usb_host.specs.declared.kept.Kept.{Kept}
+use Rattle.usb_host.specs.declared.place.Kept.{Kept}
 use Rattle.usb_host.specs.Steps.{Grows, LacksMemory}
 use Rattle.usb_bus.specs.Enumerate.{brings}
 

@@ -1,17 +1,16 @@
 -- A host that keeps a cursor and a decoder goes as one that keeps all replies and all bytes.
 use Rattle.std.proofs.Common.{◌≡◌, ℕ, ◌+◌, ◌==◌, Bool, true, false, nat_lt, if◌then◌else◌, List, [], ◌∷◌, ◌++◌, length, ◌⊎◌, inl, inr, refl, ap, sym, ◌∙◌, subst, length-append}
 use Rattle.std.specs.Prelude.{Result, Option}
-use Rattle.usb_fields.specs.declared.speed.Speed.{Speed}
+use Rattle.usb_fields.specs.declared.packet.Speed.{Speed}
 use Rattle.usb_fields.specs.declared.packet.Toggle.{Toggle}
 use Rattle.usb_fields.specs.declared.packet.Toggle.TheVariants.{Data0, Data1}
-use Rattle.usb_fields.specs.Packets.{is_same_toggle}
-use Rattle.usb_fields.specs.Packet.{Reply as Packet, NakReply, DataReply, NoReply}
+use Rattle.usb_fields.specs.Packets.{is_same_toggle, Reply as Packet, NakReply, DataReply, NoReply}
 use Rattle.usb_set.specs.declared.fault.SetFault.{SetFault}
 use Rattle.usb_set.specs.declared.decoder.Progress.{Progress}
 use Rattle.usb_set.specs.Decoding.{Decoding}
 use Rattle.usb_host.specs.declared.why.Why.TheVariants.{NoAnswer, Busy, Stalled, TooLong, Unexpected, Malformed, Memory}
-use Rattle.usb_host.specs.declared.stage.TransferStage.{TransferStage}
-use Rattle.usb_host.specs.declared.stage.TransferStage.TheVariants.{Setup, DataIn, DataOut, StatusOut, StatusIn, Completed, Failed as TheFailed}
+use Rattle.usb_host.specs.declared.transfer.TransferStage.{TransferStage}
+use Rattle.usb_host.specs.declared.transfer.TransferStage.TheVariants.{Setup, DataIn, DataOut, StatusOut, StatusIn, Completed, Failed as TheFailed}
 use Rattle.usb_host.specs.Transfer.{TransferView, Hearing, Goes, Brings, Completes, Fails, Taken, taken, taken_at, taken_data, taken_status, kept_packet, struck, delayed}
 use Rattle.usb_device.specs.Step.{DeviceView}
 use Rattle.usb_host.specs.declared.reply.Reply.{Reply}
@@ -23,15 +22,14 @@ use Rattle.usb_set.specs.declared.tree.Configuration.{Configuration}
 use Rattle.usb_host.specs.Limits.{LimitView}
 use Rattle.usb_host.specs.declared.place.Place.{Place}
 use Rattle.usb_host.specs.declared.place.Place.TheVariants.{First, Address, Device, Header, Set, Qualifier, Languages, Text, Configure, Reported, Stopped}
-use Rattle.usb_host.specs.declared.kept.Kept.{Kept}
-use Rattle.usb_host.specs.declared.kept.Kept.TheVariants as kept
+use Rattle.usb_host.specs.declared.place.Kept.{Kept}
+use Rattle.usb_host.specs.declared.place.Kept.TheVariants as kept
 use Rattle.usb_host.specs.Order.{asks, next, stopped, bytes_lead, set_leads, done_leads, refused_leads}
 use Rattle.usb_host.specs.Keeping.{nothing_kept, set_kept}
 use Rattle.usb_host.specs.Gathered.{reached}
 use Rattle.usb_host.specs.Steps.{HostPhase, Reading, Ended, Grows, KeepsHeard, LacksMemory, TakesHeard, enter, read_leads, completed_leads, goes_on}
-use Rattle.usb_host.specs.inside.Steady.{FitsPlace}
-use Rattle.usb_bus.specs.inside.Image.{KeptFrom, IsInWork, IsTransfer, IsImage, plan_of}
-use Rattle.usb_bus.specs.inside.Readers.{ReadsSets}
+use Rattle.usb_host.specs.inside.Sound.{FitsPlace}
+use Rattle.usb_bus.specs.inside.Image.{KeptFrom, IsInWork, IsTransfer, IsImage, plan_of, ReadsSets}
 use Rattle.usb_bus.proofs.FollowLemmas.{walk_append}
 use Rattle.usb_bus.proofs.KeepLemmas.{SetLaws, feeds, same_set}
 use Rattle.usb_bus.proofs.OpenLemmas.{nothing_is_open}

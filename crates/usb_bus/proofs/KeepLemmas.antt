@@ -8,14 +8,12 @@ use Rattle.usb_set.specs.declared.fault.SetFault.{SetFault}
 use Rattle.usb_set.specs.declared.fault.SetWhy.{SetWhy}
 use Rattle.usb_set.specs.declared.decoder.Progress.{Progress}
 use Rattle.usb_set.specs.declared.decoder.Progress.TheVariants.{More, Done}
-use Rattle.usb_set.specs.Decoding.{Decoding, gathers, has, refused}
-use Rattle.usb_set.specs.Feeding.{Answers}
+use Rattle.usb_set.specs.Decoding.{Decoding, gathers, has, refused, Answers}
 use Rattle.usb_set.specs.Layout.{Layout}
 use Rattle.usb_set.specs.Faults.{Begins, Faulty, IsOpen}
 use Rattle.usb_host.specs.Keeping.{WantsMemory, is_over, set_kept}
 use Rattle.usb_host.proofs.CameLemmas.{begins_within, over_more, over_first}
-use Rattle.usb_bus.specs.inside.Image.{DecodedFrom}
-use Rattle.usb_bus.specs.inside.Readers.{ReadsSets}
+use Rattle.usb_bus.specs.inside.Image.{DecodedFrom, ReadsSets}
 
 -- what is used of the laws of sets
 pub record SetLaws : Type 0 where

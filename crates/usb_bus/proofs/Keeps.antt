@@ -3,23 +3,20 @@ use Rattle.std.proofs.Common.{◌≡◌, ℕ, suc, ◌+◌, ◌-◌, ◌<◌, �
 use Rattle.std.proofs.lemmas.Bool.Decides.{nat_tests}
 use Rattle.usb_fields.specs.declared.packet.Toggle.{Toggle}
 use Rattle.usb_fields.specs.declared.setup.Setup.{Setup as SetupPacket}
-use Rattle.usb_fields.specs.Packet.{flipped}
-use Rattle.usb_fields.specs.Packets.{packets, joined, toggle_of}
-use Rattle.usb_host.specs.declared.stage.TransferStage.{TransferStage}
-use Rattle.usb_host.specs.declared.stage.TransferStage.TheVariants.{Setup, DataIn, DataOut, StatusOut, StatusIn, Completed, Failed}
+use Rattle.usb_fields.specs.Packets.{flipped, packets, joined, toggle_of}
+use Rattle.usb_host.specs.declared.transfer.TransferStage.{TransferStage}
+use Rattle.usb_host.specs.declared.transfer.TransferStage.TheVariants.{Setup, DataIn, DataOut, StatusOut, StatusIn, Completed, Failed}
 use Rattle.usb_device.specs.declared.state.State.{State}
 use Rattle.usb_device.specs.Requests.{Outcome, Bytes}
 use Rattle.usb_device.specs.Step.{DeviceStage, Sending, DeviceView}
 use Rattle.usb_device.specs.Step as device
 use Rattle.usb_bus.specs.declared.fate.Fate.{Fate}
-use Rattle.usb_bus.specs.Fates.{lost, busy, ack_lost, losses, busies, acks_lost}
-use Rattle.usb_bus.specs.Bus.{Ends, HostEnd, step, run}
-use Rattle.usb_bus.specs.Attempt.{begins}
-use Rattle.usb_bus.specs.Ending.{TransferEnds}
+use Rattle.usb_bus.specs.Bus.{lost, busy, ack_lost, losses, busies, acks_lost, Ends, HostEnd, step, run}
+use Rattle.usb_bus.specs.Attempt.{begins, TransferEnds}
 use Rattle.usb_bus.specs.Together.{Stages, IsReading, InOneTransfer}
-use Rattle.usb_bus.specs.inside.Due.{IsCut, Due}
+use Rattle.usb_bus.specs.inside.Sound.{IsCut, Due}
 use Rattle.usb_bus.specs.Laws.{TransfersStayTogether}
-use Rattle.usb_bus.specs.Answering.{IsAnswering}
+use Rattle.usb_bus.specs.Beside.{IsAnswering}
 use Rattle.usb_bus.proofs.Cutting.{alike_cut}
 use Rattle.usb_bus.proofs.Fronts.{drop_suc, front_more, is_within, is_last, none_left, cut_due, cut_joins}
 use Rattle.usb_bus.proofs.OtherStages.{both, both_at, Goal, status_out_all, data_out_all, data_in_halted, status_in_halted, setup_all, status_in}

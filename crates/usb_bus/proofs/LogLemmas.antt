@@ -1,13 +1,13 @@
 -- A run that goes on, and its log.
 use Rattle.std.proofs.Common.{◌≡◌, ℕ, suc, ◌-◌, List, [], ◌∷◌, ◌++◌, Option, Some, None, inl, inr, ap, sym, ◌∙◌, refl, arith, subst, append_assoc}
 use Rattle.std.specs.Io.KnownBytes.{Appends, Keeps}
-use Rattle.usb_fields.specs.declared.speed.Speed.{Speed}
+use Rattle.usb_fields.specs.declared.packet.Speed.{Speed}
 use Rattle.usb_file_data.specs.declared.file.DescriptorFile.{DescriptorFile}
 use Rattle.usb_text.specs.Output.{Held}
 use Rattle.usb_text.proofs.Pages.{appends_more, appends_nothing, keeps_refl}
 use Rattle.std.specs.Option.{is_some}
 use Rattle.std.specs.Prelude.{◌⊎◌, Bool, true, codes, IfErr, IfOk, Result, Ok, Err}
-use Rattle.usb_fields.specs.Packet.{Reply, Sent}
+use Rattle.usb_fields.specs.Packets.{Reply, Sent}
 use Rattle.usb_host.specs.Transfer.{TransferView, due}
 use Rattle.usb_host.specs.declared.step.Step.{Step}
 use Rattle.usb_host.specs.Order.{step_of}
@@ -17,16 +17,15 @@ use Rattle.usb_bus.specs.Run.{fate_at}
 use Rattle.usb_host.specs.Limits.{LimitView}
 use Rattle.usb_bus.specs.declared.fate.Fate.{Fate}
 use Rattle.usb_host.specs.Steps.{Ended, HostPhase, Reading, ResetDue, WantsReset, WantsSent, sends, step_in, transfer_in, wanted}
-use Rattle.usb_bus.specs.EnumerationRun.{Pair, new_pair}
-use Rattle.usb_bus.specs.Stepping.{Moves, answered}
+use Rattle.usb_bus.specs.Enumerate.{Pair, new_pair, Moves, answered}
 use Rattle.usb_bus.specs.Exchanges.{answered_in, cause_of}
 use Rattle.usb_bus.specs.Lines.{data_words, device_part, device_words, given_up_part}
 use Rattle.usb_bus.specs.Bus.{brought}
 use Rattle.usb_bus.specs.inside.Seeing.{HasSeen, done_lines}
 use Rattle.usb_bus.specs.Log.{CutsOff, WritesLog, WritesLogLess, answered_part, count_before, exchange_lines, lines_with, log_text, step_lines, transfer_part}
 use Rattle.usb_bus.proofs.EnumerateLemmas.{runs_on}
-use Rattle.usb_bus.specs.inside.Walking.{AllWork, StepWork, Breaks, Leads, Walks}
-use Rattle.usb_bus.specs.declared.run.Run.{Run}
+use Rattle.usb_bus.specs.inside.Running.{AllWork, StepWork, Breaks, Leads, Walks}
+use Rattle.usb_bus.specs.declared.enumeration.Run.{Run}
 use Rattle.usb_text.specs.declared.output.OutFault.{OutFault}
 
 -- a transfer wants no reset

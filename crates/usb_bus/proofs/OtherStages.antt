@@ -4,13 +4,11 @@ use Rattle.std.proofs.lemmas.Bool.Decides.{nat_tests}
 use Rattle.usb_fields.specs.declared.packet.Toggle.{Toggle}
 use Rattle.usb_fields.specs.declared.packet.Toggle.TheVariants.{Data1}
 use Rattle.usb_fields.specs.declared.setup.Setup.{Setup as SetupPacket}
-use Rattle.usb_fields.specs.declared.direction.Direction.TheVariants as directions
-use Rattle.usb_fields.specs.Packet.{AckReply, NoReply}
-use Rattle.usb_fields.specs.Packets.{packets}
-use Rattle.usb_fields.specs.Directions.{direction_of}
-use Rattle.usb_fields.specs.Setup.{setup_of, setup_bytes}
-use Rattle.usb_host.specs.declared.stage.TransferStage.{TransferStage}
-use Rattle.usb_host.specs.declared.stage.TransferStage.TheVariants.{Setup, DataIn, DataOut, StatusOut, StatusIn}
+use Rattle.usb_fields.specs.declared.setup.Direction.TheVariants as directions
+use Rattle.usb_fields.specs.Packets.{AckReply, NoReply, packets}
+use Rattle.usb_fields.specs.Setup.{direction_of, setup_of, setup_bytes}
+use Rattle.usb_host.specs.declared.transfer.TransferStage.{TransferStage}
+use Rattle.usb_host.specs.declared.transfer.TransferStage.TheVariants.{Setup, DataIn, DataOut, StatusOut, StatusIn}
 use Rattle.usb_host.specs.Transfer.{stage_after_setup}
 use Rattle.usb_device.specs.declared.state.State.{State}
 use Rattle.usb_device.specs.Requests.{Outcome, Bytes, Done, Refused}
@@ -18,12 +16,11 @@ use Rattle.usb_device.specs.Step.{DeviceStage, Served, replies, begun}
 use Rattle.usb_device.specs.Step as device
 use Rattle.usb_bus.specs.declared.fate.Fate.{Fate}
 use Rattle.usb_bus.specs.declared.fate.Fate.TheVariants.{Pass, Busy, LostDown, LostUp, LostAck}
-use Rattle.usb_bus.specs.Fates.{lost, busy, ack_lost}
-use Rattle.usb_bus.specs.Bus.{Ends, HostEnd, step, hears, acknowledged}
+use Rattle.usb_bus.specs.Bus.{lost, busy, ack_lost, Ends, HostEnd, step, hears, acknowledged}
 use Rattle.usb_bus.specs.Together.{Stages, IsReading, InOneTransfer}
-use Rattle.usb_bus.specs.inside.Due.{IsCut}
+use Rattle.usb_bus.specs.inside.Sound.{IsCut}
 use Rattle.usb_bus.proofs.Fronts.{some_due}
-use Rattle.usb_bus.specs.Answering.{IsAnswering}
+use Rattle.usb_bus.specs.Beside.{IsAnswering}
 
 -- a setup packet comes as it was sent
 pub setup_of-setup_bytes : (q : SetupPacket) → setup_of (setup_bytes q) ≡ q

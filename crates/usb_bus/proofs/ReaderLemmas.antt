@@ -6,8 +6,7 @@ use Rattle.usb_fields.specs.Bytes.{AreBytes}
 use Rattle.usb_set.specs.declared.tree.Configuration.{Configuration}
 use Rattle.usb_set.specs.declared.fault.SetWhy.{SetWhy}
 use Rattle.usb_set.specs.Layout.{Layout}
-use Rattle.usb_set.specs.Faults.{Begins, Faulty}
-use Rattle.usb_set.specs.Judgement.{Judgement, is_set, is_faulty, is_open}
+use Rattle.usb_set.specs.Faults.{Begins, Faulty, Judgement, is_set, is_faulty, is_open}
 use Rattle.usb_bus.specs.inside.Laws.{SetsAreRead}
 
 abbrev are_bytes : List ℕ → Bool

@@ -2,24 +2,22 @@
 use Rattle.std.proofs.Common.{◌≡◌, ℕ, ◌+◌, ◌<◌, Bool, true, false, if◌then◌else◌, ◌⊎◌, inl, inr, List, [], ◌∷◌, Option, Some, refl, ap, sym, ◌∙◌, subst, arith, add-zero, add_assoc, zero-add}
 use Rattle.usb_fields.specs.declared.packet.Toggle.TheVariants.{Data1}
 use Rattle.usb_fields.specs.declared.setup.Setup.{Setup as SetupPacket}
-use Rattle.usb_fields.specs.Packet.{InToken, OutToken, Sent, NoReply}
+use Rattle.usb_fields.specs.Packets.{InToken, OutToken, Sent, NoReply}
 use Rattle.usb_host.specs.Transfer.{due, token_due, addressed}
-use Rattle.usb_host.specs.declared.stage.TransferStage.{TransferStage}
-use Rattle.usb_host.specs.declared.stage.TransferStage.TheVariants.{Setup, DataIn, DataOut, StatusOut, StatusIn, Completed, Failed}
+use Rattle.usb_host.specs.declared.transfer.TransferStage.{TransferStage}
+use Rattle.usb_host.specs.declared.transfer.TransferStage.TheVariants.{Setup, DataIn, DataOut, StatusOut, StatusIn, Completed, Failed}
 use Rattle.usb_device.specs.declared.state.State.{State}
 use Rattle.usb_device.specs.Requests.{Outcome}
 use Rattle.usb_device.specs.Step.{DeviceView, Served, served, acked}
 use Rattle.usb_device.specs.Beside.{Response, beside}
 use Rattle.usb_bus.specs.declared.fate.Fate.{Fate}
 use Rattle.usb_bus.specs.declared.fate.Fate.TheVariants.{Pass, Busy, LostDown, LostUp, LostAck}
-use Rattle.usb_bus.specs.Fates.{lost, busy, ack_lost, losses, busies, acks_lost}
-use Rattle.usb_bus.specs.Bus.{HostEnd, Ends, is_data, hears, acknowledged, carried, exchanged, step}
-use Rattle.usb_bus.specs.Answering.{IsTable}
+use Rattle.usb_bus.specs.Bus.{lost, busy, ack_lost, losses, busies, acks_lost, HostEnd, Ends, is_data, hears, acknowledged, carried, exchanged, step}
+use Rattle.usb_bus.specs.Beside.{IsTable, Moment, fates_of, IsAmong, run_moments}
 use Rattle.usb_bus.specs.Attempt.{begins}
 use Rattle.usb_bus.specs.Together.{Stages, InOneTransfer}
 use Rattle.usb_bus.proofs.Cutting.{packets_cut}
 use Rattle.usb_bus.proofs.Keeps.{keeps, stages_end}
-use Rattle.usb_bus.specs.Responders.{Moment, fates_of, IsAmong, run_moments}
 use Rattle.usb_bus.specs.Laws.{TransfersReadOneAnswer}
 use Rattle.usb_bus.proofs.ResponderTables.{beside_kept}
 use Rattle.usb_bus.proofs.ResponderSteps.{one_device}

@@ -3,12 +3,12 @@ use Rattle.std.proofs.Common.{◌≡◌, ℕ, ◌==◌, ◌||◌, ◌&&◌, not,
 use Rattle.usb_fields.specs.declared.packet.Toggle.TheVariants.{Data1}
 use Rattle.usb_fields.specs.declared.setup.Setup.{Setup}
 use Rattle.usb_fields.specs.Setup.{setup_of}
-use Rattle.usb_fields.specs.Packet.{Token, SetupToken, InToken, OutToken, AckReply, DataReply, NoReply}
+use Rattle.usb_fields.specs.Packets.{Token, SetupToken, InToken, OutToken, AckReply, DataReply, NoReply}
 use Rattle.usb_device.specs.declared.state.State.{State}
 use Rattle.usb_device.specs.Requests.{Outcome, Bytes, Done, Refused, when}
 use Rattle.usb_device.specs.Step.{DeviceStage, Idle, Halted, Sending, StatusOut, Over, StatusIn, DeviceView, Served, replies, begun, carried_out, is_set_address, served_in, served_here, acked_stage, acked_state}
 use Rattle.usb_device.specs.Beside.{Response, Gives, Does, Declines, asks_for_bytes, beside, is_open, kept_open, kept_to, otherwise, overflows, refused_in}
-use Rattle.usb_bus.specs.Responders.{asked_after, asked_for}
+use Rattle.usb_bus.specs.Beside.{asked_after, asked_for}
 use Rattle.usb_bus.specs.Laws.{RespondersAreOneDevice}
 
 -- a responder's answer leaves the device's state

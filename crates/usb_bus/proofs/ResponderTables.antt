@@ -3,15 +3,14 @@ use Rattle.std.proofs.Common.{◌≡◌, ℕ, ◌<◌, ◌≤◌, ◌==◌, ◌&
 use Rattle.std.proofs.lemmas.Bool.Decides.{nat_tests}
 use Rattle.usb_fields.specs.declared.setup.Setup.{Setup}
 use Rattle.usb_fields.specs.declared.setup.Class.TheVariants as classes
-use Rattle.usb_fields.specs.Setup.{class_of}
-use Rattle.usb_fields.specs.declared.direction.Direction.{Direction}
-use Rattle.usb_fields.specs.declared.direction.Direction.TheVariants as directions
-use Rattle.usb_fields.specs.Directions.{direction_of}
+use Rattle.usb_fields.specs.Setup.{class_of, direction_of}
+use Rattle.usb_fields.specs.declared.setup.Direction.{Direction}
+use Rattle.usb_fields.specs.declared.setup.Direction.TheVariants as directions
 use Rattle.usb_device.specs.declared.state.State.{State}
 use Rattle.usb_device.specs.Requests.{Outcome, Bytes, Done, Refused, when}
 use Rattle.usb_device.specs.Step.{is_set_address}
 use Rattle.usb_device.specs.Beside.{Response, Gives, Does, Declines, asks_for_bytes, beside, is_in, is_open, is_open_to, is_other_descriptor, kept_open, kept_to, otherwise, overflows}
-use Rattle.usb_bus.specs.Answering.{IsTable}
+use Rattle.usb_bus.specs.Beside.{IsTable}
 use Rattle.usb_bus.specs.Laws.{RespondersKeepTables}
 
 first_true : (a b : Bool) → (a && b) ≡ true → a ≡ true

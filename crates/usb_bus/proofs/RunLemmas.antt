@@ -1,14 +1,14 @@
 -- A run of both ends is the image of attempts by a plan.
 use Rattle.std.proofs.Common.{◌≡◌, ℕ, zero, suc, ◌<◌, ◌≤◌, Bool, true, false, if◌then◌else◌, nat_lt, List, [], ◌∷◌, ◌++◌, Option, Some, None, ◌⊎◌, inl, inr, refl, ap, sym, ◌∙◌, arith, subst}
 use Rattle.std.proofs.lemmas.Bool.Decides.{nat_tests}
-use Rattle.usb_fields.specs.declared.speed.Speed.{Speed}
-use Rattle.usb_fields.specs.Packet.{Sent, Reply as Answer}
+use Rattle.usb_fields.specs.declared.packet.Speed.{Speed}
+use Rattle.usb_fields.specs.Packets.{Sent, Reply as Answer}
 use Rattle.usb_set.specs.declared.tree.Configuration.{Configuration}
 use Rattle.usb_file_data.specs.declared.file.DescriptorFile.{DescriptorFile}
 use Rattle.usb_host.specs.declared.why.Why.{Why}
 use Rattle.usb_host.specs.declared.why.Why.TheVariants.{NoAnswer, Busy, Stalled, TooLong, Unexpected, Malformed, Memory}
-use Rattle.usb_host.specs.declared.stage.TransferStage.{TransferStage}
-use Rattle.usb_host.specs.declared.stage.TransferStage.TheVariants.{Setup, DataIn, DataOut, StatusOut, StatusIn, Completed, Failed as TheFailed}
+use Rattle.usb_host.specs.declared.transfer.TransferStage.{TransferStage}
+use Rattle.usb_host.specs.declared.transfer.TransferStage.TheVariants.{Setup, DataIn, DataOut, StatusOut, StatusIn, Completed, Failed as TheFailed}
 use Rattle.usb_host.specs.declared.reply.Reply.{Reply}
 use Rattle.usb_host.specs.Limits.{LimitView}
 use Rattle.usb_host.specs.Plan.{Plan}
@@ -19,25 +19,23 @@ use Rattle.usb_device.specs.Requests.{Outcome}
 use Rattle.usb_device.specs.Step.{DeviceView, new_device}
 use Rattle.usb_bus.specs.declared.fate.Fate.{Fate}
 use Rattle.usb_bus.specs.declared.fate.Fate.TheVariants.{Pass}
-use Rattle.usb_bus.specs.Fates.{losses, busies}
-use Rattle.usb_bus.specs.Bus.{HostEnd, carried, exchanged, hears}
+use Rattle.usb_bus.specs.Bus.{losses, busies, HostEnd, carried, exchanged, hears}
 use Rattle.usb_bus.specs.Attempt.{Phase, Running, Succeeded, Broken, Attempt, proceed, advance, attempt_step}
 use Rattle.usb_bus.specs.Run.{fate_at, fates_used}
 use Rattle.usb_host.specs.declared.step.Step.{Step}
 use Rattle.usb_host.specs.declared.step.Trouble.{Trouble}
 use Rattle.usb_host.specs.declared.place.Place.{Place}
 use Rattle.usb_host.specs.declared.place.Place.TheVariants.{First, Reported, Stopped}
-use Rattle.usb_host.specs.declared.kept.Kept.{Kept}
+use Rattle.usb_host.specs.declared.place.Kept.{Kept}
 use Rattle.usb_host.specs.Order.{stopped}
 use Rattle.usb_host.specs.Gathered.{reached}
 use Rattle.usb_host.specs.Steps.{HostPhase, ResetDue, Reading, Ended, HostView, WantsReset, WantsSent, wanted, sends, enter, settled, blames_bus, TakesHeard, TakesIn}
-use Rattle.usb_bus.specs.Enumerate.{brings, configured_state, ends_heard}
+use Rattle.usb_bus.specs.Enumerate.{brings, configured_state, ends_heard, Pair, new_pair, IsReset, IsTransactionAt, RunsAt}
 use Rattle.usb_host.proofs.AskingLemmas.{wants_reset, reset_is}
 use Rattle.usb_bus.specs.Series.{Series, fresh, settle, series_step, series_run}
-use Rattle.usb_bus.specs.inside.Judged.{Verdict}
+use Rattle.usb_bus.specs.inside.Laws.{Verdict}
 use Rattle.usb_bus.specs.inside.Image.{plan_of, IsImage, StaysImage}
-use Rattle.usb_bus.specs.EnumerationRun.{Pair, new_pair, IsReset, IsTransactionAt, RunsAt}
-use Rattle.usb_bus.specs.inside.Ends.{PlaceEndsWell, GoesWell}
+use Rattle.usb_bus.specs.inside.Running.{PlaceEndsWell, GoesWell}
 use Rattle.usb_bus.proofs.HeardLemmas.{wanting_heard}
 
 -- one transaction more

@@ -1,13 +1,13 @@
 -- Runs of a talk: their points, and the fates that they use.
 use Rattle.std.proofs.Common.{◌≡◌, ℕ, zero, suc, ◌+◌, ◌≤◌, List, [], ◌∷◌, ◌++◌, length, drop, Some, None, refl, sym, ap, ◌∙◌, arith, inl, inr, subst}
 use Rattle.std.proofs.lemmas.Bool.{cases_lt}
-use Rattle.usb_fields.specs.Packet.{Sent}
+use Rattle.usb_fields.specs.Packets.{Sent}
 use Rattle.usb_fields.specs.declared.setup.Setup.{Setup as SetupPacket}
 use Rattle.usb_device.specs.declared.state.State.{State}
 use Rattle.usb_device.specs.Requests.{Outcome}
 use Rattle.usb_bus.specs.declared.fate.Fate.{Fate}
 use Rattle.usb_host.specs.declared.reply.Reply.{Reply}
-use Rattle.usb_bus.specs.Fates.{losses, busies, acks_lost}
+use Rattle.usb_bus.specs.Bus.{losses, busies, acks_lost}
 use Rattle.usb_host.specs.Plan.{Plan}
 use Rattle.usb_bus.specs.Attempt.{Attempt, attempt_step, attempt_run}
 use Rattle.usb_bus.specs.Run.{fate_at, fates_used, due_in, Steps}

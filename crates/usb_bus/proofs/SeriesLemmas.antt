@@ -11,13 +11,12 @@ use Rattle.usb_device.specs.declared.state.State.{State}
 use Rattle.usb_device.specs.Requests.{Outcome}
 use Rattle.usb_host.specs.declared.reply.Reply.{Reply}
 use Rattle.usb_bus.specs.declared.fate.Fate.{Fate}
-use Rattle.usb_bus.specs.Fates.{lost, ack_lost, losses, busies, acks_lost}
+use Rattle.usb_bus.specs.Bus.{lost, ack_lost, losses, busies, acks_lost}
 use Rattle.usb_host.specs.Plan.{Plan}
-use Rattle.usb_bus.specs.Attempt.{Phase, Running, Succeeded, Broken, Attempt, attempt_step, attempt_run}
-use Rattle.usb_bus.specs.Ending.{AttemptEnds, IsCause}
+use Rattle.usb_bus.specs.Attempt.{Phase, Running, Succeeded, Broken, Attempt, attempt_step, attempt_run, AttemptEnds, IsCause}
 use Rattle.usb_bus.specs.Together.{StaysTogether}
 use Rattle.usb_bus.specs.Series.{Attempts, HasCost, Series, StandsAfter, after_reset, attempt_under, fresh, settle, series_step, series_run}
-use Rattle.usb_bus.specs.inside.Judged.{Verdict}
+use Rattle.usb_bus.specs.inside.Laws.{Verdict}
 
 ack_at_most_lost : (f : Fate) → ack_lost f ≤ lost f
 ack_at_most_lost f = grind arith

@@ -7,9 +7,8 @@ use Rattle.std.proofs.lemmas.Bool.Decides.{nat_tests}
 use Rattle.std.proofs.lemmas.List.{take_all}
 use Rattle.std.proofs.lemmas.Nat.{div-mul-add, mod-mul-add}
 use Rattle.usb_fields.specs.Bytes.{little_endian}
-use Rattle.usb_fields.specs.declared.speed.Speed.{Speed}
-use Rattle.usb_fields.specs.Device.{device_bytes}
-use Rattle.usb_fields.specs.Qualifier.{qualifier_bytes}
+use Rattle.usb_fields.specs.declared.packet.Speed.{Speed}
+use Rattle.usb_fields.specs.Device.{device_bytes, qualifier_bytes}
 use Rattle.usb_fields.specs.Units.{units_bytes}
 use Rattle.usb_set.specs.declared.tree.SetKind.{SetKind}
 use Rattle.usb_set.specs.declared.tree.SetKind.TheVariants as kinds
@@ -18,9 +17,7 @@ use Rattle.usb_set.specs.Descriptors.{type_number}
 use Rattle.usb_file_data.specs.declared.file.DescriptorFile.{DescriptorFile}
 use Rattle.usb_file_data.specs.declared.file.Other.{Other}
 use Rattle.usb_file_data.specs.declared.file.Strings.{Strings}
-use Rattle.usb_file_data.specs.File.{whole_set, is_long_string}
-use Rattle.usb_file_data.specs.Named.{named_indices, other_sets, string_indices}
-use Rattle.usb_file_data.specs.StringPlaces.{units_at}
+use Rattle.usb_file_data.specs.File.{whole_set, is_long_string, named_indices, other_sets, string_indices, units_at}
 use Rattle.usb_device.specs.Descriptors.{descriptor, set_at, string_at, qualifier_of, other_set_at}
 use Rattle.usb_device.specs.Accepted.{repeats}
 use Rattle.usb_device.specs.declared.state.State.{State}
@@ -28,11 +25,10 @@ use Rattle.usb_device.specs.States.{zero as zero_state}
 use Rattle.usb_device.specs.Requests.{Bytes, Done, Refused, answer, answer_of, has_value}
 use Rattle.usb_device.specs.Step.{carried_out, is_set_address}
 use Rattle.usb_host.specs.declared.reply.Reply.TheVariants as replied
-use Rattle.usb_bus.specs.Answering.{CutsAlike}
+use Rattle.usb_bus.specs.Beside.{CutsAlike}
 use Rattle.usb_bus.specs.Attempt.{reply_to}
-use Rattle.usb_host.specs.Requests.{get_descriptor, set_address, set_configuration}
+use Rattle.usb_host.specs.Read.{get_descriptor, set_address, set_configuration, may_have_second}
 use Rattle.usb_bus.specs.inside.Following.{Serves}
-use Rattle.usb_host.specs.Read.{may_have_second}
 use Rattle.usb_host.specs.Order.{first_value, index_due, language_due}
 use Rattle.usb_bus.specs.inside.Described.{IsDescribed}
 use Rattle.usb_bus.specs.inside.Script.{Exchange, exchange, set_script, text_script, string_script, other_script, last_script, second_script, script, addressed_state}

@@ -5,19 +5,18 @@ use Rattle.std.proofs.lemmas.Bool.Decides.{nat_tests}
 use Rattle.usb_fields.specs.declared.setup.Setup.{Setup}
 use Rattle.usb_fields.specs.declared.setup.Class.{Class}
 use Rattle.usb_fields.specs.declared.setup.Class.TheVariants as classes
-use Rattle.usb_fields.specs.declared.direction.Direction.{Direction}
-use Rattle.usb_fields.specs.declared.direction.Direction.TheVariants as directions
+use Rattle.usb_fields.specs.declared.setup.Direction.{Direction}
+use Rattle.usb_fields.specs.declared.setup.Direction.TheVariants as directions
 use Rattle.usb_fields.specs.declared.setup.Recipient.{Recipient}
 use Rattle.usb_fields.specs.declared.setup.Recipient.TheVariants.{Device, Interface, Endpoint, Other, Reserved}
-use Rattle.usb_fields.specs.Directions.{direction_of}
-use Rattle.usb_fields.specs.Setup.{class_of, recipient_of}
+use Rattle.usb_fields.specs.Setup.{direction_of, class_of, recipient_of}
 use Rattle.usb_file_data.specs.declared.file.DescriptorFile.{DescriptorFile}
 use Rattle.usb_device.specs.Descriptors.{descriptor}
 use Rattle.usb_device.specs.declared.state.State.{State}
 use Rattle.usb_device.specs.States.{first_alternates, has_address, is_configured, halt_of, without_halt}
 use Rattle.usb_device.specs.Requests.{Outcome, Bytes, Done, Refused, when, bytes_in, gives, tells, does, is_device, is_interface, names_interface, names_alternate, names_endpoint, names_endpoint_zero, selected_settings, interface_addresses, shown_attributes, one_if, can_wake, has_value, changed_halts, status_of, status_of_endpoint, feature_of, set_configuration, set_interface, row, answer_of, answer}
 use Rattle.usb_device.specs.Step.{is_set_address}
-use Rattle.usb_bus.specs.Answering.{IsTable}
+use Rattle.usb_bus.specs.Beside.{IsTable}
 
 -- what an answer keeps, by its kind
 abbrev Kept : State → Setup → Outcome → Type 0

@@ -9,11 +9,10 @@ use Rattle.usb_host.specs.Plan.{Plan}
 use Rattle.usb_host.specs.declared.reply.Reply.{Reply}
 use Rattle.usb_bus.specs.inside.Sound.{Follows}
 use Rattle.usb_bus.specs.Attempt.{attempt_run, reply_to}
-use Rattle.usb_bus.specs.Converse.{first_place, talk_start}
+use Rattle.usb_bus.specs.Converse.{first_place, talk_start, Place, ends_with_address, followed, onward, reached, asked_at, talk_plan, replies_to, state_after}
 use Rattle.usb_bus.specs.Laws.{TalksHaveCauses}
 use Rattle.usb_bus.proofs.Attempts.{attempts_sound, sound_ends}
-use Rattle.usb_bus.specs.Talk.{Place, ends_with_address, followed, onward, reached, asked_at, talk_plan, replies_to, state_after}
-use Rattle.usb_bus.specs.Answering.{IsTable}
+use Rattle.usb_bus.specs.Beside.{IsTable}
 
 pub reached_append : (p : Place) (rs : List Reply) (r : Reply) → reached p (rs ++ r ∷ []) ≡ onward (reached p rs).left (reached p rs).address r
 reached_append p [] r = refl

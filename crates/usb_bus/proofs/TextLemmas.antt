@@ -6,9 +6,8 @@ use Rattle.std.proofs.lemmas.List.Sums.{position_or_len_is}
 use Rattle.std.proofs.Math.Nat.{mod-lt, div-add-mod}
 use Rattle.usb_file_data.specs.declared.file.DescriptorFile.{DescriptorFile}
 use Rattle.usb_file_data.specs.declared.file.Strings.{Strings}
-use Rattle.usb_file_data.specs.Named.{named_among, named_indices, string_indices}
+use Rattle.usb_file_data.specs.File.{named_among, named_indices, string_indices, units_at}
 use Rattle.usb_device.specs.Accepted.{is_among, repeats}
-use Rattle.usb_file_data.specs.StringPlaces.{units_at}
 use Rattle.usb_host.specs.Order.{index_due, language_due}
 
 -- two places of a list in which no number stands twice have two numbers

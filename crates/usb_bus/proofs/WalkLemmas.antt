@@ -3,7 +3,7 @@ use Rattle.std.proofs.Common.{◌≡◌, ℕ, suc, ◌+◌, ◌*◌, ◌<◌, �
 use Rattle.std.specs.Prelude.{Option, Some, None}
 use Rattle.std.proofs.lemmas.Bool.Decides.{nat_tests}
 use Rattle.std.proofs.lemmas.List.{append-nil}
-use Rattle.usb_fields.specs.declared.speed.Speed.{Speed}
+use Rattle.usb_fields.specs.declared.packet.Speed.{Speed}
 use Rattle.usb_fields.specs.declared.device.DeviceDescriptor.{DeviceDescriptor}
 use Rattle.usb_fields.specs.Device.{device_bytes}
 use Rattle.usb_set.specs.declared.tree.SetKind.{SetKind}
@@ -13,15 +13,13 @@ use Rattle.usb_set.specs.Descriptors.{type_number}
 use Rattle.usb_file_data.specs.declared.file.DescriptorFile.{DescriptorFile}
 use Rattle.usb_file_data.specs.declared.file.Other.{Other}
 use Rattle.usb_file_data.specs.declared.file.Strings.{Strings}
-use Rattle.usb_file_data.specs.File.{whole_set}
-use Rattle.usb_file_data.specs.Named.{named_indices, other_sets}
+use Rattle.usb_file_data.specs.File.{whole_set, named_indices, other_sets}
 use Rattle.usb_host.specs.declared.reply.Reply.TheVariants.{Bytes, Done}
 use Rattle.usb_host.specs.declared.why.Why.TheVariants.{Malformed}
 use Rattle.usb_host.specs.Plan.{Begin}
-use Rattle.usb_host.specs.Requests.{get_descriptor, set_address}
+use Rattle.usb_host.specs.Read.{get_descriptor, set_address, same_bytes, packet_fits, may_have_second}
 use Rattle.usb_host.specs.declared.place.Place.{Place}
 use Rattle.usb_host.specs.declared.place.Place.TheVariants.{First, Address, Device, Header, Set, Qualifier as SecondSpeed, Languages, Text, Configure, Reported}
-use Rattle.usb_host.specs.Read.{same_bytes, packet_fits, may_have_second}
 use Rattle.usb_host.proofs.ReadLemmas.{same_self, device_read}
 use Rattle.usb_file_data.specs.Front.{with_set, with_strings}
 use Rattle.usb_bus.specs.inside.Following.{WalksScript}

@@ -1,13 +1,48 @@
--- One transaction between a host and a device, under a fate.
-use Rattle.std.specs.Prelude.{ℕ, Bool, true, false, if◌then◌else◌, List, [], ◌∷◌, ◌++◌, Option, Some, None}
+-- What a bus does to a transaction between a host and a device.
+use Rattle.std.specs.Prelude.{ℕ, ◌+◌, List, [], ◌∷◌, Bool, true, false, if◌then◌else◌, ◌++◌, Option, Some, None}
+use Rattle.usb_bus.specs.declared.fate.Fate.{Fate}
+use Rattle.usb_bus.specs.declared.fate.Fate.TheVariants.{Pass, Busy, LostAck, LostDown, LostUp}
 use Rattle.usb_fields.specs.declared.setup.Setup.{Setup}
-use Rattle.usb_fields.specs.Packet.{Sent, Reply, DataReply, NoReply}
+use Rattle.usb_fields.specs.Packets.{Sent, Reply, DataReply, NoReply}
 use Rattle.usb_host.specs.Transfer.{TransferView, Hearing, Brings, Taken, taken, due}
 use Rattle.usb_device.specs.declared.state.State.{State}
 use Rattle.usb_device.specs.Requests.{Outcome}
 use Rattle.usb_device.specs.Step.{DeviceView, Served, served, acked}
-use Rattle.usb_bus.specs.declared.fate.Fate.{Fate}
-use Rattle.usb_bus.specs.declared.fate.Fate.TheVariants.{Busy, LostDown, LostUp, LostAck}
+
+-- What a bus does to transactions, counted.
+
+-- 1 where a packet or a handshake is lost
+abbrev pub lost : Fate → ℕ
+lost Pass = 0
+lost Busy = 0
+lost fate = 1
+
+-- 1 where the device is not ready
+abbrev pub busy : Fate → ℕ
+busy Busy = 1
+busy fate = 0
+
+-- 1 where the host's ACK is lost
+abbrev pub ack_lost : Fate → ℕ
+ack_lost LostAck = 1
+ack_lost fate = 0
+
+-- how many are lost
+abbrev pub losses : List Fate → ℕ
+losses [] = 0
+losses (f ∷ fates) = lost f + losses fates
+
+-- how many meet a device that is not ready
+abbrev pub busies : List Fate → ℕ
+busies [] = 0
+busies (f ∷ fates) = busy f + busies fates
+
+-- how many lose the host's ACK
+abbrev pub acks_lost : List Fate → ℕ
+acks_lost [] = 0
+acks_lost (f ∷ fates) = ack_lost f + acks_lost fates
+
+-- One transaction between a host and a device, under a fate.
 
 -- the host's end: its transfer, and the bytes that the transfer brought
 pub record HostEnd : Type 0 where

@@ -1,23 +1,107 @@
--- What an enumeration promises.
-use Rattle.std.specs.Prelude.{◌≡◌, ℕ, suc, ◌+◌, ◌/◌, ◌<◌, ◌≤◌, Bool, true, false, List, [], ◌∷◌, Some, ◌⊎◌, IfErr, IfOk}
-use Rattle.usb_fields.specs.declared.speed.Speed.{Speed}
+-- A whole enumeration: a host, a device and a bus that loses; and what it promises.
+use Rattle.std.specs.Prelude.{◌≡◌, ℕ, suc, List, [], ◌∷◌, ◌⊎◌, ◌+◌, ◌-◌, ◌<◌, ◌≤◌, IsSome, Bool, Option, Some, None, ◌/◌, true, false, IfErr, IfOk}
+use Rattle.usb_fields.specs.declared.packet.Speed.{Speed}
+use Rattle.usb_fields.specs.Packets.{Sent, NoReply, Reply}
 use Rattle.usb_file_data.specs.declared.file.DescriptorFile.{DescriptorFile}
+use Rattle.usb_host.specs.Limits.{LimitView}
+use Rattle.usb_fields.specs.declared.setup.Setup.{Setup as SetupPacket}
+use Rattle.usb_device.specs.declared.state.State.{State}
+use Rattle.usb_device.specs.Requests.{Outcome, answer}
+use Rattle.usb_device.specs.Step.{DeviceView, new_device}
+use Rattle.usb_bus.specs.declared.fate.Fate.{Fate}
+use Rattle.usb_bus.specs.Bus.{carried, readiness, losses, busies}
+use Rattle.usb_bus.specs.Run.{fate_at, fates_used}
+use Rattle.usb_host.specs.Steps.{HostView, new_host, WantsReset, WantsSent, wanted, reset, Takes, outcome_of, blames_bus}
+use Rattle.usb_device.specs.View.{served_by}
+use Rattle.usb_host.specs.Cost.{left_to_ask, most}
 use Rattle.usb_host.specs.declared.why.Why.{Why}
 use Rattle.usb_host.specs.declared.why.Why.TheVariants.{Memory}
-use Rattle.usb_host.specs.Limits.{LimitView}
-use Rattle.usb_device.specs.declared.state.State.{State}
 use Rattle.usb_device.specs.States.{first_alternates}
-use Rattle.usb_bus.specs.declared.fate.Fate.{Fate}
 use Rattle.usb_bus.specs.declared.fate.Fate.TheVariants.{Pass, LostAck}
-use Rattle.usb_bus.specs.Fates.{losses, busies}
-use Rattle.usb_bus.specs.Run.{fates_used}
-use Rattle.usb_host.specs.Cost.{most}
 use Rattle.usb_host.specs.Order.{first_value}
-use Rattle.usb_host.specs.Steps.{outcome_of, blames_bus}
-use Rattle.usb_bus.specs.declared.run.Run.{Run}
-use Rattle.usb_bus.specs.EnumerationRun.{Pair, new_pair, RunsAt}
-use Rattle.usb_fields.specs.declared.setup.Setup.{Setup as SetupPacket}
-use Rattle.usb_device.specs.Requests.{Outcome, answer}
+use Rattle.usb_bus.specs.declared.enumeration.Run.{Run}
+
+-- A whole enumeration: a host, a device and a bus that loses.
+
+-- both ends, as their callers see them
+pub record Pair : Type 0 where
+  pub host : HostView
+  pub device : DeviceView
+
+-- a new host, and a new device
+abbrev pub new_pair : LimitView → Speed → Pair
+new_pair limits speed = record { host = new_host limits speed; device = new_device }
+
+-- a bus reset, where the host wants one: it reaches both ends (USB 2.0, 9.1.1.3)
+pub record IsReset (x y : Pair) : Type 0 where
+  pub due : wanted x.host.phase ≡ WantsReset
+  pub host : y.host ≡ reset x.host
+  pub device : y.device ≡ new_device
+
+-- For any answers to requests, and any packet size of the device.
+module _ (table : State → SetupPacket → Outcome) (packet : ℕ) where
+  -- A transaction, where the host asks for one. A device with these answers answers, the bus does to it what the fate
+  -- says, and the host takes what comes back.
+  pub record IsTransactionAt (fate : Fate) (x y : Pair) : Type 0 where
+    pub sent : Sent
+    pub due : wanted x.host.phase ≡ WantsSent sent
+    pub host : Takes x.host (carried table packet x.device sent fate).reply y.host
+    pub device : y.device ≡ (carried table packet x.device sent fate).device
+
+  -- `last` is reached from a pair that is new, by so many transactions under the first fates, and by resets. These are
+  -- the pairs on the way, the newest first.
+  abbrev pub RunsAt : List Fate → Pair → List Pair → ℕ → Pair → Type 0
+  RunsAt fates new [] n last = (last ≡ new) × (n ≡ 0)
+  RunsAt fates new (x ∷ earlier) n last =
+      (IsReset x last × RunsAt fates new earlier n x)
+      ⊎ ((m : ℕ) × (n ≡ suc m) × IsTransactionAt (fate_at fates m) x last × RunsAt fates new earlier m x)
+
+-- the same with a device of these descriptors
+abbrev pub IsTransaction : DescriptorFile → Fate → Pair → Pair → Type 0
+IsTransaction f fate x y = IsTransactionAt (answer f) f.device.packet fate x y
+
+-- the same of the device's own table
+abbrev pub Runs : DescriptorFile → List Fate → Pair → List Pair → ℕ → Pair → Type 0
+Runs f fates new earlier n last = RunsAt (answer f) f.device.packet fates new earlier n last
+
+-- What one step of an enumeration does, and what falls with it.
+
+-- both ends
+abbrev pub both : HostView → DeviceView → Pair
+both host device = record { host = host; device = device }
+
+-- what a device with these descriptors answers where it hears and is ready or not: nothing where it hears nothing
+abbrev pub answered_to : DescriptorFile → DeviceView → Sent → Option Bool → Reply
+answered_to f d sent None = NoReply
+answered_to f d sent (Some ready) = (served_by f d sent ready).reply
+
+-- what it answers under a fate, whether that reaches the host or not
+abbrev pub answered : DescriptorFile → DeviceView → Sent → Fate → Reply
+answered f d sent fate = answered_to f d sent (readiness fate)
+
+-- a reset after n transactions, or transaction n under its fate; so many transactions there were then
+abbrev pub Moves : DescriptorFile → List Fate → Pair → ℕ → Pair → ℕ → Type 0
+Moves f fates x n y now = (IsReset x y × (now ≡ n)) ⊎ (IsTransaction f (fate_at fates n) x y × (now ≡ suc n))
+
+-- What falls with each step: what may still be asked for, and the attempts that are left.
+abbrev pub measure : HostView → ℕ
+measure v = left_to_ask v + (v.limits.attempts - v.resets)
+
+-- What a step says that was made: these ends were so after n transactions, and those are so after `now`.
+pub record IsStep (f : DescriptorFile) (fates : List Fate) (x : Pair) (n : ℕ) (y : Pair) (now : ℕ) : Type 0 where
+  -- it was a reset or a transaction
+  pub moves : Moves f fates x n y now
+  -- with each transaction fewer may still be asked for
+  pub fewer : now + left_to_ask y.host ≤ n + left_to_ask x.host
+  -- and that falls
+  pub falls : measure y.host < measure x.host
+
+-- What a step says where none was left: the host has an outcome, and both ends are as they were.
+pub record NoneIsLeft (x y : Pair) : Type 0 where
+  pub ended : IsSome (outcome_of y.host.phase)
+  pub same : y ≡ x
+
+-- What an enumeration promises.
 
 -- The enumeration is a run of both ends, from a new host and a new device on. Each step is a reset, where one is due, or a
 -- transaction, where the host asks for one, under the fates in their order. The run has so many transactions and resets, and

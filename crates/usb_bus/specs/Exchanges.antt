@@ -1,6 +1,6 @@
 -- A transaction, as the bus and both ends have seen it.
 use Rattle.std.specs.Prelude.{Bool, true, false, Option, Some, None, Result, Err}
-use Rattle.usb_fields.specs.Packet.{Reply, NoReply}
+use Rattle.usb_fields.specs.Packets.{Reply, NoReply}
 use Rattle.usb_file_data.specs.declared.file.DescriptorFile.{DescriptorFile}
 use Rattle.usb_host.specs.declared.why.Why.{Why}
 use Rattle.usb_host.specs.Transfer.{Fails, Hearing, TransferView, taken}
@@ -9,7 +9,7 @@ use Rattle.usb_bus.specs.declared.fate.Fate.{Fate}
 use Rattle.usb_bus.specs.declared.fate.Fate.TheVariants.{LostDown, LostUp, LostAck}
 use Rattle.usb_host.specs.declared.step.Trouble.{Trouble}
 use Rattle.usb_host.specs.Steps.{HostPhase, Wanted, WantsReset, WantsSent, outcome_of, wanted}
-use Rattle.usb_bus.specs.Stepping.{answered}
+use Rattle.usb_bus.specs.Enumerate.{answered}
 
 -- what the host sends is lost
 abbrev pub is_lost_down : Fate → Bool

@@ -1,27 +1,33 @@
--- The laws of two ends over a bus, under every list of fates: how both ends stand together, and what comes of transfers that
--- have ended.
-use Rattle.std.specs.Prelude.{◌≡◌, ℕ, ◌<◌, Bool, List, [], ◌∷◌}
-use Rattle.usb_fields.specs.declared.setup.Setup.{Setup as SetupPacket}
-use Rattle.usb_fields.specs.Packet.{Sent}
+-- The laws of two ends over a bus, under every list of fates: how both ends stand together, and what comes of an enumeration.
+use Rattle.std.specs.Prelude.{◌≡◌, ℕ, ◌<◌, Bool, List, [], ◌∷◌, ◌≤◌}
+use Rattle.usb_fields.specs.declared.setup.Setup.{Setup as SetupPacket, Setup}
+use Rattle.usb_fields.specs.Packets.{Sent}
 use Rattle.usb_file_data.specs.declared.file.DescriptorFile.{DescriptorFile}
 use Rattle.usb_host.specs.declared.reply.Reply.{Reply}
 use Rattle.usb_host.specs.Plan.{Plan}
 use Rattle.usb_device.specs.declared.state.State.{State}
-use Rattle.usb_device.specs.Requests.{Outcome, Bytes}
+use Rattle.usb_device.specs.Requests.{Outcome, Bytes, answer}
 use Rattle.usb_device.specs.Step.{DeviceView, new_device, served, acked}
-use Rattle.usb_device.specs.Beside.{Response, beside}
+use Rattle.usb_device.specs.Beside.{Response, beside, Gives}
 use Rattle.usb_bus.specs.declared.fate.Fate.{Fate}
-use Rattle.usb_bus.specs.declared.talk.Talk.{Talk}
-use Rattle.usb_bus.specs.Fates.{losses, busies, acks_lost}
-use Rattle.usb_bus.specs.Bus.{run}
-use Rattle.usb_bus.specs.Answering.{IsAnswering, IsTable, CutsAlike}
-use Rattle.usb_bus.specs.Attempt.{Answers, begins, attempt_run, is_moved_last, proceed}
-use Rattle.usb_bus.specs.Ending.{TransferEnds, AttemptEnds}
+use Rattle.usb_bus.specs.declared.conversation.Talk.{Talk}
+use Rattle.usb_bus.specs.Bus.{losses, busies, acks_lost, run}
+use Rattle.usb_bus.specs.Beside.{IsAnswering, IsTable, CutsAlike, served_with, Moment, fates_of, IsAmong, run_moments, IsBeside}
+use Rattle.usb_bus.specs.Attempt.{Answers, begins, attempt_run, is_moved_last, proceed, TransferEnds, AttemptEnds}
 use Rattle.usb_bus.specs.Together.{InOneTransfer, StaysTogether}
 use Rattle.usb_bus.specs.Series.{StandsAfter, fresh, series_run}
-use Rattle.usb_bus.specs.Talk.{ends_with_address, talk_plan, replies_to, state_after}
-use Rattle.usb_bus.specs.Converse.{IsTalkRun, first_place, talk_start}
-use Rattle.usb_bus.specs.Responders.{served_with, Moment, fates_of, IsAmong, run_moments}
+use Rattle.usb_bus.specs.Converse.{ends_with_address, talk_plan, replies_to, state_after, IsTalkRun, first_place, talk_start}
+use Rattle.usb_fields.specs.Bytes.{AreBytes}
+use Rattle.usb_fields.specs.declared.packet.Speed.{Speed}
+use Rattle.usb_file_data.specs.File.{file_bytes}
+use Rattle.usb_host.specs.Limits.{LimitView, IsInRange}
+use Rattle.usb_device.specs.Accepted.{Accepted}
+use Rattle.usb_bus.specs.Run.{fates_used}
+use Rattle.usb_bus.specs.declared.enumeration.Run.{Run}
+use Rattle.usb_bus.specs.Enumerate.{EndsWell, IsEnumeration, IsEnumerationAt}
+
+-- The laws of two ends over a bus, under every list of fates: how both ends stand together, and what comes of transfers that
+-- have ended.
 
 -- One transfer, begun at the device's address, of a device that cuts the packets that the host expects: whatever is lost,
 -- both ends stay in it.
@@ -107,3 +113,29 @@ TransfersReadOneAnswer =
     let e = run_moments room table packet (first ∷ more) (record { host = begins d.state.address packet naks q; device = d }) in
     (respond : State → SetupPacket → Response) × IsAmong respond (first ∷ more)
     × TransferEnds (beside room table respond) d.state q naks (losses fates) (busies fates) (acks_lost fates) e.host.transfer.stage e.host.got e.device.state)
+
+-- What holds of an enumeration over a bus.
+
+-- Whatever a bus does to a host and a device with accepted descriptors, an enumeration ends well.
+abbrev pub EnumerationsEndWell : Type 0
+EnumerationsEndWell =
+    (f : DescriptorFile) (speed : Speed) (limits : LimitView) (fates : List Fate) (run : Run) → Accepted f speed → AreBytes (file_bytes f) →
+    IsInRange limits.address limits.attempts → IsEnumeration f speed limits fates run → EndsWell f limits fates run
+
+-- The same of a device whose owner answers beside its table: no owner changes what an enumeration reads, or how it ends.
+abbrev pub OwnersChangeNothing : Type 0
+OwnersChangeNothing =
+    (f : DescriptorFile) (table : State → Setup → Outcome) (speed : Speed) (limits : LimitView) (fates : List Fate) (run : Run) →
+    IsBeside (answer f) table → Accepted f speed → AreBytes (file_bytes f) → IsInRange limits.address limits.attempts →
+    IsEnumerationAt table f.device.packet speed limits fates run → EndsWell f limits fates run
+
+-- Whatever bytes a responder gives, the device's table with it is such a table.
+abbrev pub RespondersAreBeside : Type 0
+RespondersAreBeside =
+    (f : DescriptorFile) (room : ℕ) (respond : State → Setup → Response) →
+    ((s : State) (q : Setup) (bytes : List ℕ) → respond s q ≡ Gives bytes → AreBytes bytes) →
+    IsBeside (answer f) (beside room (answer f) respond)
+
+-- Of the fates of a list, those that were used lose no more, and are no more often busy.
+abbrev pub UsesFates : Type 0
+UsesFates = (fates : List Fate) (n : ℕ) → (losses (fates_used fates n) ≤ losses fates) × (busies (fates_used fates n) ≤ busies fates)

@@ -1,13 +1,13 @@
 -- The log of a run: the lines of its steps, and of no others.
 use Rattle.std.specs.Prelude.{◌≡◌, ℕ, ◌-◌, List, [], ◌∷◌, ◌++◌, Option, Some, codes, if◌then◌else◌}
 use Rattle.std.specs.Io.KnownBytes.{Appends, Keeps}
-use Rattle.usb_fields.specs.declared.speed.Speed.{Speed}
+use Rattle.usb_fields.specs.declared.packet.Speed.{Speed}
 use Rattle.usb_file_data.specs.declared.file.DescriptorFile.{DescriptorFile}
 use Rattle.usb_text.specs.declared.output.OutFault.{OutFault}
 use Rattle.usb_text.specs.declared.output.OutFault.TheVariants as outs
 use Rattle.usb_text.specs.Output.{AppendsLess, Held}
-use Rattle.usb_text.specs.Columns.{column}
-use Rattle.usb_fields.specs.Packet.{Reply}
+use Rattle.usb_text.specs.Lines.{column}
+use Rattle.usb_fields.specs.Packets.{Reply}
 use Rattle.usb_host.specs.declared.why.Why.{Why}
 use Rattle.usb_host.specs.Limits.{LimitView}
 use Rattle.usb_host.specs.Transfer.{TransferView, due, is_untried, taken}
@@ -15,9 +15,8 @@ use Rattle.usb_bus.specs.declared.fate.Fate.{Fate}
 use Rattle.usb_bus.specs.Run.{fate_at}
 use Rattle.usb_host.specs.declared.step.Step.{Step}
 use Rattle.usb_host.specs.Steps.{HostPhase, Wanted, WantsNothing, WantsReset, WantsSent, outcome_of, step_in, transfer_in, wanted}
-use Rattle.usb_bus.specs.declared.run.Run.{Run}
-use Rattle.usb_bus.specs.EnumerationRun.{Pair, Runs, new_pair}
-use Rattle.usb_bus.specs.Stepping.{Moves}
+use Rattle.usb_bus.specs.declared.enumeration.Run.{Run}
+use Rattle.usb_bus.specs.Enumerate.{Pair, Runs, new_pair, Moves}
 use Rattle.usb_bus.specs.Bus.{brought}
 use Rattle.usb_bus.specs.Exchanges.{answered_in, cause_of, trouble_why}
 use Rattle.usb_bus.specs.Lines.{data_words, device_part, device_words, given_up_part, host_words, packets_part, reset_line, transfer_line}

@@ -1,6 +1,6 @@
 -- Runs: transactions one after another, each with the next fate.
 use Rattle.std.specs.Prelude.{◌≡◌, ℕ, zero, suc, List, [], ◌∷◌, Option, Some, None, slice_get, unwrap_or}
-use Rattle.usb_fields.specs.Packet.{Sent}
+use Rattle.usb_fields.specs.Packets.{Sent}
 use Rattle.usb_fields.specs.declared.setup.Setup.{Setup as SetupPacket}
 use Rattle.usb_host.specs.Transfer.{due}
 use Rattle.usb_device.specs.declared.state.State.{State}

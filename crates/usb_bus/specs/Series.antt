@@ -9,7 +9,7 @@ use Rattle.usb_device.specs.declared.state.State.{State}
 use Rattle.usb_device.specs.Requests.{Outcome}
 use Rattle.usb_device.specs.Step.{new_device}
 use Rattle.usb_bus.specs.declared.fate.Fate.{Fate}
-use Rattle.usb_bus.specs.Fates.{losses, busies}
+use Rattle.usb_bus.specs.Bus.{losses, busies}
 use Rattle.usb_bus.specs.Attempt.{Phase, Broken, Attempt, proceed, attempt_step, attempt_run}
 use Rattle.usb_bus.specs.Together.{StaysTogether}
 

@@ -4,10 +4,9 @@ use Rattle.std.specs.Prelude.{◌≡◌, ℕ, suc, ◌+◌, ◌-◌, ◌<◌, �
 use Rattle.usb_fields.specs.declared.packet.Toggle.{Toggle}
 use Rattle.usb_fields.specs.declared.packet.Toggle.TheVariants.{Data1}
 use Rattle.usb_fields.specs.declared.setup.Setup.{Setup as SetupPacket}
-use Rattle.usb_fields.specs.Packet.{Sent, NoReply}
-use Rattle.usb_fields.specs.Packets.{packets, joined, toggle_of}
-use Rattle.usb_host.specs.declared.stage.TransferStage.{TransferStage}
-use Rattle.usb_host.specs.declared.stage.TransferStage.TheVariants.{Setup, DataIn, DataOut, StatusOut, StatusIn, Completed, Failed}
+use Rattle.usb_fields.specs.Packets.{Sent, NoReply, packets, joined, toggle_of}
+use Rattle.usb_host.specs.declared.transfer.TransferStage.{TransferStage}
+use Rattle.usb_host.specs.declared.transfer.TransferStage.TheVariants.{Setup, DataIn, DataOut, StatusOut, StatusIn, Completed, Failed}
 use Rattle.usb_host.specs.declared.reply.Reply.{Reply}
 use Rattle.usb_host.specs.declared.reply.Reply.TheVariants as replied
 use Rattle.usb_host.specs.Plan.{Plan, Begin}
@@ -16,10 +15,8 @@ use Rattle.usb_device.specs.Requests.{Outcome, Bytes, Done, Refused}
 use Rattle.usb_device.specs.Step.{DeviceView, DeviceStage, is_set_address}
 use Rattle.usb_device.specs.Step as device
 use Rattle.usb_bus.specs.declared.fate.Fate.{Fate}
-use Rattle.usb_bus.specs.Fates.{losses, busies, acks_lost}
-use Rattle.usb_bus.specs.Bus.{HostEnd, carried}
-use Rattle.usb_bus.specs.Attempt.{Attempt, Running, attempt_run}
-use Rattle.usb_bus.specs.Ending.{TransferEnds}
+use Rattle.usb_bus.specs.Bus.{losses, busies, acks_lost, HostEnd, carried}
+use Rattle.usb_bus.specs.Attempt.{Attempt, Running, attempt_run, TransferEnds}
 use Rattle.usb_bus.specs.Run.{due_in}
 
 -- The device's table and packet size, its state when the transfer began, the request, and the host's packet size and

@@ -1,21 +1,32 @@
-//! Requests one after another.
+//! A talk between a host and a device: requests one after another.
 ghost use Rattle.std.specs.Prelude.{◌≡◌, ◌↔◌, ◌<◌, ◌≤◌, ◌++◌, ◌∷◌, [], List, IfOk, IfSome, None, OnOk, length};
-ghost use Rattle.usb_bus.specs.Fates.{losses, busies, acks_lost};
-ghost use Rattle.usb_bus.specs.Talk.{followed};
+ghost use Rattle.usb_bus.specs.Bus.{losses, busies, acks_lost};
+ghost use Rattle.usb_bus.specs.Converse.{followed, IsTalkRun, HasFirstReplies, HasLastState};
 ghost use Rattle.usb_bus.specs.Run.{fates_used};
-ghost use Rattle.usb_bus.specs.Ending.{IsCause};
-ghost use Rattle.usb_bus.specs.Converse.{IsTalkRun, HasFirstReplies, HasLastState};
+ghost use Rattle.usb_bus.specs.Attempt.{IsCause};
 ghost use Rattle.usb_bus.specs.inside.Running.{settled};
 
 use crate::exchange::{Ended, transfer_over};
 use crate::fate::Fate;
-use crate::talk::Talk;
 use std::alloc::Global;
 use std::marker::Model;
-use usb_device::{Description, Device, is_set_address};
+use usb_device::{Description, Device, State, is_set_address};
 use usb_fields::{Sequence, Setup};
 use usb_file_data::NoMemory;
 use usb_host::{Reply, Transfer, Why};
+
+/// What came of a talk.
+#[derive(Clone, Debug, Drop, PartialEq, Eq, Hash)]
+pub struct Talk {
+    /// What each transfer that completed brought, in the order of the requests.
+    pub replies: Sequence<Reply>,
+    /// Why a transfer failed. The talk stopped there, with no reply for it.
+    pub stopped: Option<Why>,
+    /// How many transactions there were.
+    pub transactions: u128,
+    /// The state that the device is in then.
+    pub state: State,
+}
 
 /// What a transfer brings to the talk, or why the talk stops.
 fn settle(request: Setup, ended: Ended) -> Result<Reply, Why>
@@ -77,7 +88,7 @@ impl<'d> Model for Conversation<'d> {
 
     ghost Value = { TalkView };
 
-    ghost use Rattle.usb_bus.specs.inside.Conversations.{view_of, IsConversation};
+    ghost use Rattle.usb_bus.specs.inside.Running.{view_of, IsConversation};
 
     ghost view = { view_of };
 

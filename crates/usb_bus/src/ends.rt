@@ -1,7 +1,7 @@
 //! What the two ends have after a transaction.
 ghost use Rattle.std.specs.Prelude.{◌≡◌, ◌++◌, codes, OnOk};
-ghost use Rattle.usb_fields.specs.Packet.{reply_of};
-ghost use Rattle.usb_text.specs.Columns.{column};
+ghost use Rattle.usb_fields.specs.Packets.{reply_of};
+ghost use Rattle.usb_text.specs.Lines.{column};
 ghost use Rattle.usb_host.specs.Heard.{heard_of};
 ghost use Rattle.usb_host.specs.Steps.{outcome_of, wanted};
 ghost use Rattle.usb_bus.specs.Exchanges.{given_up, trouble_why};

@@ -1,20 +1,31 @@
 //! An enumeration, from a new host and a new device to its outcome.
 ghost use Rattle.std.specs.Prelude.{◌≡◌, ◌≢◌, ◌<◌, ◌+◌, ◌^◌, IfSome, IsNone};
-ghost use Rattle.usb_fields.specs.Packet.{Sent};
+ghost use Rattle.usb_fields.specs.Packets.{Sent};
 ghost use Rattle.usb_bus.specs.Run.{fate_at};
 ghost use Rattle.usb_host.specs.Cost.{left_to_ask};
 ghost use Rattle.usb_host.specs.Steps.{WantsSent, wanted};
-ghost use Rattle.usb_bus.specs.Enumerate.{EndsWell, IsEnumeration};
-ghost use Rattle.usb_bus.specs.Stepping.{IsStep, NoneIsLeft, answered, both};
+ghost use Rattle.usb_bus.specs.Enumerate.{EndsWell, IsEnumeration, IsStep, NoneIsLeft, answered, both};
 
 use crate::fate::Fate;
 use crate::host_exchange::exchange;
-use crate::observer::{Nobody, Observer};
-use crate::run::Run;
-use crate::steps::run_with;
+use crate::steps::{Nobody, Observer, run_with};
 use std::alloc::Global;
-use usb_device::{Description, Device};
-use usb_host::{Action, Host, Limits};
+use usb_device::{Description, Device, State};
+use usb_file_data::DescriptorFile;
+use usb_host::{Action, Host, Limits, Trouble};
+
+/// What came of an enumeration.
+#[derive(Clone, Debug, Drop, PartialEq, Eq, Hash)]
+pub struct Run {
+    /// The file that was read, or why there is none.
+    pub outcome: Result<DescriptorFile, Trouble>,
+    /// How many attempts were begun, each by a bus reset.
+    pub attempts: u8,
+    /// How many transactions there were, in all attempts.
+    pub transactions: u64,
+    /// The state that the device is in then.
+    pub state: State,
+}
 
 /// One step of an enumeration: what the host wants next, done at both ends. That is a bus reset, which has no fate, or
 /// the transaction after so many, under its fate. Answers how many transactions there were then, or `None` where the

@@ -1,9 +1,8 @@
 //! One transaction, and one transfer, between two ends.
 ghost use Rattle.std.specs.Prelude.{◌≡◌, ◌<◌, ◌≤◌, ◌+◌, ◌^◌, [], OnOk, IfOk, IsSome, None, Some};
-ghost use Rattle.usb_fields.specs.Packet.{reply_of, sent_of};
-ghost use Rattle.usb_host.specs.Transfer.{taken, due};
-ghost use Rattle.usb_host.specs.Bound.{left};
-ghost use Rattle.usb_host.specs.declared.stage.TransferStage.TheVariants.{Setup};
+ghost use Rattle.usb_fields.specs.Packets.{reply_of, sent_of};
+ghost use Rattle.usb_host.specs.Transfer.{taken, due, left};
+ghost use Rattle.usb_host.specs.declared.transfer.TransferStage.TheVariants.{Setup};
 ghost use Rattle.usb_device.specs.Requests.{answer};
 ghost use Rattle.usb_bus.specs.Bus.{HostEnd, Ends, exchanged, with_heard};
 ghost use Rattle.usb_bus.specs.inside.Running.{failure_of, LeadsTo};

@@ -1,6 +1,6 @@
 //! What happens to one transaction.
 ghost use Rattle.std.specs.Prelude.{◌≡◌};
-ghost use Rattle.usb_fields.specs.Packet.{reply_of};
+ghost use Rattle.usb_fields.specs.Packets.{reply_of};
 
 use usb_fields::Answer;
 

@@ -1,14 +1,14 @@
 //! One transaction between a host that enumerates and a device.
 ghost use Rattle.std.specs.Prelude.{◌≡◌, ◌<◌};
-ghost use Rattle.usb_fields.specs.Packet.{Sent, sent_of};
+ghost use Rattle.usb_fields.specs.Packets.{Sent, sent_of};
 ghost use Rattle.usb_device.specs.Requests.{answer};
 ghost use Rattle.usb_bus.specs.Bus.{carried};
 ghost use Rattle.usb_host.specs.Cost.{left_to_ask};
 ghost use Rattle.usb_host.specs.Steps.{Takes, WantsSent, wanted};
-ghost use Rattle.usb_bus.specs.Stepping.{answered};
+ghost use Rattle.usb_bus.specs.Enumerate.{answered};
 
 use crate::fate::Fate;
-use crate::observer::Observer;
+use crate::steps::Observer;
 use usb_device::Device;
 use usb_fields::{Answer, Transaction};
 use usb_host::Host;

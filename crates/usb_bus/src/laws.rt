@@ -4,9 +4,8 @@
 //! The functions of these laws do nothing: their contracts are the laws.
 ghost use Rattle.usb_device.specs.Requests.{answer};
 ghost use Rattle.usb_file_data.specs.declared.file.DescriptorFile.{DescriptorFile};
-ghost use Rattle.usb_bus.specs.Answering.{IsTable};
-ghost use Rattle.usb_bus.specs.EnumerationLaws.{EnumerationsEndWell, OwnersChangeNothing, RespondersAreBeside, UsesFates};
-ghost use Rattle.usb_bus.specs.Laws.{AttemptsHaveCauses, AttemptsStayTogether, ResetsBringTogether, RespondersAreOneDevice, RespondersKeepTables, TalksAreDetermined, TalksHaveCauses, TransfersHaveCauses, TransfersReadOneAnswer, TransfersStayTogether};
+ghost use Rattle.usb_bus.specs.Beside.{IsTable};
+ghost use Rattle.usb_bus.specs.Laws.{EnumerationsEndWell, OwnersChangeNothing, RespondersAreBeside, UsesFates, AttemptsHaveCauses, AttemptsStayTogether, ResetsBringTogether, RespondersAreOneDevice, RespondersKeepTables, TalksAreDetermined, TalksHaveCauses, TransfersHaveCauses, TransfersReadOneAnswer, TransfersStayTogether};
 
 use crate::lemmas::a_run_ends_well;
 

@@ -26,9 +26,9 @@
 //! what the device has answered. [`enumerate_logged`] writes a log of the run on the way: what passes over the bus and
 //! what each end makes of it, a line for each bus reset, each transfer and each transaction.
 //!
-//! A run of both ends is defined in `specs/EnumerationRun.antt`, a step in `specs/Stepping.antt`, and [`laws`] says what
+//! A run of both ends is defined in `specs/Enumerate.antt`, a step in `specs/Enumerate.antt`, and [`laws`] says what
 //! holds of every such run. Which lines a log has is `specs/Log.antt`, and what a line says `specs/Lines.antt`, with the
-//! words for requests in `specs/Requests.antt`.
+//! words for requests in `specs/Lines.antt`.
 #![tactic(auto)]
 
 mod conversation;
@@ -40,20 +40,14 @@ mod host_exchange;
 pub mod laws;
 mod lemmas;
 mod log;
-mod observer;
 mod packets;
-mod request;
-mod run;
 mod step_lines;
 mod steps;
-mod talk;
 
-pub use conversation::{Conversation, converse};
-pub use enumeration::{enumerate, step, step_seen};
+pub use conversation::{Conversation, Talk, converse};
+pub use enumeration::{Run, enumerate, step, step_seen};
 pub use fate::Fate;
 pub use log::enumerate_logged;
-pub use observer::Observer;
-pub use run::Run;
-pub use talk::Talk;
+pub use steps::Observer;
 pub use usb_file_data::NoMemory;
 pub use usb_host::Reply;

@@ -1,17 +1,15 @@
 //! An enumeration that is logged.
 ghost use Rattle.std.specs.Prelude.{◌≡◌, [], IfErr, IfOk, OnOk};
-ghost use Rattle.usb_fields.specs.Packet.{reply_of};
+ghost use Rattle.usb_fields.specs.Packets.{reply_of};
 ghost use Rattle.usb_bus.specs.Enumerate.{EndsWell};
 ghost use Rattle.usb_bus.specs.Log.{WritesLog, WritesLogLess};
 ghost use Rattle.usb_bus.specs.inside.Seeing.{HasSeen, done_lines};
 
 use crate::ends::put_data;
-use crate::enumeration::step_seen;
+use crate::enumeration::{Run, step_seen};
 use crate::fate::Fate;
-use crate::observer::Observer;
-use crate::run::Run;
 use crate::step_lines::{Before, Turn, put_answered, put_done, put_reset};
-use crate::steps::{Steps, run_with};
+use crate::steps::{Observer, Steps, run_with};
 use std::alloc::{AllocError, Global};
 use std::io::Write;
 use usb_device::{Description, Device};

@@ -1,17 +1,41 @@
-//! The loop of an enumeration, from a new host and a new device to the end.
+//! The loop of an enumeration, and who sees what a device answers on the way.
 ghost use Rattle.std.specs.Prelude.{IfErr, IfOk};
 ghost use Rattle.usb_bus.specs.Enumerate.{EndsWell};
-ghost use Rattle.usb_bus.specs.inside.Walking.{Breaks, Walks};
+ghost use Rattle.usb_bus.specs.inside.Running.{Breaks, Walks};
 
-use crate::enumeration::step;
+use crate::enumeration::{Run, step};
 use crate::fate::Fate;
 use crate::laws::an_enumeration_ends_well;
-use crate::observer::Nobody;
-use crate::run::Run;
 use std::alloc::Global;
 use std::convert::Infallible;
 use usb_device::{Description, Device};
+use usb_fields::Answer;
 use usb_host::{Host, Limits};
+
+/// Sees what passes over the bus in an enumeration.
+pub trait Observer {
+    ghost use Rattle.usb_fields.specs.Packets.{Reply, reply_of};
+    ghost use Rattle.usb_host.specs.Steps.{HostView};
+
+    /// What it was before this answer, which left the host so, and what it is then.
+    ghost sees: { Self → Reply → HostView → Self → Type 0 };
+
+    /// The device has answered this in a transaction, silence where it heard nothing, and the host has taken what the bus
+    /// left of it.
+    fn answered(&mut self, answer: Answer<'_>, host: &Host)
+        ensures { sees self.old (reply_of answer.entry) host.now self.new };
+}
+
+/// An observer that sees nothing.
+#[derive(Clone, Copy, Debug)]
+pub(crate) struct Nobody;
+
+impl Observer for Nobody {
+    ghost sees = { λ _ _ _ _. Unit {0} };
+
+    #[inline(always)]
+    fn answered(&mut self, _answer: Answer<'_>, _host: &Host) {}
+}
 
 /// Makes the steps of an enumeration, and does something to a `W` at each.
 pub(crate) trait Steps<W> {
@@ -19,8 +43,7 @@ pub(crate) trait Steps<W> {
     ghost use Rattle.usb_file_data.specs.declared.file.DescriptorFile.{DescriptorFile};
     ghost use Rattle.usb_bus.specs.declared.fate.Fate.{Fate};
     ghost use Rattle.usb_host.specs.Cost.{left_to_ask};
-    ghost use Rattle.usb_bus.specs.EnumerationRun.{Pair};
-    ghost use Rattle.usb_bus.specs.Stepping.{IsStep, Moves, NoneIsLeft, both};
+    ghost use Rattle.usb_bus.specs.Enumerate.{Pair, IsStep, Moves, NoneIsLeft, both};
 
     /// Why a step may end the enumeration.
     type Fault;

@@ -1,10 +1,10 @@
 -- What a host wants sent has no bytes but those of a SETUP: its numbers are all of it.
 use Rattle.std.proofs.Common.{◌≡◌, ℕ, [], Option, Some, None, refl, sym, subst}
 use Rattle.std.specs.Option.{option_map}
-use Rattle.usb_fields.specs.Packet.{Sent}
+use Rattle.usb_fields.specs.Packets.{Sent}
 use Rattle.usb_fields.specs.declared.setup.Setup.{Setup as SetupPacket}
-use Rattle.usb_host.specs.declared.stage.TransferStage.{TransferStage}
-use Rattle.usb_host.specs.declared.stage.TransferStage.TheVariants as stages
+use Rattle.usb_host.specs.declared.transfer.TransferStage.{TransferStage}
+use Rattle.usb_host.specs.declared.transfer.TransferStage.TheVariants as stages
 use Rattle.usb_host.specs.Transfer.{addressed, token_due}
 use Rattle.usb_host.specs.Steps.{HostPhase, HostView, ResetDue, Reading, Ended, Wanted, WantsNothing, WantsReset, WantsSent, sends, wanted}
 use Rattle.usb_device.specs.declared.transaction.UsbTransaction.{UsbTransaction}

@@ -1,18 +1,18 @@
 -- On how faults are told.
 use Rattle.std.proofs.Common.{◌≡◌, ℕ, List, Option, None, refl, sym, subst}
-use Rattle.usb_fields.specs.declared.speed.Speed.{Speed}
+use Rattle.usb_fields.specs.declared.packet.Speed.{Speed}
 use Rattle.usb_file_data.specs.File.{File}
 use Rattle.usb_file_data.specs.declared.file.DescriptorFile.{DescriptorFile}
-use Rattle.usb_file.specs.declared.fault.FileFault.{FileFault}
-use Rattle.usb_file.specs.declared.fault.FileWhy.{FileWhy}
-use Rattle.usb_file.specs.declared.fault.FileWhy.TheVariants as files
-use Rattle.usb_file.specs.FileFaults.{FileFaulty, ReadRefused}
+use Rattle.usb_file_data.specs.declared.fault.FileFault.{FileFault}
+use Rattle.usb_file_data.specs.declared.fault.FileWhy.{FileWhy}
+use Rattle.usb_file_data.specs.declared.fault.FileWhy.TheVariants as files
+use Rattle.usb_file_data.specs.FileFaults.{FileFaulty, ReadRefused}
 use Rattle.usb_device.specs.Accepted.{Refuses as RefusesDescription}
-use Rattle.usb_device.specs.declared.fault.DescriptionFault.{DescriptionFault}
-use Rattle.usb_device.specs.declared.fault.DescriptionFault.TheVariants as descriptions
+use Rattle.usb_device.specs.declared.acceptance.DescriptionFault.{DescriptionFault}
+use Rattle.usb_device.specs.declared.acceptance.DescriptionFault.TheVariants as descriptions
 use Rattle.usb_device.specs.View.{View}
 use Rattle.usb_c.specs.Devices.{OpensAt}
-use Rattle.usb_c.specs.Refusals.{file_by, refused_description, refused_file}
+use Rattle.usb_c.specs.Answers.{file_by, refused_description, refused_file}
 
 module _ (b : List ℕ) (speed : Speed) (new : Option View) (none : new ≡ None) where
   file_opens : (e : FileFault) (why : FileWhy) → e.why ≡ why → ReadRefused b e.at why → OpensAt b speed new (file_by why e)

@@ -3,29 +3,29 @@ use Rattle.std.proofs.Common.{◌≡◌, ℕ, ◌⊎◌, Bool, true, false, List
 use Rattle.usb_set.specs.declared.fault.SetFault.{SetFault}
 use Rattle.usb_set.specs.declared.fault.SetWhy.{SetWhy}
 use Rattle.usb_set.specs.declared.fault.SetWhy.TheVariants as sets
-use Rattle.usb_set.specs.Feeding.{WantsMemory}
-use Rattle.usb_fields.specs.declared.speed.Speed.{Speed}
+use Rattle.usb_set.specs.Decoding.{WantsMemory}
+use Rattle.usb_fields.specs.declared.packet.Speed.{Speed}
 use Rattle.usb_file_data.specs.File.{File}
 use Rattle.usb_file_data.specs.declared.file.DescriptorFile.{DescriptorFile}
-use Rattle.usb_file.specs.declared.fault.FileFault.{FileFault}
-use Rattle.usb_file.specs.declared.fault.FileWhy.{FileWhy}
-use Rattle.usb_file.specs.declared.fault.FileWhy.TheVariants as files
-use Rattle.usb_file.specs.declared.input_fault.InputFault.{InputFault}
-use Rattle.usb_file.specs.declared.input_fault.InputFault.TheVariants as inputs
-use Rattle.usb_file.specs.FileFaults.{FileFaulty, ReadRefused}
-use Rattle.usb_file.specs.Inputs.{DeviceRefused, HasFault, InputFaulty, InputRefused, is_one_set}
+use Rattle.usb_file_data.specs.declared.fault.FileFault.{FileFault}
+use Rattle.usb_file_data.specs.declared.fault.FileWhy.{FileWhy}
+use Rattle.usb_file_data.specs.declared.fault.FileWhy.TheVariants as files
+use Rattle.usb_file_data.specs.declared.fault.InputFault.{InputFault}
+use Rattle.usb_file_data.specs.declared.fault.InputFault.TheVariants as inputs
+use Rattle.usb_file_data.specs.FileFaults.{FileFaulty, ReadRefused}
+use Rattle.usb_file_data.specs.Inputs.{DeviceRefused, HasFault, InputFaulty, InputRefused, is_one_set}
 use Rattle.usb_listing.specs.declared.fault.ListFault.{ListFault}
 use Rattle.usb_listing.specs.declared.fault.ListWhy.{ListWhy}
 use Rattle.usb_listing.specs.declared.fault.ListWhy.TheVariants as lists
-use Rattle.usb_listing.specs.CommentedListings.{CommentedFaulty}
+use Rattle.usb_listing.specs.Comments.{CommentedFaulty}
 use Rattle.usb_listing.specs.Listings.{ListFaulty}
 use Rattle.usb_device.specs.Accepted.{Refuses as RefusesDescription}
-use Rattle.usb_device.specs.declared.fault.DescriptionFault.{DescriptionFault}
-use Rattle.usb_device.specs.declared.fault.DescriptionFault.TheVariants as descriptions
+use Rattle.usb_device.specs.declared.acceptance.DescriptionFault.{DescriptionFault}
+use Rattle.usb_device.specs.declared.acceptance.DescriptionFault.TheVariants as descriptions
 use Rattle.usb_explain.specs.declared.manner.Manner.{Manner}
 use Rattle.usb_c.specs.declared.answer.Verdict.{Verdict}
 use Rattle.usb_c.specs.Enumerations.{RefusesRun}
-use Rattle.usb_c.specs.Refusals.{file_by, file_wants, list_by, refused_description, refused_file, refused_input, refused_list, set_by, set_wants, wants_memory}
+use Rattle.usb_c.specs.Answers.{file_by, file_wants, list_by, refused_description, refused_file, refused_input, refused_list, set_by, set_wants, wants_memory}
 use Rattle.usb_c.specs.Texts.{Explains, ExplainsFault, Refuses, RefusesList}
 use Rattle.usb_c.specs.inside.Taking.{BuildRefused}
 

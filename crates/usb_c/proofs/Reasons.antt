@@ -1,8 +1,8 @@
 -- A file that is not written though memory was there has a reason.
 use Rattle.std.proofs.Common.{◌≡◌, ◌≢◌, Some, refl}
 use Rattle.usb_file_data.specs.File.{WriteRefused, write_refusal}
-use Rattle.usb_file_data.specs.declared.fault.WriteFault.{WriteFault}
-use Rattle.usb_file_data.specs.declared.fault.WriteFault.TheVariants as writes
+use Rattle.usb_file_data.specs.declared.refusal.WriteFault.{WriteFault}
+use Rattle.usb_file_data.specs.declared.refusal.WriteFault.TheVariants as writes
 use Rattle.usb_file_data.specs.declared.file.DescriptorFile.{DescriptorFile}
 
 pub written_reason : (f : DescriptorFile) (why : WriteFault) → WriteRefused f why → why ≢ writes.Memory → write_refusal f ≡ Some why

@@ -2,19 +2,17 @@
 use Rattle.std.proofs.Common.{◌≡◌, ℕ, ◌⊎◌, Bool, true, false, List, length, ap, refl, sym, subst, inl, inr}
 use Rattle.usb_set.specs.declared.fault.SetFault.{SetFault}
 use Rattle.usb_file_data.specs.declared.file.DescriptorFile.{DescriptorFile}
-use Rattle.usb_file_data.specs.declared.input.Input.{Input}
-use Rattle.usb_file_data.specs.declared.input.Input.TheVariants as inputs
-use Rattle.usb_file.specs.Dumps.{Dump}
-use Rattle.usb_file.specs.FileFaults.{FileFaulty, ReadRefused}
-use Rattle.usb_file.specs.Inputs.{DeviceRefused, InputRefused, is_one_set}
-use Rattle.usb_file.specs.declared.fault.FileFault.{FileFault}
-use Rattle.usb_file.specs.declared.fault.FileWhy.{FileWhy}
-use Rattle.usb_file.specs.declared.fault.FileWhy.TheVariants as files
-use Rattle.usb_file.specs.declared.input_fault.InputFault.{InputFault}
-use Rattle.usb_file.specs.declared.input_fault.InputFault.TheVariants as faults
-use Rattle.usb_c.specs.Refusals.{file_by, refused_file, refused_input}
-use Rattle.usb_c.specs.Taken.{CheckFaulty, IsShown, ShowFaulty}
-use Rattle.usb_c.specs.Texts.{Refuses}
+use Rattle.usb_file_data.specs.declared.file.Input.{Input}
+use Rattle.usb_file_data.specs.declared.file.Input.TheVariants as inputs
+use Rattle.usb_file_data.specs.Inputs.{Dump, DeviceRefused, InputRefused, is_one_set}
+use Rattle.usb_file_data.specs.FileFaults.{FileFaulty, ReadRefused}
+use Rattle.usb_file_data.specs.declared.fault.FileFault.{FileFault}
+use Rattle.usb_file_data.specs.declared.fault.FileWhy.{FileWhy}
+use Rattle.usb_file_data.specs.declared.fault.FileWhy.TheVariants as files
+use Rattle.usb_file_data.specs.declared.fault.InputFault.{InputFault}
+use Rattle.usb_file_data.specs.declared.fault.InputFault.TheVariants as faults
+use Rattle.usb_c.specs.Answers.{file_by, refused_file, refused_input}
+use Rattle.usb_c.specs.Texts.{CheckFaulty, IsShown, ShowFaulty, Refuses}
 use Rattle.usb_c.specs.inside.Taking.{CheckRefused, ShowRefused}
 use Rattle.usb_c.proofs.InputFaults.{input_refuses, set_refuses}
 

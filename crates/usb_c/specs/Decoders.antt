@@ -4,13 +4,11 @@ use Rattle.usb_set.specs.declared.tree.Configuration.{Configuration}
 use Rattle.usb_set.specs.declared.fault.SetFault.{SetFault}
 use Rattle.usb_set.specs.declared.decoder.Progress.{Progress}
 use Rattle.usb_set.specs.declared.decoder.Progress.TheVariants.{More, Done}
-use Rattle.usb_set.specs.Decoding.{Decoding, gathers}
-use Rattle.usb_set.specs.Feeding.{Answers, Finishes}
-use Rattle.usb_listing.specs.SetListing.{set_lines}
+use Rattle.usb_set.specs.Decoding.{Decoding, gathers, Answers, Finishes}
+use Rattle.usb_listing.specs.Listing.{set_lines}
 use Rattle.usb_c.specs.declared.answer.Verdict.{Verdict}
 use Rattle.usb_c.specs.declared.answer.Verdict.TheVariants as verdicts
-use Rattle.usb_c.specs.Buffers.{Fills}
-use Rattle.usb_c.specs.Refusals.{refused_set}
+use Rattle.usb_c.specs.Answers.{Fills, refused_set}
 
 -- a new decoder is held, or none when out of memory
 abbrev pub OpensNew : Option Decoding → Verdict → Type 0

@@ -1,26 +1,25 @@
 -- What calls do to a device that C holds, or to none.
 use Rattle.std.specs.Prelude.{◌≡◌, ℕ, Bool, true, false, List, Option, Some, None}
-use Rattle.usb_fields.specs.Packet.{Sent}
+use Rattle.usb_fields.specs.Packets.{Sent}
 use Rattle.usb_fields.specs.Setup.{setup_bytes}
 use Rattle.usb_fields.specs.declared.setup.Setup.{Setup}
-use Rattle.usb_fields.specs.declared.speed.Speed.{Speed}
+use Rattle.usb_fields.specs.declared.packet.Speed.{Speed}
 use Rattle.usb_file_data.specs.File.{File}
 use Rattle.usb_file_data.specs.declared.file.DescriptorFile.{DescriptorFile}
-use Rattle.usb_file.specs.declared.input_fault.InputFault.TheVariants as inputs
-use Rattle.usb_file.specs.FileFaults.{FileFaulty}
+use Rattle.usb_file_data.specs.declared.fault.InputFault.TheVariants as inputs
+use Rattle.usb_file_data.specs.FileFaults.{FileFaulty}
 use Rattle.usb_device.specs.Accepted.{Accepted}
 use Rattle.usb_device.specs.Beside.{Response, answered, refused_in, room_size, unanswered}
 use Rattle.usb_device.specs.Step.{new_device}
-use Rattle.usb_device.specs.View.{View, served_by}
+use Rattle.usb_device.specs.View.{View, served_by, after}
 use Rattle.usb_device.specs.declared.state.State.{State}
-use Rattle.usb_device.specs.declared.unanswered.Unanswered.{Unanswered}
+use Rattle.usb_device.specs.declared.beside.Unanswered.{Unanswered}
 use Rattle.usb_c.specs.declared.answer.Verdict.{Verdict}
 use Rattle.usb_c.specs.declared.answer.Verdict.TheVariants as verdicts
 use Rattle.usb_c.specs.declared.device.UsbState.{UsbState}
 use Rattle.usb_c.specs.declared.device.UsbSetup.{UsbSetup}
 use Rattle.usb_device.specs.declared.transaction.UsbPacket.{UsbPacket}
-use Rattle.usb_device.specs.Ends.{after}
-use Rattle.usb_c.specs.Refusals.{RefusesFile}
+use Rattle.usb_c.specs.Answers.{RefusesFile}
 use Rattle.usb_device.specs.Transactions.{packet_of}
 
 -- a new device of the file that these bytes are is held

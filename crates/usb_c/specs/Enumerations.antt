@@ -3,25 +3,24 @@ use Rattle.std.specs.Prelude.{◌≡◌, ℕ, ◌⊎◌, ◌==◌, ◌||◌, Boo
 use Rattle.std.specs.List.{list_all}
 use Rattle.usb_bus.specs.declared.fate.Fate.{Fate}
 use Rattle.usb_bus.specs.declared.fate.Fate.TheVariants as fates
-use Rattle.usb_fields.specs.declared.speed.Speed.{Speed}
+use Rattle.usb_fields.specs.declared.packet.Speed.{Speed}
 use Rattle.usb_file_data.specs.File.{File}
 use Rattle.usb_file_data.specs.declared.file.DescriptorFile.{DescriptorFile}
-use Rattle.usb_file.specs.declared.input_fault.InputFault.TheVariants as inputs
-use Rattle.usb_file.specs.FileFaults.{FileFaulty}
+use Rattle.usb_file_data.specs.declared.fault.InputFault.TheVariants as inputs
+use Rattle.usb_file_data.specs.FileFaults.{FileFaulty}
 use Rattle.usb_listing.specs.Listing.{file_lines}
 use Rattle.usb_device.specs.Accepted.{Accepted}
 use Rattle.usb_host.specs.Limits.{LimitView, limit_fault, limit_fault_number}
 use Rattle.usb_host.specs.declared.limits.LimitFault.{LimitFault}
 use Rattle.usb_host.specs.declared.step.Trouble.{Trouble}
 use Rattle.usb_bus.specs.Enumerate.{IsEnumeration}
-use Rattle.usb_bus.specs.declared.run.Run.{Run}
+use Rattle.usb_bus.specs.declared.enumeration.Run.{Run}
 use Rattle.usb_c.specs.declared.answer.Verdict.{Verdict}
 use Rattle.usb_c.specs.declared.answer.Verdict.TheVariants as verdicts
 use Rattle.usb_c.specs.declared.enumeration.UsbOutcome.{UsbOutcome}
 use Rattle.usb_c.specs.declared.outcome.StepNumbers.{StepNumbers}
-use Rattle.usb_c.specs.Buffers.{Fills}
-use Rattle.usb_c.specs.Refusals.{RefusesFile}
-use Rattle.usb_c.specs.Outcomes.{numbered, step_numbers}
+use Rattle.usb_c.specs.Answers.{Fills, RefusesFile}
+use Rattle.usb_c.specs.Hosts.{numbered, step_numbers}
 
 -- whether a byte is the letter of a fate: '.' 46, 'n' 110, 'd' 100, 'u' 117, 'a' 97
 abbrev pub is_fate : ℕ → Bool

@@ -1,11 +1,7 @@
 pub mod Answers
-pub mod Buffers
 pub mod Decoders
 pub mod Devices
 pub mod Enumerations
 pub mod Hosts
-pub mod Outcomes
-pub mod Refusals
-pub mod Taken
 pub mod Texts
 pub mod inside

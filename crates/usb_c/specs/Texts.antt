@@ -1,26 +1,63 @@
 -- What the calls do that put a text into a buffer.
-use Rattle.std.specs.Prelude.{◌≡◌, ℕ, ◌/◌, ◌%◌, ◌⊎◌, ◌==◌, Bool, false, List, Option, Some, None, if◌then◌else◌}
+use Rattle.std.specs.Prelude.{◌≡◌, ℕ, List, Bool, true, false, ◌/◌, ◌%◌, ◌⊎◌, ◌==◌, Option, Some, None, if◌then◌else◌}
+use Rattle.usb_file_data.specs.File.{File}
+use Rattle.usb_file_data.specs.declared.file.Input.{Input}
+use Rattle.usb_file_data.specs.declared.file.Input.TheVariants as inputs
+use Rattle.usb_file_data.specs.FileFaults.{FileFaulty}
+use Rattle.usb_file_data.specs.Inputs.{InputFaulty, IsInput, is_one_set}
+use Rattle.usb_file_data.specs.declared.fault.InputFault.{InputFault}
+use Rattle.usb_file_data.specs.declared.fault.InputFault.TheVariants as faults
+use Rattle.usb_listing.specs.Comments.{CommentedFaulty, uncommented}
+use Rattle.usb_listing.specs.Listings.{ListFaulty, Lists}
+use Rattle.usb_listing.specs.declared.fault.ListWhy.{ListWhy}
 use Rattle.usb_explain.specs.Explanations.{broken_explanation, explanation}
 use Rattle.usb_explain.specs.declared.manner.Manner.{Manner}
 use Rattle.usb_explain.specs.declared.speed.SetSpeed.{SetSpeed}
 use Rattle.usb_explain.specs.declared.speed.SetSpeed.TheVariants as speeds
-use Rattle.usb_file_data.specs.File.{File}
 use Rattle.usb_file_data.specs.declared.file.DescriptorFile.{DescriptorFile}
-use Rattle.usb_file.specs.Inputs.{InputFaulty, IsInput}
 use Rattle.usb_file_data.specs.Findings.{input_findings}
-use Rattle.usb_file_data.specs.declared.input.Input.{Input}
-use Rattle.usb_file_data.specs.declared.input.Input.TheVariants as inputs
-use Rattle.usb_file.specs.declared.input_fault.InputFault.{InputFault}
-use Rattle.usb_listing.specs.Listing.{file_lines}
-use Rattle.usb_listing.specs.SetListing.{set_lines}
-use Rattle.usb_listing.specs.Listings.{Lists}
+use Rattle.usb_listing.specs.Listing.{file_lines, set_lines}
 use Rattle.usb_file_data.specs.FindingLine.{check_text}
 use Rattle.usb_c.specs.declared.answer.Verdict.{Verdict}
 use Rattle.usb_c.specs.declared.answer.Verdict.TheVariants as verdicts
-use Rattle.usb_c.specs.Buffers.{Fills}
-use Rattle.usb_c.specs.Outcomes.{PutsFile}
-use Rattle.usb_c.specs.Refusals.{wants_memory}
-use Rattle.usb_c.specs.Taken.{BuildFaulty, CheckFaulty, IsChecked, IsShown, ShowFaulty, kept_text}
+use Rattle.usb_c.specs.Answers.{Fills, wants_memory}
+use Rattle.usb_c.specs.Hosts.{PutsFile}
+
+-- What `show`, `check` and `build` take, and what is wrong with other bytes and texts.
+
+-- `show` takes one set or a file, and with `any` a dump too
+abbrev pub IsShown : Bool → Input → List ℕ → Type 0
+IsShown true input b = IsInput input b
+IsShown false (inputs.Dump file) b = ⊥
+IsShown false input b = IsInput input b
+
+-- and else the bytes show this fault of a set, where they are read as one, or of a file
+abbrev pub ShowFaulty : Bool → List ℕ → InputFault → Type 0
+ShowFaulty true b fault = InputFaulty b fault
+ShowFaulty false b (faults.File fault) = (is_one_set b ≡ false) × FileFaulty b fault.at fault.why
+ShowFaulty false b fault = InputFaulty b fault
+
+-- `check` takes a file, and with `any` one set or a dump too
+abbrev pub IsChecked : Bool → Input → List ℕ → Type 0
+IsChecked true input b = IsInput input b
+IsChecked false (inputs.File file) b = File file b
+IsChecked false input b = ⊥
+
+-- and else the bytes show this fault of a file
+abbrev pub CheckFaulty : Bool → List ℕ → InputFault → Type 0
+CheckFaulty true b fault = InputFaulty b fault
+CheckFaulty false b (faults.File fault) = FileFaulty b fault.at fault.why
+CheckFaulty false b fault = ⊥
+
+-- `build` takes a listing, and with `comments` a text of which one is kept
+abbrev pub kept_text : Bool → List ℕ → List ℕ
+kept_text true text = uncommented text
+kept_text false text = text
+
+-- and else this line is the first at fault, for this reason
+abbrev pub BuildFaulty : Bool → List ℕ → ℕ → ListWhy → Type 0
+BuildFaulty true text line why = CommentedFaulty text line why
+BuildFaulty false text line why = ListFaulty text line why
 
 -- the lines of an input: a dump has those of its device and its sets
 abbrev pub input_lines : Input → List ℕ

@@ -3,9 +3,8 @@ ghost use Rattle.std.specs.Prelude.{◌≡◌, None};
 ghost use Rattle.usb_c.specs.Answers.{AnswersOn};
 ghost use Rattle.usb_c.specs.Decoders.{Feeds, Lists, OpensNew, told};
 
-use crate::answer::{Answer, Verdict};
+use crate::answer::{Answer, Verdict, refused_set};
 use crate::decoder_handle::UsbDecoder;
-use crate::refusal::refused_set;
 use crate::text::fill_set;
 use std::alloc::Global;
 use std::mem::replace;

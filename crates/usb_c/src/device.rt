@@ -3,15 +3,13 @@ ghost use Rattle.std.specs.Prelude.{◌≡◌, None, is_some};
 ghost use Rattle.std.specs.Option.{option_and_then, option_map};
 ghost use Rattle.usb_device.specs.Beside.{carried_out_in, refused_in, room_size, unfit_bytes, unfit_status, Gives, Does};
 ghost use Rattle.usb_device.specs.Step.{new_device};
-ghost use Rattle.usb_device.specs.View.{acked_by};
+ghost use Rattle.usb_device.specs.View.{acked_by, after};
 ghost use Rattle.usb_c.specs.Answers.{AnswersOn, answer_of};
 ghost use Rattle.usb_c.specs.Devices.{Opens, OpensAt, Serves, answer_told, answered_for, setup_told, state_numbers, state_told};
-ghost use Rattle.usb_device.specs.Ends.{after};
 ghost use Rattle.usb_device.specs.Transactions.{sent_told, speed_told};
 
-use crate::answer::{Answer, Verdict};
+use crate::answer::{Answer, Verdict, refused_description, refused_file};
 use crate::device_handle::UsbDevice;
-use crate::refusal::{refused_description, refused_file};
 use std::alloc::Global;
 use std::mem::replace;
 use usb_device::{Description, OwnedDevice, State, UsbPacket, UsbTransaction, sent, speed_of};

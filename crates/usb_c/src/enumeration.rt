@@ -2,15 +2,14 @@
 ghost use Rattle.std.specs.Prelude.{◌≡◌, map, IfOk};
 ghost use Rattle.std.specs.List.{list_all};
 ghost use Rattle.usb_listing.specs.Listing.{file_lines};
-ghost use Rattle.usb_c.specs.Buffers.{Fills};
+ghost use Rattle.usb_c.specs.Answers.{Fills};
 ghost use Rattle.usb_c.specs.Enumerations.{Enumerates, EnumeratesUnder, TellsRun, fate_told, is_fate, outcome_numbers, trouble_numbers};
 ghost use Rattle.usb_device.specs.Transactions.{speed_told};
 ghost use Rattle.usb_c.specs.declared.answer.Verdict.TheVariants as verdicts;
 
-use crate::answer::Verdict;
+use crate::answer::{Verdict, refused_description, refused_file};
 use crate::buffer::fill_done;
 use crate::outcome::{StepNumbers, numbered, step_numbers};
-use crate::refusal::{refused_description, refused_file};
 use std::alloc::{AllocError, Global};
 use usb_bus::{Fate, Run, enumerate};
 use usb_device::{Description, speed_of};

@@ -1,7 +1,7 @@
 //! A host that enumerates, by a handle.
 ghost use Rattle.std.specs.Prelude.{◌≡◌, None, Some, is_some, []};
 ghost use Rattle.std.specs.Option.{option_map};
-ghost use Rattle.usb_fields.specs.Packet.{Sent};
+ghost use Rattle.usb_fields.specs.Packets.{Sent};
 ghost use Rattle.usb_host.specs.Steps.{WantsSent, reset, wanted};
 ghost use Rattle.usb_c.specs.Answers.{AnswersOn};
 ghost use Rattle.usb_c.specs.Hosts.{Ends, Opens, OpensAt, TakesOne, action_number, resets_of, transaction_due};

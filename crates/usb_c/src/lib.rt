@@ -17,14 +17,13 @@ mod device_handle;
 mod enumeration;
 mod host;
 mod host_handle;
-mod input;
 mod loose;
 mod outcome;
-mod refusal;
 mod taken;
 mod text;
 
 pub use answer::Answer;
+pub use buffer::{usb_build, usb_check, usb_enumerate, usb_explain, usb_show};
 pub use decoder::{usb_decoder_close, usb_decoder_feed, usb_decoder_list, usb_decoder_open};
 pub use decoder_handle::UsbDecoder;
 pub use device::{
@@ -39,6 +38,5 @@ pub use host::{
     usb_host_reset_done, usb_host_take,
 };
 pub use host_handle::UsbHost;
-pub use input::{usb_build, usb_check, usb_enumerate, usb_explain, usb_show};
 pub use outcome::UsbTrouble;
 pub use usb_device::{UsbPacket, UsbTransaction};

@@ -1,7 +1,7 @@
 //! The outcome of a host.
 ghost use Rattle.std.specs.Prelude.{◌≡◌};
 ghost use Rattle.usb_host.specs.Steps.{outcome_of};
-ghost use Rattle.usb_c.specs.Outcomes.{EndsWith, TellsFile, numbered, step_numbers, trouble_numbers};
+ghost use Rattle.usb_c.specs.Hosts.{EndsWith, TellsFile, numbered, step_numbers, trouble_numbers};
 
 use crate::answer::Verdict;
 use crate::buffer::fill_done;

@@ -1,12 +1,13 @@
 //! What `show`, `check` and `build` take.
 ghost use Rattle.std.specs.Prelude.{◌≡◌, IfErr, IfOk, false};
 ghost use Rattle.usb_listing.specs.Listings.{Lists};
-ghost use Rattle.usb_c.specs.Taken.{IsChecked, IsShown, kept_text};
+ghost use Rattle.usb_c.specs.Texts.{IsChecked, IsShown, kept_text};
 ghost use Rattle.usb_c.specs.inside.Taking.{BuildRefused, CheckRefused, ShowRefused};
 
 use std::alloc::Global;
 use usb_file::laws::no_dump_is_a_file;
-use usb_file::{DescriptorFile, FileFault, FileWhy, Input, InputFault, read_file, read_input};
+use usb_file::{DescriptorFile, Input, read_file, read_input};
+use usb_file_data::{FileFault, FileWhy, InputFault};
 use usb_listing::{ListFault, assemble, assemble_commented};
 
 /// One set where the second byte is that of one, and else a file; with `any` a dump too.

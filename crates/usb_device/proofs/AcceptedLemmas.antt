@@ -3,8 +3,7 @@ use Rattle.std.proofs.Common.{◌≡◌, ℕ, ◌*◌, ◌<◌, ◌==◌, Bool, 
 use Rattle.std.proofs.lemmas.Bool.Decides.{nat_tests}
 use Rattle.usb_file_data.specs.declared.file.DescriptorFile.{DescriptorFile}
 use Rattle.usb_file_data.specs.declared.file.Strings.{Strings}
-use Rattle.usb_file_data.specs.File.{has_long_string, are_wrong_strings}
-use Rattle.usb_file_data.specs.Named.{named_indices}
+use Rattle.usb_file_data.specs.File.{has_long_string, are_wrong_strings, named_indices}
 use Rattle.usb_file_data.specs.declared.finding.Finding.{Finding}
 use Rattle.usb_file_data.specs.Findings.{findings, descriptors}
 use Rattle.usb_file_data.specs.Rules.{wrong_device}

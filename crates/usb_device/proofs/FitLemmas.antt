@@ -2,14 +2,13 @@
 use Rattle.std.proofs.Common.{ℕ, List, [], ◌∷◌, ◌++◌, map, Option, Some, None}
 use Rattle.std.specs.List.{AllByRecursion, flat_map}
 use Rattle.usb_fields.specs.Bytes.{AreBytes}
-use Rattle.usb_fields.specs.Device.{device_bytes}
-use Rattle.usb_fields.specs.Qualifier.{qualifier_bytes}
+use Rattle.usb_fields.specs.Device.{device_bytes, qualifier_bytes}
 use Rattle.usb_fields.specs.Units.{units_bytes}
 use Rattle.usb_file_data.specs.declared.file.DescriptorFile.{DescriptorFile}
 use Rattle.usb_file_data.specs.declared.file.Other.{Other}
 use Rattle.usb_file_data.specs.declared.file.Strings.{Strings}
 use Rattle.usb_file_data.specs.File.{whole_set, sets_bytes, other_bytes, strings_bytes, file_bytes}
-use Rattle.usb_device.specs.Places.{descriptors, main_descriptors, other_descriptors, string_descriptors}
+use Rattle.usb_device.specs.Descriptors.{descriptors, main_descriptors, other_descriptors, string_descriptors}
 
 both_fit : (a b : List ℕ) → AreBytes a → AreBytes b → AreBytes (a ++ b)
 both_fit [] b p q = q

@@ -1,21 +1,16 @@
 -- Where descriptors are in a description.
-use Rattle.std.proofs.Common.{◌≡◌, ℕ, zero, suc, ◌+◌, ◌<◌, ◌≤◌, List, [], ◌∷◌, ◌++◌, length, map, slice_get, Option, Some, None, refl, arith}
-use Rattle.std.proofs.Common.{inl, inr}
+use Rattle.std.proofs.Common.{◌≡◌, ℕ, zero, suc, ◌+◌, ◌<◌, ◌≤◌, List, [], ◌∷◌, ◌++◌, length, map, slice_get, Option, Some, None, refl, arith, inl, inr, false, ◌==◌}
 use Rattle.std.specs.Option.{option_map}
 use Rattle.std.proofs.lemmas.Option.{slice_get-map, slice_get_within, slice_get_cases, slice_get_past}
-use Rattle.usb_fields.specs.Device.{device_bytes}
-use Rattle.usb_fields.specs.Qualifier.{qualifier_bytes}
+use Rattle.usb_fields.specs.Device.{device_bytes, qualifier_bytes}
 use Rattle.usb_fields.specs.Units.{units_bytes}
 use Rattle.usb_set.specs.declared.tree.Configuration.{Configuration}
 use Rattle.usb_file_data.specs.declared.file.DescriptorFile.{DescriptorFile}
 use Rattle.usb_file_data.specs.declared.file.Other.{Other}
 use Rattle.usb_file_data.specs.declared.file.Strings.{Strings}
-use Rattle.usb_file_data.specs.File.{whole_set}
-use Rattle.std.proofs.Common.{false, ◌==◌}
+use Rattle.usb_file_data.specs.File.{whole_set, string_place}
 use Rattle.std.proofs.lemmas.Grind.{common_steps}
-use Rattle.usb_file_data.specs.StringPlaces.{string_place}
-use Rattle.usb_device.specs.Descriptors.{set_at, device_of, qualifier_of, other_set_at, string_at}
-use Rattle.usb_device.specs.Places.{descriptors, descriptor_at, main_descriptors, other_descriptors, string_descriptors, IsFound}
+use Rattle.usb_device.specs.Descriptors.{set_at, device_of, qualifier_of, other_set_at, string_at, descriptors, descriptor_at, main_descriptors, other_descriptors, string_descriptors, IsFound}
 
 -- an element of a list is one of a longer list
 get_left : {X : Type 0} (xs ys : List X) (i : ℕ) (x : X) → slice_get xs i ≡ Some x → slice_get (xs ++ ys) i ≡ Some x

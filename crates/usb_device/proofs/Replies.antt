@@ -3,10 +3,9 @@ use Rattle.std.proofs.Common.{◌≡◌, ℕ, zero, suc, ◌-◌, ◌≤◌, ◌
 use Rattle.std.proofs.lemmas.Bool.Decides.{nat_tests}
 use Rattle.usb_fields.specs.declared.packet.Toggle.{Toggle}
 use Rattle.usb_fields.specs.declared.packet.Toggle.TheVariants.{Data0, Data1}
-use Rattle.usb_fields.specs.declared.speed.Speed.{Speed}
+use Rattle.usb_fields.specs.declared.packet.Speed.{Speed}
 use Rattle.usb_fields.specs.declared.setup.Setup.{Setup}
-use Rattle.usb_fields.specs.Packet.{Token, SetupToken, InToken, OutToken, Sent, Reply, NoReply}
-use Rattle.usb_fields.specs.Packets.{packets, packets_within}
+use Rattle.usb_fields.specs.Packets.{Token, SetupToken, InToken, OutToken, Sent, Reply, NoReply, packets, packets_within}
 use Rattle.usb_file_data.specs.declared.file.DescriptorFile.{DescriptorFile}
 use Rattle.usb_file_data.specs.declared.finding.Finding.{Finding}
 use Rattle.usb_file_data.specs.Findings.{descriptors, findings}

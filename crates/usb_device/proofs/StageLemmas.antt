@@ -2,9 +2,8 @@
 use Rattle.std.proofs.Common.{◌≡◌, ℕ, zero, suc, ◌+◌, ◌*◌, ◌/◌, ◌<◌, ◌≤◌, ◌⊎◌, List, [], ◌∷◌, length, take, drop, Some, None, slice_get, refl, arith}
 use Rattle.std.proofs.Math.Nat.{mul-div_cancel}
 use Rattle.std.proofs.lemmas.List.{length-take-le}
-use Rattle.usb_fields.specs.Packets.{packets}
+use Rattle.usb_fields.specs.Packets.{packets, flipped}
 use Rattle.usb_fields.proofs.PacketLemmas.{packets-at, packets-past}
-use Rattle.usb_fields.specs.Packet.{flipped}
 use Rattle.usb_file_data.specs.declared.file.DescriptorFile.{DescriptorFile}
 use Rattle.usb_device.specs.declared.stage.DataStage.{DataStage}
 use Rattle.usb_device.specs.Step.{Sending, StatusOut, next_stage}

@@ -1,16 +1,17 @@
 -- Which descriptors a device can be made of, at which speed.
-use Rattle.std.specs.Prelude.{◌≡◌, ℕ, ◌==◌, ◌||◌, ◌&&◌, nat_lt, Bool, false, not, List, [], ◌∷◌, length, Option, Some, None, is_some, if◌then◌else◌}
+use Rattle.std.specs.Prelude.{◌≡◌, ℕ, ◌==◌, ◌||◌, ◌&&◌, nat_lt, Bool, false, not, List, [], ◌∷◌, length, Option, Some, None, is_some, if◌then◌else◌, codes}
 use Rattle.std.specs.List.{list_any}
-use Rattle.usb_fields.specs.declared.speed.Speed.{Speed}
-use Rattle.usb_fields.specs.declared.speed.Speed.TheVariants.{Low, Full, High}
+use Rattle.usb_fields.specs.declared.packet.Speed.{Speed}
+use Rattle.usb_fields.specs.declared.packet.Speed.TheVariants.{Low, Full, High}
 use Rattle.usb_file_data.specs.declared.file.DescriptorFile.{DescriptorFile}
 use Rattle.usb_file_data.specs.declared.file.Strings.{Strings}
-use Rattle.usb_file_data.specs.File.{has_wrong_count, has_wrong_kind, has_wrong_layout, are_wrong_strings}
-use Rattle.usb_file_data.specs.Named.{named_indices}
+use Rattle.usb_file_data.specs.File.{has_wrong_count, has_wrong_kind, has_wrong_layout, are_wrong_strings, named_indices}
 use Rattle.usb_file_data.specs.declared.finding.Finding.{Finding}
 use Rattle.usb_file_data.specs.Findings.{findings}
-use Rattle.usb_device.specs.declared.fault.DescriptionFault.{DescriptionFault}
-use Rattle.usb_device.specs.declared.fault.DescriptionFault.TheVariants as faults
+use Rattle.usb_device.specs.declared.acceptance.DescriptionFault.{DescriptionFault}
+use Rattle.usb_device.specs.declared.acceptance.DescriptionFault.TheVariants as faults
+use Rattle.usb_device.specs.declared.beside.Unanswered.{Unanswered}
+use Rattle.usb_device.specs.declared.beside.Unanswered.TheVariants.{Nothing, Closed, Shape, Room}
 
 -- whether the number is in the list
 abbrev pub is_among : List ℕ → ℕ → Bool
@@ -82,3 +83,19 @@ fault_number faults.Texts = 2
 fault_number faults.Speed = 3
 fault_number faults.Memory = 4
 fault_number faults.Unwritable = 5
+
+-- The number of a fault, and its message.
+
+-- the number of the reason why an answer is not taken
+abbrev pub unanswered_number : Unanswered → ℕ
+unanswered_number Nothing = 1
+unanswered_number Closed = 2
+unanswered_number Shape = 3
+unanswered_number Room = 4
+
+-- its message, for people
+abbrev pub unanswered_message : Unanswered → List ℕ
+unanswered_message Nothing = codes "no request waits for an answer"
+unanswered_message Closed = codes "the request is the device's own"
+unanswered_message Shape = codes "the request asks for no such data stage"
+unanswered_message Room = codes "more bytes than the device keeps"

@@ -1,17 +1,16 @@
 -- Answers beside the table of standard requests. A SETUP is acknowledged whatever it asks for (8.4.6.4), and a refusal is
 -- reported by the STALL of the IN or OUT after it (8.5.3.4): in between the device's owner may answer the request.
 use Rattle.std.specs.Prelude.{ℕ, ◌==◌, ◌&&◌, ◌||◌, ◌/◌, nat_lt, Bool, true, false, not, if◌then◌else◌, List, length, take, Option, Some, None}
-use Rattle.usb_fields.specs.declared.direction.Direction.{Direction}
-use Rattle.usb_fields.specs.declared.direction.Direction.TheVariants as directions
-use Rattle.usb_fields.specs.Directions.{direction_of}
+use Rattle.usb_fields.specs.declared.setup.Direction.{Direction}
+use Rattle.usb_fields.specs.declared.setup.Direction.TheVariants as directions
+use Rattle.usb_fields.specs.Setup.{direction_of, class_of, recipient_of}
 use Rattle.usb_fields.specs.declared.setup.Setup.{Setup}
 use Rattle.usb_fields.specs.declared.setup.Class.{Class}
 use Rattle.usb_fields.specs.declared.setup.Class.TheVariants as classes
 use Rattle.usb_fields.specs.declared.setup.Recipient.{Recipient}
 use Rattle.usb_fields.specs.declared.setup.Recipient.TheVariants.{Device, Interface, Endpoint, Other, Reserved}
-use Rattle.usb_fields.specs.Setup.{class_of, recipient_of}
-use Rattle.usb_device.specs.declared.unanswered.Unanswered.{Unanswered}
-use Rattle.usb_device.specs.declared.unanswered.Unanswered.TheVariants.{Nothing, Closed, Shape, Room}
+use Rattle.usb_device.specs.declared.beside.Unanswered.{Unanswered}
+use Rattle.usb_device.specs.declared.beside.Unanswered.TheVariants.{Nothing, Closed, Shape, Room}
 use Rattle.usb_device.specs.declared.state.State.{State}
 use Rattle.usb_device.specs.Requests.{Outcome, Bytes, Done, Refused, when}
 use Rattle.usb_device.specs.Step.{DeviceStage, Idle, Halted, Sending, StatusOut, Over, StatusIn, DeviceView, begun}

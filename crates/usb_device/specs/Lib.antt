@@ -2,15 +2,9 @@ pub mod States
 pub mod Requests
 pub mod Step
 pub mod Beside
-pub mod Numbers
+pub mod Accepted
 pub mod View
 pub mod Stages
-pub mod EndpointZero
-pub mod Lending
 pub mod Descriptors
-pub mod Places
-pub mod Accepted
-pub mod Described
-pub mod Ends
 pub mod Transactions
 pub mod inside

@@ -5,12 +5,11 @@ use Rattle.std.specs.List.{list_any, flat_map}
 use Rattle.usb_fields.specs.declared.setup.Setup.{Setup}
 use Rattle.usb_fields.specs.declared.setup.Class.{Class}
 use Rattle.usb_fields.specs.declared.setup.Class.TheVariants as classes
-use Rattle.usb_fields.specs.declared.direction.Direction.{Direction}
-use Rattle.usb_fields.specs.declared.direction.Direction.TheVariants as directions
+use Rattle.usb_fields.specs.declared.setup.Direction.{Direction}
+use Rattle.usb_fields.specs.declared.setup.Direction.TheVariants as directions
 use Rattle.usb_fields.specs.declared.setup.Recipient.{Recipient}
 use Rattle.usb_fields.specs.declared.setup.Recipient.TheVariants.{Device, Interface, Endpoint, Other, Reserved}
-use Rattle.usb_fields.specs.Directions.{direction_of}
-use Rattle.usb_fields.specs.Setup.{class_of, recipient_of}
+use Rattle.usb_fields.specs.Setup.{direction_of, class_of, recipient_of}
 use Rattle.usb_set.specs.declared.tree.Configuration.{Configuration}
 use Rattle.usb_set.specs.declared.tree.Endpoint.{Endpoint as EndpointDescriptor}
 use Rattle.usb_set.specs.declared.tree.Setting.{Setting}

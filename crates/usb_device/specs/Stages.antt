@@ -3,7 +3,7 @@ use Rattle.std.specs.Prelude.{◌≡◌, ℕ, ◌*◌, ◌/◌, ◌<◌, ◌≤�
 use Rattle.usb_fields.specs.Packets.{toggle_of}
 use Rattle.usb_fields.specs.declared.setup.Setup.{Setup}
 use Rattle.usb_file_data.specs.declared.file.DescriptorFile.{DescriptorFile}
-use Rattle.usb_device.specs.Places.{descriptors, descriptor_at}
+use Rattle.usb_device.specs.Descriptors.{descriptors, descriptor_at}
 use Rattle.usb_device.specs.declared.stage.Source.{Source}
 use Rattle.usb_device.specs.declared.stage.Source.TheVariants.{Descriptor, Kept}
 use Rattle.usb_device.specs.declared.stage.DataStage.{DataStage}

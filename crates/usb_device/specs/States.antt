@@ -2,8 +2,8 @@
 use Rattle.std.specs.Prelude.{ℕ, ◌+◌, ◌*◌, ◌/◌, ◌%◌, ◌^◌, ◌==◌, ◌&&◌, Bool, false, not, List, replicate, bit_or, bit_and, if◌then◌else◌}
 use Rattle.std.specs.Int.{bit_at, bit_not, w32}
 use Rattle.usb_device.specs.declared.state.State.{State}
-use Rattle.usb_device.specs.declared.device_state.DeviceState.{DeviceState}
-use Rattle.usb_device.specs.declared.device_state.DeviceState.TheVariants.{Default, Address, Configured}
+use Rattle.usb_device.specs.declared.state.DeviceState.{DeviceState}
+use Rattle.usb_device.specs.declared.state.DeviceState.TheVariants.{Default, Address, Configured}
 
 -- the alternate setting 0 for each interface number
 unfoldable pub first_alternates : List ℕ

@@ -1,10 +1,20 @@
--- What callers see of a device.
-use Rattle.std.specs.Prelude.{ℕ, ◌*◌, Bool}
-use Rattle.usb_fields.specs.Packet.{Sent}
+-- What callers see of a device, whoever owns its description.
+use Rattle.std.specs.Prelude.{ℕ, ◌*◌, Bool, ◌≡◌, ⊤, []}
+use Rattle.usb_fields.specs.Packets.{Sent}
 use Rattle.usb_file_data.specs.declared.file.DescriptorFile.{DescriptorFile}
-use Rattle.usb_device.specs.Described.{Described}
+use Rattle.usb_device.specs.Descriptors.{Described}
 use Rattle.usb_device.specs.Requests.{answer}
 use Rattle.usb_device.specs.Step.{DeviceStage, Idle, Halted, Sending, StatusOut, Over, StatusIn, DeviceView, Served, served, acked}
+use Rattle.usb_device.specs.declared.endpoint_zero.EndpointZero.{EndpointZero}
+use Rattle.usb_device.specs.Stages.{stage_of, IsStage}
+use Rattle.usb_device.specs.declared.owned_device.OwnedDevice.TheInside.{Inside}
+use Rattle.std.specs.Borrow.{Fml, MutBor, follows_so}
+use mathlib.Core.Option.{none}
+use mir.Syntax.{named}
+use Rattle.usb_device.specs.contracts.device.Device.{the_row}
+use Rattle.usb_device.specs.contracts.endpoint_zero.EndpointZero.{the_row as the_part_row}
+
+-- What callers see of a device.
 
 -- a device: its description, which stays, and what changes
 pub record View : Type 0 where
@@ -28,3 +38,44 @@ acknowledged packet (Sending bytes limit acked) = acked * packet
 acknowledged packet StatusOut = 0
 acknowledged packet Over = 0
 acknowledged packet (StatusIn request carried_out) = 0
+
+-- What changes in a device, apart from its description. It borrows nothing, and each of its calls is given the
+-- description that it was made for.
+
+-- the stage that a device with these descriptors is in
+abbrev pub stage_in : DescriptorFile → EndpointZero → DeviceStage
+stage_in f e = stage_of f e.stage e.data_stage e.request e.settled
+
+-- what it is with these descriptors
+abbrev pub device_of : DescriptorFile → EndpointZero → DeviceView
+device_of f e = record { state = e.state; stage = stage_in f e; pending = e.pending }
+
+-- it is that of a device with these descriptors
+abbrev pub IsOf : DescriptorFile → EndpointZero → Type 0
+IsOf f e = IsStage f e.stage e.data_stage
+
+-- A device that owns its description, as callers see it.
+
+-- the description, and what the part that changes is with it
+abbrev pub view_of : Inside → View
+view_of d = record { description = d.description; device = device_of d.description.file d.endpoint_zero }
+
+-- the part is one of this description
+abbrev pub IsEnd : Inside → Type 0
+IsEnd d = IsOf d.description.file d.endpoint_zero
+
+-- the device with what has changed
+abbrev pub after : View → DeviceView → View
+after v device = record v { device = device }
+
+-- What a device is once it has its answer back.
+
+-- once the answer is let go, and with it the bytes that it lends, the device is this one
+abbrev pub EndsAs : MutBor View → View → Fml
+EndsAs device v =
+    let row = the_row (record { mir = named 1; lft = [] }) in
+    follows_so row row device.ghost_name none (λ _ _. ⊤) (λ u. u ≡ v)
+
+-- and so of what changes in a device: it is then that of a device with these descriptors, and this one
+abbrev pub PartEndsAs : MutBor EndpointZero → DescriptorFile → DeviceView → Fml
+PartEndsAs part f v = follows_so the_part_row the_part_row part.ghost_name none (λ _ _. ⊤) (λ u. (device_of f u ≡ v) × IsOf f u)

@@ -1,13 +1,73 @@
-//! Whether a device can be made of a descriptor file.
+//! Whether a device can be made of a descriptor file, and why not.
 ghost use Rattle.std.specs.Prelude.{◌≡◌, ◌≤◌, length, OnOk, IfErr, false};
 ghost use Rattle.std.specs.List.{list_any};
-ghost use Rattle.usb_file_data.specs.Named.{named_indices};
+ghost use Rattle.usb_file_data.specs.File.{named_indices};
 ghost use Rattle.usb_device.specs.Accepted.{has_early_second_speed, has_other_packets, has_wrong_sets, has_wrong_speed, has_wrong_strings, refusal_of, repeats, repeats_language, is_among, Accepted, Refuses};
 
-use crate::fault::DescriptionFault;
-use std::alloc::Global;
+use std::alloc::{AllocError, Global};
+use thiserror::Error;
 use usb_fields::{Speed, USB_2_0};
-use usb_file_data::{DescriptorFile, Strings, WriteFault, are_wrong_strings, check, write_refusal};
+use usb_file_data::{
+    DescriptorFile, Finding, Strings, WriteFault, are_wrong_strings, check, write_refusal,
+};
+
+/// Why a descriptor file is no description of a device. They are tested in the order `Unwritable`,
+/// `Finding`, `Texts`, `Speed`, and the first that applies is reported; `Memory` only when out of memory.
+///
+/// ```rust
+/// // At high speed endpoint zero has packets of 64 bytes.
+/// let file = read_file(rt.alloc(), &bytes)?;
+/// assert_eq!(rt; file.device.packet, 8);
+/// let fault = Description::new(rt.alloc(), file, Speed::High).err();
+/// assert_eq!(rt; fault, Some(DescriptionFault::Speed));
+/// ```
+#[derive(Clone, Copy, Debug, Drop, Error, PartialEq, Eq, Hash)]
+pub enum DescriptionFault {
+    /// A rule is broken: what [`usb_file_data::check`] finds first.
+    #[error("{0}")]
+    Finding(Finding),
+    /// The strings are not those that the file names, or a language is twice in the language list.
+    #[error("the strings are not those that the file names, or a language stands twice")]
+    Texts,
+    /// No device of this speed has such descriptors: at low speed a packet size other than 8 or a second
+    /// speed, at high speed a packet size other than 64, or a second speed with bcdUSB below 0200
+    /// hexadecimal.
+    #[error("no device of this speed has such descriptors")]
+    Speed,
+    /// Out of memory.
+    #[error("out of memory")]
+    Memory,
+    /// The sets are not as many as declared or of another kind, or one of them has no bytes.
+    #[error("a set has no bytes, or the sets are not as declared")]
+    Unwritable,
+}
+
+impl DescriptionFault {
+    ghost use Rattle.usb_device.specs.Accepted.{fault_number};
+
+    /// The fault's number, from 1 to 5.
+    pub fn number(self) -> u8
+        ensures { result ≡ fault_number self }
+    {
+        match self {
+            DescriptionFault::Finding(_) => 1,
+            DescriptionFault::Texts => 2,
+            DescriptionFault::Speed => 3,
+            DescriptionFault::Memory => 4,
+            DescriptionFault::Unwritable => 5,
+        }
+    }
+}
+
+impl From<AllocError> for DescriptionFault {
+    ghost use Rattle.usb_device.specs.declared.acceptance.DescriptionFault.TheVariants.{Memory};
+
+    ghost from_gives = { λ _ fault. fault ≡ Memory };
+
+    fn from(_refused: AllocError) -> Self {
+        Self::Memory
+    }
+}
 
 /// Rejects a file that is no description of a device of this speed. Its sets have bytes, and it names so many strings.
 pub(crate) fn examine(

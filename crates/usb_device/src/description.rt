@@ -2,14 +2,11 @@
 ghost use Rattle.std.specs.Prelude.{◌≡◌, ◌<◌, ◌*◌, length, IfErr, IfOk, IfSome, MatchOption, OnOk, None};
 ghost use Rattle.std.specs.Option.{option_copied};
 ghost use Rattle.usb_fields.specs.Bytes.{AreBytes};
-ghost use Rattle.usb_file_data.specs.File.{file_bytes};
-ghost use Rattle.usb_file_data.specs.StringPlaces.{string_place};
+ghost use Rattle.usb_file_data.specs.File.{file_bytes, string_place};
 
-use crate::acceptance::examine;
+use crate::acceptance::{DescriptionFault, examine};
 use crate::encoded_file::{add_speeds, add_strings};
-use crate::fault::DescriptionFault;
-use crate::image::Image;
-use crate::ranks::Ranks;
+use crate::image::{Image, Ranks};
 use std::alloc::Global;
 use std::marker::Model;
 use usb_fields::{Speed, descriptor_type};
@@ -37,7 +34,7 @@ pub struct Description {
 }
 
 impl Model for Description {
-    ghost use Rattle.usb_device.specs.Described.{Described};
+    ghost use Rattle.usb_device.specs.Descriptors.{Described};
 
     ghost Value = { Described };
 
@@ -50,9 +47,8 @@ impl Model for Description {
 
 impl Description {
     ghost use Rattle.usb_device.specs.Accepted.{refusal_of, Accepted, Refuses};
-    ghost use Rattle.usb_device.specs.Descriptors.{descriptor, device_of, other_set_at, qualifier_of, set_at, string_at};
-    ghost use Rattle.usb_device.specs.Places.{descriptors, descriptor_at, IsFound};
-    ghost use Rattle.usb_file_data.specs.Named.{named_indices};
+    ghost use Rattle.usb_device.specs.Descriptors.{descriptor, device_of, other_set_at, qualifier_of, set_at, string_at, descriptors, descriptor_at, IsFound};
+    ghost use Rattle.usb_file_data.specs.File.{named_indices};
 
     /// The description of a device of this speed, exactly where the file is accepted: each of its descriptors is encoded
     /// here, once.

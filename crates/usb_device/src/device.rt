@@ -5,11 +5,11 @@
 ghost use Rattle.std.specs.Prelude.{◌≡◌, None, Some, OnOk, OnErr, IfErr};
 ghost use Rattle.std.specs.Borrow.{sem};
 
+use crate::beside::Unanswered;
 use crate::description::Description;
-use crate::endpoint_zero::{EndpointZero, Reaction};
-use crate::stage::Stage;
+use crate::endpoint_zero::EndpointZero;
+use crate::stage::{Reaction, Stage};
 use crate::state::State;
-use crate::unanswered::Unanswered;
 use std::marker::Model;
 use usb_fields::{Answer, Setup, Transaction};
 
@@ -38,7 +38,7 @@ impl<'d> Model for Device<'d> {
 
     ghost Value = { View };
 
-    ghost use Rattle.usb_device.specs.inside.Devices.{view_of, IsDevice};
+    ghost use Rattle.usb_device.specs.inside.Reactions.{view_of, IsDevice};
 
     ghost view = { view_of };
 
@@ -46,11 +46,10 @@ impl<'d> Model for Device<'d> {
 }
 
 impl<'d> Device<'d> {
-    ghost use Rattle.usb_fields.specs.Packet.{reply_of, sent_of};
+    ghost use Rattle.usb_fields.specs.Packets.{reply_of, sent_of};
     ghost use Rattle.usb_device.specs.Step.{new_device};
     ghost use Rattle.usb_device.specs.Stages.{stage_kind};
-    ghost use Rattle.usb_device.specs.View.{acked_by, acknowledged, served_by};
-    ghost use Rattle.usb_device.specs.Lending.{EndsAs};
+    ghost use Rattle.usb_device.specs.View.{acked_by, acknowledged, served_by, EndsAs};
     ghost use Rattle.usb_device.specs.Beside.{answered, carried_out_in, refused_in, room_size, unanswered, unfit_bytes, unfit_status, Gives, Does};
     ghost use Rattle.usb_device.specs.inside.Reactions.{packet_due, reply_with};
 

@@ -1,16 +1,14 @@
 //! The descriptors of a file, each judged and encoded once.
 ghost use Rattle.std.specs.Prelude.{◌≡◌, ◌++◌, ◌∷◌, [], length, map, false, IfErr, IfOk, IfSome, OnOk, OnSome};
 ghost use Rattle.std.specs.List.{list_any};
-ghost use Rattle.usb_fields.specs.declared.speed.Speed.{Speed};
-ghost use Rattle.usb_fields.specs.Qualifier.{qualifier_bytes};
+ghost use Rattle.usb_fields.specs.declared.packet.Speed.{Speed};
+ghost use Rattle.usb_fields.specs.Device.{qualifier_bytes};
 ghost use Rattle.usb_fields.specs.Units.{units_bytes};
-ghost use Rattle.usb_file_data.specs.File.{has_long_string, has_no_layout, is_long_string, whole_set};
-ghost use Rattle.usb_file_data.specs.Named.{other_sets};
+ghost use Rattle.usb_file_data.specs.File.{has_long_string, has_no_layout, is_long_string, whole_set, other_sets};
 ghost use Rattle.usb_device.specs.Accepted.{has_wrong_sets, Refuses};
-ghost use Rattle.usb_device.specs.Places.{main_descriptors, other_descriptors, string_descriptors};
+ghost use Rattle.usb_device.specs.Descriptors.{main_descriptors, other_descriptors, string_descriptors};
 
-use crate::acceptance::has_wrong_sets;
-use crate::fault::DescriptionFault;
+use crate::acceptance::{DescriptionFault, has_wrong_sets};
 use crate::image::Image;
 use std::alloc::AllocError;
 use usb_fields::UnitFault;

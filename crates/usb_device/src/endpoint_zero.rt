@@ -1,32 +1,18 @@
 //! The device's end of the control transfers of endpoint zero.
 ghost use Rattle.std.specs.Borrow.{sem};
 ghost use Rattle.std.specs.Prelude.{◌≡◌, ◌<◌, ◌≤◌, ◌/◌, suc, true, false, take, drop, length, None, Some, OnOk, OnErr, IfErr};
-ghost use Rattle.usb_fields.specs.Packet.{reply_of, sent_of};
-ghost use Rattle.usb_fields.specs.Packets.{packets};
-ghost use Rattle.usb_device.specs.Places.{descriptor_at};
+ghost use Rattle.usb_fields.specs.Packets.{reply_of, sent_of, packets};
+ghost use Rattle.usb_device.specs.Descriptors.{descriptor_at};
 ghost use Rattle.usb_device.specs.Requests.{answer};
 ghost use Rattle.usb_device.specs.Step.{begun, carried_out, is_set_address, next_stage, Sending};
 ghost use Rattle.usb_device.specs.Stages.{data_bytes, stage_kind, IsData, IsSource};
 
-use crate::beside::{ROOM, is_open};
+use crate::beside::{ROOM, Unanswered, is_open};
 use crate::description::Description;
 use crate::request::Request;
-use crate::response::Response;
-use crate::stage::{DataStage, Source, Stage};
+use crate::stage::{DataStage, Reaction, Response, Source, Stage};
 use crate::state::State;
-use crate::unanswered::Unanswered;
 use usb_fields::{Answer, Direction, Setup, Stage as Token, Toggle, Transaction, request};
-
-/// What a device answers to a transaction, with the bytes left out.
-#[derive(Clone, Copy)]
-pub(crate) enum Reaction {
-    Ack,
-    Nak,
-    Stall,
-    /// The packet that is due, with this toggle.
-    Packet(Toggle),
-    Silence,
-}
 
 /// What changes in a device: its state, its stage in a transfer, and whether its last answer waits for an
 /// ACK. [`Device`](crate::Device) is a pair of a description and this.
@@ -61,13 +47,10 @@ pub struct EndpointZero {
 
 impl EndpointZero {
     ghost use Rattle.usb_device.specs.Step.{new_device};
-    ghost use Rattle.usb_device.specs.View.{acked_by, acknowledged, served_by};
+    ghost use Rattle.usb_device.specs.View.{acked_by, acknowledged, served_by, device_of, IsOf, PartEndsAs};
     ghost use Rattle.usb_file_data.specs.declared.file.DescriptorFile.{DescriptorFile};
-    ghost use Rattle.usb_device.specs.EndpointZero.{device_of, IsOf};
     ghost use Rattle.usb_device.specs.Beside.{answered, carried_out_in, refused_in, room_size, unanswered, unfit_bytes, unfit_status, Gives, Does};
-    ghost use Rattle.usb_device.specs.inside.Devices.{received_by, replied, sent_by};
-    ghost use Rattle.usb_device.specs.Lending.{PartEndsAs};
-    ghost use Rattle.usb_device.specs.inside.Reactions.{packet_due};
+    ghost use Rattle.usb_device.specs.inside.Reactions.{received_by, replied, sent_by, packet_due};
 
     /// That of a new device with this description, and of one after a bus reset.
     pub fn new(d: &Description) -> EndpointZero

@@ -14,7 +14,7 @@
 //!   `specs/States.antt` and the descriptors of `usb_device/specs/Descriptors.antt`.
 //! - How a device goes through a control transfer is `specs/Step.antt`, whatever the table is.
 //! - What may be answered beside the table is `specs/Beside.antt`.
-//! - What the parts of an [`EndpointZero`] mean is `specs/EndpointZero.antt` and `specs/Stages.antt`: the code has an
+//! - What the parts of an [`EndpointZero`] mean is `specs/View.antt` and `specs/Stages.antt`: the code has an
 //!   offset and a toggle where the definition has a list of packets.
 //! - What no public contract cites is in `specs/inside/`.
 //!
@@ -27,14 +27,14 @@
 //!
 //! - Which descriptors make a device is `specs/Accepted.antt`.
 //! - Which descriptor a request asks for is `specs/Descriptors.antt`, and at which place it is
-//!   `specs/Places.antt`.
+//!   `specs/Descriptors.antt`.
 //! - The device that hands them out is in the crate usb_device, which names [`Description`] and [`DescriptionFault`]
 //!   too.
 //!
 //! A device that owns its description, and transactions and packets as numbers: a device for callers in other languages.
 //!
 //! [`OwnedDevice`] borrows nothing, and so can be one handle; it answers as the device of usb_device does
-//! (`specs/Ends.antt`). [`UsbTransaction`] and [`UsbPacket`] are what passes on the bus, in numbers and lent bytes
+//! (`specs/View.antt`). [`UsbTransaction`] and [`UsbPacket`] are what passes on the bus, in numbers and lent bytes
 //! (`specs/Transactions.antt`).
 #![tactic(auto)]
 
@@ -42,31 +42,24 @@ mod acceptance;
 mod beside;
 mod description;
 mod device;
-mod device_state;
 mod encoded_file;
 mod endpoint_zero;
-mod fault;
 mod halts;
 mod image;
 pub mod laws;
 mod owned_device;
-mod ranks;
 mod request;
-mod response;
 mod selected;
 mod stage;
 mod state;
 mod transaction;
-mod unanswered;
 
-pub use beside::{ROOM, is_open};
+pub use acceptance::DescriptionFault;
+pub use beside::{ROOM, Unanswered, is_open};
 pub use description::Description;
 pub use device::Device;
-pub use device_state::DeviceState;
 pub use endpoint_zero::{EndpointZero, is_set_address};
-pub use fault::DescriptionFault;
 pub use owned_device::OwnedDevice;
 pub use stage::Stage as DeviceStage;
-pub use state::State;
+pub use state::{DeviceState, State};
 pub use transaction::{UsbPacket, UsbTransaction, answer_of, sent, speed_of, told};
-pub use unanswered::Unanswered;

@@ -1,17 +1,16 @@
 //! A device that owns its description.
 ghost use Rattle.std.specs.Prelude.{◌≡◌, OnOk, IfErr, None, Some};
-ghost use Rattle.usb_fields.specs.Packet.{sent_of};
+ghost use Rattle.usb_fields.specs.Packets.{sent_of};
 ghost use Rattle.usb_device.specs.Beside.{answered, carried_out_in, refused_in, room_size, unanswered, unfit_bytes, unfit_status, Gives, Does};
 ghost use Rattle.usb_device.specs.Step.{new_device};
-ghost use Rattle.usb_device.specs.View.{acked_by, served_by};
-ghost use Rattle.usb_device.specs.Ends.{after};
+ghost use Rattle.usb_device.specs.View.{acked_by, served_by, after};
 ghost use Rattle.usb_device.specs.Transactions.{packet_of};
 
+use crate::beside::Unanswered;
 use crate::description::Description;
 use crate::endpoint_zero::EndpointZero;
 use crate::state::State;
 use crate::transaction::{UsbPacket, tell};
-use crate::unanswered::Unanswered;
 use std::marker::Model;
 use usb_fields::{Setup, Transaction};
 
@@ -23,8 +22,7 @@ pub struct OwnedDevice {
 }
 
 impl Model for OwnedDevice {
-    ghost use Rattle.usb_device.specs.View.{View};
-    ghost use Rattle.usb_device.specs.Ends.{view_of, IsEnd};
+    ghost use Rattle.usb_device.specs.View.{View, view_of, IsEnd};
 
     ghost Value = { View };
 

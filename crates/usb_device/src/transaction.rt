@@ -1,7 +1,7 @@
 //! Transactions and packets, as C sees them.
 ghost use Rattle.std.specs.Prelude.{◌≡◌, ◌≤◌, ◌++◌, drop, length};
 ghost use Rattle.std.specs.Option.{option_map};
-ghost use Rattle.usb_fields.specs.Packet.{reply_of, sent_of};
+ghost use Rattle.usb_fields.specs.Packets.{reply_of, sent_of};
 ghost use Rattle.usb_device.specs.Transactions.{HasRoom, packet_of, reply_told, sent_told, speed_told, toggle_number, toggle_told, transaction_of};
 
 use usb_fields::{Answer, Speed, Stage, Toggle, Transaction};

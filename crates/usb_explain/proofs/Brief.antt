@@ -1,25 +1,23 @@
 -- A text with its fields, and the same one without them.
 use Rattle.std.proofs.Common.{◌≡◌, ℕ, List, [], ◌∷◌, ◌++◌, Bool, true, false, flat_map, length, drop, take, refl, sym, ap, ◌∙◌, append-nil}
-use Rattle.usb_file_data.specs.declared.input.Input.{Input}
-use Rattle.usb_file_data.specs.declared.input.Input.TheVariants as inputs
+use Rattle.usb_file_data.specs.declared.file.Input.{Input}
+use Rattle.usb_file_data.specs.declared.file.Input.TheVariants as inputs
 use Rattle.usb_file_data.specs.declared.finding.Finding.{Finding}
-use Rattle.usb_explain.specs.declared.line_context.Context.{Context}
-use Rattle.usb_explain.specs.declared.look.Look.{Look}
+use Rattle.usb_explain.specs.declared.context.Context.{Context}
+use Rattle.usb_explain.specs.declared.manner.Look.{Look}
 use Rattle.usb_explain.specs.Descriptors.{field_lines, fields, heading}
-use Rattle.usb_explain.specs.LineForms.{heading_line}
+use Rattle.usb_explain.specs.Lines.{heading_line}
 use Rattle.usb_explain.specs.RemarkLines.{remark_lines}
 use Rattle.usb_explain.specs.declared.manner.Manner.{Manner}
-use Rattle.usb_explain.specs.declared.descriptor_role.Role.{Role}
+use Rattle.usb_explain.specs.declared.role.Role.{Role}
 use Rattle.usb_explain.specs.declared.position.Standing.{Standing}
-use Rattle.usb_explain.specs.Explanations.{broken_end, broken_explanation, broken_name, explanation, first_line, input_name, last_line, whole_end, whole_text}
+use Rattle.usb_explain.specs.Explanations.{broken_end, broken_explanation, broken_name, explanation, first_line, input_name, last_line, whole_end, whole_text, rest_fields, rest_heading, rest_lines, rest_of_set, walked}
 use Rattle.usb_explain.specs.Faults.{fault_lines, place_of_fault}
 use Rattle.usb_explain.specs.Findings.{found_at, role_findings}
 use Rattle.usb_explain.specs.Contexts.{context_of}
 use Rattle.usb_explain.specs.Laws.{BrokenLeavesOutFields, LeavesOutFields, Shown, WholeLeavesOutFields, context_at, fields_of, head_of, lines_of, rest_bytes, rest_head, with_fields, without_fields}
 use Rattle.usb_explain.specs.Standings.{start}
 use Rattle.usb_explain.specs.Subjects.{Subject, broken_subject, findings_in, subject_with}
-use Rattle.usb_explain.specs.Rest.{rest_fields, rest_heading, rest_lines}
-use Rattle.usb_explain.specs.Walks.{rest_of_set, walked}
 use Rattle.usb_explain.proofs.Spans.{broken_ends, broken_is, end_by, walk_shows, whole_is, with_look}
 
 -- a look with the lines of fields or without them

@@ -3,9 +3,9 @@ use Rattle.std.proofs.Common.{◌≡◌, ◌≤◌, ℕ, zero, suc, ◌+◌, ◌
 use mir.Val.{bool_byte}
 use Rattle.std.specs.Option.{option_map}
 use Rattle.std.proofs.lemmas.Bool.Decides.{nat_tests}
-use Rattle.usb_explain.specs.Counts.{endpoints_before_interface}
-use Rattle.usb_explain.specs.DescriptorTypes.{is_endpoint, is_interface}
-use Rattle.usb_explain.specs.Cut.{descriptor_length, descriptors, first_descriptors}
+use Rattle.usb_explain.specs.Headers.{endpoints_before_interface}
+use Rattle.usb_explain.specs.Roles.{is_endpoint, is_interface}
+use Rattle.usb_explain.specs.Trees.{descriptor_length, descriptors, first_descriptors}
 
 -- a descriptor has two bytes at least, and no more than are there
 pub length_within : (b : List ℕ) (n : ℕ) → descriptor_length b ≡ Some n → (2 ≤ n) × (n ≤ length b)

@@ -5,10 +5,9 @@ use Rattle.std.specs.Io.KnownBytes.{Appends}
 use Rattle.usb_text.specs.Output.{AppendsLess, Held}
 use Rattle.usb_text.specs.inside.Pages.{Puts}
 use Rattle.usb_text.proofs.Pages.{appends_more, longer, not_begun, puts_broken}
-use Rattle.usb_file.specs.declared.input_fault.InputFault.{InputFault}
-use Rattle.usb_explain.specs.Explanations.{broken_end, broken_name, broken_text, first_line, last_line, whole_end, whole_text}
+use Rattle.usb_file_data.specs.declared.fault.InputFault.{InputFault}
+use Rattle.usb_explain.specs.Explanations.{broken_end, broken_name, broken_text, first_line, last_line, whole_end, whole_text, walked}
 use Rattle.usb_explain.specs.Standings.{start}
-use Rattle.usb_explain.specs.Walks.{walked}
 use Rattle.usb_explain.specs.Subjects.{Subject}
 use Rattle.usb_explain.specs.inside.Walking.{Walked}
 use Rattle.usb_explain.specs.Faults.{fault_text, place_of_fault}

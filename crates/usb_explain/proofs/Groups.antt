@@ -1,6 +1,6 @@
 -- On groups of fields.
 use Rattle.std.proofs.Common.{◌≡◌, ℕ, zero, suc, ◌+◌, ◌-◌, ◌<◌, List, ◌++◌, refl, arith}
-use Rattle.usb_explain.specs.declared.line_context.Context.{Context}
+use Rattle.usb_explain.specs.declared.context.Context.{Context}
 use Rattle.usb_explain.specs.Layouts.{Layout, group_lines, groups_lines, width_of}
 use Rattle.usb_explain.specs.StringNames.{StringNames}
 

@@ -5,8 +5,7 @@ use Rattle.std.proofs.lemmas.Bool.Decides.{nat_tests}
 use Rattle.usb_set.specs.declared.endpoint.TransferType.{TransferType}
 use Rattle.usb_set.specs.declared.endpoint.TransferType.TheVariants.{Control, Isochronous, Bulk, Interrupt}
 use Rattle.usb_explain.specs.declared.speed.SetSpeed.TheVariants.{Low, Full, LowOrFull, High, FullOrHigh}
-use Rattle.usb_explain.specs.Remarks.{attributes_remark, interval_remark, multiple_remark, size_remark}
-use Rattle.usb_explain.specs.RemarkLaws.{FullOrHighIsOpen, LowOrFullIsOpen}
+use Rattle.usb_explain.specs.Remarks.{attributes_remark, interval_remark, multiple_remark, size_remark, FullOrHighIsOpen, LowOrFullIsOpen}
 
 low_intervals : (transfer : TransferType) (n : ℕ) →
     is_some (interval_remark LowOrFull transfer n) ≡ (is_some (interval_remark Low transfer n) && is_some (interval_remark Full transfer n))

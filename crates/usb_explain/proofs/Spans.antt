@@ -5,22 +5,19 @@ use Rattle.std.proofs.lemmas.Bool.Decides.{nat_tests}
 use Rattle.std.proofs.lemmas.Option.{none-some}
 use Rattle.std.proofs.lemmas.List.{length-take-le, take-append-drop}
 use Rattle.std.proofs.Math.Seq.{drop-append_seam}
-use Rattle.usb_explain.specs.Cut.{descriptor_length}
-use Rattle.usb_file.specs.declared.input_fault.InputFault.{InputFault}
-use Rattle.usb_explain.specs.declared.look.Look.{Look}
-use Rattle.usb_explain.specs.declared.descriptor_role.Role.{Role}
+use Rattle.usb_explain.specs.Trees.{descriptor_length, OutlineEntry}
+use Rattle.usb_file_data.specs.declared.fault.InputFault.{InputFault}
+use Rattle.usb_explain.specs.declared.manner.Look.{Look}
+use Rattle.usb_explain.specs.declared.role.Role.{Role}
 use Rattle.usb_explain.specs.declared.position.Standing.{Standing}
-use Rattle.usb_explain.specs.Explanations.{broken_end, broken_explanation, broken_name, broken_text, explanation, first_line, input_name, last_line, whole_end, whole_text}
+use Rattle.usb_explain.specs.Explanations.{broken_end, broken_explanation, broken_name, broken_text, explanation, first_line, input_name, last_line, whole_end, whole_text, rest_lines, behind_next, block, here, next_block, told_next, walked}
 use Rattle.usb_explain.specs.Faults.{fault_lines, place_of_fault}
 use Rattle.usb_explain.specs.Findings.{found_at}
 use Rattle.usb_explain.specs.Laws.{BrokenEachByteOnce, Cut, EachByteOnce, Follow, Shown, Span, WholeEachByteOnce, counts_at, entry_of, findings_of, lines_of, rest_span, span_of}
-use Rattle.usb_explain.specs.Trees.{OutlineEntry}
 use Rattle.usb_explain.specs.declared.finding_words.Told.{Told}
 use Rattle.usb_explain.specs.Roles.{next_role, role_of}
 use Rattle.usb_explain.specs.Standings.{start}
 use Rattle.usb_explain.specs.Subjects.{Subject, broken_subject, findings_in, subject_with}
-use Rattle.usb_explain.specs.Rest.{rest_lines}
-use Rattle.usb_explain.specs.Walks.{behind_next, block, here, next_block, told_next, walked}
 use Rattle.usb_explain.proofs.Standings.{entered_at, noted_at, start_at, told_entered, told_noted}
 use Rattle.usb_explain.proofs.Telling.{found_front}
 use Rattle.usb_explain.proofs.Walking.{walk_end, walk_next}

@@ -3,13 +3,12 @@ use Rattle.std.proofs.Common.{◌≡◌, ◌≤◌, ℕ, ◌+◌, List, Option, 
 use Rattle.usb_file_data.specs.declared.finding.Part.{Part}
 use Rattle.usb_file_data.specs.declared.finding.Part.TheVariants as parts
 use Rattle.usb_explain.specs.declared.speed.SetSpeed.{SetSpeed}
-use Rattle.usb_explain.specs.declared.descriptor_role.Role.{Role}
-use Rattle.usb_explain.specs.declared.descriptor_role.Role.TheVariants.{Device, Qualifier, Configuration, Association, Interface, Endpoint, Raw, Languages, Text}
+use Rattle.usb_explain.specs.declared.role.Role.{Role}
+use Rattle.usb_explain.specs.declared.role.Role.TheVariants.{Device, Qualifier, Configuration, Association, Interface, Endpoint, Raw, Languages, Text}
 use Rattle.usb_explain.specs.declared.position.SettingStanding.{SettingStanding}
 use Rattle.usb_explain.specs.declared.position.Standing.{Standing}
 use Rattle.usb_explain.specs.SetStart.{entered, opened}
-use Rattle.usb_explain.specs.Steps.{moved, noted, with_endpoint, with_set, with_told}
-use Rattle.usb_explain.specs.Standings.{start}
+use Rattle.usb_explain.specs.Standings.{moved, noted, with_endpoint, with_set, with_told, start}
 use Rattle.usb_explain.specs.inside.Walking.{Counted, endpoints_of}
 
 pub with_set_at : (p : Part) (s : Standing) → (with_set p s).at ≡ s.at

@@ -6,13 +6,11 @@ use Rattle.std.specs.Option.{option_or}
 use Rattle.std.proofs.lemmas.List.{ext_get_or}
 use Rattle.std.proofs.lemmas.List.FromFn.{get_or-map-range_with_len, length-map-range_with_len}
 use Rattle.usb_explain.specs.declared.speed_evidence.Evidence.{Evidence}
-use Rattle.usb_explain.specs.declared.survey_builder.Gathering.{Gathering}
+use Rattle.usb_explain.specs.declared.survey.Gathering.{Gathering}
 use Rattle.usb_explain.specs.declared.survey.Survey.{Survey}
 use Rattle.usb_explain.specs.Bindings.{binding, bindings, bound_at}
-use Rattle.usb_explain.specs.SpeedEvidence.{evidence_of, excludes_low, hints_low_or_full, is_companion, proves_full, proves_high}
-use Rattle.usb_explain.specs.Surveys.{survey_of}
-use Rattle.usb_explain.specs.inside.Heard.{Hears}
-use Rattle.usb_explain.specs.inside.Gathered.{Gathers}
+use Rattle.usb_explain.specs.SetSpeeds.{evidence_of, excludes_low, hints_low_or_full, is_companion, proves_full, proves_high, survey_of}
+use Rattle.usb_explain.specs.inside.Walking.{Hears, Gathers}
 
 -- the first of two, of which there is one alone
 or_none : (x : Option ℕ) → option_or x None ≡ x

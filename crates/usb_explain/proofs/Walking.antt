@@ -9,17 +9,16 @@ use Rattle.usb_text.specs.inside.Pages.{Puts}
 use Rattle.usb_text.specs.declared.output.OutFault.{OutFault}
 use Rattle.usb_text.specs.declared.output.OutFault.TheVariants as outs
 use Rattle.usb_text.proofs.Pages.{appends_kept, appends_more, front_longer, longer, not_begun, puts_after, puts_broken, puts_more}
-use Rattle.usb_explain.specs.declared.line_context.Context.{Context}
-use Rattle.usb_explain.specs.declared.look.Look.{Look}
+use Rattle.usb_explain.specs.declared.context.Context.{Context}
+use Rattle.usb_explain.specs.declared.manner.Look.{Look}
 use Rattle.usb_explain.specs.Descriptors.{heading}
-use Rattle.usb_explain.specs.LineForms.{heading_line}
-use Rattle.usb_explain.specs.declared.descriptor_role.Role.{Role}
+use Rattle.usb_explain.specs.Lines.{heading_line}
+use Rattle.usb_explain.specs.declared.role.Role.{Role}
 use Rattle.usb_explain.specs.declared.position.Standing.{Standing}
-use Rattle.usb_explain.specs.Explanations.{StopsBetween}
+use Rattle.usb_explain.specs.Explanations.{StopsBetween, behind_next, block, here, next_block, told_next, walked}
 use Rattle.usb_explain.specs.Roles.{next_role}
 use Rattle.usb_explain.specs.Standings.{start}
 use Rattle.usb_explain.specs.Subjects.{Subject}
-use Rattle.usb_explain.specs.Walks.{behind_next, block, here, next_block, told_next, walked}
 use Rattle.usb_explain.specs.inside.Walking.{Counted, PutsWalk}
 use Rattle.usb_explain.proofs.Standings.{counted_entered, counted_noted, counted_told, entered_at, noted_at}
 

@@ -5,10 +5,10 @@ use Rattle.usb_names.specs.declared.codes.ClassCodes.{ClassCodes}
 use Rattle.usb_explain.specs.declared.speed.SetSpeed.{SetSpeed}
 use Rattle.usb_explain.specs.declared.speed.SetSpeed.TheVariants.{FullOrHigh, Super}
 use Rattle.usb_explain.specs.Bindings.{bound_at}
-use Rattle.usb_explain.specs.declared.line_context.Context.{Context}
-use Rattle.usb_explain.specs.declared.line_context.StringPlace.{StringPlace}
-use Rattle.usb_explain.specs.declared.descriptor_role.Role.{Role}
-use Rattle.usb_explain.specs.declared.descriptor_role.Role.TheVariants.{Device, Configuration, Association, Interface, Endpoint, Raw}
+use Rattle.usb_explain.specs.declared.context.Context.{Context}
+use Rattle.usb_explain.specs.declared.context.StringPlace.{StringPlace}
+use Rattle.usb_explain.specs.declared.role.Role.{Role}
+use Rattle.usb_explain.specs.declared.role.Role.TheVariants.{Device, Configuration, Association, Interface, Endpoint, Raw}
 use Rattle.usb_explain.specs.declared.position.Owner.{Owner}
 use Rattle.usb_explain.specs.declared.position.Owner.TheVariants as owners
 use Rattle.usb_explain.specs.declared.position.SettingStanding.{SettingStanding}

@@ -1,18 +1,15 @@
 -- The lines of a descriptor, by what it is.
 use Rattle.std.specs.Prelude.{ℕ, List, [], length, Bool, if◌then◌else◌}
-use Rattle.usb_explain.specs.declared.descriptor_role.Role.{Role}
-use Rattle.usb_explain.specs.declared.descriptor_role.Role.TheVariants.{Device, Qualifier, Configuration, Association, Interface, Endpoint, Raw, Languages, Text}
-use Rattle.usb_explain.specs.declared.line_context.Context.{Context}
-use Rattle.usb_explain.specs.declared.look.Look.{Look}
-use Rattle.usb_explain.specs.Layouts.{layout_lines}
-use Rattle.usb_explain.specs.LineForms.{heading_line}
+use Rattle.usb_explain.specs.declared.role.Role.{Role}
+use Rattle.usb_explain.specs.declared.role.Role.TheVariants.{Device, Qualifier, Configuration, Association, Interface, Endpoint, Raw, Languages, Text}
+use Rattle.usb_explain.specs.declared.context.Context.{Context}
+use Rattle.usb_explain.specs.declared.manner.Look.{Look}
+use Rattle.usb_explain.specs.Layouts.{layout_lines, association_layout, configuration_layout, device_layout, endpoint_layout, interface_layout, qualifier_layout}
+use Rattle.usb_explain.specs.Lines.{heading_line}
 use Rattle.usb_explain.specs.StringNames.{StringNames}
-use Rattle.usb_explain.specs.Device.{device_words, qualifier_words}
-use Rattle.usb_explain.specs.Sets.{association_words, configuration_words, interface_words}
-use Rattle.usb_explain.specs.EndpointLines.{endpoint_words}
-use Rattle.usb_explain.specs.StandardLayouts.{association_layout, configuration_layout, device_layout, endpoint_layout, interface_layout, qualifier_layout}
-use Rattle.usb_explain.specs.Raws.{raw_lines, raw_words}
-use Rattle.usb_explain.specs.Strings.{languages_words, string_words}
+use Rattle.usb_explain.specs.Sets.{device_words, qualifier_words, association_words, configuration_words, interface_words, languages_words, string_words}
+use Rattle.usb_explain.specs.Endpoints.{endpoint_words}
+use Rattle.usb_explain.specs.Headers.{raw_lines, raw_words}
 
 -- the words of its heading, maybe with characters beyond ASCII
 unfoldable pub heading_words : Bool → Role → Context → List ℕ → List ℕ

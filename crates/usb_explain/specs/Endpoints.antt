@@ -1,15 +1,19 @@
--- What an endpoint descriptor says, in words (USB 2.0, 9.6.6).
-use Rattle.std.specs.Prelude.{ℕ, List, [], ◌++◌, ◌/◌, ◌%◌, ◌==◌, Bool, true, false, Option, Some, None, codes, if◌then◌else◌}
+-- What an endpoint descriptor says, in words and by its bytes (USB 2.0, 9.6.6).
+use Rattle.std.specs.Prelude.{ℕ, List, [], ◌++◌, ◌/◌, ◌%◌, ◌==◌, Bool, true, false, Option, Some, None, codes, if◌then◌else◌, ◌^◌, nat_le, slice_index}
 use Rattle.std.specs.Fmt.{decimal}
-use Rattle.usb_fields.specs.Directions.{direction_of}
-use Rattle.usb_set.specs.Endpoints.{number_of, packet_size_of, transactions_of, transfer_type_of}
-use Rattle.usb_fields.specs.declared.direction.Direction.{Direction}
-use Rattle.usb_fields.specs.declared.direction.Direction.TheVariants.{Out, In}
+use Rattle.usb_fields.specs.Setup.{direction_of}
+use Rattle.usb_set.specs.Descriptors.{number_of, packet_size_of, transactions_of, transfer_type_of}
+use Rattle.usb_fields.specs.declared.setup.Direction.{Direction}
+use Rattle.usb_fields.specs.declared.setup.Direction.TheVariants.{Out, In}
 use Rattle.usb_set.specs.declared.endpoint.TransferType.{TransferType}
 use Rattle.usb_set.specs.declared.endpoint.TransferType.TheVariants.{Control, Isochronous, Bulk, Interrupt}
 use Rattle.usb_explain.specs.declared.speed.SetSpeed.{SetSpeed}
-use Rattle.usb_explain.specs.declared.speed.SetSpeed.TheVariants.{High}
-use Rattle.usb_text.specs.Numbers.{count}
+use Rattle.usb_explain.specs.declared.speed.SetSpeed.TheVariants.{High, Super}
+use Rattle.usb_text.specs.Numbers.{count, byte_code, meaning, release, word_code}
+use Rattle.usb_explain.specs.Speeds.{interval_at, is_periodic, power_words}
+use Rattle.usb_fields.specs.Bytes.{little_endian_at}
+
+-- What an endpoint descriptor says, in words (USB 2.0, 9.6.6).
 
 -- which way the data goes
 abbrev pub direction_words : Direction → List ℕ
@@ -72,3 +76,66 @@ unfoldable pub size_words : SetSpeed → ℕ → ℕ → List ℕ
 size_words speed attributes max_packet =
     if has_packets speed (transfer_type_of attributes) then packets_words (transactions_of max_packet) (packet_size_of max_packet)
     else count (packet_size_of max_packet) (codes "byte")
+
+-- Values of fields that have a number and its meaning.
+
+-- a release in hexadecimal and as it is meant
+unfoldable pub release_value : ℕ → List ℕ
+release_value n = word_code n ++ meaning (release n)
+
+-- the bytes of 2^n, for n up to 15
+abbrev pub power_of_two_words : ℕ → List ℕ
+power_of_two_words n = if nat_le n 15 then count (2 ^ n) (codes "byte") else codes "out of range"
+
+-- bMaxPacketSize0 of a device, which is an exponent at SuperSpeed (USB 3.2, 9.6.1)
+unfoldable pub packet_value : SetSpeed → ℕ → List ℕ
+packet_value Super n = decimal n ++ meaning (power_of_two_words n)
+packet_value _ n = decimal n
+
+-- where a set takes its power, by bit 6 of bmAttributes (USB 2.0, 9.6.3)
+unfoldable pub source_words : ℕ → List ℕ
+source_words attributes = if attributes / 64 % 2 == 1 then codes "self-powered" else codes "bus-powered"
+
+-- whether the device can wake the host, by bit 5
+unfoldable pub wakeup_words : ℕ → List ℕ
+wakeup_words attributes = if attributes / 32 % 2 == 1 then codes ", remote wakeup" else []
+
+-- bmAttributes of a set
+unfoldable pub set_attributes : ℕ → List ℕ
+set_attributes attributes = byte_code attributes ++ meaning (source_words attributes ++ wakeup_words attributes)
+
+-- bMaxPower of a set
+unfoldable pub power_value : SetSpeed → ℕ → List ℕ
+power_value speed power = decimal power ++ meaning (power_words speed power)
+
+-- bEndpointAddress
+unfoldable pub address_value : ℕ → ℕ → List ℕ
+address_value attributes address = byte_code address ++ meaning (end_words attributes address)
+
+-- bmAttributes of an endpoint
+unfoldable pub attributes_value : ℕ → List ℕ
+attributes_value attributes = byte_code attributes ++ meaning (attributes_words attributes)
+
+-- wMaxPacketSize
+unfoldable pub size_value : SetSpeed → ℕ → ℕ → List ℕ
+size_value speed attributes max_packet = word_code max_packet ++ meaning (size_words speed attributes max_packet)
+
+-- bInterval, which has a meaning for periodic endpoints
+unfoldable pub interval_value : SetSpeed → ℕ → ℕ → List ℕ
+interval_value speed attributes interval =
+    if is_periodic (transfer_type_of attributes) then decimal interval ++ meaning (interval_at speed (transfer_type_of attributes) interval)
+    else decimal interval
+
+-- The endpoint descriptor, by its bytes (USB 2.0, 9.6.6).
+
+-- the interval of a periodic endpoint after the other words
+unfoldable pub interval_words : SetSpeed → ℕ → ℕ → List ℕ
+interval_words speed attributes interval =
+    if is_periodic (transfer_type_of attributes) then codes ", " ++ interval_at speed (transfer_type_of attributes) interval else []
+
+-- address, attributes, size and interval of an endpoint
+unfoldable pub endpoint_words : SetSpeed → List ℕ → List ℕ
+endpoint_words speed b =
+    codes "endpoint " ++ address_value (slice_index b 3) (slice_index b 2) ++ codes ", "
+    ++ attributes_words (slice_index b 3) ++ codes ", " ++ size_words speed (slice_index b 3) (little_endian_at b 4)
+    ++ interval_words speed (slice_index b 3) (slice_index b 6)

@@ -2,14 +2,14 @@
 use Rattle.std.specs.Prelude.{ℕ, List, [], ◌++◌, codes, ◌==◌, Option, Some, None, if◌then◌else◌}
 use Rattle.std.specs.Fmt.{decimal}
 use Rattle.usb_set.specs.Numbers.{why_number as set_why_number, why_message as set_message}
-use Rattle.usb_file.specs.declared.fault.FileWhy.{FileWhy}
-use Rattle.usb_file.specs.declared.fault.FileWhy.TheVariants as files
-use Rattle.usb_file.specs.declared.input_fault.InputFault.{InputFault}
-use Rattle.usb_file.specs.declared.input_fault.InputFault.TheVariants as faults
-use Rattle.usb_file.specs.declared.likeness.Likeness.{Likeness}
-use Rattle.usb_file.specs.declared.likeness.Likeness.TheVariants as likes
-use Rattle.usb_file.specs.Likeness.{likeness_of}
-use Rattle.usb_file.specs.Numbers.{why_message, why_number}
+use Rattle.usb_file_data.specs.declared.fault.FileWhy.{FileWhy}
+use Rattle.usb_file_data.specs.declared.fault.FileWhy.TheVariants as files
+use Rattle.usb_file_data.specs.declared.fault.InputFault.{InputFault}
+use Rattle.usb_file_data.specs.declared.fault.InputFault.TheVariants as faults
+use Rattle.usb_file_data.specs.declared.likeness.Likeness.{Likeness}
+use Rattle.usb_file_data.specs.declared.likeness.Likeness.TheVariants as likes
+use Rattle.usb_file_data.specs.Likeness.{likeness_of}
+use Rattle.usb_file_data.specs.FileFaults.{why_message, why_number}
 
 -- the place of the fault in the input
 abbrev pub place_of_fault : InputFault → ℕ

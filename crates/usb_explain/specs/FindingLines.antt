@@ -9,7 +9,7 @@ use Rattle.usb_explain.specs.declared.finding_words.PacketFault.{PacketFault}
 use Rattle.usb_explain.specs.declared.finding_words.PacketFault.TheVariants.{NotInTable, NotNine, Nine}
 use Rattle.usb_explain.specs.declared.finding_words.Told.{Told}
 use Rattle.usb_explain.specs.declared.finding_words.Told.TheVariants as told
-use Rattle.usb_explain.specs.LineForms.{spaces}
+use Rattle.usb_explain.specs.Lines.{spaces}
 
 -- the rule that a finding breaks
 abbrev pub rule_of : Told → Rule

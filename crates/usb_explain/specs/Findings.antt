@@ -11,15 +11,15 @@ use Rattle.usb_file_data.specs.declared.rule.Rule.TheVariants as rules
 use Rattle.usb_file_data.specs.Numbers.{rule_numbered}
 use Rattle.usb_file_data.specs.Places.{finding}
 use Rattle.usb_file_data.specs.Rules.{wrong_packet}
-use Rattle.usb_explain.specs.Counts.{endpoints_before_interface}
-use Rattle.usb_explain.specs.Cut.{descriptors}
+use Rattle.usb_explain.specs.Headers.{endpoints_before_interface}
+use Rattle.usb_explain.specs.Trees.{descriptors}
 use Rattle.usb_explain.specs.declared.finding_words.PacketFault.{PacketFault}
 use Rattle.usb_explain.specs.declared.finding_words.PacketFault.TheVariants as packets
 use Rattle.usb_explain.specs.declared.finding_words.Told.{Told}
 use Rattle.usb_explain.specs.declared.finding_words.Told.TheVariants as told
 use Rattle.usb_explain.specs.FindingLines.{finding_line}
-use Rattle.usb_explain.specs.declared.descriptor_role.Role.{Role}
-use Rattle.usb_explain.specs.declared.descriptor_role.Role.TheVariants.{Device, Qualifier, Configuration, Association, Interface, Endpoint}
+use Rattle.usb_explain.specs.declared.role.Role.{Role}
+use Rattle.usb_explain.specs.declared.role.Role.TheVariants.{Device, Qualifier, Configuration, Association, Interface, Endpoint}
 use Rattle.usb_explain.specs.declared.position.SetStanding.{SetStanding}
 use Rattle.usb_explain.specs.declared.position.SettingStanding.{SettingStanding}
 use Rattle.usb_explain.specs.declared.position.Standing.{Standing}

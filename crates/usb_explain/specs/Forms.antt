@@ -7,14 +7,11 @@ use Rattle.usb_names.specs.declared.field.Form.TheVariants.{Decimal, Hexadecimal
 use Rattle.usb_explain.specs.declared.speed.SetSpeed.{SetSpeed}
 use Rattle.usb_names.specs.Bits.{abstract_control_bits, call_management_bits, firmware_upgrade_bits}
 use Rattle.usb_names.specs.Terminals.{audio_terminals, video_terminals}
-use Rattle.usb_explain.specs.Bits.{bits_field}
-use Rattle.usb_explain.specs.FrameIntervals.{frame_interval}
-use Rattle.usb_explain.specs.Guids.{guid_words}
-use Rattle.usb_explain.specs.Terminals.{terminal_words}
-use Rattle.usb_explain.specs.Names.{class_field, function_class_field, protocol_field, subclass_field}
+use Rattle.usb_explain.specs.Names.{bits_field, guid_words, terminal_words, class_field, function_class_field, protocol_field, subclass_field}
+use Rattle.usb_explain.specs.Speeds.{frame_interval}
 use Rattle.usb_text.specs.Numbers.{byte_code, word_code}
 use Rattle.usb_explain.specs.StringNames.{StringNames, index_words}
-use Rattle.usb_explain.specs.Values.{address_value, attributes_value, interval_value, packet_value, power_value, release_value, set_attributes, size_value}
+use Rattle.usb_explain.specs.Endpoints.{address_value, attributes_value, interval_value, packet_value, power_value, release_value, set_attributes, size_value}
 
 -- the decimal digits of a number of one to four bytes, the low one first
 abbrev pub decimal_words : List ℕ → List ℕ

@@ -5,31 +5,29 @@ use Rattle.std.specs.Prelude.{◌≡◌, ◌<◌, ◌≤◌, ℕ, true, false, �
 use Rattle.std.specs.List.{AllByRecursion}
 use Rattle.std.specs.Option.{option_map}
 use Rattle.usb_fields.specs.Bytes.{AreBytes}
-use Rattle.usb_file_data.specs.declared.input.Input.{Input}
-use Rattle.usb_file.specs.declared.input_fault.InputFault.{InputFault}
-use Rattle.usb_file.specs.Inputs.{InputRefused, IsInput}
-use Rattle.usb_file.specs.Likeness.{likeness_of}
+use Rattle.usb_file_data.specs.declared.file.Input.{Input}
+use Rattle.usb_file_data.specs.declared.fault.InputFault.{InputFault}
+use Rattle.usb_file_data.specs.Inputs.{InputRefused, IsInput}
+use Rattle.usb_file_data.specs.Likeness.{likeness_of}
 use Rattle.usb_file_data.specs.Findings.{input_findings}
 use Rattle.usb_file_data.specs.declared.finding.Finding.{Finding}
 use Rattle.usb_file_data.specs.declared.rule.Rule.{Rule}
 use Rattle.usb_file_data.specs.declared.rule.Rule.TheVariants as rules
 use Rattle.usb_file_data.specs.InOrder.{by_rule}
 use Rattle.usb_explain.specs.declared.finding_words.Told.{Told}
-use Rattle.usb_explain.specs.declared.line_context.Context.{Context}
+use Rattle.usb_explain.specs.declared.context.Context.{Context}
 use Rattle.usb_explain.specs.Descriptors.{field_lines, fields, heading}
-use Rattle.usb_explain.specs.Rest.{rest_fields, rest_heading, rest_line, rest_lines}
+use Rattle.usb_explain.specs.Explanations.{rest_fields, rest_heading, rest_line, rest_lines, broken_explanation, broken_name, explanation, first_line, input_name, last_line, rest_of_set}
 use Rattle.usb_explain.specs.declared.remark.Remark.{Remark}
 use Rattle.usb_explain.specs.RemarkLines.{remark_line, remark_lines}
 use Rattle.usb_explain.specs.Remarks.{remarks_on}
 use Rattle.usb_explain.specs.declared.manner.Manner.{Manner}
-use Rattle.usb_explain.specs.declared.descriptor_role.Role.{Role}
+use Rattle.usb_explain.specs.declared.role.Role.{Role}
 use Rattle.usb_explain.specs.declared.position.Standing.{Standing}
-use Rattle.usb_explain.specs.Explanations.{broken_explanation, broken_name, explanation, first_line, input_name, last_line}
 use Rattle.usb_explain.specs.Faults.{fault_lines, fault_text, likeness_text, place_of_fault}
 use Rattle.usb_explain.specs.Findings.{found_at, is_here, line_of, role_findings, told_at}
 use Rattle.usb_explain.specs.Contexts.{context_of, depth_of}
 use Rattle.usb_explain.specs.Lines.{IsLine, IsLineIfAny, SayFields}
-use Rattle.usb_explain.specs.Walks.{rest_of_set}
 use Rattle.usb_explain.specs.Uncovered.{most_uncovered}
 use Rattle.usb_explain.specs.Subjects.{Subject, broken_subject, findings_in, subject_with}
 use Rattle.usb_explain.specs.Trees.{OutlineEntry, counts_in, entry, outline}

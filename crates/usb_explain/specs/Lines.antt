@@ -1,8 +1,37 @@
 -- Lines of printable ASCII.
-use Rattle.std.specs.Prelude.{◌≡◌, ◌⊎◌, ℕ, true, List, [], ◌∷◌, ◌++◌}
+use Rattle.std.specs.Prelude.{ℕ, ◌+◌, ◌*◌, List, [], ◌∷◌, ◌++◌, replicate, codes, if◌then◌else◌, ◌≡◌, ◌⊎◌, true}
+use Rattle.std.specs.Fmt.{decimal}
+use Rattle.hex.specs.Hex.{encode_lower}
+use Rattle.usb_text.specs.Lines.{column, is_printable}
+use Rattle.usb_explain.specs.declared.manner.Look.{Look}
 use Rattle.std.specs.List.{AllByRecursion, flat_map, list_all}
-use Rattle.usb_text.specs.Printable.{is_printable}
-use Rattle.usb_explain.specs.LineForms.{field_line}
+
+-- The forms of lines: headings, findings and fields, each at the depth of its descriptor.
+
+-- so many spaces
+abbrev pub spaces : ℕ → List ℕ
+spaces n = replicate n 32
+
+-- where a descriptor starts in the input, and how many bytes it has, where places are shown
+abbrev pub place_words : Look → ℕ → ℕ → List ℕ
+place_words look at count = if look.places then codes " @" ++ decimal at ++ codes "+" ++ decimal count else []
+
+-- the line that a descriptor begins with
+unfoldable pub heading_line : Look → ℕ → List ℕ → ℕ → ℕ → List ℕ
+heading_line look depth words at count = spaces (2 * depth) ++ words ++ place_words look at count ++ codes "\n"
+
+-- the line of a field up to its value: the name in a column of 23 characters
+unfoldable pub field_start : ℕ → List ℕ → List ℕ
+field_start depth name = spaces (2 * depth + 4) ++ column 23 name
+
+-- the line of a field
+unfoldable pub field_line : ℕ → List ℕ → List ℕ → List ℕ
+field_line depth name value = field_start depth name ++ value ++ codes "\n"
+
+-- bytes as hexadecimal digits, if there are any
+unfoldable pub digits_line : ℕ → List ℕ → List ℕ → List ℕ
+digits_line depth name [] = []
+digits_line depth name (b ∷ rest) = field_line depth name (encode_lower (b ∷ rest))
 
 -- one line: bytes of 20 to 7e hexadecimal, and the line feed that ends it
 pub record IsLine (text : List ℕ) : Type 0 where

@@ -7,9 +7,9 @@ use Rattle.usb_set.specs.declared.endpoint.TransferType.TheVariants.{Control, Is
 use Rattle.usb_explain.specs.declared.speed.SetSpeed.{SetSpeed}
 use Rattle.usb_explain.specs.Speeds.{speed_words}
 use Rattle.usb_text.specs.Numbers.{count}
-use Rattle.usb_explain.specs.declared.line_context.Context.{Context}
-use Rattle.usb_explain.specs.declared.descriptor_role.Role.{Role}
-use Rattle.usb_explain.specs.LineForms.{spaces}
+use Rattle.usb_explain.specs.declared.context.Context.{Context}
+use Rattle.usb_explain.specs.declared.role.Role.{Role}
+use Rattle.usb_explain.specs.Lines.{spaces}
 use Rattle.usb_explain.specs.declared.remark.Range.{Range}
 use Rattle.usb_explain.specs.declared.remark.Sizes.{Sizes}
 use Rattle.usb_explain.specs.declared.remark.Sizes.TheVariants.{NoEndpoint, Only, UpTo, EightTo64, EightTo64Or512}

@@ -1,16 +1,16 @@
 -- What is remarked of a descriptor: what can't be at the speed of its set, values that the standard reserves (USB 2.0,
 -- 5.5.3, 5.6.3, 5.7.3, 5.8.3, 9.6.5 and 9.6.6; the association's ECN), and the length that a class header has.
-use Rattle.std.specs.Prelude.{ℕ, List, [], ◌∷◌, ◌++◌, slice_index, Bool, true, false, nat_le, not, ◌==◌, ◌&&◌, ◌||◌, ◌/◌, ◌%◌, Option, Some, None, option_and_then, if◌then◌else◌}
+use Rattle.std.specs.Prelude.{ℕ, List, [], ◌∷◌, ◌++◌, slice_index, Bool, true, false, nat_le, not, ◌==◌, ◌&&◌, ◌||◌, ◌/◌, ◌%◌, Option, Some, None, option_and_then, if◌then◌else◌, ◌≡◌, is_some}
 use Rattle.std.specs.Option.{option_or}
 use Rattle.usb_fields.specs.Bytes.{little_endian_at}
 use Rattle.usb_set.specs.declared.endpoint.TransferType.{TransferType}
 use Rattle.usb_set.specs.declared.endpoint.TransferType.TheVariants.{Control, Isochronous, Bulk, Interrupt}
-use Rattle.usb_set.specs.Endpoints.{packet_size_of, transfer_type_of}
+use Rattle.usb_set.specs.Descriptors.{packet_size_of, transfer_type_of}
 use Rattle.usb_explain.specs.declared.speed.SetSpeed.{SetSpeed}
 use Rattle.usb_explain.specs.declared.speed.SetSpeed.TheVariants.{Low, Full, LowOrFull, High, FullOrHigh, Super}
-use Rattle.usb_explain.specs.declared.line_context.Context.{Context}
-use Rattle.usb_explain.specs.declared.descriptor_role.Role.{Role}
-use Rattle.usb_explain.specs.declared.descriptor_role.Role.TheVariants as roles
+use Rattle.usb_explain.specs.declared.context.Context.{Context}
+use Rattle.usb_explain.specs.declared.role.Role.{Role}
+use Rattle.usb_explain.specs.declared.role.Role.TheVariants as roles
 use Rattle.usb_explain.specs.declared.remark.Range.{Range}
 use Rattle.usb_explain.specs.declared.remark.Sizes.{Sizes}
 use Rattle.usb_explain.specs.declared.remark.Sizes.TheVariants.{NoEndpoint, Only, UpTo, EightTo64, EightTo64Or512}
@@ -156,3 +156,23 @@ remarks_on roles.Interface context b rest = there (class_remark (slice_index b 5
 remarks_on roles.Endpoint context b rest = typed_remarks context.speed (transfer_type_of (slice_index b 3)) b
 remarks_on roles.Raw context b rest = there (header_remark context.interface b rest)
 remarks_on _ context b rest = []
+
+-- What holds of remarks: one that speaks of two speeds holds at both.
+
+-- An open speed has a remark just where both of its speeds have one: on bInterval, on bits 10 to 0 and on bits 12 to 11 of
+-- wMaxPacketSize, and on bmAttributes.
+pub record IsOpen (both one other : SetSpeed) : Type 0 where
+  pub intervals : (transfer : TransferType) (n : ℕ) →
+      is_some (interval_remark both transfer n) ≡ (is_some (interval_remark one transfer n) && is_some (interval_remark other transfer n))
+  pub sizes : (transfer : TransferType) (n : ℕ) →
+      is_some (size_remark both transfer n) ≡ (is_some (size_remark one transfer n) && is_some (size_remark other transfer n))
+  pub multiples : (transfer : TransferType) (n : ℕ) →
+      is_some (multiple_remark both transfer n) ≡ (is_some (multiple_remark one transfer n) && is_some (multiple_remark other transfer n))
+  pub attributes : (transfer : TransferType) (n : ℕ) →
+      is_some (attributes_remark both transfer n) ≡ (is_some (attributes_remark one transfer n) && is_some (attributes_remark other transfer n))
+
+abbrev pub LowOrFullIsOpen : Type 0
+LowOrFullIsOpen = IsOpen LowOrFull Low Full
+
+abbrev pub FullOrHighIsOpen : Type 0
+FullOrHighIsOpen = IsOpen FullOrHigh Full High

@@ -1,11 +1,30 @@
 -- What a descriptor is at its place (USB 2.0, table 9-5 and 9.6).
-use Rattle.std.specs.Prelude.{ℕ, ◌%◌, List, length, slice_index, take, Bool, true, false, nat_le, ◌==◌, ◌&&◌, ◌||◌, Option, Some, None, is_some, option_and_then, if◌then◌else◌}
+use Rattle.std.specs.Prelude.{ℕ, List, length, slice_index, Bool, nat_le, ◌==◌, ◌&&◌, ◌%◌, take, true, false, ◌||◌, Option, Some, None, is_some, option_and_then, if◌then◌else◌}
 use Rattle.std.specs.Option.{option_map}
 use Rattle.usb_fields.specs.Bytes.{little_endian_at}
-use Rattle.usb_explain.specs.Cut.{descriptor_length}
-use Rattle.usb_explain.specs.declared.descriptor_role.Role.{Role}
-use Rattle.usb_explain.specs.declared.descriptor_role.Role.TheVariants.{Device, Qualifier, Configuration, Association, Interface, Endpoint, Raw, Languages, Text}
+use Rattle.usb_explain.specs.Trees.{descriptor_length}
+use Rattle.usb_explain.specs.declared.role.Role.{Role}
+use Rattle.usb_explain.specs.declared.role.Role.TheVariants.{Device, Qualifier, Configuration, Association, Interface, Endpoint, Raw, Languages, Text}
 use Rattle.usb_explain.specs.declared.position.Standing.{Standing}
+
+-- What the descriptors of a set are, by bDescriptorType and bLength (USB 2.0, 9.6.5 and 9.6.6, and the ECN on interface
+-- associations, 9.X.Y).
+
+-- the type of a descriptor, and that it has these many bytes at least
+abbrev pub is_of_type : ℕ → ℕ → List ℕ → Bool
+is_of_type type least d = (slice_index d 1 == type) && nat_le least (length d)
+
+-- an interface
+abbrev pub is_interface : List ℕ → Bool
+is_interface d = is_of_type 4 9 d
+
+-- an endpoint
+abbrev pub is_endpoint : List ℕ → Bool
+is_endpoint d = is_of_type 5 7 d
+
+-- an interface association
+abbrev pub is_association : List ℕ → Bool
+is_association d = is_of_type 11 8 d
 
 -- this role, if it has what the role asks for
 abbrev pub role_if : Bool → Role → Option Role

@@ -2,18 +2,17 @@
 use Rattle.std.specs.Prelude.{ℕ, List, length, slice_index, take, drop, nat_le, ◌==◌, ◌&&◌, Bool, Option, Some, None, option_and_then, if◌then◌else◌}
 use Rattle.std.specs.Option.{option_or}
 use Rattle.usb_fields.specs.Bytes.{little_endian_at}
-use Rattle.usb_file.specs.Likeness.{after_sets}
+use Rattle.usb_file_data.specs.Likeness.{after_sets}
 use Rattle.usb_file_data.specs.declared.finding.Part.{Part}
 use Rattle.usb_file_data.specs.declared.finding.Part.TheVariants.{Main, Other}
 use Rattle.usb_explain.specs.declared.speed.SetSpeed.{SetSpeed}
 use Rattle.usb_explain.specs.declared.speed.SetSpeed.TheVariants.{FullOrHigh}
 use Rattle.usb_explain.specs.declared.set_speed.Background.{Background}
 use Rattle.usb_explain.specs.declared.survey.Survey.{Survey}
-use Rattle.usb_explain.specs.Cut.{descriptors}
-use Rattle.usb_explain.specs.SetSpeeds.{other_speed, speed_by}
-use Rattle.usb_explain.specs.Surveys.{survey_of}
-use Rattle.usb_explain.specs.declared.descriptor_role.Role.{Role}
-use Rattle.usb_explain.specs.declared.descriptor_role.Role.TheVariants.{Configuration, Device}
+use Rattle.usb_explain.specs.Trees.{descriptors}
+use Rattle.usb_explain.specs.SetSpeeds.{other_speed, speed_by, survey_of}
+use Rattle.usb_explain.specs.declared.role.Role.{Role}
+use Rattle.usb_explain.specs.declared.role.Role.TheVariants.{Configuration, Device}
 use Rattle.usb_explain.specs.declared.position.DeviceFacts.{DeviceFacts}
 use Rattle.usb_explain.specs.declared.position.Owner.TheVariants as owners
 use Rattle.usb_explain.specs.declared.position.SetStanding.{SetStanding}

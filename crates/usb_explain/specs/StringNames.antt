@@ -3,8 +3,7 @@ use Rattle.std.specs.Prelude.{ℕ, ◌==◌, List, [], ◌++◌, slice_get, code
 use Rattle.std.specs.Fmt.{decimal}
 use Rattle.usb_file_data.specs.declared.file.DescriptorFile.{DescriptorFile}
 use Rattle.usb_file_data.specs.declared.file.Strings.{Strings}
-use Rattle.usb_file_data.specs.Named.{named_indices}
-use Rattle.usb_file_data.specs.StringPlaces.{units_at}
+use Rattle.usb_file_data.specs.File.{named_indices, units_at}
 use Rattle.usb_text.specs.Characters.{units_words}
 use Rattle.usb_explain.specs.declared.string_names.Missing.{Missing}
 use Rattle.usb_explain.specs.declared.string_names.Missing.TheVariants.{NotInInput, NotRead}

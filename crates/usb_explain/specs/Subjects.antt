@@ -1,11 +1,11 @@
 -- What is explained, and what is known of the whole of it.
 use Rattle.std.specs.Prelude.{ℕ, zero, ◌/◌, ◌%◌, List, [], slice_get, Bool, true, false, Option, Some, None}
 use Rattle.usb_file_data.specs.declared.file.Strings.{Strings}
-use Rattle.usb_file_data.specs.declared.input.Input.{Input}
-use Rattle.usb_file_data.specs.declared.input.Input.TheVariants as inputs
+use Rattle.usb_file_data.specs.declared.file.Input.{Input}
+use Rattle.usb_file_data.specs.declared.file.Input.TheVariants as inputs
 use Rattle.usb_file_data.specs.declared.finding.Finding.{Finding}
 use Rattle.usb_file_data.specs.InOrder.{dump_findings_in_order, findings_in_order, set_findings_in_order}
-use Rattle.usb_explain.specs.declared.line_context.StringPlace.{StringPlace}
+use Rattle.usb_explain.specs.declared.context.StringPlace.{StringPlace}
 use Rattle.usb_explain.specs.declared.string_names.Missing.TheVariants.{NotInInput, NotRead}
 use Rattle.usb_explain.specs.StringNames.{StringNames, names_of, no_names}
 use Rattle.usb_explain.specs.declared.manner.Manner.{Manner}

@@ -1,9 +1,9 @@
 -- The outline of an input: the descriptors of its tree, each with its depth. And the interfaces and endpoints of its sets,
 -- counted.
-use Rattle.std.specs.Prelude.{ℕ, List, [], ◌∷◌, ◌++◌, length, map, Option, Some, None}
+use Rattle.std.specs.Prelude.{ℕ, zero, suc, ◌+◌, List, [], ◌∷◌, length, take, drop, nat_lt, ◌||◌, Option, Some, None, unwrap_or, if◌then◌else◌, ◌++◌, map}
+use Rattle.std.specs.Option.{option_map}
 use Rattle.std.specs.List.{flat_map}
-use Rattle.usb_fields.specs.Device.{device_bytes}
-use Rattle.usb_fields.specs.Qualifier.{qualifier_bytes}
+use Rattle.usb_fields.specs.Device.{device_bytes, qualifier_bytes}
 use Rattle.usb_fields.specs.Units.{units_bytes}
 use Rattle.usb_set.specs.declared.extra.Extra.{Extra}
 use Rattle.usb_set.specs.declared.extra.Extra.TheVariants as extras
@@ -11,17 +11,34 @@ use Rattle.usb_set.specs.declared.tree.Endpoint.{Endpoint}
 use Rattle.usb_set.specs.declared.tree.Setting.{Setting}
 use Rattle.usb_set.specs.declared.tree.Configuration.{Configuration}
 use Rattle.usb_set.specs.Descriptors.{configuration_descriptor, descriptor_bytes, endpoint_descriptor, extra_descriptor, interface_descriptor}
-use Rattle.usb_set.specs.Encoding.{set_length}
+use Rattle.usb_set.specs.Layout.{set_length}
 use Rattle.usb_file_data.specs.declared.file.Other.{Other}
 use Rattle.usb_file_data.specs.declared.file.Strings.{Strings}
-use Rattle.usb_file_data.specs.Named.{other_sets}
-use Rattle.usb_file_data.specs.declared.input.Input.{Input}
-use Rattle.usb_file_data.specs.declared.input.Input.TheVariants as inputs
+use Rattle.usb_file_data.specs.File.{other_sets}
+use Rattle.usb_file_data.specs.declared.file.Input.{Input}
+use Rattle.usb_file_data.specs.declared.file.Input.TheVariants as inputs
 use Rattle.usb_file_data.specs.Rules.{interface_numbers}
 use Rattle.usb_explain.specs.declared.finding_words.Told.{Told}
 use Rattle.usb_explain.specs.declared.finding_words.Told.TheVariants as told
-use Rattle.usb_explain.specs.declared.descriptor_role.Role.{Role}
-use Rattle.usb_explain.specs.declared.descriptor_role.Role.TheVariants as roles
+use Rattle.usb_explain.specs.declared.role.Role.{Role}
+use Rattle.usb_explain.specs.declared.role.Role.TheVariants as roles
+
+-- Descriptors one after another, each as long as its first byte says (USB 2.0, 9.5).
+
+-- bLength of the descriptor that the bytes begin with, where it is 2 at least and so many bytes are there
+abbrev pub descriptor_length : List ℕ → Option ℕ
+descriptor_length [] = None
+descriptor_length (len ∷ rest) = if nat_lt len 2 || nat_lt (length rest + 1) len then None else Some len
+
+-- the first descriptors, at most so many
+abbrev pub first_descriptors : ℕ → List ℕ → List (List ℕ)
+first_descriptors zero b = []
+first_descriptors (suc n) b =
+    unwrap_or (option_map (λ len. take len b ∷ first_descriptors n (drop len b)) (descriptor_length b)) []
+
+-- all of them; there are no more than bytes
+abbrev pub descriptors : List ℕ → List (List ℕ)
+descriptors b = first_descriptors (length b) b
 
 -- An entry of an outline is a descriptor: what it is, its depth, and its bytes. It belongs to the last one before it that
 -- is less deep.

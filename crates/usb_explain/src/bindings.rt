@@ -7,7 +7,7 @@ use std::marker::Model;
 
 /// For each interface number of a set the number of the first association that binds it.
 #[derive(Clone, Debug, Drop)]
-pub struct Bindings {
+pub(crate) struct Bindings {
     /// There is no table before the first association, so that a set without one fills none.
     numbers: Option<[Option<u64>; 256]>,
 }
@@ -24,14 +24,14 @@ impl Model for Bindings {
 
 impl Bindings {
     /// Of a set without associations.
-    pub fn new() -> Bindings
+    pub(crate) fn new() -> Bindings
         ensures { result ≡ replicate 256 None }
     {
         Bindings { numbers: None }
     }
 
     /// The number of the association that binds an interface of this number.
-    pub fn of(&self, interface: u8) -> Option<u64>
+    pub(crate) fn of(&self, interface: u8) -> Option<u64>
         ensures { result ≡ bound_at self.now interface }
     {
         match &self.numbers {

@@ -1,7 +1,7 @@
 //! The bits of a byte by their names.
 ghost use Rattle.std.specs.Prelude.{◌≡◌, ◌<◌, ◌++◌, map, option_map, OnOk};
 ghost use Rattle.std.specs.List.{AllByRecursion, filter};
-ghost use Rattle.usb_explain.specs.Bits.{bit_words, bits_field, bits_meaning, further_bits, is_set, name_or_number};
+ghost use Rattle.usb_explain.specs.Names.{bit_words, bits_field, bits_meaning, further_bits, is_set, name_or_number};
 
 use std::alloc::AllocError;
 use usb_text::{Text, put_byte_code};
@@ -13,8 +13,8 @@ use usb_text::{Text, put_byte_code};
 /// assert_eq!(rt; text.as_bytes(), b"0x06 (upload, bit 2)");
 /// ```
 #[inline(never)]
-#[tactic(auto, unfolding(crate::specs::Bits::bits_field))]
-pub fn put_bits(text: &mut Text, names: &[&str], value: u8) -> Result<(), AllocError>
+#[tactic(auto, unfolding(crate::specs::Names::bits_field))]
+pub(crate) fn put_bits(text: &mut Text, names: &[&str], value: u8) -> Result<(), AllocError>
     ensures { OnOk result (text.new ≡ text.old ++ bits_field (map (λ name. name.now) names.now) value) }
 {
     put_byte_code(text, value)?;

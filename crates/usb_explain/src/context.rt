@@ -1,10 +1,9 @@
-//! What the words of a descriptor depend on at its place.
+//! What the words of a descriptor depend on beside its bytes.
 ghost use Rattle.std.specs.Prelude.{◌≡◌};
 ghost use Rattle.usb_explain.specs.Contexts.{below, codes_of, context_of, depth_of, is_super, speed_of};
 
-use crate::descriptor_role::Role;
-use crate::line_context::Context;
 use crate::position::{Owner, SettingStanding, Standing};
+use crate::role::Role;
 use crate::speed::SetSpeed;
 use crate::subject::Subject;
 use usb_fields::{byte_at, word_at};
@@ -83,4 +82,30 @@ fn is_super(running: Option<SetSpeed>, usb: u16) -> bool
         Some(SetSpeed::Super) => true,
         Some(_) => false,
     }
+}
+
+/// The place of a string among those of a file.
+#[derive(Clone, Copy, Debug, PartialEq, Eq, Hash)]
+pub(crate) struct StringPlace {
+    /// The index that names it.
+    pub(crate) index: u8,
+    /// Its language.
+    pub(crate) language: u16,
+}
+
+/// What the words of a descriptor depend on beside its role and its bytes.
+#[derive(Clone, Copy, Debug, PartialEq, Eq, Hash)]
+pub(crate) struct Context {
+    /// How deep its heading is.
+    pub(crate) depth: u8,
+    /// The speed of its set, or of the device. bMaxPacketSize0 of a device of SuperSpeed is an exponent (USB 3.2, 9.6.1).
+    pub(crate) speed: SetSpeed,
+    /// How many associations of its set came before it.
+    pub(crate) associations: u64,
+    /// The number of the first association of its set that binds an interface of its number.
+    pub(crate) association: Option<u64>,
+    /// The codes of the interface that it follows.
+    pub(crate) interface: Option<ClassCodes>,
+    /// The place of a string among those of a file.
+    pub(crate) place: Option<StringPlace>,
 }

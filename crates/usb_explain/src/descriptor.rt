@@ -2,14 +2,13 @@
 ghost use Rattle.std.specs.Prelude.{◌≡◌, ◌++◌, OnOk};
 ghost use Rattle.usb_explain.specs.Descriptors.{field_lines, fields, heading, heading_words};
 
-use crate::descriptor_role::Role;
-use crate::device::{put_device_words, put_qualifier_words};
-use crate::endpoint_lines::put_endpoint_words;
+use crate::context::Context;
+use crate::endpoint::put_endpoint_words;
 use crate::layout::put_layout;
 use crate::line::put_place;
-use crate::line_context::Context;
-use crate::look::Look;
-use crate::raw::{put_raw_fields, put_raw_words};
+use crate::manner::Look;
+use crate::raw::{put_device_words, put_qualifier_words, put_raw_fields, put_raw_words};
+use crate::role::Role;
 use crate::set::{put_association_words, put_configuration_words, put_interface_words};
 use crate::standard_layouts::{
     association_layout, configuration_layout, device_layout, endpoint_layout, interface_layout,
@@ -31,8 +30,8 @@ use usb_text::Text;
 /// # Errors
 ///
 /// Out of memory.
-#[tactic(auto, unfolding(crate::specs::Descriptors::heading, crate::specs::LineForms::heading_line))]
-pub fn put_heading(
+#[tactic(auto, unfolding(crate::specs::Descriptors::heading, crate::specs::Lines::heading_line))]
+pub(crate) fn put_heading(
     text: &mut Text,
     look: Look,
     role: Role,
@@ -84,7 +83,7 @@ fn put_words(
 ///
 /// Out of memory.
 #[tactic(auto, unfolding(crate::specs::Descriptors::fields))]
-pub fn put_fields(
+pub(crate) fn put_fields(
     text: &mut Text,
     look: Look,
     names: &Names,

@@ -1,19 +1,23 @@
-//! What an endpoint descriptor says, in words.
+//! The endpoint descriptor: what it says, in words.
 ghost use Rattle.std.specs.Prelude.{◌≡◌, ◌++◌, codes, OnOk};
-ghost use Rattle.usb_fields.specs.Directions.{direction_of};
-ghost use Rattle.usb_set.specs.Endpoints.{transactions_of};
+ghost use Rattle.usb_fields.specs.Setup.{direction_of};
+ghost use Rattle.usb_set.specs.Descriptors.{transactions_of};
 ghost use Rattle.usb_explain.specs.Endpoints.{attributes_words, direction_words, end_words, has_packets, packets_words, size_words, synchronization_words, transfer_words, usage_words, way_words};
 ghost use Rattle.usb_text.specs.Numbers.{count};
+ghost use Rattle.std.specs.Prelude.{◌≡◌, ◌++◌, OnOk};
+ghost use Rattle.usb_explain.specs.Endpoints.{endpoint_words, interval_words};
+ghost use Rattle.usb_explain.specs.Endpoints.{address_value, attributes_value, interval_value, size_value};
 
+use crate::interval::{is_periodic, put_interval};
 use crate::speed::SetSpeed;
 use std::alloc::AllocError;
-use usb_fields::Direction;
+use usb_fields::{Direction, byte_at, word_at};
 use usb_set::TransferType;
-use usb_text::{Text, put_count};
+use usb_text::{Text, begin_byte_meaning, begin_word_meaning, put_count};
 
 /// Puts the end that bEndpointAddress names: `EP 1 IN`. A control endpoint goes both ways: `EP 1`.
 #[tactic(auto, unfolding(crate::specs::Endpoints::end_words))]
-pub fn put_end(text: &mut Text, attributes: u8, address: u8) -> Result<(), AllocError>
+pub(crate) fn put_end(text: &mut Text, attributes: u8, address: u8) -> Result<(), AllocError>
     ensures { OnOk result (text.new ≡ text.old ++ end_words attributes address) }
 {
     text.put("EP ")?;
@@ -41,7 +45,7 @@ fn put_direction(text: &mut Text, address: u8) -> Result<(), AllocError>
 
 /// Puts what bmAttributes says: `bulk`, or `isochronous, adaptive, data`.
 #[tactic(auto, unfolding(crate::specs::Endpoints::attributes_words))]
-pub fn put_attributes(text: &mut Text, attributes: u8) -> Result<(), AllocError>
+pub(crate) fn put_attributes(text: &mut Text, attributes: u8) -> Result<(), AllocError>
     ensures { OnOk result (text.new ≡ text.old ++ attributes_words attributes) }
 {
     match TransferType::of(attributes) {
@@ -86,7 +90,7 @@ fn usage(attributes: u8) -> &'static str
 /// assert_eq!(rt; text.as_bytes(), b"3 x 1024 bytes a microframe");
 /// ```
 #[tactic(auto, unfolding(crate::specs::Endpoints::size_words))]
-pub fn put_size(
+pub(crate) fn put_size(
     text: &mut Text,
     speed: SetSpeed,
     attributes: u8,
@@ -139,5 +143,100 @@ fn put_packets(text: &mut Text, packets: Option<u8>, size: u64) -> Result<(), Al
             put_count(text, size, "byte")?;
             text.put(" a microframe")
         }
+    }
+}
+
+/// Puts the words of an endpoint descriptor's heading (USB 2.0, 9.6.6).
+#[inline(never)]
+#[tactic(auto, unfolding(crate::specs::Endpoints::endpoint_words))]
+pub(crate) fn put_endpoint_words(
+    text: &mut Text,
+    speed: SetSpeed,
+    b: &[u8],
+) -> Result<(), AllocError>
+    ensures { OnOk result (text.new ≡ text.old ++ endpoint_words speed b.now) }
+{
+    let attributes = byte_at(b, 3);
+    text.put("endpoint ")?;
+    put_address(text, attributes, byte_at(b, 2))?;
+    text.put(", ")?;
+    put_attributes(text, attributes)?;
+    text.put(", ")?;
+    put_size(text, speed, attributes, word_at(b, 4))?;
+    put_interval_words(text, speed, attributes, byte_at(b, 6))
+}
+
+#[tactic(auto, unfolding(crate::specs::Endpoints::interval_words))]
+fn put_interval_words(
+    text: &mut Text,
+    speed: SetSpeed,
+    attributes: u8,
+    interval: u8,
+) -> Result<(), AllocError>
+    ensures { OnOk result (text.new ≡ text.old ++ interval_words speed attributes interval) }
+{
+    if is_periodic(attributes) {
+        text.put(", ")?;
+        put_interval(text, speed, attributes, interval)
+    } else {
+        Ok(())
+    }
+}
+
+/// Puts bEndpointAddress of an endpoint of these attributes: `0x81 (EP 1 IN)`.
+#[inline(never)]
+#[tactic(auto, unfolding(crate::specs::Endpoints::address_value))]
+pub(crate) fn put_address(text: &mut Text, attributes: u8, address: u8) -> Result<(), AllocError>
+    ensures { OnOk result (text.new ≡ text.old ++ address_value attributes address) }
+{
+    begin_byte_meaning(text, address)?;
+    put_end(text, attributes, address)?;
+    text.put(")")
+}
+
+/// Puts bmAttributes of an endpoint.
+#[inline(never)]
+#[tactic(auto, unfolding(crate::specs::Endpoints::attributes_value))]
+pub(crate) fn put_attributes_value(text: &mut Text, attributes: u8) -> Result<(), AllocError>
+    ensures { OnOk result (text.new ≡ text.old ++ attributes_value attributes) }
+{
+    begin_byte_meaning(text, attributes)?;
+    put_attributes(text, attributes)?;
+    text.put(")")
+}
+
+/// Puts wMaxPacketSize of an endpoint of these attributes at a speed.
+#[tactic(auto, unfolding(crate::specs::Endpoints::size_value))]
+pub(crate) fn put_size_value(
+    text: &mut Text,
+    speed: SetSpeed,
+    attributes: u8,
+    max_packet: u16,
+) -> Result<(), AllocError>
+    ensures { OnOk result (text.new ≡ text.old ++ size_value speed attributes max_packet) }
+{
+    begin_word_meaning(text, max_packet)?;
+    put_size(text, speed, attributes, max_packet)?;
+    text.put(")")
+}
+
+/// Puts bInterval of an endpoint of these attributes.
+#[inline(never)]
+#[tactic(auto, unfolding(crate::specs::Endpoints::interval_value))]
+pub(crate) fn put_interval_value(
+    text: &mut Text,
+    speed: SetSpeed,
+    attributes: u8,
+    interval: u8,
+) -> Result<(), AllocError>
+    ensures { OnOk result (text.new ≡ text.old ++ interval_value speed attributes interval) }
+{
+    text.put_decimal(u64::from(interval))?;
+    if is_periodic(attributes) {
+        text.put(" (")?;
+        put_interval(text, speed, attributes, interval)?;
+        text.put(")")
+    } else {
+        Ok(())
     }
 }

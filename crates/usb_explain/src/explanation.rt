@@ -6,7 +6,7 @@ ghost use Rattle.usb_explain.specs.Explanations.{StopsBetween, StopsBroken, Stop
 ghost use Rattle.usb_explain.specs.Faults.{place_of_fault};
 
 use crate::fault_line::{fault_place, put_fault, put_likeness};
-use crate::found::findings_in;
+use crate::finding::findings_in;
 use crate::manner::Manner;
 use crate::rest_lines::put_rest;
 use crate::subject::Subject;
@@ -14,7 +14,7 @@ use crate::walk::write_blocks;
 use std::alloc::{AllocError, Global};
 use std::io::Write;
 use usb_fields::{after, byte_at, descriptor_type, prefix};
-use usb_file::{Input, InputFault, likeness_of};
+use usb_file_data::{Input, InputFault, likeness_of};
 use usb_text::{OutFault, Text, put_count, write_all};
 
 /// Writes the explanation of an input, of which these are the bytes.

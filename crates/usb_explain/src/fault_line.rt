@@ -3,7 +3,7 @@ ghost use Rattle.std.specs.Prelude.{◌≡◌, ◌++◌, OnOk};
 ghost use Rattle.usb_explain.specs.Faults.{fault_text, fault_words, file_message, following_words, likeness_text, likeness_words, numbered, place_of_fault, trailing_words};
 
 use std::alloc::AllocError;
-use usb_file::{FileWhy, InputFault, Likeness};
+use usb_file_data::{FileWhy, InputFault, Likeness};
 use usb_text::Text;
 
 /// The place of the fault in the input.

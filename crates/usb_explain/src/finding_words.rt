@@ -6,7 +6,7 @@ use usb_file_data::Rule;
 
 /// What is wrong with bMaxPacketSize0 (USB 2.0, 9.6.1; USB 3.2, 9.6.1).
 #[derive(Clone, Copy, Debug, PartialEq, Eq, Hash)]
-pub enum PacketFault {
+pub(crate) enum PacketFault {
     /// It is none of the sizes of USB 2.0.
     NotInTable,
     /// It isn't the exponent that SuperSpeed has.
@@ -17,7 +17,7 @@ pub enum PacketFault {
 
 /// What a finding says, with the numbers and causes in its words.
 #[derive(Clone, Copy, Debug, PartialEq, Eq, Hash)]
-pub enum Told {
+pub(crate) enum Told {
     /// V1 of a set.
     InterfaceCount {
         /// bNumInterfaces.
@@ -88,7 +88,7 @@ pub enum Told {
 
 impl Told {
     /// The rule that is broken.
-    pub fn rule(self) -> Rule
+    pub(crate) fn rule(self) -> Rule
         ensures { result ≡ rule_of self }
     {
         match self {

@@ -3,16 +3,14 @@ ghost use Rattle.std.specs.Prelude.{◌≡◌, ◌-◌, ◌++◌, drop, slice_in
 ghost use Rattle.usb_explain.specs.Forms.{decimal_words, form_words, hexadecimal_words, packet_size_words, release_words, report_words};
 
 use crate::bits::put_bits;
-use crate::endpoint_value::{
-    put_address, put_attributes_value, put_interval_value, put_size_value,
-};
-use crate::frame_interval::put_frame_interval;
-use crate::guid::put_guid;
-use crate::index::put_index;
+use crate::endpoint::{put_address, put_attributes_value, put_interval_value, put_size_value};
 use crate::layout::Shown;
-use crate::names::{put_class, put_function_class, put_protocol, put_subclass};
-use crate::speed::SetSpeed;
-use crate::terminal::{put_audio_terminal, put_video_terminal};
+use crate::names::{
+    put_audio_terminal, put_class, put_function_class, put_guid, put_protocol, put_subclass,
+    put_video_terminal,
+};
+use crate::speed::{SetSpeed, put_frame_interval};
+use crate::string::put_index;
 use crate::value::{put_packet_value, put_power_value, put_release_value, put_set_attributes};
 use std::alloc::AllocError;
 use usb_fields::{after, byte_at, prefix};

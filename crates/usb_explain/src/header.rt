@@ -1,11 +1,11 @@
 //! A remark on wTotalLength of a class header.
 ghost use Rattle.std.specs.Prelude.{◌≡◌, ◌≤◌, length};
 ghost use Rattle.std.specs.Option.{option_copied};
-ghost use Rattle.usb_explain.specs.Cut.{descriptors};
+ghost use Rattle.usb_explain.specs.Trees.{descriptors};
 ghost use Rattle.usb_explain.specs.Headers.{audio_place, class_length, header_place, header_remark, is_class_descriptor, is_header, is_of, total_length_place, total_remark};
 
-use crate::cut::descriptor_length;
 use crate::remark::Remark;
+use crate::rest_lines::descriptor_length;
 use usb_fields::{after, byte_at, prefix, word_at};
 use usb_names::ClassCodes;
 

@@ -1,15 +1,18 @@
-//! bInterval of periodic endpoints as a time.
+//! bInterval of periodic endpoints as a time, and remarks on it.
 ghost use Rattle.std.specs.Prelude.{◌≡◌, ◌++◌, OnOk};
-ghost use Rattle.usb_set.specs.Endpoints.{transfer_type_of};
+ghost use Rattle.usb_set.specs.Descriptors.{transfer_type_of};
 ghost use Rattle.usb_explain.specs.Speeds.{at_least_one, frames, full_interval, full_period, high_interval, interval_at, is_periodic, microframes, period, period_words};
+ghost use Rattle.std.specs.Prelude.{◌≡◌};
+ghost use Rattle.usb_explain.specs.Remarks.{from_to, interval_range, interval_remark};
 
+use crate::remark::{Range, Remark};
 use crate::speed::SetSpeed;
 use std::alloc::AllocError;
 use usb_set::TransferType;
 use usb_text::Text;
 
 /// Whether an endpoint of these attributes has an interval: isochronous and interrupt ones do (USB 2.0, 5.6 and 5.7).
-pub fn is_periodic(attributes: u8) -> bool
+pub(crate) fn is_periodic(attributes: u8) -> bool
     ensures { result ≡ is_periodic (transfer_type_of attributes) }
 {
     match TransferType::of(attributes) {
@@ -25,7 +28,7 @@ pub fn is_periodic(attributes: u8) -> bool
 /// assert_eq!(rt; text.as_bytes(), b"1 ms");
 /// ```
 #[tactic(auto, unfolding(crate::specs::Speeds::interval_at))]
-pub fn put_interval(
+pub(crate) fn put_interval(
     text: &mut Text,
     speed: SetSpeed,
     attributes: u8,
@@ -112,5 +115,45 @@ fn put_microframes(text: &mut Text, count: u64) -> Result<(), AllocError>
         text.put(" us")
     } else {
         put_frames(text, count / 8)
+    }
+}
+
+/// The values that bInterval has at a speed, if it has a meaning (USB 2.0, 9.6.6).
+fn interval_range(speed: SetSpeed, transfer: TransferType) -> Option<Range>
+    ensures { result ≡ interval_range speed transfer }
+{
+    match (transfer, speed) {
+        (TransferType::Control | TransferType::Bulk, _) => None,
+        (TransferType::Interrupt, SetSpeed::Low) => from_to(10, 255),
+        (TransferType::Interrupt, SetSpeed::Full | SetSpeed::LowOrFull | SetSpeed::FullOrHigh) =>
+            from_to(1, 255),
+        (TransferType::Isochronous, SetSpeed::Low | SetSpeed::LowOrFull) => None,
+        _ => from_to(1, 16),
+    }
+}
+
+fn from_to(least: u8, most: u8) -> Option<Range>
+    ensures { result ≡ from_to least most }
+{
+    Some(Range { least, most })
+}
+
+/// A remark on bInterval that is out of its range.
+pub(crate) fn interval_remark(
+    speed: SetSpeed,
+    transfer: TransferType,
+    interval: u8,
+) -> Option<Remark>
+    ensures { result ≡ interval_remark speed transfer interval }
+{
+    let range = interval_range(speed, transfer)?;
+    if range.least <= interval && interval <= range.most {
+        None
+    } else {
+        Some(Remark::Interval {
+            transfer,
+            speed,
+            range,
+        })
     }
 }

@@ -1,5 +1,6 @@
 //! What holds of each explanation. The functions of these laws do nothing: their contracts are the laws.
 ghost use Rattle.usb_explain.specs.Laws.{BrokenCoversUpToFault, BrokenEachByteOnce, BrokenInLines, BrokenLeavesOutFields, WholeEachByteOnce, WholeHasNoRest, WholeInLines, WholeLeavesOutFields, WholeShowsTree, WholeTellsCounts, WholeTellsFindings};
+ghost use Rattle.usb_explain.specs.Remarks.{FullOrHighIsOpen, LowOrFullIsOpen};
 
 /// Each byte once: the places and lengths in the headings follow each other from 0 to the number of bytes, and each heading
 /// begins the lines of the descriptor there, as long as its bLength. The last one is that of the rest, if bytes
@@ -50,4 +51,11 @@ pub fn a_brief_explanation_leaves_out_the_fields()
 pub fn each_line_is_one()
     ensures whole { WholeInLines }
     ensures broken { BrokenInLines }
+{}
+
+/// An open speed is both: on an endpoint at `low or full speed`, or at `full or high speed`, something is remarked just where
+/// it is remarked at either speed alone.
+pub fn an_open_speed_is_both()
+    ensures low_or_full { LowOrFullIsOpen }
+    ensures full_or_high { FullOrHighIsOpen }
 {}

@@ -1,13 +1,13 @@
 //! The lines of a descriptor's fields, by its layout.
 ghost use Rattle.std.specs.Prelude.{◌≡◌, ◌+◌, ◌-◌, ◌++◌, drop, length, map, IfOk, IfSome, OnOk};
 ghost use Rattle.usb_names.specs.Shown.{field_of};
-ghost use Rattle.usb_explain.specs.LineForms.{digits_line};
+ghost use Rattle.usb_explain.specs.Lines.{digits_line};
 ghost use Rattle.usb_explain.specs.Layouts.{body_lines, group_count, group_lines, groups_lines, layout_lines, line_of, width_of};
-ghost use Rattle.usb_explain.specs.inside.LayoutOf.{layout_of};
+ghost use Rattle.usb_explain.specs.inside.Walking.{layout_of};
 
+use crate::context::Context;
 use crate::form::put_form;
 use crate::line::{begin_field, put_digits};
-use crate::line_context::Context;
 use crate::string_names::Names;
 use std::alloc::AllocError;
 use usb_fields::after;
@@ -18,11 +18,11 @@ use usb_text::Text;
 #[derive(Clone, Copy, Debug)]
 pub(crate) struct DescriptorLayout {
     /// The fields, in order.
-    pub fields: &'static [ClassField],
+    pub(crate) fields: &'static [ClassField],
     /// The fields that repeat after those.
-    pub group: &'static [ClassField],
+    pub(crate) group: &'static [ClassField],
     /// What the bytes are called that are left.
-    pub rest: &'static str,
+    pub(crate) rest: &'static str,
 }
 
 /// A descriptor whose fields are put: its bytes, and what its lines depend on beside them.
@@ -176,7 +176,7 @@ fn put_group(
 
 /// Puts the line of the field at a place.
 #[inline(always)]
-#[tactic(auto, unfolding(crate::specs::LineForms::field_line))]
+#[tactic(auto, unfolding(crate::specs::Lines::field_line))]
 fn put_field(
     text: &mut Text,
     shown: &Shown,

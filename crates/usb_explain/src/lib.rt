@@ -3,7 +3,7 @@
 //! [`explain`] writes that of a set, a file or a dump, and [`explain_broken`] that of bytes which are none of them, as far
 //! as they go. Both go over the bytes descriptor by descriptor, each as long as its first byte says.
 //!
-//! What the whole text is is `specs/Explanations.antt`, and the walk over the bytes `specs/Walks.antt`. The place of a
+//! What the whole text is is `specs/Explanations.antt`, and the walk over the bytes `specs/Explanations.antt`. The place of a
 //! descriptor is `specs/Standings.antt`, its role there `specs/Roles.antt`, and what it breaks `specs/Findings.antt`. What
 //! is remarked of it beside that is of `usb_explain`, and no finding.
 //!
@@ -16,11 +16,11 @@
 //!
 //! Each function `put_*` puts exactly the text that a definition of `specs/` says at the end of a `Text`: of class codes
 //! `specs/Names.antt`, of endpoints `specs/Endpoints.antt`, of speeds, intervals and power `specs/Speeds.antt`; of class
-//! descriptors `specs/FrameIntervals.antt`, `specs/Guids.antt`, `specs/Terminals.antt` and `specs/Bits.antt`.
+//! descriptors `specs/Speeds.antt`, `specs/Names.antt`, `specs/Names.antt` and `specs/Names.antt`.
 //!
-//! A set is cut into descriptors by their first bytes (`specs/Cut.antt`), so that bytes which are no whole set are surveyed
+//! A set is cut into descriptors by their first bytes (`specs/Trees.antt`), so that bytes which are no whole set are surveyed
 //! as far as they go. [`Survey::of`] has what they say of its speed, the count of interfaces, and the
-//! association that binds each (`specs/Surveys.antt`); [`endpoint_count`] counts the endpoints of a setting. The rules for
+//! association that binds each (`specs/SetSpeeds.antt`); [`endpoint_count`] counts the endpoints of a setting. The rules for
 //! the speed of a set are [`speed_of_device`] and [`speed_by`] (`specs/SetSpeeds.antt`).
 //!
 //! The lines of an explanation, each descriptor by its bytes: headings, findings and fields.
@@ -31,8 +31,8 @@
 //! all of it is defined for any bytes.
 //!
 //! What the lines of each role are is `specs/Descriptors.antt`, which leads to the definitions of each descriptor: its heading,
-//! and its fields by their layout (`specs/Layouts.antt`). Those of class descriptors are `specs/Raws.antt`, the forms of
-//! lines `specs/LineForms.antt`, and findings `specs/FindingLines.antt`.
+//! and its fields by their layout (`specs/Layouts.antt`). Those of class descriptors are `specs/Headers.antt`, the forms of
+//! lines `specs/Lines.antt`, and findings `specs/FindingLines.antt`.
 //!
 //! Remarks of an explanation: what can't be at the speed of a set, values that the standard reserves, and the length that a
 //! class header has.
@@ -47,45 +47,25 @@
 
 mod bindings;
 mod bits;
-mod block;
 mod context;
-mod counts;
-mod cut;
 mod descriptor;
-mod descriptor_remarks;
-mod descriptor_role;
-mod descriptor_types;
-mod device;
 mod endpoint;
-mod endpoint_lines;
-mod endpoint_value;
 mod explanation;
 mod fault_line;
 mod finding;
 mod finding_words;
 mod form;
-mod found;
-mod frame_interval;
-mod guid;
 mod header;
-mod index;
 mod interval;
-mod interval_remark;
 pub mod laws;
 mod layout;
 mod line;
-mod line_context;
-mod look;
 mod manner;
 mod names;
-mod packet;
-mod places;
 mod position;
 mod raw;
 mod remark;
-pub mod remark_laws;
 mod remark_line;
-mod reserved_bits;
 mod rest_lines;
 mod role;
 mod set;
@@ -99,38 +79,10 @@ mod string;
 mod string_names;
 mod subject;
 mod survey;
-mod survey_builder;
-mod terminal;
 mod told;
 mod value;
 mod walk;
 
-pub use bindings::Bindings;
-pub use bits::put_bits;
-pub use counts::endpoint_count;
-pub use cut::descriptor_length;
-pub use descriptor::{put_fields, put_heading};
-pub use descriptor_remarks::put_remarks;
-pub use descriptor_role::Role;
-pub use endpoint::{put_attributes, put_end, put_size};
 pub use explanation::{explain, explain_broken};
-pub use finding::put_finding;
-pub use finding_words::{PacketFault, Told};
-pub use frame_interval::put_frame_interval;
-pub use guid::put_guid;
-pub use interval::{is_periodic, put_interval};
-pub use line_context::{Context, StringPlace};
-pub use look::Look;
-pub use manner::Manner;
-pub use names::{
-    put_class, put_class_words, put_function_class, put_function_class_words, put_protocol,
-    put_subclass,
-};
-pub use remark::{Range, Remark, Sizes};
-pub use rest_lines::put_rest;
-pub use set_speed::{Background, other_speed, speed_by, speed_of_device};
-pub use speed::{SetSpeed, put_power, put_speed};
-pub use speed_evidence::Evidence;
-pub use string_names::{Missing, Names};
-pub use survey::Survey;
-pub use terminal::{put_audio_terminal, put_video_terminal};
+pub use manner::{Look, Manner};
+pub use speed::SetSpeed;

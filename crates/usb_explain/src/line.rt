@@ -1,8 +1,15 @@
-//! The parts of lines.
-ghost use Rattle.std.specs.Prelude.{◌≡◌, ◌++◌, OnOk};
-ghost use Rattle.usb_explain.specs.LineForms.{digits_line, field_start, place_words};
+//! The parts of lines, and the lines of one descriptor.
+ghost use Rattle.std.specs.Prelude.{◌≡◌, ◌++◌, OnOk, ◌+◌, length, IfOk};
+ghost use Rattle.usb_explain.specs.Lines.{digits_line, field_start, place_words};
+ghost use Rattle.usb_explain.specs.Findings.{found_at};
+ghost use Rattle.usb_explain.specs.Explanations.{block};
 
-use crate::look::Look;
+use crate::descriptor::{put_fields, put_heading};
+use crate::manner::Look;
+use crate::position::Standing;
+use crate::remark_line::put_remarks;
+use crate::role::Role;
+use crate::subject::Subject;
 use std::alloc::AllocError;
 use usb_text::Text;
 
@@ -28,7 +35,7 @@ pub(crate) fn put_place(
 
 /// Begins the line of a field: its name, in a column of 23 characters.
 #[inline(always)]
-#[tactic(auto, unfolding(crate::specs::LineForms::field_start))]
+#[tactic(auto, unfolding(crate::specs::Lines::field_start))]
 pub(crate) fn begin_field(text: &mut Text, depth: u8, name: &str) -> Result<(), AllocError>
     ensures { OnOk result (text.new ≡ text.old ++ field_start depth name.now) }
 {
@@ -36,7 +43,7 @@ pub(crate) fn begin_field(text: &mut Text, depth: u8, name: &str) -> Result<(), 
 }
 
 /// Puts bytes as hexadecimal digits, if there are any.
-#[tactic(auto, unfolding(crate::specs::LineForms::digits_line, crate::specs::LineForms::field_line))]
+#[tactic(auto, unfolding(crate::specs::Lines::digits_line, crate::specs::Lines::field_line))]
 pub(crate) fn put_digits(
     text: &mut Text,
     depth: u8,
@@ -52,5 +59,30 @@ pub(crate) fn put_digits(
             text.put_digits(bytes)?;
             text.put_character(b'\n')
         }
+    }
+}
+
+impl Standing {
+    /// Puts the lines of a descriptor of this role: its heading, its findings, its remarks and its fields. Answers how
+    /// many findings are reported then.
+    #[tactic(auto, unfolding(crate::specs::Explanations::block))]
+    pub(crate) fn put_block(
+        &self,
+        text: &mut Text,
+        subject: &Subject,
+        role: Role,
+        d: &[u8],
+        behind: &[u8],
+    ) -> Result<usize, AllocError>
+        ensures lines { OnOk result (text.new ≡ text.old ++ block subject.now self.now role d.now behind.now) }
+        ensures told { IfOk result (λ told. told ≡ self.now.told + length (found_at subject.now self.now role d.now behind.now)) }
+    {
+        let context = self.context(subject, role, d);
+        let look = subject.manner().look;
+        put_heading(text, look, role, &context, d, self.at)?;
+        let told = self.put_findings(text, subject, role, d, behind)?;
+        put_remarks(text, role, &context, d, self.rest_of_set(d, behind))?;
+        put_fields(text, look, subject.names(), role, &context, d)?;
+        Ok(told)
     }
 }

@@ -1,5 +1,4 @@
-//! How an input is explained.
-use crate::look::Look;
+//! How an input is explained, and how an explanation is written.
 use crate::speed::SetSpeed;
 
 /// How an input is explained.
@@ -9,4 +8,15 @@ pub struct Manner {
     pub look: Look,
     /// The speed at which the device ran, where it is known.
     pub speed: Option<SetSpeed>,
+}
+
+/// How an explanation is written.
+#[derive(Clone, Copy, Debug, PartialEq, Eq, Hash)]
+pub struct Look {
+    /// Without the lines of fields.
+    pub brief: bool,
+    /// With the place of each descriptor in the input.
+    pub places: bool,
+    /// Characters beyond ASCII as UTF-8.
+    pub utf8: bool,
 }

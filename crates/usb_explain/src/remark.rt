@@ -1,19 +1,23 @@
-//! What is remarked.
+//! What is remarked: reserved bits, sizes of packets.
+ghost use Rattle.std.specs.Prelude.{◌≡◌};
+ghost use Rattle.usb_explain.specs.Remarks.{is_eight_to_64, is_size, size_remark, sizes_at};
+ghost use Rattle.usb_explain.specs.Remarks.{attributes_remark, class_remark, counts_transactions, multiple_remark, remark_if, type_bits_remark};
+
 use crate::speed::SetSpeed;
 use usb_set::TransferType;
 
 /// The values that bInterval can have.
 #[derive(Clone, Copy, Debug, PartialEq, Eq, Hash)]
-pub struct Range {
+pub(crate) struct Range {
     /// The least one.
-    pub least: u8,
+    pub(crate) least: u8,
     /// The greatest one.
-    pub most: u8,
+    pub(crate) most: u8,
 }
 
 /// The sizes that packets can have, by bits 10 to 0 of wMaxPacketSize.
 #[derive(Clone, Copy, Debug, PartialEq, Eq, Hash)]
-pub enum Sizes {
+pub(crate) enum Sizes {
     /// None: there are no such endpoints.
     NoEndpoint,
     /// This one alone.
@@ -28,7 +32,7 @@ pub enum Sizes {
 
 /// A remark on a descriptor.
 #[derive(Clone, Copy, Debug, PartialEq, Eq, Hash)]
-pub enum Remark {
+pub(crate) enum Remark {
     /// bInterval is out of the range that it has at this speed.
     Interval {
         transfer: TransferType,
@@ -60,4 +64,139 @@ pub enum Remark {
         /// How many bytes they have.
         found: usize,
     },
+}
+
+/// The sizes that packets have at a speed: control (USB 2.0, 5.5.3), isochronous (5.6.3), interrupt (5.7.3) and bulk (5.8.3).
+fn sizes_at(speed: SetSpeed, transfer: TransferType) -> Option<Sizes>
+    ensures { result ≡ sizes_at speed transfer }
+{
+    match speed {
+        SetSpeed::Low => match transfer {
+            TransferType::Control => Some(Sizes::Only(8)),
+            TransferType::Isochronous | TransferType::Bulk => Some(Sizes::NoEndpoint),
+            TransferType::Interrupt => Some(Sizes::UpTo(8)),
+        },
+        SetSpeed::Full | SetSpeed::LowOrFull => match transfer {
+            TransferType::Control | TransferType::Bulk => Some(Sizes::EightTo64),
+            TransferType::Isochronous => Some(Sizes::UpTo(1023)),
+            TransferType::Interrupt => Some(Sizes::UpTo(64)),
+        },
+        SetSpeed::High => match transfer {
+            TransferType::Control => Some(Sizes::Only(64)),
+            TransferType::Bulk => Some(Sizes::Only(512)),
+            TransferType::Isochronous | TransferType::Interrupt => Some(Sizes::UpTo(1024)),
+        },
+        SetSpeed::FullOrHigh => match transfer {
+            TransferType::Control => Some(Sizes::EightTo64),
+            TransferType::Bulk => Some(Sizes::EightTo64Or512),
+            TransferType::Isochronous | TransferType::Interrupt => Some(Sizes::UpTo(1024)),
+        },
+        SetSpeed::Super => None,
+    }
+}
+
+fn is_eight_to_64(size: u16) -> bool
+    ensures { result ≡ is_eight_to_64 size }
+{
+    size == 8 || size == 16 || size == 32 || size == 64
+}
+
+fn is_size(sizes: Sizes, size: u16) -> bool
+    ensures { result ≡ is_size sizes size }
+{
+    match sizes {
+        Sizes::NoEndpoint => false,
+        Sizes::Only(only) => size == only,
+        Sizes::UpTo(most) => size <= most,
+        Sizes::EightTo64 => is_eight_to_64(size),
+        Sizes::EightTo64Or512 => is_eight_to_64(size) || size == 512,
+    }
+}
+
+/// A remark on packets of a size that they can't have.
+pub(crate) fn size_remark(speed: SetSpeed, transfer: TransferType, size: u16) -> Option<Remark>
+    ensures { result ≡ size_remark speed transfer size }
+{
+    let sizes = sizes_at(speed, transfer)?;
+    if is_size(sizes, size) {
+        None
+    } else {
+        Some(Remark::Packet {
+            transfer,
+            speed,
+            sizes,
+        })
+    }
+}
+
+fn remark_if(holds: bool, remark: Remark) -> Option<Remark>
+    ensures { result ≡ remark_if holds remark }
+{
+    if holds { Some(remark) } else { None }
+}
+
+/// Whether bits 12 to 11 of wMaxPacketSize count transactions of a microframe, or may do so.
+fn counts_transactions(speed: SetSpeed, transfer: TransferType) -> bool
+    ensures { result ≡ counts_transactions speed transfer }
+{
+    match (speed, transfer) {
+        (
+            SetSpeed::High | SetSpeed::FullOrHigh,
+            TransferType::Isochronous | TransferType::Interrupt,
+        ) => true,
+        _ => false,
+    }
+}
+
+/// A remark on bits 12 to 11 of wMaxPacketSize (USB 2.0, 9.6.6).
+pub(crate) fn multiple_remark(
+    speed: SetSpeed,
+    transfer: TransferType,
+    max_packet: u16,
+) -> Option<Remark>
+    ensures { result ≡ multiple_remark speed transfer max_packet }
+{
+    let more = max_packet / 2048 % 4;
+    if counts_transactions(speed, transfer) {
+        remark_if(more == 3, Remark::ReservedMultiple)
+    } else {
+        remark_if(more != 0, Remark::PacketBits)
+    }
+}
+
+/// A remark on bits 5 to 2 of bmAttributes (USB 2.0, 9.6.6; USB 3.2, 9.6.6).
+fn type_bits_remark(speed: SetSpeed, transfer: TransferType, attributes: u8) -> Option<Remark>
+    ensures { result ≡ type_bits_remark speed transfer attributes }
+{
+    match (transfer, speed) {
+        (TransferType::Isochronous, _) => {
+            remark_if(attributes / 16 % 4 == 3, Remark::ReservedUsage)
+        }
+        (TransferType::Interrupt, SetSpeed::Super) => remark_if(
+            attributes / 4 % 4 != 0 || attributes / 32 % 2 != 0,
+            Remark::TypeBits,
+        ),
+        _ => remark_if(attributes / 4 % 16 != 0, Remark::TypeBits),
+    }
+}
+
+/// A remark on bmAttributes of an endpoint.
+pub(crate) fn attributes_remark(
+    speed: SetSpeed,
+    transfer: TransferType,
+    attributes: u8,
+) -> Option<Remark>
+    ensures { result ≡ attributes_remark speed transfer attributes }
+{
+    match type_bits_remark(speed, transfer, attributes) {
+        None => remark_if(attributes / 64 != 0, Remark::HighBits),
+        Some(remark) => Some(remark),
+    }
+}
+
+/// A remark on the class of an interface or of a function (USB 2.0, 9.6.5, and the association's ECN).
+pub(crate) fn class_remark(class: u8) -> Option<Remark>
+    ensures { result ≡ class_remark class }
+{
+    remark_if(class == 0, Remark::ReservedClass)
 }

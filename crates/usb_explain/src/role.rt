@@ -1,8 +1,9 @@
 //! What a descriptor is at its place.
 ghost use Rattle.std.specs.Prelude.{◌≡◌, length};
 ghost use Rattle.usb_explain.specs.Roles.{inner_role, outer_role, role_if, role_of, string_role, typed_role};
+ghost use Rattle.std.specs.Prelude.{◌≡◌};
+ghost use Rattle.usb_explain.specs.Roles.{is_association, is_endpoint, is_interface, is_of_type};
 
-use crate::descriptor_role::Role;
 use crate::position::Standing;
 use usb_fields::{byte_at, descriptor_length, descriptor_type, word_at};
 
@@ -92,4 +93,55 @@ fn typed_role(holds: bool, role: Role) -> Role
     ensures { result ≡ typed_role holds role }
 {
     if holds { role } else { Role::Raw }
+}
+
+/// What a descriptor is at its place.
+#[derive(Clone, Copy, Debug, PartialEq, Eq, Hash)]
+pub(crate) enum Role {
+    /// The device descriptor (USB 2.0, 9.6.1).
+    Device,
+    /// The device qualifier (9.6.2).
+    Qualifier,
+    /// The first descriptor of a set, of either type (9.6.3 and 9.6.4).
+    Configuration,
+    /// An interface association (its ECN, 9.X.Y).
+    Association,
+    /// An interface (9.6.5).
+    Interface,
+    /// An endpoint (9.6.6).
+    Endpoint,
+    /// A descriptor that a class defines, or that nothing does.
+    Raw,
+    /// The language list (9.6.7).
+    Languages,
+    /// A string (9.6.7).
+    Text,
+}
+
+fn is_of_type(kind: u8, least: u8, d: &[u8]) -> bool
+    ensures { result ≡ is_of_type kind least d.now }
+{
+    byte_at(d, 1) == kind && d.len() >= usize::from(least)
+}
+
+pub(crate) fn is_interface(d: &[u8]) -> bool
+    ensures { result ≡ is_interface d.now }
+{
+    is_of_type(descriptor_type::INTERFACE, descriptor_length::INTERFACE, d)
+}
+
+pub(crate) fn is_endpoint(d: &[u8]) -> bool
+    ensures { result ≡ is_endpoint d.now }
+{
+    is_of_type(descriptor_type::ENDPOINT, descriptor_length::ENDPOINT, d)
+}
+
+pub(crate) fn is_association(d: &[u8]) -> bool
+    ensures { result ≡ is_association d.now }
+{
+    is_of_type(
+        descriptor_type::INTERFACE_ASSOCIATION,
+        descriptor_length::INTERFACE_ASSOCIATION,
+        d,
+    )
 }

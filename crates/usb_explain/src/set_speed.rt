@@ -7,17 +7,17 @@ use crate::speed_evidence::Evidence;
 
 /// What is known of the speed of a set beside its descriptors.
 #[derive(Clone, Copy, Debug, PartialEq, Eq, Hash)]
-pub struct Background {
+pub(crate) struct Background {
     /// The speed, where it is known.
-    pub known: Option<SetSpeed>,
+    pub(crate) known: Option<SetSpeed>,
     /// bMaxPacketSize0 at this speed.
-    pub packet: Option<u8>,
+    pub(crate) packet: Option<u8>,
     /// The other speed of the device, as far as it is known, where it has one.
-    pub other: Option<SetSpeed>,
+    pub(crate) other: Option<SetSpeed>,
 }
 
 /// The other speed of a device of full and high speed, which runs at one of the two.
-pub fn other_speed(speed: SetSpeed) -> Option<SetSpeed>
+pub(crate) fn other_speed(speed: SetSpeed) -> Option<SetSpeed>
     ensures { result ≡ other_speed speed }
 {
     match speed {
@@ -29,7 +29,7 @@ pub fn other_speed(speed: SetSpeed) -> Option<SetSpeed>
 
 /// The speed of a device's own sets by bcdUSB, bDeviceClass and bDeviceProtocol, where these leave no choice (9.6.1, 11.23.1;
 /// USB 3.2, 9.6.1).
-pub fn speed_of_device(usb: u16, class: u8, protocol: u8) -> Option<SetSpeed>
+pub(crate) fn speed_of_device(usb: u16, class: u8, protocol: u8) -> Option<SetSpeed>
     ensures { result ≡ speed_of_device usb class protocol }
 {
     if usb >= 0x0300 {
@@ -53,7 +53,7 @@ fn is_high_hub(class: u8, protocol: u8) -> bool
 /// The speed of a set. The first of these decides: the speed that is known; bMaxPacketSize0, which is 64 at high speed; what
 /// its descriptors prove; the device's other speed; an interval. Low or full speed is full speed where low speed is
 /// excluded (5.5.3).
-pub fn speed_by(background: Background, evidence: Evidence) -> SetSpeed
+pub(crate) fn speed_by(background: Background, evidence: Evidence) -> SetSpeed
     ensures { result ≡ speed_by background evidence }
 {
     without_low(

@@ -8,8 +8,7 @@ use crate::set_speed::{Background, other_speed, speed_by};
 use crate::speed::SetSpeed;
 use crate::survey::Survey;
 use usb_fields::{after, byte_at, descriptor_type, prefix, word_at};
-use usb_file::after_sets;
-use usb_file_data::Part;
+use usb_file_data::{Part, after_sets};
 
 impl Standing {
     /// At the first descriptor of a set, of whose bytes and those after it these are there.

@@ -1,25 +1,25 @@
 //! What the descriptors of a set say of its speed.
 ghost use Rattle.std.specs.Prelude.{◌≡◌, ◌∷◌, ℕ, List, false};
-ghost use Rattle.usb_explain.specs.SpeedEvidence.{excludes_low, has_multiple, hints_low_or_full, is_above_low, is_companion, is_full, is_high, is_slow, proves_full, proves_high};
-ghost use Rattle.usb_explain.specs.inside.Heard.{Hears};
+ghost use Rattle.usb_explain.specs.SetSpeeds.{excludes_low, has_multiple, hints_low_or_full, is_above_low, is_companion, is_full, is_high, is_slow, proves_full, proves_high};
+ghost use Rattle.usb_explain.specs.inside.Walking.{Hears};
 
-use crate::descriptor_types::is_endpoint;
+use crate::role::is_endpoint;
 use usb_fields::{byte_at, word_at};
 use usb_set::TransferType;
 
 /// Evidence of a set's speed: for each kind, whether a descriptor shows it.
 #[derive(Clone, Copy, Debug, PartialEq, Eq, Hash)]
-pub struct Evidence {
+pub(crate) struct Evidence {
     /// A SuperSpeed endpoint companion.
-    pub companion: bool,
+    pub(crate) companion: bool,
     /// An endpoint that only high speed has.
-    pub high: bool,
+    pub(crate) high: bool,
     /// An endpoint that only full speed has.
-    pub full: bool,
+    pub(crate) full: bool,
     /// An endpoint that low speed can't have.
-    pub above_low: bool,
+    pub(crate) above_low: bool,
     /// An interval that hints at low or full speed.
-    pub slow: bool,
+    pub(crate) slow: bool,
 }
 
 impl Evidence {

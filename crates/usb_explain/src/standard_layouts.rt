@@ -1,7 +1,7 @@
 //! The fields of the standard's descriptors, each with the form of its number.
 ghost use Rattle.std.specs.Prelude.{◌≡◌};
-ghost use Rattle.usb_explain.specs.inside.LayoutOf.{layout_of};
-ghost use Rattle.usb_explain.specs.StandardLayouts.{association_layout, configuration_layout, device_layout, endpoint_layout, interface_layout, is_audio, qualifier_layout};
+ghost use Rattle.usb_explain.specs.inside.Walking.{layout_of};
+ghost use Rattle.usb_explain.specs.Layouts.{association_layout, configuration_layout, device_layout, endpoint_layout, interface_layout, is_audio, qualifier_layout};
 
 use crate::layout::DescriptorLayout;
 use usb_names::{ClassCodes, ClassField, Form};

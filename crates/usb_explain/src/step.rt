@@ -1,10 +1,10 @@
 //! What is kept from one descriptor to the next.
 ghost use Rattle.std.specs.Prelude.{◌≡◌, ◌+◌, ◌<◌, ◌^◌, length};
-ghost use Rattle.usb_explain.specs.Steps.{moved, noted, passed, setting_of, with_endpoint, with_set, with_told};
+ghost use Rattle.usb_explain.specs.Standings.{moved, noted, passed, setting_of, with_endpoint, with_set, with_told};
 ghost use Rattle.usb_explain.specs.inside.Walking.{Counted, endpoints_of};
 
-use crate::descriptor_role::Role;
 use crate::position::{DeviceFacts, Owner, SettingStanding, Standing};
+use crate::role::Role;
 use crate::set_speed::speed_of_device;
 use usb_fields::{byte_at, word_at};
 use usb_file_data::Part;
@@ -37,7 +37,7 @@ impl Standing {
     }
 
     /// Keeps what the descriptors after it depend on.
-    #[tactic(auto, unfolding(crate::specs::Steps::noted))]
+    #[tactic(auto, unfolding(crate::specs::Standings::noted))]
     fn note(&mut self, role: Role, d: &[u8])
         requires counted { Counted self.old }
         requires room { self.old.at < 2 ^ 63 }

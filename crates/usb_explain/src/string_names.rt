@@ -2,14 +2,17 @@
 ghost use Rattle.std.specs.Prelude.{◌≡◌, IfOk, option_map};
 ghost use Rattle.std.specs.Option.{option_copied};
 ghost use Rattle.usb_explain.specs.StringNames.{names_of, named_units, no_names, units_in_first_language};
+ghost use Rattle.std.specs.Prelude.{◌≡◌, length};
+ghost use Rattle.usb_explain.specs.Subjects.{place_among, place_by};
 
+use crate::context::StringPlace;
 use std::alloc::Global;
 use std::marker::Model;
 use usb_file_data::{DescriptorFile, NoMemory, Strings, named};
 
 /// Why the string of an index isn't there.
 #[derive(Clone, Copy, Debug, PartialEq, Eq, Hash)]
-pub enum Missing {
+pub(crate) enum Missing {
     /// The input has no strings.
     NotInInput,
     /// The input is broken, and its strings aren't read.
@@ -18,7 +21,7 @@ pub enum Missing {
 
 /// The strings of an input by their indices, in its first language.
 #[derive(Debug, Drop)]
-pub struct Names<'f> {
+pub(crate) struct Names<'f> {
     strings: Option<&'f Strings>,
     named: Vec<u8>,
     missing: Missing,
@@ -40,7 +43,11 @@ impl<'f> Names<'f> {
     /// # Errors
     ///
     /// Out of memory.
-    pub fn of(alloc: Global, f: &'f DescriptorFile, utf8: bool) -> Result<Names<'f>, NoMemory>
+    pub(crate) fn of(
+        alloc: Global,
+        f: &'f DescriptorFile,
+        utf8: bool,
+    ) -> Result<Names<'f>, NoMemory>
         ensures { IfOk result (λ names. names ≡ names_of utf8 f.now) }
     {
         Ok(Names {
@@ -52,7 +59,7 @@ impl<'f> Names<'f> {
     }
 
     /// Those of an input whose strings aren't there.
-    pub fn none(alloc: Global, missing: Missing) -> Names<'f>
+    pub(crate) fn none(alloc: Global, missing: Missing) -> Names<'f>
         ensures { result ≡ no_names missing }
     {
         Names {
@@ -64,14 +71,14 @@ impl<'f> Names<'f> {
     }
 
     /// The strings, of all languages.
-    pub fn strings(&self) -> Option<&'f Strings>
+    pub(crate) fn strings(&self) -> Option<&'f Strings>
         ensures { option_map (λ s. s.now) result ≡ self.now.strings }
     {
         self.strings
     }
 
     /// The indices that are named, ascending.
-    pub fn indices(&self) -> &[u8]
+    pub(crate) fn indices(&self) -> &[u8]
         ensures { result.now ≡ self.now.named }
     {
         &self.named
@@ -108,5 +115,29 @@ fn units_in_first_language<'s>(named: &[u8], index: u8, strings: &'s Strings) ->
     match strings.languages.first() {
         Some(language) => strings.units_at(named, index, *language),
         None => None,
+    }
+}
+
+/// The place of the string of this number, in a file that names these indices: strings are language by language, one
+/// for each index in ascending order.
+pub(crate) fn string_place(strings: &Strings, named: &[u8], number: usize) -> Option<StringPlace>
+    ensures { result ≡ place_among (length named.now) named.now strings.now number }
+{
+    let count = named.len();
+    if count == 0 {
+        return None;
+    }
+    place_by(
+        strings.languages.get(number / count).copied(),
+        named.get(number % count).copied(),
+    )
+}
+
+fn place_by(language: Option<u16>, index: Option<u8>) -> Option<StringPlace>
+    ensures { result ≡ place_by language index }
+{
+    match (language, index) {
+        (Some(language), Some(index)) => Some(StringPlace { index, language }),
+        _ => None,
     }
 }

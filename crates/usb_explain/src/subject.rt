@@ -5,14 +5,12 @@ ghost use Rattle.usb_explain.specs.declared.string_names.Missing.TheVariants.{No
 ghost use Rattle.usb_explain.specs.Contexts.{place_of};
 ghost use Rattle.usb_explain.specs.Subjects.{broken_subject, subject_with};
 
-use crate::line_context::StringPlace;
+use crate::context::StringPlace;
 use crate::manner::Manner;
-use crate::places::string_place;
-use crate::string_names::{Missing, Names};
+use crate::string_names::{Missing, Names, string_place};
 use std::alloc::{AllocError, Global};
 use std::marker::Model;
-use usb_file::Input;
-use usb_file_data::{DescriptorFile, Finding};
+use usb_file_data::{DescriptorFile, Finding, Input};
 
 /// What is explained, and what is known of the whole of it.
 #[derive(Drop)]

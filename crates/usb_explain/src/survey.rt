@@ -1,23 +1,24 @@
-//! What a set says as a whole.
-ghost use Rattle.std.specs.Prelude.{◌≡◌};
-ghost use Rattle.usb_explain.specs.Cut.{descriptors};
-ghost use Rattle.usb_explain.specs.Surveys.{survey_of};
+//! What a set says as a whole, gathered descriptor by descriptor.
+ghost use Rattle.std.specs.Prelude.{◌≡◌, ◌<◌, ◌≤◌, ◌+◌, ◌^◌, ◌∷◌, [], ℕ, List, length};
+ghost use Rattle.usb_explain.specs.Trees.{descriptors};
+ghost use Rattle.usb_explain.specs.SetSpeeds.{survey_of};
+ghost use Rattle.usb_explain.specs.inside.Walking.{BindsOn, CountsOn, Gathers};
 
 use crate::bindings::Bindings;
-use crate::cut::descriptor_length;
+use crate::rest_lines::descriptor_length;
+use crate::role::{is_association, is_interface};
 use crate::speed_evidence::Evidence;
-use crate::survey_builder::Gathering;
-use usb_fields::{after, prefix};
+use usb_fields::{Marks, after, byte_at, prefix};
 
 /// What is known of a set before its descriptors are gone over one by one.
 #[derive(Clone, Debug, Drop)]
-pub struct Survey {
+pub(crate) struct Survey {
     /// What its descriptors say of its speed.
-    pub spoken: Evidence,
+    pub(crate) spoken: Evidence,
     /// How many distinct interface numbers it has.
-    pub interfaces: u64,
+    pub(crate) interfaces: u64,
     /// Which association binds each interface.
-    pub bindings: Bindings,
+    pub(crate) bindings: Bindings,
 }
 
 impl Survey {
@@ -27,7 +28,7 @@ impl Survey {
     /// let survey = Survey::of(&[9, 2, 16, 0, 0, 1, 0, 0x80, 50, 7, 5, 0x81, 2, 0, 2, 0]);
     /// assert!(rt; survey.spoken.high);
     /// ```
-    pub fn of(set: &[u8]) -> Survey
+    pub(crate) fn of(set: &[u8]) -> Survey
         ensures { result ≡ survey_of (descriptors set.now) }
     {
         let mut gathered = Gathering::new();
@@ -37,5 +38,105 @@ impl Survey {
             rest = after(rest, length);
         }
         gathered.survey()
+    }
+}
+
+/// What the descriptors of a set said so far.
+#[derive(Drop)]
+pub(crate) struct Gathering {
+    /// What they said of the speed.
+    evidence: Evidence,
+    /// The interfaces.
+    interfaces: Numbers,
+    /// The associations.
+    associations: Binders,
+}
+
+/// The distinct numbers of interfaces.
+#[derive(Drop)]
+struct Numbers {
+    marks: Marks,
+    count: u64,
+}
+
+/// The associations, and what they bind.
+#[derive(Drop)]
+struct Binders {
+    bindings: Bindings,
+    count: u64,
+}
+
+impl Gathering {
+    /// Before the first descriptor.
+    pub(crate) fn new() -> Gathering
+        ensures all { (all : List (List ℕ)) → Gathers all result all }
+        ensures interfaces { result.interfaces.count ≡ 0 }
+        ensures associations { result.associations.count ≡ 0 }
+    {
+        Gathering {
+            evidence: Evidence::none(),
+            interfaces: Numbers {
+                marks: Marks::new(),
+                count: 0,
+            },
+            associations: Binders {
+                bindings: Bindings::new(),
+                count: 0,
+            },
+        }
+    }
+
+    /// Adds a descriptor.
+    pub(crate) fn add(&mut self, d: &[u8])
+        requires interfaces { self.old.interfaces.count + 1 < 2 ^ 64 }
+        requires associations { self.old.associations.count + 1 < 2 ^ 64 }
+        ensures gathers { (all ds : List (List ℕ)) → Gathers all self.old (d.now ∷ ds) → Gathers all self.new ds }
+        ensures interfaces { self.new.interfaces.count ≤ self.old.interfaces.count + 1 }
+        ensures associations { self.new.associations.count ≤ self.old.associations.count + 1 }
+    {
+        self.evidence.add(d);
+        self.interfaces.add(d);
+        self.associations.add(d);
+    }
+
+    /// What all descriptors said.
+    pub(crate) fn survey(self) -> Survey
+        ensures { (all : List (List ℕ)) → Gathers all self [] → result ≡ survey_of all }
+    {
+        Survey {
+            spoken: self.evidence,
+            interfaces: self.interfaces.count,
+            bindings: self.associations.bindings,
+        }
+    }
+}
+
+impl Numbers {
+    /// Adds a descriptor, which counts where it is an interface of a new number.
+    fn add(&mut self, d: &[u8])
+        requires { self.old.count + 1 < 2 ^ 64 }
+        ensures counts { (ds : List (List ℕ)) → CountsOn self.old self.new d.now ds }
+        ensures count { self.new.count ≤ self.old.count + 1 }
+    {
+        let number = byte_at(d, 2);
+        if is_interface(d) && !self.marks.has(number) {
+            self.marks.add(number);
+            self.count += 1;
+        }
+    }
+}
+
+impl Binders {
+    /// Adds a descriptor, which binds interfaces where it is an association.
+    fn add(&mut self, d: &[u8])
+        requires { self.old.count + 1 < 2 ^ 64 }
+        ensures binds { (n : ℕ) → n < 256 → (ds : List (List ℕ)) → BindsOn self.old self.new n d.now ds }
+        ensures cells { length self.old.bindings ≡ 256 → length self.new.bindings ≡ 256 }
+        ensures count { self.new.count ≤ self.old.count + 1 }
+    {
+        if is_association(d) {
+            self.bindings.bind(self.count, byte_at(d, 2), byte_at(d, 3));
+            self.count += 1;
+        }
     }
 }

@@ -2,14 +2,14 @@
 ghost use Rattle.std.specs.Prelude.{◌≡◌, ◌+◌, ◌-◌, ◌++◌, length, take, IfOk, OnOk};
 ghost use Rattle.std.specs.Option.{option_copied};
 ghost use Rattle.usb_file_data.specs.Places.{finding};
-ghost use Rattle.usb_explain.specs.Walks.{rest_of_set};
+ghost use Rattle.usb_explain.specs.Explanations.{rest_of_set};
 ghost use Rattle.usb_explain.specs.Findings.{address_told, association_told, attributes_told, device_packet_fault, device_part, device_told, endpoint_told, finding_at, found_at, has_lone_subclass, in_set, in_setting, interface_told, is_same_place, late_packet_fault, none_told, packet_fault, part_number, qualifier_told, role_findings, set_told, told_at, told_by, told_of, value_told, wrong_device_told};
 
-use crate::counts::endpoint_count;
-use crate::descriptor_role::Role;
 use crate::finding::put_finding;
 use crate::finding_words::{PacketFault, Told};
 use crate::position::{SetStanding, Standing};
+use crate::role::Role;
+use crate::set::endpoint_count;
 use crate::subject::Subject;
 use std::alloc::AllocError;
 use usb_fields::{byte_at, prefix, word_at};

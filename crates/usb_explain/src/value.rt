@@ -1,13 +1,13 @@
 //! Values of fields that have a number and its meaning.
 ghost use Rattle.std.specs.Prelude.{◌≡◌, ◌++◌, OnOk};
-ghost use Rattle.usb_explain.specs.Values.{packet_value, power_of_two_words, power_value, release_value, set_attributes, source_words, wakeup_words};
+ghost use Rattle.usb_explain.specs.Endpoints.{packet_value, power_of_two_words, power_value, release_value, set_attributes, source_words, wakeup_words};
 
 use crate::speed::{SetSpeed, put_power};
 use std::alloc::AllocError;
 use usb_text::{Text, begin_byte_meaning, begin_word_meaning, put_count, put_release};
 
 /// Puts a release in hexadecimal digits, and as it is meant.
-#[tactic(auto, unfolding(crate::specs::Values::release_value))]
+#[tactic(auto, unfolding(crate::specs::Endpoints::release_value))]
 pub(crate) fn put_release_value(text: &mut Text, release: u16) -> Result<(), AllocError>
     ensures { OnOk result (text.new ≡ text.old ++ release_value release) }
 {
@@ -18,7 +18,7 @@ pub(crate) fn put_release_value(text: &mut Text, release: u16) -> Result<(), All
 
 /// Puts bMaxPacketSize0 of a device, which is an exponent at SuperSpeed.
 #[inline(never)]
-#[tactic(auto, unfolding(crate::specs::Values::packet_value))]
+#[tactic(auto, unfolding(crate::specs::Endpoints::packet_value))]
 pub(crate) fn put_packet_value(text: &mut Text, speed: SetSpeed, size: u8) -> Result<(), AllocError>
     ensures { OnOk result (text.new ≡ text.old ++ packet_value speed size) }
 {
@@ -44,7 +44,7 @@ fn put_power_of_two(text: &mut Text, exponent: u8) -> Result<(), AllocError>
 }
 
 /// Where a set of these bmAttributes takes its power: `bus-powered`.
-#[tactic(auto, unfolding(crate::specs::Values::source_words))]
+#[tactic(auto, unfolding(crate::specs::Endpoints::source_words))]
 pub(crate) fn source_words(attributes: u8) -> &'static str
     ensures { result.now ≡ source_words attributes }
 {
@@ -55,7 +55,7 @@ pub(crate) fn source_words(attributes: u8) -> &'static str
     }
 }
 
-#[tactic(auto, unfolding(crate::specs::Values::wakeup_words))]
+#[tactic(auto, unfolding(crate::specs::Endpoints::wakeup_words))]
 fn wakeup_words(attributes: u8) -> &'static str
     ensures { result.now ≡ wakeup_words attributes }
 {
@@ -68,7 +68,7 @@ fn wakeup_words(attributes: u8) -> &'static str
 
 /// Puts bmAttributes of a set.
 #[inline(never)]
-#[tactic(auto, unfolding(crate::specs::Values::set_attributes))]
+#[tactic(auto, unfolding(crate::specs::Endpoints::set_attributes))]
 pub(crate) fn put_set_attributes(text: &mut Text, attributes: u8) -> Result<(), AllocError>
     ensures { OnOk result (text.new ≡ text.old ++ set_attributes attributes) }
 {
@@ -80,7 +80,7 @@ pub(crate) fn put_set_attributes(text: &mut Text, attributes: u8) -> Result<(), 
 
 /// Puts bMaxPower of a set.
 #[inline(never)]
-#[tactic(auto, unfolding(crate::specs::Values::power_value))]
+#[tactic(auto, unfolding(crate::specs::Endpoints::power_value))]
 pub(crate) fn put_power_value(text: &mut Text, speed: SetSpeed, power: u8) -> Result<(), AllocError>
     ensures { OnOk result (text.new ≡ text.old ++ power_value speed power) }
 {

@@ -3,16 +3,15 @@ ghost use Rattle.std.specs.Prelude.{◌≡◌, ◌≤◌, ◌++◌, ◌⊎◌, �
 ghost use Rattle.std.specs.Io.KnownBytes.{Appends, Keeps};
 ghost use Rattle.usb_text.specs.Output.{AppendsLess};
 ghost use Rattle.usb_text.specs.inside.Pages.{Puts};
-ghost use Rattle.usb_explain.specs.Explanations.{StopsBetween};
+ghost use Rattle.usb_explain.specs.Explanations.{StopsBetween, walked};
 ghost use Rattle.usb_explain.specs.SetStart.{entered};
 ghost use Rattle.usb_explain.specs.Roles.{next_role};
 ghost use Rattle.usb_explain.specs.Standings.{start};
-ghost use Rattle.usb_explain.specs.Walks.{walked};
 ghost use Rattle.usb_explain.specs.inside.Walking.{PutsWalk};
 
-use crate::cut::descriptor_length;
-use crate::descriptor_role::Role;
 use crate::position::Standing;
+use crate::rest_lines::descriptor_length;
+use crate::role::Role;
 use crate::set_start::other_ahead;
 use crate::subject::Subject;
 use std::alloc::AllocError;

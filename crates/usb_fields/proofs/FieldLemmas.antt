@@ -1,7 +1,6 @@
 -- The widths of fields and their bytes say all that is written of them.
 use Rattle.std.proofs.Common.{◌≡◌, ℕ, true, false, List, [], ◌∷◌, ◌++◌, map, refl, ap}
-use Rattle.usb_fields.specs.Fields.{Field, byte, word, field_text, fields_bytes, widths}
-use Rattle.usb_fields.specs.Widths.{cells}
+use Rattle.usb_fields.specs.Fields.{Field, byte, word, field_text, fields_bytes, widths, cells}
 
 module _ {Descriptor : Type 0} (d : Descriptor) where
   pub cells_tailed : (fields : List (Field Descriptor)) (tail : List ℕ) → cells (widths fields) true (fields_bytes fields d ++ tail) ≡ map (field_text d) fields ++ tail ∷ []

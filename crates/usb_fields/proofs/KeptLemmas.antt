@@ -2,8 +2,7 @@
 use Rattle.std.proofs.Common.{◌≡◌, ℕ, zero, suc, List, [], ◌∷◌, ◌++◌, replicate, refl, true, false}
 use Rattle.usb_fields.specs.declared.packet.Toggle.{Toggle}
 use Rattle.usb_fields.specs.declared.packet.Toggle.TheVariants.{Data0, Data1}
-use Rattle.usb_fields.specs.Packet.{flipped}
-use Rattle.usb_fields.specs.Packets.{Toggled, kept, repeated, is_same_toggle}
+use Rattle.usb_fields.specs.Packets.{flipped, Toggled, kept, repeated, is_same_toggle}
 
 same-itself : (t : Toggle) → is_same_toggle t t ≡ true
 same-itself Data0 = refl

@@ -1,7 +1,7 @@
 -- What bytes without a fault are.
 use Rattle.std.proofs.Common.{◌≡◌, ℕ, zero, suc, ◌+◌, List, [], ◌∷◌, length, get_or, None, refl, ap, subst, arith}
 use Rattle.std.proofs.lemmas.Bool.Decides.{nat_tests}
-use Rattle.usb_fields.specs.Fault.{field_fault}
+use Rattle.usb_fields.specs.Device.{field_fault}
 
 -- the list has this length, and a descriptor's bLength and bDescriptorType
 pub record IsHeaded (size kind : ℕ) (b : List ℕ) : Type 0 where

@@ -1,9 +1,22 @@
--- The device descriptor (USB 2.0, 9.6.1).
-use Rattle.std.specs.Prelude.{ℕ, List, [], ◌∷◌, codes, Option}
-use Rattle.usb_fields.specs.Fields.{Field, byte, word, fields_bytes}
-use Rattle.usb_fields.specs.Fault.{field_fault}
-use Rattle.usb_fields.specs.declared.device.DeviceDescriptor.{DeviceDescriptor}
+-- The device descriptor and the device qualifier, and why bytes are neither (USB 2.0, 9.5, 9.6.1 and 9.6.2).
+use Rattle.std.specs.Prelude.{ℕ, List, length, slice_index, ◌==◌, not, if◌then◌else◌, Option, Some, None, [], ◌∷◌, codes}
 use Rattle.usb_fields.specs.declared.fault.FieldFault.{FieldFault}
+use Rattle.usb_fields.specs.declared.fault.FieldFault.TheVariants as fields
+use Rattle.usb_fields.specs.Fields.{Field, byte, word, fields_bytes}
+use Rattle.usb_fields.specs.declared.device.DeviceDescriptor.{DeviceDescriptor}
+use Rattle.usb_fields.specs.declared.qualifier.Qualifier.{Qualifier}
+
+-- Why bytes are no descriptor of fixed length (USB 2.0, 9.5).
+
+-- the first reason why these bytes are no descriptor of this length and type, if there is one
+abbrev pub field_fault : ℕ → ℕ → List ℕ → Option FieldFault
+field_fault size kind b =
+    if not (length b == size) then Some fields.Length
+    else if not (slice_index b 0 == size) then Some fields.Length
+    else if not (slice_index b 1 == kind) then Some fields.Kind
+    else None
+
+-- The device descriptor (USB 2.0, 9.6.1).
 
 -- the fields of a device descriptor, in the order of its bytes
 abbrev pub device_fields : List (Field DeviceDescriptor)
@@ -28,3 +41,24 @@ device_bytes d = 18 ∷ 1 ∷ fields_bytes device_fields d
 -- the first reason why these bytes are no device descriptor, if there is one
 abbrev pub device_fault : List ℕ → Option FieldFault
 device_fault b = field_fault 18 1 b
+
+-- The device qualifier descriptor (USB 2.0, 9.6.2).
+
+-- the fields of a device qualifier, in the order of its bytes
+abbrev pub qualifier_fields : List (Field Qualifier)
+qualifier_fields =
+    word (codes "bcdUSB") (λ q. q.usb)
+    ∷ byte (codes "bDeviceClass") (λ q. q.class)
+    ∷ byte (codes "bDeviceSubClass") (λ q. q.subclass)
+    ∷ byte (codes "bDeviceProtocol") (λ q. q.protocol)
+    ∷ byte (codes "bMaxPacketSize0") (λ q. q.packet)
+    ∷ byte (codes "bNumConfigurations") (λ q. q.configurations)
+    ∷ byte (codes "bReserved") (λ q. q.reserved) ∷ []
+
+-- its bytes: bLength 10, bDescriptorType 6, and its fields
+abbrev pub qualifier_bytes : Qualifier → List ℕ
+qualifier_bytes q = 10 ∷ 6 ∷ fields_bytes qualifier_fields q
+
+-- the first reason why these bytes are no qualifier, if there is one
+abbrev pub qualifier_fault : List ℕ → Option FieldFault
+qualifier_fault b = field_fault 10 6 b

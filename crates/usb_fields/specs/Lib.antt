@@ -1,14 +1,9 @@
 pub mod Setup
-pub mod Fault
 pub mod Device
-pub mod Qualifier
 pub mod Units
-pub mod Packet
 pub mod Packets
 pub mod Numbers
 pub mod Bytes
-pub mod Directions
 pub mod Lending
 pub mod Marks
 pub mod Fields
-pub mod Widths

@@ -1,11 +1,21 @@
--- The setup packet (USB 2.0, 9.3).
+-- The setup packet, and which way data goes (USB 2.0, 9.3 and 9.6.6).
 use Rattle.std.specs.Prelude.{ℕ, ◌/◌, ◌%◌, ◌==◌, if◌then◌else◌, List, [], ◌∷◌, ◌++◌, slice_index}
+use Rattle.usb_fields.specs.declared.setup.Direction.{Direction}
+use Rattle.usb_fields.specs.declared.setup.Direction.TheVariants.{Out, In}
 use Rattle.usb_fields.specs.Bytes.{little_endian, little_endian_at}
 use Rattle.usb_fields.specs.declared.setup.Setup.{Setup}
 use Rattle.usb_fields.specs.declared.setup.Class.{Class}
 use Rattle.usb_fields.specs.declared.setup.Class.TheVariants as classes
 use Rattle.usb_fields.specs.declared.setup.Recipient.{Recipient}
 use Rattle.usb_fields.specs.declared.setup.Recipient.TheVariants as recipients
+
+-- Which way data goes (USB 2.0, 9.3.1 and 9.6.6).
+
+-- bit 7 of bmRequestType or of bEndpointAddress: 0 host to device, 1 device to host (tables 9-2 and 9-13)
+abbrev pub direction_of : ℕ → Direction
+direction_of byte = if byte / 128 % 2 == 0 then Out else In
+
+-- The setup packet (USB 2.0, 9.3).
 
 -- the bytes of a setup packet: bmRequestType, bRequest, wValue, wIndex, wLength
 abbrev pub setup_bytes : Setup → List ℕ

@@ -1,10 +1,10 @@
 //! The device descriptor (USB 2.0, 9.6.1).
 ghost use Rattle.std.specs.Prelude.{◌≡◌, Some, IfOk, IfErr};
 
+use crate::bytes::{word_at, word_bytes};
 use crate::fault::FieldFault;
+use crate::field::Width::{self, One, Two};
 use crate::field::fault_in;
-use crate::width::Width::{self, One, Two};
-use crate::words::{word_at, word_bytes};
 use crate::{descriptor_length, descriptor_type};
 
 /// bcdUSB of release 2.0 of the standard, the first with a second speed (USB 2.0, 9.6.2).

@@ -1,8 +1,17 @@
-//! What descriptors of fixed length have in common: bLength and bDescriptorType (USB 2.0, 9.5).
+//! What descriptors of fixed length have in common, and how wide their fields are (USB 2.0, 9.5).
 ghost use Rattle.std.specs.Prelude.{◌≡◌, ◌<◌, length, slice_index, IfNone};
-ghost use Rattle.usb_fields.specs.Fault.{field_fault};
+ghost use Rattle.usb_fields.specs.Device.{field_fault};
 
 use crate::fault::FieldFault;
+
+/// The width of a field of a descriptor (USB 2.0, 9.6).
+#[derive(Clone, Copy, Debug, PartialEq, Eq, Hash)]
+pub enum Width {
+    /// One byte.
+    One,
+    /// Two bytes, the low one first (8.1).
+    Two,
+}
 
 /// Why the bytes are no descriptor of this length and type, if they are none.
 pub(crate) fn fault_in(b: &[u8], size: u8, kind: u8) -> Option<FieldFault>

@@ -5,10 +5,8 @@
 ghost use Rattle.std.specs.Prelude.{◌≡◌, ◌<◌, ◌≤◌, ◌↔◌, ℕ, List, length, map, None, IsTrue};
 ghost use Rattle.usb_fields.specs.Bytes.{AreBytes};
 ghost use Rattle.usb_fields.specs.Fields.{names, widths};
-ghost use Rattle.usb_fields.specs.Device.{device_bytes, device_fault, device_fields};
-ghost use Rattle.usb_fields.specs.Packet.{reply_of, sent_of};
-ghost use Rattle.usb_fields.specs.Packets.{joined, kept, packets, repeated};
-ghost use Rattle.usb_fields.specs.Qualifier.{qualifier_bytes, qualifier_fault, qualifier_fields};
+ghost use Rattle.usb_fields.specs.Device.{device_bytes, device_fault, device_fields, qualifier_bytes, qualifier_fault, qualifier_fields};
+ghost use Rattle.usb_fields.specs.Packets.{reply_of, sent_of, joined, kept, packets, repeated};
 ghost use Rattle.usb_fields.specs.Setup.{setup_bytes, setup_of};
 ghost use Rattle.usb_fields.specs.Units.{unit_fault, units_bytes};
 ghost use Rattle.usb_fields.specs.declared.device.DeviceDescriptor.{DeviceDescriptor};

@@ -1,7 +1,6 @@
 //! Laws of the list type, and of fields.
 ghost use Rattle.std.specs.Prelude.{◌≡◌, ◌∷◌, ◌++◌, [], ℕ, List, false, map, true, IfOk};
-ghost use Rattle.usb_fields.specs.Fields.{Field, field_text, fields_bytes, widths};
-ghost use Rattle.usb_fields.specs.Widths.{cells};
+ghost use Rattle.usb_fields.specs.Fields.{Field, field_text, fields_bytes, widths, cells};
 
 use crate::sequence::Sequence;
 use std::alloc::AllocError;

@@ -1,5 +1,16 @@
-//! What passes between a host and a device in one transaction (USB 2.0, 8.4 to 8.6).
+//! What passes between a host and a device in one transaction, and at which speed (USB 2.0, 8.4 to 8.6).
 ghost use Rattle.std.specs.Prelude.{◌≡◌};
+
+/// The speed that a device runs at (USB 2.0, 4.2.1).
+#[derive(Clone, Copy, Debug, PartialEq, Eq, Hash)]
+pub enum Speed {
+    /// 1.5 Mb/s.
+    Low,
+    /// 12 Mb/s.
+    Full,
+    /// 480 Mb/s.
+    High,
+}
 
 /// The PID of a data packet: the two alternate, so that a packet that comes again is known (USB 2.0, 8.6).
 ///
@@ -15,7 +26,7 @@ pub enum Toggle {
 }
 
 impl Toggle {
-    ghost use Rattle.usb_fields.specs.Packet.{flipped};
+    ghost use Rattle.usb_fields.specs.Packets.{flipped};
 
     /// The other toggle.
     pub fn flip(self) -> Toggle

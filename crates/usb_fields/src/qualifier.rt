@@ -1,10 +1,10 @@
 //! The device qualifier descriptor (USB 2.0, 9.6.2).
 ghost use Rattle.std.specs.Prelude.{◌≡◌, Some, IfOk, IfErr};
 
+use crate::bytes::{word_at, word_bytes};
 use crate::fault::FieldFault;
+use crate::field::Width::{self, One, Two};
 use crate::field::fault_in;
-use crate::width::Width::{self, One, Two};
-use crate::words::{word_at, word_bytes};
 use crate::{descriptor_length, descriptor_type};
 
 /// Names of the fields of a device qualifier (USB 2.0, table 9-9).
@@ -46,7 +46,7 @@ pub struct Qualifier {
 }
 
 impl Qualifier {
-    ghost use Rattle.usb_fields.specs.Qualifier.{qualifier_bytes, qualifier_fault};
+    ghost use Rattle.usb_fields.specs.Device.{qualifier_bytes, qualifier_fault};
 
     /// The qualifier that these bytes are.
     ///

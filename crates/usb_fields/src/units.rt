@@ -1,12 +1,15 @@
-//! Strings and language lists: descriptors that hold 16-bit units (USB 2.0, 9.6.7).
+//! Strings and language lists: descriptors that hold 16-bit units, and their text (USB 2.0, 9.6.7).
 ghost use Rattle.std.specs.Prelude.{◌≡◌, ◌≤◌, ◌<◌, ◌+◌, ◌*◌, ◌/◌, ◌%◌, ◌++◌, length, vec_capacity, vec_len, IfOk, IfErr, OnErr, OnOk};
 ghost use Rattle.std.specs.List.{flat_map};
 ghost use Rattle.usb_fields.specs.Bytes.{little_endian};
 ghost use Rattle.usb_fields.specs.Units.{units_bytes, ReadUnitsFails, WriteUnitsFails};
+ghost use Rattle.std.specs.Prelude.{◌≡◌, encode_utf8_all, IfOk};
+ghost use Rattle.std.specs.String.{string_bytes};
+ghost use Rattle.std.specs.Char.Utf16.{utf16_lossy_chars};
 
+use crate::bytes::word_bytes;
 use crate::descriptor_type;
 use crate::fault::UnitFault;
-use crate::words::word_bytes;
 use std::alloc::{AllocError, Global};
 use std::mem;
 
@@ -135,4 +138,20 @@ fn put_many_units(u: &[u16], out: &mut Vec<u8>)
     let mut bytes = mem::replace(out, none);
     put_units(u, &mut bytes);
     *out = bytes;
+}
+
+/// The text of a string's UTF-16 code units, with U+FFFD for each surrogate that has no partner: a device can send any
+/// units, and the standard asks for Unicode (USB 2.0, 9.6.7). Where a loss has to be seen, `String::from_utf16` has it.
+///
+/// ```rust
+/// assert_eq!(rt; text_of(alloc, &[0x0055, 0x0053, 0x0042])?.as_str(), "USB");
+/// ```
+///
+/// # Errors
+///
+/// Out of memory.
+pub fn text_of(alloc: Global, units: &[u16]) -> Result<String, AllocError>
+    ensures { IfOk result (λ text. string_bytes text ≡ encode_utf8_all (utf16_lossy_chars units.now)) }
+{
+    String::from_utf16_lossy(alloc, units)
 }

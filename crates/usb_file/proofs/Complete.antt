@@ -5,21 +5,19 @@ use Rattle.std.proofs.lemmas.List.{append-nil, take-append-drop, length-take}
 use Rattle.std.proofs.lemmas.Bool.{ltb-false, le-ltb, lt-ltb, ne_eqb, eq-eqb, eqb-true, not-false, not_from_true, or_parts, or_from, cond-true, cond-false, cases_Bool, cases_lt, cases_eq}
 use Rattle.usb_fields.specs.declared.device.DeviceDescriptor.{DeviceDescriptor}
 use Rattle.usb_fields.specs.declared.fault.FieldFault.{FieldFault}
-use Rattle.usb_fields.specs.Device.{device_bytes, device_fault}
-use Rattle.usb_fields.specs.Qualifier.{qualifier_bytes, qualifier_fault}
+use Rattle.usb_fields.specs.Device.{device_bytes, device_fault, qualifier_bytes, qualifier_fault}
 use Rattle.usb_fields.specs.Units.{units_bytes, unit_fault}
 use Rattle.usb_set.specs.declared.tree.SetKind.{SetKind}
-use Rattle.usb_set.specs.Judgement as sets
+use Rattle.usb_set.specs.Faults as sets
 use Rattle.usb_file_data.specs.declared.file.DescriptorFile.{DescriptorFile}
 use Rattle.usb_file_data.specs.declared.file.Other.{Other}
 use Rattle.usb_file_data.specs.declared.file.Strings.{Strings}
-use Rattle.usb_file.specs.declared.fault.FileWhy.{FileWhy}
-use Rattle.usb_file.specs.declared.fault.FileWhy.TheVariants as files
-use Rattle.usb_file_data.specs.Named.{named_indices}
-use Rattle.usb_file_data.specs.File.{File, file_bytes, is_other_kind, are_wrong_strings}
+use Rattle.usb_file_data.specs.declared.fault.FileWhy.{FileWhy}
+use Rattle.usb_file_data.specs.declared.fault.FileWhy.TheVariants as files
+use Rattle.usb_file_data.specs.File.{named_indices, File, file_bytes, is_other_kind, are_wrong_strings}
 use Rattle.usb_fields.specs.Bytes.{AreBytes}
 use Rattle.usb_file_data.proofs.Lists.{bytes_before, bytes_behind}
-use Rattle.usb_file.specs.inside.PartLaws.{PartLaws}
+use Rattle.usb_file.specs.inside.Reading.{PartLaws, next_string, next_part}
 use Rattle.usb_file_data.proofs.Fronts.{Grown, string_with, grow_main, grow_other, grow_qualifier, grow_languages, grow_string}
 use Rattle.usb_file.proofs.Due.{due_main, due_other, due_qualifier, due_strings}
 use Rattle.usb_file_data.proofs.Units.{length-units_bytes}
@@ -28,11 +26,8 @@ use Rattle.usb_file.proofs.Next.{follows, is_next, next_end, next_is}
 use Rattle.usb_file.proofs.Ends as ends
 use Rattle.usb_file.proofs.Unique.{PartIs, IsText, told_same, part_faults}
 use Rattle.usb_file.proofs.Paths.{two_fronts, stuck_by_fault, stuck_at_end, device_first, behind, begun}
-use Rattle.usb_file_data.specs.Front.{StringsFollow, IsInOrder, IsFront, Splits, AllSets}
-use Rattle.usb_file.specs.FileFaults.{NextPart, a_set, a_qualifier, the_languages, a_string, the_end, begins_qualifier, is_no_string, string_fault, fixed_fault, EndIsNext, IsNext, PartFaulty, FaultyPart, FileFaulty}
-use Rattle.usb_file.specs.FileOrFault.{FileOrFault, is_file, is_faulty}
-use Rattle.usb_file.specs.inside.Next.{next_string, next_part}
-use Rattle.usb_file_data.specs.Front.{with_set, with_qualifier}
+use Rattle.usb_file_data.specs.Front.{StringsFollow, IsInOrder, IsFront, Splits, AllSets, with_set, with_qualifier}
+use Rattle.usb_file_data.specs.FileFaults.{NextPart, a_set, a_qualifier, the_languages, a_string, the_end, begins_qualifier, is_no_string, string_fault, fixed_fault, EndIsNext, IsNext, PartFaulty, FaultyPart, FileFaulty, FileOrFault, is_file, is_faulty}
 
 -- ---- the part that is due makes a prefix of a prefix
 

@@ -10,10 +10,9 @@ use Rattle.usb_fields.specs.Units.{units_bytes}
 use Rattle.usb_set.specs.declared.tree.SetKind.TheVariants as kinds
 use Rattle.usb_file_data.specs.declared.file.DescriptorFile.{DescriptorFile}
 use Rattle.usb_file_data.specs.declared.file.Other.{Other}
-use Rattle.usb_file_data.specs.File.{File, each_string_bytes, file_bytes, has_no_layout, is_long_string, is_other_kind, is_other_miscounted, other_bytes, sets_bytes}
-use Rattle.usb_file_data.specs.Named.{named_among, named_indices, other_sets, string_indices}
+use Rattle.usb_file_data.specs.File.{File, each_string_bytes, file_bytes, has_no_layout, is_long_string, is_other_kind, is_other_miscounted, other_bytes, sets_bytes, named_among, named_indices, other_sets, string_indices}
 use Rattle.usb_file.specs.Completed.{completed, index_text}
-use Rattle.usb_file.specs.Dumps.{Dump}
+use Rattle.usb_file_data.specs.Inputs.{Dump}
 
 -- ---- the indices that are named
 

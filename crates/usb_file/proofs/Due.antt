@@ -5,10 +5,10 @@ use Rattle.usb_set.specs.declared.tree.SetKind.TheVariants as kinds
 use Rattle.usb_file_data.specs.declared.file.DescriptorFile.{DescriptorFile}
 use Rattle.usb_file_data.specs.declared.file.Other.{Other}
 use Rattle.usb_file_data.specs.declared.file.Strings.{Strings}
-use Rattle.usb_file_data.specs.Named.{named_indices}
+use Rattle.usb_file_data.specs.File.{named_indices}
 use Rattle.usb_file_data.specs.Front.{AllSets}
-use Rattle.usb_file.specs.FileFaults.{a_set, a_qualifier, begins_qualifier}
-use Rattle.usb_file.specs.inside.Next.{next_string, next_after_main, next_part}
+use Rattle.usb_file_data.specs.FileFaults.{a_set, a_qualifier, begins_qualifier}
+use Rattle.usb_file.specs.inside.Reading.{next_string, next_after_main, next_part}
 
 pub due_main : (f : DescriptorFile) (rest : List ℕ) → length f.sets < f.device.configurations → next_part f rest ≡ a_set kinds.Configuration
 due_main f rest below = cond-true (ltb (length f.sets) f.device.configurations) _ _ (lt-ltb _ _ below)

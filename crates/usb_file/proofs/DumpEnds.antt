@@ -6,27 +6,25 @@ use Rattle.std.proofs.Math.Seq.{drop-append_seam, take-append_seam}
 use Rattle.std.proofs.lemmas.List.{take-append-drop}
 use Rattle.std.proofs.lemmas.Bool.Decides.{nat_tests}
 use Rattle.usb_fields.specs.Bytes.{AreBytes, little_endian_at}
-use Rattle.usb_fields.specs.Device.{device_bytes, device_fault}
-use Rattle.usb_fields.specs.Qualifier.{qualifier_fault}
+use Rattle.usb_fields.specs.Device.{device_bytes, device_fault, qualifier_fault}
 use Rattle.usb_set.specs.declared.tree.Configuration.{Configuration}
-use Rattle.usb_set.specs.Encoding.{set_length}
+use Rattle.usb_set.specs.Layout.{set_length}
 use Rattle.usb_set.proofs.Items.{two_bytes}
 use Rattle.usb_set.proofs.Sets.{length-set_bytes}
 use Rattle.usb_file_data.specs.declared.file.DescriptorFile.{DescriptorFile}
 use Rattle.usb_file_data.specs.declared.file.Other.{Other}
 use Rattle.usb_file_data.specs.declared.file.Strings.{Strings}
-use Rattle.usb_file_data.specs.Named.{named_indices}
-use Rattle.usb_file_data.specs.File.{file_bytes, other_bytes, sets_bytes, strings_bytes, whole_set}
+use Rattle.usb_file_data.specs.File.{named_indices, file_bytes, other_bytes, sets_bytes, strings_bytes, whole_set}
 use Rattle.usb_file_data.specs.Front.{AllSets, IsInOrder, Splits}
 use Rattle.usb_file_data.proofs.Lists.{bytes_before}
-use Rattle.usb_file.specs.declared.fault.FileWhy.{FileWhy}
-use Rattle.usb_file.specs.declared.fault.FileWhy.TheVariants as files
-use Rattle.usb_file.specs.declared.fault.FileFault.{FileFault}
-use Rattle.usb_file.specs.declared.likeness.Likeness.{Likeness}
-use Rattle.usb_file.specs.declared.likeness.Likeness.TheVariants as likes
-use Rattle.usb_file.specs.Dumps.{Dump}
-use Rattle.usb_file.specs.FileFaults.{FaultyPart, FileFaulty, IsNext, LanguagesAreNext, MissesString, NextPart, PartFaulty, a_qualifier, a_set, a_string, is_no_string, the_end, the_languages}
-use Rattle.usb_file.specs.Likeness.{DumpGoesOn, DumpsAreSeen, DumpsEndAtFaults, after_sets, file_likeness, goes_on_after_dump, is_bos, is_of_text, is_report, is_string}
+use Rattle.usb_file_data.specs.declared.fault.FileWhy.{FileWhy}
+use Rattle.usb_file_data.specs.declared.fault.FileWhy.TheVariants as files
+use Rattle.usb_file_data.specs.declared.fault.FileFault.{FileFault}
+use Rattle.usb_file_data.specs.declared.likeness.Likeness.{Likeness}
+use Rattle.usb_file_data.specs.declared.likeness.Likeness.TheVariants as likes
+use Rattle.usb_file_data.specs.Inputs.{Dump}
+use Rattle.usb_file_data.specs.FileFaults.{FaultyPart, FileFaulty, IsNext, LanguagesAreNext, MissesString, NextPart, PartFaulty, a_qualifier, a_set, a_string, is_no_string, the_end, the_languages}
+use Rattle.usb_file_data.specs.Likeness.{DumpGoesOn, DumpsAreSeen, DumpsEndAtFaults, after_sets, file_likeness, goes_on_after_dump, is_bos, is_of_text, is_report, is_string}
 use Rattle.usb_file.proofs.Dumps.{is_dump}
 use Rattle.usb_file.proofs.Paths.{behind, device_first}
 

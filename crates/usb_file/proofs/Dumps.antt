@@ -8,16 +8,13 @@ use Rattle.usb_fields.specs.Device.{device_bytes}
 use Rattle.usb_set.specs.declared.tree.SetKind.{SetKind}
 use Rattle.usb_set.specs.declared.tree.SetKind.TheVariants as kinds
 use Rattle.usb_file_data.specs.declared.file.DescriptorFile.{DescriptorFile}
-use Rattle.usb_file_data.specs.Named.{other_sets}
-use Rattle.usb_file_data.specs.File.{file_bytes, sets_bytes, other_bytes, strings_bytes, is_other_kind, has_no_layout}
+use Rattle.usb_file_data.specs.File.{other_sets, file_bytes, sets_bytes, other_bytes, strings_bytes, is_other_kind, has_no_layout}
 use Rattle.usb_file_data.specs.Front.{AllSets, IsInOrder, Splits}
-use Rattle.usb_file.specs.declared.fault.FileWhy.{FileWhy}
-use Rattle.usb_file.specs.declared.fault.FileWhy.TheVariants as files
-use Rattle.usb_file.specs.Dumps.{Dump, IsNoDump}
-use Rattle.usb_file.specs.Inputs.{DeviceRefused}
-use Rattle.usb_file.specs.FileFaults.{FaultyPart, LanguagesAreNext, ReadRefused, a_qualifier, a_set, a_string, the_end, the_languages}
-use Rattle.usb_file.specs.inside.Next.{next_part}
-use Rattle.usb_file.specs.inside.PartLaws.{PartLaws}
+use Rattle.usb_file_data.specs.declared.fault.FileWhy.{FileWhy}
+use Rattle.usb_file_data.specs.declared.fault.FileWhy.TheVariants as files
+use Rattle.usb_file_data.specs.Inputs.{Dump, IsNoDump, DeviceRefused}
+use Rattle.usb_file_data.specs.FileFaults.{FaultyPart, LanguagesAreNext, ReadRefused, a_qualifier, a_set, a_string, the_end, the_languages}
+use Rattle.usb_file.specs.inside.Reading.{next_part, PartLaws}
 use Rattle.usb_file.proofs.Next.{next_is}
 use Rattle.usb_file.proofs.Paths.{stuck_by_fault, two_fronts}
 use Rattle.usb_file.proofs.Complete.{fault_of}

@@ -3,10 +3,10 @@ use Rattle.std.proofs.Common.{◌≡◌, ℕ, zero, suc, ◌<◌, ◌≤◌, Lis
 use Rattle.std.proofs.lemmas.List.{append-nil}
 use Rattle.usb_file_data.specs.declared.file.DescriptorFile.{DescriptorFile}
 use Rattle.usb_file_data.specs.File.{File, file_bytes}
-use Rattle.usb_file.specs.declared.fault.FileWhy.{FileWhy}
-use Rattle.usb_file.specs.declared.fault.FileWhy.TheVariants as files
+use Rattle.usb_file_data.specs.declared.fault.FileWhy.{FileWhy}
+use Rattle.usb_file_data.specs.declared.fault.FileWhy.TheVariants as files
 use Rattle.usb_file_data.specs.Front.{IsFront}
-use Rattle.usb_file.specs.FileFaults.{the_end, EndIsNext, PartFaulty, FileFaulty, ReadRefused}
+use Rattle.usb_file_data.specs.FileFaults.{the_end, EndIsNext, PartFaulty, FileFaulty, ReadRefused}
 use Rattle.usb_fields.specs.Bytes.{AreBytes}
 
 -- a prefix of a file after which the file must end, and nothing else

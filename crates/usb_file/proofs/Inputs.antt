@@ -11,24 +11,21 @@ use Rattle.usb_set.specs.declared.tree.SetKind.{SetKind}
 use Rattle.usb_set.specs.declared.tree.SetKind.TheVariants as kinds
 use Rattle.usb_set.specs.Descriptors.{type_number}
 use Rattle.usb_set.specs.Faults.{Begins, is_set_type}
-use Rattle.usb_set.specs.Judgement as sets
+use Rattle.usb_set.specs.Faults as sets
 use Rattle.usb_set.specs.Layout.{Layout}
 use Rattle.usb_file_data.specs.declared.file.DescriptorFile.{DescriptorFile}
 use Rattle.usb_file_data.specs.declared.file.Other.{Other}
 use Rattle.usb_file_data.specs.File.{File}
 use Rattle.usb_file_data.specs.Front.{Splits}
-use Rattle.usb_file.specs.declared.fault.FileWhy.{FileWhy}
-use Rattle.usb_file.specs.declared.fault.FileWhy.TheVariants as files
-use Rattle.usb_file_data.specs.declared.input.Input.{Input}
-use Rattle.usb_file_data.specs.declared.input.Input.TheVariants as inputs
-use Rattle.usb_file.specs.declared.input_fault.InputFault.{InputFault}
-use Rattle.usb_file.specs.declared.input_fault.InputFault.TheVariants as faults
-use Rattle.usb_file.specs.Dumps.{Dump, IsNoDump}
-use Rattle.usb_file.specs.FileFaults.{FaultyPart, IsNext, LanguagesAreNext, NextPart, a_set, a_qualifier, the_languages, a_string, the_end}
-use Rattle.usb_file.specs.FileOrFault.{is_file, is_faulty}
-use Rattle.usb_file.specs.InputOrFault.{InputOrFault, is_input, is_refused}
-use Rattle.usb_file.specs.Inputs.{GoesOn, HasFault, InputFaulty, IsInput, is_one_set}
-use Rattle.usb_file.specs.inside.PartLaws.{PartLaws}
+use Rattle.usb_file_data.specs.declared.fault.FileWhy.{FileWhy}
+use Rattle.usb_file_data.specs.declared.fault.FileWhy.TheVariants as files
+use Rattle.usb_file_data.specs.declared.file.Input.{Input}
+use Rattle.usb_file_data.specs.declared.file.Input.TheVariants as inputs
+use Rattle.usb_file_data.specs.declared.fault.InputFault.{InputFault}
+use Rattle.usb_file_data.specs.declared.fault.InputFault.TheVariants as faults
+use Rattle.usb_file_data.specs.Inputs.{Dump, IsNoDump, InputOrFault, is_input, is_refused, GoesOn, HasFault, InputFaulty, IsInput, is_one_set}
+use Rattle.usb_file_data.specs.FileFaults.{FaultyPart, IsNext, LanguagesAreNext, NextPart, a_set, a_qualifier, the_languages, a_string, the_end, is_file, is_faulty}
+use Rattle.usb_file.specs.inside.Reading.{PartLaws}
 use Rattle.usb_file.proofs.Complete.{file_or_fault, no_device_fault, not_both, one_fault, one_file}
 use Rattle.usb_file.proofs.Dumps.{dump_fault, dump_splits, end_apart, is_dump, no_dump, one_dump, qualifier_apart, set_apart, string_apart}
 

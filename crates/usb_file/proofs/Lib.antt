@@ -12,5 +12,4 @@ pub mod Complete
 pub mod Dumps
 pub mod CompletedLemmas
 pub mod Inputs
-pub mod SetsAhead
 pub mod DumpEnds

@@ -5,12 +5,11 @@ use Rattle.usb_set.specs.declared.tree.SetKind.TheVariants as kinds
 use Rattle.usb_file_data.specs.declared.file.DescriptorFile.{DescriptorFile}
 use Rattle.usb_file_data.specs.declared.file.Other.{Other}
 use Rattle.usb_file_data.specs.declared.file.Strings.{Strings}
-use Rattle.usb_file_data.specs.Named.{named_indices}
-use Rattle.usb_file_data.specs.File.{has_wrong_count, are_wrong_strings, is_other_miscounted}
+use Rattle.usb_file_data.specs.File.{named_indices, has_wrong_count, are_wrong_strings, is_other_miscounted}
 use Rattle.usb_file_data.proofs.Counts.{AllStrings, all_sets, all_strings}
 use Rattle.usb_file_data.specs.Front.{AllSets, StringsFollow, IsInOrder, IsFront}
-use Rattle.usb_file.specs.FileFaults.{NextPart, a_set, a_qualifier, the_languages, a_string, the_end, begins_qualifier, IsNext, NoQualifierIsNext, MissesSet, MissesString}
-use Rattle.usb_file.specs.inside.Next.{next_string, next_part}
+use Rattle.usb_file_data.specs.FileFaults.{NextPart, a_set, a_qualifier, the_languages, a_string, the_end, begins_qualifier, IsNext, NoQualifierIsNext, MissesSet, MissesString}
+use Rattle.usb_file.specs.inside.Reading.{next_string, next_part}
 use Rattle.usb_file.proofs.Due.{due_main, due_other, due_qualifier, due_strings}
 
 -- ---- counts

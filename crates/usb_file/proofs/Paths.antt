@@ -4,32 +4,27 @@ use Rattle.std.specs.List.{list_any}
 use Rattle.std.proofs.lemmas.List.{append-nil}
 use Rattle.std.proofs.lemmas.Bool.{ltb-false, lt-ltb, ne_eqb, or_parts, cond-true, cond-false}
 use Rattle.usb_fields.specs.declared.device.DeviceDescriptor.{DeviceDescriptor}
-use Rattle.usb_fields.specs.Device.{device_bytes}
-use Rattle.usb_fields.specs.Qualifier.{qualifier_bytes}
+use Rattle.usb_fields.specs.Device.{device_bytes, qualifier_bytes}
 use Rattle.usb_fields.specs.Units.{units_bytes}
 use Rattle.usb_set.specs.declared.tree.SetKind.TheVariants as kinds
 use Rattle.usb_set.specs.declared.tree.Configuration.{Configuration}
 use Rattle.usb_set.specs.declared.fault.EncodeFault.TheVariants as encoding
-use Rattle.usb_set.specs.Layout.{Layout, set_bytes, has_long_descriptor, has_typed_raw}
-use Rattle.usb_set.specs.Encoding.{set_length}
-use Rattle.usb_set.specs.inside.Lengths.{HasLength}
+use Rattle.usb_set.specs.Layout.{Layout, set_bytes, has_long_descriptor, has_typed_raw, set_length}
+use Rattle.usb_set.specs.inside.Trees.{HasLength}
 use Rattle.usb_set.proofs.Sets.{layout_of}
 use Rattle.usb_file_data.specs.declared.file.DescriptorFile.{DescriptorFile}
 use Rattle.usb_file_data.specs.declared.file.Other.{Other}
 use Rattle.usb_file_data.specs.declared.file.Strings.{Strings}
-use Rattle.usb_file.specs.declared.fault.FileWhy.{FileWhy}
-use Rattle.usb_file_data.specs.Named.{named_indices, other_sets}
-use Rattle.usb_file_data.specs.File.{whole_set, sets_bytes, other_bytes, each_string_bytes, strings_bytes, file_bytes, is_other_kind, has_no_layout, is_long_string}
+use Rattle.usb_file_data.specs.declared.fault.FileWhy.{FileWhy}
+use Rattle.usb_file_data.specs.File.{named_indices, other_sets, whole_set, sets_bytes, other_bytes, each_string_bytes, strings_bytes, file_bytes, is_other_kind, has_no_layout, is_long_string}
 use Rattle.usb_fields.specs.Bytes.{AreBytes}
 use Rattle.usb_file_data.proofs.Lists.{bytes_before, bytes_behind, length-push}
-use Rattle.usb_file.specs.inside.PartLaws.{PartLaws}
+use Rattle.usb_file.specs.inside.Reading.{PartLaws, next_string, next_part}
 use Rattle.usb_file_data.proofs.WholeSets.{no_some}
 use Rattle.usb_file.proofs.Due.{due_main, due_other, due_qualifier, due_strings}
 use Rattle.usb_file.proofs.Unique.{PartIs, IsSet, one_part, part_or_fault, append_same}
-use Rattle.usb_file_data.specs.Front.{StringsFollow, IsInOrder, IsFront, Splits, AllSets}
-use Rattle.usb_file.specs.FileFaults.{the_languages, a_string, the_end, PartFaulty}
-use Rattle.usb_file.specs.inside.Next.{next_string, next_part}
-use Rattle.usb_file_data.specs.Front.{with_set, with_strings}
+use Rattle.usb_file_data.specs.Front.{StringsFollow, IsInOrder, IsFront, Splits, AllSets, with_set, with_strings}
+use Rattle.usb_file_data.specs.FileFaults.{the_languages, a_string, the_end, PartFaulty}
 
 -- ---- steps
 

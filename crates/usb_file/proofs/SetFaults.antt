@@ -6,8 +6,8 @@ use Rattle.usb_set.specs.declared.fault.SetFault.{SetFault}
 use Rattle.usb_set.specs.declared.fault.SetWhy.{SetWhy}
 use Rattle.usb_set.specs.declared.fault.SetWhy.TheVariants as sets
 use Rattle.usb_set.specs.Faults.{Fault, Faulty, IsOpen, header_fault, is_set_type, item_fault, least_length, total_fault}
-use Rattle.usb_set.specs.Feeding.{ReadsSet}
-use Rattle.usb_file.specs.declared.fault.FileFault.{FileFault}
+use Rattle.usb_set.specs.Decoding.{ReadsSet}
+use Rattle.usb_file_data.specs.declared.fault.FileFault.{FileFault}
 use Rattle.usb_file.specs.inside.Reading.{SetRefused, set_refusal}
 
 -- ---- no bytes of a set show that they end too early

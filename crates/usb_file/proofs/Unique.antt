@@ -3,20 +3,20 @@ use Rattle.std.proofs.Common.{◌≡◌, ℕ, ltb, take, ◌+◌, ◌*◌, ◌%�
 use Rattle.std.specs.Prelude.{is_some}
 use Rattle.std.proofs.lemmas.Bool.{le-ltb, ne_eqb, or_from, cond-false}
 use Rattle.usb_fields.specs.declared.qualifier.Qualifier.{Qualifier}
-use Rattle.usb_fields.specs.Qualifier.{qualifier_bytes, qualifier_fault}
+use Rattle.usb_fields.specs.Device.{qualifier_bytes, qualifier_fault}
 use Rattle.usb_fields.specs.Units.{units_bytes}
 use Rattle.usb_set.specs.declared.tree.SetKind.{SetKind}
 use Rattle.usb_set.specs.declared.tree.Configuration.{Configuration}
 use Rattle.usb_set.specs.Layout.{Layout}
 use Rattle.usb_set.specs.Faults.{Begins}
 use Rattle.usb_file_data.specs.declared.file.DescriptorFile.{DescriptorFile}
-use Rattle.usb_file.specs.declared.fault.FileWhy.{FileWhy}
-use Rattle.usb_file.specs.declared.fault.FileWhy.TheVariants as files
+use Rattle.usb_file_data.specs.declared.fault.FileWhy.{FileWhy}
+use Rattle.usb_file_data.specs.declared.fault.FileWhy.TheVariants as files
 use Rattle.usb_file_data.specs.File.{is_other_kind, is_long_string}
 use Rattle.usb_file_data.proofs.Fronts.{string_with}
-use Rattle.usb_file.specs.inside.PartLaws.{PartLaws}
+use Rattle.usb_file.specs.inside.Reading.{PartLaws}
 use Rattle.usb_file_data.proofs.Units.{length-units_bytes}
-use Rattle.usb_file.specs.FileFaults.{NextPart, a_set, a_qualifier, the_languages, a_string, the_end, is_no_string, string_fault, fixed_fault, SetFaulty, PartFaulty}
+use Rattle.usb_file_data.specs.FileFaults.{NextPart, a_set, a_qualifier, the_languages, a_string, the_end, is_no_string, string_fault, fixed_fault, SetFaulty, PartFaulty}
 use Rattle.usb_file_data.specs.Front.{with_set, with_qualifier, with_strings}
 
 -- ---- parts

@@ -2,9 +2,8 @@
 use Rattle.std.specs.Prelude.{◌≡◌, ◌⊎◌, ℕ, List, [], ◌∷◌, ◌++◌, map, codes, Some}
 use Rattle.std.specs.Fmt.{decimal}
 use Rattle.usb_file_data.specs.declared.file.DescriptorFile.{DescriptorFile}
-use Rattle.usb_file_data.specs.File.{File}
-use Rattle.usb_file_data.specs.Named.{named_indices}
-use Rattle.usb_file.specs.Dumps.{Dump}
+use Rattle.usb_file_data.specs.File.{File, named_indices}
+use Rattle.usb_file_data.specs.Inputs.{Dump}
 
 -- the units of the text for an index: the word and the index
 abbrev pub index_text : ℕ → List ℕ

@@ -1,4 +1,2 @@
 -- What no public contract cites.
-pub mod Next
 pub mod Reading
-pub mod PartLaws

@@ -2,13 +2,11 @@
 ghost use Rattle.std.specs.Prelude.{◌≡◌, IfErr, IfOk, List, ℕ, map};
 ghost use Rattle.usb_file_data.specs.File.{File};
 ghost use Rattle.usb_file.specs.Completed.{IsCompleted, completed, index_text};
-ghost use Rattle.usb_file.specs.Dumps.{Dump};
-ghost use Rattle.usb_file.specs.Inputs.{DeviceRefused};
+ghost use Rattle.usb_file_data.specs.Inputs.{Dump, DeviceRefused};
 
-use crate::fault::{FileFault, FileWhy};
 use crate::file_reader::{Form, read_file_or_dump};
 use std::alloc::{AllocError, Global};
-use usb_file_data::{DescriptorFile, Strings, named};
+use usb_file_data::{DescriptorFile, FileFault, FileWhy, Strings, named};
 use usb_set::Sequence;
 
 /// The language of the texts: English (United States).

@@ -1,22 +1,94 @@
 //! A file, read part by part.
+ghost use Rattle.std.specs.Prelude.{◌≡◌, ◌≤◌, IfErr, IfOk, Some, is_some, length, take};
+ghost use Rattle.usb_fields.specs.Device.{device_bytes, device_fault};
+ghost use Rattle.usb_file_data.specs.FileFaults.{fixed_fault};
+ghost use Rattle.usb_file_data.specs.declared.fault.FileWhy.TheVariants as files;
+ghost use Rattle.std.specs.Prelude.{◌≡◌, ◌≤◌, IfErr, IfOk, length};
+ghost use Rattle.usb_file_data.specs.FileFaults.{begins_qualifier};
+ghost use Rattle.usb_file.specs.inside.Reading.{OtherRefused, QualifierRefused, ReadsOther, ReadsQualifier};
 ghost use Rattle.std.specs.Prelude.{◌≡◌, ◌≤◌, IfErr, IfOk, drop, length};
 ghost use Rattle.usb_file_data.specs.File.{File};
-ghost use Rattle.usb_file.specs.FileFaults.{ReadRefused};
-ghost use Rattle.usb_file.specs.Inputs.{DeviceRefused};
+ghost use Rattle.usb_file_data.specs.FileFaults.{ReadRefused};
+ghost use Rattle.usb_file_data.specs.Inputs.{DeviceRefused};
 ghost use Rattle.usb_file.specs.inside.Reading.{IsOfForm, SetsRead, ends_as_dump};
-ghost use Rattle.usb_file.specs.declared.fault.FileWhy.TheVariants as files;
 ghost use Rattle.usb_file_data.specs.declared.file.DescriptorFile.{DescriptorFile};
 
-use crate::device::{DEVICE_LENGTH, read_device};
-use crate::fault::{FileFault, FileWhy};
 use crate::laws::{one_answer, part_laws};
-use crate::other::read_other;
 use crate::sets::read_sets;
 use crate::strings::read_strings;
 use std::alloc::Global;
-use usb_fields::known_bytes;
-use usb_file_data::{DescriptorFile, Other, count_named};
+use usb_fields::{DeviceDescriptor, Qualifier, descriptor_length, descriptor_type, known_bytes};
+use usb_file_data::{DescriptorFile, FileFault, FileWhy, Other, count_named};
 use usb_set::{Sequence, SetKind};
+
+/// bLength of a device descriptor, in bytes (USB 2.0, 9.6.1).
+pub(crate) const DEVICE_LENGTH: usize = descriptor_length::DEVICE as usize;
+
+/// The device descriptor that the file begins with.
+pub(crate) fn read_device(b: &[u8]) -> Result<DeviceDescriptor, FileFault>
+    ensures ok { IfOk result (λ d. take 18 b.now ≡ device_bytes d) }
+    ensures long { IfOk result (λ d. 18 ≤ length b.now) }
+    ensures err { IfErr result (λ fault. fixed_fault 18 (is_some (device_fault (take 18 b.now))) files.Device b.now ≡ Some (fault.at, fault.why)) }
+{
+    if b.len() < DEVICE_LENGTH {
+        return Err(FileFault::new(b.len(), FileWhy::Truncated));
+    }
+    match DeviceDescriptor::read(&b[..DEVICE_LENGTH]) {
+        Ok(device) => Ok(device),
+        Err(_) => Err(FileFault::new(0, FileWhy::Device)),
+    }
+}
+
+/// bLength of a qualifier, in bytes (USB 2.0, 9.6.2).
+const QUALIFIER_LENGTH: usize = descriptor_length::DEVICE_QUALIFIER as usize;
+
+/// The other speed, if a qualifier begins at this place, and where it ends.
+pub(crate) fn read_other(
+    alloc: Global,
+    b: &[u8],
+    place: usize,
+) -> Result<(Option<Other>, usize), FileFault>
+    requires within { place ≤ length b.now }
+    ensures ok { IfOk result (λ p. ReadsOther b.now place p.0 p.1) }
+    ensures err { IfErr result (λ fault. OtherRefused b.now place fault.at fault.why) }
+{
+    if !begins_qualifier(rest(b, place)) {
+        return Ok((None, place));
+    }
+    let qualifier = read_qualifier(b, place)?;
+    let mut sets = Sequence::new(alloc);
+    let declared = qualifier.configurations;
+    let start = place + QUALIFIER_LENGTH;
+    let end = read_sets(alloc, b, start, SetKind::OtherSpeed, declared, &mut sets)?;
+    Ok((Some(Other { qualifier, sets }), end))
+}
+
+/// Whether bytes after the sets of the device begin a qualifier: one lone byte might.
+fn begins_qualifier(rest: &[u8]) -> bool
+    ensures { result ≡ begins_qualifier rest.now }
+{
+    match rest {
+        [] => false,
+        [_] => true,
+        [_, kind, ..] => *kind == descriptor_type::DEVICE_QUALIFIER,
+    }
+}
+
+/// The qualifier at this place.
+fn read_qualifier(b: &[u8], place: usize) -> Result<Qualifier, FileFault>
+    requires within { place ≤ length b.now }
+    ensures ok { IfOk result (λ q. ReadsQualifier b.now place q) }
+    ensures err { IfErr result (λ fault. QualifierRefused b.now place fault.at fault.why) }
+{
+    let left = rest(b, place);
+    if left.len() < QUALIFIER_LENGTH {
+        return Err(FileFault::new(b.len(), FileWhy::Truncated));
+    }
+    match Qualifier::read(&left[..QUALIFIER_LENGTH]) {
+        Ok(qualifier) => Ok(qualifier),
+        Err(_) => Err(FileFault::new(place, FileWhy::Qualifier)),
+    }
+}
 
 /// The file that the bytes are, exactly where they are one: its parts one after another, each count, kind, layout and
 /// string right, and nothing after them (USB 2.0, 9.4.3 and 9.6).

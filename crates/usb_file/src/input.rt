@@ -1,13 +1,12 @@
 //! The input that bytes are: one set, a descriptor file, or a dump of Linux.
 ghost use Rattle.std.specs.Prelude.{◌≡◌, IfErr, IfOk, true};
 ghost use Rattle.usb_set.specs.Layout.{Layout};
-ghost use Rattle.usb_file.specs.Inputs.{InputRefused, IsInput, is_one_set};
+ghost use Rattle.usb_file_data.specs.Inputs.{InputRefused, IsInput, is_one_set};
 
 use crate::file_reader::{Form, read_file_or_dump};
-use crate::input_fault::InputFault;
 use std::alloc::Global;
 use usb_fields::descriptor_type::{CONFIGURATION, OTHER_SPEED_CONFIGURATION};
-use usb_file_data::Input;
+use usb_file_data::{Input, InputFault};
 use usb_set::{Configuration, read_set};
 
 /// The set, the file or the dump that the bytes are, exactly where they are one. They are read as one set where the

@@ -3,18 +3,15 @@
 ghost use Rattle.std.specs.Prelude.{◌≡◌, ℕ, List, length};
 ghost use Rattle.usb_fields.specs.Bytes.{AreBytes};
 ghost use Rattle.usb_file_data.specs.File.{File};
-ghost use Rattle.usb_file.specs.FileFaults.{FileFaulty};
-ghost use Rattle.usb_file.specs.inside.PartLaws.{PartLaws};
-ghost use Rattle.usb_file.specs.FileOrFault.{FileOrFault};
-ghost use Rattle.usb_file.specs.Dumps.{Dump};
-ghost use Rattle.usb_file.specs.Inputs.{InputFaulty, IsInput};
-ghost use Rattle.usb_file.specs.InputOrFault.{InputOrFault};
-ghost use Rattle.usb_file.specs.Likeness.{DumpsAreSeen, DumpsEndAtFaults};
-ghost use Rattle.usb_file_data.specs.declared.input.Input.{Input};
-ghost use Rattle.usb_file.specs.declared.input_fault.InputFault.{InputFault};
-ghost use Rattle.usb_file.specs.declared.fault.FileWhy.TheVariants as files;
+ghost use Rattle.usb_file_data.specs.FileFaults.{FileFaulty, FileOrFault};
+ghost use Rattle.usb_file.specs.inside.Reading.{PartLaws};
+ghost use Rattle.usb_file_data.specs.Inputs.{Dump, InputFaulty, IsInput, InputOrFault};
+ghost use Rattle.usb_file_data.specs.Likeness.{DumpsAreSeen, DumpsEndAtFaults};
+ghost use Rattle.usb_file_data.specs.declared.file.Input.{Input};
+ghost use Rattle.usb_file_data.specs.declared.fault.InputFault.{InputFault};
+ghost use Rattle.usb_file_data.specs.declared.fault.FileWhy.TheVariants as files;
 ghost use Rattle.usb_file_data.specs.declared.file.DescriptorFile.{DescriptorFile};
-ghost use Rattle.usb_file.specs.declared.fault.FileWhy.{FileWhy};
+ghost use Rattle.usb_file_data.specs.declared.fault.FileWhy.{FileWhy};
 
 use usb_fields::laws::{device_descriptor_round_trip, qualifier_round_trip, units_round_trip};
 use usb_set::laws::{one_judgement, one_layout};
@@ -54,7 +51,7 @@ pub fn no_dump_is_a_file()
     part_laws();
 }
 
-/// If [`likeness_of`](crate::likeness_of) reports a dump and `n` more bytes, the bytes before the fault are a dump and `n`
+/// If [`likeness_of`](usb_file_data::likeness_of) reports a dump and `n` more bytes, the bytes before the fault are a dump and `n`
 /// bytes follow it. Each dump is reported after which a string descriptor is due and isn't there.
 pub fn a_dump_ends_at_its_fault()
     ensures ends { DumpsEndAtFaults }

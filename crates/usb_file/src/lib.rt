@@ -14,28 +14,20 @@
 #![tactic(auto)]
 
 mod completed;
-mod device;
-mod fault;
 mod file_reader;
 mod file_writer;
 mod input;
-mod input_fault;
 pub mod laws;
-mod likeness;
-mod other;
 mod sets;
 mod strings;
 
 pub use completed::read_completed;
-pub use fault::{FileFault, FileWhy};
 pub use file_reader::read_file;
 pub use file_writer::write_file;
 pub use input::read_input;
-pub use input_fault::InputFault;
-pub use likeness::{Likeness, after_sets, likeness_of};
 pub use usb_file_data::{
-    DescriptorFile, FILE_LIMIT, Finding, Input, NoMemory, Other, Part, Strings, WriteFault, check,
-    named, write_refusal,
+    DescriptorFile, FILE_LIMIT, FileFault, FileWhy, Finding, Input, InputFault, Likeness, NoMemory,
+    Other, Part, Strings, WriteFault, check, likeness_of, named, write_refusal,
 };
 pub use usb_listing::{ListFault, ListWhy, assemble, assemble_commented, list, list_set};
 pub use usb_text::OutFault;

@@ -2,10 +2,9 @@
 ghost use Rattle.std.specs.Prelude.{◌≡◌, ◌+◌, ◌<◌, ◌≤◌, ◌^◌, [], IfErr, IfOk, drop, length};
 ghost use Rattle.usb_file.specs.inside.Reading.{Behind, ReadsNextSet, ReadsSet, ReadsSets, SetRefused, SetsRefused, set_refusal};
 
-use crate::fault::{FileFault, FileWhy};
 use crate::file_reader::rest;
 use std::alloc::Global;
-use usb_file_data::is_other_kind;
+use usb_file_data::{FileFault, FileWhy, is_other_kind};
 use usb_set::{Configuration, Sequence, SetKind, SetWhy, read_set};
 
 /// Reads as many sets of this kind as are declared, and answers where they end.

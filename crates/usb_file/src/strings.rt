@@ -1,13 +1,12 @@
 //! The strings of a file, read one after another.
 ghost use Rattle.std.specs.Prelude.{◌≡◌, ◌≤◌, [], IfErr, IfOk, drop, length};
-ghost use Rattle.usb_file.specs.FileFaults.{is_no_string};
+ghost use Rattle.usb_file_data.specs.FileFaults.{is_no_string};
 ghost use Rattle.usb_file.specs.inside.Reading.{Behind, ReadsNextString, ReadsString, ReadsStrings, ReadsDueStrings, StringRefused, StringsRefused, DueStringsRefused};
 
-use crate::fault::{FileFault, FileWhy};
 use crate::file_reader::rest;
 use std::alloc::Global;
 use usb_fields::{UnitFault, descriptor_length, descriptor_type, read_units};
-use usb_file_data::Strings;
+use usb_file_data::{FileFault, FileWhy, Strings};
 use usb_set::Sequence;
 
 /// The least bLength of a string descriptor, in bytes: that of one with no unit (USB 2.0, 9.6.7).

@@ -8,9 +8,9 @@ use Rattle.usb_set.specs.declared.extra.Extra.{Extra}
 use Rattle.usb_set.specs.declared.tree.Endpoint.{Endpoint}
 use Rattle.usb_set.specs.declared.tree.Setting.{Setting}
 use Rattle.usb_set.specs.declared.tree.Configuration.{Configuration}
-use Rattle.usb_set.specs.Parts.{association_in, associations_of, extras_of, setting_extras}
-use Rattle.usb_file_data.specs.Named.{association_string_index, interface_string_index, set_string_indices}
-use Rattle.usb_file_data.specs.inside.ExtraIndices.{endpoint_extra_indices, extra_indices, setting_extra_indices}
+use Rattle.usb_set.specs.Owners.{association_in, associations_of, extras_of, setting_extras}
+use Rattle.usb_file_data.specs.File.{association_string_index, interface_string_index, set_string_indices}
+use Rattle.usb_file_data.specs.inside.Walk.{endpoint_extra_indices, extra_indices, setting_extra_indices}
 use Rattle.usb_fields.specs.Marks.{marked}
 use Rattle.usb_file_data.proofs.Folds.{fold_append}
 

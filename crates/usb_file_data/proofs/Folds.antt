@@ -4,9 +4,9 @@ use Rattle.std.specs.Prelude.{fold, filter, not}
 use Rattle.std.specs.List.{list_any, range_with_len}
 use Rattle.std.proofs.lemmas.List.{append-nil}
 use Rattle.std.proofs.lemmas.List.FromFn.{filter_of_map_range_with_len_more}
-use Rattle.usb_file_data.specs.Named.{named_among}
+use Rattle.usb_file_data.specs.File.{named_among}
 use Rattle.usb_fields.specs.Marks.{IsNextAbsent, unmarked, marked}
-use Rattle.usb_file_data.specs.inside.Marks.{marked_among}
+use Rattle.usb_file_data.specs.inside.Walk.{marked_among}
 
 pub fold_append : {A B : Type 0} (f : B → A → B) (b : B) (xs ys : List A) → fold f b (xs ++ ys) ≡ fold f (fold f b xs) ys
 fold_append f b [] ys = refl

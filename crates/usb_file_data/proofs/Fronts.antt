@@ -4,8 +4,7 @@ use Rattle.std.specs.List.{list_any}
 use Rattle.std.proofs.lemmas.List.{append-nil}
 use Rattle.std.proofs.lemmas.Bool.{or_parts, or_from}
 use Rattle.usb_fields.specs.declared.qualifier.Qualifier.{Qualifier}
-use Rattle.usb_fields.specs.Qualifier.{qualifier_bytes}
-use Rattle.usb_fields.specs.Device.{device_bytes}
+use Rattle.usb_fields.specs.Device.{qualifier_bytes, device_bytes}
 use Rattle.usb_fields.specs.Units.{units_bytes}
 use Rattle.usb_set.specs.declared.tree.SetKind.TheVariants as kinds
 use Rattle.usb_set.specs.declared.tree.Configuration.{Configuration}
@@ -13,8 +12,7 @@ use Rattle.usb_set.specs.Layout.{Layout}
 use Rattle.usb_file_data.specs.declared.file.DescriptorFile.{DescriptorFile}
 use Rattle.usb_file_data.specs.declared.file.Other.{Other}
 use Rattle.usb_file_data.specs.declared.file.Strings.{Strings}
-use Rattle.usb_file_data.specs.Named.{named_indices, other_sets}
-use Rattle.usb_file_data.specs.File.{whole_set, sets_bytes, other_bytes, each_string_bytes, strings_bytes, file_bytes, is_other_kind, has_no_layout, is_long_string}
+use Rattle.usb_file_data.specs.File.{named_indices, other_sets, whole_set, sets_bytes, other_bytes, each_string_bytes, strings_bytes, file_bytes, is_other_kind, has_no_layout, is_long_string}
 use Rattle.usb_file_data.proofs.Lists.{flat_map-push, list_any-push, length-push, behind_main, behind_other, behind_all}
 use Rattle.usb_file_data.proofs.WholeSets.{layout_is, layout_allowed}
 use Rattle.usb_file_data.specs.Front.{StringsFollow, IsInOrder, IsFront, AllSets, other_with, with_set, with_qualifier, with_strings}

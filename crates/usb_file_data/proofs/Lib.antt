@@ -12,3 +12,4 @@ pub mod Owning
 pub mod Walking
 pub mod RuleNumbers
 pub mod Sorting
+pub mod SetsAhead

@@ -8,15 +8,13 @@ use Rattle.std.proofs.lemmas.List.Filters.{length-filter_both}
 use Rattle.std.proofs.lemmas.List.FromFn.{length-range_with_len}
 use Rattle.usb_fields.specs.Bytes.{AreBytes}
 use Rattle.usb_fields.proofs.ByteLemmas.{byte_at}
-use Rattle.usb_fields.specs.Device.{device_bytes}
-use Rattle.usb_fields.specs.Qualifier.{qualifier_bytes}
+use Rattle.usb_fields.specs.Device.{device_bytes, qualifier_bytes}
 use Rattle.usb_fields.specs.Units.{units_bytes}
 use Rattle.usb_set.specs.declared.tree.Configuration.{Configuration}
 use Rattle.usb_file_data.specs.declared.file.DescriptorFile.{DescriptorFile}
 use Rattle.usb_file_data.specs.declared.file.Other.{Other}
 use Rattle.usb_file_data.specs.declared.file.Strings.{Strings}
-use Rattle.usb_file_data.specs.Named.{named_among, other_sets, string_indices}
-use Rattle.usb_file_data.specs.File.{File, whole_set, sets_bytes, other_bytes, each_string_bytes, strings_bytes, has_no_layout, is_long_string, are_wrong_strings}
+use Rattle.usb_file_data.specs.File.{named_among, other_sets, string_indices, File, whole_set, sets_bytes, other_bytes, each_string_bytes, strings_bytes, has_no_layout, is_long_string, are_wrong_strings}
 use Rattle.usb_file_data.specs.Front.{AllSets}
 use Rattle.usb_file_data.proofs.Lists.{bytes_before, bytes_behind}
 use Rattle.usb_file_data.proofs.Units.{length-units_bytes}

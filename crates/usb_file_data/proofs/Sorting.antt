@@ -12,7 +12,7 @@ use Rattle.usb_set.specs.declared.extra.Extra.{Extra}
 use Rattle.usb_set.specs.declared.tree.Configuration.{Configuration}
 use Rattle.usb_set.specs.declared.tree.Endpoint.{Endpoint}
 use Rattle.usb_set.specs.declared.tree.Setting.{Setting}
-use Rattle.usb_set.specs.Parts.{association_in, setting_extras}
+use Rattle.usb_set.specs.Owners.{association_in, setting_extras}
 use Rattle.usb_file_data.specs.declared.file.DescriptorFile.{DescriptorFile}
 use Rattle.usb_file_data.specs.declared.file.Other.{Other}
 use Rattle.usb_file_data.specs.declared.finding.Finding.{Finding}

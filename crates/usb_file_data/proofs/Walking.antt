@@ -15,7 +15,7 @@ use Rattle.usb_file_data.specs.declared.rule.Rule.TheVariants as rules
 use Rattle.usb_file_data.specs.Places.{at_each, at_each_counted, is_among, when}
 use Rattle.usb_file_data.specs.InOrder.{association_count, endpoint_associations, setting_associations}
 use Rattle.usb_set.specs.declared.extra.Extra.{Extra}
-use Rattle.usb_set.specs.Parts.{association_in}
+use Rattle.usb_set.specs.Owners.{association_in}
 use Rattle.usb_file_data.specs.declared.place.Place.{Place}
 use Rattle.usb_file_data.specs.Rules.{address_of, has_elsewhere, is_first, interface_numbers, number_of, wrong_endpoint_count}
 use Rattle.usb_file_data.specs.inside.Addresses.{owned, owned_at}

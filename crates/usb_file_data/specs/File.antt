@@ -1,22 +1,63 @@
--- The bytes of a descriptor file, and which files have bytes (USB 2.0, 9.4.3 and 9.6).
-use Rattle.std.specs.Prelude.{◌≡◌, ℕ, ◌*◌, List, [], ◌++◌, length, Bool, false, not, nat_lt, ◌==◌, ◌||◌, Option, Some, None, is_some, if◌then◌else◌}
-use Rattle.std.specs.List.{flat_map, list_any}
+-- The bytes of a descriptor file, which files have bytes, and which strings a file names (USB 2.0, 9.4.3 and 9.6).
+use Rattle.std.specs.Prelude.{ℕ, List, [], ◌∷◌, ◌++◌, map, filter, Option, Some, None, ◌==◌, ◌≡◌, ◌*◌, length, Bool, false, not, nat_lt, ◌||◌, is_some, if◌then◌else◌, ◌+◌, slice_get, position, option_and_then}
+use Rattle.std.specs.List.{flat_map, list_any, range_with_len}
+use Rattle.usb_fields.specs.declared.device.DeviceDescriptor.{DeviceDescriptor}
+use Rattle.usb_set.specs.declared.tree.Configuration.{Configuration}
+use Rattle.usb_set.specs.declared.tree.Setting.{Setting}
+use Rattle.usb_set.specs.declared.extra.Association.{Association}
+use Rattle.usb_set.specs.Owners.{associations_of}
+use Rattle.usb_file_data.specs.declared.file.DescriptorFile.{DescriptorFile}
+use Rattle.usb_file_data.specs.declared.file.Other.{Other}
 use Rattle.usb_fields.specs.Bytes.{AreBytes}
-use Rattle.usb_fields.specs.Device.{device_bytes}
-use Rattle.usb_fields.specs.Qualifier.{qualifier_bytes}
+use Rattle.usb_fields.specs.Device.{device_bytes, qualifier_bytes}
 use Rattle.usb_fields.specs.Units.{units_bytes}
 use Rattle.usb_set.specs.declared.tree.SetKind.{SetKind}
 use Rattle.usb_set.specs.declared.tree.SetKind.TheVariants as kinds
-use Rattle.usb_set.specs.declared.tree.Configuration.{Configuration}
 use Rattle.usb_set.specs.Descriptors.{type_number}
-use Rattle.usb_set.specs.Layout.{set_bytes}
-use Rattle.usb_set.specs.Encoding.{refusal_of, set_length}
-use Rattle.usb_file_data.specs.declared.file.DescriptorFile.{DescriptorFile}
-use Rattle.usb_file_data.specs.declared.file.Other.{Other}
+use Rattle.usb_set.specs.Layout.{set_bytes, refusal_of, set_length}
 use Rattle.usb_file_data.specs.declared.file.Strings.{Strings}
-use Rattle.usb_file_data.specs.declared.fault.WriteFault.{WriteFault}
-use Rattle.usb_file_data.specs.declared.fault.WriteFault.TheVariants as writes
-use Rattle.usb_file_data.specs.Named.{named_indices, other_sets}
+use Rattle.usb_file_data.specs.declared.refusal.WriteFault.{WriteFault}
+use Rattle.usb_file_data.specs.declared.refusal.WriteFault.TheVariants as writes
+use Rattle.std.specs.Option.{option_map}
+
+-- Which strings a file names (USB 2.0, 9.6.7).
+
+-- iManufacturer, iProduct and iSerialNumber of a device (9.6.1)
+abbrev pub device_string_indices : DeviceDescriptor → List ℕ
+device_string_indices d = d.maker_text ∷ d.product_text ∷ d.serial_text ∷ []
+
+-- iInterface of an interface setting (9.6.5)
+abbrev pub interface_string_index : Setting → ℕ
+interface_string_index s = s.text
+
+-- iFunction of an interface association (its ECN, 9.X.Y)
+abbrev pub association_string_index : Association → ℕ
+association_string_index a = a.text
+
+-- iConfiguration of a set, and iInterface and iFunction of its settings and associations (9.6.3 and 9.6.5)
+abbrev pub set_string_indices : Configuration → List ℕ
+set_string_indices c =
+    c.text ∷ map interface_string_index c.settings ++ map association_string_index (associations_of c)
+
+-- the sets of the other speed, if there is one
+abbrev pub other_sets : Option Other → List Configuration
+other_sets None = []
+other_sets (Some other) = other.sets
+
+-- each number that is in the file where the index of a string belongs
+abbrev pub string_indices : DescriptorFile → List ℕ
+string_indices f =
+    device_string_indices f.device ++ flat_map set_string_indices f.sets ++ flat_map set_string_indices (other_sets f.other)
+
+-- those of 1 to 255 that are in the list, ascending: an index of 0 names no string
+unfoldable pub named_among : List ℕ → List ℕ
+named_among indices = filter (λ n. list_any (λ index. index == n) indices) (range_with_len 1 255)
+
+-- the indices of the strings that the file names, ascending
+abbrev pub named_indices : DescriptorFile → List ℕ
+named_indices f = named_among (string_indices f)
+
+-- The bytes of a descriptor file, and which files have bytes (USB 2.0, 9.4.3 and 9.6).
 
 -- a set whose wTotalLength is the count of its bytes (9.6.3)
 unfoldable pub whole_set : Configuration → List ℕ
@@ -109,3 +150,20 @@ pub record File (f : DescriptorFile) (b : List ℕ) : Type 0 where
 abbrev pub WriteRefused : DescriptorFile → WriteFault → Type 0
 WriteRefused f writes.Memory = write_refusal f ≡ None
 WriteRefused f fault = write_refusal f ≡ Some fault
+
+-- The string of an index in a language (USB 2.0, 9.6.7).
+
+-- the place of a string among those of all languages, where these indices are named: language by language, one for each
+-- index in ascending order
+abbrev pub string_place : Strings → List ℕ → ℕ → ℕ → Option ℕ
+string_place s named index language =
+    option_and_then (λ row. option_map (λ column. row * length named + column) (position (λ n. n == index) named))
+    (position (λ l. l == language) s.languages)
+
+-- the units of a string
+abbrev pub units_at : Strings → List ℕ → ℕ → ℕ → Option (List ℕ)
+units_at s named index language = option_and_then (slice_get s.texts) (string_place s named index language)
+
+-- the units of a file's string of this index in this language, if the file has it
+abbrev pub units_of : DescriptorFile → ℕ → ℕ → Option (List ℕ)
+units_of f index language = option_and_then (λ s. units_at s (named_indices f) index language) f.strings

@@ -1,5 +1,3 @@
-pub mod Named
-pub mod StringPlaces
 pub mod File
 pub mod Front
 pub mod Numbers
@@ -8,4 +6,7 @@ pub mod Places
 pub mod Rules
 pub mod Findings
 pub mod InOrder
+pub mod FileFaults
+pub mod Inputs
+pub mod Likeness
 pub mod inside

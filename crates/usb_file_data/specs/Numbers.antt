@@ -1,8 +1,8 @@
 -- The numbers of rules, and of the reasons why a file has no bytes.
 use Rattle.std.specs.Prelude.{ℕ, List, [], ◌∷◌, Option, ◌==◌}
 use Rattle.std.specs.List.{find}
-use Rattle.usb_file_data.specs.declared.fault.WriteFault.{WriteFault}
-use Rattle.usb_file_data.specs.declared.fault.WriteFault.TheVariants as writes
+use Rattle.usb_file_data.specs.declared.refusal.WriteFault.{WriteFault}
+use Rattle.usb_file_data.specs.declared.refusal.WriteFault.TheVariants as writes
 use Rattle.usb_file_data.specs.declared.rule.Rule.{Rule}
 use Rattle.usb_file_data.specs.declared.rule.Rule.TheVariants as rules
 

@@ -1,6 +1,4 @@
 -- What no public contract cites.
-pub mod Marks
-pub mod ExtraIndices
-pub mod Interfaces
 pub mod Walk
+pub mod Interfaces
 pub mod Addresses

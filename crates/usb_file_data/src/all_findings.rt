@@ -3,14 +3,13 @@ ghost use Rattle.std.specs.Prelude.{◌≡◌, ◌++◌, IfOk, OnOk};
 ghost use Rattle.usb_file_data.specs.Findings.{dump_findings, findings, input_findings, part_of_kind, set_findings};
 ghost use Rattle.usb_file_data.specs.InOrder.{dump_findings_in_order, file_in_order, findings_in_order, part_in_order, set_findings_in_order};
 
+use crate::configuration::check_any_set;
 use crate::device::{check_device, check_qualifier, is_wrong_device, is_wrong_dumped_device};
-use crate::file::DescriptorFile;
+use crate::file::{DescriptorFile, Input};
 use crate::finding::{Finding, Part};
 use crate::found::Found;
-use crate::input::Input;
 use crate::place::Place;
 use crate::set::{Known, check_set_at};
-use crate::value::check_any_set;
 use std::alloc::{AllocError, Global};
 use std::slice;
 use usb_fields::Marks;

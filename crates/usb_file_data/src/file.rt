@@ -1,4 +1,4 @@
-//! What a descriptor file says, as plain data.
+//! What a descriptor file says, as plain data, and what an input is.
 use usb_fields::{DeviceDescriptor, Qualifier};
 use usb_set::{Configuration, Sequence};
 
@@ -36,7 +36,7 @@ pub struct Strings {
 }
 
 /// All descriptors of a device (USB 2.0, 9.4.3). A value need not have bytes: its counts, kinds and
-/// strings can contradict each other, and then `crate::file_refusal::write_refusal` says how.
+/// strings can contradict each other, and then `crate::refusal::write_refusal` says how.
 ///
 /// ```rust
 /// let file = DescriptorFile {
@@ -58,4 +58,16 @@ pub struct DescriptorFile {
     pub other: Option<Other>,
     /// The strings. A file has them exactly where it names one.
     pub strings: Option<Strings>,
+}
+
+/// What a program is given of a device, in one of three forms.
+#[derive(Clone, Debug, Drop, PartialEq, Eq, Hash)]
+pub enum Input {
+    /// One configuration set (USB 2.0, 9.4.3).
+    Set(Configuration),
+    /// A descriptor file.
+    File(DescriptorFile),
+    /// What Linux gives as `/sys/bus/usb/devices/*/descriptors`: the device descriptor and its configuration
+    /// sets. It has no other speed, and no strings though it names some, so that it is no file.
+    Dump(DescriptorFile),
 }

@@ -6,7 +6,7 @@
 //! has the indices of the strings that it names, and [`WriteFault`] the reasons for which it has no bytes. [`Input`] is a
 //! file or what is less, one set or a dump of Linux.
 //!
-//! What the bytes of a file are is `specs/File.antt`; which strings are named is `specs/Named.antt`. The module [`laws`]
+//! What the bytes of a file are is `specs/File.antt`; which strings are named is `specs/File.antt`. The module [`laws`]
 //! says how long a file can be, and that a copy of a file is that file.
 //!
 //! The rules of chapter 9 of USB 2.0 that the descriptors of a device keep among themselves.
@@ -24,44 +24,35 @@
 mod addresses;
 mod all_findings;
 mod association;
-mod attributes;
-mod default_setting;
+mod configuration;
 mod device;
 mod endpoint;
-mod endpoint_count;
 mod fault;
 mod file;
-mod file_refusal;
 mod finding;
-mod finding_lines;
 mod found;
-mod input;
-mod interface_number;
+mod interface;
 mod interfaces;
 pub mod laws;
-mod named_strings;
+mod likeness;
 mod place;
 mod refusal;
-mod repeated_address;
-mod repeated_setting;
 mod rule;
 mod set;
-mod shared_address;
 mod string;
 mod string_marks;
-mod value;
 
 pub use all_findings::{
     check, check_dump, check_input, check_set, dump_findings_in_order, findings_in_order,
     set_findings_in_order,
 };
-pub use fault::WriteFault;
-pub use file::{DescriptorFile, Other, Strings};
-pub use file_refusal::write_refusal;
-pub use finding::{Finding, Part};
-pub use finding_lines::findings_text;
-pub use input::Input;
+pub use fault::{FileFault, FileWhy, InputFault};
+pub use file::{DescriptorFile, Input, Other, Strings};
+pub use finding::{Finding, Part, findings_text};
 pub use laws::FILE_LIMIT;
-pub use named_strings::{NoMemory, count_named, named};
-pub use refusal::{are_wrong_strings, has_wrong_count, has_wrong_kind, is_other_kind};
+pub use likeness::{Likeness, after_sets, likeness_of};
+pub use refusal::{
+    WriteFault, are_wrong_strings, has_wrong_count, has_wrong_kind, is_other_kind, write_refusal,
+};
 pub use rule::{MESSAGES, Rule};
+pub use string::{NoMemory, count_named, named};

@@ -1,12 +1,56 @@
-//! What keeps a file from having bytes, apart from the layouts of its sets.
+//! What keeps a file from having bytes.
 ghost use Rattle.std.specs.Prelude.{◌≡◌, ◌≤◌};
+ghost use Rattle.usb_file_data.specs.Numbers.{write_number};
 ghost use Rattle.std.specs.List.{list_any};
-ghost use Rattle.usb_file_data.specs.Named.{other_sets};
-ghost use Rattle.usb_file_data.specs.File.{are_wrong_strings, has_wrong_count, has_wrong_kind, is_long_string, is_other_kind, is_other_miscounted};
+ghost use Rattle.usb_file_data.specs.File.{other_sets, are_wrong_strings, has_wrong_count, has_wrong_kind, is_long_string, is_other_kind, is_other_miscounted, has_no_layout, has_wrong_layout, write_refusal};
 
 use crate::file::{DescriptorFile, Other, Strings};
+use crate::string::count_named;
+use thiserror::Error;
 use usb_fields::MOST_UNITS;
-use usb_set::{Configuration, Sequence, SetKind};
+use usb_set::{Configuration, Sequence, SetKind, refusal};
+
+/// Why a file has no bytes. Of several that apply the first is reported, and `Memory` only where none of the
+/// others does.
+///
+/// ```rust
+/// assert_eq!(rt; WriteFault::Kind.number(), 2);
+/// ```
+#[derive(Clone, Copy, Debug, Drop, Error, PartialEq, Eq, Hash)]
+pub enum WriteFault {
+    /// The sets of the device, or those of its other speed, are not as many as bNumConfigurations says.
+    #[error("the sets are not as many as declared")]
+    Count,
+    /// An other-speed set among the sets of the device, or the other way round.
+    #[error("a set of the other kind")]
+    Kind,
+    /// A set has no bytes: `usb_set::refusal` has the reason.
+    #[error("a set has no bytes")]
+    Layout,
+    /// The strings are not those that the file names: strings where no index is named, none where one
+    /// is, no language or over 126, not one string for each language and named index, or a string of over
+    /// 126 units.
+    #[error("the strings are not those that the file names")]
+    Texts,
+    /// Out of memory.
+    #[error("out of memory")]
+    Memory,
+}
+
+impl WriteFault {
+    /// The fault's number, from 1 to 5, in the order in which the cases are taken.
+    pub fn number(self) -> u8
+        ensures { result ≡ write_number self }
+    {
+        match self {
+            WriteFault::Count => 1,
+            WriteFault::Kind => 2,
+            WriteFault::Layout => 3,
+            WriteFault::Texts => 4,
+            WriteFault::Memory => 5,
+        }
+    }
+}
 
 /// Whether the sets are not as many as bNumConfigurations says: [`WriteFault::Count`](crate::WriteFault::Count).
 ///
@@ -106,4 +150,50 @@ fn is_long_string(string: &Sequence<u16>) -> bool
     ensures { result ≡ is_long_string string.now }
 {
     string.len() > MOST_UNITS
+}
+
+/// The first reason other than memory for which the file has no bytes, if it has none. Allocates nothing.
+///
+/// ```rust
+/// file.device.configurations += 1;
+/// assert_eq!(rt; write_refusal(&file), Some(WriteFault::Count));
+/// ```
+pub fn write_refusal(f: &DescriptorFile) -> Option<WriteFault>
+    ensures { result ≡ write_refusal f.now }
+{
+    if has_wrong_count(f) {
+        return Some(WriteFault::Count);
+    }
+    if has_wrong_kind(f) {
+        return Some(WriteFault::Kind);
+    }
+    if has_wrong_layout(f) {
+        return Some(WriteFault::Layout);
+    }
+    if are_wrong_strings(count_named(f), &f.strings) {
+        return Some(WriteFault::Texts);
+    }
+    None
+}
+
+fn has_wrong_layout(f: &DescriptorFile) -> bool
+    ensures { result ≡ has_wrong_layout f.now }
+{
+    let is_other_wrong = match &f.other {
+        None => false,
+        Some(other) => any_without_layout(&other.sets),
+    };
+    any_without_layout(&f.sets) || is_other_wrong
+}
+
+fn any_without_layout(sets: &[Configuration]) -> bool
+    ensures { result ≡ list_any has_no_layout sets.now }
+{
+    sets.iter().any(|c| has_no_layout(c))
+}
+
+fn has_no_layout(c: &Configuration) -> bool
+    ensures { result ≡ has_no_layout c.now }
+{
+    refusal(c).is_some()
 }

@@ -8,19 +8,18 @@ ghost use Rattle.usb_file_data.specs.inside.Walk.{in_configuration, in_endpoint,
 
 use crate::addresses::Addresses;
 use crate::association::check_extras;
-use crate::attributes::check_attributes;
-use crate::default_setting::lacks_default_setting;
-use crate::endpoint::{check_address, check_packet_size};
-use crate::endpoint_count::check_endpoint_count;
+use crate::configuration::{check_attributes, check_value};
+use crate::endpoint::{
+    check_address, check_endpoint_count, check_packet_size, check_repeated_address,
+    check_shared_address,
+};
 use crate::found::Found;
-use crate::interface_number::{check_interface_count, check_number_gap};
+use crate::interface::{
+    check_interface_count, check_number_gap, check_repeated_setting, lacks_default_setting,
+};
 use crate::interfaces::Interfaces;
 use crate::place::Place;
-use crate::repeated_address::check_repeated_address;
-use crate::repeated_setting::check_repeated_setting;
 use crate::rule::Rule;
-use crate::shared_address::check_shared_address;
-use crate::value::check_value;
 use std::alloc::{AllocError, Global};
 use usb_fields::Marks;
 use usb_set::{Configuration, Endpoint, Setting};

@@ -1,9 +1,9 @@
 //! The indices of strings in a file, marked.
 ghost use Rattle.std.specs.Prelude.{◌≡◌, fold, map};
 ghost use Rattle.std.specs.List.{flat_map};
-ghost use Rattle.usb_file_data.specs.Named.{interface_string_index, set_string_indices, string_indices};
+ghost use Rattle.usb_file_data.specs.File.{interface_string_index, set_string_indices, string_indices};
 ghost use Rattle.usb_fields.specs.Marks.{is_marked, marked, unmarked};
-ghost use Rattle.usb_file_data.specs.inside.ExtraIndices.{endpoint_extra_indices, extra_indices, setting_extra_indices};
+ghost use Rattle.usb_file_data.specs.inside.Walk.{endpoint_extra_indices, extra_indices, setting_extra_indices};
 
 use crate::file::DescriptorFile;
 use usb_fields::Marks;

@@ -2,29 +2,28 @@
 use Rattle.std.proofs.Common.{◌≡◌, ℕ, suc, ◌+◌, ◌<◌, ◌≤◌, ◌&&◌, nat_lt, Bool, true, false, if◌then◌else◌, List, [], ◌∷◌, length, inl, inr, refl, ap, sym, ◌∙◌, arith, subst}
 use Rattle.std.specs.Prelude.{Option, Some, None, IsSome}
 use Rattle.std.proofs.lemmas.Bool.Decides.{nat_tests}
-use Rattle.usb_fields.specs.Packet.{Sent, Reply as Answer, AckReply, NakReply, StallReply, DataReply, NoReply}
-use Rattle.usb_fields.specs.Packets.{is_same_toggle}
+use Rattle.usb_fields.specs.Packets.{Sent, Reply as Answer, AckReply, NakReply, StallReply, DataReply, NoReply, is_same_toggle}
 use Rattle.usb_fields.specs.declared.packet.Toggle.{Toggle}
 use Rattle.usb_fields.specs.declared.packet.Toggle.TheVariants.{Data0, Data1}
 use Rattle.usb_fields.specs.declared.setup.Setup.{Setup as SetupPacket}
-use Rattle.usb_fields.specs.declared.speed.Speed.{Speed}
+use Rattle.usb_fields.specs.declared.packet.Speed.{Speed}
 use Rattle.usb_host.specs.declared.why.Why.{Why}
 use Rattle.usb_host.specs.declared.why.Why.TheVariants.{NoAnswer, Busy, Stalled, TooLong, Unexpected, Malformed, Memory}
-use Rattle.usb_host.specs.declared.stage.TransferStage.{TransferStage}
-use Rattle.usb_host.specs.declared.stage.TransferStage.TheVariants.{Setup, DataIn, DataOut, StatusOut, StatusIn, Completed, Failed}
+use Rattle.usb_host.specs.declared.transfer.TransferStage.{TransferStage}
+use Rattle.usb_host.specs.declared.transfer.TransferStage.TheVariants.{Setup, DataIn, DataOut, StatusOut, StatusIn, Completed, Failed}
 use Rattle.usb_host.specs.Limits.{LimitView}
 use Rattle.usb_host.specs.Transfer.{TransferView, Goes, Taken, addressed, begun, delayed, due, failed, kept_packet, progress, struck, taken, taken_at, taken_data, taken_status, token_due}
 use Rattle.usb_host.specs.inside.Transfers.{IsTransfer}
 use Rattle.usb_host.proofs.BoundLemmas.{left-taken}
 use Rattle.usb_host.specs.declared.place.Place.{Place}
 use Rattle.usb_host.specs.declared.place.Place.TheVariants.{First, Address, Device, Header, Set, Qualifier, Languages, Text, Configure, Reported, Stopped}
-use Rattle.usb_host.specs.declared.kept.Kept.{Kept}
+use Rattle.usb_host.specs.declared.place.Kept.{Kept}
 use Rattle.usb_host.specs.Order.{refused_leads}
 use Rattle.usb_host.specs.Steps.{HostPhase, ResetDue, Reading, Ended, HostView, WantsReset, WantsSent, WantsNothing, blames_bus, completed_leads, enter, goes_on, new_host, outcome_at, outcome_of, reset, reset_in, sends, settled, wanted, Takes, TakesHeard, TakesIn}
 use Rattle.usb_host.specs.Cost.{most, left_to_ask, BringsBytes}
 use Rattle.usb_host.specs.Gathered.{Came}
 use Rattle.usb_host.specs.Laws.{Asks, HostsEnd}
-use Rattle.usb_host.specs.inside.Steady.{IsSteady}
+use Rattle.usb_host.specs.inside.Sound.{IsSteady}
 use Rattle.usb_host.proofs.LowerLemmas.{asks_less, takes_low}
 
 -- ---- the counts of a transfer stay within their limits

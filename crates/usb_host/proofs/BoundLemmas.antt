@@ -2,20 +2,18 @@
 use Rattle.std.proofs.Common.{◌≡◌, ℕ, zero, suc, ◌+◌, ◌-◌, ◌*◌, ◌/◌, ◌<◌, ◌≤◌, ◌==◌, ◌||◌, nat_lt, Bool, true, false, if◌then◌else◌, IsSome, List, [], ◌∷◌, length, refl, sym, arith, inl, inr}
 use Rattle.std.proofs.lemmas.Bool.Decides.{nat_tests, leb_tells, eqb_tells}
 use Rattle.std.proofs.Math.Nat.{mul-le-mul_right, add-div_right, div-le_self}
-use Rattle.usb_fields.specs.Packet.{Reply, AckReply, NakReply, StallReply, DataReply, NoReply}
-use Rattle.usb_fields.specs.Packets.{is_same_toggle}
-use Rattle.usb_fields.specs.Directions.{direction_of}
+use Rattle.usb_fields.specs.Packets.{Reply, AckReply, NakReply, StallReply, DataReply, NoReply, is_same_toggle}
+use Rattle.usb_fields.specs.Setup.{direction_of}
 use Rattle.usb_fields.specs.declared.packet.Toggle.{Toggle}
 use Rattle.usb_fields.specs.declared.packet.Toggle.TheVariants.{Data0, Data1}
 use Rattle.usb_fields.specs.declared.setup.Setup.{Setup as SetupPacket}
-use Rattle.usb_fields.specs.declared.direction.Direction.{Direction}
-use Rattle.usb_fields.specs.declared.direction.Direction.TheVariants as directions
+use Rattle.usb_fields.specs.declared.setup.Direction.{Direction}
+use Rattle.usb_fields.specs.declared.setup.Direction.TheVariants as directions
 use Rattle.usb_host.specs.declared.why.Why.{Why}
 use Rattle.usb_host.specs.declared.why.Why.TheVariants.{NoAnswer, Busy, Stalled, TooLong, Unexpected}
-use Rattle.usb_host.specs.declared.stage.TransferStage.{TransferStage}
-use Rattle.usb_host.specs.declared.stage.TransferStage.TheVariants.{Setup, DataIn, DataOut, StatusOut, StatusIn, Completed, Failed}
-use Rattle.usb_host.specs.Transfer.{TransferView, begun, addressed, token_due, due, taken, taken_at, taken_data, taken_status, moved, completed, failed, struck, delayed, kept_packet, stage_after_setup, data_stage}
-use Rattle.usb_host.specs.Bound.{left, steps, steps_left, most_transactions}
+use Rattle.usb_host.specs.declared.transfer.TransferStage.{TransferStage}
+use Rattle.usb_host.specs.declared.transfer.TransferStage.TheVariants.{Setup, DataIn, DataOut, StatusOut, StatusIn, Completed, Failed}
+use Rattle.usb_host.specs.Transfer.{TransferView, begun, addressed, token_due, due, taken, taken_at, taken_data, taken_status, moved, completed, failed, struck, delayed, kept_packet, stage_after_setup, data_stage, left, steps, steps_left, most_transactions}
 use Rattle.usb_host.specs.inside.Transfers.{IsTransfer}
 
 -- while steps of progress are left, transactions are

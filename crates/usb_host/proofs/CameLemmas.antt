@@ -4,30 +4,29 @@ use Rattle.std.specs.Prelude.{Option, Some, Result, Ok, Err}
 use Rattle.std.proofs.lemmas.Bool.Decides.{nat_tests}
 use Rattle.std.proofs.lemmas.List.{append-nil, nil_from_length}
 use Rattle.usb_fields.specs.Bytes.{AreBytes}
-use Rattle.usb_fields.specs.declared.speed.Speed.{Speed}
-use Rattle.usb_fields.specs.Packet.{Sent, Reply as Answer}
+use Rattle.usb_fields.specs.declared.packet.Speed.{Speed}
+use Rattle.usb_fields.specs.Packets.{Sent, Reply as Answer}
 use Rattle.usb_set.specs.declared.tree.Configuration.{Configuration}
 use Rattle.usb_set.specs.declared.fault.SetFault.{SetFault}
 use Rattle.usb_set.specs.declared.decoder.Progress.{Progress}
 use Rattle.usb_set.specs.declared.decoder.Progress.TheVariants.{More, Done}
 use Rattle.usb_set.specs.Layout.{Layout}
-use Rattle.usb_set.specs.Decoding.{Decoding, gathers, has, refused}
+use Rattle.usb_set.specs.Decoding.{Decoding, gathers, has, refused, Answers}
 use Rattle.usb_set.specs.Faults.{Begins}
-use Rattle.usb_set.specs.Feeding.{Answers}
 use Rattle.usb_file_data.specs.declared.file.DescriptorFile.{DescriptorFile}
 use Rattle.usb_file_data.specs.File.{File}
 use Rattle.usb_host.specs.declared.reply.Reply.TheVariants as replied
 use Rattle.usb_host.specs.declared.why.Why.{Why}
 use Rattle.usb_host.specs.declared.why.Why.TheVariants.{NoAnswer, Busy, Stalled, TooLong, Unexpected, Malformed, Memory}
-use Rattle.usb_host.specs.declared.stage.TransferStage.{TransferStage}
-use Rattle.usb_host.specs.declared.stage.TransferStage.TheVariants.{Setup, DataIn, DataOut, StatusOut, StatusIn, Completed, Failed}
+use Rattle.usb_host.specs.declared.transfer.TransferStage.{TransferStage}
+use Rattle.usb_host.specs.declared.transfer.TransferStage.TheVariants.{Setup, DataIn, DataOut, StatusOut, StatusIn, Completed, Failed}
 use Rattle.usb_host.specs.Limits.{LimitView}
 use Rattle.usb_host.specs.Transfer.{TransferView, Hearing, Goes, Brings, Completes, Fails, taken, token_due, addressed}
 use Rattle.usb_host.specs.declared.step.Trouble.{Trouble}
 use Rattle.usb_host.specs.declared.place.Place.{Place}
 use Rattle.usb_host.specs.declared.place.Place.TheVariants.{First, Address, Device, Header, Set, Qualifier, Languages, Text, Configure, Reported, Stopped}
-use Rattle.usb_host.specs.declared.kept.Kept.{Kept}
-use Rattle.usb_host.specs.declared.kept.Kept.TheVariants as kept
+use Rattle.usb_host.specs.declared.place.Kept.{Kept}
+use Rattle.usb_host.specs.declared.place.Kept.TheVariants as kept
 use Rattle.usb_host.specs.Order.{done_leads, refused_leads}
 use Rattle.usb_host.specs.Keeping.{is_over, set_kept}
 use Rattle.usb_host.specs.Gathered.{Came, no_bytes, came_by, came_in, part_of}
@@ -35,8 +34,7 @@ use Rattle.usb_host.specs.Steps.{HostPhase, ResetDue, Reading, Ended, HostView, 
 use Rattle.usb_host.specs.Cost.{BringsBytes}
 use Rattle.usb_host.specs.Laws.{Asks, HostsReportWhatCame}
 use Rattle.usb_host.specs.inside.Reads.{IsGoing}
-use Rattle.usb_host.specs.inside.Steady.{FitsPlace}
-use Rattle.usb_host.specs.inside.Sound.{Holds}
+use Rattle.usb_host.specs.inside.Sound.{FitsPlace, Holds}
 use Rattle.usb_host.proofs.AskingLemmas.{wants_reset, reset_is}
 use Rattle.usb_host.proofs.LowerLemmas.{HearsBytes, bytes_more, fits_bytes, fits_set, hears_bytes}
 use Rattle.usb_host.proofs.PartLemmas.{bytes_hold, refused_holds, set_holds}

@@ -6,8 +6,8 @@ use Rattle.std.proofs.lemmas.Bool.Decides.{nat_tests}
 use Rattle.std.proofs.lemmas.Nat.{le-div, div_below}
 use Rattle.std.proofs.Math.Nat.{div-mul-le_self, mul-le-mul_left}
 use Rattle.usb_fields.specs.Bytes.{AreBytes}
-use Rattle.usb_fields.specs.declared.speed.Speed.{Speed}
-use Rattle.usb_fields.specs.declared.speed.Speed.TheVariants.{Low, Full, High}
+use Rattle.usb_fields.specs.declared.packet.Speed.{Speed}
+use Rattle.usb_fields.specs.declared.packet.Speed.TheVariants.{Low, Full, High}
 use Rattle.usb_fields.specs.declared.device.DeviceDescriptor.{DeviceDescriptor}
 use Rattle.usb_fields.specs.declared.qualifier.Qualifier.{Qualifier}
 use Rattle.usb_set.specs.declared.tree.SetKind.{SetKind}
@@ -17,7 +17,7 @@ use Rattle.usb_set.specs.Descriptors.{type_number}
 use Rattle.usb_file_data.specs.declared.file.DescriptorFile.{DescriptorFile}
 use Rattle.usb_file_data.specs.declared.file.Other.{Other}
 use Rattle.usb_file_data.specs.declared.file.Strings.{Strings}
-use Rattle.usb_file_data.specs.Named.{named_among, named_indices, string_indices}
+use Rattle.usb_file_data.specs.File.{named_among, named_indices, string_indices}
 use Rattle.usb_file_data.specs.Front.{with_set, with_qualifier}
 use Rattle.usb_host.specs.declared.why.Why.TheVariants.{Malformed}
 use Rattle.usb_host.specs.Plan.{Plan, Begin, Success, Trouble}
@@ -26,7 +26,7 @@ use Rattle.usb_host.specs.declared.place.Place.TheVariants.{First, Address, Devi
 use Rattle.usb_host.specs.Read.{packet_fits, same_bytes, is_first, may_have_second, total_said, total_in, device_of, qualifier_of, units_of}
 use Rattle.usb_host.specs.Order.{is_first_zero, sets_of, declared_sets, other_declared, asks, stopped, texts_due, strings_due, after_sets, sets_due, device_leads, header_leads, set_leads, qualifier_leads, languages_lead, text_leads, bytes_lead, done_leads, refused_leads}
 use Rattle.usb_host.specs.Cost.{strings_cost, cost_after, cost, price}
-use Rattle.usb_host.specs.inside.Steady.{IsGood}
+use Rattle.usb_host.specs.inside.Sound.{IsGood}
 use Rattle.usb_host.proofs.ReadLemmas.{same_is, byte_at, device_narrow, qualifier_narrow, units_written}
 
 at_least_8 : (speed : Speed) (p : ℕ) → packet_fits speed p ≡ true → 8 ≤ p

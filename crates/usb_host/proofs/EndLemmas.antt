@@ -3,7 +3,7 @@ use Rattle.std.proofs.Common.{◌≡◌, suc, ◌+◌, ◌<◌, ◌≤◌, sym, 
 use Rattle.usb_host.specs.declared.place.Place.TheVariants.{First}
 use Rattle.usb_host.specs.Cost.{left_to_ask}
 use Rattle.usb_host.specs.Steps.{HostPhase, ResetDue, HostView, enter}
-use Rattle.usb_host.specs.inside.Hosts.{IsHost, IsPhase}
+use Rattle.usb_host.specs.inside.Reads.{IsHost, IsPhase}
 use Rattle.usb_host.proofs.AskingLemmas.{reset_is}
 use Rattle.usb_host.proofs.LowerLemmas.{asks_less}
 

@@ -1,12 +1,12 @@
 -- A read whose bytes were what was asked for leads on.
 use Rattle.std.proofs.Common.{◌≡◌, ℕ, ◌*◌, ◌<◌, ◌≤◌, ◌==◌, nat_lt, Bool, true, false, if◌then◌else◌, List, [], ◌∷◌, length, Option, Some, None, refl, ap, sym, arith, subst}
 use Rattle.std.specs.Prelude.{IsSome}
-use Rattle.usb_fields.specs.declared.speed.Speed.{Speed}
+use Rattle.usb_fields.specs.declared.packet.Speed.{Speed}
 use Rattle.usb_set.specs.declared.tree.SetKind.{SetKind}
 use Rattle.usb_set.specs.declared.tree.SetKind.TheVariants as kinds
 use Rattle.usb_file_data.specs.declared.file.DescriptorFile.{DescriptorFile}
 use Rattle.usb_file_data.specs.declared.file.Strings.{Strings}
-use Rattle.usb_file_data.specs.Named.{named_indices}
+use Rattle.usb_file_data.specs.File.{named_indices}
 use Rattle.usb_host.specs.declared.why.Why.TheVariants.{Malformed}
 use Rattle.usb_host.specs.Limits.{LimitView}
 use Rattle.usb_host.specs.declared.place.Place.{Place}
@@ -14,7 +14,7 @@ use Rattle.usb_host.specs.declared.place.Place.TheVariants.{First, Address, Devi
 use Rattle.usb_host.specs.Read.{may_have_second, same_bytes, units_of}
 use Rattle.usb_host.specs.Order.{after_sets, declared_sets, languages_lead, sets_due, sets_of, stopped, strings_due, text_leads, texts_due}
 use Rattle.usb_host.specs.Steps.{Ended, enter}
-use Rattle.usb_host.specs.inside.NextPlace.{is_end}
+use Rattle.usb_host.specs.inside.Places.{is_end}
 use Rattle.usb_host.proofs.ReadLemmas.{units_written}
 
 goes_on_if : (b : Bool) (x y : Place) → is_end x ≡ false → is_end y ≡ false → is_end (if b then x else y) ≡ false

@@ -3,31 +3,28 @@ use Rattle.std.proofs.Common.{◌≡◌, ℕ, suc, ◌+◌, ◌-◌, ◌*◌, �
 use Rattle.std.specs.Prelude.{Result}
 use Rattle.std.proofs.Math.Nat.{mul-le-mul_right}
 use Rattle.usb_fields.specs.Bytes.{AreBytes}
-use Rattle.usb_fields.specs.declared.speed.Speed.{Speed}
+use Rattle.usb_fields.specs.declared.packet.Speed.{Speed}
 use Rattle.usb_fields.specs.declared.setup.Setup.{Setup as SetupPacket}
 use Rattle.usb_fields.specs.declared.packet.Toggle.TheVariants.{Data0, Data1}
-use Rattle.usb_fields.specs.Packets.{is_same_toggle}
-use Rattle.usb_fields.specs.Packet.{Reply as Answer, NakReply, DataReply, NoReply}
+use Rattle.usb_fields.specs.Packets.{is_same_toggle, Reply as Answer, NakReply, DataReply, NoReply}
 use Rattle.usb_set.specs.declared.fault.SetFault.{SetFault}
 use Rattle.usb_set.specs.declared.decoder.Progress.{Progress}
 use Rattle.usb_set.specs.Decoding.{Decoding}
 use Rattle.usb_host.specs.declared.why.Why.TheVariants.{NoAnswer, Busy, Stalled, TooLong, Unexpected, Malformed, Memory}
-use Rattle.usb_host.specs.declared.stage.TransferStage.{TransferStage}
-use Rattle.usb_host.specs.declared.stage.TransferStage.TheVariants.{Setup, DataIn, DataOut, StatusOut, StatusIn, Completed, Failed}
+use Rattle.usb_host.specs.declared.transfer.TransferStage.{TransferStage}
+use Rattle.usb_host.specs.declared.transfer.TransferStage.TheVariants.{Setup, DataIn, DataOut, StatusOut, StatusIn, Completed, Failed}
 use Rattle.usb_host.specs.Limits.{LimitView}
-use Rattle.usb_host.specs.Transfer.{TransferView, Hearing, Goes, Brings, Completes, Fails, Taken, taken, taken_at, begun}
-use Rattle.usb_host.specs.Bound.{left}
+use Rattle.usb_host.specs.Transfer.{TransferView, Hearing, Goes, Brings, Completes, Fails, Taken, taken, taken_at, begun, left}
 use Rattle.usb_host.specs.Plan.{Plan, Begin, Success, Trouble}
 use Rattle.usb_host.specs.declared.place.Place.{Place}
 use Rattle.usb_host.specs.declared.place.Place.TheVariants.{First, Set, Stopped}
-use Rattle.usb_host.specs.declared.kept.Kept.{Kept}
-use Rattle.usb_host.specs.declared.kept.Kept.TheVariants as kept
+use Rattle.usb_host.specs.declared.place.Kept.{Kept}
+use Rattle.usb_host.specs.declared.place.Kept.TheVariants as kept
 use Rattle.usb_host.specs.Order.{asks, done_leads, refused_leads}
 use Rattle.usb_host.specs.Keeping.{nothing_kept, set_kept}
 use Rattle.usb_host.specs.Steps.{HostPhase, ResetDue, Reading, Ended, HostView, entered, enter, reset_in, reset, blames_bus, settled, read_leads, completed_leads, goes_on, KeepsHeard, TakesHeard, TakesIn, Takes}
 use Rattle.usb_host.specs.Cost.{cost, price, most_in_attempt, left_in_attempt, left_to_ask, BringsBytes}
-use Rattle.usb_host.specs.inside.Steady.{IsGood, FitsPlace, KeepsBytes, IsSteady}
-use Rattle.usb_host.specs.inside.Asking.{AsksLess}
+use Rattle.usb_host.specs.inside.Sound.{IsGood, FitsPlace, KeepsBytes, IsSteady, AsksLess}
 use Rattle.usb_host.proofs.CostLemmas.{Fits, bytes_fall, done_falls, refused_falls, set_fits, Pays, pays, priced}
 
 left_begun : (to packet naks : ℕ) (q : SetupPacket) → left (begun to packet naks q) ≤ (q.length / packet + 3) * (naks + 3)

@@ -6,7 +6,7 @@ use Rattle.std.proofs.lemmas.List.{append-nil}
 use Rattle.std.proofs.lemmas.Bool.{or_parts, or_from}
 use Rattle.std.specs.List.{list_any}
 use Rattle.usb_fields.specs.Bytes.{AreBytes}
-use Rattle.usb_fields.specs.declared.speed.Speed.{Speed}
+use Rattle.usb_fields.specs.declared.packet.Speed.{Speed}
 use Rattle.usb_fields.specs.declared.device.DeviceDescriptor.{DeviceDescriptor}
 use Rattle.usb_fields.specs.declared.qualifier.Qualifier.{Qualifier}
 use Rattle.usb_set.specs.declared.tree.SetKind.{SetKind}
@@ -17,8 +17,7 @@ use Rattle.usb_set.specs.Descriptors.{type_number}
 use Rattle.usb_file_data.specs.declared.file.DescriptorFile.{DescriptorFile}
 use Rattle.usb_file_data.specs.declared.file.Other.{Other}
 use Rattle.usb_file_data.specs.declared.file.Strings.{Strings}
-use Rattle.usb_file_data.specs.File.{File, has_wrong_count, is_other_miscounted, are_wrong_strings, has_long_string, is_other_kind, is_long_string}
-use Rattle.usb_file_data.specs.Named.{named_indices}
+use Rattle.usb_file_data.specs.File.{File, has_wrong_count, is_other_miscounted, are_wrong_strings, has_long_string, is_other_kind, is_long_string, named_indices}
 use Rattle.usb_file_data.specs.Front.{AllSets, StringsFollow, other_with, with_set, with_qualifier, with_strings}
 use Rattle.usb_file_data.proofs.Lists.{list_any-push}
 use Rattle.usb_file_data.proofs.Fronts.{Grown, grow_main, grow_other, grow_qualifier, grow_languages, grow_string}

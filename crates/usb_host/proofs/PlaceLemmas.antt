@@ -15,8 +15,7 @@ use Rattle.usb_host.specs.declared.place.Place.{Place}
 use Rattle.usb_host.specs.declared.place.Place.TheVariants.{Stopped}
 use Rattle.usb_host.specs.declared.step.Step.{Step}
 use Rattle.usb_host.specs.Order.{step_of, stopped}
-use Rattle.usb_host.specs.inside.NextPlace.{Adds, Leads, LeadsTo, Settles}
-use Rattle.usb_host.specs.inside.Places.{kept_of, place_of}
+use Rattle.usb_host.specs.inside.Places.{Adds, Leads, LeadsTo, Settles, kept_of, place_of}
 
 positive : (k rows columns : ℕ) → k < rows * columns → 0 < columns
 positive k rows zero below = grind arith

@@ -8,9 +8,7 @@ use Rattle.usb_fields.specs.declared.device.DeviceDescriptor.{DeviceDescriptor}
 use Rattle.usb_fields.specs.declared.qualifier.Qualifier.{Qualifier}
 use Rattle.usb_fields.specs.declared.fault.FieldFault.{FieldFault}
 use Rattle.usb_fields.specs.declared.fault.UnitFault.{UnitFault}
-use Rattle.usb_fields.specs.Device.{device_bytes, device_fault}
-use Rattle.usb_fields.specs.Fault.{field_fault}
-use Rattle.usb_fields.specs.Qualifier.{qualifier_bytes, qualifier_fault}
+use Rattle.usb_fields.specs.Device.{device_bytes, device_fault, field_fault, qualifier_bytes, qualifier_fault}
 use Rattle.usb_fields.specs.declared.fault.UnitFault.TheVariants as units
 use Rattle.usb_fields.specs.Units.{units_bytes, unit_fault, ReadUnitsFails}
 use Rattle.usb_host.specs.Read.{same_bytes, if_written, device_fields, qualifier_fields, pairs, unit_fields, device_of, qualifier_of, units_of}

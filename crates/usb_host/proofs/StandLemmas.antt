@@ -1,26 +1,24 @@
 -- What holds of a read in work still holds of the one that an answer leads to.
 use Rattle.std.proofs.Common.{◌≡◌, ℕ, ◌+◌, ◌<◌, ◌≤◌, ◌&&◌, Bool, false, if◌then◌else◌, nat_lt, length, refl, ap, sym, ◌∙◌, arith, subst, length-append}
 use Rattle.std.specs.Prelude.{Some, None, IsSome, Result}
-use Rattle.usb_fields.specs.Packet.{Reply as Answer}
-use Rattle.usb_fields.specs.declared.speed.Speed.{Speed}
+use Rattle.usb_fields.specs.Packets.{Reply as Answer}
+use Rattle.usb_fields.specs.declared.packet.Speed.{Speed}
 use Rattle.usb_set.specs.declared.fault.SetFault.{SetFault}
 use Rattle.usb_set.specs.declared.decoder.Progress.{Progress}
-use Rattle.usb_host.specs.declared.stage.TransferStage.{TransferStage}
-use Rattle.usb_host.specs.declared.stage.TransferStage.TheVariants.{Setup, DataIn, DataOut, StatusOut, StatusIn, Completed, Failed}
-use Rattle.usb_host.specs.Bound.{left}
+use Rattle.usb_host.specs.declared.transfer.TransferStage.{TransferStage}
+use Rattle.usb_host.specs.declared.transfer.TransferStage.TheVariants.{Setup, DataIn, DataOut, StatusOut, StatusIn, Completed, Failed}
+use Rattle.usb_host.specs.Transfer.{left, TransferView, Hearing, Goes, Brings, Completes, Fails, taken, due, token_due, addressed}
 use Rattle.usb_host.specs.Limits.{LimitView}
-use Rattle.usb_host.specs.Transfer.{TransferView, Hearing, Goes, Brings, Completes, Fails, taken, due, token_due, addressed}
 use Rattle.usb_host.specs.declared.place.Place.{Place}
 use Rattle.usb_host.specs.declared.place.Place.TheVariants.{First, Address, Device, Header, Set, Qualifier, Languages, Text, Configure, Reported, Stopped}
-use Rattle.usb_host.specs.declared.kept.Kept.{Kept}
-use Rattle.usb_host.specs.declared.kept.Kept.TheVariants as kept
+use Rattle.usb_host.specs.declared.place.Kept.{Kept}
+use Rattle.usb_host.specs.declared.place.Kept.TheVariants as kept
 use Rattle.usb_host.specs.declared.current_read.Ending.{Ending}
 use Rattle.usb_host.specs.Steps.{HostPhase, Reading, Ended, HostView, outcome_at, outcome_of, enter, settled, KeepsHeard, TakesHeard, TakesIn, Takes}
-use Rattle.usb_host.specs.inside.Steady.{IsGood, IsSteady}
+use Rattle.usb_host.specs.inside.Sound.{IsGood, IsSteady}
 use Rattle.usb_host.specs.Cost.{BringsBytes, left_to_ask}
-use Rattle.usb_host.specs.inside.NextPlace.{is_end, is_bus_trouble}
-use Rattle.usb_host.specs.inside.Reads.{IsGoing, IsCounted, IsReading, IsStanding, EndsBy, Hears, GoesOn, standing}
-use Rattle.usb_host.specs.inside.Hosts.{IsPhase, phase_in}
+use Rattle.usb_host.specs.inside.Places.{is_end, is_bus_trouble}
+use Rattle.usb_host.specs.inside.Reads.{IsGoing, IsCounted, IsReading, IsStanding, EndsBy, Hears, GoesOn, standing, IsPhase, phase_in}
 use Rattle.usb_host.proofs.LowerLemmas.{asks_less}
 use Rattle.usb_host.proofs.TakeLemmas.{StageOf, CountOf, heeds, hears_steady, hears_on, hears_end, next_good}
 

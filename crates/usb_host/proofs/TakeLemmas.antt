@@ -2,32 +2,31 @@
 use Rattle.std.proofs.Common.{◌≡◌, ℕ, ◌+◌, ◌≤◌, ◌==◌, ◌||◌, Bool, true, false, if◌then◌else◌, nat_lt, List, [], ◌∷◌, length, inl, inr, refl, ap, sym, ◌∙◌, arith, subst}
 use Rattle.std.specs.Prelude.{Option, Some, None, Result, Ok}
 use Rattle.std.proofs.lemmas.Bool.Decides.{nat_tests}
-use Rattle.usb_fields.specs.declared.speed.Speed.{Speed}
-use Rattle.usb_fields.specs.declared.direction.Direction.{Direction}
-use Rattle.usb_fields.specs.declared.direction.Direction.TheVariants as directions
+use Rattle.usb_fields.specs.declared.packet.Speed.{Speed}
+use Rattle.usb_fields.specs.declared.setup.Direction.{Direction}
+use Rattle.usb_fields.specs.declared.setup.Direction.TheVariants as directions
 use Rattle.usb_fields.specs.declared.packet.Toggle.TheVariants.{Data0, Data1}
-use Rattle.usb_fields.specs.Directions.{direction_of}
-use Rattle.usb_fields.specs.Packets.{is_same_toggle}
-use Rattle.usb_fields.specs.Packet.{Reply as Answer, AckReply, NakReply, StallReply, DataReply, NoReply}
+use Rattle.usb_fields.specs.Setup.{direction_of}
+use Rattle.usb_fields.specs.Packets.{is_same_toggle, Reply as Answer, AckReply, NakReply, StallReply, DataReply, NoReply}
 use Rattle.usb_set.specs.declared.fault.SetFault.{SetFault}
 use Rattle.usb_set.specs.declared.decoder.Progress.{Progress}
 use Rattle.usb_set.specs.declared.decoder.Progress.TheVariants.{More}
 use Rattle.usb_host.specs.declared.why.Why.{Why}
 use Rattle.usb_host.specs.declared.why.Why.TheVariants.{NoAnswer, Busy, Stalled, TooLong, Unexpected, Malformed, Memory}
-use Rattle.usb_host.specs.declared.stage.TransferStage.{TransferStage}
-use Rattle.usb_host.specs.declared.stage.TransferStage.TheVariants.{Setup, DataIn, DataOut, StatusOut, StatusIn, Completed, Failed}
+use Rattle.usb_host.specs.declared.transfer.TransferStage.{TransferStage}
+use Rattle.usb_host.specs.declared.transfer.TransferStage.TheVariants.{Setup, DataIn, DataOut, StatusOut, StatusIn, Completed, Failed}
 use Rattle.usb_host.specs.Limits.{LimitView}
 use Rattle.usb_host.specs.Transfer.{TransferView, Hearing, Goes, Brings, Completes, Fails, Taken, taken, taken_at, struck, delayed, completed, failed, kept_packet, data_stage}
 use Rattle.usb_host.specs.declared.place.Place.{Place}
-use Rattle.usb_host.specs.declared.kept.Kept.{Kept}
-use Rattle.usb_host.specs.declared.kept.Kept.TheVariants as kept
+use Rattle.usb_host.specs.declared.place.Kept.{Kept}
+use Rattle.usb_host.specs.declared.place.Kept.TheVariants as kept
 use Rattle.usb_host.specs.declared.current_read.Ending.{Ending}
 use Rattle.usb_host.specs.declared.current_read.Ending.TheVariants as endings
 use Rattle.usb_host.specs.Order.{stopped}
 use Rattle.usb_host.specs.Steps.{HostPhase, Reading, Ended, completed_leads, enter, goes_on, Grows, KeepsHeard, LacksMemory, TakesHeard, WantsToGrow}
-use Rattle.usb_host.specs.inside.Steady.{IsGood, FitsPlace, KeepsBytes}
+use Rattle.usb_host.specs.inside.Sound.{IsGood, FitsPlace, KeepsBytes}
 use Rattle.usb_host.specs.Cost.{BringsBytes}
-use Rattle.usb_host.specs.inside.NextPlace.{Adds, GrowsTo, HasRoom, is_end}
+use Rattle.usb_host.specs.inside.Places.{Adds, GrowsTo, HasRoom, is_end}
 use Rattle.usb_host.specs.inside.Reads.{IsGoing, IsCounted, EndsBy, Hears, LeadsOn, ended_leads, standing}
 use Rattle.usb_host.proofs.LowerLemmas.{hears_bytes, kept_steady, completed_low}
 use Rattle.usb_host.proofs.CostLemmas.{refused_falls}

@@ -1,10 +1,10 @@
 -- How many transactions a host asks for, whatever is answered.
 use Rattle.std.specs.Prelude.{ℕ, suc, ◌+◌, ◌-◌, ◌*◌, length}
 use Rattle.usb_fields.specs.Bytes.{AreBytes}
-use Rattle.usb_fields.specs.Packet.{Reply, DataReply}
+use Rattle.usb_fields.specs.Packets.{Reply, DataReply}
 use Rattle.usb_set.specs.declared.tree.SetKind.{SetKind}
 use Rattle.usb_set.specs.declared.tree.SetKind.TheVariants as kinds
-use Rattle.usb_host.specs.Bound.{left}
+use Rattle.usb_host.specs.Transfer.{left}
 use Rattle.usb_host.specs.Limits.{LimitView}
 use Rattle.usb_host.specs.declared.place.Place.{Place}
 use Rattle.usb_host.specs.declared.place.Place.TheVariants.{First, Address, Device, Header, Set, Qualifier, Languages, Text, Configure, Reported, Stopped}

@@ -1,7 +1,7 @@
 -- What a reply means to the caller of a transfer, without where its bytes lie.
 use Rattle.usb_host.specs.Transfer.{Hearing, Goes, Brings, Completes, Fails}
-use Rattle.usb_host.specs.declared.heard.Heard.{Heard}
-use Rattle.usb_host.specs.declared.heard.Heard.TheVariants.{Again, Bytes, Complete, Failed}
+use Rattle.usb_host.specs.declared.transfer.Heard.{Heard}
+use Rattle.usb_host.specs.declared.transfer.Heard.TheVariants.{Again, Bytes, Complete, Failed}
 
 -- what an answer to the caller says
 abbrev pub heard_of : Heard → Hearing

@@ -5,12 +5,11 @@ use Rattle.usb_set.specs.declared.fault.SetFault.{SetFault}
 use Rattle.usb_set.specs.declared.fault.SetWhy.TheVariants.{Memory}
 use Rattle.usb_set.specs.declared.decoder.Progress.{Progress}
 use Rattle.usb_set.specs.declared.decoder.Progress.TheVariants.{More, Done}
-use Rattle.usb_set.specs.Decoding.{Decoding, gathers, has, refused}
-use Rattle.usb_set.specs.Feeding.{Answers}
+use Rattle.usb_set.specs.Decoding.{Decoding, gathers, has, refused, Answers}
 use Rattle.usb_host.specs.declared.place.Place.{Place}
 use Rattle.usb_host.specs.declared.place.Place.TheVariants as places
-use Rattle.usb_host.specs.declared.kept.Kept.{Kept}
-use Rattle.usb_host.specs.declared.kept.Kept.TheVariants.{Bytes, Set}
+use Rattle.usb_host.specs.declared.place.Kept.{Kept}
+use Rattle.usb_host.specs.declared.place.Kept.TheVariants.{Bytes, Set}
 
 -- what a read begins with: a set has a decoder, and any other read an empty list
 abbrev pub nothing_kept : Place → Kept

@@ -1,4 +1,3 @@
-pub mod Requests
 pub mod Read
 pub mod Order
 pub mod Keeping
@@ -6,11 +5,9 @@ pub mod Steps
 pub mod Gathered
 pub mod Cost
 pub mod Laws
-pub mod StepText
 pub mod Why
 pub mod Limits
 pub mod Transfer
 pub mod Plan
-pub mod Bound
 pub mod Heard
 pub mod inside

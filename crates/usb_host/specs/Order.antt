@@ -1,6 +1,6 @@
 -- The order of the reads of an enumeration, and where each leads to (USB 2.0, 9.1.2, 9.4 and 9.6).
 use Rattle.std.specs.Prelude.{ℕ, ◌*◌, ◌/◌, ◌%◌, ◌==◌, ◌&&◌, not, nat_lt, Bool, false, if◌then◌else◌, List, [], ◌∷◌, ◌++◌, length, take, slice_index, Option, Some, None}
-use Rattle.usb_fields.specs.declared.speed.Speed.{Speed}
+use Rattle.usb_fields.specs.declared.packet.Speed.{Speed}
 use Rattle.usb_fields.specs.declared.device.DeviceDescriptor.{DeviceDescriptor}
 use Rattle.usb_fields.specs.declared.qualifier.Qualifier.{Qualifier}
 use Rattle.usb_set.specs.declared.tree.SetKind.{SetKind}
@@ -10,7 +10,7 @@ use Rattle.usb_set.specs.Descriptors.{type_number}
 use Rattle.usb_file_data.specs.declared.file.DescriptorFile.{DescriptorFile}
 use Rattle.usb_file_data.specs.declared.file.Other.{Other}
 use Rattle.usb_file_data.specs.declared.file.Strings.{Strings}
-use Rattle.usb_file_data.specs.Named.{named_indices, other_sets}
+use Rattle.usb_file_data.specs.File.{named_indices, other_sets}
 use Rattle.usb_file_data.specs.Front.{with_set, with_qualifier, with_strings}
 use Rattle.usb_host.specs.declared.why.Why.{Why}
 use Rattle.usb_host.specs.declared.why.Why.TheVariants.{Stalled, Malformed}
@@ -21,8 +21,7 @@ use Rattle.usb_host.specs.declared.step.Step.{Step}
 use Rattle.usb_host.specs.declared.step.Step.TheVariants as steps
 use Rattle.usb_host.specs.declared.place.Place.{Place}
 use Rattle.usb_host.specs.declared.place.Place.TheVariants.{First, Address, Device, Header, Set, Qualifier as SecondSpeed, Languages, Text, Configure, Reported, Stopped}
-use Rattle.usb_host.specs.Requests.{get_descriptor, set_address, set_configuration}
-use Rattle.usb_host.specs.Read.{same_bytes, device_of, qualifier_of, units_of, is_first, may_have_second, total_in}
+use Rattle.usb_host.specs.Read.{get_descriptor, set_address, set_configuration, same_bytes, device_of, qualifier_of, units_of, is_first, may_have_second, total_in}
 
 -- bNumConfigurations of the other speed, if there is one (9.6.2)
 abbrev pub other_declared : Option Other → ℕ

@@ -1,13 +1,29 @@
--- What the bytes of a read say.
+-- The requests of an enumeration, and what the bytes of a read say (USB 2.0, 9.4).
 use Rattle.std.specs.Prelude.{ℕ, ◌+◌, ◌*◌, ◌==◌, ◌&&◌, ◌||◌, not, nat_lt, Bool, true, false, if◌then◌else◌, List, [], ◌∷◌, length, slice_index, Option, Some, None}
+use Rattle.usb_fields.specs.declared.setup.Setup.{Setup as SetupPacket}
 use Rattle.usb_fields.specs.Bytes.{little_endian_at}
-use Rattle.usb_fields.specs.declared.speed.Speed.{Speed}
-use Rattle.usb_fields.specs.declared.speed.Speed.TheVariants.{Low, Full, High}
+use Rattle.usb_fields.specs.declared.packet.Speed.{Speed}
+use Rattle.usb_fields.specs.declared.packet.Speed.TheVariants.{Low, Full, High}
 use Rattle.usb_fields.specs.declared.device.DeviceDescriptor.{DeviceDescriptor}
 use Rattle.usb_fields.specs.declared.qualifier.Qualifier.{Qualifier}
-use Rattle.usb_fields.specs.Device.{device_bytes}
-use Rattle.usb_fields.specs.Qualifier.{qualifier_bytes}
+use Rattle.usb_fields.specs.Device.{device_bytes, qualifier_bytes}
 use Rattle.usb_fields.specs.Units.{units_bytes}
+
+-- The requests of an enumeration (USB 2.0, 9.4).
+
+-- GET_DESCRIPTOR of this type and index, of at most so many bytes, in this language where it is a string (9.4.3)
+abbrev pub get_descriptor : ℕ → ℕ → ℕ → ℕ → SetupPacket
+get_descriptor kind index language length = record { request_type = 128; request = 6; value = kind * 256 + index; index = language; length = length }
+
+-- SET_ADDRESS (9.4.6)
+abbrev pub set_address : ℕ → SetupPacket
+set_address address = record { request_type = 0; request = 5; value = address; index = 0; length = 0 }
+
+-- SET_CONFIGURATION (9.4.7)
+abbrev pub set_configuration : ℕ → SetupPacket
+set_configuration value = record { request_type = 0; request = 9; value = value; index = 0; length = 0 }
+
+-- What the bytes of a read say.
 
 -- whether both lists have the same bytes
 abbrev pub same_bytes : List ℕ → List ℕ → Bool

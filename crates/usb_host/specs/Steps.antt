@@ -1,26 +1,26 @@
 -- A host, as its callers see it, and its steps.
 use Rattle.std.specs.Borrow.{Bor}
 use Rattle.std.specs.Prelude.{◌≡◌, ℕ, suc, ◌==◌, ◌&&◌, nat_lt, Bool, true, false, if◌then◌else◌, Option, Some, None, Result, Ok, Err, ◌⊎◌}
-use Rattle.usb_fields.specs.declared.speed.Speed.{Speed}
-use Rattle.usb_fields.specs.Packet.{Reply, Sent, sent_of}
+use Rattle.usb_fields.specs.declared.packet.Speed.{Speed}
+use Rattle.usb_fields.specs.Packets.{Reply, Sent, sent_of}
 use Rattle.usb_set.specs.declared.fault.SetFault.{SetFault}
 use Rattle.usb_set.specs.declared.decoder.Progress.{Progress}
 use Rattle.usb_file_data.specs.declared.file.DescriptorFile.{DescriptorFile}
 use Rattle.usb_host.specs.declared.why.Why.{Why}
 use Rattle.usb_host.specs.declared.why.Why.TheVariants.{NoAnswer, Busy, Stalled, TooLong, Unexpected, Malformed, Memory}
-use Rattle.usb_host.specs.declared.stage.TransferStage.{TransferStage}
-use Rattle.usb_host.specs.declared.stage.TransferStage.TheVariants.{Completed, Failed}
+use Rattle.usb_host.specs.declared.transfer.TransferStage.{TransferStage}
+use Rattle.usb_host.specs.declared.transfer.TransferStage.TheVariants.{Completed, Failed}
 use Rattle.usb_host.specs.Limits.{LimitView}
 use Rattle.usb_host.specs.Plan.{Plan, Begin, Success, Trouble as GivesUp}
 use Rattle.usb_host.specs.Transfer.{TransferView, Hearing, Goes, Brings, Completes, Fails, Taken, taken, begun, due}
-use Rattle.usb_host.specs.declared.action.Action.{Action}
-use Rattle.usb_host.specs.declared.action.Action.TheVariants as actions
+use Rattle.usb_host.specs.declared.step.Action.{Action}
+use Rattle.usb_host.specs.declared.step.Action.TheVariants as actions
 use Rattle.usb_host.specs.declared.step.Step.{Step}
 use Rattle.usb_host.specs.declared.step.Trouble.{Trouble}
 use Rattle.usb_host.specs.declared.place.Place.{Place}
 use Rattle.usb_host.specs.declared.place.Place.TheVariants.{First, Set, Qualifier, Languages, Text, Reported, Stopped}
-use Rattle.usb_host.specs.declared.kept.Kept.{Kept}
-use Rattle.usb_host.specs.declared.kept.Kept.TheVariants as kept
+use Rattle.usb_host.specs.declared.place.Kept.{Kept}
+use Rattle.usb_host.specs.declared.place.Kept.TheVariants as kept
 use Rattle.usb_host.specs.Order.{asks, step_of, stopped, bytes_lead, set_leads, done_leads, refused_leads}
 use Rattle.usb_host.specs.Keeping.{nothing_kept, WantsMemory, Keeps, set_kept}
 

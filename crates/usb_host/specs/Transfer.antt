@@ -1,19 +1,19 @@
--- The host's end of one control transfer (USB 2.0, 8.5.3 and 8.6).
-use Rattle.std.specs.Prelude.{ℕ, suc, ◌+◌, ◌==◌, ◌||◌, nat_lt, Bool, false, if◌then◌else◌, List, [], ◌∷◌, length, Option, Some, None}
-use Rattle.usb_fields.specs.Packet.{flipped, Token, SetupToken, InToken, OutToken, Sent, sent_of, Reply, AckReply, NakReply, StallReply, DataReply, NoReply}
-use Rattle.usb_fields.specs.Packets.{is_same_toggle}
-use Rattle.usb_fields.specs.Directions.{direction_of}
-use Rattle.usb_fields.specs.Setup.{setup_bytes}
+-- The host's end of one control transfer, and how many transactions it asks for (USB 2.0, 8.5.3 and 8.6).
+use Rattle.std.specs.Prelude.{ℕ, suc, ◌+◌, ◌==◌, ◌||◌, nat_lt, Bool, false, if◌then◌else◌, List, [], ◌∷◌, length, Option, Some, None, ◌-◌, ◌*◌, ◌/◌}
+use Rattle.usb_fields.specs.Packets.{flipped, Token, SetupToken, InToken, OutToken, Sent, sent_of, Reply, AckReply, NakReply, StallReply, DataReply, NoReply, is_same_toggle}
+use Rattle.usb_fields.specs.Setup.{direction_of, setup_bytes}
 use Rattle.usb_fields.specs.declared.packet.Toggle.{Toggle}
 use Rattle.usb_fields.specs.declared.packet.Toggle.TheVariants.{Data0, Data1}
 use Rattle.usb_fields.specs.declared.packet.Transaction.{Transaction}
 use Rattle.usb_fields.specs.declared.setup.Setup.{Setup as SetupPacket}
-use Rattle.usb_fields.specs.declared.direction.Direction.{Direction}
-use Rattle.usb_fields.specs.declared.direction.Direction.TheVariants as directions
+use Rattle.usb_fields.specs.declared.setup.Direction.{Direction}
+use Rattle.usb_fields.specs.declared.setup.Direction.TheVariants as directions
 use Rattle.usb_host.specs.declared.why.Why.{Why}
 use Rattle.usb_host.specs.declared.why.Why.TheVariants.{NoAnswer, Busy, Stalled, TooLong, Unexpected}
-use Rattle.usb_host.specs.declared.stage.TransferStage.{TransferStage}
-use Rattle.usb_host.specs.declared.stage.TransferStage.TheVariants.{Setup, DataIn, DataOut, StatusOut, StatusIn, Completed, Failed}
+use Rattle.usb_host.specs.declared.transfer.TransferStage.{TransferStage}
+use Rattle.usb_host.specs.declared.transfer.TransferStage.TheVariants.{Setup, DataIn, DataOut, StatusOut, StatusIn, Completed, Failed}
+
+-- The host's end of one control transfer (USB 2.0, 8.5.3 and 8.6).
 
 -- what callers see of a transfer
 pub record TransferView : Type 0 where
@@ -193,3 +193,28 @@ taken_at t (Failed why) reply = record { heard = Fails why; transfer = t }
 -- a transfer takes a reply
 abbrev pub taken : TransferView → Reply → Taken
 taken t reply = taken_at t t.stage reply
+
+-- How many transactions a transfer asks for, whatever is replied.
+
+-- a transfer asks for no more than this from its start: between two steps of progress there are at most two strikes
+-- and as many NAKs as are borne
+abbrev pub most_transactions : ℕ → ℕ → SetupPacket → ℕ
+most_transactions packet naks request = (naks + 3) * (request.length / packet + 3)
+
+-- the steps of progress that may still come, where this many bytes of the data stage are due
+abbrev pub steps_left : ℕ → ℕ → TransferStage → ℕ
+steps_left bytes packet Setup = bytes / packet + 3
+steps_left bytes packet DataIn = bytes / packet + 2
+steps_left bytes packet DataOut = 1
+steps_left bytes packet StatusOut = 1
+steps_left bytes packet StatusIn = 1
+steps_left bytes packet Completed = 0
+steps_left bytes packet (Failed why) = 0
+
+-- those of a transfer
+abbrev pub steps : TransferView → ℕ
+steps t = steps_left (t.request.length - t.kept) t.packet t.stage
+
+-- the transactions that a transfer may still ask for
+unfoldable pub left : TransferView → ℕ
+left t = steps t * (t.naks + 3) - (t.strikes + t.nak_count)

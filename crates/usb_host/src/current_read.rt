@@ -1,26 +1,23 @@
 //! A read in work.
 ghost use Rattle.std.specs.Prelude.{◌≡◌, ◌<◌, false};
-ghost use Rattle.usb_fields.specs.Packet.{reply_of};
-ghost use Rattle.usb_host.specs.Bound.{left};
-ghost use Rattle.usb_host.specs.Transfer.{taken};
+ghost use Rattle.usb_fields.specs.Packets.{reply_of};
+ghost use Rattle.usb_host.specs.Transfer.{left, taken};
 ghost use Rattle.usb_host.specs.Keeping.{nothing_kept};
-ghost use Rattle.usb_host.specs.declared.kept.Kept.{Kept};
+ghost use Rattle.usb_host.specs.declared.place.Kept.{Kept};
 ghost use Rattle.usb_host.specs.declared.place.Place.TheVariants.{First};
 ghost use Rattle.usb_host.specs.Cost.{BringsBytes};
-ghost use Rattle.usb_host.specs.inside.Steady.{FitsPlace, IsGood, KeepsBytes};
+ghost use Rattle.usb_host.specs.inside.Sound.{FitsPlace, IsGood, KeepsBytes};
 ghost use Rattle.usb_host.specs.Steps.{TakesHeard, enter};
-ghost use Rattle.usb_host.specs.inside.Places.{kept_of, place_of};
-ghost use Rattle.usb_host.specs.inside.NextPlace.{is_bus_trouble};
+ghost use Rattle.usb_host.specs.inside.Places.{kept_of, place_of, is_bus_trouble};
 ghost use Rattle.usb_host.specs.inside.Reads.{GoesOn, Hears, IsReading, IsStanding, LeadsOn, kept_in, place_in, standing, stands};
 
 use crate::draft::Draft;
 use crate::due::Due;
-use crate::heard::Heard;
 use crate::held::Held;
 use crate::limits::Limits;
 use crate::next_place::{lead_completed, lead_refused};
 use crate::request::getting;
-use crate::transfer::Transfer;
+use crate::transfer::{Heard, Transfer};
 use crate::why::Why;
 use std::alloc::Global;
 use usb_fields::{Answer, Speed};

@@ -1,13 +1,12 @@
 //! What a host reads next.
 ghost use Rattle.std.specs.Prelude.{◌≡◌, ◌<◌, ◌*◌, IfSome, length as list_length};
 ghost use Rattle.usb_set.specs.Descriptors.{type_number};
-ghost use Rattle.usb_host.specs.Requests.{get_descriptor};
+ghost use Rattle.usb_host.specs.Read.{get_descriptor};
 ghost use Rattle.usb_host.specs.Order.{declared_sets, header_step as step_of_header, index_due as index_after, language_due as language_after, set_step as step_of_set, sets_of};
 ghost use Rattle.usb_host.specs.declared.draft.Draft.{Draft as DraftView};
 
-use crate::draft::{Draft, index_due, index_of, language_due};
+use crate::draft::{Draft, index_due, index_of, language_due, value_of_first};
 use crate::request::{Request, addressing, configuring, getting};
-use crate::sets::value_of_first;
 use crate::step::{Step, Trouble};
 use crate::why::Why;
 use usb_fields::{Setup, descriptor_length, descriptor_type};
@@ -57,10 +56,9 @@ pub enum Due {
 }
 
 impl Due {
-    ghost use Rattle.usb_host.specs.inside.Steady.{IsGood};
-    ghost use Rattle.usb_host.specs.inside.Places.{place_of};
+    ghost use Rattle.usb_host.specs.inside.Sound.{IsGood};
+    ghost use Rattle.usb_host.specs.inside.Places.{place_of, is_bus_trouble as is_bus_trouble_at, is_end as is_end_at, requested};
     ghost use Rattle.usb_host.specs.Order.{asks, step_of, stopped};
-    ghost use Rattle.usb_host.specs.inside.NextPlace.{is_bus_trouble as is_bus_trouble_at, is_end as is_end_at, requested};
 
     /// Whether the enumeration has ended.
     #[inline(always)]

@@ -1,12 +1,59 @@
 //! What a host keeps of a read.
+ghost use Rattle.std.specs.Prelude.{◌≡◌, ℕ, ◌+◌, ◌≤◌, List, [], ◌++◌, length};
 ghost use Rattle.std.specs.Prelude.{◌≡◌, ◌+◌, ◌≤◌, length};
 ghost use Rattle.usb_host.specs.declared.draft.Draft.{Draft as DraftView};
 
 use crate::due::Due;
-use crate::kept_bytes::KeptBytes;
+use arrayvec::ArrayVec;
 use std::alloc::Global;
+use std::marker::Model;
 use std::mem;
 use usb_set::{Configuration, Decoder, Progress, SetWhy};
+
+/// The bytes of a read of at most 255 bytes, as far as they have come.
+#[derive(Debug, Drop)]
+pub struct KeptBytes {
+    bytes: ArrayVec<u8, 255>,
+}
+
+impl Model for KeptBytes {
+    ghost Value = { List ℕ };
+
+    ghost view = { λ k. k.bytes.items };
+}
+
+impl KeptBytes {
+    /// No byte.
+    pub(crate) fn new() -> KeptBytes
+        ensures { result ≡ [] }
+    {
+        KeptBytes {
+            bytes: ArrayVec::new(),
+        }
+    }
+
+    /// Lets all bytes go.
+    pub(crate) fn clear(&mut self)
+        ensures { self.new ≡ [] }
+    {
+        self.bytes.clear();
+    }
+
+    /// The bytes.
+    pub(crate) fn as_slice(&self) -> &[u8]
+        ensures { result.now ≡ self.now }
+    {
+        self.bytes.as_slice()
+    }
+
+    /// Adds new bytes. With those that are there they are at most 255.
+    pub(crate) fn add(&mut self, bytes: &[u8])
+        requires { length self.old + length bytes.now ≤ 255 }
+        ensures { self.new ≡ self.old ++ bytes.now }
+    {
+        let _added = self.bytes.try_extend_from_slice(bytes);
+    }
+}
 
 /// What is kept of the bytes of the read in work. Which of it counts depends on what is due.
 #[derive(Debug, Drop)]
@@ -21,8 +68,7 @@ pub struct Held {
 
 impl Held {
     ghost use Rattle.usb_host.specs.Keeping.{nothing_kept, set_kept};
-    ghost use Rattle.usb_host.specs.inside.NextPlace.{Adds, HasRoom};
-    ghost use Rattle.usb_host.specs.inside.Places.{kept_of, place_of};
+    ghost use Rattle.usb_host.specs.inside.Places.{Adds, HasRoom, kept_of, place_of};
 
     /// What the first read begins with.
     pub(crate) fn new(alloc: Global) -> Held

@@ -1,16 +1,15 @@
 //! The host.
 ghost use Rattle.std.specs.Prelude.{◌≡◌, ◌<◌, ◌≤◌, ◌&&◌, nat_lt, IsSome};
-ghost use Rattle.usb_fields.specs.Packet.{Sent, reply_of};
+ghost use Rattle.usb_fields.specs.Packets.{Sent, reply_of};
 ghost use Rattle.usb_host.specs.Cost.{BringsBytes};
-ghost use Rattle.usb_host.specs.inside.NextPlace.{is_bus_trouble};
+ghost use Rattle.usb_host.specs.inside.Places.{is_bus_trouble};
 ghost use Rattle.usb_host.specs.inside.Reads.{place_in};
 
-use crate::action::Action;
 use crate::current_read::{Reading, begin};
 use crate::draft::Draft;
 use crate::due::Due;
 use crate::limits::Limits;
-use crate::step::{Step, Trouble};
+use crate::step::{Action, Step, Trouble};
 use crate::transfer::Transfer;
 use std::alloc::Global;
 use std::marker::Model;
@@ -48,7 +47,7 @@ pub struct Host {
 
 impl Model for Host {
     ghost use Rattle.usb_host.specs.Steps.{HostView};
-    ghost use Rattle.usb_host.specs.inside.Hosts.{IsHost, view_of};
+    ghost use Rattle.usb_host.specs.inside.Reads.{IsHost, view_of};
 
     ghost Value = { HostView };
 

@@ -21,15 +21,11 @@
 //! Nothing here allocates.
 #![tactic(auto)]
 
-mod action;
 mod current_read;
 mod draft;
 mod due;
-mod heard;
 mod held;
 mod host;
-mod kept;
-mod kept_bytes;
 pub mod laws;
 mod limits;
 mod next_place;
@@ -37,17 +33,13 @@ mod place;
 mod read;
 mod reply;
 mod request;
-mod sets;
-mod stage;
 mod step;
 mod transfer;
 mod why;
 
-pub use action::Action;
-pub use heard::Heard;
 pub use host::Host;
 pub use limits::{LimitFault, Limits};
 pub use reply::Reply;
-pub use step::{Step, Trouble};
-pub use transfer::Transfer;
+pub use step::{Action, Step, Trouble};
+pub use transfer::{Heard, Transfer};
 pub use why::Why;

@@ -1,22 +1,22 @@
 //! Where a read leads to.
 ghost use Rattle.std.specs.Prelude.{◌≡◌, ◌<◌, ◌≤◌, ◌*◌, IfOk, OnErr, length};
 ghost use Rattle.usb_host.specs.Order.{after_sets as place_after_sets, bytes_lead, declared_sets, done_leads, refused_leads, set_leads, step_of, sets_of, sets_due as set_due_at, strings_due as strings_due_at, texts_due as text_due_at};
-ghost use Rattle.usb_host.specs.inside.NextPlace.{Leads, LeadsTo, OrMemory, Settles};
-ghost use Rattle.usb_host.specs.inside.Places.{kept_of, place_of};
-ghost use Rattle.usb_host.specs.inside.Steady.{IsGood};
+ghost use Rattle.usb_host.specs.inside.Places.{Leads, LeadsTo, OrMemory, Settles, kept_of, place_of};
+ghost use Rattle.usb_host.specs.inside.Sound.{IsGood};
 ghost use Rattle.usb_host.specs.Steps.{completed_leads, read_leads};
 ghost use Rattle.usb_host.specs.declared.why.Why.TheVariants.{Stalled};
 ghost use Rattle.usb_host.specs.Transfer.{Completes, Fails};
 ghost use Rattle.usb_host.specs.declared.draft.Draft.{Draft as DraftView};
 ghost use Rattle.usb_host.specs.declared.place.Place.TheVariants.{First, Device, Header, Set, Qualifier as SecondSpeed, Languages, Text};
 
-use crate::draft::{Draft, new_file, no_strings};
+use crate::draft::{
+    Draft, add_set, count_declared, count_sets, is_first_zero, new_file, no_strings,
+};
 use crate::due::Due;
 use crate::held::Held;
 use crate::read::{
     begins_with, device_in, first_in, may_have_second, qualifier_in, total_in, units_in,
 };
-use crate::sets::{add_set, count_declared, count_sets, is_first_zero};
 use crate::step::{Step, Trouble};
 use crate::transfer::Transfer;
 use crate::why::Why;

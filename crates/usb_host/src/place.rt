@@ -1,8 +1,9 @@
-//! How far an enumeration is, as contracts see it.
+//! How far an enumeration is, and what a host keeps of a read, as contracts see them.
+use crate::held::KeptBytes;
 use crate::step::Trouble;
 use usb_fields::Sequence;
 use usb_file_data::{DescriptorFile, Strings};
-use usb_set::SetKind;
+use usb_set::{Decoder, SetKind};
 
 /// What is read next, with the file as far as it is read, or the end. No value of it is made: it is what contracts see
 /// of a [`Due`](crate::due::Due) beside its [`Draft`](crate::draft::Draft).
@@ -56,4 +57,14 @@ pub enum Place {
     Stopped {
         trouble: Trouble,
     },
+}
+
+/// What is kept of the bytes of the read in work. No value of it is made: it is what contracts see of a
+/// [`Held`](crate::held::Held).
+#[derive(Debug, Drop)]
+pub enum Kept {
+    /// The bytes.
+    Bytes { bytes: KeptBytes },
+    /// Of a set its decoder, and whether bytes came after the set's last.
+    Set { decoder: Decoder, over: bool },
 }

@@ -1,6 +1,6 @@
 //! The requests of an enumeration (USB 2.0, 9.4).
 ghost use Rattle.std.specs.Prelude.{◌≡◌};
-ghost use Rattle.usb_host.specs.Requests.{get_descriptor, set_address, set_configuration};
+ghost use Rattle.usb_host.specs.Read.{get_descriptor, set_address, set_configuration};
 
 use usb_fields::{Setup, request, request_type};
 

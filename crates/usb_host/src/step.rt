@@ -1,9 +1,21 @@
-//! The steps of an enumeration.
+//! The steps of an enumeration, and what a host wants done.
 ghost use Rattle.std.specs.Prelude.{Some};
-ghost use Rattle.usb_host.specs.StepText.{step_text, trouble_message, two_digits};
+ghost use Rattle.usb_host.specs.Why.{step_text, trouble_message, two_digits};
 
 use crate::why::Why;
 use std::{error, fmt};
+use usb_fields::Transaction;
+
+/// What the caller of a [`Host`](crate::Host) does next.
+#[derive(Clone, Copy, Debug, PartialEq, Eq, Hash)]
+pub enum Action {
+    /// A bus reset, reported by `reset_done`.
+    Reset,
+    /// This transaction, whose answer goes to `take`.
+    Send(Transaction<'static>),
+    /// Nothing: there is an outcome.
+    Ended,
+}
 
 /// What a host does in an enumeration, one control transfer a step (USB 2.0, 9.1.2 and 9.4).
 #[derive(Clone, Copy, Debug, PartialEq, Eq, Hash)]

@@ -1,13 +1,43 @@
 //! One control transfer, driven reply by reply (USB 2.0, 8.5.3).
 ghost use Rattle.std.specs.Prelude.{IsSome, ◌≡◌, ◌<◌, ◌≤◌, ◌+◌, ◌^◌};
-ghost use Rattle.usb_fields.specs.Packet.{reply_of};
+ghost use Rattle.usb_fields.specs.Packets.{reply_of};
 ghost use Rattle.usb_host.specs.Transfer.{stage_after_setup};
 
-use crate::heard::Heard;
-use crate::stage::TransferStage;
 use crate::why::Why;
 use std::marker::Model;
 use usb_fields::{Answer, Direction, Setup, Stage, Toggle, Transaction};
+
+/// What a reply meant to a [`Transfer`](crate::Transfer).
+#[derive(Clone, Copy, Debug, PartialEq, Eq, Hash)]
+pub enum Heard<'a> {
+    /// The transfer goes on, and no byte was kept.
+    Again,
+    /// The transfer goes on, and these bytes of the data stage are new.
+    Bytes(&'a [u8]),
+    /// The transfer has completed.
+    Complete,
+    /// The transfer has failed.
+    Failed(Why),
+}
+
+/// The stage that a control transfer is in, or its end (USB 2.0, 8.5.3).
+#[derive(Clone, Copy, Debug, PartialEq, Eq, Hash)]
+pub enum TransferStage {
+    /// The setup packet is not acknowledged yet.
+    Setup,
+    /// Data packets come from the device.
+    DataIn,
+    /// A data packet goes to the device.
+    DataOut,
+    /// After data from the device: an empty packet goes to it.
+    StatusOut,
+    /// With no data stage: an empty packet comes from the device.
+    StatusIn,
+    /// All stages are done.
+    Completed,
+    /// It ended before that.
+    Failed(Why),
+}
 
 /// The strikes that a transfer retries with no progress between them: one more ends it.
 const STRIKES: u8 = 2;
@@ -55,8 +85,7 @@ impl Model for Transfer {
 
 impl Transfer {
     ghost use Rattle.usb_host.specs.Heard.{heard_of};
-    ghost use Rattle.usb_host.specs.Transfer.{begun, due, sent_by, taken, taken_data, taken_status, moved, completed, failed, struck, delayed, with_packet, is_untried};
-    ghost use Rattle.usb_host.specs.Bound.{left, most_transactions};
+    ghost use Rattle.usb_host.specs.Transfer.{begun, due, sent_by, taken, taken_data, taken_status, moved, completed, failed, struck, delayed, with_packet, is_untried, left, most_transactions};
 
     /// A transfer that begins with this setup packet, with no byte, no strike and no NAK.
     ///

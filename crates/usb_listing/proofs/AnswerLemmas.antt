@@ -6,13 +6,12 @@ use Rattle.usb_listing.specs.declared.fault.ListWhy.{ListWhy}
 use Rattle.usb_listing.specs.declared.fault.ListWhy.TheVariants as whys
 use Rattle.usb_listing.specs.declared.word.Word.{Word}
 use Rattle.usb_listing.specs.Words.{first_word, word_text}
-use Rattle.usb_text.specs.Printable.{is_printable}
+use Rattle.usb_text.specs.Lines.{is_printable}
 use Rattle.usb_listing.specs.Says.{Item, Says, item_word}
 use Rattle.usb_listing.specs.Order.{MayStand, file_items, has_over, items_of}
 use Rattle.usb_listing.specs.Listings.{Begins, FirstLine, IsBegun, ListFaulty, Lists, NoLineGoesOn, RestFaulty, is_whole, lines_of}
-use Rattle.usb_listing.specs.inside.Finding.{word_in}
+use Rattle.usb_listing.specs.inside.Rows.{word_in, item_of_line}
 use Rattle.usb_listing.specs.inside.Growing.{may_stand}
-use Rattle.usb_listing.specs.inside.Rows.{item_of_line}
 use Rattle.usb_listing.specs.inside.Walking.{Walk, add, add_line, after_line, answer_of, fault_behind, file_end, going, grown, stopped, walk, walk_byte, walk_end}
 use Rattle.usb_listing.proofs.LessLemmas.{Less, less, less_items, may_is, next, over_of}
 use Rattle.usb_listing.proofs.MoreLemmas.{AreOrdered}

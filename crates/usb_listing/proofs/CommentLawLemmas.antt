@@ -5,10 +5,8 @@ use Rattle.usb_file_data.specs.declared.file.DescriptorFile.{DescriptorFile}
 use Rattle.usb_listing.specs.declared.fault.ListFault.{ListFault}
 use Rattle.usb_listing.specs.declared.fault.ListWhy.{ListWhy}
 use Rattle.usb_listing.specs.declared.fault.ListWhy.TheVariants as whys
-use Rattle.usb_listing.specs.CommentedListings.{AtKeptLine, CommentedFaulty, CommentedOrFault, CommentedRefused, lists_file, shows_fault}
-use Rattle.usb_listing.specs.Comments.{lines_before, uncommented, whole_lines}
-use Rattle.usb_listing.specs.ListingOrFault.{ListingOrFault, is_faulty, is_listing}
-use Rattle.usb_listing.specs.Listings.{IsLineStart, ListFaulty, Lists}
+use Rattle.usb_listing.specs.Comments.{AtKeptLine, CommentedFaulty, CommentedOrFault, CommentedRefused, lists_file, shows_fault, lines_before, uncommented, whole_lines}
+use Rattle.usb_listing.specs.Listings.{ListingOrFault, is_faulty, is_listing, IsLineStart, ListFaulty, Lists}
 use Rattle.usb_listing.specs.Order.{items_of}
 use Rattle.usb_listing.proofs.CommentLemmas.{before_grows}
 use Rattle.usb_listing.proofs.LawLemmas.{listing_or_fault, not_both, one_fault, reached, want_of_memory}

@@ -7,15 +7,15 @@ use Rattle.std.proofs.lemmas.Bool.{and_parts, eq-eqb, eqb-true, eqb-false, ne_eq
 use Rattle.usb_file_data.specs.declared.file.DescriptorFile.{DescriptorFile}
 use Rattle.usb_file_data.specs.File.{File}
 use Rattle.usb_listing.specs.Listing.{file_lines}
-use Rattle.usb_listing.specs.declared.extra_word.ExtraWord.TheVariants as extra
+use Rattle.usb_listing.specs.declared.word.ExtraWord.TheVariants as extra
 use Rattle.usb_listing.specs.declared.word.Word.{Word}
 use Rattle.usb_listing.specs.declared.word.Word.TheVariants as words
 use Rattle.usb_listing.specs.Words.{word_text}
-use Rattle.usb_text.specs.Printable.{is_printable}
+use Rattle.usb_text.specs.Lines.{is_printable}
 use Rattle.usb_listing.specs.Comments.{IsUncommented, is_dropped, kept_of, last_piece, lines_before, pieces, uncommented, whole_lines, without_last, without_return}
 use Rattle.usb_listing.specs.Says.{IsItem, Item, item_line, item_word}
 use Rattle.usb_listing.specs.Order.{file_items}
-use Rattle.usb_listing.specs.inside.Lines.{Cut, HasNo}
+use Rattle.usb_listing.specs.inside.Walking.{Cut, HasNo}
 use Rattle.usb_listing.proofs.FileLineLemmas.{lines_are}
 use Rattle.usb_listing.proofs.PrintableLemmas.{line_of-printable}
 use Rattle.usb_text.proofs.Printables.{Printable}

@@ -8,19 +8,17 @@ use Rattle.usb_fields.specs.Bytes.{AreBytes}
 use Rattle.usb_fields.specs.declared.device.DeviceDescriptor.{DeviceDescriptor}
 use Rattle.usb_fields.specs.declared.fault.FieldFault.{FieldFault}
 use Rattle.usb_fields.specs.declared.qualifier.Qualifier.{Qualifier}
-use Rattle.usb_fields.specs.Device.{device_bytes, device_fault}
-use Rattle.usb_fields.specs.Qualifier.{qualifier_bytes, qualifier_fault}
+use Rattle.usb_fields.specs.Device.{device_bytes, device_fault, qualifier_bytes, qualifier_fault}
 use Rattle.usb_set.specs.declared.tree.Configuration.{Configuration}
 use Rattle.usb_set.specs.Building.{Adds, BeginsWith}
 use Rattle.usb_set.specs.Descriptors.{Descriptor, configuration_descriptor, descriptor_bytes, type_number}
-use Rattle.usb_set.specs.Encoding.{set_length}
-use Rattle.usb_set.specs.Layout.{has_typed_raw, later_descriptors}
+use Rattle.usb_set.specs.Layout.{set_length, has_typed_raw, later_descriptors}
 use Rattle.usb_set.specs.inside.Reading.{attach, configuration_of, with_last}
 use Rattle.usb_set.proofs.Adding.{add_is, add_typed, begin_is, one_tree}
 use Rattle.usb_file_data.specs.declared.file.DescriptorFile.{DescriptorFile}
 use Rattle.usb_file_data.specs.declared.file.Other.{Other}
 use Rattle.usb_file_data.specs.declared.file.Strings.{Strings}
-use Rattle.usb_file_data.specs.Named.{named_indices, other_sets}
+use Rattle.usb_file_data.specs.File.{named_indices, other_sets}
 use Rattle.usb_file_data.proofs.Lists.{list_any-push}
 use Rattle.usb_listing.specs.declared.draft.Draft.{Draft}
 use Rattle.usb_listing.specs.declared.word.Word.{Word}

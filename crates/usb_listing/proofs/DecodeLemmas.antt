@@ -8,8 +8,7 @@ use Rattle.std.proofs.lemmas.List.{append_assoc, append-nil, drop_all, drop_more
 use Rattle.hex.specs.Hex.{encode_lower, encode_with, lower_digits}
 use Rattle.hex.proofs.HexLemmas.{length-encode_with}
 use Rattle.usb_fields.specs.Bytes.{IsByte}
-use Rattle.usb_listing.specs.inside.Digits.{pair_value, value_or}
-use Rattle.usb_listing.specs.inside.Fields.{before, pairs_of}
+use Rattle.usb_listing.specs.inside.Fields.{pair_value, value_or, before, pairs_of}
 use Rattle.usb_listing.proofs.DigitLemmas.{pair_again, pair_large, pair_read, pair_small}
 
 -- ---- both ways between bytes and their digits

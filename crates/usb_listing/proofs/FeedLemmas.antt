@@ -7,13 +7,11 @@ use Rattle.usb_file_data.specs.declared.file.DescriptorFile.{DescriptorFile}
 use Rattle.usb_listing.specs.declared.draft.Draft.{Draft}
 use Rattle.usb_listing.specs.declared.fault.ListWhy.{ListWhy}
 use Rattle.usb_listing.specs.declared.fault.ListWhy.TheVariants as whys
-use Rattle.usb_text.specs.Printable.{is_printable}
+use Rattle.usb_text.specs.Lines.{is_printable}
 use Rattle.usb_listing.specs.Listings.{IsBegun, LineFaulty, NoLineGoesOn}
-use Rattle.usb_listing.specs.declared.comments.Form.{Form}
+use Rattle.usb_listing.specs.declared.assembly.Form.{Form}
 use Rattle.usb_listing.specs.inside.Drafts.{Drafted, IsJudged, Stops, Takes, TakesLine, Told, so_far}
-use Rattle.usb_listing.specs.inside.Forms.{line_read, text_read}
-use Rattle.usb_listing.specs.inside.Lines.{Cut, HasNo}
-use Rattle.usb_listing.specs.inside.Walking.{add_line}
+use Rattle.usb_listing.specs.inside.Walking.{line_read, text_read, Cut, HasNo, add_line}
 use Rattle.usb_listing.proofs.FormLemmas.{read_cut, read_none}
 use Rattle.usb_listing.proofs.ReadingLemmas.{told_line}
 use Rattle.usb_listing.proofs.WalkLemmas.{Printable}

@@ -7,12 +7,11 @@ use Rattle.std.proofs.lemmas.Slice.Eq.{bytes_eq-Decides}
 use Rattle.hex.specs.Hex.{encode_lower, encode_with, lower_digits}
 use Rattle.hex.proofs.HexLemmas.{length-encode_with}
 use Rattle.usb_fields.specs.Bytes.{AreBytes}
-use Rattle.usb_listing.specs.Lines.{written_field}
-use Rattle.usb_fields.specs.declared.width.Width.{Width}
-use Rattle.usb_fields.specs.declared.width.Width.TheVariants.{One, Two}
-use Rattle.usb_fields.specs.Widths.{cells, size_of}
-use Rattle.usb_listing.specs.inside.Digits.{pair_value}
-use Rattle.usb_listing.specs.inside.Fields.{Cell, behind_space, cell_first, cell_in, cell_of, cells_from, cells_then, one_with, pairs_of, tail_behind, tail_of, two_with}
+use Rattle.usb_listing.specs.Table.{written_field}
+use Rattle.usb_fields.specs.declared.field.Width.{Width}
+use Rattle.usb_fields.specs.declared.field.Width.TheVariants.{One, Two}
+use Rattle.usb_fields.specs.Fields.{cells, size_of}
+use Rattle.usb_listing.specs.inside.Fields.{pair_value, Cell, behind_space, cell_first, cell_in, cell_of, cells_from, cells_then, one_with, pairs_of, tail_behind, tail_of, two_with}
 use Rattle.usb_text.proofs.Printables.{high_digit, low_digit}
 use Rattle.usb_listing.proofs.DigitLemmas.{pair_again, pair_read}
 use Rattle.usb_listing.proofs.DecodeLemmas.{pairs_again, pairs_read}

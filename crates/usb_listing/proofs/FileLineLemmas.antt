@@ -10,10 +10,8 @@ use Rattle.usb_set.specs.declared.tree.Configuration.{Configuration}
 use Rattle.usb_file_data.specs.declared.file.DescriptorFile.{DescriptorFile}
 use Rattle.usb_file_data.specs.declared.file.Other.{Other}
 use Rattle.usb_file_data.specs.declared.file.Strings.{Strings}
-use Rattle.usb_file_data.specs.Named.{other_sets}
-use Rattle.usb_listing.specs.Listing.{device_line, file_lines, other_lines, qualifier_line}
-use Rattle.usb_listing.specs.SetListing.{set_lines}
-use Rattle.usb_listing.specs.StringListing.{languages_line, string_line, strings_lines}
+use Rattle.usb_file_data.specs.File.{other_sets}
+use Rattle.usb_listing.specs.Listing.{device_line, file_lines, other_lines, qualifier_line, set_lines, languages_line, string_line, strings_lines}
 use Rattle.usb_listing.specs.Table.{descriptor_line, row_of}
 use Rattle.usb_listing.proofs.LineLemmas.{set_is}
 use Rattle.usb_listing.specs.declared.word.Word.TheVariants as words

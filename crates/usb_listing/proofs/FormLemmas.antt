@@ -1,12 +1,11 @@
 -- A text read as it stands or with comments, line by line.
 use Rattle.std.proofs.Common.{◌≡◌, ℕ, suc, ◌+◌, Bool, true, false, cond, List, [], Option, Some, None, unwrap_or, refl, ap, sym, subst}
-use Rattle.usb_listing.specs.declared.comments.Form.{Form}
-use Rattle.usb_listing.specs.declared.comments.Form.TheVariants as forms
+use Rattle.usb_listing.specs.declared.assembly.Form.{Form}
+use Rattle.usb_listing.specs.declared.assembly.Form.TheVariants as forms
 use Rattle.usb_listing.specs.declared.fault.ListWhy.{ListWhy}
 use Rattle.usb_listing.specs.Comments.{is_dropped, uncommented, without_return}
 use Rattle.usb_listing.specs.Listings.{ListRefused}
-use Rattle.usb_listing.specs.inside.Forms.{Refused, count_before, line_read, text_read}
-use Rattle.usb_listing.specs.inside.Lines.{Cut, HasNo}
+use Rattle.usb_listing.specs.inside.Walking.{Refused, count_before, line_read, text_read, Cut, HasNo}
 use Rattle.usb_listing.proofs.CommentLemmas.{before_dropped, before_kept, dropped_cut, kept_cut, none_before, none_before_rest, uncommented_none}
 
 -- a line with comments is dropped, or kept

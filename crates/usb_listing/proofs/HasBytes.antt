@@ -10,17 +10,13 @@ use Rattle.usb_set.specs.declared.tree.Endpoint.{Endpoint}
 use Rattle.usb_set.specs.declared.tree.Setting.{Setting}
 use Rattle.usb_set.specs.declared.tree.Configuration.{Configuration}
 use Rattle.std.specs.List.{flat_map}
-use Rattle.usb_fields.specs.Widths.{cells}
-use Rattle.usb_fields.specs.Device.{device_bytes}
-use Rattle.usb_fields.specs.Qualifier.{qualifier_bytes}
+use Rattle.usb_fields.specs.Fields.{cells}
+use Rattle.usb_fields.specs.Device.{device_bytes, qualifier_bytes}
 use Rattle.usb_set.specs.Descriptors.{configuration_descriptor, endpoint_descriptor, extra_descriptor, interface_descriptor, type_number}
 use Rattle.usb_text.proofs.Pages.{longer}
-use Rattle.usb_listing.specs.Lines.{written_field, written_line}
-use Rattle.usb_text.specs.Units.{two_bytes, written_unit}
-use Rattle.usb_listing.specs.Table.{Row, configuration_row, device_row, endpoint_row, interface_row, qualifier_row, raw_row, row_line}
-use Rattle.usb_listing.specs.Listing.{device_line, qualifier_line}
-use Rattle.usb_listing.specs.SetListing.{configuration_line, endpoint_line, extra_line, interface_line, row_of_extra, set_word}
-use Rattle.usb_listing.specs.StringListing.{languages_line, string_line}
+use Rattle.usb_listing.specs.Table.{written_field, written_line, Row, configuration_row, device_row, endpoint_row, interface_row, qualifier_row, raw_row, row_line}
+use Rattle.usb_text.specs.Characters.{two_bytes, written_unit}
+use Rattle.usb_listing.specs.Listing.{device_line, qualifier_line, configuration_line, endpoint_line, extra_line, interface_line, row_of_extra, set_word, languages_line, string_line}
 
 word_has : (kind : SetKind) → 0 < length (set_word kind)
 word_has kinds.Configuration = lit< tt

@@ -7,17 +7,15 @@ use Rattle.std.proofs.lemmas.List.Folds.{list_all-append}
 use Rattle.usb_file_data.specs.declared.file.DescriptorFile.{DescriptorFile}
 use Rattle.usb_file_data.specs.File.{file_bytes}
 use Rattle.usb_listing.specs.Listing.{file_lines}
-use Rattle.usb_text.specs.Printable.{is_printable}
+use Rattle.usb_text.specs.Lines.{is_printable}
 use Rattle.usb_listing.specs.declared.fault.ListFault.{ListFault}
 use Rattle.usb_listing.specs.declared.fault.ListWhy.{ListWhy}
 use Rattle.usb_listing.specs.declared.fault.ListWhy.TheVariants as whys
-use Rattle.usb_listing.specs.ListingOrFault.{ListingOrFault, is_faulty, is_listing}
-use Rattle.usb_listing.specs.Listings.{IsBegun, IsLineStart, IsPlaced, ListFaulty, ListRefused, Lists, MayWant, RestFaulty, is_whole, lines_of}
+use Rattle.usb_listing.specs.Listings.{ListingOrFault, is_faulty, is_listing, IsBegun, IsLineStart, IsPlaced, ListFaulty, ListRefused, Lists, MayWant, RestFaulty, is_whole, lines_of}
 use Rattle.usb_listing.specs.Words.{first_word}
 use Rattle.usb_listing.specs.Says.{Item}
 use Rattle.usb_listing.specs.Order.{has_over, items_of}
-use Rattle.usb_listing.specs.inside.Finding.{word_in}
-use Rattle.usb_listing.specs.inside.Rows.{item_of_line}
+use Rattle.usb_listing.specs.inside.Rows.{word_in, item_of_line}
 use Rattle.usb_listing.specs.inside.Walking.{Walk, add_item, add_line, after_line, answer_of, fault_behind, going, grown, stopped, walk, walk_byte, walk_end}
 use Rattle.usb_listing.proofs.AnswerLemmas.{answer_faulty, answer_listing, walk_front}
 use Rattle.usb_listing.proofs.LessLemmas.{may_is}

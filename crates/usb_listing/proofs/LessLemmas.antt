@@ -4,16 +4,14 @@ use Rattle.std.specs.List.{AllByRecursion, flat_map, list_any}
 use Rattle.std.proofs.Math.Dec.{eqb-suc-zero}
 use Rattle.std.proofs.lemmas.Bool.{and_from, eq-eqb, eqb-true, le-ltb, lt-ltb, ltb-false, or_from, or_parts}
 use Rattle.usb_fields.specs.declared.device.DeviceDescriptor.{DeviceDescriptor}
-use Rattle.usb_fields.specs.Device.{device_bytes}
-use Rattle.usb_fields.specs.Qualifier.{qualifier_bytes}
+use Rattle.usb_fields.specs.Device.{device_bytes, qualifier_bytes}
 use Rattle.usb_set.specs.declared.tree.SetKind.{SetKind}
 use Rattle.usb_set.specs.declared.tree.SetKind.TheVariants as kinds
 use Rattle.usb_set.specs.declared.tree.Configuration.{Configuration}
 use Rattle.usb_set.specs.Building.{has_setting}
 use Rattle.usb_set.specs.Descriptors.{Descriptor, configuration_descriptor, descriptor_bytes, type_number}
-use Rattle.usb_set.specs.Encoding.{FieldsFit, set_length}
+use Rattle.usb_set.specs.Layout.{FieldsFit, set_length, has_typed_raw, later_descriptors, set_descriptors}
 use Rattle.usb_set.specs.Faults.{is_interface, is_set_type}
-use Rattle.usb_set.specs.Layout.{has_typed_raw, later_descriptors, set_descriptors}
 use Rattle.usb_set.specs.inside.Reading.{attach, configuration_of}
 use Rattle.usb_set.proofs.Adding.{one_less, one_tree}
 use Rattle.usb_set.proofs.Complete.{attached}

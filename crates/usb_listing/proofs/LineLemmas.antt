@@ -13,9 +13,9 @@ use Rattle.usb_set.specs.declared.tree.Endpoint.{Endpoint}
 use Rattle.usb_set.specs.declared.tree.Setting.{Setting}
 use Rattle.usb_set.specs.declared.tree.Configuration.{Configuration}
 use Rattle.usb_set.specs.Descriptors.{Descriptor, configuration_descriptor, endpoint_descriptor, extra_descriptor, interface_descriptor}
-use Rattle.usb_set.specs.Parts.{setting_extras}
+use Rattle.usb_set.specs.Owners.{setting_extras}
 use Rattle.usb_set.specs.Layout.{endpoint_descriptors, has_typed_raw, is_typed, is_typed_raw, later_descriptors, set_descriptors, setting_descriptors}
-use Rattle.usb_listing.specs.SetListing.{configuration_line, endpoint_line, endpoint_lines, extra_line, interface_line, set_lines, setting_lines}
+use Rattle.usb_listing.specs.Listing.{configuration_line, endpoint_line, endpoint_lines, extra_line, interface_line, set_lines, setting_lines}
 use Rattle.usb_listing.specs.Table.{descriptor_line, raw_row, row_of}
 
 pub configuration_is : (c : Configuration) (total : ℕ) → configuration_line c ≡ descriptor_line (configuration_descriptor c total)

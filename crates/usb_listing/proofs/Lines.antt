@@ -1,7 +1,7 @@
 -- On a line whose parts are put one after another.
 use Rattle.std.proofs.Common.{◌≡◌, ℕ, List, ◌++◌, codes, ap, ◌∙◌, append_assoc}
 use Rattle.std.specs.List.{flat_map}
-use Rattle.usb_listing.specs.Lines.{written_field, written_line}
+use Rattle.usb_listing.specs.Table.{written_field, written_line}
 
 -- a line of fields that were put all at once
 pub row_line_put : (page word : List ℕ) (fields : List (List ℕ)) → page ++ word ++ flat_map written_field fields ++ codes "\n" ≡ page ++ written_line word fields

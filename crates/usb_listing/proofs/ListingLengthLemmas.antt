@@ -6,7 +6,7 @@ use Rattle.std.proofs.lemmas.Bool.{ltb-false, or_parts}
 use Rattle.std.proofs.lemmas.List.Folds.{flat_map-map}
 use Rattle.hex.specs.Hex.{encode_lower, encode_with, lower_digits}
 use Rattle.hex.proofs.HexLemmas.{length-encode_with}
-use Rattle.usb_fields.specs.Widths.{size_of}
+use Rattle.usb_fields.specs.Fields.{size_of}
 use Rattle.usb_fields.specs.declared.device.DeviceDescriptor.{DeviceDescriptor}
 use Rattle.usb_fields.specs.declared.qualifier.Qualifier.{Qualifier}
 use Rattle.usb_set.specs.declared.tree.SetKind.{SetKind}
@@ -17,19 +17,16 @@ use Rattle.usb_set.specs.declared.tree.Endpoint.{Endpoint}
 use Rattle.usb_set.specs.declared.tree.Setting.{Setting}
 use Rattle.usb_set.specs.declared.tree.Configuration.{Configuration}
 use Rattle.usb_set.specs.Descriptors.{descriptor_bytes, endpoint_descriptor, extra_descriptor, interface_descriptor, configuration_descriptor}
-use Rattle.usb_set.specs.Encoding.{set_length}
+use Rattle.usb_set.specs.Layout.{set_length}
 use Rattle.usb_set.specs.inside.Trees.{extra_bytes, endpoint_bytes, setting_bytes}
 use Rattle.usb_set.proofs.Trees.{set_bytes_is}
 use Rattle.usb_file_data.specs.declared.file.DescriptorFile.{DescriptorFile}
 use Rattle.usb_file_data.specs.declared.file.Other.{Other}
 use Rattle.usb_file_data.specs.declared.file.Strings.{Strings}
-use Rattle.usb_file_data.specs.Named.{named_among, other_sets, string_indices}
-use Rattle.usb_file_data.specs.File.{File, whole_set, has_no_layout, is_long_string, are_wrong_strings}
-use Rattle.usb_listing.specs.Lines.{written_field}
-use Rattle.usb_text.specs.Units.{is_plain, two_bytes, written_unit}
-use Rattle.usb_listing.specs.SetListing.{extra_line, endpoint_line, endpoint_lines, interface_line, row_of_extra, setting_lines, configuration_line, set_lines}
-use Rattle.usb_listing.specs.StringListing.{languages_line, string_line, strings_lines}
-use Rattle.usb_listing.specs.Listing.{device_line, qualifier_line, other_lines, file_lines}
+use Rattle.usb_file_data.specs.File.{named_among, other_sets, string_indices, File, whole_set, has_no_layout, is_long_string, are_wrong_strings}
+use Rattle.usb_listing.specs.Table.{written_field}
+use Rattle.usb_text.specs.Characters.{is_plain, two_bytes, written_unit}
+use Rattle.usb_listing.specs.Listing.{extra_line, endpoint_line, endpoint_lines, interface_line, row_of_extra, setting_lines, configuration_line, set_lines, languages_line, string_line, strings_lines, device_line, qualifier_line, other_lines, file_lines}
 use Rattle.usb_file_data.proofs.WholeSets.{whole_length}
 use Rattle.usb_file_data.proofs.Longest.{few_sets, few_strings}
 

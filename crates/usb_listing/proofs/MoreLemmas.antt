@@ -6,8 +6,7 @@ use Rattle.usb_fields.specs.Bytes.{AreBytes}
 use Rattle.usb_fields.proofs.ByteLemmas.{written_field}
 use Rattle.usb_fields.specs.declared.device.DeviceDescriptor.{DeviceDescriptor}
 use Rattle.usb_fields.specs.declared.qualifier.Qualifier.{Qualifier}
-use Rattle.usb_fields.specs.Device.{device_bytes}
-use Rattle.usb_fields.specs.Qualifier.{qualifier_bytes}
+use Rattle.usb_fields.specs.Device.{device_bytes, qualifier_bytes}
 use Rattle.usb_fields.specs.Units.{units_bytes}
 use Rattle.usb_fields.proofs.Legal.{all_cells}
 use Rattle.usb_set.specs.declared.tree.SetKind.{SetKind}
@@ -22,9 +21,8 @@ use Rattle.usb_set.proofs.Items.{two_bytes}
 use Rattle.usb_file_data.specs.declared.file.DescriptorFile.{DescriptorFile}
 use Rattle.usb_file_data.specs.declared.file.Other.{Other}
 use Rattle.usb_file_data.specs.declared.file.Strings.{Strings}
-use Rattle.usb_file_data.specs.File.{is_long_string, is_other_kind}
+use Rattle.usb_file_data.specs.File.{is_long_string, is_other_kind, named_indices}
 use Rattle.usb_file_data.specs.Front.{AllSets}
-use Rattle.usb_file_data.specs.Named.{named_indices}
 use Rattle.usb_file_data.proofs.Lists.{length-push, list_any-push}
 use Rattle.usb_listing.specs.declared.word.Word.{Word}
 use Rattle.usb_listing.specs.declared.word.Word.TheVariants as words

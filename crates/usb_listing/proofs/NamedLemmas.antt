@@ -4,7 +4,7 @@ use Rattle.std.specs.Prelude.{filter}
 use Rattle.std.specs.List.{list_any, range_with_len}
 use Rattle.std.proofs.lemmas.Bool.{eq-eqb, ne_eqb}
 use Rattle.usb_file_data.specs.declared.file.DescriptorFile.{DescriptorFile}
-use Rattle.usb_file_data.specs.Named.{named_among, named_indices, string_indices}
+use Rattle.usb_file_data.specs.File.{named_among, named_indices, string_indices}
 
 some_left : (x : ℕ) (xs : List ℕ) → (length (x ∷ xs) == 0) ≡ false
 some_left x xs = ne_eqb (length (x ∷ xs)) 0 (omega arith)

@@ -4,8 +4,7 @@ use Rattle.std.specs.List.{AllByRecursion, flat_map, list_any}
 use Rattle.std.proofs.lemmas.Bool.{or_from, or_parts}
 use Rattle.std.proofs.lemmas.List.Folds.{list_any-append}
 use Rattle.usb_fields.specs.declared.device.DeviceDescriptor.{DeviceDescriptor}
-use Rattle.usb_fields.specs.Device.{device_bytes}
-use Rattle.usb_fields.specs.Qualifier.{qualifier_bytes}
+use Rattle.usb_fields.specs.Device.{device_bytes, qualifier_bytes}
 use Rattle.usb_set.specs.declared.tree.SetKind.{SetKind}
 use Rattle.usb_set.specs.declared.tree.SetKind.TheVariants as kinds
 use Rattle.usb_set.specs.declared.tree.Configuration.{Configuration}
@@ -14,9 +13,8 @@ use Rattle.usb_set.specs.inside.Reading.{with_last}
 use Rattle.usb_file_data.specs.declared.file.DescriptorFile.{DescriptorFile}
 use Rattle.usb_file_data.specs.declared.file.Other.{Other}
 use Rattle.usb_file_data.specs.declared.file.Strings.{Strings}
-use Rattle.usb_file_data.specs.File.{is_other_kind}
+use Rattle.usb_file_data.specs.File.{is_other_kind, named_indices}
 use Rattle.usb_file_data.specs.Front.{AllSets, StringsFollow}
-use Rattle.usb_file_data.specs.Named.{named_indices}
 use Rattle.usb_listing.specs.declared.word.Word.TheVariants as words
 use Rattle.usb_listing.specs.Says.{IsItem, Item, fields}
 use Rattle.usb_listing.specs.Order.{IsOneMore, IsOrdered, file_items, has_over, is_over, other_items, set_items, strings_items}

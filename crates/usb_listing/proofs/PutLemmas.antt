@@ -1,9 +1,9 @@
 -- Bytes put into a buffer, one after another.
 use Rattle.std.proofs.Common.{◌≤◌, Bool, drop, zero, suc, ◌≡◌, ◌≢◌, ℕ, ◌+◌, ◌%◌, ◌<◌, List, [], ◌∷◌, ◌++◌, Some, None, length, take, slice_set, refl, ap, sym, ◌∙◌, append_assoc, arith}
 use Rattle.std.proofs.lemmas.List.{length-set, length-take-le, take_more_set}
-use Rattle.usb_fields.specs.declared.width.Width.TheVariants.{One, Two}
+use Rattle.usb_fields.specs.declared.field.Width.TheVariants.{One, Two}
 use Rattle.usb_listing.specs.inside.Fields.{PutsCell, bytes_in, cell_of, cells_from, ended, pairs_of, with_length}
-use Rattle.usb_fields.specs.declared.width.Width.{Width}
+use Rattle.usb_fields.specs.declared.field.Width.{Width}
 use Rattle.usb_listing.proofs.DecodeLemmas.{odd_none}
 
 pub put_one : (text old rest : List ℕ) (at x : ℕ) → cell_of One text ≡ Some (x ∷ [], rest) → at < length old → PutsCell One text old at (slice_set old at x) (at + 1) rest

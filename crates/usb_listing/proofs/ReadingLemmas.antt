@@ -15,10 +15,9 @@ use Rattle.usb_listing.specs.Words.{first_word}
 use Rattle.usb_listing.specs.Says.{Item, Says, item_line}
 use Rattle.usb_listing.specs.Order.{IsOrdered, file_items, items_of}
 use Rattle.usb_listing.specs.Listings.{Begins, FirstFaulty, FirstLine, IsBegun, IsPlaced, ListRefused, Lists, RestFaulty, is_whole, lines_of}
-use Rattle.usb_listing.specs.declared.comments.Form.{Form}
+use Rattle.usb_listing.specs.declared.assembly.Form.{Form}
 use Rattle.usb_listing.specs.inside.Drafts.{AreHeld, HasPlace, IsJudged, Reading, Stops, Takes, TakesLine, Told, so_far}
-use Rattle.usb_listing.specs.inside.Forms.{Refused, count_before, line_read, text_read}
-use Rattle.usb_listing.specs.inside.Walking.{add_line}
+use Rattle.usb_listing.specs.inside.Walking.{Refused, count_before, line_read, text_read, add_line}
 use Rattle.usb_listing.proofs.FormLemmas.{before_passed, before_read, none_before_none, passed_cut, read_cut, read_none, refused}
 use Rattle.usb_listing.proofs.FileLineLemmas.{lines_are}
 use Rattle.usb_listing.proofs.MoreLemmas.{AreOrdered}

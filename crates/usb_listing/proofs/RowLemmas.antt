@@ -3,10 +3,10 @@ use Rattle.std.proofs.Common.{◌≡◌, ℕ, zero, suc, ◌+◌, ◌-◌, ◌�
 use Rattle.std.specs.List.{flat_map}
 use Rattle.std.proofs.lemmas.List.{length-take-le, take-append-drop}
 use Rattle.usb_fields.specs.Bytes.{AreBytes}
-use Rattle.usb_fields.specs.Widths.{Fills, cells, size_of}
-use Rattle.usb_fields.specs.declared.width.Width.{Width}
-use Rattle.usb_fields.specs.declared.width.Width.TheVariants.{One, Two}
-use Rattle.usb_listing.specs.Lines.{written_field}
+use Rattle.usb_fields.specs.Fields.{Fills, cells, size_of}
+use Rattle.usb_fields.specs.declared.field.Width.{Width}
+use Rattle.usb_fields.specs.declared.field.Width.TheVariants.{One, Two}
+use Rattle.usb_listing.specs.Table.{written_field}
 use Rattle.usb_listing.specs.inside.Fields.{Cell, bytes_in, cells_from, ended, tail_of, with_length, with_tail}
 use Rattle.usb_fields.proofs.ByteParts.{bytes_append, bytes_back, bytes_front}
 use Rattle.usb_listing.proofs.FieldLemmas.{cells_again, cells_are, tail_again, tail_read, text_of}

@@ -5,24 +5,21 @@ use Rattle.std.specs.List.{AllByRecursion, flat_map}
 use Rattle.std.specs.Option.{option_map}
 use Rattle.std.proofs.lemmas.Bool.{eqb-true}
 use Rattle.usb_fields.specs.Bytes.{AreBytes, little_endian}
-use Rattle.usb_fields.specs.Widths.{size_of}
-use Rattle.usb_fields.specs.declared.width.Width.{Width}
-use Rattle.usb_fields.specs.declared.width.Width.TheVariants.{One, Two}
+use Rattle.usb_fields.specs.Fields.{size_of}
+use Rattle.usb_fields.specs.declared.field.Width.{Width}
+use Rattle.usb_fields.specs.declared.field.Width.TheVariants.{One, Two}
 use Rattle.usb_fields.specs.Units.{units_bytes}
-use Rattle.usb_listing.specs.Lines.{written_field}
-use Rattle.usb_text.specs.Units.{two_bytes}
-use Rattle.usb_listing.specs.StringListing.{languages_line, string_line}
-use Rattle.usb_listing.specs.Table.{Row}
+use Rattle.usb_listing.specs.Table.{written_field, Row}
+use Rattle.usb_text.specs.Characters.{two_bytes}
+use Rattle.usb_listing.specs.Listing.{languages_line, string_line}
 use Rattle.usb_listing.specs.declared.word.Word.{Word}
 use Rattle.usb_listing.specs.declared.word.Word.TheVariants as words
-use Rattle.usb_listing.specs.declared.extra_word.ExtraWord.TheVariants as extra
-use Rattle.usb_listing.specs.declared.values.Written.TheVariants as forms
+use Rattle.usb_listing.specs.declared.word.ExtraWord.TheVariants as extra
+use Rattle.usb_listing.specs.declared.row.Written.TheVariants as forms
 use Rattle.usb_listing.specs.Words.{first_word, word_text}
 use Rattle.usb_listing.specs.Says.{HasRow, IsItem, IsOfRow, Item, Says, fields, is_typed_raw, item_line, item_word, languages, row_for, string}
-use Rattle.usb_listing.specs.inside.Fields.{bytes_in}
-use Rattle.usb_listing.specs.inside.Finding.{word_in}
-use Rattle.usb_listing.specs.inside.Rows.{before_quote, fields_in, in_quotes, item_in, item_of_line, languages_in, quoted, row_bytes, some_language, string_in, untyped}
-use Rattle.usb_listing.specs.inside.Units.{values_from}
+use Rattle.usb_listing.specs.inside.Fields.{bytes_in, values_from}
+use Rattle.usb_listing.specs.inside.Rows.{word_in, before_quote, fields_in, in_quotes, item_in, item_of_line, languages_in, quoted, row_bytes, some_language, string_in, untyped}
 use Rattle.usb_listing.proofs.RowLemmas.{body_text, whole_again, whole_read}
 use Rattle.usb_fields.proofs.ByteParts.{bytes_append}
 use Rattle.usb_listing.proofs.UnitLemmas.{IsUnit, values_again, values_are, written}

@@ -11,18 +11,17 @@ use Rattle.usb_set.specs.declared.tree.SetKind.TheVariants as kinds
 use Rattle.usb_set.specs.declared.tree.Configuration.{Configuration}
 use Rattle.usb_set.specs.Building.{has_setting}
 use Rattle.usb_set.specs.Descriptors.{Descriptor, configuration_descriptor, descriptor_bytes, type_number}
-use Rattle.usb_set.specs.Encoding.{set_length}
+use Rattle.usb_set.specs.Layout.{set_length, has_typed_raw, is_typed, later_descriptors, set_descriptors}
 use Rattle.usb_set.specs.Faults.{is_set_type, is_whole, item_fault, least_length}
-use Rattle.usb_set.specs.Layout.{has_typed_raw, is_typed, later_descriptors, set_descriptors}
 use Rattle.usb_set.specs.inside.Reading.{attach, configuration_of}
 use Rattle.usb_set.proofs.ExtraLemmas.{is_extra}
 use Rattle.usb_set.proofs.Growth.{attach-head, later_descriptors-attach, typed-attach}
 use Rattle.usb_set.proofs.Layouts.{fine_fault}
 use Rattle.usb_listing.specs.declared.word.Word.{Word}
-use Rattle.usb_listing.specs.declared.extra_word.ExtraWord.{ExtraWord}
+use Rattle.usb_listing.specs.declared.word.ExtraWord.{ExtraWord}
 use Rattle.usb_listing.specs.Table.{extra_row, extra_word}
 use Rattle.usb_listing.specs.declared.word.Word.TheVariants as words
-use Rattle.usb_listing.specs.declared.extra_word.ExtraWord.TheVariants as extra
+use Rattle.usb_listing.specs.declared.word.ExtraWord.TheVariants as extra
 use Rattle.usb_listing.specs.Says.{IsItem, Item, fields}
 use Rattle.usb_listing.specs.Order.{set_item, set_items, type_word}
 use Rattle.usb_listing.specs.inside.Drafts.{IsFirst, Joins}

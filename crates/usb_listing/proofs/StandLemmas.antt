@@ -3,14 +3,14 @@ use Rattle.std.proofs.Common.{◌≡◌, ℕ, ltb, true, Option, Some, None, ◌
 use Rattle.std.specs.List.{list_all}
 use Rattle.std.proofs.lemmas.Bool.{and_parts, ltb-true}
 use Rattle.usb_fields.specs.Bytes.{AreBytes}
-use Rattle.usb_fields.specs.Widths.{size_of}
-use Rattle.usb_fields.specs.declared.width.Width.{Width}
-use Rattle.usb_fields.specs.declared.width.Width.TheVariants.{One, Two}
+use Rattle.usb_fields.specs.Fields.{size_of}
+use Rattle.usb_fields.specs.declared.field.Width.{Width}
+use Rattle.usb_fields.specs.declared.field.Width.TheVariants.{One, Two}
 use Rattle.usb_listing.specs.Table.{Row}
 use Rattle.usb_file_data.specs.declared.file.DescriptorFile.{DescriptorFile}
 use Rattle.usb_listing.specs.declared.word.Word.{Word}
 use Rattle.usb_listing.specs.declared.word.Word.TheVariants as words
-use Rattle.usb_listing.specs.declared.extra_word.ExtraWord.TheVariants as extra
+use Rattle.usb_listing.specs.declared.word.ExtraWord.TheVariants as extra
 use Rattle.usb_listing.specs.Says.{IsItem, Item, fields, item_word, languages, row_for, string}
 use Rattle.usb_listing.specs.Order.{MayStand}
 use Rattle.usb_listing.specs.inside.Growing.{may_stand}

@@ -13,9 +13,8 @@ use Rattle.usb_listing.specs.Words.{first_word, word_text}
 use Rattle.usb_listing.specs.Says.{IsItem, Item, fields, is_typed_raw, languages, row_for, string}
 use Rattle.usb_listing.specs.Order.{has_over}
 use Rattle.usb_listing.specs.inside.Drafts.{Drafted, HasPlace, IsDraft, IsJudged, IsMisplaced, Refuses, Stops, so_far}
-use Rattle.usb_listing.specs.inside.Finding.{word_in}
+use Rattle.usb_listing.specs.inside.Rows.{word_in, fields_in, item_in, item_of_line, languages_in, says_fields, string_in, untyped}
 use Rattle.usb_listing.specs.inside.Growing.{may_stand}
-use Rattle.usb_listing.specs.inside.Rows.{fields_in, item_in, item_of_line, languages_in, says_fields, string_in, untyped}
 use Rattle.usb_listing.specs.inside.Walking.{add, add_item, add_line, add_word, grown}
 use Rattle.usb_listing.proofs.SaysLemmas.{behind, described, item_read}
 use Rattle.usb_listing.proofs.WordLemmas.{word_read}

@@ -5,12 +5,11 @@ use Rattle.std.specs.List.{AllByRecursion, flat_map}
 use Rattle.std.proofs.lemmas.Bool.{and_parts, eqb-true}
 use Rattle.std.proofs.lemmas.Bool.Decides.{nat_tests}
 use Rattle.hex.specs.Hex.{encode_lower, encode_with}
-use Rattle.usb_listing.specs.Lines.{written_field}
-use Rattle.usb_text.specs.Units.{is_plain, two_bytes, written_unit}
-use Rattle.usb_listing.specs.declared.values.Written.{Written}
-use Rattle.usb_listing.specs.declared.values.Written.TheVariants as forms
-use Rattle.usb_listing.specs.inside.Digits.{pair_value}
-use Rattle.usb_listing.specs.inside.Units.{escaped, number_first, number_in, number_with, unit_first, value_first, values_from, values_then}
+use Rattle.usb_listing.specs.Table.{written_field}
+use Rattle.usb_text.specs.Characters.{is_plain, two_bytes, written_unit}
+use Rattle.usb_listing.specs.declared.row.Written.{Written}
+use Rattle.usb_listing.specs.declared.row.Written.TheVariants as forms
+use Rattle.usb_listing.specs.inside.Fields.{pair_value, escaped, number_first, number_in, number_with, unit_first, value_first, values_from, values_then}
 use Rattle.usb_listing.proofs.DigitLemmas.{pair_again, pair_read}
 use Rattle.usb_listing.proofs.ValueLemmas.{values_end, values_step}
 

@@ -1,7 +1,7 @@
 -- On values that are read one after another.
 use Rattle.std.proofs.Common.{◌≡◌, ℕ, zero, suc, ◌+◌, ◌-◌, ◌<◌, List, [], ◌∷◌, length, Some, None, refl, arith}
-use Rattle.usb_listing.specs.declared.values.Written.{Written}
-use Rattle.usb_listing.specs.inside.Units.{value_first, values_from, values_then}
+use Rattle.usb_listing.specs.declared.row.Written.{Written}
+use Rattle.usb_listing.specs.inside.Fields.{value_first, values_from, values_then}
 
 pub values_end : (form : Written) (most : ℕ) (done rest : List ℕ) → length rest ≡ 0 → values_from form most done rest ≡ Some done
 unfolding values_from

@@ -3,39 +3,35 @@ use Rattle.std.proofs.Common.{◌≡◌, ◌≢◌, ℕ, ◌+◌, ◌*◌, ◌<�
 use Rattle.std.specs.List.{flat_map, list_any}
 use Rattle.std.proofs.lemmas.Bool.{eqb-false, eqb-true, le-ltb, ltb-false, ne_eqb, or_from, or_parts}
 use Rattle.usb_fields.specs.Bytes.{AreBytes}
-use Rattle.usb_fields.specs.Fields.{fields_bytes, widths}
-use Rattle.usb_fields.specs.Widths.{size_of}
-use Rattle.usb_fields.specs.Device.{device_bytes, device_fields}
-use Rattle.usb_fields.specs.Qualifier.{qualifier_bytes, qualifier_fields}
+use Rattle.usb_fields.specs.Fields.{fields_bytes, widths, size_of}
+use Rattle.usb_fields.specs.Device.{device_bytes, device_fields, qualifier_bytes, qualifier_fields}
 use Rattle.usb_fields.specs.Units.{units_bytes}
 use Rattle.usb_set.specs.declared.tree.SetKind.{SetKind}
 use Rattle.usb_set.specs.declared.tree.SetKind.TheVariants as kinds
 use Rattle.usb_set.specs.declared.tree.Configuration.{Configuration}
 use Rattle.usb_set.specs.Descriptors.{Descriptor, configuration_descriptor, configuration_fields, descriptor_bytes}
-use Rattle.usb_set.specs.Encoding.{set_length}
+use Rattle.usb_set.specs.Layout.{set_length, has_long_descriptor, has_typed_raw, is_long, is_typed, later_descriptors, set_bytes, set_descriptors}
 use Rattle.usb_set.specs.Faults.{is_interface, least_length}
 use Rattle.usb_set.specs.declared.fault.EncodeFault.TheVariants as encoding
-use Rattle.usb_set.specs.Layout.{has_long_descriptor, has_typed_raw, is_long, is_typed, later_descriptors, set_bytes, set_descriptors}
 use Rattle.usb_set.proofs.Layouts.{AllFine, Fine, fine_items}
 use Rattle.usb_file_data.specs.declared.file.DescriptorFile.{DescriptorFile}
 use Rattle.usb_file_data.specs.declared.file.Other.{Other}
 use Rattle.usb_file_data.specs.declared.file.Strings.{Strings}
-use Rattle.usb_file_data.specs.declared.fault.WriteFault.TheVariants as writes
-use Rattle.usb_file_data.specs.File.{File, are_wrong_strings, each_string_bytes, file_bytes, has_long_string, has_no_layout, has_wrong_count, has_wrong_kind, has_wrong_layout, is_other_miscounted, other_bytes, sets_bytes, strings_bytes, whole_set}
+use Rattle.usb_file_data.specs.declared.refusal.WriteFault.TheVariants as writes
+use Rattle.usb_file_data.specs.File.{File, are_wrong_strings, each_string_bytes, file_bytes, has_long_string, has_no_layout, has_wrong_count, has_wrong_kind, has_wrong_layout, is_other_miscounted, other_bytes, sets_bytes, strings_bytes, whole_set, named_indices, other_sets}
 use Rattle.usb_file_data.specs.Front.{IsInOrder, StringsFollow}
-use Rattle.usb_file_data.specs.Named.{named_indices, other_sets}
 use Rattle.usb_file_data.proofs.Lists.{bytes_before, bytes_behind}
 use Rattle.usb_file_data.proofs.WholeSets.{no_some}
 use Rattle.usb_listing.specs.declared.word.Word.{Word}
-use Rattle.usb_listing.specs.declared.extra_word.ExtraWord.{ExtraWord}
-use Rattle.usb_listing.specs.declared.extra_word.ExtraWord.TheVariants as extra
+use Rattle.usb_listing.specs.declared.word.ExtraWord.{ExtraWord}
+use Rattle.usb_listing.specs.declared.word.ExtraWord.TheVariants as extra
 use Rattle.usb_listing.specs.Table.{extra_word}
 use Rattle.usb_listing.specs.declared.word.Word.TheVariants as words
 use Rattle.usb_listing.specs.Says.{IsItem, fields, string}
 use Rattle.usb_listing.specs.Order.{is_over, other_items, set_item, set_items, strings_items}
 use Rattle.usb_listing.specs.Listings.{IsBegun, is_whole}
 use Rattle.usb_listing.specs.inside.Drafts.{strings_total}
-use Rattle.usb_listing.specs.inside.Lines.{has_all_strings}
+use Rattle.usb_listing.specs.inside.Walking.{has_all_strings}
 use Rattle.usb_listing.proofs.PartLemmas.{All, all_append, all_split}
 use Rattle.usb_fields.proofs.ByteParts.{bytes_append}
 use Rattle.usb_listing.proofs.SetLemmas.{no_word, raw_word, word_kind}

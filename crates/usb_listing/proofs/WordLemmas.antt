@@ -6,10 +6,10 @@ use Rattle.std.proofs.lemmas.Slice.Eq.{bytes_eq-Decides}
 use Rattle.memchr.specs.Find.{IsFirstByte, is_byte}
 use Rattle.usb_listing.specs.declared.word.Word.{Word}
 use Rattle.usb_listing.specs.declared.word.Word.TheVariants as words
-use Rattle.usb_listing.specs.declared.extra_word.ExtraWord.TheVariants as extra
+use Rattle.usb_listing.specs.declared.word.ExtraWord.TheVariants as extra
 use Rattle.usb_listing.specs.Words.{first_word, word_text}
-use Rattle.usb_listing.specs.inside.Finding.{all_extra_words, often_words, or_among, other_words, word_among, word_in}
-use Rattle.usb_listing.specs.inside.Lines.{Cut, HasNo}
+use Rattle.usb_listing.specs.inside.Rows.{all_extra_words, often_words, or_among, other_words, word_among, word_in}
+use Rattle.usb_listing.specs.inside.Walking.{Cut, HasNo}
 
 -- ---- a word and its text
 

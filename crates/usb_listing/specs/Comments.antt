@@ -1,6 +1,9 @@
 -- What may be dropped of a text: lines that are empty or a comment, and the carriage returns at the ends of lines.
-use Rattle.std.specs.Prelude.{◌≡◌, ℕ, zero, suc, List, [], ◌∷◌, ◌++◌, codes, Bool, true, false, ◌==◌, if◌then◌else◌}
+use Rattle.std.specs.Prelude.{◌≡◌, ℕ, zero, suc, List, [], ◌∷◌, ◌++◌, codes, Bool, true, false, ◌==◌, if◌then◌else◌, ◌+◌}
 use Rattle.std.specs.List.{flat_map, list_any, slice_split}
+use Rattle.usb_file_data.specs.declared.file.DescriptorFile.{DescriptorFile}
+use Rattle.usb_listing.specs.declared.fault.ListWhy.{ListWhy}
+use Rattle.usb_listing.specs.Listings.{ListFaulty, ListRefused, Lists}
 
 -- the pieces into which line feeds (0ah) part a text: at least one
 abbrev pub pieces : List ℕ → List (List ℕ)
@@ -50,3 +53,24 @@ lines_before (line ∷ lines) (suc kept) = suc (lines_before lines (if is_droppe
 pub record IsUncommented (text : List ℕ) : Type 0 where
   pub no_return : list_any (λ x. x == 13) text ≡ false
   pub no_line : list_any is_dropped (whole_lines text) ≡ false
+
+-- What is wrong with a text of which comments, empty lines and carriage returns are dropped.
+
+-- This holds of a line of what is kept, and the line is counted from 1 among all lines of the text, kept or dropped.
+pub record AtKeptLine (text : List ℕ) (line : ℕ) (Holds : ℕ → Type 0) : Type 0 where
+  pub kept : ℕ
+  pub holds : Holds (kept + 1)
+  pub line_is : line ≡ lines_before (whole_lines text) kept + 1
+
+-- the first line of what is kept that is at fault, and in it the first reason
+abbrev pub CommentedFaulty : List ℕ → ℕ → ListWhy → Type 0
+CommentedFaulty text line why = AtKeptLine text line (λ kept. ListFaulty (uncommented text) kept why)
+
+-- that fault, or that memory was wanting at a line that was reached
+abbrev pub CommentedRefused : List ℕ → ℕ → ListWhy → Type 0
+CommentedRefused text line why = AtKeptLine text line (λ kept. ListRefused (uncommented text) kept why)
+
+-- what is kept is the listing of a file that has bytes, or a line of it is the first at fault
+pub data CommentedOrFault (text : List ℕ) : Type 0 where
+  lists_file : (f : DescriptorFile) → Lists (uncommented text) f → CommentedOrFault text
+  shows_fault : (line : ℕ) (why : ListWhy) → CommentedFaulty text line why → CommentedOrFault text

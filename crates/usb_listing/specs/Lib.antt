@@ -1,14 +1,8 @@
-pub mod Lines
 pub mod Table
-pub mod SetListing
-pub mod StringListing
 pub mod Listing
-pub mod Numbers
+pub mod Listings
 pub mod Words
 pub mod Says
 pub mod Order
-pub mod Listings
-pub mod ListingOrFault
 pub mod Comments
-pub mod CommentedListings
 pub mod inside

@@ -6,7 +6,7 @@ use Rattle.usb_file_data.specs.File.{File, write_refusal}
 use Rattle.usb_listing.specs.Listing.{file_lines}
 use Rattle.usb_listing.specs.declared.word.Word.{Word}
 use Rattle.usb_listing.specs.Words.{first_word, word_text}
-use Rattle.usb_text.specs.Printable.{is_printable}
+use Rattle.usb_text.specs.Lines.{is_printable}
 use Rattle.usb_listing.specs.Says.{Item, Says}
 use Rattle.usb_listing.specs.declared.fault.ListWhy.{ListWhy}
 use Rattle.usb_listing.specs.declared.fault.ListWhy.TheVariants as whys
@@ -112,3 +112,22 @@ pub record MayWant (text : List ℕ) (line : ℕ) : Type 0 where
 abbrev pub ListRefused : List ℕ → ℕ → ListWhy → Type 0
 ListRefused text line whys.Memory = MayWant text line
 ListRefused text line why = ListFaulty text line why
+
+-- What texts are.
+
+-- the text is the listing of a file that has bytes, or a line of it is the first at fault
+pub data ListingOrFault (text : List ℕ) : Type 0 where
+  is_listing : (f : DescriptorFile) → Lists text f → ListingOrFault text
+  is_faulty : (line : ℕ) (why : ListWhy) → ListFaulty text line why → ListingOrFault text
+
+-- The numbers of the faults.
+
+-- the number of what is wrong with a line
+abbrev pub why_number : ListWhy → ℕ
+why_number whys.Line = 1
+why_number whys.Word = 2
+why_number whys.Place = 3
+why_number whys.Field = 4
+why_number whys.TooLong = 5
+why_number whys.Missing = 6
+why_number whys.Memory = 7

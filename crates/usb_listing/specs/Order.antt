@@ -1,18 +1,15 @@
 -- The order of a listing: the descriptors of a file, and which may come next.
 use Rattle.std.specs.Prelude.{◌≡◌, ℕ, List, [], ◌∷◌, ◌++◌, map, Bool, false, nat_lt, ◌==◌, ◌||◌, Option, Some, None, if◌then◌else◌}
 use Rattle.std.specs.List.{AllByRecursion, flat_map, list_any}
-use Rattle.usb_fields.specs.Device.{device_bytes}
-use Rattle.usb_fields.specs.Qualifier.{qualifier_bytes}
+use Rattle.usb_fields.specs.Device.{device_bytes, qualifier_bytes}
 use Rattle.usb_set.specs.declared.tree.Configuration.{Configuration}
 use Rattle.usb_set.specs.Descriptors.{Descriptor, descriptor_bytes}
-use Rattle.usb_set.specs.Encoding.{set_length}
-use Rattle.usb_set.specs.Layout.{has_typed_raw, set_descriptors}
+use Rattle.usb_set.specs.Layout.{set_length, has_typed_raw, set_descriptors}
 use Rattle.usb_file_data.specs.declared.file.DescriptorFile.{DescriptorFile}
 use Rattle.usb_file_data.specs.declared.file.Other.{Other}
 use Rattle.usb_file_data.specs.declared.file.Strings.{Strings}
-use Rattle.usb_file_data.specs.File.{has_wrong_kind}
+use Rattle.usb_file_data.specs.File.{has_wrong_kind, other_sets}
 use Rattle.usb_file_data.specs.Front.{IsInOrder}
-use Rattle.usb_file_data.specs.Named.{other_sets}
 use Rattle.usb_listing.specs.Table.{extra_word}
 use Rattle.usb_listing.specs.declared.word.Word.{Word}
 use Rattle.usb_listing.specs.declared.word.Word.TheVariants as words

@@ -1,14 +1,14 @@
 -- What one line of a listing says: one descriptor of a file.
 use Rattle.std.specs.Prelude.{◌≡◌, ◌≢◌, ℕ, ◌+◌, List, [], ◌∷◌, ◌++◌, codes, Bool, drop, false, length, slice_index, Option, Some, None}
 use Rattle.usb_fields.specs.Bytes.{AreBytes}
-use Rattle.usb_fields.specs.Widths.{Fills}
+use Rattle.usb_fields.specs.Fields.{Fills}
 use Rattle.usb_fields.specs.Units.{units_bytes}
 use Rattle.usb_set.specs.Layout.{is_typed}
-use Rattle.usb_listing.specs.StringListing.{languages_line, string_line}
+use Rattle.usb_listing.specs.Listing.{languages_line, string_line}
 use Rattle.usb_listing.specs.Table.{Row, configuration_row, device_row, endpoint_row, extra_row, interface_row, qualifier_row, row_line}
 use Rattle.usb_listing.specs.declared.word.Word.{Word}
 use Rattle.usb_listing.specs.declared.word.Word.TheVariants as words
-use Rattle.usb_listing.specs.declared.extra_word.ExtraWord.TheVariants as extra
+use Rattle.usb_listing.specs.declared.word.ExtraWord.TheVariants as extra
 
 -- A descriptor that has a line of its own.
 pub data Item : Type 0 where

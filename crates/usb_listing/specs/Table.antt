@@ -1,15 +1,25 @@
 -- The table of lines: which line a descriptor has.
-use Rattle.std.specs.Prelude.{ℕ, ◌==◌, List, [], ◌∷◌, Bool, true, false, codes, drop, length, if◌then◌else◌}
-use Rattle.usb_fields.specs.declared.width.Width.{Width}
-use Rattle.usb_fields.specs.declared.width.Width.TheVariants.{One}
-use Rattle.usb_fields.specs.Fields.{widths}
-use Rattle.usb_fields.specs.Widths.{cells}
-use Rattle.usb_fields.specs.Device.{device_fields}
-use Rattle.usb_fields.specs.Qualifier.{qualifier_fields}
+use Rattle.std.specs.Prelude.{ℕ, List, [], ◌∷◌, ◌++◌, codes, ◌==◌, Bool, true, false, drop, length, if◌then◌else◌}
+use Rattle.std.specs.List.{flat_map}
+use Rattle.hex.specs.Hex.{encode_lower}
+use Rattle.usb_fields.specs.declared.field.Width.{Width}
+use Rattle.usb_fields.specs.declared.field.Width.TheVariants.{One}
+use Rattle.usb_fields.specs.Fields.{widths, cells}
+use Rattle.usb_fields.specs.Device.{device_fields, qualifier_fields}
 use Rattle.usb_set.specs.Descriptors.{Descriptor, association_fields, configuration_fields, endpoint_fields, interface_fields}
-use Rattle.usb_listing.specs.declared.extra_word.ExtraWord.{ExtraWord}
-use Rattle.usb_listing.specs.declared.extra_word.ExtraWord.TheVariants as words
-use Rattle.usb_listing.specs.Lines.{written_line}
+use Rattle.usb_listing.specs.declared.word.ExtraWord.{ExtraWord}
+use Rattle.usb_listing.specs.declared.word.ExtraWord.TheVariants as words
+
+-- A line of a listing: a word, and fields in lower-case hexadecimal digits.
+
+-- a space and the field in lower-case hexadecimal digits, or a dash where it has no byte
+abbrev pub written_field : List ℕ → List ℕ
+written_field [] = codes " -"
+written_field (b ∷ rest) = 32 ∷ encode_lower (b ∷ rest)
+
+-- a line: its word, its fields, a line feed
+abbrev pub written_line : List ℕ → List (List ℕ) → List ℕ
+written_line word fields = word ++ flat_map written_field fields ++ codes "\n"
 
 -- A row: the word of the line; the bytes after bLength that the line leaves out, bDescriptorType, and wTotalLength as
 -- 0; the widths of the fields that it says; and whether there may be a tail after them.

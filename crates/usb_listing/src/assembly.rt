@@ -1,24 +1,67 @@
-//! A listing, read line by line.
+//! A listing, read line by line, with comments or without.
+ghost use Rattle.std.specs.Prelude.{◌≡◌, MatchOption, None, Some};
+ghost use Rattle.usb_listing.specs.Comments.{is_dropped, without_return};
+ghost use Rattle.usb_listing.specs.inside.Walking.{line_read};
 ghost use Rattle.std.specs.Prelude.{◌≡◌, ◌≢◌, ◌<◌, [], if◌then◌else◌, not, IfErr, IfNone, IfOk, IfSome, Some, false, length, true};
 ghost use Rattle.std.specs.List.{list_all};
-ghost use Rattle.usb_text.specs.Printable.{is_printable};
-ghost use Rattle.usb_listing.specs.CommentedListings.{CommentedRefused};
-ghost use Rattle.usb_listing.specs.Comments.{uncommented};
+ghost use Rattle.usb_text.specs.Lines.{is_printable};
+ghost use Rattle.usb_listing.specs.Comments.{CommentedRefused, uncommented};
 ghost use Rattle.usb_file_data.specs.File.{has_wrong_count, is_other_miscounted};
 ghost use Rattle.usb_listing.specs.Listings.{ListRefused, Lists, is_whole};
 ghost use Rattle.usb_listing.specs.inside.Drafts.{AreHeld, Holds, Reading, TakesLine, Told, so_far};
-ghost use Rattle.usb_listing.specs.inside.Forms.{Refused, count_before, text_read};
+ghost use Rattle.usb_listing.specs.inside.Walking.{Refused, count_before, text_read, Cut, HasNo, has_all_strings};
 ghost use Rattle.usb_file_data.specs.declared.file.DescriptorFile.{DescriptorFile};
-ghost use Rattle.usb_listing.specs.inside.Lines.{Cut, HasNo, has_all_strings};
 ghost use Rattle.usb_listing.specs.declared.fault.ListWhy.TheVariants as whys;
 
-use crate::comments::{Form, line_read};
 use crate::draft::Draft;
 use crate::fault::{ListFault, ListWhy};
 use crate::step::step;
 use memchr::memchr;
 use std::alloc::Global;
 use usb_file_data::{DescriptorFile, Other, Strings, count_named};
+
+/// How a text is read.
+#[derive(Clone, Copy, Debug, PartialEq, Eq)]
+pub(crate) enum Form {
+    /// As it stands.
+    Exact,
+    /// Without lines that are empty or a comment, and without carriage returns at the ends of lines.
+    Commented,
+}
+
+/// The line without the carriage return that it may end with.
+#[tactic(auto, using(crate::proofs::CommentLemmas::return_there, crate::proofs::CommentLemmas::return_elsewhere, crate::proofs::CommentLemmas::return_nowhere))]
+fn without_return(line: &[u8]) -> &[u8]
+    ensures { result.now ≡ without_return line.now }
+{
+    match line.split_last() {
+        Some((last, rest)) if *last == b'\r' => rest,
+        _ => line,
+    }
+}
+
+/// Whether the line is empty or a comment.
+fn is_dropped(line: &[u8]) -> bool
+    ensures { result ≡ is_dropped line.now }
+{
+    match line {
+        [] => true,
+        [first, ..] => *first == b'#',
+    }
+}
+
+/// What is read of a line, or nothing where it is dropped.
+pub(crate) fn line_read(form: Form, line: &[u8]) -> Option<&[u8]>
+    ensures { MatchOption result (line_read form line.now ≡ None) (λ read. line_read form line.now ≡ Some read.now) }
+{
+    match form {
+        Form::Exact => Some(line),
+        Form::Commented => {
+            let line = without_return(line);
+            if is_dropped(line) { None } else { Some(line) }
+        }
+    }
+}
 
 /// Whether a line may have the byte.
 fn is_printable(c: u8) -> bool

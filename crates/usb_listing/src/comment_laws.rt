@@ -4,8 +4,7 @@ ghost use Rattle.std.specs.Prelude.{◌≡◌, ◌≤◌, ℕ, List};
 ghost use Rattle.usb_file_data.specs.File.{File};
 ghost use Rattle.usb_file_data.specs.declared.file.DescriptorFile.{DescriptorFile};
 ghost use Rattle.usb_listing.specs.Listing.{file_lines};
-ghost use Rattle.usb_listing.specs.CommentedListings.{AtKeptLine, CommentedFaulty, CommentedOrFault};
-ghost use Rattle.usb_listing.specs.Comments.{IsUncommented, lines_before, uncommented, whole_lines};
+ghost use Rattle.usb_listing.specs.Comments.{AtKeptLine, CommentedFaulty, CommentedOrFault, IsUncommented, lines_before, uncommented, whole_lines};
 ghost use Rattle.usb_listing.specs.Listings.{IsLineStart, Lists};
 ghost use Rattle.usb_listing.specs.declared.fault.ListWhy.{ListWhy};
 

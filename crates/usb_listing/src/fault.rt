@@ -1,6 +1,6 @@
 //! Why a text is no listing.
 ghost use Rattle.std.specs.Prelude.{◌≡◌};
-ghost use Rattle.usb_listing.specs.Numbers.{why_number};
+ghost use Rattle.usb_listing.specs.Listings.{why_number};
 
 use thiserror::Error;
 

@@ -6,8 +6,7 @@ ghost use Rattle.usb_set.specs.Layout.{has_typed_raw, later_descriptors, set_des
 ghost use Rattle.usb_set.specs.declared.tree.Configuration.{Configuration};
 ghost use Rattle.usb_file_data.specs.File.{File};
 ghost use Rattle.usb_file_data.specs.declared.file.DescriptorFile.{DescriptorFile};
-ghost use Rattle.usb_listing.specs.Listing.{file_lines};
-ghost use Rattle.usb_listing.specs.SetListing.{set_lines};
+ghost use Rattle.usb_listing.specs.Listing.{file_lines, set_lines};
 ghost use Rattle.usb_listing.specs.Table.{descriptor_line};
 
 /// The lines of a set are those of its descriptors, each by the row of its type. None of the raw descriptors may have

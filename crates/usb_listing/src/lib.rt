@@ -2,8 +2,8 @@
 //!
 //! [`list`] writes the listing of a file, and [`list_set`] that of one set alone.
 //!
-//! What a listing is is `specs/Listing.antt`, with the lines of a set in `specs/SetListing.antt`, those of
-//! the strings in `specs/StringListing.antt`, the form of a line in `specs/Lines.antt`, and the table of lines
+//! What a listing is is `specs/Listing.antt`, with the lines of a set in `specs/Listing.antt`, those of
+//! the strings in `specs/Listing.antt`, the form of a line in `specs/Table.antt`, and the table of lines
 //! in `specs/Table.antt`. The module [`laws`] says that a set's lines are those of its descriptors, and how
 //! long a listing can be.
 //!
@@ -16,15 +16,10 @@
 
 mod assembly;
 pub mod comment_laws;
-mod comments;
-mod digits;
 mod draft;
-mod draft_steps;
-mod extra_word;
 mod fault;
 mod fields;
 pub mod laws;
-mod listed;
 mod listing;
 mod order;
 mod page;
@@ -33,13 +28,11 @@ mod row;
 mod set_listing;
 mod step;
 mod string_listing;
-mod strings;
-mod values;
 mod word;
 
 pub use assembly::{assemble, assemble_commented};
-pub use extra_word::{EXTRA_WORDS, ExtraWord, RAW_WIDTHS};
 pub use fault::{ListFault, ListWhy};
 pub use laws::LISTING_LIMIT;
 pub use listing::list;
 pub use set_listing::list_set;
+pub use word::{EXTRA_WORDS, ExtraWord, RAW_WIDTHS};

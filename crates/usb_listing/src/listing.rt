@@ -4,8 +4,9 @@ ghost use Rattle.std.specs.Io.KnownBytes.{Appends};
 ghost use Rattle.usb_listing.specs.Listing.{device_line, file_lines, other_lines, qualifier_line};
 ghost use Rattle.usb_text.specs.Output.{AppendsLess};
 ghost use Rattle.usb_text.specs.inside.Pages.{Puts};
+ghost use Rattle.std.specs.Prelude.{◌++◌, OnErr, OnOk};
+ghost use Rattle.std.specs.List.{flat_map};
 
-use crate::listed::list_all;
 use crate::page::Page;
 use crate::string_listing::list_strings;
 use std::alloc::{AllocError, Global};
@@ -74,4 +75,33 @@ fn put_qualifier(page: &mut Page, q: &Qualifier) -> Result<(), AllocError>
     ensures { OnOk result (page.new ≡ page.old ++ qualifier_line q.now) }
 {
     page.put_line("qualifier", &QUALIFIER_WIDTHS, &q.to_bytes()[2..])
+}
+
+/// A value that is listed by lines of its own.
+pub(crate) trait Listed {
+    ghost use Rattle.std.specs.Prelude.{ℕ, List};
+
+    /// Its lines.
+    ghost lines: { Self → List ℕ };
+
+    /// Puts its lines at the end of the page, which is passed on where it is full.
+    fn list<W: Write>(&self, page: &mut Page, w: &mut W) -> Result<(), OutFault>
+        ensures ok { OnOk result (Puts (W.contents w.old) (W.contents w.new) page.old page.new (lines self.now)) }
+        ensures err { OnErr result (AppendsLess (W.contents w.old) (W.contents w.new) (page.old ++ lines self.now)) };
+}
+
+/// Puts the lines of several values, one value after another. Most lists are empty, so no call is made for one.
+#[inline(always)]
+pub(crate) fn list_all<T: Listed, W: Write>(
+    page: &mut Page,
+    items: &[T],
+    w: &mut W,
+) -> Result<(), OutFault>
+    ensures ok { OnOk result (Puts (W.contents w.old) (W.contents w.new) page.old page.new (flat_map T.lines items.now)) }
+    ensures err { OnErr result (AppendsLess (W.contents w.old) (W.contents w.new) (page.old ++ flat_map T.lines items.now)) }
+{
+    for item in items {
+        item.list(page, w)?;
+    }
+    Ok(())
 }

@@ -2,9 +2,9 @@
 ghost use Rattle.std.specs.Prelude.{◌≡◌, ◌+◌, ◌*◌, [], ◌∷◌, ◌++◌, codes, ◌<◌, false, length, IfErr, IfOk, IfSome, OnErr, OnOk};
 ghost use Rattle.hex.specs.Hex.{encode_lower};
 ghost use Rattle.std.specs.List.{flat_map};
-ghost use Rattle.usb_fields.specs.Widths.{cells};
-ghost use Rattle.usb_listing.specs.Lines.{written_field, written_line};
-ghost use Rattle.usb_text.specs.Units.{two_bytes, written_unit};
+ghost use Rattle.usb_fields.specs.Fields.{cells};
+ghost use Rattle.usb_listing.specs.Table.{written_field, written_line};
+ghost use Rattle.usb_text.specs.Characters.{two_bytes, written_unit};
 ghost use Rattle.std.specs.Io.KnownBytes.{Appends};
 ghost use Rattle.usb_text.specs.Output.{AppendsLess};
 ghost use Rattle.usb_text.specs.inside.Pages.{Puts};
@@ -163,7 +163,7 @@ impl Page {
     }
 
     /// Puts a unit of a string: its character, or a backslash and four digits.
-    #[tactic(auto, unfolding(usb_text::specs::Units::written_unit))]
+    #[tactic(auto, unfolding(usb_text::specs::Characters::written_unit))]
     pub(crate) fn put_unit(&mut self, unit: u16) -> Result<(), AllocError>
         ensures { OnOk result (self.new ≡ self.old ++ written_unit unit) }
     {

@@ -6,8 +6,7 @@ ghost use Rattle.usb_file_data.specs.declared.file.DescriptorFile.{DescriptorFil
 ghost use Rattle.usb_listing.specs.Listing.{file_lines};
 ghost use Rattle.usb_listing.specs.declared.fault.ListWhy.{ListWhy};
 ghost use Rattle.usb_listing.specs.declared.fault.ListWhy.TheVariants as whys;
-ghost use Rattle.usb_listing.specs.ListingOrFault.{ListingOrFault};
-ghost use Rattle.usb_listing.specs.Listings.{IsLineStart, ListFaulty, Lists, MayWant};
+ghost use Rattle.usb_listing.specs.Listings.{ListingOrFault, IsLineStart, ListFaulty, Lists, MayWant};
 
 /// A text is the listing of one file at most, and a file has one listing at most.
 pub fn one_file()

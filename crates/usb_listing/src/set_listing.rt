@@ -2,13 +2,13 @@
 ghost use Rattle.std.specs.Prelude.{◌≡◌, ◌++◌, OnErr, OnOk};
 ghost use Rattle.std.specs.List.{flat_map};
 ghost use Rattle.std.specs.Io.KnownBytes.{Appends};
-ghost use Rattle.usb_listing.specs.SetListing.{configuration_line, endpoint_line, endpoint_lines, extra_line, interface_line, set_lines, setting_lines, set_word};
+ghost use Rattle.usb_listing.specs.Listing.{configuration_line, endpoint_line, endpoint_lines, extra_line, interface_line, set_lines, setting_lines, set_word};
 ghost use Rattle.usb_text.specs.Output.{AppendsLess};
 ghost use Rattle.usb_text.specs.inside.Pages.{Puts};
 
-use crate::extra_word::put_extra;
-use crate::listed::{Listed, list_all};
+use crate::listing::{Listed, list_all};
 use crate::page::Page;
+use crate::word::put_extra;
 use std::alloc::{AllocError, Global};
 use std::io::Write;
 use usb_set::{
@@ -38,7 +38,7 @@ pub fn list_set<W: Write>(alloc: Global, c: &Configuration, w: &mut W) -> Result
 }
 
 impl Listed for Configuration {
-    ghost use Rattle.usb_listing.specs.SetListing.{set_lines};
+    ghost use Rattle.usb_listing.specs.Listing.{set_lines};
 
     ghost lines = { set_lines };
 
@@ -58,7 +58,7 @@ fn list_header<W: Write>(page: &mut Page, c: &Configuration, w: &mut W) -> Resul
 }
 
 impl Listed for Setting {
-    ghost use Rattle.usb_listing.specs.SetListing.{setting_lines};
+    ghost use Rattle.usb_listing.specs.Listing.{setting_lines};
 
     ghost lines = { setting_lines };
 
@@ -71,7 +71,7 @@ impl Listed for Setting {
 }
 
 impl Listed for Endpoint {
-    ghost use Rattle.usb_listing.specs.SetListing.{endpoint_lines};
+    ghost use Rattle.usb_listing.specs.Listing.{endpoint_lines};
 
     ghost lines = { endpoint_lines };
 
@@ -83,7 +83,7 @@ impl Listed for Endpoint {
 }
 
 impl Listed for Extra {
-    ghost use Rattle.usb_listing.specs.SetListing.{extra_line};
+    ghost use Rattle.usb_listing.specs.Listing.{extra_line};
 
     ghost lines = { extra_line };
 
@@ -93,7 +93,7 @@ impl Listed for Extra {
     }
 }
 
-#[tactic(auto, unfolding(crate::specs::SetListing::configuration_line))]
+#[tactic(auto, unfolding(crate::specs::Listing::configuration_line))]
 fn put_configuration(page: &mut Page, c: &Configuration) -> Result<(), AllocError>
     ensures { OnOk result (page.new ≡ page.old ++ configuration_line c.now) }
 {
@@ -110,14 +110,14 @@ fn set_word(kind: SetKind) -> &'static str
     }
 }
 
-#[tactic(auto, unfolding(crate::specs::SetListing::interface_line))]
+#[tactic(auto, unfolding(crate::specs::Listing::interface_line))]
 fn put_interface(page: &mut Page, s: &Setting) -> Result<(), AllocError>
     ensures { OnOk result (page.new ≡ page.old ++ interface_line s.now) }
 {
     page.put_line_with_tail("interface", &INTERFACE_WIDTHS, &s.field_bytes(), &s.tail)
 }
 
-#[tactic(auto, unfolding(crate::specs::SetListing::endpoint_line))]
+#[tactic(auto, unfolding(crate::specs::Listing::endpoint_line))]
 fn put_endpoint(page: &mut Page, e: &Endpoint) -> Result<(), AllocError>
     ensures { OnOk result (page.new ≡ page.old ++ endpoint_line e.now) }
 {

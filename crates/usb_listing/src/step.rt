@@ -2,20 +2,16 @@
 ghost use Rattle.std.specs.Prelude.{◌≡◌, IfErr, IfOk, None, OnOk, Some, length, slice_index, true};
 ghost use Rattle.usb_listing.specs.Says.{IsItem, fields, is_typed_raw};
 ghost use Rattle.usb_listing.specs.inside.Drafts.{AreHeld, Drafted, IsJudged, IsMisplaced, Stops, so_far};
-ghost use Rattle.usb_listing.specs.inside.Finding.{word_in};
+ghost use Rattle.usb_listing.specs.inside.Rows.{word_in, item_in, says_fields};
 ghost use Rattle.usb_listing.specs.inside.Growing.{may_stand};
-ghost use Rattle.usb_listing.specs.inside.Rows.{item_in, says_fields};
 ghost use Rattle.usb_listing.specs.inside.Walking.{add, add_item, add_line};
 ghost use Rattle.usb_listing.specs.declared.word.Word.TheVariants as words;
 
-use crate::draft::Draft;
-use crate::draft_steps::{add_described, add_languages, add_string, begin};
-use crate::extra_word::ExtraWord;
+use crate::draft::{Draft, add_described, add_languages, add_string, begin};
 use crate::fault::ListWhy;
 use crate::order::may_stand;
-use crate::row::read_fields;
-use crate::strings::{read_languages, read_string};
-use crate::word::{Word, split_word, word_of};
+use crate::row::{read_fields, read_languages, read_string};
+use crate::word::{ExtraWord, Word, split_word, word_of};
 use std::alloc::Global;
 use usb_set::is_typed;
 

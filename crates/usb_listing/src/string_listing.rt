@@ -3,11 +3,11 @@ ghost use Rattle.std.specs.Prelude.{◌≡◌, ◌++◌, map, OnErr, OnOk};
 ghost use Rattle.std.specs.List.{flat_map};
 ghost use Rattle.usb_text.specs.Output.{AppendsLess};
 ghost use Rattle.usb_text.specs.inside.Pages.{Puts};
-ghost use Rattle.usb_listing.specs.Lines.{written_field};
-ghost use Rattle.usb_text.specs.Units.{two_bytes, written_unit};
-ghost use Rattle.usb_listing.specs.StringListing.{languages_line, string_line, strings_lines};
+ghost use Rattle.usb_listing.specs.Table.{written_field};
+ghost use Rattle.usb_text.specs.Characters.{two_bytes, written_unit};
+ghost use Rattle.usb_listing.specs.Listing.{languages_line, string_line, strings_lines};
 
-use crate::listed::{Listed, list_all};
+use crate::listing::{Listed, list_all};
 use crate::page::Page;
 use std::alloc::AllocError;
 use std::io::Write;
@@ -34,7 +34,7 @@ pub(crate) fn list_strings<W: Write>(
 }
 
 impl Listed for Sequence<u16> {
-    ghost use Rattle.usb_listing.specs.StringListing.{string_line};
+    ghost use Rattle.usb_listing.specs.Listing.{string_line};
 
     ghost lines = { string_line };
 

@@ -6,10 +6,9 @@ use Rattle.usb_fields.specs.Bytes.{AreBytes}
 use Rattle.usb_set.specs.declared.tree.SetKind.TheVariants as kinds
 use Rattle.usb_set.specs.declared.tree.Configuration.{Configuration}
 use Rattle.usb_set.specs.Building.{Accepts, AcceptsAll, Adds, BeginsWith, IsOneMore, has_setting}
-use Rattle.usb_set.specs.Encoding.{AllFieldsFit, FieldsFit}
+use Rattle.usb_set.specs.Layout.{AllFieldsFit, FieldsFit, has_typed_raw, later_descriptors}
 use Rattle.usb_set.specs.Descriptors.{Descriptor, configuration_descriptor, descriptor_bytes, type_number}
 use Rattle.usb_set.specs.Faults.{is_interface, is_set_type, is_whole, item_fault}
-use Rattle.usb_set.specs.Layout.{has_typed_raw, later_descriptors}
 use Rattle.usb_set.specs.inside.Reading.{attach, configuration_of}
 use Rattle.usb_set.proofs.Growth.{attach-head, has_setting-attach, later_descriptors-attach, low_byte, high_byte, typed-attach}
 use Rattle.usb_set.proofs.Complete.{attached}

@@ -8,9 +8,8 @@ use Rattle.usb_fields.specs.Bytes.{AreBytes}
 use Rattle.usb_set.specs.declared.tree.Configuration.{Configuration}
 use Rattle.usb_set.specs.Building.{AcceptsAll, IsBuiltOf}
 use Rattle.usb_set.specs.Descriptors.{Descriptor, configuration_descriptor, descriptor_bytes}
-use Rattle.usb_set.specs.Encoding.{FieldsFit}
+use Rattle.usb_set.specs.Layout.{FieldsFit, Layout, has_typed_raw, is_long, later_descriptors, set_bytes, set_descriptors}
 use Rattle.usb_set.specs.Faults.{joined, total_of}
-use Rattle.usb_set.specs.Layout.{Layout, has_typed_raw, is_long, later_descriptors, set_bytes, set_descriptors}
 use Rattle.usb_set.proofs.Adding.{accepted, gained, same_descriptor, same_tree}
 use Rattle.usb_set.proofs.Growth.{not_long}
 use Rattle.usb_set.proofs.Items.{bare, items_again, two_bytes}

@@ -13,7 +13,7 @@ use Rattle.usb_set.specs.declared.tree.Setting.{Setting}
 use Rattle.usb_set.specs.declared.tree.Configuration.{Configuration}
 use Rattle.usb_fields.specs.Bytes.{AreBytes}
 use Rattle.usb_set.specs.Descriptors.{Descriptor, descriptor_bytes, extra_descriptor, extra_of, endpoint_descriptor, interface_descriptor, configuration_descriptor}
-use Rattle.usb_set.specs.Parts.{setting_extras, extras_of}
+use Rattle.usb_set.specs.Owners.{setting_extras, extras_of}
 use Rattle.usb_set.specs.Layout.{endpoint_descriptors, setting_descriptors, later_descriptors, is_long, has_long_descriptor, is_typed_raw, has_typed_raw}
 use Rattle.usb_set.specs.Faults.{item_fault, is_interface, is_set_type, least_length}
 use Rattle.usb_set.specs.Building.{has_setting}

@@ -11,7 +11,7 @@ use Rattle.usb_set.specs.declared.tree.Endpoint.{Endpoint}
 use Rattle.usb_set.specs.declared.tree.Setting.{Setting}
 use Rattle.usb_set.specs.declared.tree.Configuration.{Configuration}
 use Rattle.usb_set.specs.Descriptors.{Descriptor, descriptor_bytes, raw_descriptor, extra_descriptor, endpoint_descriptor, interface_descriptor, configuration_descriptor}
-use Rattle.usb_set.specs.Parts.{setting_extras, extras_of}
+use Rattle.usb_set.specs.Owners.{setting_extras, extras_of}
 use Rattle.usb_set.specs.Layout.{endpoint_descriptors, setting_descriptors, later_descriptors, is_long, is_typed_raw, Layout}
 use Rattle.usb_set.specs.RawSets.{is_read_raw, RawLayout, lift_extra, lift_endpoint, lift_setting, lift, is_cut}
 use Rattle.usb_set.specs.Faults.{least_length}

@@ -2,7 +2,7 @@
 use Rattle.std.proofs.Common.{◌≡◌, ◌∙◌, ◌<◌, ℕ, suc, ◌+◌, Bool, true, false, ◌||◌, List, ◌∷◌, length, drop, get_or, length-append, refl, sym, ap, arith}
 use Rattle.std.proofs.Math.Seq.{drop-cons}
 use Rattle.std.specs.List.{flat_map, list_any}
-use Rattle.usb_set.specs.inside.Measuring.{measured}
+use Rattle.usb_set.specs.inside.Trees.{measured}
 
 -- descriptors after others are measured from what the others came to
 pub measured_then : (start : ℕ) (long typed : Bool) (count : ℕ) (more_long more_typed : Bool) (more : ℕ) → measured (measured start long typed count) more_long more_typed more ≡ measured start (long || more_long) (typed || more_typed) (count + more)

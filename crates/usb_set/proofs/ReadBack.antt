@@ -7,9 +7,7 @@ use Rattle.usb_set.specs.declared.decoder.Progress.{Progress}
 use Rattle.usb_set.specs.declared.decoder.Progress.TheVariants.{More, Done}
 use Rattle.usb_set.specs.Layout.{set_bytes, Layout}
 use Rattle.usb_set.specs.Faults.{Begins, IsOpen}
-use Rattle.usb_set.specs.Decoding.{Decoding, gathers, has}
-use Rattle.usb_set.specs.Feeding.{Answers}
-use Rattle.usb_set.specs.ReadingBack.{ReadsBack}
+use Rattle.usb_set.specs.Decoding.{Decoding, gathers, has, Answers, ReadsBack}
 use Rattle.usb_set.proofs.Sets.{length-set_bytes}
 use Rattle.usb_set.proofs.Sound.{Begins-more, Faulty-more}
 use Rattle.usb_set.proofs.Exact.{one_layout, not_both}

@@ -3,9 +3,8 @@ use Rattle.std.proofs.Common.{◌≡◌, ℕ, ltb, List, length, None, ap, ◌�
 use Rattle.std.proofs.lemmas.Bool.{le-ltb, cond-false}
 use Rattle.usb_set.specs.declared.tree.Configuration.{Configuration}
 use Rattle.usb_fields.specs.Bytes.{AreBytes}
-use Rattle.usb_set.specs.Layout.{set_bytes, Layout, has_long_descriptor, has_typed_raw}
-use Rattle.usb_set.specs.Encoding.{refusal_of, set_length}
-use Rattle.usb_set.specs.inside.Lengths.{HasLength}
+use Rattle.usb_set.specs.Layout.{set_bytes, Layout, has_long_descriptor, has_typed_raw, refusal_of, set_length}
+use Rattle.usb_set.specs.inside.Trees.{HasLength}
 
 -- wTotalLength takes two bytes, whatever it is
 pub length-set_bytes : (c : Configuration) (m n : ℕ) → length (set_bytes c m) ≡ length (set_bytes c n)

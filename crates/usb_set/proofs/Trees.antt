@@ -8,7 +8,7 @@ use Rattle.usb_set.specs.declared.tree.Endpoint.{Endpoint}
 use Rattle.usb_set.specs.declared.tree.Setting.{Setting}
 use Rattle.usb_set.specs.declared.tree.Configuration.{Configuration}
 use Rattle.usb_set.specs.Descriptors.{descriptor_bytes, extra_descriptor, endpoint_descriptor, interface_descriptor, configuration_descriptor}
-use Rattle.usb_set.specs.Parts.{setting_extras}
+use Rattle.usb_set.specs.Owners.{setting_extras}
 use Rattle.usb_set.specs.Layout.{endpoint_descriptors, setting_descriptors, set_bytes, is_long, has_long_descriptor, is_typed_raw, has_typed_raw}
 use Rattle.usb_set.specs.inside.Trees.{extra_bytes, endpoint_bytes, setting_bytes, tree_bytes, is_extra_long, is_endpoint_long, is_setting_long, is_tree_long, is_endpoint_typed, is_setting_typed, is_tree_typed}
 

@@ -7,8 +7,7 @@ use Rattle.usb_fields.specs.Bytes.{AreBytes}
 use Rattle.usb_set.specs.declared.tree.Configuration.{Configuration}
 use Rattle.usb_set.specs.declared.fault.EncodeFault.TheVariants.{Tail, RawKind, TooLong}
 use Rattle.usb_set.specs.Descriptors.{Descriptor, descriptor_bytes}
-use Rattle.usb_set.specs.Layout.{set_bytes, set_descriptors, Layout, is_long, has_long_descriptor, has_typed_raw}
-use Rattle.usb_set.specs.Encoding.{refusal_of, set_length, FieldsFit, AllFieldsFit}
+use Rattle.usb_set.specs.Layout.{set_bytes, set_descriptors, Layout, is_long, has_long_descriptor, has_typed_raw, refusal_of, set_length, FieldsFit, AllFieldsFit}
 use Rattle.usb_set.proofs.Sets.{length-set_bytes, no_refusal, has_length}
 
 pub bytes_append : (a b : List ℕ) → AreBytes a → AreBytes b → AreBytes (a ++ b)

@@ -1,6 +1,6 @@
 -- The descriptors of a configuration set, one by one (USB 2.0, 9.5 and 9.6.3 to 9.6.6, and its ECN on
 -- interface associations, 9.X.Y).
-use Rattle.std.specs.Prelude.{ℕ, ◌+◌, ◌==◌, List, [], ◌∷◌, ◌++◌, codes, length, slice_index, drop, Option, Some, None, if◌then◌else◌}
+use Rattle.std.specs.Prelude.{ℕ, ◌+◌, ◌==◌, List, [], ◌∷◌, ◌++◌, codes, length, slice_index, drop, Option, Some, None, if◌then◌else◌, ◌/◌, ◌%◌}
 use Rattle.usb_fields.specs.Bytes.{little_endian}
 use Rattle.usb_fields.specs.Fields.{Field, byte, word, fields_bytes}
 use Rattle.usb_set.specs.declared.tree.SetKind.{SetKind}
@@ -12,6 +12,8 @@ use Rattle.usb_set.specs.declared.extra.Extra.TheVariants as extras
 use Rattle.usb_set.specs.declared.tree.Endpoint.{Endpoint}
 use Rattle.usb_set.specs.declared.tree.Setting.{Setting}
 use Rattle.usb_set.specs.declared.tree.Configuration.{Configuration}
+use Rattle.usb_set.specs.declared.endpoint.TransferType.{TransferType}
+use Rattle.usb_set.specs.declared.endpoint.TransferType.TheVariants.{Control, Isochronous, Bulk, Interrupt}
 
 -- a descriptor: its bDescriptorType, and the bytes that follow it
 pub record Descriptor : Type 0 where
@@ -117,3 +119,31 @@ configuration_fields =
 -- the descriptor, with this number as wTotalLength, its fields, then what it has beyond them
 abbrev pub configuration_descriptor : Configuration → ℕ → Descriptor
 configuration_descriptor c total = record { kind = type_number c.kind; body = little_endian total ++ fields_bytes configuration_fields c ++ c.tail }
+
+-- The fields of an endpoint descriptor that are bits (USB 2.0, 9.6.6).
+
+-- bits 3..0 of bEndpointAddress
+abbrev pub number_of : ℕ → ℕ
+number_of address = address % 16
+
+-- bits 1..0 of bmAttributes
+abbrev pub transfer_type_of : ℕ → TransferType
+transfer_type_of attributes =
+    if attributes % 4 == 0 then Control
+    else if attributes % 4 == 1 then Isochronous
+    else if attributes % 4 == 2 then Bulk
+    else Interrupt
+
+-- bits 10..0 of wMaxPacketSize, in bytes
+abbrev pub packet_size_of : ℕ → ℕ
+packet_size_of max_packet = max_packet % 2048
+
+-- bits 12..11 of wMaxPacketSize, which count the transactions of a microframe beyond the first: 0, 1 or 2, and 3 is
+-- reserved
+abbrev pub transactions_of : ℕ → Option ℕ
+transactions_of max_packet =
+    let more = max_packet / 2048 % 4 in
+    if more == 0 then Some 1
+    else if more == 1 then Some 2
+    else if more == 2 then Some 3
+    else None

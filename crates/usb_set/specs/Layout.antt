@@ -1,14 +1,18 @@
--- The bytes of a configuration set (USB 2.0, 9.4.3 and 9.5).
-use Rattle.std.specs.Prelude.{◌≡◌, ℕ, ◌≤◌, List, ◌∷◌, ◌++◌, length, map, Bool, false, nat_lt, is_some}
-use Rattle.std.specs.List.{flat_map, list_any}
-use Rattle.usb_fields.specs.Bytes.{AreBytes}
+-- The bytes of a configuration set, and which sets have bytes (USB 2.0, 9.4.3 and 9.5).
+use Rattle.std.specs.Prelude.{◌≡◌, ℕ, ◌≤◌, List, ◌∷◌, ◌++◌, length, map, Bool, false, nat_lt, is_some, Option, Some, None, if◌then◌else◌}
+use Rattle.std.specs.List.{flat_map, list_any, AllByRecursion}
+use Rattle.usb_fields.specs.Bytes.{AreBytes, IsByte}
 use Rattle.usb_set.specs.Descriptors.{Descriptor, descriptor_bytes, extra_descriptor, endpoint_descriptor, interface_descriptor, configuration_descriptor, typed_length}
-use Rattle.usb_set.specs.Parts.{extras_of}
+use Rattle.usb_set.specs.Owners.{extras_of}
 use Rattle.usb_set.specs.declared.extra.Extra.{Extra}
 use Rattle.usb_set.specs.declared.extra.Extra.TheVariants as extras
 use Rattle.usb_set.specs.declared.tree.Endpoint.{Endpoint}
 use Rattle.usb_set.specs.declared.tree.Setting.{Setting}
 use Rattle.usb_set.specs.declared.tree.Configuration.{Configuration}
+use Rattle.usb_set.specs.declared.fault.EncodeFault.{EncodeFault}
+use Rattle.usb_set.specs.declared.fault.EncodeFault.TheVariants.{Tail, RawKind, TooLong, Memory}
+
+-- The bytes of a configuration set (USB 2.0, 9.4.3 and 9.5).
 
 -- an endpoint: its descriptor, and the extras that follow it
 abbrev pub endpoint_descriptors : Endpoint → List Descriptor
@@ -59,3 +63,30 @@ pub record Layout (c : Configuration) (b : List ℕ) : Type 0 where
   pub within_255 : has_long_descriptor c ≡ false
   pub raws_are_raw : has_typed_raw c ≡ false
   pub short : length b ≤ 65535
+
+-- Which sets have bytes.
+
+-- how many bytes the set has
+abbrev pub set_length : Configuration → ℕ
+set_length c = length (set_bytes c 0)
+
+-- the first reason why the set has no bytes
+abbrev pub refusal_of : Configuration → Option EncodeFault
+refusal_of c =
+    if has_long_descriptor c then Some Tail
+    else if has_typed_raw c then Some RawKind
+    else if nat_lt 65535 (set_length c) then Some TooLong
+    else None
+
+-- *Out of memory* is reported of sets that have bytes, and else the first reason.
+abbrev pub Refuses : Configuration → EncodeFault → Type 0
+Refuses c Memory = refusal_of c ≡ None
+Refuses c fault = refusal_of c ≡ Some fault
+
+-- a bDescriptorType of one byte, and after it bytes
+abbrev pub FieldsFit : Descriptor → Type 0
+FieldsFit d = IsByte d.kind × AreBytes d.body
+
+-- each field of the set fits its byte or its two bytes: wTotalLength is left out, since it is none of the set's
+abbrev pub AllFieldsFit : Configuration → Type 0
+AllFieldsFit c = AllByRecursion FieldsFit (set_descriptors c 0)

@@ -1,16 +1,9 @@
 pub mod Descriptors
-pub mod Parts
 pub mod Owners
-pub mod Left
 pub mod Layout
 pub mod RawSets
-pub mod Endpoints
-pub mod Encoding
 pub mod Faults
 pub mod Building
 pub mod Decoding
-pub mod Feeding
-pub mod Judgement
-pub mod ReadingBack
 pub mod Numbers
 pub mod inside

@@ -9,7 +9,7 @@ use Rattle.usb_set.specs.declared.tree.Setting.{Setting}
 use Rattle.usb_set.specs.declared.tree.Configuration.{Configuration}
 use Rattle.usb_set.specs.Descriptors.{extra_of, raw_descriptor}
 use Rattle.usb_set.specs.Faults.{least_length}
-use Rattle.usb_set.specs.Parts.{extras_of}
+use Rattle.usb_set.specs.Owners.{extras_of}
 use Rattle.usb_set.specs.Layout.{set_bytes, has_long_descriptor}
 
 -- whether the extra is of a type of its own

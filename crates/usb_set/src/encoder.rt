@@ -1,12 +1,10 @@
 //! A set as its bytes.
 ghost use Rattle.std.specs.Prelude.{◌≡◌, ◌≢◌, ◌+◌, ◌++◌, ℕ, length, take, List, IfErr, IfOk, None, OnErr, OnOk, Some};
-ghost use Rattle.usb_set.specs.Encoding.{Refuses, refusal_of, set_length};
-ghost use Rattle.usb_set.specs.Layout.{Layout, set_bytes};
-ghost use Rattle.usb_set.specs.inside.Lengths.{HasLength};
+ghost use Rattle.usb_set.specs.Layout.{Refuses, refusal_of, set_length, Layout, set_bytes};
+ghost use Rattle.usb_set.specs.inside.Trees.{HasLength};
 
 use crate::fault::EncodeFault;
-use crate::lengths::{TOO_LONG, set_len};
-use crate::limits::{has_long_descriptor, has_typed_raw};
+use crate::lengths::{TOO_LONG, has_long_descriptor, has_typed_raw, set_len};
 use crate::parts::put_set;
 use crate::tree::Configuration;
 use std::alloc::{AllocError, Global};

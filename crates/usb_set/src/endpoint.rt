@@ -1,7 +1,7 @@
 //! What an endpoint descriptor says of its endpoint.
 ghost use Rattle.std.specs.Prelude.{◌≡◌};
-ghost use Rattle.usb_fields.specs.Directions.{direction_of};
-ghost use Rattle.usb_set.specs.Endpoints.{number_of, packet_size_of, transactions_of, transfer_type_of};
+ghost use Rattle.usb_fields.specs.Setup.{direction_of};
+ghost use Rattle.usb_set.specs.Descriptors.{number_of, packet_size_of, transactions_of, transfer_type_of};
 
 use crate::tree::Endpoint;
 use usb_fields::Direction;

@@ -18,7 +18,7 @@
 //!
 //! [`write_refusal`] is why a descriptor file has no bytes, for which its sets are asked.
 //!
-//! - What the bytes of a set are is `specs/Layout.antt` of usb_set, and which sets have bytes its `specs/Encoding.antt`.
+//! - What the bytes of a set are is `specs/Layout.antt` of usb_set, and which sets have bytes its `specs/Layout.antt`.
 //! - That a decoder reads back what is written here, and gives the set, is a law of usb_set:
 //!   `decoding_undoes_encoding`.
 #![tactic(auto)]
@@ -29,36 +29,27 @@ mod decoder;
 mod descriptor_check;
 mod encoder;
 mod endpoint;
-mod endpoints;
 mod extra;
-mod extras;
 mod fault;
 mod fields;
 pub mod laws;
 mod lengths;
-mod limits;
-mod longest;
 mod owner;
 mod partial;
 mod parts;
 mod reader;
-mod set_kind;
 mod tree;
-mod whole_set;
 
 pub use builder::{add_descriptor, begin_set, next_fault};
-pub use decoder::{Decoder, Progress};
+pub use decoder::{Decoder, Progress, read_set};
 pub use encoder::{encode, encode_onto, refusal};
 pub use endpoint::TransferType;
-pub use endpoints::Endpoints;
 pub use extra::{ASSOCIATION_NAMES, ASSOCIATION_WIDTHS, Association, Extra, Raw, is_typed};
-pub use extras::{Associations, Extras};
 pub use fault::{EncodeFault, SetFault, SetWhy};
 pub use fields::{
     CONFIGURATION_NAMES, CONFIGURATION_WIDTHS, ENDPOINT_NAMES, ENDPOINT_WIDTHS, INTERFACE_NAMES,
     INTERFACE_WIDTHS,
 };
-pub use owner::Owner;
+pub use owner::{Associations, Endpoints, Extras, Owner};
 pub use tree::{Configuration, Endpoint, SetKind, Setting};
 pub use usb_fields::{Direction, Sequence};
-pub use whole_set::read_set;

@@ -3,8 +3,7 @@ ghost use Rattle.std.specs.Prelude.{◌≡◌, ◌≤◌, ◌+◌, ◌++◌, len
 ghost use Rattle.std.specs.List.{flat_map, list_any};
 ghost use Rattle.usb_set.specs.Descriptors.{configuration_descriptor, descriptor_bytes};
 ghost use Rattle.usb_set.specs.Layout.{has_long_descriptor, set_bytes};
-ghost use Rattle.usb_set.specs.inside.Trees.{endpoint_bytes, extra_bytes, is_endpoint_long, is_extra_long, is_setting_long, is_tree_long, setting_bytes, tree_bytes};
-ghost use Rattle.usb_set.specs.inside.Writing.{HasRoom, Puts};
+ghost use Rattle.usb_set.specs.inside.Trees.{endpoint_bytes, extra_bytes, is_endpoint_long, is_extra_long, is_setting_long, is_tree_long, setting_bytes, tree_bytes, HasRoom, Puts};
 
 use crate::extra::Extra;
 use crate::tree::{Configuration, Endpoint, Setting};

@@ -1,6 +1,9 @@
 //! What a configuration set says, as a tree of plain data.
+ghost use Rattle.std.specs.Prelude.{◌≡◌};
+ghost use Rattle.usb_set.specs.Descriptors.{type_number};
+
 use crate::extra::Extra;
-use usb_fields::Sequence;
+use usb_fields::{Sequence, descriptor_type};
 
 /// Which descriptor a set begins with.
 #[derive(Clone, Copy, Debug, PartialEq, Eq, Hash)]
@@ -88,4 +91,20 @@ pub struct Configuration {
     pub extras: Sequence<Extra>,
     /// The interfaces at their alternate settings, in order.
     pub settings: Sequence<Setting>,
+}
+
+impl SetKind {
+    /// bDescriptorType of the set's first descriptor (USB 2.0, table 9-5).
+    ///
+    /// ```rust
+    /// assert_eq!(rt; SetKind::OtherSpeed.descriptor_type(), descriptor_type::OTHER_SPEED_CONFIGURATION);
+    /// ```
+    pub fn descriptor_type(self) -> u8
+        ensures { result ≡ type_number self }
+    {
+        match self {
+            SetKind::Configuration => descriptor_type::CONFIGURATION,
+            SetKind::OtherSpeed => descriptor_type::OTHER_SPEED_CONFIGURATION,
+        }
+    }
 }

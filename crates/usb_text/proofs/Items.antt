@@ -1,6 +1,6 @@
 -- How the items of a text go on.
 use Rattle.std.proofs.Common.{◌≡◌, ℕ, ◌++◌, List, [], Option, Some, None, append_assoc, append-nil, subst, sym}
-use Rattle.usb_text.specs.declared.form.Form.{Form}
+use Rattle.usb_text.specs.declared.hex_text.Form.{Form}
 use Rattle.usb_text.specs.HexText.{Reads, ReadsText, bytes_of, ends, form_of, goes_on, in_line, item}
 
 -- the bytes of what is left go on those of the text

@@ -5,8 +5,8 @@ use Rattle.std.proofs.lemmas.Bool.{and_parts, cases_lt}
 use Rattle.std.proofs.lemmas.List.Folds.{list_all-append}
 use Rattle.hex.specs.Hex.{encode_lower, encode_with, lower_digits}
 use Rattle.usb_fields.specs.Bytes.{AreBytes}
-use Rattle.usb_text.specs.Units.{is_plain, two_bytes, written_unit}
-use Rattle.usb_text.specs.Printable.{is_printable}
+use Rattle.usb_text.specs.Characters.{is_plain, two_bytes, written_unit}
+use Rattle.usb_text.specs.Lines.{is_printable}
 
 -- a test of the numbers below n, which computes
 abbrev pub all_below : (ℕ → Bool) → ℕ → Bool

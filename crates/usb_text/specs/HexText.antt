@@ -5,10 +5,10 @@
 -- their characters. Then only the bytes are read.
 use Rattle.std.specs.Prelude.{◌≡◌, ℕ, ◌+◌, ◌-◌, ◌*◌, ◌<◌, ◌==◌, ◌||◌, ◌&&◌, ◌⊎◌, Bool, true, false, not, nat_le, if◌then◌else◌, List, [], ◌∷◌, ◌++◌, length, take, slice_index, Option, Some, None, option_map, count_by}
 use Rattle.hex.specs.Hex.{hex_digit_value, is_hex_digit}
-use Rattle.usb_text.specs.declared.form.Form.{Form}
-use Rattle.usb_text.specs.declared.form.Form.TheVariants.{Plain, Colons, Spaces}
-use Rattle.usb_text.specs.declared.fault.HexFault.{HexFault}
-use Rattle.usb_text.specs.declared.fault.HexFault.TheVariants as faults
+use Rattle.usb_text.specs.declared.hex_text.Form.{Form}
+use Rattle.usb_text.specs.declared.hex_text.Form.TheVariants.{Plain, Colons, Spaces}
+use Rattle.usb_text.specs.declared.hex_text.HexFault.{HexFault}
+use Rattle.usb_text.specs.declared.hex_text.HexFault.TheVariants as faults
 
 abbrev pub is_zero : ℕ → Bool
 is_zero c = c == 48
@@ -157,3 +157,15 @@ pub record HexFaulty (text : List ℕ) (fault : HexFault) : Type 0 where
 -- why a text is not read: so it is, or out of memory
 abbrev pub HexRefused : List ℕ → HexFault → Type 0
 HexRefused text fault = (fault ≡ faults.Memory) ⊎ HexFaulty text fault
+
+-- What holds of every hexadecimal text.
+
+-- its first byte is not 18, and its second one neither 2 nor 7
+pub record IsApart (text : List ℕ) : Type 0 where
+  pub device : slice_index text 0 ≡ 18 → ⊥
+  pub configuration : slice_index text 1 ≡ 2 → ⊥
+  pub other_speed : slice_index text 1 ≡ 7 → ⊥
+
+-- so it is of every hexadecimal text
+abbrev pub IsNoDescriptor : Type 0
+IsNoDescriptor = (text bytes : List ℕ) → HexText text bytes → IsApart text

@@ -1,10 +1,6 @@
 pub mod Numbers
-pub mod Columns
-pub mod Printable
+pub mod Lines
 pub mod Output
-pub mod Units
-pub mod Shown
 pub mod Characters
 pub mod HexText
-pub mod Laws
 pub mod inside

@@ -1,14 +1,25 @@
-//! Units as characters.
+//! Units of strings as characters.
 ghost use Rattle.std.specs.Prelude.{◌≡◌, ◌++◌, ◌&&◌, true, OnOk};
+ghost use Rattle.usb_text.specs.Characters.{is_plain, one_words, pair_words, shown_words, units_in, units_words};
 ghost use Rattle.std.specs.Char.{encode_utf8};
 ghost use Rattle.std.specs.Char.Utf16.{is_high_surrogate, is_low_surrogate};
-ghost use Rattle.usb_text.specs.Characters.{one_words, pair_words, shown_words, units_in, units_words};
 
-use crate::escaped::{put_escaped, put_escaped_in, put_unit};
-use crate::shown::shown;
+use crate::shown::{put_escaped, put_escaped_in, put_unit, shown};
 use crate::text::Text;
 use std::alloc::AllocError;
 use usb_fields::after;
+
+/// Whether a unit is written as the character that it is: a printable one of ASCII that is neither the
+/// quote, which ends a string, nor the backslash, which begins an escape.
+///
+/// ```rust
+/// assert_eq!(rt; (is_plain(0x41), is_plain(0x22)), (true, false));
+/// ```
+pub fn is_plain(unit: u16) -> bool
+    ensures { result ≡ is_plain unit }
+{
+    (0x20..=0x7e).contains(&unit) && unit != 0x22 && unit != 0x5c
+}
 
 /// Puts the units of a string, with `utf8` those beyond ASCII as characters, but for what could steer a terminal.
 ///

@@ -3,8 +3,8 @@ ghost use Rattle.std.specs.Prelude.{◌≡◌, ◌≤◌, length};
 ghost use Rattle.hex.specs.Hex.{is_hex_digit};
 ghost use Rattle.usb_text.specs.HexText.{after_all, after_colon, after_offset, has_characters, in_line, is_in_line, is_offset, is_space, is_zero};
 
-use crate::digit::digit;
-use crate::form::Form;
+use crate::hex_text::Form;
+use crate::numbers::digit;
 
 /// What is left after all leading zeros.
 #[tactic(auto, unfolding(crate::specs::HexText::after_all))]

@@ -1,12 +1,139 @@
-//! Hexadecimal texts, read.
+//! Hexadecimal texts, read: their forms and items, and why a text is none.
+ghost use Rattle.std.specs.Prelude.{◌≡◌, ◌+◌, ◌≤◌, count_by, length};
+ghost use Rattle.usb_text.specs.HexText.{column_after, fault_at, is_line_feed};
+ghost use Rattle.std.specs.Prelude.{◌≡◌};
+ghost use Rattle.usb_text.specs.HexText.{form_by, form_of, is_zero};
+ghost use Rattle.std.specs.Prelude.{◌≡◌, ◌<◌, IfSome, MatchOption, None, Some, length};
+ghost use Rattle.usb_text.specs.HexText.{is_gap, is_mark, item, plain_item};
 ghost use Rattle.std.specs.Prelude.{◌≡◌, ◌≤◌, ◌++◌, IfErr, IfOk, OnOk, length};
 ghost use Rattle.usb_text.specs.HexText.{HexFaulty, HexRefused, HexText, ReadsText, bytes_of};
 
-use crate::column::in_line;
-use crate::fault::{HexFault, fault_at};
-use crate::form::form_of;
-use crate::item::item;
+use crate::column::{after_line, after_zeros, has_characters, in_line, is_offset};
+use crate::numbers::byte_of;
 use std::alloc::Global;
+
+/// Why a text has no bytes.
+#[derive(Clone, Copy, Debug, PartialEq, Eq, Hash)]
+pub enum HexFault {
+    /// It is not hexadecimal: the line and the column, from 1, of the first character that begins nothing, or of its
+    /// end where it has no byte.
+    Text { line: usize, column: usize },
+    /// Out of memory.
+    Memory,
+}
+
+/// The fault at what is left of a text.
+pub(crate) fn fault_at(text: &[u8], left: &[u8]) -> HexFault
+    requires { length left.now ≤ length text.now }
+    ensures { result ≡ fault_at text.now left.now }
+{
+    let before = &text[..text.len() - left.len()];
+    HexFault::Text {
+        line: line_after(before),
+        column: column_after(before),
+    }
+}
+
+/// The line of what is after a text, from 1.
+fn line_after(text: &[u8]) -> usize
+    ensures { result ≡ 1 + count_by is_line_feed text.now }
+{
+    let mut line = 1;
+    for c in text {
+        if *c == b'\n' {
+            line += 1;
+        }
+    }
+    line
+}
+
+/// The column of what is after a text, from 1.
+#[tactic(auto, unfolding(crate::specs::HexText::column_after))]
+fn column_after(text: &[u8]) -> usize
+    ensures { result ≡ column_after 1 text.now }
+{
+    let mut column = 1;
+    for c in text {
+        column = if *c == b'\n' { 1 } else { column + 1 };
+    }
+    column
+}
+
+/// How the lines of a text are laid out.
+#[derive(Clone, Copy, Debug, PartialEq, Eq, Hash)]
+pub enum Form {
+    /// Without columns.
+    Plain,
+    /// In columns with a colon after each offset, as `xxd` writes them.
+    Colons,
+    /// In columns with spaces after each offset, as `hexdump -C` and Wireshark write them.
+    Spaces,
+}
+
+/// The form of a text.
+#[tactic(auto, unfolding(crate::specs::HexText::form_of))]
+pub(crate) fn form_of(text: &[u8]) -> Form
+    ensures { result ≡ form_of text.now }
+{
+    let rest = after_zeros(text);
+    if is_offset(text, rest) {
+        form_by(rest)
+    } else {
+        Form::Plain
+    }
+}
+
+/// The form that the end of an offset says.
+fn form_by(rest: &[u8]) -> Form
+    ensures { result ≡ form_by rest.now }
+{
+    match rest {
+        [b':', ..] => Form::Colons,
+        [b' ', b' ', ..] => Form::Spaces,
+        _ => Form::Plain,
+    }
+}
+
+/// The item at the start of a text: the byte that it is, if it is one, and what is left.
+#[tactic(auto, unfolding(crate::specs::HexText::item, crate::specs::HexText::plain_item))]
+pub(crate) fn item(form: Form, text: &[u8]) -> Option<(Option<u8>, &[u8])>
+    ensures is { MatchOption result (item form text.now ≡ None) (λ p. item form text.now ≡ Some (p.0, p.1.now)) }
+    ensures less { IfSome result (λ p. length p.1.now < length text.now) }
+{
+    match text {
+        [_, rest @ ..] if has_characters(form, text) => Some((None, after_line(rest))),
+        _ => plain_item(form, text),
+    }
+}
+
+/// The item at the start of a text that is in no column of characters.
+#[tactic(auto, unfolding(crate::specs::HexText::plain_item))]
+fn plain_item(form: Form, text: &[u8]) -> Option<(Option<u8>, &[u8])>
+    ensures is { MatchOption result (plain_item form text.now ≡ None) (λ p. plain_item form text.now ≡ Some (p.0, p.1.now)) }
+    ensures less { IfSome result (λ p. length p.1.now < length text.now) }
+{
+    match text {
+        [b'\n', rest @ ..] => Some((None, in_line(form, rest))),
+        [c, rest @ ..] if is_gap(*c) => Some((None, rest)),
+        [c, d, rest @ ..] if is_mark(*c, *d) => Some((None, rest)),
+        [c, d, rest @ ..] => Some((Some(byte_of(*c, *d)?), rest)),
+        _ => None,
+    }
+}
+
+/// Whether the character is white space or a comma.
+fn is_gap(c: u8) -> bool
+    ensures { result ≡ is_gap c }
+{
+    matches!(c, b'\t' | b'\n' | b'\r' | b' ' | b',')
+}
+
+/// Whether the characters are `0x` or `\x`.
+fn is_mark(c: u8, d: u8) -> bool
+    ensures { result ≡ is_mark c d }
+{
+    (c == b'0' || c == b'\\') && d == b'x'
+}
 
 /// The bytes of a hexadecimal text, one at least. Digits have either case. White space and commas may be between two
 /// bytes, and `0x` or `\x` before one. Offsets and characters in the columns of `xxd`, `hexdump -C` and Wireshark are

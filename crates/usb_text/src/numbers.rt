@@ -1,9 +1,33 @@
-//! Numbers in words.
+//! Numbers in words, and hexadecimal digits of either case.
+ghost use Rattle.std.specs.Prelude.{◌≡◌};
+ghost use Rattle.hex.specs.Hex.{hex_digit_value};
+ghost use Rattle.usb_text.specs.HexText.{byte_of};
 ghost use Rattle.std.specs.Prelude.{◌≡◌, ◌++◌, codes, OnOk};
 ghost use Rattle.usb_text.specs.Numbers.{byte_code, count, release, short_byte, word_code};
 
 use crate::text::Text;
 use std::alloc::AllocError;
+
+/// The value of a digit.
+pub(crate) fn digit(c: u8) -> Option<u8>
+    ensures { result ≡ hex_digit_value c }
+{
+    match c {
+        b'A'..=b'F' => Some(c - 55),
+        b'a'..=b'f' => Some(c - 87),
+        b'0'..=b'9' => Some(c - 48),
+        _ => None,
+    }
+}
+
+/// The byte of two digits.
+pub(crate) fn byte_of(high: u8, low: u8) -> Option<u8>
+    ensures { result ≡ byte_of high low }
+{
+    let high = digit(high)?;
+    let low = digit(low)?;
+    Some(high * 16 + low)
+}
 
 /// Puts a number and what it counts: `1 byte`, `2 bytes`.
 #[inline(never)]

@@ -1,7 +1,14 @@
-//! The characters beyond ASCII that are shown.
+//! The characters beyond ASCII that are shown, and units as a listing has them.
 ghost use Rattle.std.specs.Prelude.{◌≡◌, true, false, MatchOption};
 ghost use Rattle.std.specs.List.{list_any};
-ghost use Rattle.usb_text.specs.Shown.{has_code, hidden, is_shown};
+ghost use Rattle.usb_text.specs.Characters.{has_code, hidden, is_shown};
+ghost use Rattle.std.specs.Prelude.{◌≡◌, ◌++◌, OnOk};
+ghost use Rattle.std.specs.List.{flat_map};
+ghost use Rattle.usb_text.specs.Characters.{written_unit, units_in};
+
+use crate::characters::is_plain;
+use crate::text::Text;
+use std::alloc::AllocError;
 
 /// Code points from the first to the last.
 #[derive(Clone, Copy, Debug, PartialEq, Eq, Hash)]
@@ -52,7 +59,7 @@ fn is_hidden(code: u32) -> bool
 }
 
 /// Whether a code point is shown as its character.
-#[tactic(auto, unfolding(crate::specs::Shown::is_shown))]
+#[tactic(auto, unfolding(crate::specs::Characters::is_shown))]
 fn is_shown(code: u32) -> bool
     ensures { result ≡ is_shown code }
 {
@@ -60,7 +67,7 @@ fn is_shown(code: u32) -> bool
 }
 
 /// The character of a code point, if it is shown.
-#[tactic(auto, unfolding(crate::specs::Shown::is_shown))]
+#[tactic(auto, unfolding(crate::specs::Characters::is_shown))]
 pub(crate) fn shown(code: u32) -> Option<char>
     ensures { MatchOption result (is_shown code ≡ false) (λ c. (c ≡ code) × (is_shown code ≡ true)) }
 {
@@ -69,4 +76,39 @@ pub(crate) fn shown(code: u32) -> Option<char>
     } else {
         None
     }
+}
+
+/// Puts units, each as in a listing.
+pub(crate) fn put_escaped(text: &mut Text, units: &[u16]) -> Result<(), AllocError>
+    ensures { OnOk result (text.new ≡ text.old ++ flat_map written_unit units.now) }
+{
+    for unit in units {
+        put_unit(text, *unit)?;
+    }
+    Ok(())
+}
+
+/// Puts the units of bytes, each as in a listing.
+pub(crate) fn put_escaped_in(text: &mut Text, b: &[u8]) -> Result<(), AllocError>
+    ensures { OnOk result (text.new ≡ text.old ++ flat_map written_unit (units_in b.now)) }
+{
+    match b {
+        [low, high, rest @ ..] => {
+            put_unit(text, u16::from_le_bytes([*low, *high]))?;
+            put_escaped_in(text, rest)
+        }
+        _ => Ok(()),
+    }
+}
+
+/// Puts a unit of a string: its character, or a backslash and four digits.
+#[tactic(auto, unfolding(crate::specs::Characters::written_unit))]
+pub(crate) fn put_unit(text: &mut Text, unit: u16) -> Result<(), AllocError>
+    ensures { OnOk result (text.new ≡ text.old ++ written_unit unit) }
+{
+    if is_plain(unit) {
+        return text.put_bytes(&[unit as u8]);
+    }
+    text.put("\\")?;
+    text.put_digits(&unit.to_be_bytes())
 }

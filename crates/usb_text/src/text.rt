@@ -1,7 +1,7 @@
 //! A text that grows at its end.
 ghost use Rattle.std.specs.Prelude.{◌≡◌, ◌≤◌, ◌+◌, ◌-◌, ◌*◌, ◌<◌, [], ◌∷◌, ◌++◌, drop, length, replicate, take, ◌==◌, IfSome, OnOk};
 ghost use Rattle.std.specs.Fmt.{decimal};
-ghost use Rattle.usb_text.specs.Columns.{column, filling};
+ghost use Rattle.usb_text.specs.Lines.{column, filling};
 ghost use Rattle.hex.specs.Hex.{encode_lower};
 
 use itoa::Buffer;

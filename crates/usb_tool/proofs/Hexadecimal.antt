@@ -3,8 +3,8 @@ use Rattle.std.proofs.Common.{◌≡◌, ℕ, Bool, true, false, List, [], lengt
 use Rattle.std.specs.Prelude.{IfErr, IfOk}
 use Rattle.std.specs.Io.KnownBytes.{Appends}
 use Rattle.usb_text.specs.HexText.{HexFaulty, HexRefused, HexText}
-use Rattle.usb_text.specs.declared.fault.HexFault.{HexFault}
-use Rattle.usb_text.specs.declared.fault.HexFault.TheVariants as hexes
+use Rattle.usb_text.specs.declared.hex_text.HexFault.{HexFault}
+use Rattle.usb_text.specs.declared.hex_text.HexFault.TheVariants as hexes
 use Rattle.usb_explain.specs.declared.manner.Manner.{Manner}
 use Rattle.usb_text.specs.Output.{Held}
 use Rattle.usb_text.proofs.Pages.{keeps_refl}

@@ -6,16 +6,15 @@ use Rattle.std.specs.Io.KnownBytes.{Consumes}
 use Rattle.usb_set.specs.declared.fault.SetFault.{SetFault}
 use Rattle.usb_set.specs.declared.fault.SetWhy.{SetWhy}
 use Rattle.usb_set.specs.declared.fault.SetWhy.TheVariants as whys
-use Rattle.usb_set.specs.Decoding.{Decoding, gathers, has, refused}
+use Rattle.usb_set.specs.Decoding.{Decoding, gathers, has, refused, Answers, Finishes, WantsMemory}
 use Rattle.usb_set.specs.declared.tree.Configuration.{Configuration}
 use Rattle.usb_set.specs.Faults.{Begins, Faulty}
 use Rattle.usb_set.specs.Layout.{Layout}
-use Rattle.usb_set.specs.Feeding.{Answers, Finishes, WantsMemory}
 use Rattle.usb_set.proofs.Sound.{Faulty-more}
 use Rattle.usb_file.proofs.Inputs.{begins_whole, front_of}
-use Rattle.usb_file.specs.Inputs.{GoesOn, HasFault, is_one_set}
+use Rattle.usb_file_data.specs.Inputs.{GoesOn, HasFault, is_one_set}
 use Rattle.usb_tool.specs.Faults.{fault_by_why, fault_of_set}
-use Rattle.usb_tool.specs.Input.{Left, ReadFails, ReadsSome}
+use Rattle.usb_tool.specs.Endings.{Left, ReadFails, ReadsSome}
 use Rattle.usb_tool.specs.Inputs.{SetOrFileShows}
 use Rattle.usb_tool.specs.inside.Intake.{Fed, IsIntake, ReadsSoFar, StopsEarly}
 use Rattle.usb_tool.specs.inside.Taking.{IsNone}

@@ -3,14 +3,14 @@ use Rattle.std.proofs.Common.{◌≡◌, ◌≢◌, ℕ, ◌⊎◌, true, false,
 use Rattle.usb_set.specs.declared.fault.SetFault.{SetFault}
 use Rattle.usb_set.specs.declared.fault.SetWhy.{SetWhy}
 use Rattle.usb_set.specs.declared.fault.SetWhy.TheVariants as whys
-use Rattle.usb_set.specs.Feeding.{WantsMemory}
-use Rattle.usb_file.specs.declared.fault.FileFault.{FileFault}
-use Rattle.usb_file.specs.declared.fault.FileWhy.{FileWhy}
-use Rattle.usb_file.specs.declared.fault.FileWhy.TheVariants as files
-use Rattle.usb_file.specs.declared.input_fault.InputFault.{InputFault}
-use Rattle.usb_file.specs.declared.input_fault.InputFault.TheVariants as inputs
-use Rattle.usb_file.specs.FileFaults.{FileFaulty}
-use Rattle.usb_file.specs.Inputs.{DeviceRefused, HasFault, InputFaulty, InputRefused, is_one_set}
+use Rattle.usb_set.specs.Decoding.{WantsMemory}
+use Rattle.usb_file_data.specs.declared.fault.FileFault.{FileFault}
+use Rattle.usb_file_data.specs.declared.fault.FileWhy.{FileWhy}
+use Rattle.usb_file_data.specs.declared.fault.FileWhy.TheVariants as files
+use Rattle.usb_file_data.specs.declared.fault.InputFault.{InputFault}
+use Rattle.usb_file_data.specs.declared.fault.InputFault.TheVariants as inputs
+use Rattle.usb_file_data.specs.FileFaults.{FileFaulty}
+use Rattle.usb_file_data.specs.Inputs.{DeviceRefused, HasFault, InputFaulty, InputRefused, is_one_set}
 use Rattle.usb_text.specs.Output.{Held}
 use Rattle.usb_tool.specs.Endings.{Extent, Refusal, Refuses, Telling}
 use Rattle.usb_tool.specs.Faults.{fault_by_why, fault_of_input, file_fault_by_why}

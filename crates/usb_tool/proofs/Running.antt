@@ -3,7 +3,7 @@ use Rattle.std.proofs.Common.{◌≡◌, ℕ, Result, Ok, Err, inl, inr, sym, su
 use Rattle.std.specs.Prelude.{IfErr, IfOk}
 use Rattle.usb_text.specs.Output.{Held}
 use Rattle.usb_tool.specs.Faults.{status_of}
-use Rattle.usb_tool.specs.Input.{Left}
+use Rattle.usb_tool.specs.Endings.{Left}
 use Rattle.usb_tool.specs.Runs.{Ends, Failure, TellsOutcome, Work}
 use Rattle.usb_tool.specs.declared.fault.ToolFault.{ToolFault}
 

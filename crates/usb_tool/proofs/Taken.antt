@@ -1,21 +1,20 @@
 -- On what a command takes its input for, and what it tells of that.
 use Rattle.std.proofs.Common.{◌≡◌, ◌≢◌, ◌∙◌, ℕ, ◌+◌, List, Result, Ok, Err, inl, inr, refl, sym, subst}
 use Rattle.std.specs.Prelude.{IfErr, IfOk, IsErrAnd}
-use Rattle.usb_file.specs.FileFaults.{FileFaulty, ReadRefused}
-use Rattle.usb_file.specs.Inputs.{InputFaulty, InputRefused}
-use Rattle.usb_file.specs.declared.fault.FileFault.{FileFault}
-use Rattle.usb_file.specs.declared.fault.FileWhy.{FileWhy}
-use Rattle.usb_file.specs.declared.fault.FileWhy.TheVariants as files
-use Rattle.usb_file.specs.declared.input_fault.InputFault.{InputFault}
-use Rattle.usb_file.specs.declared.input_fault.InputFault.TheVariants as inputs
+use Rattle.usb_file_data.specs.FileFaults.{FileFaulty, ReadRefused}
+use Rattle.usb_file_data.specs.Inputs.{InputFaulty, InputRefused}
+use Rattle.usb_file_data.specs.declared.fault.FileFault.{FileFault}
+use Rattle.usb_file_data.specs.declared.fault.FileWhy.{FileWhy}
+use Rattle.usb_file_data.specs.declared.fault.FileWhy.TheVariants as files
+use Rattle.usb_file_data.specs.declared.fault.InputFault.{InputFault}
+use Rattle.usb_file_data.specs.declared.fault.InputFault.TheVariants as inputs
 use Rattle.usb_file_data.specs.File.{File, file_bytes}
 use Rattle.usb_file_data.specs.FindingLine.{check_text}
 use Rattle.usb_file_data.specs.Findings.{input_findings}
 use Rattle.usb_file_data.specs.declared.file.DescriptorFile.{DescriptorFile}
-use Rattle.usb_file_data.specs.declared.input.Input.{Input}
+use Rattle.usb_file_data.specs.declared.file.Input.{Input}
 use Rattle.usb_file_data.specs.declared.laws.TheConstants.{FILE_LIMIT}
-use Rattle.usb_listing.specs.CommentedListings.{CommentedFaulty, CommentedRefused}
-use Rattle.usb_listing.specs.Comments.{uncommented}
+use Rattle.usb_listing.specs.Comments.{CommentedFaulty, CommentedRefused, uncommented}
 use Rattle.usb_listing.specs.Listings.{ListFaulty, ListRefused}
 use Rattle.usb_listing.specs.declared.fault.ListFault.{ListFault}
 use Rattle.usb_listing.specs.declared.fault.ListWhy.{ListWhy}
@@ -23,13 +22,10 @@ use Rattle.usb_listing.specs.declared.fault.ListWhy.TheVariants as lists
 use Rattle.usb_listing.specs.declared.laws.TheConstants.{LISTING_LIMIT}
 use Rattle.usb_text.specs.Output.{Held}
 use Rattle.usb_text.proofs.Pages.{keeps_refl}
-use Rattle.usb_tool.specs.Builds.{Listing, RefusesListing, TellsBytes}
-use Rattle.usb_tool.specs.Checks.{TellsFindings, check_status}
-use Rattle.usb_tool.specs.Endings.{AppendsNone, Extent, Fails, Refusal, Refuses, Telling, Told}
+use Rattle.usb_tool.specs.Commands.{Listing, RefusesListing, TellsBytes, TellsFindings, check_status, TellsListing, input_lines}
+use Rattle.usb_tool.specs.Endings.{AppendsNone, Extent, Fails, Refusal, Refuses, Telling, Told, Left, ReadsAll}
 use Rattle.usb_tool.specs.Faults.{fault_of_file, fault_of_input, fault_of_list, file_fault_by_why, list_fault_by_why}
-use Rattle.usb_tool.specs.Input.{Left, ReadsAll}
 use Rattle.usb_tool.specs.Inputs.{Faulty, Form, RefusesInput}
-use Rattle.usb_tool.specs.Shows.{TellsListing, input_lines}
 use Rattle.usb_tool.specs.inside.Taking.{IsNone, TakesNone}
 use Rattle.usb_tool.specs.inside.Telling.{EndsWith, IsCut}
 use Rattle.usb_tool.specs.declared.fault.ToolFault.{ToolFault}

@@ -2,26 +2,24 @@
 use Rattle.std.proofs.Common.{◌≡◌, ◌≢◌, ℕ, Bool, true, false, List, [], ◌∷◌, ◌++◌, ◌<◌, length, length-append, arith, Some, Result, Ok, Err, refl, sym, ap, ◌∙◌, inl, inr, subst, append_assoc}
 use Rattle.std.specs.Prelude.{IfErr, IfOk}
 use Rattle.std.specs.Io.KnownBytes.{Appends}
-use Rattle.usb_fields.specs.declared.speed.Speed.{Speed}
+use Rattle.usb_fields.specs.declared.packet.Speed.{Speed}
 use Rattle.usb_file_data.specs.declared.file.DescriptorFile.{DescriptorFile}
-use Rattle.usb_file.specs.Dumps.{IsNoDump}
-use Rattle.usb_file.specs.FileFaults.{FileFaulty, ReadRefused}
-use Rattle.usb_file.specs.Inputs.{DeviceRefused}
-use Rattle.usb_file.specs.declared.fault.FileFault.{FileFault}
-use Rattle.usb_file.specs.declared.fault.FileWhy.{FileWhy}
-use Rattle.usb_file.specs.declared.fault.FileWhy.TheVariants as files
+use Rattle.usb_file_data.specs.Inputs.{IsNoDump, DeviceRefused}
+use Rattle.usb_file_data.specs.FileFaults.{FileFaulty, ReadRefused}
+use Rattle.usb_file_data.specs.declared.fault.FileFault.{FileFault}
+use Rattle.usb_file_data.specs.declared.fault.FileWhy.{FileWhy}
+use Rattle.usb_file_data.specs.declared.fault.FileWhy.TheVariants as files
 use Rattle.usb_text.specs.declared.output.OutFault.{OutFault}
 use Rattle.usb_text.specs.declared.output.OutFault.TheVariants as outs
 use Rattle.usb_text.specs.Output.{AppendsLess, Held}
 use Rattle.usb_text.proofs.Pages.{appends_more, appends_nothing, keeps_refl, less_is_front, stopped}
 use Rattle.usb_device.specs.Accepted.{Accepted, Refuses, refusal_of}
-use Rattle.usb_device.specs.declared.fault.DescriptionFault.{DescriptionFault}
-use Rattle.usb_device.specs.declared.fault.DescriptionFault.TheVariants as refusals
-use Rattle.usb_bus.specs.declared.run.Run.{Run}
+use Rattle.usb_device.specs.declared.acceptance.DescriptionFault.{DescriptionFault}
+use Rattle.usb_device.specs.declared.acceptance.DescriptionFault.TheVariants as refusals
+use Rattle.usb_bus.specs.declared.enumeration.Run.{Run}
 use Rattle.usb_host.specs.declared.step.Trouble.{Trouble}
-use Rattle.usb_tool.specs.Enumerations.{Conditions, IsNotTaken, IsRun, IsTaken, RefusesToEnumerate, StopsShort, Tells, WritesResult, WritesResultFront, run_status, run_text}
+use Rattle.usb_tool.specs.Enumerations.{Conditions, IsNotTaken, IsRun, IsTaken, RefusesToEnumerate, StopsShort, Tells, WritesResult, WritesResultFront, run_status, run_text, refused_line, success_line, trouble_line}
 use Rattle.usb_tool.specs.Faults.{fault_of_file, fault_of_output, file_fault_by_why}
-use Rattle.usb_tool.specs.ResultLines.{refused_line, success_line, trouble_line}
 use Rattle.usb_tool.specs.inside.Telling.{EndsWith, IsCutShort}
 use Rattle.usb_tool.specs.declared.fault.ToolFault.{ToolFault}
 use Rattle.usb_tool.specs.declared.fault.ToolFault.TheVariants as faults

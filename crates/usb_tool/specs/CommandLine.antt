@@ -6,11 +6,11 @@ use Rattle.std.specs.Global.{Global}
 use Rattle.clap.specs.Words.{App, Row, Rule, Text, first_of, new_app, new_rule, with_rule, with_subcommand}
 use Rattle.clap.specs.declared.builder.action.ArgAction.TheVariants as actions
 use Rattle.clap.specs.declared.builder.value_parser.ValueParser.TheVariants as parsers
-use Rattle.usb_tool.specs.declared.explain_options.Explaining.{Explaining}
+use Rattle.usb_tool.specs.declared.manner.Explaining.{Explaining}
 use Rattle.usb_tool.specs.declared.command_line.Line.{Line}
 use Rattle.usb_tool.specs.declared.command_line.Line.TheVariants as lines
-use Rattle.usb_tool.specs.declared.enumerate_options.EnumerateFlags.{EnumerateFlags}
-use Rattle.usb_tool.specs.declared.enumerate_options.Options.{Options}
+use Rattle.usb_tool.specs.declared.settings.EnumerateFlags.{EnumerateFlags}
+use Rattle.usb_tool.specs.declared.settings.Options.{Options}
 
 -- an option of this name, with one value
 abbrev pub valued_rule : Text → Rule

@@ -1,10 +1,42 @@
--- How a command ends that reads all of its input before it writes, and what is written then of the text that it tells.
-use Rattle.std.specs.Prelude.{ℕ, ◌⊎◌, List}
-use Rattle.std.specs.Io.KnownBytes.{Appends, Keeps}
-use Rattle.usb_text.specs.Output.{AppendsFront, Held}
-use Rattle.usb_tool.specs.Input.{Left, ReadFails, ReadsAll}
+-- What is read of an input, and how a command ends that reads all of it before it writes.
+use Rattle.std.specs.Prelude.{◌≡◌, ℕ, ◌+◌, ◌≤◌, List, length, Option, ◌⊎◌}
+use Rattle.std.specs.Io.KnownBytes.{Consumes, IsAtEnd, Appends, Keeps}
 use Rattle.usb_tool.specs.declared.fault.ToolFault.{ToolFault}
 use Rattle.usb_tool.specs.declared.fault.ToolFault.TheVariants as faults
+use Rattle.usb_text.specs.Output.{AppendsFront, Held}
+
+-- What is read of an input, of which a claim is made where the reader tells its bytes.
+
+-- the bytes that a reader has left, where it tells them
+abbrev pub Left : Type 0
+Left = Option (List ℕ)
+
+-- the reader gave these bytes and has no more, and they are within the limit
+pub record ReadsAll (limit : ℕ) (old new : Left) (bytes : List ℕ) : Type 0 where
+  pub read : Consumes old new bytes
+  pub ended : IsAtEnd new
+  pub within : length bytes ≤ limit
+
+-- the reader gave some bytes, within the limit
+pub record ReadsSome (limit : ℕ) (old new : Left) : Type 0 where
+  pub bytes : List ℕ
+  pub read : Consumes old new bytes
+  pub within : length bytes ≤ limit
+
+-- the reader gave one byte over the limit, and no more was read
+pub record ReadsMore (limit : ℕ) (old new : Left) : Type 0 where
+  pub bytes : List ℕ
+  pub read : Consumes old new bytes
+  pub above : length bytes ≡ limit + 1
+
+-- Reading up to a limit ends with more bytes than that, by a failed read, or out of memory.
+abbrev pub ReadFails : ℕ → Left → Left → ToolFault → Type 0
+ReadFails limit old new faults.TooLarge = ReadsMore limit old new
+ReadFails limit old new faults.Read = ReadsSome limit old new
+ReadFails limit old new faults.Memory = ReadsSome limit old new
+ReadFails limit old new _ = ⊥
+
+-- How a command ends that reads all of its input before it writes, and what is written then of the text that it tells.
 
 -- all was read, and this was done with it
 pub record Succeeds (limit : ℕ) (does : List ℕ → Held → Held → Type 0) (from to : Left) (held holds : Held) : Type 0 where

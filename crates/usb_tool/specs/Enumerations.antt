@@ -1,32 +1,54 @@
 -- What `enumerate` does to its input and its output.
-use Rattle.std.specs.Prelude.{◌≡◌, ℕ, ◌⊎◌, Bool, true, false, List, [], ◌++◌, Some, Result, Ok, Err}
+use Rattle.std.specs.Prelude.{ℕ, List, [], ◌∷◌, ◌++◌, codes, ◌≡◌, ◌⊎◌, Bool, true, false, Some, Result, Ok, Err}
+use Rattle.std.specs.Fmt.{decimal}
+use Rattle.usb_file_data.specs.FindingLine.{finding_line}
+use Rattle.usb_host.specs.Why.{why_number, step_text}
+use Rattle.usb_device.specs.Accepted.{fault_number, Accepted, refusal_of}
+use Rattle.usb_device.specs.declared.acceptance.DescriptionFault.{DescriptionFault}
+use Rattle.usb_device.specs.declared.acceptance.DescriptionFault.TheVariants as refusals
+use Rattle.usb_host.specs.declared.step.Trouble.{Trouble}
+use Rattle.usb_bus.specs.declared.enumeration.Run.{Run}
 use Rattle.std.specs.Io.KnownBytes.{Appends, Keeps}
-use Rattle.usb_fields.specs.declared.speed.Speed.{Speed}
+use Rattle.usb_fields.specs.declared.packet.Speed.{Speed}
 use Rattle.usb_file_data.specs.declared.file.DescriptorFile.{DescriptorFile}
 use Rattle.usb_file_data.specs.File.{File}
 use Rattle.usb_file.specs.Completed.{IsCompleted}
-use Rattle.usb_file.specs.Dumps.{IsNoDump}
-use Rattle.usb_file.specs.FileFaults.{FileFaulty}
-use Rattle.usb_file.specs.declared.fault.FileFault.{FileFault}
+use Rattle.usb_file_data.specs.Inputs.{IsNoDump}
+use Rattle.usb_file_data.specs.FileFaults.{FileFaulty}
+use Rattle.usb_file_data.specs.declared.fault.FileFault.{FileFault}
 use Rattle.usb_file_data.specs.declared.laws.TheConstants.{FILE_LIMIT}
 use Rattle.usb_listing.specs.Listing.{file_lines}
 use Rattle.usb_text.specs.declared.output.OutFault.{OutFault}
 use Rattle.usb_text.specs.declared.output.OutFault.TheVariants as outs
 use Rattle.usb_text.specs.Output.{AppendsFront, AppendsLess, Held}
-use Rattle.usb_device.specs.Accepted.{Accepted, refusal_of}
-use Rattle.usb_device.specs.declared.fault.DescriptionFault.{DescriptionFault}
 use Rattle.usb_host.specs.Limits.{LimitView}
-use Rattle.usb_host.specs.declared.step.Trouble.{Trouble}
 use Rattle.usb_bus.specs.declared.fate.Fate.{Fate}
 use Rattle.usb_bus.specs.Enumerate.{IsEnumeration}
-use Rattle.usb_bus.specs.declared.run.Run.{Run}
 use Rattle.usb_bus.specs.Log.{IsLogOf, WritesLogLess}
-use Rattle.usb_tool.specs.Endings.{Fails, Succeeds}
-use Rattle.usb_tool.specs.Input.{Left}
-use Rattle.usb_tool.specs.ResultLines.{refused_line, success_line, trouble_line}
+use Rattle.usb_tool.specs.Endings.{Fails, Succeeds, Left}
 use Rattle.usb_tool.specs.declared.fault.ToolFault.{ToolFault}
 use Rattle.usb_tool.specs.declared.fault.ToolFault.TheVariants as faults
-use Rattle.usb_tool.specs.declared.enumerate_options.EnumerateFlags.{EnumerateFlags}
+use Rattle.usb_tool.specs.declared.settings.EnumerateFlags.{EnumerateFlags}
+
+-- The lines that tell what came of an enumeration, each with its line feed.
+
+-- after success: how many attempts and transactions there were, the address that the device has, and the value of its
+-- configuration
+unfoldable pub success_line : Run → List ℕ
+success_line run =
+    codes "success attempts " ++ decimal run.attempts ++ codes " transactions " ++ decimal run.transactions
+    ++ codes " address " ++ decimal run.state.address ++ codes " value " ++ decimal run.state.selected ++ 10 ∷ []
+
+-- after trouble: the number of its reason, the step that was in work, and how many attempts and transactions there were
+unfoldable pub trouble_line : Trouble → Run → List ℕ
+trouble_line trouble run =
+    codes "trouble " ++ decimal (why_number trouble.why) ++ codes " " ++ step_text trouble.step
+    ++ codes " attempts " ++ decimal run.attempts ++ codes " transactions " ++ decimal run.transactions ++ 10 ∷ []
+
+-- where no device can be made of the file: the number of the reason, and what is found where that is the reason
+unfoldable pub refused_line : DescriptionFault → List ℕ
+refused_line (refusals.Finding finding) = codes "refused 1 " ++ finding_line finding ++ 10 ∷ []
+refused_line fault = codes "refused " ++ decimal (fault_number fault) ++ 10 ∷ []
 
 -- what an enumeration is made under: the limits of the host, the speed of the device, the fates of the transactions, and
 -- whether a log is asked for and a dump is taken

@@ -1,24 +1,57 @@
--- What `explain` tells of its input.
-use Rattle.std.specs.Prelude.{◌≡◌, ℕ, ◌⊎◌, Bool, true, false, List, [], ◌++◌, length, codes}
+-- What `explain` tells of its input, by its options.
+use Rattle.std.specs.Prelude.{◌≡◌, ℕ, List, not, Option, Some, None, option_map, if◌then◌else◌, codes, ◌⊎◌, Bool, true, false, [], ◌++◌, length}
+use Rattle.std.specs.Borrow.{Bor}
+use Rattle.std.specs.Str.{bytes_eq}
+use Rattle.usb_explain.specs.declared.manner.Manner.{Manner}
+use Rattle.usb_explain.specs.declared.speed.SetSpeed.{SetSpeed}
+use Rattle.usb_explain.specs.declared.speed.SetSpeed.TheVariants.{Low, Full, High, Super}
+use Rattle.usb_tool.specs.declared.manner.Explaining.{Explaining}
 use Rattle.std.specs.Io.KnownBytes.{Appends, Keeps}
 use Rattle.usb_explain.specs.Explanations.{broken_explanation, explanation}
 use Rattle.usb_explain.specs.Faults.{fault_words}
-use Rattle.usb_explain.specs.declared.manner.Manner.{Manner}
-use Rattle.usb_file.specs.Inputs.{InputFaulty, IsInput}
-use Rattle.usb_file_data.specs.declared.input.Input.{Input}
-use Rattle.usb_file.specs.declared.input_fault.InputFault.{InputFault}
+use Rattle.usb_file_data.specs.Inputs.{InputFaulty, IsInput}
+use Rattle.usb_file_data.specs.declared.file.Input.{Input}
+use Rattle.usb_file_data.specs.declared.fault.InputFault.{InputFault}
 use Rattle.usb_file_data.specs.declared.laws.TheConstants.{FILE_LIMIT}
 use Rattle.usb_text.specs.HexText.{HexFaulty, HexText}
-use Rattle.usb_text.specs.declared.fault.HexFault.{HexFault}
-use Rattle.usb_text.specs.declared.fault.HexFault.TheVariants as hexes
+use Rattle.usb_text.specs.declared.hex_text.HexFault.{HexFault}
+use Rattle.usb_text.specs.declared.hex_text.HexFault.TheVariants as hexes
 use Rattle.usb_text.specs.Output.{AppendsLess, Held}
-use Rattle.usb_tool.specs.Endings.{Fails, Refusal, Refuses, Telling, Told}
+use Rattle.usb_tool.specs.Endings.{Fails, Refusal, Refuses, Telling, Told, Left}
 use Rattle.usb_tool.specs.Faults.{fault_line, fault_of_input}
-use Rattle.usb_tool.specs.Input.{Left}
 use Rattle.usb_tool.specs.Inputs.{OfInput}
 use Rattle.usb_tool.specs.declared.fault.ToolFault.{ToolFault}
 use Rattle.usb_tool.specs.declared.fault.ToolFault.TheVariants as tools
 use Rattle.usb_text.specs.Numbers.{count}
+
+-- What the options of `explain` come to.
+
+-- the speed of a name
+abbrev pub running_speed_of : List ℕ → Option SetSpeed
+running_speed_of name =
+    if bytes_eq name (codes "low") then Some Low
+    else if bytes_eq name (codes "full") then Some Full
+    else if bytes_eq name (codes "high") then Some High
+    else if bytes_eq name (codes "super") then Some Super
+    else None
+
+-- the speed that an option says: none where it is absent, and no answer where no speed has the name
+abbrev pub running_said : Option (Bor (List ℕ)) → Option (Option SetSpeed)
+running_said None = Some None
+running_said (Some name) = option_map (λ speed. Some speed) (running_speed_of name.now)
+
+-- the manner is the one that the options come to
+pub record IsManner (o : Explaining) (m : Manner) : Type 0 where
+  pub brief : m.look.brief ≡ o.brief
+  pub places : m.look.places ≡ not o.no_places
+  pub utf8 : m.look.utf8 ≡ o.utf8
+  pub speed : running_said o.speed ≡ Some m.speed
+
+-- no speed has the name that the options say
+abbrev pub HasBadSpeed : Explaining → Type 0
+HasBadSpeed o = running_said o.speed ≡ None
+
+-- What `explain` tells of its input.
 
 -- what is before the explanation of so many bytes that were hexadecimal text
 unfoldable pub hexadecimal_words : ℕ → List ℕ

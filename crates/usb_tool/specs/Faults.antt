@@ -7,18 +7,20 @@ use Rattle.usb_set.specs.declared.fault.SetWhy.{SetWhy}
 use Rattle.usb_set.specs.declared.fault.SetWhy.TheVariants as whys
 use Rattle.usb_tool.specs.declared.fault.ToolFault.{ToolFault}
 use Rattle.usb_tool.specs.declared.fault.ToolFault.TheVariants as faults
-use Rattle.usb_file.specs.Numbers.{why_number}
-use Rattle.usb_file.specs.declared.fault.FileFault.{FileFault}
-use Rattle.usb_file.specs.declared.fault.FileWhy.{FileWhy}
-use Rattle.usb_file.specs.declared.fault.FileWhy.TheVariants as files
-use Rattle.usb_file.specs.declared.input_fault.InputFault.{InputFault}
-use Rattle.usb_file.specs.declared.input_fault.InputFault.TheVariants as inputs
-use Rattle.usb_listing.specs.Numbers.{why_number as list_why_number}
+use Rattle.usb_file_data.specs.FileFaults.{why_number}
+use Rattle.usb_file_data.specs.declared.fault.FileFault.{FileFault}
+use Rattle.usb_file_data.specs.declared.fault.FileWhy.{FileWhy}
+use Rattle.usb_file_data.specs.declared.fault.FileWhy.TheVariants as files
+use Rattle.usb_file_data.specs.declared.fault.InputFault.{InputFault}
+use Rattle.usb_file_data.specs.declared.fault.InputFault.TheVariants as inputs
+use Rattle.usb_listing.specs.Listings.{why_number as list_why_number}
 use Rattle.usb_listing.specs.declared.fault.ListFault.{ListFault}
 use Rattle.usb_listing.specs.declared.fault.ListWhy.{ListWhy}
 use Rattle.usb_listing.specs.declared.fault.ListWhy.TheVariants as lists
 use Rattle.usb_text.specs.declared.output.OutFault.{OutFault}
 use Rattle.usb_text.specs.declared.output.OutFault.TheVariants as outs
+use Rattle.std.specs.declared.io.ErrorKind.{ErrorKind}
+use Rattle.std.specs.declared.io.ErrorKind.TheVariants as kinds
 
 -- the number of a fault
 abbrev pub fault_number : ToolFault → ℕ
@@ -90,3 +92,15 @@ fault_of_output outs.Memory = faults.Memory
 abbrev pub status_of : Result ℕ ToolFault → ℕ
 status_of (Ok number) = number
 status_of (Err fault) = 3
+
+-- What is said where the words of a command line could not be taken.
+
+-- the line of standard error: that a word is no text, and else that memory was wanting
+abbrev pub words_line : ErrorKind → List ℕ
+words_line kinds.InvalidData = codes "usbdesc: a word of the command line is no text"
+words_line _ = codes "usbdesc: out of memory"
+
+-- the exit status: 2 as for a line that is no command, and 3 as after any fault
+abbrev pub words_status : ErrorKind → ℕ
+words_status kinds.InvalidData = 2
+words_status _ = 3

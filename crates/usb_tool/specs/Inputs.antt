@@ -3,12 +3,12 @@ use Rattle.std.specs.Prelude.{◌≡◌, ℕ, List, false}
 use Rattle.std.specs.Io.KnownBytes.{Keeps}
 use Rattle.usb_set.specs.Layout.{Layout}
 use Rattle.usb_file_data.specs.File.{File}
-use Rattle.usb_file_data.specs.declared.input.Input.{Input}
-use Rattle.usb_file_data.specs.declared.input.Input.TheVariants as inputs
-use Rattle.usb_file.specs.FileFaults.{FileFaulty}
-use Rattle.usb_file.specs.Inputs.{InputFaulty, is_one_set}
-use Rattle.usb_file.specs.declared.input_fault.InputFault.{InputFault}
-use Rattle.usb_file.specs.declared.input_fault.InputFault.TheVariants as shown
+use Rattle.usb_file_data.specs.declared.file.Input.{Input}
+use Rattle.usb_file_data.specs.declared.file.Input.TheVariants as inputs
+use Rattle.usb_file_data.specs.FileFaults.{FileFaulty}
+use Rattle.usb_file_data.specs.Inputs.{InputFaulty, is_one_set}
+use Rattle.usb_file_data.specs.declared.fault.InputFault.{InputFault}
+use Rattle.usb_file_data.specs.declared.fault.InputFault.TheVariants as shown
 use Rattle.usb_tool.specs.Endings.{Refusal}
 use Rattle.usb_tool.specs.declared.fault.ToolFault.{ToolFault}
 use Rattle.usb_tool.specs.declared.fault.ToolFault.TheVariants as faults

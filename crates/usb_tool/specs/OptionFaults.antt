@@ -1,7 +1,7 @@
 -- Numbers, messages and lines of the faults.
 use Rattle.std.specs.Prelude.{ℕ, List, codes}
-use Rattle.usb_tool.specs.declared.fates.FatesFault.{FatesFault}
-use Rattle.usb_tool.specs.declared.fates.FatesFault.TheVariants as letters
+use Rattle.usb_tool.specs.declared.settings.FatesFault.{FatesFault}
+use Rattle.usb_tool.specs.declared.settings.FatesFault.TheVariants as letters
 use Rattle.usb_tool.specs.declared.settings.SettingsFault.{SettingsFault}
 use Rattle.usb_tool.specs.declared.settings.SettingsFault.TheVariants as faults
 

@@ -1,12 +1,12 @@
 -- What the values of `--speed` and `--fates` say.
 use Rattle.std.specs.Prelude.{◌≡◌, ℕ, List, [], ◌∷◌, IsSome, Option, Some, None, ◌==◌, if◌then◌else◌, codes, option_map, option_and_then}
 use Rattle.std.specs.Str.{bytes_eq}
-use Rattle.usb_fields.specs.declared.speed.Speed.{Speed}
-use Rattle.usb_fields.specs.declared.speed.Speed.TheVariants.{Low, Full, High}
+use Rattle.usb_fields.specs.declared.packet.Speed.{Speed}
+use Rattle.usb_fields.specs.declared.packet.Speed.TheVariants.{Low, Full, High}
 use Rattle.usb_bus.specs.declared.fate.Fate.{Fate}
 use Rattle.usb_bus.specs.declared.fate.Fate.TheVariants.{Pass, Busy, LostDown, LostUp, LostAck}
-use Rattle.usb_tool.specs.declared.fates.FatesFault.{FatesFault}
-use Rattle.usb_tool.specs.declared.fates.FatesFault.TheVariants as faults
+use Rattle.usb_tool.specs.declared.settings.FatesFault.{FatesFault}
+use Rattle.usb_tool.specs.declared.settings.FatesFault.TheVariants as faults
 
 -- the speed of a name
 abbrev pub speed_of : List ℕ → Option Speed

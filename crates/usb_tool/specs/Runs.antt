@@ -7,24 +7,21 @@ use Rattle.clap.specs.Words.{fault_of, subcommand_of}
 use Rattle.clap.specs.declared.error.kind.ErrorKind.{ErrorKind}
 use Rattle.clap.specs.declared.error.kind.ErrorKind.TheVariants as kinds
 use Rattle.usb_text.specs.Output.{AppendsFront, Held}
-use Rattle.usb_tool.specs.Builds.{BuildCommentedFails, BuildFails, Built, BuiltCommented}
-use Rattle.usb_tool.specs.Checks.{CheckAnyFails, CheckFails, Checked, CheckedAny}
+use Rattle.usb_tool.specs.Commands.{BuildCommentedFails, BuildFails, Built, BuiltCommented, CheckAnyFails, CheckFails, Checked, CheckedAny, ShowAnyFails, ShowFails, Shown, ShownAny}
 use Rattle.usb_tool.specs.Enumerations.{Conditions, EnumerateFails, Enumerated, under}
-use Rattle.usb_tool.specs.Explains.{ExplainFails, Explained}
+use Rattle.usb_tool.specs.Explains.{ExplainFails, Explained, HasBadSpeed, IsManner}
 use Rattle.usb_tool.specs.Faults.{fault_line}
-use Rattle.usb_tool.specs.Input.{Left}
+use Rattle.usb_tool.specs.Endings.{Left}
 use Rattle.usb_tool.specs.CommandLine.{Asks, no_flags, usbdesc_app, word_texts}
-use Rattle.usb_tool.specs.Shows.{ShowAnyFails, ShowFails, Shown, ShownAny}
 use Rattle.usb_tool.specs.declared.fault.ToolFault.{ToolFault}
 use Rattle.usb_explain.specs.declared.manner.Manner.{Manner}
-use Rattle.usb_tool.specs.Manners.{HasBadSpeed, IsManner}
 use Rattle.usb_tool.specs.OptionFaults.{settings_line, settings_status}
 use Rattle.usb_tool.specs.Settings.{IsSettled, RefusesOptions}
-use Rattle.usb_tool.specs.declared.explain_options.Explaining.{Explaining}
+use Rattle.usb_tool.specs.declared.manner.Explaining.{Explaining}
 use Rattle.usb_tool.specs.declared.command_line.Line.{Line}
 use Rattle.usb_tool.specs.declared.command_line.Line.TheVariants as lines
-use Rattle.usb_tool.specs.declared.enumerate_options.EnumerateFlags.{EnumerateFlags}
-use Rattle.usb_tool.specs.declared.enumerate_options.Options.{Options}
+use Rattle.usb_tool.specs.declared.settings.EnumerateFlags.{EnumerateFlags}
+use Rattle.usb_tool.specs.declared.settings.Options.{Options}
 use Rattle.usb_tool.specs.declared.settings.Settings.{Settings}
 use Rattle.usb_tool.specs.declared.settings.SettingsFault.{SettingsFault}
 use Rattle.usb_tool.specs.declared.settings.SettingsFault.TheVariants.{Speed}

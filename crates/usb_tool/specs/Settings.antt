@@ -4,14 +4,14 @@ use Rattle.std.specs.Borrow.{Bor}
 use Rattle.std.specs.Char.{digit_value}
 use Rattle.std.specs.List.{list_all}
 use Rattle.std.specs.Str.Parse.{digits_value, without_leading_plus}
-use Rattle.usb_fields.specs.declared.speed.Speed.{Speed}
-use Rattle.usb_fields.specs.declared.speed.Speed.TheVariants.{Full}
+use Rattle.usb_fields.specs.declared.packet.Speed.{Speed}
+use Rattle.usb_fields.specs.declared.packet.Speed.TheVariants.{Full}
 use Rattle.usb_bus.specs.declared.fate.Fate.{Fate}
 use Rattle.usb_host.specs.Limits.{LimitView, limit_fault}
 use Rattle.usb_tool.specs.OptionValues.{RefusesFates, fates_of, speed_of}
-use Rattle.usb_tool.specs.declared.fates.FatesFault.{FatesFault}
-use Rattle.usb_tool.specs.declared.fates.FatesFault.TheVariants as letters
-use Rattle.usb_tool.specs.declared.enumerate_options.Options.{Options}
+use Rattle.usb_tool.specs.declared.settings.FatesFault.{FatesFault}
+use Rattle.usb_tool.specs.declared.settings.FatesFault.TheVariants as letters
+use Rattle.usb_tool.specs.declared.settings.Options.{Options}
 use Rattle.usb_tool.specs.declared.settings.Settings.{Settings}
 use Rattle.usb_tool.specs.declared.settings.SettingsFault.{SettingsFault}
 use Rattle.usb_tool.specs.declared.settings.SettingsFault.TheVariants as faults

@@ -1,5 +1,4 @@
 -- What no public contract cites.
-pub mod Choosing
-pub mod Intake
 pub mod Taking
+pub mod Intake
 pub mod Telling

@@ -3,7 +3,7 @@ ghost use Rattle.std.specs.Prelude.{List, ℕ, IfErr, IfOk};
 ghost use Rattle.usb_file_data.specs.File.{File, file_bytes};
 ghost use Rattle.usb_tool.specs.Endings.{AppendsNone};
 ghost use Rattle.usb_tool.specs.inside.Telling.{EndsWith, IsCut};
-ghost use Rattle.usb_tool.specs.Builds.{BuildCommentedFails, BuildFails, Built, BuiltCommented};
+ghost use Rattle.usb_tool.specs.Commands.{BuildCommentedFails, BuildFails, Built, BuiltCommented};
 
 use crate::fault::ToolFault;
 use crate::input::read_all;

@@ -2,13 +2,13 @@
 ghost use Rattle.std.specs.Prelude.{◌≡◌, IfErr, IfOk};
 ghost use Rattle.usb_file_data.specs.FindingLine.{check_text};
 ghost use Rattle.usb_file_data.specs.Findings.{input_findings};
-ghost use Rattle.usb_tool.specs.Checks.{CheckAnyFails, CheckFails, Checked, CheckedAny, check_status};
+ghost use Rattle.usb_tool.specs.Commands.{CheckAnyFails, CheckFails, Checked, CheckedAny, check_status};
 ghost use Rattle.usb_tool.specs.Endings.{AppendsNone};
 ghost use Rattle.usb_tool.specs.inside.Telling.{EndsWith, IsCut};
 
 use crate::fault::ToolFault;
+use crate::input::{take_any, take_file};
 use crate::output::write_flushed;
-use crate::taking::{take_any, take_file};
 use std::alloc::Global;
 use std::io::{Read, Write};
 use usb_file::Input;

@@ -3,11 +3,11 @@ ghost use Rattle.std.specs.Prelude.{◌≡◌, IfOk, Some, codes};
 ghost use Rattle.clap.specs.Words.{fault_of, found_of, rows_of, subcommand_of, subcommand_rows_of};
 ghost use Rattle.clap.specs.Kinds.{FailsBy};
 ghost use Rattle.usb_tool.specs.CommandLine.{Asks, HasFlags, HasTexts, flags_of, gives, is_given, text_of, usbdesc_app, word_texts};
-ghost use Rattle.usb_tool.specs.inside.Choosing.{NamesCommand};
+ghost use Rattle.usb_tool.specs.inside.Taking.{NamesCommand};
 
 use crate::clap_command::usbdesc;
-use crate::enumerate_options::{EnumerateFlags, Options};
-use crate::explain_options::Explaining;
+use crate::manner::Explaining;
+use crate::settings::{EnumerateFlags, Options};
 use clap::{ArgMatches, Error};
 use std::alloc::Global;
 

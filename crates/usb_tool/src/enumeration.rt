@@ -2,22 +2,22 @@
 ghost use Rattle.std.specs.Prelude.{◌≢◌, ◌++◌, IfErr, IfOk};
 ghost use Rattle.usb_listing.specs.Listing.{file_lines};
 ghost use Rattle.usb_tool.specs.CommandLine.{no_flags};
-ghost use Rattle.usb_tool.specs.Enumerations.{EnumerateFails, Enumerated, IsNotTaken, IsTaken, RefusesToEnumerate, WritesResult, run_status, run_text, under};
-ghost use Rattle.usb_tool.specs.ResultLines.{refused_line, success_line, trouble_line};
+ghost use Rattle.usb_tool.specs.Enumerations.{EnumerateFails, Enumerated, IsNotTaken, IsTaken, RefusesToEnumerate, WritesResult, run_status, run_text, under, refused_line, success_line, trouble_line};
 ghost use Rattle.usb_tool.specs.inside.Telling.{BreaksRun, EndsWith, IsCutShort, MakesRun};
-ghost use Rattle.usb_file.specs.declared.fault.FileWhy.TheVariants as files;
+ghost use Rattle.usb_file_data.specs.declared.fault.FileWhy.TheVariants as files;
 
-use crate::enumerate_options::EnumerateFlags;
 use crate::fault::ToolFault;
 use crate::input::read_all;
 use crate::output::write_flushed;
 use crate::result_line::{RefusedLine, SuccessLine, TroubleLine};
+use crate::settings::EnumerateFlags;
 use std::alloc::Global;
 use std::io::{Read, Write};
 use usb_bus::{Fate, Run, enumerate, enumerate_logged};
 use usb_device::{Description, DescriptionFault};
 use usb_fields::Speed;
-use usb_file::{DescriptorFile, FILE_LIMIT, FileFault, read_completed, read_file};
+use usb_file::{DescriptorFile, FILE_LIMIT, read_completed, read_file};
+use usb_file_data::FileFault;
 use usb_host::{Limits, Trouble};
 use usb_listing::list;
 use usb_text::write_all;

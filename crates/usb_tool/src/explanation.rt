@@ -2,7 +2,7 @@
 ghost use Rattle.std.specs.Prelude.{◌≡◌, ◌++◌, IfErr, IfOk, OnErr, OnOk, length};
 ghost use Rattle.std.specs.Io.KnownBytes.{Appends};
 ghost use Rattle.usb_explain.specs.Explanations.{broken_explanation, explanation};
-ghost use Rattle.usb_file.specs.Inputs.{InputRefused, IsInput};
+ghost use Rattle.usb_file_data.specs.Inputs.{InputRefused, IsInput};
 ghost use Rattle.usb_text.specs.Output.{AppendsLess};
 ghost use Rattle.usb_tool.specs.Endings.{Writes};
 ghost use Rattle.usb_tool.specs.Explains.{ExplainFails, Explained, NoInputIsHexadecimal, RefusesText, RefusesToExplain, SaysLineOfFault, TellsExplanation, TellsText, hexadecimal_words};
@@ -14,7 +14,8 @@ use crate::output::finish;
 use std::alloc::{AllocError, Global};
 use std::io::{Read, Write};
 use usb_explain::{Manner, explain, explain_broken};
-use usb_file::{FILE_LIMIT, Input, InputFault, read_input};
+use usb_file::{FILE_LIMIT, Input, read_input};
+use usb_file_data::InputFault;
 use usb_text::{HexFault, OutFault, Text, parse, put_count, write_all};
 
 /// Reads the input to its end, and writes what its descriptors mean, in words. The input is one configuration set, a

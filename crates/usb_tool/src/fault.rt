@@ -1,15 +1,20 @@
-//! Why a command of the program failed, and what it says of that.
+//! Why a command of the program failed, and the line that says so.
 ghost use Rattle.std.specs.Prelude.{◌≡◌, Some};
 ghost use Rattle.usb_tool.specs.Faults.{fault_line, fault_number, fault_of_file, fault_of_input, fault_of_list, fault_of_output, fault_of_set, status_of};
 ghost use Rattle.usb_tool.specs.declared.fault.ToolFault.TheVariants.{Memory};
+ghost use Rattle.std.specs.Prelude.{IfSome};
+ghost use Rattle.usb_tool.specs.Runs.{TellsLine};
 
+use arrayvec::ArrayString;
 use std::alloc::AllocError;
 use std::error::Error;
 use std::fmt;
-use usb_file::{FileFault, FileWhy, InputFault};
+use std::fmt::{Display, Write as _};
+use std::io::Write;
+use usb_file_data::{FileFault, FileWhy, InputFault};
 use usb_listing::{ListFault, ListWhy};
 use usb_set::{SetFault, SetWhy};
-use usb_text::OutFault;
+use usb_text::{OutFault, write_all};
 
 /// Why a command did not do its work.
 ///
@@ -177,5 +182,22 @@ pub fn verdict(r: &Result<u8, ToolFault>) -> u8
     match r {
         Ok(number) => *number,
         Err(_) => 3,
+    }
+}
+
+/// The bytes that a line of a fault has at most, and more.
+const ROOM: usize = 128;
+
+/// Writes the line of a fault and a line feed to standard error, as far as that takes them. This takes no memory: there may
+/// be none.
+pub(crate) fn tell_line<D: Display + Drop, E: Write>(fault: D, e: &mut E)
+    ensures { IfSome (D.output fault) (λ line. TellsLine line (E.contents e.old) (E.contents e.new)) }
+{
+    let mut line = ArrayString::<ROOM>::new();
+    match writeln!(line, "{fault}") {
+        Ok(()) => {
+            let _ = write_all(e, line.as_str().as_bytes());
+        }
+        Err(_) => {}
     }
 }

@@ -2,10 +2,10 @@
 //!
 //! [`run_show`] reads a configuration set or a descriptor file to the end of its input and writes its
 //! listing, a line for each descriptor. Its contract speaks of the bytes that the reader has and of
-//! those that the writer gains, where the two state them: `specs/Shows.antt` says what it does, fault by
+//! those that the writer gains, where the two state them: `specs/Commands.antt` says what it does, fault by
 //! fault. What each line says is in the crate `usb_listing`. [`run_check`] writes what breaks a rule of
-//! chapter 9 in a file (`specs/Checks.antt`), and [`run_build`] reads a listing and writes the bytes of its file
-//! (`specs/Builds.antt`). [`run_show_any`] and [`run_check_any`] take a set alone, a file or a dump, and
+//! chapter 9 in a file (`specs/Commands.antt`), and [`run_build`] reads a listing and writes the bytes of its file
+//! (`specs/Commands.antt`). [`run_show_any`] and [`run_check_any`] take a set alone, a file or a dump, and
 //! [`run_build_commented`] a listing with comments. [`run_explain`] writes what the descriptors of any of these inputs
 //! mean, in words, also where it is the hexadecimal text of one (`specs/Explains.antt`).
 //! [`run_enumerate`] enumerates a device that has the descriptors of a file, over a bus that loses
@@ -23,7 +23,7 @@
 //! function of the words, and each fault is `clap`'s own (`specs/CommandLine.antt`).
 //! [`settings_of`] makes the [`Settings`] of an enumeration of these texts, with what holds where an option is
 //! absent (`specs/Settings.antt`). It reads the numbers, and [`read_speed`] and [`read_fates`] the other two
-//! (`specs/OptionValues.antt`). [`manner_of`] says what the options of `explain` mean (`specs/Manners.antt`).
+//! (`specs/OptionValues.antt`). [`manner_of`] says what the options of `explain` mean (`specs/Explains.antt`).
 //!
 //! [`converse`] makes control transfers between a host and a device over a bus that loses packets and handshakes.
 //! It takes the description of the device (crate `usb_device`), how many NAKs the host retries, the requests
@@ -35,44 +35,34 @@ mod build;
 mod check;
 mod clap_command;
 mod command_line;
-mod enumerate_options;
 mod enumeration;
-mod explain_options;
 mod explanation;
-mod fates;
 mod fault;
-mod fault_line;
 mod help;
 mod input;
 mod intake;
 mod manner;
 mod output;
 mod program;
-mod refused_words;
 mod result_line;
-mod set_intake;
 mod settings;
 mod show;
-mod speed;
-mod taking;
 
 pub use build::{run_build, run_build_commented};
 pub use check::{run_check, run_check_any};
 pub use command_line::{Line, read_line};
-pub use enumerate_options::{EnumerateFlags, Options};
 pub use enumeration::{run_enumerate, run_enumerate_with};
-pub use explain_options::Explaining;
 pub use explanation::{
     an_explanation_says_the_line_of_its_fault, no_input_is_hexadecimal_text, run_explain,
 };
-pub use fates::{FatesFault, read_fates};
 pub use fault::{ToolFault, verdict};
-pub use manner::{manner_of, read_running_speed};
-pub use program::run;
-pub use refused_words::refuse_words;
-pub use settings::{Settings, SettingsFault, settings_of};
+pub use manner::{Explaining, manner_of, read_running_speed};
+pub use program::{refuse_words, run};
+pub use settings::{
+    EnumerateFlags, FatesFault, Options, Settings, SettingsFault, read_fates, read_speed,
+    settings_of,
+};
 pub use show::{run_show, run_show_any};
-pub use speed::read_speed;
 pub use usb_bus;
 pub use usb_bus::{Fate, Reply, Run, Talk, converse, enumerate, laws};
 pub use usb_explain::{Look, Manner, SetSpeed};

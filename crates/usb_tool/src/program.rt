@@ -1,5 +1,7 @@
 //! What the program does, from the words of its command line to its exit status.
 ghost use Rattle.std.specs.Prelude.{◌≡◌};
+ghost use Rattle.std.specs.IoError.{error_kind};
+ghost use Rattle.usb_tool.specs.Faults.{words_line, words_status};
 ghost use Rattle.usb_tool.specs.CommandLine.{no_flags};
 ghost use Rattle.usb_tool.specs.Faults.{fault_line, status_of};
 ghost use Rattle.usb_tool.specs.Runs.{Answers, EndsEnumeration, EndsExplanation, EndsLine, Runs, TellsLine, TellsOutcome, line_status};
@@ -8,19 +10,36 @@ ghost use Rattle.usb_tool.specs.OptionFaults.{settings_line, settings_status};
 use crate::build::{run_build, run_build_commented};
 use crate::check::{run_check, run_check_any};
 use crate::command_line::{Line, read_line};
-use crate::enumerate_options::{EnumerateFlags, Options};
 use crate::enumeration::run_enumerate_with;
-use crate::explain_options::Explaining;
 use crate::explanation::run_explain;
-use crate::fault::{ToolFault, verdict};
-use crate::fault_line::tell_line;
-use crate::manner::manner_of;
-use crate::settings::{SettingsFault, settings_of};
+use crate::fault::{ToolFault, tell_line, verdict};
+use crate::manner::{Explaining, manner_of};
+use crate::settings::{EnumerateFlags, Options, SettingsFault, settings_of};
 use crate::show::{run_show, run_show_any};
 use clap::error::ErrorKind;
 use std::alloc::Global;
+use std::io;
 use std::io::{Read, Write};
 use usb_text::write_all;
+
+/// The line that goes to standard error where the words of the command line could not be taken, and the exit
+/// status: 2 where a word is no text (`InvalidData`), and else 3, out of memory.
+///
+/// ```rust
+/// if let Err(error) = env::args(&rt) {
+///     let (line, status) = refuse_words(&error);
+///     rt.eprintln(line)?;
+/// }
+/// ```
+pub fn refuse_words(error: &io::Error) -> (&'static str, u8)
+    ensures line { result.0.now ≡ words_line (error_kind error.now) }
+    ensures status { result.1 ≡ words_status (error_kind error.now) }
+{
+    match error.kind() {
+        io::ErrorKind::InvalidData => ("usbdesc: a word of the command line is no text", 2),
+        _ => ("usbdesc: out of memory", 3),
+    }
+}
 
 /// The exit status of a command line that asks for nothing that the program does.
 const USAGE: u8 = 2;

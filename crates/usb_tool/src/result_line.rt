@@ -1,6 +1,6 @@
 //! The lines that report the outcome of an enumeration.
 ghost use Rattle.std.specs.Prelude.{Some};
-ghost use Rattle.usb_tool.specs.ResultLines.{refused_line, success_line, trouble_line};
+ghost use Rattle.usb_tool.specs.Enumerations.{refused_line, success_line, trouble_line};
 
 use std::fmt;
 use usb_bus::Run;
@@ -32,7 +32,7 @@ pub(crate) struct TroubleLine<'r>(pub(crate) Trouble, pub(crate) &'r Run);
 impl<'r> fmt::Display for TroubleLine<'r> {
     ghost output = { λ line. Some (trouble_line line.0 line.1.now) };
 
-    #[tactic(auto, unfolding(crate::specs::ResultLines::trouble_line))]
+    #[tactic(auto, unfolding(crate::specs::Enumerations::trouble_line))]
     fn fmt<W: fmt::Write>(&self, f: &mut fmt::Formatter<W>) -> fmt::Result {
         let TroubleLine(trouble, run) = *self;
         let (number, step) = (trouble.why.number(), trouble.step);
@@ -51,7 +51,7 @@ pub(crate) struct RefusedLine(pub(crate) DescriptionFault);
 impl fmt::Display for RefusedLine {
     ghost output = { λ line. Some (refused_line line.0) };
 
-    #[tactic(auto, unfolding(crate::specs::ResultLines::refused_line))]
+    #[tactic(auto, unfolding(crate::specs::Enumerations::refused_line))]
     fn fmt<W: fmt::Write>(&self, f: &mut fmt::Formatter<W>) -> fmt::Result {
         match self.0 {
             DescriptionFault::Finding(finding) => write!(f, "refused 1 {finding}\n"),

@@ -1,13 +1,13 @@
 //! The command `show`.
 ghost use Rattle.std.specs.Prelude.{IfErr, IfOk, OnErr, OnOk};
-ghost use Rattle.usb_tool.specs.Shows.{ShowAnyFails, ShowFails, Shown, ShownAny, input_lines};
+ghost use Rattle.usb_tool.specs.Commands.{ShowAnyFails, ShowFails, Shown, ShownAny, input_lines};
 ghost use Rattle.usb_tool.specs.inside.Telling.{EndsWith, IsCutShort};
 ghost use Rattle.usb_text.specs.Output.{AppendsLess};
 ghost use Rattle.std.specs.Io.KnownBytes.{Appends};
 
 use crate::fault::ToolFault;
+use crate::input::{take_any, take_set_or_file};
 use crate::output::finish;
-use crate::taking::{take_any, take_set_or_file};
 use std::alloc::Global;
 use std::io::{Read, Write};
 use usb_file::Input;

@@ -1,8 +1,9 @@
 -- A host that keeps a place and hands the packets of a set to a decoder, against one that keeps all replies and all bytes.
-use Rattle.std.specs.Prelude.{◌≡◌, ℕ, nat_lt, List, length, Option, Result, ◌⊎◌, Bool, false}
-use Rattle.usb_fields.specs.declared.speed.Speed.{Speed}
-use Rattle.usb_fields.specs.Packet.{Reply as Answer}
+use Rattle.std.specs.Prelude.{◌≡◌, ℕ, List, Option, Some, nat_lt, length, Result, ◌⊎◌, Bool, false}
 use Rattle.usb_set.specs.declared.tree.Configuration.{Configuration}
+use Rattle.usb_set.specs.Layout.{Layout}
+use Rattle.usb_fields.specs.declared.packet.Speed.{Speed}
+use Rattle.usb_fields.specs.Packets.{Reply as Answer}
 use Rattle.usb_set.specs.declared.fault.SetFault.{SetFault}
 use Rattle.usb_set.specs.declared.decoder.Progress.{Progress}
 use Rattle.usb_set.specs.Decoding.{Decoding, gathers, has, refused}
@@ -17,12 +18,19 @@ use Rattle.usb_bus.specs.Bus.{HostEnd, hears}
 use Rattle.usb_bus.specs.Attempt.{Phase, Running, Succeeded, Broken, advance}
 use Rattle.usb_host.specs.declared.place.Place.{Place}
 use Rattle.usb_host.specs.declared.place.Place.TheVariants.{First, Reported, Stopped}
-use Rattle.usb_host.specs.declared.kept.Kept.{Kept}
-use Rattle.usb_host.specs.declared.kept.Kept.TheVariants.{Bytes, Set}
+use Rattle.usb_host.specs.declared.place.Kept.{Kept}
+use Rattle.usb_host.specs.declared.place.Kept.TheVariants.{Bytes, Set}
 use Rattle.usb_host.specs.Order.{asks, stopped}
 use Rattle.usb_host.specs.Gathered.{reached}
 use Rattle.usb_host.specs.Steps.{HostPhase, Reading, Ended, Grows, LacksMemory, TakesHeard}
-use Rattle.usb_host.specs.inside.Steady.{FitsPlace}
+use Rattle.usb_host.specs.inside.Sound.{FitsPlace}
+
+-- Readers of sets.
+
+-- a reader that reads every set that bytes can be, and nothing else
+pub record ReadsSets (set_of : List ℕ → Option Configuration) : Type 0 where
+  pub right : (b : List ℕ) (c : Configuration) → set_of b ≡ Some c → Layout c b
+  pub all : (b : List ℕ) (c : Configuration) → Layout c b → set_of b ≡ Some c
 
 -- What bytes that came in pieces have made of a decoder that was not out of memory, and whether bytes came after
 -- the set's last.

@@ -1,34 +1,44 @@
 -- The laws of attempts, of scripts and of runs that prove what holds of an enumeration.
-use Rattle.std.specs.Prelude.{◌≡◌, ℕ, false, List, [], Option, ◌<◌, ◌≤◌}
+use Rattle.std.specs.Prelude.{◌≡◌, ℕ, suc, ◌+◌, ◌/◌, ◌≤◌, ◌⊎◌, List, false, [], Option, ◌<◌}
+use Rattle.usb_host.specs.declared.why.Why.TheVariants.{NoAnswer, Busy}
+use Rattle.usb_host.specs.declared.reply.Reply.{Reply}
+use Rattle.usb_device.specs.declared.state.State.{State}
+use Rattle.usb_bus.specs.Attempt.{Phase, Running, Succeeded, Broken, Attempt}
 use Rattle.usb_fields.specs.Bytes.{AreBytes}
 use Rattle.usb_fields.specs.declared.setup.Setup.{Setup as SetupPacket}
-use Rattle.usb_fields.specs.declared.speed.Speed.{Speed}
+use Rattle.usb_fields.specs.declared.packet.Speed.{Speed}
 use Rattle.usb_set.specs.declared.tree.Configuration.{Configuration}
 use Rattle.usb_file_data.specs.declared.file.DescriptorFile.{DescriptorFile}
 use Rattle.usb_file_data.specs.File.{file_bytes}
-use Rattle.usb_host.specs.declared.reply.Reply.{Reply}
 use Rattle.usb_host.specs.Limits.{LimitView, IsInRange}
 use Rattle.usb_host.specs.Plan.{Plan}
 use Rattle.usb_device.specs.Accepted.{Accepted}
-use Rattle.usb_device.specs.declared.state.State.{State}
 use Rattle.usb_device.specs.Requests.{Outcome, answer}
 use Rattle.usb_device.specs.Step.{new_device}
 use Rattle.usb_bus.specs.declared.fate.Fate.{Fate}
-use Rattle.usb_bus.specs.Fates.{losses, busies}
+use Rattle.usb_bus.specs.Bus.{losses, busies}
 use Rattle.usb_bus.specs.inside.Sound.{Follows}
 use Rattle.usb_bus.specs.Run.{fates_used}
 use Rattle.usb_host.specs.declared.place.Place.TheVariants.{First, Reported}
 use Rattle.usb_host.specs.Cost.{most}
 use Rattle.usb_host.specs.Gathered.{reached}
 use Rattle.usb_bus.specs.inside.Script.{replies_in, script}
-use Rattle.usb_bus.specs.Enumerate.{configured_state}
+use Rattle.usb_bus.specs.Enumerate.{configured_state, Pair, new_pair, RunsAt}
 use Rattle.usb_bus.specs.Series.{fresh, series_run}
-use Rattle.usb_bus.specs.inside.Judged.{Verdict}
-use Rattle.usb_bus.specs.inside.Image.{plan_of, StaysImage}
-use Rattle.usb_bus.specs.inside.Readers.{ReadsSets}
+use Rattle.usb_bus.specs.inside.Image.{plan_of, StaysImage, ReadsSets}
 use Rattle.usb_bus.specs.Beside.{IsBeside}
-use Rattle.usb_bus.specs.EnumerationRun.{Pair, new_pair, RunsAt}
-use Rattle.usb_bus.specs.inside.Ends.{GoesWell}
+use Rattle.usb_bus.specs.inside.Running.{GoesWell}
+
+-- How attempts of a plan end.
+
+-- How a series stands after so many losses and so many Busy, with this limit of NAKs and of attempts. A success has all
+-- replies and left the device in the last state. A failure has used all attempts, with a loss of its own for each, or a whole
+-- measure of NAKs.
+abbrev pub Verdict : ℕ → ℕ → List Reply → State → ℕ → ℕ → ℕ → Attempt → Phase → Type 0
+Verdict naks limit all last losses busies attempts x (Running host) = Unit {0}
+Verdict naks limit all last losses busies attempts x Succeeded = (x.replies ≡ all) × (x.device.state ≡ last)
+Verdict naks limit all last losses busies attempts x (Broken why) =
+    ((why ≡ NoAnswer) ⊎ (why ≡ Busy)) × (limit ≤ attempts) × (limit ≤ losses + busies / suc naks)
 
 -- For any plan that a device answers as expected, with a reset before each attempt, over every list of fates.
 abbrev pub SeriesHaveCauses : Type 0

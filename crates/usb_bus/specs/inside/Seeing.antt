@@ -1,6 +1,6 @@
 -- The lines of a step, while they are put.
 use Rattle.std.specs.Prelude.{◌≡◌, ℕ, List, ◌++◌, Bool, true, false, Option, Some, codes}
-use Rattle.usb_fields.specs.Packet.{Reply}
+use Rattle.usb_fields.specs.Packets.{Reply}
 use Rattle.usb_host.specs.declared.why.Why.{Why}
 use Rattle.usb_host.specs.Transfer.{TransferView}
 use Rattle.usb_device.specs.Step.{DeviceView}

@@ -1,8 +1,9 @@
 -- What holds of transfers by a plan after each transaction.
-use Rattle.std.specs.Prelude.{◌≡◌, ◌≢◌, ℕ, ◌<◌, ◌≤◌, Bool, true, ◌⊎◌, List, [], ◌∷◌, ◌++◌}
+use Rattle.std.specs.Prelude.{◌≡◌, ℕ, ◌+◌, ◌<◌, ◌≤◌, ◌⊎◌, List, [], ◌∷◌, length, ◌≢◌, Bool, true, ◌++◌}
+use Rattle.usb_fields.specs.Packets.{packets, joined}
 use Rattle.usb_fields.specs.declared.setup.Setup.{Setup as SetupPacket}
 use Rattle.usb_host.specs.declared.why.Why.TheVariants.{NoAnswer, Busy, Stalled, TooLong, Unexpected, Malformed, Memory}
-use Rattle.usb_host.specs.declared.stage.TransferStage.TheVariants.{Setup}
+use Rattle.usb_host.specs.declared.transfer.TransferStage.TheVariants.{Setup}
 use Rattle.usb_host.specs.declared.reply.Reply.{Reply}
 use Rattle.usb_host.specs.declared.reply.Reply.TheVariants as replied
 use Rattle.usb_host.specs.Plan.{Plan, Begin, Success}
@@ -10,10 +11,23 @@ use Rattle.usb_device.specs.declared.state.State.{State}
 use Rattle.usb_device.specs.Requests.{Outcome}
 use Rattle.usb_device.specs.Step.{DeviceView, is_set_address, carried_out}
 use Rattle.usb_bus.specs.declared.fate.Fate.{Fate}
-use Rattle.usb_bus.specs.Fates.{losses, busies, acks_lost}
-use Rattle.usb_bus.specs.Bus.{HostEnd}
+use Rattle.usb_bus.specs.Bus.{losses, busies, acks_lost, HostEnd}
 use Rattle.usb_bus.specs.Attempt.{Phase, Running, Succeeded, Broken, IsPlanned, proceed, attempt_run}
 use Rattle.usb_bus.specs.Together.{InOneTransfer}
+
+-- The packets of an answer, and where the host ends the data stage.
+
+-- The packets that are still to come, where so many of `limit` bytes came: each but the last is whole and leaves bytes
+-- due, and the last one ends the data stage.
+abbrev pub Due : ℕ → ℕ → ℕ → List (List ℕ) → Type 0
+Due size limit came [] = ⊥
+Due size limit came (p ∷ []) = (length p ≤ size) × (came + length p ≤ limit) × ((length p < size) ⊎ (came + length p ≡ limit))
+Due size limit came (p ∷ (r ∷ rest)) = (length p ≡ size) × (came + length p < limit) × Due size limit (came + length p) (r ∷ rest)
+
+-- the packets that the device cuts, by its packet size, are those that the host expects, by the size that it knows
+pub record IsCut (cut size limit : ℕ) (b : List ℕ) : Type 0 where
+  pub due : Due size limit 0 (packets b cut limit)
+  pub joins : joined (packets b cut limit) ≡ b
 
 -- for any plan, limit of NAKs, answers to requests and packet size of the device
 module _ (plan : List Reply → Plan) (naks : ℕ) (answer : State → SetupPacket → Outcome) (cut : ℕ) where

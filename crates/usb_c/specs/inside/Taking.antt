@@ -1,10 +1,10 @@
 -- Why bytes and texts are not taken, with what is no fault of theirs: out of memory.
 use Rattle.std.specs.Prelude.{◌≡◌, ℕ, List, Bool, true, false}
-use Rattle.usb_file.specs.FileFaults.{ReadRefused}
-use Rattle.usb_file.specs.Inputs.{InputRefused, is_one_set}
-use Rattle.usb_file.specs.declared.input_fault.InputFault.{InputFault}
-use Rattle.usb_file.specs.declared.input_fault.InputFault.TheVariants as faults
-use Rattle.usb_listing.specs.CommentedListings.{CommentedRefused}
+use Rattle.usb_file_data.specs.FileFaults.{ReadRefused}
+use Rattle.usb_file_data.specs.Inputs.{InputRefused, is_one_set}
+use Rattle.usb_file_data.specs.declared.fault.InputFault.{InputFault}
+use Rattle.usb_file_data.specs.declared.fault.InputFault.TheVariants as faults
+use Rattle.usb_listing.specs.Comments.{CommentedRefused}
 use Rattle.usb_listing.specs.Listings.{ListRefused}
 use Rattle.usb_listing.specs.declared.fault.ListWhy.{ListWhy}
 

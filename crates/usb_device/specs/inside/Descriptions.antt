@@ -1,10 +1,9 @@
 -- A description, as callers see it.
 use Rattle.std.specs.Prelude.{◌≡◌, ◌++◌, length}
-use Rattle.usb_file_data.specs.Named.{named_indices}
+use Rattle.usb_file_data.specs.File.{named_indices}
 use Rattle.usb_device.specs.declared.description.Description.TheInside.{Inside}
 use Rattle.usb_device.specs.Accepted.{Accepted}
-use Rattle.usb_device.specs.Described.{Described}
-use Rattle.usb_device.specs.Places.{descriptors, main_descriptors, other_descriptors}
+use Rattle.usb_device.specs.Descriptors.{Described, descriptors, main_descriptors, other_descriptors}
 
 abbrev pub described_of : Inside → Described
 described_of d = record { file = d.file; speed = d.speed }

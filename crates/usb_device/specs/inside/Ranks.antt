@@ -1,6 +1,6 @@
 -- A table of where each byte is in a list.
 use Rattle.std.specs.Prelude.{◌≡◌, ◌≤◌, ℕ, ◌<◌, ◌==◌, List, length, position, slice_index_or, unwrap_or}
-use Rattle.usb_device.specs.declared.ranks.Ranks.TheInside.{Inside}
+use Rattle.usb_device.specs.declared.image.Ranks.TheInside.{Inside}
 
 -- where the number is first, or 255 where it does not
 unfoldable pub rank : List ℕ → ℕ → ℕ

@@ -1,10 +1,60 @@
 -- Answers to transactions, as the code holds them: without the bytes.
-use Rattle.std.specs.Prelude.{ℕ, List, [], ◌∷◌, drop}
-use Rattle.usb_fields.specs.Packet.{Reply, AckReply, NakReply, StallReply, DataReply, NoReply}
-use Rattle.usb_fields.specs.Packets.{packets}
-use Rattle.usb_device.specs.declared.endpoint_zero.Reaction.{Reaction}
-use Rattle.usb_device.specs.declared.endpoint_zero.Reaction.TheVariants.{Ack, Nak, Stall, Packet, Silence}
-use Rattle.usb_device.specs.Step.{DeviceStage, Idle, Halted, Sending, StatusOut, Over, StatusIn}
+use Rattle.std.specs.Prelude.{◌≡◌, ◌<◌, [], ◌∷◌, length, take, slice_set, ℕ, List, drop}
+use Rattle.usb_fields.specs.declared.setup.Setup.{Setup}
+use Rattle.usb_file_data.specs.declared.file.DescriptorFile.{DescriptorFile}
+use Rattle.usb_device.specs.Descriptors.{descriptors, descriptor_at}
+use Rattle.usb_device.specs.declared.request.Request.{Request}
+use Rattle.usb_device.specs.declared.state.State.{State}
+use Rattle.usb_device.specs.declared.stage.Change.{Change}
+use Rattle.usb_device.specs.declared.stage.Change.TheVariants.{Nothing, Address, Configuration, Wakeup, Halts, Alternate}
+use Rattle.usb_device.specs.declared.stage.Response.{Response}
+use Rattle.usb_device.specs.declared.stage.Response.TheVariants as responses
+use Rattle.usb_device.specs.States.{first_alternates}
+use Rattle.usb_device.specs.Requests.{Outcome, Bytes, Done, Refused, answer}
+use Rattle.usb_fields.specs.Packets.{Reply, AckReply, NakReply, StallReply, DataReply, NoReply, packets}
+use Rattle.usb_device.specs.declared.stage.Reaction.{Reaction}
+use Rattle.usb_device.specs.declared.stage.Reaction.TheVariants.{Ack, Nak, Stall, Packet, Silence}
+use Rattle.usb_device.specs.Step.{DeviceStage, Idle, Halted, Sending, StatusOut, Over, StatusIn, Served, served_in, served_out}
+use Rattle.usb_fields.specs.declared.packet.Toggle.{Toggle}
+use Rattle.usb_device.specs.declared.device.Device.TheInside.{Inside}
+use Rattle.usb_device.specs.declared.endpoint_zero.EndpointZero.{EndpointZero}
+use Rattle.usb_device.specs.View.{stage_in, device_of, IsOf, View}
+
+-- Answers to requests, as the code holds them.
+
+-- the state after a change
+abbrev pub changed : State → Change → State
+changed s Nothing = s
+changed s (Address address) = record s { address = address }
+changed s (Configuration value) = record s { selected = value; alternates = first_alternates; halts = 0 }
+changed s (Wakeup on) = record s { wakeup = on }
+changed s (Halts halts) = record s { halts = halts }
+changed s (Alternate number alternate halts) =
+    record s { alternates = slice_set s.alternates number alternate; halts = halts }
+
+-- what a response says
+abbrev pub outcome_of : DescriptorFile → State → Setup → Response → Outcome
+outcome_of f s q (responses.Descriptor place) = Bytes (take q.length (descriptor_at f place))
+outcome_of f s q (responses.Byte byte) = Bytes (byte ∷ [])
+outcome_of f s q (responses.Status byte) = Bytes (byte ∷ 0 ∷ [])
+outcome_of f s q (responses.Done change) = Done (changed s change)
+outcome_of f s q responses.Refused = Refused
+
+-- what is sent is there, and was asked for
+abbrev pub IsAsked : DescriptorFile → Setup → Response → Type 0
+IsAsked f q (responses.Descriptor place) = (place < length (descriptors f)) × (0 < q.length)
+IsAsked f q (responses.Byte byte) = q.length ≡ 1
+IsAsked f q (responses.Status byte) = q.length ≡ 2
+IsAsked f q (responses.Done change) = Unit {0}
+IsAsked f q responses.Refused = Unit {0}
+
+-- what a response to a request says
+abbrev pub says : Request → Response → Outcome
+says r response = outcome_of r.description.now.file r.state.now r.setup response
+
+-- what it sends is there, and was asked for
+abbrev pub AsksFor : Request → Response → Type 0
+AsksFor r response = IsAsked r.description.now.file r.setup response
 
 -- the first of these packets, if there is one
 abbrev pub first_packet : List (List ℕ) → List ℕ
@@ -27,3 +77,23 @@ reply_with bytes Nak = NakReply
 reply_with bytes Stall = StallReply
 reply_with bytes (Packet toggle) = DataReply toggle bytes
 reply_with bytes Silence = NoReply
+
+-- Endpoint zero and a device, as callers see them.
+
+-- IN to a device with these descriptors, and OUT
+abbrev pub sent_by : DescriptorFile → EndpointZero → Served
+sent_by f e = served_in (answer f) f.device.packet e.state (stage_in f e)
+
+abbrev pub received_by : DescriptorFile → EndpointZero → Toggle → List ℕ → Served
+received_by f e toggle bytes = served_out e.state (stage_in f e) toggle bytes
+
+-- the reply, where its bytes are those of the packet that is due
+abbrev pub replied : DescriptorFile → EndpointZero → Reaction → Reply
+replied f e reaction = reply_with (packet_due f.device.packet (stage_in f e)) reaction
+
+-- a device as callers see it
+abbrev pub view_of : Inside → View
+view_of d = record { description = d.description.now; device = device_of d.description.now.file d.endpoint_zero }
+
+abbrev pub IsDevice : Inside → Type 0
+IsDevice d = IsOf d.description.now.file d.endpoint_zero

@@ -8,15 +8,12 @@ use Rattle.std.proofs.lemmas.Bool.Decides.{nat_tests}
 use Rattle.hex.specs.Hex.{encode_lower}
 use Rattle.usb_fields.specs.Bytes.{AreBytes}
 use Rattle.usb_text.specs.Numbers.{byte_code, meaning, word_code}
-use Rattle.usb_explain.specs.Names.{named}
+use Rattle.usb_explain.specs.Names.{named, bit_words, bits_field, bits_meaning, further_bits, is_set, name_or_number, after_characters, guid_words, has_characters, is_letter_or_digit, terminal_words}
 use Rattle.usb_names.specs.Bits.{abstract_control_bits, call_management_bits, firmware_upgrade_bits}
 use Rattle.usb_names.specs.Classes.{Named, name_in}
 use Rattle.usb_names.specs.Terminals.{audio_terminals, video_terminals}
-use Rattle.usb_explain.specs.Bits.{bit_words, bits_field, bits_meaning, further_bits, is_set, name_or_number}
-use Rattle.usb_explain.specs.FrameIntervals.{digits_up_to_last, four_digits, fraction, frame_interval, milliseconds}
-use Rattle.usb_explain.specs.Guids.{after_characters, guid_words, has_characters, is_letter_or_digit}
-use Rattle.usb_explain.specs.Terminals.{terminal_words}
-use Rattle.usb_text.specs.Printable.{is_printable}
+use Rattle.usb_explain.specs.Speeds.{digits_up_to_last, four_digits, fraction, frame_interval, milliseconds}
+use Rattle.usb_text.specs.Lines.{is_printable}
 use Rattle.usb_text.proofs.Printables.{Printable, encoded_printable}
 use Rattle.usb_explain.proofs.plain.Texts.{MaybePlain, both_plain, decimal_plain, parts, taken}
 use Rattle.usb_explain.proofs.plain.Names.{found_plain, has_plain_name, is_plain_name}

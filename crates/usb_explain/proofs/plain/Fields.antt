@@ -7,15 +7,14 @@ use Rattle.std.proofs.lemmas.Grind.{flat_map-append}
 use Rattle.hex.specs.Hex.{encode_lower}
 use Rattle.usb_fields.specs.Bytes.{AreBytes}
 use Rattle.usb_file_data.specs.declared.file.Strings.{Strings}
-use Rattle.usb_file_data.specs.StringPlaces.{string_place, units_at}
-use Rattle.usb_text.specs.Units.{written_unit}
-use Rattle.usb_explain.specs.declared.look.Look.{Look}
+use Rattle.usb_file_data.specs.File.{string_place, units_at}
+use Rattle.usb_text.specs.Characters.{written_unit}
+use Rattle.usb_explain.specs.declared.manner.Look.{Look}
 use Rattle.usb_explain.specs.declared.string_names.Missing.{Missing}
 use Rattle.usb_explain.specs.declared.string_names.Missing.TheVariants.{NotInInput, NotRead}
-use Rattle.usb_explain.specs.LineForms.{digits_line, field_line, field_start, heading_line, place_words, spaces}
+use Rattle.usb_explain.specs.Lines.{digits_line, field_line, field_start, heading_line, place_words, spaces, IsLine, Said, SayFields, line_that}
 use Rattle.usb_explain.specs.StringNames.{StringNames, index_words, missing_words, name_words, named_units, quoted, units_in_first_language}
 use Rattle.usb_text.proofs.Printables.{Printable, encoded_printable, unit_printable}
-use Rattle.usb_explain.specs.Lines.{IsLine, Said, SayFields, line_that}
 use Rattle.usb_explain.proofs.plain.Texts.{AreWords, both_plain, decimal_plain, each_plain, either_plain, ended, parts, spaces_plain}
 
 -- ---- lines

@@ -7,28 +7,27 @@ use Rattle.std.proofs.lemmas.Bool.{false≢true}
 use Rattle.usb_set.specs.declared.fault.SetWhy.{SetWhy}
 use Rattle.usb_set.specs.declared.fault.SetWhy.TheVariants as whys
 use Rattle.usb_set.specs.Numbers.{why_message as set_message, why_number as set_why_number}
-use Rattle.usb_file.specs.declared.fault.FileWhy.{FileWhy}
-use Rattle.usb_file.specs.declared.fault.FileWhy.TheVariants as files
-use Rattle.usb_file.specs.declared.input_fault.InputFault.{InputFault}
-use Rattle.usb_file.specs.declared.input_fault.InputFault.TheVariants as faults
-use Rattle.usb_file.specs.declared.likeness.Likeness.{Likeness}
-use Rattle.usb_file.specs.declared.likeness.Likeness.TheVariants as likes
-use Rattle.usb_file.specs.Numbers.{why_number}
+use Rattle.usb_file_data.specs.declared.fault.FileWhy.{FileWhy}
+use Rattle.usb_file_data.specs.declared.fault.FileWhy.TheVariants as files
+use Rattle.usb_file_data.specs.declared.fault.InputFault.{InputFault}
+use Rattle.usb_file_data.specs.declared.fault.InputFault.TheVariants as faults
+use Rattle.usb_file_data.specs.declared.likeness.Likeness.{Likeness}
+use Rattle.usb_file_data.specs.declared.likeness.Likeness.TheVariants as likes
+use Rattle.usb_file_data.specs.FileFaults.{why_number}
 use Rattle.usb_file_data.specs.declared.finding.Finding.{Finding}
 use Rattle.usb_file_data.specs.Numbers.{rule_number}
-use Rattle.usb_explain.specs.LineForms.{spaces}
+use Rattle.usb_explain.specs.Lines.{spaces, IsLine, IsLineIfAny}
 use Rattle.usb_explain.specs.declared.finding_words.PacketFault.{PacketFault}
 use Rattle.usb_explain.specs.declared.finding_words.PacketFault.TheVariants as packets
 use Rattle.usb_explain.specs.declared.finding_words.Told.{Told}
 use Rattle.usb_explain.specs.declared.finding_words.Told.TheVariants as told
 use Rattle.usb_explain.specs.FindingLines.{caused, causes_words, counts_words, device_words, finding_line, has_more, packet_words, qualifier_words, reserved_words, rule_of, told_words}
-use Rattle.usb_explain.specs.declared.descriptor_role.Role.{Role}
+use Rattle.usb_explain.specs.declared.role.Role.{Role}
 use Rattle.usb_explain.specs.declared.position.Standing.{Standing}
 use Rattle.usb_explain.specs.Faults.{fault_text, fault_words, file_message, following_words, likeness_text, likeness_words, numbered, trailing_words}
 use Rattle.usb_explain.specs.Findings.{is_here, line_of, told_of}
 use Rattle.usb_explain.specs.Contexts.{depth_of}
 use Rattle.usb_text.proofs.Printables.{Printable}
-use Rattle.usb_explain.specs.Lines.{IsLine, IsLineIfAny}
 use Rattle.usb_explain.proofs.plain.Texts.{both_plain, decimal_plain, either_plain, ended, parts, spaces_plain}
 use Rattle.usb_explain.proofs.plain.Words.{count_plain}
 

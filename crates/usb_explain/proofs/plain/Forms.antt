@@ -4,14 +4,14 @@ use Rattle.std.specs.Fmt.{decimal}
 use Rattle.usb_fields.specs.Bytes.{AreBytes}
 use Rattle.usb_names.specs.declared.field.Form.{Form}
 use Rattle.usb_names.specs.declared.field.Form.TheVariants.{Decimal, Hexadecimal, Release, ReportType, Index, FrameInterval, Guid, AudioTerminal, VideoTerminal, AbstractControl, CallManagement, FirmwareUpgrade, Class, FunctionClass, Subclass, Protocol, DevicePacket, Supply, Power, Address, Transfer, PacketSize, Interval}
-use Rattle.usb_set.specs.Endpoints.{transfer_type_of}
+use Rattle.usb_set.specs.Descriptors.{transfer_type_of}
 use Rattle.usb_explain.specs.declared.speed.SetSpeed.{SetSpeed}
 use Rattle.usb_explain.specs.declared.speed.SetSpeed.TheVariants.{Low, Full, LowOrFull, High, FullOrHigh, Super}
 use Rattle.usb_text.specs.Numbers.{meaning}
 use Rattle.usb_fields.proofs.ByteParts.{bytes_back, bytes_front}
 use Rattle.usb_explain.specs.Forms.{decimal_words, form_words, hexadecimal_words, packet_size_words, release_words, report_words}
 use Rattle.usb_explain.specs.StringNames.{StringNames}
-use Rattle.usb_explain.specs.Values.{address_value, attributes_value, interval_value, packet_value, power_of_two_words, power_value, release_value, set_attributes, size_value, source_words, wakeup_words}
+use Rattle.usb_explain.specs.Endpoints.{address_value, attributes_value, interval_value, packet_value, power_of_two_words, power_value, release_value, set_attributes, size_value, source_words, wakeup_words}
 use Rattle.usb_text.proofs.Printables.{Printable, encoded_printable}
 use Rattle.usb_explain.proofs.plain.Texts.{both_plain, decimal_plain, parts}
 use Rattle.usb_explain.proofs.plain.Parts.{byte_fits}

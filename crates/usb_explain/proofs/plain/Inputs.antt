@@ -8,10 +8,10 @@ use Rattle.usb_file_data.specs.declared.file.DescriptorFile.{DescriptorFile}
 use Rattle.usb_file_data.specs.declared.file.Strings.{Strings}
 use Rattle.usb_file_data.specs.File.{each_string_bytes, file_bytes, other_bytes, sets_bytes, strings_bytes}
 use Rattle.usb_file_data.proofs.Lists.{bytes_before, bytes_behind}
-use Rattle.usb_file_data.specs.declared.input.Input.{Input}
-use Rattle.usb_file_data.specs.declared.input.Input.TheVariants as inputs
-use Rattle.usb_file.specs.Inputs.{IsInput}
-use Rattle.usb_file.specs.Likeness.{likeness_of}
+use Rattle.usb_file_data.specs.declared.file.Input.{Input}
+use Rattle.usb_file_data.specs.declared.file.Input.TheVariants as inputs
+use Rattle.usb_file_data.specs.Inputs.{IsInput}
+use Rattle.usb_file_data.specs.Likeness.{likeness_of}
 use Rattle.usb_text.proofs.Printables.{Printable}
 use Rattle.usb_fields.proofs.ByteParts.{bytes_front}
 use Rattle.usb_explain.specs.declared.manner.Manner.{Manner}

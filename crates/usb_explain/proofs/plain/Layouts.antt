@@ -5,13 +5,12 @@ use Rattle.std.proofs.lemmas.Bool.{and_parts}
 use Rattle.usb_fields.specs.Bytes.{AreBytes}
 use Rattle.usb_names.specs.Rows.{Field}
 use Rattle.usb_fields.proofs.ByteParts.{bytes_back}
-use Rattle.usb_explain.specs.declared.line_context.Context.{Context}
+use Rattle.usb_explain.specs.declared.context.Context.{Context}
 use Rattle.usb_explain.specs.Forms.{form_words}
 use Rattle.usb_explain.specs.Layouts.{Layout, body_lines, group_count, group_lines, groups_lines, layout_lines, line_of, width_of}
-use Rattle.usb_explain.specs.LineForms.{digits_line}
+use Rattle.usb_explain.specs.Lines.{digits_line, SayFields}
 use Rattle.usb_explain.specs.StringNames.{StringNames}
 use Rattle.usb_text.proofs.Printables.{Printable}
-use Rattle.usb_explain.specs.Lines.{SayFields}
 use Rattle.usb_explain.proofs.plain.Names.{ArePlainFields, has_plain_field, is_plain_name}
 use Rattle.usb_explain.proofs.plain.Fields.{AreNamesFit, both_say, digits_say, either_says, field_first, no_fields}
 use Rattle.usb_explain.proofs.plain.Forms.{form_plain}

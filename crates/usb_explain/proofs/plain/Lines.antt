@@ -3,22 +3,20 @@ use Rattle.std.proofs.Common.{◌≡◌, ℕ, ◌<◌, ◌==◌, ◌&&◌, Bool,
 use Rattle.hex.specs.Hex.{encode_lower}
 use Rattle.usb_fields.specs.Bytes.{AreBytes, little_endian_at}
 use Rattle.usb_names.specs.Rows.{decimal, hexadecimal}
-use Rattle.usb_set.specs.Endpoints.{transfer_type_of}
+use Rattle.usb_set.specs.Descriptors.{transfer_type_of}
 use Rattle.usb_explain.specs.declared.speed.SetSpeed.{SetSpeed}
 use Rattle.usb_fields.proofs.ByteParts.{bytes_back, bytes_front}
-use Rattle.usb_explain.specs.declared.look.Look.{Look}
+use Rattle.usb_explain.specs.declared.manner.Look.{Look}
 use Rattle.usb_explain.specs.StringNames.{StringNames}
-use Rattle.usb_explain.specs.declared.line_context.Context.{Context}
-use Rattle.usb_explain.specs.declared.line_context.StringPlace.{StringPlace}
-use Rattle.usb_explain.specs.declared.descriptor_role.Role.{Role}
-use Rattle.usb_explain.specs.declared.descriptor_role.Role.TheVariants.{Device, Qualifier, Configuration, Association, Interface, Endpoint, Raw, Languages, Text}
-use Rattle.usb_explain.specs.Device.{device_words, ids_words, qualifier_words, version_words}
-use Rattle.usb_explain.specs.EndpointLines.{endpoint_words, interval_words}
+use Rattle.usb_explain.specs.declared.context.Context.{Context}
+use Rattle.usb_explain.specs.declared.context.StringPlace.{StringPlace}
+use Rattle.usb_explain.specs.declared.role.Role.{Role}
+use Rattle.usb_explain.specs.declared.role.Role.TheVariants.{Device, Qualifier, Configuration, Association, Interface, Endpoint, Raw, Languages, Text}
+use Rattle.usb_explain.specs.Sets.{device_words, ids_words, qualifier_words, version_words, association_words, binding_words, bound_words, configuration_words, function_words, interface_words, range_words, set_words, supply_words, language_words, languages_words, string_place_words, string_words}
+use Rattle.usb_explain.specs.Endpoints.{endpoint_words, interval_words}
 use Rattle.usb_explain.specs.Descriptors.{field_lines, fields, heading, heading_words}
-use Rattle.usb_explain.specs.StandardLayouts.{association_layout, configuration_layout, device_layout, endpoint_layout, fields_of_endpoint, interface_layout, is_audio, qualifier_layout, with_tail}
-use Rattle.usb_explain.specs.Rest.{more_words, rest_fields, rest_heading, rest_line}
-use Rattle.usb_explain.specs.Sets.{association_words, binding_words, bound_words, configuration_words, function_words, interface_words, range_words, set_words, supply_words}
-use Rattle.usb_explain.specs.Strings.{language_words, languages_words, string_place_words, string_words}
+use Rattle.usb_explain.specs.Layouts.{association_layout, configuration_layout, device_layout, endpoint_layout, fields_of_endpoint, interface_layout, is_audio, qualifier_layout, with_tail}
+use Rattle.usb_explain.specs.Explanations.{more_words, rest_fields, rest_heading, rest_line}
 use Rattle.usb_text.specs.Characters.{units_in}
 use Rattle.usb_text.proofs.Printables.{Printable, encoded_printable}
 use Rattle.usb_explain.specs.Lines.{IsLine, SayFields}

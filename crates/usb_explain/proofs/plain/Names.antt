@@ -6,7 +6,7 @@ use Rattle.std.proofs.lemmas.List.Folds.{list_all-append}
 use Rattle.usb_names.specs.declared.codes.ClassCodes.{ClassCodes}
 use Rattle.usb_names.specs.Classes.{Named, NamedProtocol, classes, name_in, protocol_in, protocols, subclasses}
 use Rattle.usb_names.specs.Rows.{Field, Row, application_rows, audio_rows, cdc_data_rows, class_rows, communications_rows, first_row, hid_rows, holds, mass_storage_rows, other_rows, rows_behind, rows_of_class, smart_card_rows, standard_rows, video_rows}
-use Rattle.usb_text.specs.Printable.{is_printable}
+use Rattle.usb_text.specs.Lines.{is_printable}
 use Rattle.usb_text.proofs.Printables.{Printable}
 use Rattle.usb_explain.proofs.plain.Texts.{MaybePlain, same}
 

@@ -5,12 +5,11 @@ use Rattle.usb_names.specs.declared.codes.ClassCodes.{ClassCodes}
 use Rattle.usb_names.specs.Rows.{Row}
 use Rattle.usb_text.specs.Numbers.{byte_code}
 use Rattle.usb_fields.proofs.ByteParts.{bytes_back}
-use Rattle.usb_explain.specs.declared.line_context.Context.{Context}
-use Rattle.usb_explain.specs.LineForms.{field_line}
+use Rattle.usb_explain.specs.declared.context.Context.{Context}
+use Rattle.usb_explain.specs.Lines.{field_line, SayFields}
 use Rattle.usb_explain.specs.StringNames.{StringNames}
-use Rattle.usb_explain.specs.Raws.{raw_lines, raw_words, row_layout, row_lines, row_of_bytes, row_words, unnamed_words}
+use Rattle.usb_explain.specs.Headers.{raw_lines, raw_words, row_layout, row_lines, row_of_bytes, row_words, unnamed_words}
 use Rattle.usb_text.proofs.Printables.{Printable}
-use Rattle.usb_explain.specs.Lines.{SayFields}
 use Rattle.usb_explain.proofs.plain.Parts.{byte_fits}
 use Rattle.usb_explain.proofs.plain.Names.{MaybePlainRow, row_plain}
 use Rattle.usb_explain.proofs.plain.Words.{byte_code_plain}

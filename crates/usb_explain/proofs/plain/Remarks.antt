@@ -4,7 +4,7 @@ use Rattle.std.specs.List.{AllByRecursion}
 use Rattle.usb_set.specs.declared.endpoint.TransferType.{TransferType}
 use Rattle.usb_set.specs.declared.endpoint.TransferType.TheVariants.{Control, Isochronous, Bulk, Interrupt}
 use Rattle.usb_explain.specs.declared.speed.SetSpeed.{SetSpeed}
-use Rattle.usb_explain.specs.LineForms.{spaces}
+use Rattle.usb_explain.specs.Lines.{spaces, IsLine}
 use Rattle.usb_explain.specs.declared.remark.Range.{Range}
 use Rattle.usb_explain.specs.declared.remark.Sizes.{Sizes}
 use Rattle.usb_explain.specs.declared.remark.Sizes.TheVariants.{NoEndpoint, Only, UpTo, EightTo64, EightTo64Or512}
@@ -12,7 +12,6 @@ use Rattle.usb_explain.specs.declared.remark.Remark.{Remark}
 use Rattle.usb_explain.specs.declared.remark.Remark.TheVariants as remarks
 use Rattle.usb_explain.specs.RemarkLines.{a_type, interval_words, packet_words, remark_line, remark_words, total_words, type_name}
 use Rattle.usb_text.proofs.Printables.{Printable}
-use Rattle.usb_explain.specs.Lines.{IsLine}
 use Rattle.usb_explain.proofs.plain.Texts.{decimal_plain, ended, parts, spaces_plain}
 use Rattle.usb_explain.proofs.plain.Words.{count_plain, speed_plain}
 

@@ -9,7 +9,7 @@ use Rattle.usb_text.specs.Numbers.{count}
 use Rattle.usb_text.proofs.Printables.{Printable}
 use Rattle.usb_fields.proofs.ByteParts.{bytes_back}
 use Rattle.usb_explain.specs.Descriptors.{fields}
-use Rattle.usb_explain.specs.declared.descriptor_role.Role.{Role}
+use Rattle.usb_explain.specs.declared.role.Role.{Role}
 use Rattle.usb_explain.specs.declared.position.Standing.{Standing}
 use Rattle.usb_explain.specs.Explanations.{broken_name, first_line, last_line}
 use Rattle.usb_explain.specs.Contexts.{context_of, depth_of}

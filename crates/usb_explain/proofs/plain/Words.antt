@@ -1,12 +1,12 @@
 -- The words of numbers, class codes, endpoints and speeds are plain.
 use Rattle.std.proofs.Common.{ℕ, ◌/◌, ◌%◌, ◌<◌, ◌==◌, List, [], ◌∷◌, ◌++◌, Option, Some, None, codes, refl, arith}
 use Rattle.hex.specs.Hex.{encode_lower}
-use Rattle.usb_fields.specs.declared.direction.Direction.{Direction}
-use Rattle.usb_fields.specs.declared.direction.Direction.TheVariants.{Out, In}
-use Rattle.usb_fields.specs.Directions.{direction_of}
+use Rattle.usb_fields.specs.declared.setup.Direction.{Direction}
+use Rattle.usb_fields.specs.declared.setup.Direction.TheVariants.{Out, In}
+use Rattle.usb_fields.specs.Setup.{direction_of}
 use Rattle.usb_set.specs.declared.endpoint.TransferType.{TransferType}
 use Rattle.usb_set.specs.declared.endpoint.TransferType.TheVariants.{Control, Isochronous, Bulk, Interrupt}
-use Rattle.usb_set.specs.Endpoints.{packet_size_of, transactions_of, transfer_type_of}
+use Rattle.usb_set.specs.Descriptors.{packet_size_of, transactions_of, transfer_type_of}
 use Rattle.usb_names.specs.Classes.{classes, name_in, protocol_in, protocols, subclasses}
 use Rattle.usb_explain.specs.declared.speed.SetSpeed.{SetSpeed}
 use Rattle.usb_explain.specs.declared.speed.SetSpeed.TheVariants.{Low, Full, LowOrFull, High, FullOrHigh, Super}

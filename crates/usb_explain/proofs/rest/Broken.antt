@@ -9,36 +9,33 @@ use Rattle.usb_fields.specs.Bytes.{AreBytes, little_endian}
 use Rattle.usb_fields.specs.Fields.{fields_bytes}
 use Rattle.usb_fields.specs.declared.device.DeviceDescriptor.{DeviceDescriptor}
 use Rattle.usb_fields.specs.declared.qualifier.Qualifier.{Qualifier}
-use Rattle.usb_fields.specs.Device.{device_bytes, device_fault, device_fields}
-use Rattle.usb_fields.specs.Qualifier.{qualifier_bytes, qualifier_fault, qualifier_fields}
+use Rattle.usb_fields.specs.Device.{device_bytes, device_fault, device_fields, qualifier_bytes, qualifier_fault, qualifier_fields}
 use Rattle.usb_fields.specs.Units.{units_bytes}
 use Rattle.usb_set.specs.declared.tree.Configuration.{Configuration}
 use Rattle.usb_set.specs.declared.tree.SetKind.{SetKind}
 use Rattle.usb_set.specs.declared.tree.SetKind.TheVariants as kinds
 use Rattle.usb_set.specs.declared.fault.SetFault.{SetFault}
-use Rattle.usb_set.specs.Feeding.{StartsAt, WantsMemory}
+use Rattle.usb_set.specs.Decoding.{StartsAt, WantsMemory}
 use Rattle.usb_set.specs.Layout.{Layout, set_bytes}
 use Rattle.usb_file_data.specs.declared.file.DescriptorFile.{DescriptorFile}
 use Rattle.usb_file_data.specs.declared.file.Other.{Other}
 use Rattle.usb_file_data.specs.declared.file.Strings.{Strings}
-use Rattle.usb_file_data.specs.File.{each_string_bytes, file_bytes, has_no_layout, is_other_kind, other_bytes, sets_bytes, strings_bytes}
+use Rattle.usb_file_data.specs.File.{each_string_bytes, file_bytes, has_no_layout, is_other_kind, other_bytes, sets_bytes, strings_bytes, other_sets}
 use Rattle.usb_file_data.specs.Front.{IsFront, IsInOrder, IsPartStart}
-use Rattle.usb_file_data.specs.Named.{other_sets}
 use Rattle.usb_file_data.proofs.Lists.{bytes_behind}
-use Rattle.usb_file.specs.declared.fault.FileWhy.{FileWhy}
-use Rattle.usb_file.specs.declared.fault.FileWhy.TheVariants as files
-use Rattle.usb_file.specs.declared.input_fault.InputFault.{InputFault}
-use Rattle.usb_file.specs.declared.input_fault.InputFault.TheVariants as faults
-use Rattle.usb_file.specs.FileFaults.{FileFaulty, NextPart, a_set, a_qualifier, the_languages, a_string, the_end, PartFaulty, SetFaulty, fixed_fault, is_no_string, string_fault}
-use Rattle.usb_file.specs.Inputs.{DeviceRefused, HasFault, InputRefused}
-use Rattle.usb_explain.specs.declared.descriptor_role.Role.TheVariants as roles
+use Rattle.usb_file_data.specs.declared.fault.FileWhy.{FileWhy}
+use Rattle.usb_file_data.specs.declared.fault.FileWhy.TheVariants as files
+use Rattle.usb_file_data.specs.declared.fault.InputFault.{InputFault}
+use Rattle.usb_file_data.specs.declared.fault.InputFault.TheVariants as faults
+use Rattle.usb_file_data.specs.FileFaults.{FileFaulty, NextPart, a_set, a_qualifier, the_languages, a_string, the_end, PartFaulty, SetFaulty, fixed_fault, is_no_string, string_fault}
+use Rattle.usb_file_data.specs.Inputs.{DeviceRefused, HasFault, InputRefused}
+use Rattle.usb_explain.specs.declared.role.Role.TheVariants as roles
 use Rattle.usb_explain.specs.declared.position.Standing.{Standing}
 use Rattle.usb_explain.specs.Explanations.{broken_end, broken_explanation, broken_name, first_line}
 use Rattle.usb_explain.specs.Faults.{fault_lines, place_of_fault}
 use Rattle.usb_explain.specs.Laws.{BrokenCoversUpToFault}
-use Rattle.usb_explain.specs.Steps.{noted}
+use Rattle.usb_explain.specs.Standings.{noted, start}
 use Rattle.usb_explain.specs.Uncovered.{uncovered_in_file, uncovered_in_set, most_uncovered}
-use Rattle.usb_explain.specs.Standings.{start}
 use Rattle.usb_explain.specs.Subjects.{Subject, broken_subject}
 use Rattle.usb_explain.proofs.plain.Parts.{byte_fits}
 use Rattle.usb_explain.proofs.Spans.{broken_ends, broken_is, cut_parts, ends_at, left_behind, once_of}

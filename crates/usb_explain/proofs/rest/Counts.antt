@@ -20,9 +20,9 @@ use Rattle.usb_set.specs.Layout.{has_typed_raw, is_typed_raw}
 use Rattle.usb_set.specs.inside.Trees.{endpoint_bytes, extra_bytes, is_endpoint_typed, is_setting_typed, setting_bytes}
 use Rattle.usb_set.proofs.ExtraLemmas.{untyped}
 use Rattle.usb_set.proofs.Trees.{setting_typed_parts, typed_parts}
-use Rattle.usb_explain.specs.Counts.{endpoints_before_interface, interfaces_beyond}
-use Rattle.usb_explain.specs.Cut.{descriptors}
-use Rattle.usb_explain.specs.DescriptorTypes.{is_endpoint, is_interface}
+use Rattle.usb_explain.specs.Headers.{endpoints_before_interface, interfaces_beyond}
+use Rattle.usb_explain.specs.Trees.{descriptors}
+use Rattle.usb_explain.specs.Roles.{is_endpoint, is_interface}
 use Rattle.usb_explain.proofs.Cuts.{descriptors_step}
 use Rattle.usb_explain.proofs.rest.Steps.{length_is}
 

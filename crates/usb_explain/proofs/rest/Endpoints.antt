@@ -13,7 +13,7 @@ use Rattle.usb_set.specs.declared.tree.Endpoint.{Endpoint}
 use Rattle.usb_set.specs.declared.tree.Setting.{Setting}
 use Rattle.usb_set.specs.Descriptors.{descriptor_bytes, endpoint_descriptor}
 use Rattle.usb_set.specs.inside.Trees.{endpoint_bytes, extra_bytes, is_endpoint_typed}
-use Rattle.usb_explain.specs.declared.descriptor_role.Role.TheVariants as roles
+use Rattle.usb_explain.specs.declared.role.Role.TheVariants as roles
 use Rattle.usb_explain.specs.declared.position.Owner.{Owner}
 use Rattle.usb_explain.specs.declared.position.Owner.TheVariants as owners
 use Rattle.usb_explain.specs.declared.position.SetStanding.{SetStanding}
@@ -21,7 +21,7 @@ use Rattle.usb_explain.specs.declared.position.SettingStanding.{SettingStanding}
 use Rattle.usb_explain.specs.declared.position.Standing.{Standing}
 use Rattle.usb_explain.specs.Findings.{endpoint_told, finding_at, in_setting, is_here, is_same_place, told_at}
 use Rattle.usb_explain.specs.Contexts.{depth_of}
-use Rattle.usb_explain.specs.Steps.{noted, with_endpoint}
+use Rattle.usb_explain.specs.Standings.{noted, with_endpoint}
 use Rattle.usb_explain.specs.Roles.{inner_role, typed_role}
 use Rattle.usb_explain.specs.Subjects.{Subject}
 use Rattle.usb_explain.specs.Trees.{endpoint_entries, entry}

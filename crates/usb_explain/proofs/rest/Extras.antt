@@ -19,22 +19,21 @@ use Rattle.usb_set.specs.declared.extra.Raw.{Raw}
 use Rattle.usb_set.specs.declared.tree.Setting.{Setting}
 use Rattle.usb_set.specs.Descriptors.{association_descriptor, descriptor_bytes, extra_descriptor, raw_descriptor}
 use Rattle.usb_set.specs.Layout.{is_typed, is_typed_raw}
-use Rattle.usb_set.specs.Parts.{association_in}
+use Rattle.usb_set.specs.Owners.{association_in}
 use Rattle.usb_set.specs.inside.Trees.{extra_bytes}
 use Rattle.usb_set.proofs.ExtraLemmas.{untyped}
-use Rattle.usb_explain.specs.Cut.{descriptor_length}
-use Rattle.usb_explain.specs.declared.descriptor_role.Role.{Role}
-use Rattle.usb_explain.specs.declared.descriptor_role.Role.TheVariants as roles
+use Rattle.usb_explain.specs.Trees.{descriptor_length, entry, extra_depth, extra_entries, extra_role}
+use Rattle.usb_explain.specs.declared.role.Role.{Role}
+use Rattle.usb_explain.specs.declared.role.Role.TheVariants as roles
 use Rattle.usb_explain.specs.declared.position.Owner.{Owner}
 use Rattle.usb_explain.specs.declared.position.Owner.TheVariants as owners
 use Rattle.usb_explain.specs.declared.position.Standing.{Standing}
 use Rattle.usb_explain.specs.declared.finding_words.Told.{Told}
 use Rattle.usb_explain.specs.Findings.{finding_at, is_here, is_same_place, part_number, told_at, told_by, told_of}
 use Rattle.usb_explain.specs.Contexts.{below, depth_of}
-use Rattle.usb_explain.specs.Steps.{noted}
+use Rattle.usb_explain.specs.Standings.{noted}
 use Rattle.usb_explain.specs.Roles.{inner_role, typed_role}
 use Rattle.usb_explain.specs.Subjects.{Subject}
-use Rattle.usb_explain.specs.Trees.{entry, extra_depth, extra_entries, extra_role}
 use Rattle.usb_explain.proofs.Spans.{Aim, adding}
 use Rattle.usb_explain.proofs.rest.Steps.{inner_at, length_is}
 use Rattle.usb_explain.proofs.rest.Seen.{Goes, Seen, Step, goes_as, here_both, here_when, one_goes, seen}

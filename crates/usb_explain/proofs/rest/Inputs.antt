@@ -8,13 +8,12 @@ use Rattle.usb_fields.specs.Bytes.{little_endian}
 use Rattle.usb_fields.specs.Fields.{fields_bytes}
 use Rattle.usb_fields.specs.declared.device.DeviceDescriptor.{DeviceDescriptor}
 use Rattle.usb_fields.specs.declared.qualifier.Qualifier.{Qualifier}
-use Rattle.usb_fields.specs.Device.{device_bytes, device_fields}
-use Rattle.usb_fields.specs.Qualifier.{qualifier_bytes, qualifier_fields}
+use Rattle.usb_fields.specs.Device.{device_bytes, device_fields, qualifier_bytes, qualifier_fields}
 use Rattle.usb_fields.specs.Units.{units_bytes}
 use Rattle.usb_file_data.specs.declared.finding.Finding.{Finding}
 use Rattle.usb_file_data.specs.declared.finding.Part.TheVariants as parts
 use Rattle.usb_file_data.specs.declared.rule.Rule.TheVariants as rules
-use Rattle.usb_file_data.specs.Findings.{part_of_kind}
+use Rattle.usb_file_data.specs.Findings.{part_of_kind, input_findings}
 use Rattle.usb_file_data.specs.InOrder.{by_rule, file_in_order, other_in_order, part_in_order, set_in_order, set_findings_in_order, without_sets}
 use Rattle.usb_file_data.specs.Places.{finding, when}
 use Rattle.usb_file_data.specs.Rules.{wrong_device, wrong_dumped_device, wrong_qualifier}
@@ -22,38 +21,31 @@ use Rattle.usb_file_data.proofs.Sorting.{sorted, sorted_set}
 use Rattle.usb_set.specs.declared.tree.Configuration.{Configuration}
 use Rattle.usb_set.specs.declared.tree.SetKind.{SetKind}
 use Rattle.usb_set.specs.declared.tree.SetKind.TheVariants as kinds
-use Rattle.usb_set.specs.Encoding.{set_length}
-use Rattle.usb_set.specs.Layout.{Layout, set_bytes}
+use Rattle.usb_set.specs.Layout.{set_length, Layout, set_bytes}
 use Rattle.usb_set.proofs.Sets.{length-set_bytes}
 use Rattle.usb_file_data.specs.declared.file.DescriptorFile.{DescriptorFile}
 use Rattle.usb_file_data.specs.declared.file.Other.{Other}
 use Rattle.usb_file_data.specs.declared.file.Strings.{Strings}
-use Rattle.usb_file_data.specs.File.{File, are_wrong_strings, each_string_bytes, file_bytes, has_no_layout, is_other_kind, is_other_miscounted, other_bytes, sets_bytes, strings_bytes}
-use Rattle.usb_file_data.specs.Named.{named_indices, other_sets}
-use Rattle.usb_file_data.specs.declared.input.Input.{Input}
-use Rattle.usb_file_data.specs.declared.input.Input.TheVariants as inputs
-use Rattle.usb_file.specs.Dumps.{Dump}
-use Rattle.usb_file.specs.Inputs.{IsInput}
-use Rattle.usb_file_data.specs.Findings.{input_findings}
+use Rattle.usb_file_data.specs.File.{File, are_wrong_strings, each_string_bytes, file_bytes, has_no_layout, is_other_kind, is_other_miscounted, other_bytes, sets_bytes, strings_bytes, named_indices, other_sets}
+use Rattle.usb_file_data.specs.declared.file.Input.{Input}
+use Rattle.usb_file_data.specs.declared.file.Input.TheVariants as inputs
+use Rattle.usb_file_data.specs.Inputs.{Dump, IsInput}
 use Rattle.usb_file_data.proofs.Counts.{all_strings}
 use Rattle.usb_file_data.proofs.Units.{length-units_bytes}
-use Rattle.usb_explain.specs.Cut.{descriptor_length}
+use Rattle.usb_explain.specs.Trees.{descriptor_length, counts_in, entry, other_entries, set_counts, set_entries, set_entries_by, string_entries, text_entry}
 use Rattle.usb_explain.specs.declared.speed.SetSpeed.{SetSpeed}
 use Rattle.usb_explain.specs.declared.manner.Manner.{Manner}
-use Rattle.usb_explain.specs.declared.descriptor_role.Role.{Role}
-use Rattle.usb_explain.specs.declared.descriptor_role.Role.TheVariants as roles
+use Rattle.usb_explain.specs.declared.role.Role.{Role}
+use Rattle.usb_explain.specs.declared.role.Role.TheVariants as roles
 use Rattle.usb_explain.specs.declared.position.Standing.{Standing}
-use Rattle.usb_explain.specs.Explanations.{explanation, first_line, input_name, whole_end}
+use Rattle.usb_explain.specs.Explanations.{explanation, first_line, input_name, whole_end, walked}
 use Rattle.usb_explain.specs.Findings.{finding_at, is_here, none_told, told_at}
 use Rattle.usb_explain.specs.Contexts.{depth_of}
 use Rattle.usb_explain.specs.Laws.{WholeHasNoRest, WholeShowsTree, WholeTellsCounts, WholeTellsFindings, counts_at}
 use Rattle.usb_explain.specs.SetStart.{entered}
-use Rattle.usb_explain.specs.Steps.{noted, passed, with_told}
+use Rattle.usb_explain.specs.Standings.{noted, passed, with_told, start}
 use Rattle.usb_explain.specs.Roles.{outer_role, role_if, role_of, string_role}
-use Rattle.usb_explain.specs.Standings.{start}
 use Rattle.usb_explain.specs.Subjects.{Subject, findings_in, subject_with}
-use Rattle.usb_explain.specs.Trees.{counts_in, entry, other_entries, set_counts, set_entries, set_entries_by, string_entries, text_entry}
-use Rattle.usb_explain.specs.Walks.{walked}
 use Rattle.usb_explain.proofs.Standings.{start_told}
 use Rattle.usb_explain.proofs.Spans.{Aim, adding, whole_is}
 use Rattle.usb_explain.proofs.rest.Walks.{Ends, ShowsAll, Tells, all_tells, ends_here, nothing_left}

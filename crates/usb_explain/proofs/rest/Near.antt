@@ -18,13 +18,13 @@ use Rattle.usb_set.proofs.Sound.{Sound, sound}
 use Rattle.usb_set.proofs.Stands.{item_within}
 use Rattle.usb_file_data.proofs.Lists.{bytes_behind}
 use Rattle.usb_explain.specs.declared.speed.SetSpeed.{SetSpeed}
-use Rattle.usb_explain.specs.declared.descriptor_role.Role.{Role}
-use Rattle.usb_explain.specs.declared.descriptor_role.Role.TheVariants.{Device, Qualifier, Association, Interface, Endpoint, Raw, Languages, Text}
-use Rattle.usb_explain.specs.declared.descriptor_role.Role.TheVariants as roles
+use Rattle.usb_explain.specs.declared.role.Role.{Role}
+use Rattle.usb_explain.specs.declared.role.Role.TheVariants.{Device, Qualifier, Association, Interface, Endpoint, Raw, Languages, Text}
+use Rattle.usb_explain.specs.declared.role.Role.TheVariants as roles
 use Rattle.usb_explain.specs.declared.position.Standing.{Standing}
 use Rattle.usb_explain.specs.Laws.{Cut, Shown}
 use Rattle.usb_explain.specs.SetStart.{entered}
-use Rattle.usb_explain.specs.Steps.{noted, passed, with_told}
+use Rattle.usb_explain.specs.Standings.{noted, passed, with_told}
 use Rattle.usb_explain.specs.Roles.{inner_role, typed_role}
 use Rattle.usb_explain.specs.Uncovered.{uncovered_in_set}
 use Rattle.usb_explain.specs.Subjects.{Subject}

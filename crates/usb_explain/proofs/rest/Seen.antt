@@ -7,8 +7,8 @@ use Rattle.std.proofs.lemmas.List.Sums.{take_while-cons}
 use Rattle.usb_file_data.specs.declared.finding.Finding.{Finding}
 use Rattle.usb_file_data.specs.declared.finding.Part.{Part}
 use Rattle.usb_file_data.specs.Places.{when}
-use Rattle.usb_explain.specs.Cut.{descriptor_length}
-use Rattle.usb_explain.specs.declared.descriptor_role.Role.{Role}
+use Rattle.usb_explain.specs.Trees.{descriptor_length, OutlineEntry, entry}
+use Rattle.usb_explain.specs.declared.role.Role.{Role}
 use Rattle.usb_explain.specs.declared.finding_words.Told.{Told}
 use Rattle.usb_explain.specs.declared.position.Owner.{Owner}
 use Rattle.usb_explain.specs.declared.position.SettingStanding.{SettingStanding}
@@ -17,10 +17,9 @@ use Rattle.usb_explain.specs.Findings.{found_at, is_here}
 use Rattle.usb_explain.specs.Contexts.{depth_of}
 use Rattle.usb_explain.specs.Laws.{counts_at, entry_of}
 use Rattle.usb_explain.specs.SetStart.{entered}
-use Rattle.usb_explain.specs.Steps.{passed, with_told}
+use Rattle.usb_explain.specs.Standings.{passed, with_told}
 use Rattle.usb_explain.specs.Roles.{role_of}
 use Rattle.usb_explain.specs.Subjects.{Subject}
-use Rattle.usb_explain.specs.Trees.{OutlineEntry, entry}
 use Rattle.usb_explain.proofs.Spans.{Aim, adding}
 use Rattle.usb_explain.proofs.Standings.{told_entered, told_noted}
 use Rattle.usb_explain.proofs.rest.Walks.{Ends}

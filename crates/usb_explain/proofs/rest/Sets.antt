@@ -17,8 +17,7 @@ use Rattle.usb_set.specs.declared.tree.Configuration.{Configuration}
 use Rattle.usb_set.specs.declared.tree.SetKind.{SetKind}
 use Rattle.usb_set.specs.declared.tree.SetKind.TheVariants as kinds
 use Rattle.usb_set.specs.Descriptors.{configuration_descriptor, descriptor_bytes, type_number}
-use Rattle.usb_set.specs.Encoding.{set_length}
-use Rattle.usb_set.specs.Layout.{has_long_descriptor, has_typed_raw, set_bytes}
+use Rattle.usb_set.specs.Layout.{set_length, has_long_descriptor, has_typed_raw, set_bytes}
 use Rattle.usb_set.specs.inside.Trees.{extra_bytes, setting_bytes}
 use Rattle.usb_set.proofs.Items.{two_bytes}
 use Rattle.usb_set.proofs.Sets.{length-set_bytes}
@@ -26,18 +25,18 @@ use Rattle.usb_set.proofs.Trees.{set_bytes_is, typed_parts}
 use Rattle.usb_file_data.specs.File.{has_no_layout, is_other_kind, sets_bytes, whole_set}
 use Rattle.usb_file_data.proofs.WholeSets.{no_some}
 use Rattle.usb_explain.specs.declared.speed.SetSpeed.{SetSpeed}
-use Rattle.usb_explain.specs.Surveys.{survey_of}
+use Rattle.usb_explain.specs.SetSpeeds.{survey_of}
 use Rattle.usb_explain.specs.declared.finding_words.Told.{Told}
 use Rattle.usb_explain.specs.declared.finding_words.Told.TheVariants as told
-use Rattle.usb_explain.specs.declared.descriptor_role.Role.{Role}
-use Rattle.usb_explain.specs.declared.descriptor_role.Role.TheVariants as roles
+use Rattle.usb_explain.specs.declared.role.Role.{Role}
+use Rattle.usb_explain.specs.declared.role.Role.TheVariants as roles
 use Rattle.usb_explain.specs.declared.position.Owner.TheVariants as owners
 use Rattle.usb_explain.specs.declared.position.SetStanding.{SetStanding}
 use Rattle.usb_explain.specs.declared.position.Standing.{Standing}
 use Rattle.usb_explain.specs.Findings.{finding_at, is_here, set_told, told_at}
 use Rattle.usb_explain.specs.Contexts.{depth_of}
 use Rattle.usb_explain.specs.SetStart.{entered, opened}
-use Rattle.usb_explain.specs.Steps.{noted, passed, with_told}
+use Rattle.usb_explain.specs.Standings.{noted, passed, with_told}
 use Rattle.usb_explain.specs.Roles.{outer_role, role_if, role_of}
 use Rattle.usb_explain.specs.Subjects.{Subject}
 use Rattle.usb_explain.specs.Trees.{entry, extra_entries, set_counts, set_entries, set_entries_by, setting_count, setting_entries}

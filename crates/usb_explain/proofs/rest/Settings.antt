@@ -13,13 +13,13 @@ use Rattle.usb_set.specs.declared.tree.Setting.{Setting}
 use Rattle.usb_set.specs.Descriptors.{descriptor_bytes, interface_descriptor}
 use Rattle.usb_set.specs.inside.Trees.{endpoint_bytes, extra_bytes, is_setting_typed, setting_bytes}
 use Rattle.usb_set.proofs.Trees.{setting_typed_parts}
-use Rattle.usb_explain.specs.declared.descriptor_role.Role.TheVariants as roles
+use Rattle.usb_explain.specs.declared.role.Role.TheVariants as roles
 use Rattle.usb_explain.specs.declared.finding_words.Told.TheVariants as told
 use Rattle.usb_explain.specs.declared.position.Owner.TheVariants as owners
 use Rattle.usb_explain.specs.declared.position.Standing.{Standing}
 use Rattle.usb_explain.specs.Findings.{finding_at, interface_told, is_here, told_at}
 use Rattle.usb_explain.specs.Contexts.{depth_of}
-use Rattle.usb_explain.specs.Steps.{noted}
+use Rattle.usb_explain.specs.Standings.{noted}
 use Rattle.usb_explain.specs.Roles.{inner_role, typed_role}
 use Rattle.usb_explain.specs.Subjects.{Subject}
 use Rattle.usb_explain.specs.Trees.{OutlineEntry, endpoint_entries, entry, extra_entries, setting_count, setting_entries}

@@ -1,8 +1,8 @@
 -- Walks that come to the end of the bytes, and their text.
 use Rattle.std.proofs.Common.{◌≡◌, ◌≤◌, ℕ, zero, suc, List, [], ◌++◌, flat_map, length, map, drop, Option, Some, None, is_some, option_and_then, sym, ap, subst, ◌∙◌, arith, append-nil, length-drop, Bool, true, false, cond, ◌∷◌, refl}
-use Rattle.usb_explain.specs.declared.descriptor_role.Role.{Role}
+use Rattle.usb_explain.specs.declared.role.Role.{Role}
 use Rattle.usb_explain.specs.declared.position.Standing.{Standing}
-use Rattle.usb_explain.specs.Explanations.{last_line, whole_end}
+use Rattle.usb_explain.specs.Explanations.{last_line, whole_end, rest_lines, behind_next, walked}
 use Rattle.usb_explain.specs.Laws.{Cut, EachFindingOnce, Follow, NothingLeft, Shown, TellsItsOwn, counts_at, entry_of, findings_of, lines_of, span_of}
 use Rattle.usb_explain.specs.Findings.{found_at, is_here, told_by, told_of}
 use Rattle.std.specs.List.{AllByRecursion, take_while}
@@ -11,9 +11,7 @@ use Rattle.usb_explain.specs.Roles.{next_role}
 use Rattle.usb_explain.specs.Standings.{start}
 use Rattle.usb_explain.specs.Subjects.{Subject}
 use Rattle.usb_explain.specs.Trees.{counts_in, outline}
-use Rattle.usb_explain.specs.Rest.{rest_lines}
-use Rattle.usb_explain.specs.Walks.{behind_next, walked}
-use Rattle.usb_file_data.specs.declared.input.Input.{Input}
+use Rattle.usb_file_data.specs.declared.file.Input.{Input}
 use Rattle.usb_file_data.specs.Findings.{input_findings}
 use Rattle.usb_explain.proofs.Standings.{start_at, start_told}
 use Rattle.usb_file_data.specs.declared.finding.Finding.{Finding}

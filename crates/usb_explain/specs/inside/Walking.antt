@@ -1,12 +1,66 @@
 -- What a walk keeps.
-use Rattle.std.specs.Prelude.{◌≡◌, ◌≤◌, ℕ, List, ◌++◌, length, Option, Some, None}
+use Rattle.std.specs.Prelude.{◌≡◌, ℕ, List, ◌||◌, ◌<◌, ◌+◌, ◌∷◌, length, Option, map, ◌≤◌, ◌++◌, Some, None}
+use Rattle.std.specs.List.{list_any}
+use Rattle.usb_explain.specs.SetSpeeds.{excludes_low, hints_low_or_full, is_companion, proves_full, proves_high}
+use Rattle.usb_explain.specs.declared.speed_evidence.Evidence.{Evidence}
+use Rattle.std.specs.Option.{option_or}
+use Rattle.usb_fields.specs.Marks.{is_marked, unmarked}
+use Rattle.usb_explain.specs.Bindings.{binding, bound_at}
+use Rattle.usb_explain.specs.Headers.{interfaces_beyond}
+use Rattle.usb_explain.specs.declared.survey.Gathering.{Gathering}
+use Rattle.usb_explain.specs.declared.survey.Numbers.{Numbers}
+use Rattle.usb_explain.specs.declared.survey.Binders.{Binders}
+use Rattle.usb_names.specs.Shown.{field_of}
+use Rattle.usb_explain.specs.declared.layout.DescriptorLayout.{DescriptorLayout}
+use Rattle.usb_explain.specs.Layouts.{Layout}
 use Rattle.usb_text.specs.Output.{Held}
 use Rattle.usb_text.specs.inside.Pages.{Puts}
 use Rattle.usb_explain.specs.declared.position.SettingStanding.{SettingStanding}
 use Rattle.usb_explain.specs.declared.position.Standing.{Standing}
 use Rattle.usb_explain.specs.Standings.{start}
 use Rattle.usb_explain.specs.Subjects.{Subject}
-use Rattle.usb_explain.specs.Walks.{walked}
+use Rattle.usb_explain.specs.Explanations.{walked}
+
+-- What is heard of the speed of a set, descriptor by descriptor.
+
+-- with what the descriptors before said, these descriptors say what all do
+pub record Hears (all : List (List ℕ)) (e : Evidence) (ds : List (List ℕ)) : Type 0 where
+  pub companion : list_any is_companion all ≡ e.companion || list_any is_companion ds
+  pub high : list_any proves_high all ≡ e.high || list_any proves_high ds
+  pub full : list_any proves_full all ≡ e.full || list_any proves_full ds
+  pub above_low : list_any excludes_low all ≡ e.above_low || list_any excludes_low ds
+  pub slow : list_any hints_low_or_full all ≡ e.slow || list_any hints_low_or_full ds
+
+-- What is gathered of a set, descriptor by descriptor.
+
+-- how many distinct numbers there are with those of these descriptors
+abbrev pub counted : Numbers → List (List ℕ) → ℕ
+counted numbers ds = interfaces_beyond (is_marked numbers.marks) ds + numbers.count
+
+-- a descriptor was counted that came before others
+abbrev pub CountsOn : Numbers → Numbers → List ℕ → List (List ℕ) → Type 0
+CountsOn old new d ds = counted old (d ∷ ds) ≡ counted new ds
+
+-- the association that binds a number, with these descriptors
+abbrev pub bound_with : Binders → ℕ → List (List ℕ) → Option ℕ
+bound_with binders n ds = option_or (bound_at binders.bindings n) (binding n binders.count ds)
+
+-- a descriptor was taken that came before others
+abbrev pub BindsOn : Binders → Binders → ℕ → List ℕ → List (List ℕ) → Type 0
+BindsOn old new n d ds = bound_with old n (d ∷ ds) ≡ bound_with new n ds
+
+-- with what was gathered of the descriptors before, these descriptors make up all
+pub record Gathers (all : List (List ℕ)) (g : Gathering) (ds : List (List ℕ)) : Type 0 where
+  pub cells : length g.associations.bindings ≡ 256
+  pub evidence : Hears all g.evidence ds
+  pub interfaces : interfaces_beyond unmarked all ≡ counted g.interfaces ds
+  pub bindings : (n : ℕ) → n < 256 → binding n 0 all ≡ bound_with g.associations n ds
+
+-- A layout of the code.
+
+-- the fields, the group and the name of the rest that it has
+abbrev pub layout_of : DescriptorLayout → Layout
+layout_of l = record { fields = map field_of l.fields.now; group = map field_of l.group.now; rest = l.rest.now }
 
 -- how many endpoints a setting has
 abbrev pub endpoints_of : Option SettingStanding → ℕ

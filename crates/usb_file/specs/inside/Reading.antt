@@ -1,29 +1,66 @@
 -- The parts of a file, read one after another.
-use Rattle.std.specs.Prelude.{◌≡◌, ℕ, ◌+◌, ◌*◌, ◌<◌, ◌≤◌, List, [], ◌∷◌, ◌++◌, length, drop, take, Bool, true, false, nat_lt, Option, Some, None, is_some}
-use Rattle.std.specs.List.{flat_map, list_any}
-use Rattle.usb_fields.specs.declared.qualifier.Qualifier.{Qualifier}
-use Rattle.usb_fields.specs.Qualifier.{qualifier_bytes, qualifier_fault}
-use Rattle.usb_fields.specs.Units.{units_bytes}
-use Rattle.usb_set.specs.declared.tree.SetKind.{SetKind}
+use Rattle.std.specs.Prelude.{ℕ, ◌*◌, List, length, nat_lt, ◌==◌, Option, Some, None, if◌then◌else◌, ◌≡◌, ◌≤◌, ◌+◌, ◌<◌, [], ◌∷◌, ◌++◌, drop, take, Bool, true, false, is_some}
 use Rattle.usb_set.specs.declared.tree.SetKind.TheVariants as kinds
-use Rattle.usb_set.specs.declared.tree.Configuration.{Configuration}
-use Rattle.usb_set.specs.declared.fault.SetWhy.{SetWhy}
-use Rattle.usb_set.specs.declared.fault.SetWhy.TheVariants as sets
-use Rattle.usb_fields.specs.Bytes.{AreBytes}
-use Rattle.usb_set.specs.Faults.{Begins}
 use Rattle.usb_file_data.specs.declared.file.DescriptorFile.{DescriptorFile}
 use Rattle.usb_file_data.specs.declared.file.Other.{Other}
 use Rattle.usb_file_data.specs.declared.file.Strings.{Strings}
-use Rattle.usb_file.specs.declared.fault.FileWhy.{FileWhy}
-use Rattle.usb_file.specs.declared.fault.FileWhy.TheVariants as files
-use Rattle.usb_file.specs.declared.fault.FileFault.{FileFault}
-use Rattle.usb_file_data.specs.File.{file_bytes, whole_set, has_no_layout, is_other_kind, is_long_string}
+use Rattle.usb_file_data.specs.File.{named_indices, file_bytes, whole_set, has_no_layout, is_other_kind, is_long_string, File}
+use Rattle.usb_file_data.specs.FileFaults.{NextPart, a_set, a_qualifier, the_languages, a_string, the_end, begins_qualifier, NoQualifierIsNext, SetFaulty, fixed_fault, string_fault}
+use Rattle.usb_fields.specs.declared.device.DeviceDescriptor.{DeviceDescriptor}
+use Rattle.usb_fields.specs.declared.qualifier.Qualifier.{Qualifier}
+use Rattle.usb_fields.specs.Device.{device_bytes, device_fault, qualifier_bytes, qualifier_fault}
+use Rattle.usb_fields.specs.Units.{units_bytes, unit_fault}
+use Rattle.usb_set.specs.declared.tree.Configuration.{Configuration}
+use Rattle.usb_set.specs.declared.fault.SetWhy.{SetWhy}
+use Rattle.usb_fields.specs.Bytes.{AreBytes}
+use Rattle.usb_set.specs.Faults.{Begins, Faulty, Judgement}
+use Rattle.std.specs.List.{flat_map, list_any}
+use Rattle.usb_set.specs.declared.tree.SetKind.{SetKind}
+use Rattle.usb_set.specs.declared.fault.SetWhy.TheVariants as sets
+use Rattle.usb_file_data.specs.declared.fault.FileWhy.{FileWhy}
+use Rattle.usb_file_data.specs.declared.fault.FileWhy.TheVariants as files
+use Rattle.usb_file_data.specs.declared.fault.FileFault.{FileFault}
 use Rattle.usb_file_data.specs.Front.{AllSets, Splits}
-use Rattle.usb_file_data.specs.File.{File}
 use Rattle.usb_file.specs.declared.file_reader.Form.{Form}
 use Rattle.usb_file.specs.declared.file_reader.Form.TheVariants as forms
-use Rattle.usb_file.specs.Dumps.{Dump}
-use Rattle.usb_file.specs.FileFaults.{NoQualifierIsNext, SetFaulty, begins_qualifier, fixed_fault, string_fault}
+use Rattle.usb_file_data.specs.Inputs.{Dump}
+
+-- What comes next after a prefix of a file, as a function of it and of the bytes that are left.
+
+-- after all sets, where so many indices are named
+abbrev pub next_string : ℕ → Option Strings → NextPart
+next_string count None = if count == 0 then the_end else the_languages
+next_string count (Some s) = if nat_lt (length s.texts) (length s.languages * count) then a_string else the_end
+
+-- after the sets of the device
+abbrev pub next_after_main : DescriptorFile → Option Other → Option Strings → List ℕ → NextPart
+next_after_main f None None rest = if begins_qualifier rest then a_qualifier else next_string (length (named_indices f)) None
+next_after_main f None (Some s) rest = next_string (length (named_indices f)) (Some s)
+next_after_main f (Some o) strings rest =
+    if nat_lt (length o.sets) o.qualifier.configurations then a_set kinds.OtherSpeed
+    else next_string (length (named_indices f)) strings
+
+-- after what is there
+abbrev pub next_part : DescriptorFile → List ℕ → NextPart
+next_part f rest =
+    if nat_lt (length f.sets) f.device.configurations then a_set kinds.Configuration
+    else next_after_main f f.other f.strings rest
+
+-- What the laws of usb_fields and usb_set say of the parts of a file.
+
+-- The bytes of a part are those of one part, and bytes without a fault are those of some part. Of bytes where
+-- a set is due exactly one holds: a set begins them, they show one fault, or they are open.
+pub record PartLaws : Type 0 where
+  pub one_device : (d e : DeviceDescriptor) → device_bytes d ≡ device_bytes e → d ≡ e
+  pub device_written : (b : List ℕ) → AreBytes b → device_fault b ≡ None → (d : DeviceDescriptor) × (device_bytes d ≡ b)
+  pub one_qualifier : (q r : Qualifier) → qualifier_bytes q ≡ qualifier_bytes r → q ≡ r
+  pub qualifier_written : (b : List ℕ) → AreBytes b → qualifier_fault b ≡ None → (q : Qualifier) × (qualifier_bytes q ≡ b)
+  pub one_list : (u v : List ℕ) → units_bytes u ≡ units_bytes v → u ≡ v
+  pub units_written : (b : List ℕ) → AreBytes b → unit_fault b ≡ None → (u : List ℕ) × (length u ≤ 126) × (units_bytes u ≡ b)
+  pub one_set : (c d : Configuration) (b : List ℕ) (m n : ℕ) → Begins b c m → Begins b d n → (c ≡ d) × (m ≡ n)
+  pub one_fault : (b : List ℕ) (p q : ℕ) (v w : SetWhy) → Faulty b p v → Faulty b q w → (p ≡ q) × (v ≡ w)
+  pub not_both : (b : List ℕ) (c : Configuration) (n p : ℕ) (w : SetWhy) → Begins b c n → Faulty b p w → ⊥
+  pub some : (b : List ℕ) → AreBytes b → Judgement b
 
 -- the bytes up to this place are those of the file so far
 pub record ReadSoFar (b : List ℕ) (f : DescriptorFile) (place : ℕ) : Type 0 where

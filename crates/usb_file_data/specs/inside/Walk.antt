@@ -1,11 +1,12 @@
 -- What a walk over a set finds, by what it keeps of the descriptors before.
-use Rattle.std.specs.Prelude.{ℕ, ◌+◌, List, ◌++◌, map, take, Bool, not, ◌==◌, ◌&&◌, ◌||◌}
-use Rattle.std.specs.List.{flat_map, list_any}
+use Rattle.std.specs.Prelude.{ℕ, List, Bool, filter, ◌++◌, map, ◌+◌, take, not, ◌==◌, ◌&&◌, ◌||◌}
+use Rattle.std.specs.List.{range_with_len, flat_map, list_any}
 use Rattle.usb_set.specs.declared.extra.Extra.{Extra}
 use Rattle.usb_set.specs.declared.tree.Endpoint.{Endpoint}
 use Rattle.usb_set.specs.declared.tree.Setting.{Setting}
+use Rattle.usb_set.specs.Owners.{association_in}
+use Rattle.usb_file_data.specs.File.{association_string_index}
 use Rattle.usb_set.specs.declared.tree.Configuration.{Configuration}
-use Rattle.usb_set.specs.Parts.{association_in}
 use Rattle.usb_file_data.specs.declared.finding.Part.{Part}
 use Rattle.usb_file_data.specs.declared.finding.Finding.{Finding}
 use Rattle.usb_file_data.specs.declared.place.Place.{Place}
@@ -15,6 +16,26 @@ use Rattle.usb_file_data.specs.Places.{at_each, at_each_counted, finding, is_amo
 use Rattle.usb_file_data.specs.Rules.{address_of, has_elsewhere, has_number_gap, number_of, value_of, wrong_address, wrong_attributes, wrong_endpoint_count, wrong_interface_count, wrong_packet_size}
 use Rattle.usb_file_data.specs.InOrder.{association_count, endpoint_associations, setting_associations}
 use Rattle.usb_file_data.specs.inside.Interfaces.{misses_some, has_alternate}
+
+-- The marked numbers in order.
+
+-- the marked ones of `count` numbers from the first on, in order
+unfoldable pub marked_among : ℕ → ℕ → (ℕ → Bool) → List ℕ
+marked_among first count marks = filter marks (range_with_len first count)
+
+-- The indices of strings that the extras of a set name, owner by owner.
+
+-- of an extra
+abbrev pub extra_indices : Extra → List ℕ
+extra_indices x = map association_string_index (association_in x)
+
+-- of the extras of an endpoint
+abbrev pub endpoint_extra_indices : Endpoint → List ℕ
+endpoint_extra_indices e = flat_map extra_indices e.extras
+
+-- of those of a setting
+abbrev pub setting_extra_indices : Setting → List ℕ
+setting_extra_indices s = flat_map extra_indices s.extras ++ flat_map endpoint_extra_indices s.endpoints
 
 -- a place at the numbers of a set, a setting and an endpoint
 abbrev pub place : Part → ℕ → ℕ → ℕ → Place

@@ -1,12 +1,28 @@
--- What contracts see of what is due, and of what a host holds beside it.
+-- What is due, what a host holds beside it, and where a read leads to.
 use Rattle.usb_host.specs.declared.due.Due.{Due}
 use Rattle.usb_host.specs.declared.due.Due.TheVariants as due
 use Rattle.usb_host.specs.declared.draft.Draft.{Draft}
 use Rattle.usb_host.specs.declared.held.Held.{Held}
-use Rattle.usb_host.specs.declared.kept.Kept.{Kept}
-use Rattle.usb_host.specs.declared.kept.Kept.TheVariants as kept
+use Rattle.usb_host.specs.declared.place.Kept.{Kept}
+use Rattle.usb_host.specs.declared.place.Kept.TheVariants as kept
 use Rattle.usb_host.specs.declared.place.Place.{Place}
 use Rattle.usb_host.specs.declared.place.Place.TheVariants.{First, Address, Device, Header, Set, Qualifier, Languages, Text, Configure, Reported, Stopped}
+use Rattle.std.specs.Prelude.{◌≡◌, ◌+◌, ◌≤◌, true, false, Bool, List, length, ℕ, Option, Some, None, Result, Ok, Err, ◌⊎◌}
+use Rattle.std.specs.declared.alloc.AllocError.{AllocError}
+use Rattle.usb_set.specs.declared.fault.SetFault.{SetFault}
+use Rattle.usb_set.specs.declared.decoder.Progress.{Progress}
+use Rattle.usb_host.specs.declared.why.Why.{Why}
+use Rattle.usb_host.specs.declared.why.Why.TheVariants.{Memory}
+use Rattle.usb_host.specs.Plan.{Plan, Begin}
+use Rattle.usb_host.specs.Transfer.{Hearing, Brings, Completes}
+use Rattle.usb_host.specs.declared.due.Due.TheVariants as dues
+use Rattle.usb_host.specs.declared.request.Request.{Request}
+use Rattle.usb_host.specs.declared.step.Step.{Step}
+use Rattle.usb_host.specs.Order.{stopped}
+use Rattle.usb_host.specs.Keeping.{Keeps}
+use Rattle.usb_host.specs.Steps.{blames_bus, LacksMemory, Grows}
+
+-- What contracts see of what is due, and of what a host holds beside it.
 
 -- a place: what is due, with what was read so far
 abbrev pub place_of : Due → Draft → Place
@@ -26,3 +42,57 @@ place_of (due.Stopped trouble) d = Stopped trouble
 abbrev pub kept_of : Due → Held → Kept
 kept_of (due.Set kind total) h = kept.Set h.decoder h.over
 kept_of here h = kept.Bytes h.bytes
+
+-- Where a read leads to, as a function tells it.
+
+-- whether an enumeration has ended at a place
+abbrev pub is_end : Place → Bool
+is_end (Reported f) = true
+is_end (Stopped trouble) = true
+is_end place = false
+
+-- memory was wanting after a read that leads on to this place
+abbrev pub GrowsTo : Hearing → Place → Place → Type 0
+GrowsTo heard here target = Grows heard here × (is_end target ≡ false)
+
+-- what is due next, beside this draft; or why the read of this place is refused, or memory was wanting where that is asked for
+abbrev pub LeadsTo : Place → Place → Draft → Result Due Why → Type 0
+LeadsTo here target d (Ok due) = place_of due d ≡ target
+LeadsTo here target d (Err why) = (GrowsTo Completes here target × (why ≡ Memory)) ⊎ (target ≡ stopped here why)
+
+-- the transfer of a plan, where there is one
+abbrev pub requested : Plan → Option Request
+requested (Begin address packet q) = Some (record { address = address; packet = packet; setup = q })
+requested plan = None
+
+-- new bytes were kept, or memory was wanting
+abbrev pub Adds : Kept → List ℕ → Bool → Kept → Type 0
+Adds old piece wants new = (result : Result Progress SetFault) × Keeps old piece result new × Tells wants result
+  where
+    Tells : Bool → Result Progress SetFault → Type 0
+    Tells true result = LacksMemory (Brings piece) old result
+    Tells false result = LacksMemory (Brings piece) old result → ⊥
+
+-- where a read leads to that has ended so, or the end where memory is asked for and wanting
+abbrev pub Leads : Hearing → Place → Place → Place → Type 0
+Leads heard here target next = (GrowsTo heard here target × (next ≡ stopped here Memory)) ⊎ (next ≡ target)
+
+-- a read of bytes that are kept has at most 255 of them
+abbrev pub HasRoom : Kept → ℕ → Type 0
+HasRoom (kept.Bytes bytes) count = length bytes + count ≤ 255
+HasRoom (kept.Set d over) count = Unit {0}
+
+-- what is due, or that memory was wanting
+abbrev pub OrMemory : Result Due AllocError → Result Due Why → Type 0
+OrMemory (Ok due) new = new ≡ Ok due
+OrMemory (Err e) new = new ≡ Err Memory
+
+-- what is due, or the end at this step
+abbrev pub Settles : Step → Result Due Why → Due → Type 0
+Settles step (Ok due) new = new ≡ due
+Settles step (Err why) new = new ≡ dues.Stopped (record { step = step; why = why })
+
+-- whether an enumeration has ended by trouble for which the bus is to blame
+abbrev pub is_bus_trouble : Place → Bool
+is_bus_trouble (Stopped trouble) = blames_bus trouble.why
+is_bus_trouble place = false

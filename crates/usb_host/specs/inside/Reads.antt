@@ -1,24 +1,24 @@
 -- A read in work, as the code holds it.
-use Rattle.std.specs.Prelude.{◌≡◌, ◌≤◌, false, if◌then◌else◌, length, Option, Some, None, Result}
+use Rattle.std.specs.Prelude.{◌≡◌, ◌≤◌, false, if◌then◌else◌, length, Option, Some, None, Result, ℕ, ◌<◌, Bool}
 use Rattle.usb_set.specs.declared.fault.SetFault.{SetFault}
 use Rattle.usb_set.specs.declared.decoder.Progress.{Progress}
-use Rattle.usb_fields.specs.declared.speed.Speed.{Speed}
+use Rattle.usb_fields.specs.declared.packet.Speed.{Speed}
 use Rattle.usb_host.specs.declared.why.Why.TheVariants.{Stalled, Memory}
-use Rattle.usb_host.specs.declared.stage.TransferStage.{TransferStage}
-use Rattle.usb_host.specs.declared.stage.TransferStage.TheVariants as stages
+use Rattle.usb_host.specs.declared.transfer.TransferStage.{TransferStage}
+use Rattle.usb_host.specs.declared.transfer.TransferStage.TheVariants as stages
 use Rattle.usb_host.specs.Limits.{LimitView}
 use Rattle.usb_host.specs.Transfer.{TransferView, Hearing, Goes, Brings, Completes, Fails, Taken}
 use Rattle.usb_host.specs.declared.place.Place.{Place}
-use Rattle.usb_host.specs.declared.kept.Kept.{Kept}
-use Rattle.usb_host.specs.declared.kept.Kept.TheVariants as kept
+use Rattle.usb_host.specs.declared.place.Kept.{Kept}
+use Rattle.usb_host.specs.declared.place.Kept.TheVariants as kept
 use Rattle.usb_host.specs.declared.current_read.Ending.{Ending}
 use Rattle.usb_host.specs.declared.current_read.Ending.TheVariants as endings
 use Rattle.usb_host.specs.declared.current_read.Reading.{Reading as Work}
 use Rattle.usb_host.specs.Order.{stopped, refused_leads}
-use Rattle.usb_host.specs.Steps.{HostPhase, ResetDue, Reading, Ended, KeepsHeard, LacksMemory, completed_leads, enter}
-use Rattle.usb_host.specs.inside.Steady.{IsGood, FitsPlace, KeepsBytes}
-use Rattle.usb_host.specs.inside.NextPlace.{is_end, Leads}
-use Rattle.usb_host.specs.inside.Places.{place_of, kept_of}
+use Rattle.usb_host.specs.Steps.{HostPhase, ResetDue, Reading, Ended, KeepsHeard, LacksMemory, completed_leads, enter, HostView}
+use Rattle.usb_host.specs.inside.Sound.{IsGood, FitsPlace, KeepsBytes}
+use Rattle.usb_host.specs.inside.Places.{is_end, Leads, place_of, kept_of}
+use Rattle.usb_host.specs.declared.host.Host.TheInside.{Inside}
 
 -- where the enumeration stands
 abbrev pub place_in : Work → Place
@@ -95,3 +95,29 @@ abbrev pub IsStanding : HostPhase → Type 0
 IsStanding ResetDue = Unit {0}
 IsStanding (Reading place t k) = IsReading place t k
 IsStanding (Ended place) = Unit {0}
+
+-- A host, as the code holds it.
+
+-- a reset that is due, or where the read stands
+abbrev pub phase_in : Bool → Place → TransferView → Kept → HostPhase
+phase_in reset_due place t k = if reset_due then ResetDue else standing place t k
+
+-- the view of a host's fields
+abbrev pub view_of : Inside → HostView
+view_of h =
+    record {
+      limits = h.limits;
+      speed = h.speed;
+      resets = h.resets;
+      phase = phase_in h.reset_due (place_in h.reading) h.reading.transfer (kept_in h.reading);
+    }
+
+-- a reset is due only while attempts are left, and a read in work is sound
+abbrev pub IsPhase : ℕ → ℕ → HostPhase → Type 0
+IsPhase attempts resets ResetDue = resets < attempts
+IsPhase attempts resets (Reading place t k) = IsReading place t k
+IsPhase attempts resets (Ended place) = Unit {0}
+
+-- what holds of a host
+abbrev pub IsHost : HostView → Type 0
+IsHost v = IsPhase v.limits.attempts v.resets v.phase

@@ -1,17 +1,59 @@
 -- What holds of a place after the bytes that count.
-use Rattle.std.specs.Prelude.{◌≡◌, ℕ, ◌*◌, ◌<◌, ◌≤◌, List, [], length, Some, None}
+use Rattle.std.specs.Prelude.{◌*◌, ◌<◌, ◌≤◌, length, slice_index, ◌≡◌, ℕ, List, [], Some, None}
 use Rattle.usb_fields.specs.Bytes.{AreBytes}
+use Rattle.usb_host.specs.declared.place.Place.{Place}
+use Rattle.usb_host.specs.declared.place.Place.TheVariants.{First, Address, Device, Header, Set, Qualifier, Languages, Text, Configure, Reported, Stopped}
+use Rattle.usb_host.specs.declared.place.Kept.{Kept}
+use Rattle.usb_host.specs.declared.place.Kept.TheVariants as kept
+use Rattle.usb_host.specs.Order.{sets_of, declared_sets}
+use Rattle.usb_host.specs.Steps.{HostPhase, ResetDue, Reading, Ended, HostView, new_host, reset, Takes}
 use Rattle.usb_set.specs.declared.tree.SetKind.{SetKind}
 use Rattle.usb_set.specs.declared.tree.SetKind.TheVariants as kinds
 use Rattle.usb_file_data.specs.declared.file.DescriptorFile.{DescriptorFile}
 use Rattle.usb_file_data.specs.declared.file.Other.{Other}
 use Rattle.usb_file_data.specs.declared.file.Strings.{Strings}
-use Rattle.usb_file_data.specs.File.{File, file_bytes}
-use Rattle.usb_file_data.specs.Named.{named_indices}
+use Rattle.usb_file_data.specs.File.{File, file_bytes, named_indices}
 use Rattle.usb_file_data.specs.Front.{IsFront, AllSets, StringsFollow, with_strings}
-use Rattle.usb_host.specs.declared.place.Place.{Place}
-use Rattle.usb_host.specs.declared.place.Place.TheVariants.{First, Address, Device, Header, Set, Qualifier, Languages, Text, Configure, Reported, Stopped}
-use Rattle.usb_host.specs.Order.{sets_of, declared_sets}
+use Rattle.usb_fields.specs.declared.packet.Speed.{Speed}
+use Rattle.usb_fields.specs.Packets.{Reply as Answer}
+use Rattle.usb_host.specs.Limits.{LimitView}
+use Rattle.usb_host.specs.Transfer.{TransferView, taken, left}
+use Rattle.usb_host.specs.Cost.{most, left_to_ask, BringsBytes}
+
+-- What every host keeps that has heard bytes.
+
+-- what every place keeps, whatever was replied: packets have 8 bytes at least, and what is read was declared
+abbrev pub IsGood : Place → Type 0
+IsGood First = Unit {0}
+IsGood (Address first) = 8 ≤ slice_index first 7
+IsGood (Device first) = 8 ≤ slice_index first 7
+IsGood (Header kind f) = (8 ≤ f.device.packet) × (length (sets_of kind f) < declared_sets kind f)
+IsGood (Set kind f total) = (8 ≤ f.device.packet) × (length (sets_of kind f) < declared_sets kind f) × (total < 65536)
+IsGood (Qualifier f) = 8 ≤ f.device.packet
+IsGood (Languages f named) = (8 ≤ f.device.packet) × (length named ≤ 255)
+IsGood (Text f s named) =
+    (8 ≤ f.device.packet) × (length s.texts < length s.languages * length named) × (length named ≤ 255) × (length s.languages ≤ 126)
+IsGood (Configure f) = 8 ≤ f.device.packet
+IsGood (Reported f) = Unit {0}
+IsGood (Stopped trouble) = Unit {0}
+
+-- a set is being decoded, and the bytes of any other read are kept
+abbrev pub FitsPlace : Place → Kept → Type 0
+FitsPlace (Set kind f total) (kept.Bytes bytes) = ⊥
+FitsPlace (Set kind f total) (kept.Set d over) = Unit {0}
+FitsPlace place (kept.Bytes bytes) = Unit {0}
+FitsPlace place (kept.Set d over) = ⊥
+
+-- what is kept are bytes
+abbrev pub KeepsBytes : Kept → Type 0
+KeepsBytes (kept.Bytes bytes) = AreBytes bytes
+KeepsBytes (kept.Set d over) = Unit {0}
+
+-- what holds of every host that has heard bytes
+abbrev pub IsSteady : HostPhase → Type 0
+IsSteady ResetDue = Unit {0}
+IsSteady (Reading place t k) = IsGood place × FitsPlace place k × KeepsBytes k
+IsSteady (Ended place) = Unit {0}
 
 -- the bytes so far are a prefix of a file
 pub record IsRead (f : DescriptorFile) (b : List ℕ) : Type 0 where
@@ -72,3 +114,14 @@ Holds (Text f s named) b = InStrings f s named b × (length s.texts < length s.l
 Holds (Configure f) b = IsRead f b × (AreBytes b → File f b)
 Holds (Reported f) b = IsRead f b × (AreBytes b → File f b)
 Holds (Stopped trouble) b = Unit {0}
+
+-- What may still be asked for falls with each answer.
+
+-- A new host asks for at most `most` transactions, a reset adds none, and each answer that a read in work takes lowers
+-- what is left, whatever it is. The premise on `left` is what one transfer promises.
+pub record AsksLess : Type 0 where
+  pub at_most : (limits : LimitView) (speed : Speed) → left_to_ask (new_host limits speed) ≡ most limits
+  pub resets : (v : HostView) → v.phase ≡ ResetDue → v.resets < v.limits.attempts →
+      IsSteady (reset v).phase × (left_to_ask (reset v) ≤ left_to_ask v)
+  pub takes : (v w : HostView) (place : Place) (t : TransferView) (k : Kept) (answer : Answer) → v.phase ≡ Reading place t k → IsSteady v.phase →
+      BringsBytes answer → left (taken t answer).transfer < left t → Takes v answer w → IsSteady w.phase × (left_to_ask w < left_to_ask v)

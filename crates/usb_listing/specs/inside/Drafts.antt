@@ -6,7 +6,7 @@ use Rattle.usb_set.specs.Faults.{is_set_type, is_whole, item_fault}
 use Rattle.usb_set.specs.Layout.{has_typed_raw}
 use Rattle.usb_file_data.specs.declared.file.DescriptorFile.{DescriptorFile}
 use Rattle.usb_file_data.specs.declared.file.Strings.{Strings}
-use Rattle.usb_file_data.specs.Named.{named_indices}
+use Rattle.usb_file_data.specs.File.{named_indices}
 use Rattle.usb_listing.specs.declared.draft.Draft.{Draft}
 use Rattle.usb_listing.specs.declared.word.Word.{Word}
 use Rattle.usb_listing.specs.declared.word.Word.TheVariants as words
@@ -16,12 +16,10 @@ use Rattle.usb_listing.specs.declared.fault.ListWhy.TheVariants as whys
 use Rattle.usb_listing.specs.Order.{has_over, items_of}
 use Rattle.usb_listing.specs.Words.{first_word}
 use Rattle.usb_listing.specs.Listings.{IsBegun, IsPlaced, RestFaulty, lines_of}
-use Rattle.usb_listing.specs.declared.comments.Form.{Form}
-use Rattle.usb_listing.specs.inside.Finding.{word_in}
-use Rattle.usb_listing.specs.inside.Forms.{count_before, line_read, text_read}
+use Rattle.usb_listing.specs.declared.assembly.Form.{Form}
+use Rattle.usb_listing.specs.inside.Rows.{word_in}
+use Rattle.usb_listing.specs.inside.Walking.{count_before, line_read, text_read, Cut, add_line}
 use Rattle.usb_listing.specs.inside.Growing.{last_of, length_of, may_stand, open_sets}
-use Rattle.usb_listing.specs.inside.Lines.{Cut}
-use Rattle.usb_listing.specs.inside.Walking.{add_line}
 
 -- how many strings the file has once it is whole
 abbrev pub strings_total : DescriptorFile → Option Strings → ℕ

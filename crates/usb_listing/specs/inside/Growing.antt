@@ -6,12 +6,12 @@ use Rattle.usb_fields.specs.declared.qualifier.Qualifier.{Qualifier}
 use Rattle.usb_set.specs.declared.tree.Configuration.{Configuration}
 use Rattle.usb_set.specs.Building.{has_setting}
 use Rattle.usb_set.specs.Descriptors.{Descriptor}
-use Rattle.usb_set.specs.Encoding.{set_length}
+use Rattle.usb_set.specs.Layout.{set_length}
 use Rattle.usb_set.specs.inside.Reading.{attach, configuration_of, with_last}
 use Rattle.usb_file_data.specs.declared.file.DescriptorFile.{DescriptorFile}
 use Rattle.usb_file_data.specs.declared.file.Other.{Other}
 use Rattle.usb_file_data.specs.declared.file.Strings.{Strings}
-use Rattle.usb_file_data.specs.Named.{named_indices}
+use Rattle.usb_file_data.specs.File.{named_indices}
 use Rattle.usb_listing.specs.declared.word.Word.{Word}
 use Rattle.usb_listing.specs.declared.word.Word.TheVariants as words
 use Rattle.usb_listing.specs.Says.{Item, fields, languages, string}

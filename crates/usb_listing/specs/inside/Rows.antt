@@ -1,15 +1,40 @@
 -- The descriptor of a line, read: what stands after the first word.
-use Rattle.std.specs.Prelude.{ℕ, ◌==◌, if◌then◌else◌, option_and_then, drop, length, is_some, Bool, Option, Some, None, List, [], ◌∷◌}
-use Rattle.std.specs.Option.{option_map}
-use Rattle.usb_listing.specs.Table.{Row}
+use Rattle.std.specs.Prelude.{ℕ, List, [], ◌∷◌, map, if◌then◌else◌, Option, Some, None, ◌==◌, option_and_then, drop, length, is_some, Bool}
+use Rattle.std.specs.Str.{bytes_eq}
+use Rattle.usb_listing.specs.Table.{extra_words, Row}
 use Rattle.usb_listing.specs.declared.word.Word.{Word}
 use Rattle.usb_listing.specs.declared.word.Word.TheVariants as words
-use Rattle.usb_listing.specs.declared.values.Written.TheVariants as forms
-use Rattle.usb_listing.specs.Words.{first_word, word_text}
+use Rattle.usb_listing.specs.Words.{word_text, first_word}
+use Rattle.std.specs.Option.{option_map}
+use Rattle.usb_listing.specs.declared.row.Written.TheVariants as forms
 use Rattle.usb_listing.specs.Says.{Item, fields, is_typed_raw, languages, row_for, string}
-use Rattle.usb_listing.specs.inside.Fields.{behind_space, bytes_in}
-use Rattle.usb_listing.specs.inside.Finding.{word_in}
-use Rattle.usb_listing.specs.inside.Units.{values_from}
+use Rattle.usb_listing.specs.inside.Fields.{behind_space, bytes_in, values_from}
+
+-- Words found by how they are written.
+
+-- the one of these words that is written so
+abbrev pub word_among : List Word → List ℕ → Option Word
+word_among [] text = None
+word_among (w ∷ ws) text = if bytes_eq text (word_text w) then Some w else word_among ws text
+
+-- the words of most lines, those of extras, and the others
+abbrev pub often_words : List Word
+often_words = words.Endpoint ∷ words.Interface ∷ []
+
+abbrev pub all_extra_words : List Word
+all_extra_words = map words.Extra extra_words
+
+abbrev pub other_words : List Word
+other_words = words.String ∷ words.Configuration ∷ words.OtherSpeed ∷ words.Device ∷ words.Qualifier ∷ words.Languages ∷ []
+
+-- the one found before, or else one of these
+abbrev pub or_among : Option Word → List Word → List ℕ → Option Word
+or_among None ws text = word_among ws text
+or_among (Some w) ws text = Some w
+
+-- the word that is written so, if there is one
+unfoldable pub word_in : List ℕ → Option Word
+word_in text = or_among (or_among (word_among often_words text) all_extra_words text) other_words text
 
 -- the bytes of a descriptor of this row
 abbrev pub row_bytes : Option Row → List ℕ → Option (List ℕ)

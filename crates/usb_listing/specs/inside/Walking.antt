@@ -1,18 +1,61 @@
 -- A listing read byte by byte: the file so far, and the line in work.
-use Rattle.std.specs.Prelude.{ℕ, ◌+◌, List, [], ◌∷◌, ◌++◌, ◌==◌, Option, Some, None, Result, Ok, Err, if◌then◌else◌}
+use Rattle.std.specs.Prelude.{◌≡◌, ◌≢◌, ℕ, ◌==◌, List, [], ◌∷◌, ◌++◌, length, Bool, Option, Some, None, if◌then◌else◌, ◌+◌, Result, Ok, Err}
 use Rattle.usb_file_data.specs.declared.file.DescriptorFile.{DescriptorFile}
+use Rattle.usb_file_data.specs.declared.file.Strings.{Strings}
+use Rattle.usb_file_data.specs.File.{named_indices}
+use Rattle.usb_listing.specs.declared.assembly.Form.{Form}
+use Rattle.usb_listing.specs.declared.assembly.Form.TheVariants as forms
+use Rattle.usb_listing.specs.declared.fault.ListWhy.{ListWhy}
+use Rattle.usb_listing.specs.Comments.{is_dropped, lines_before, uncommented, whole_lines, without_return, CommentedRefused}
+use Rattle.usb_listing.specs.Listings.{ListRefused, is_whole}
 use Rattle.usb_listing.specs.declared.word.Word.{Word}
 use Rattle.usb_listing.specs.Words.{first_word}
-use Rattle.usb_text.specs.Printable.{is_printable}
+use Rattle.usb_text.specs.Lines.{is_printable}
 use Rattle.usb_listing.specs.Says.{Item, fields}
 use Rattle.usb_listing.specs.Order.{has_over}
-use Rattle.usb_listing.specs.Listings.{is_whole}
 use Rattle.usb_listing.specs.declared.fault.ListFault.{ListFault}
-use Rattle.usb_listing.specs.declared.fault.ListWhy.{ListWhy}
 use Rattle.usb_listing.specs.declared.fault.ListWhy.TheVariants as whys
-use Rattle.usb_listing.specs.inside.Finding.{word_in}
+use Rattle.usb_listing.specs.inside.Rows.{word_in, item_of_line}
 use Rattle.usb_listing.specs.inside.Growing.{device_of, file_and, may_stand}
-use Rattle.usb_listing.specs.inside.Rows.{item_of_line}
+
+-- What stands before the first byte of a kind; what is still due at the end.
+
+-- this byte is not in it
+abbrev pub HasNo : ℕ → List ℕ → Type 0
+HasNo c [] = Unit {0}
+HasNo c (x ∷ text) = (x ≢ c) × HasNo c text
+
+-- this stands before the first such byte, and that after it
+pub record Cut (c : ℕ) (text line more : List ℕ) : Type 0 where
+  pub parts : text ≡ line ++ c ∷ more
+  pub none : HasNo c line
+
+-- whether no string is due any more, of so many in all where the languages are there
+abbrev pub has_all_strings : DescriptorFile → Option Strings → ℕ → Bool
+has_all_strings f None total = length (named_indices f) == 0
+has_all_strings f (Some s) total = length s.texts == total
+
+-- What is read of a text, as it stands or with comments.
+
+-- the text that is read of it
+abbrev pub text_read : Form → List ℕ → List ℕ
+text_read forms.Exact text = text
+text_read forms.Commented text = uncommented text
+
+-- what is read of a line, if it is not dropped
+abbrev pub line_read : Form → List ℕ → Option (List ℕ)
+line_read forms.Exact line = Some line
+line_read forms.Commented line = if is_dropped (without_return line) then None else Some (without_return line)
+
+-- how many lines of the text are before the one that so many read ones are before
+abbrev pub count_before : Form → List ℕ → ℕ → ℕ
+count_before forms.Exact text count = count
+count_before forms.Commented text count = lines_before (whole_lines text) count
+
+-- why no file is read, and the line of the text
+abbrev pub Refused : Form → List ℕ → ℕ → ListWhy → Type 0
+Refused forms.Exact text line why = ListRefused text line why
+Refused forms.Commented text line why = CommentedRefused text line why
 
 -- a file of its first descriptor alone
 abbrev pub file_of : List ℕ → DescriptorFile

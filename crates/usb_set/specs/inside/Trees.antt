@@ -1,12 +1,14 @@
--- The bytes and the tests of each part of a set's tree.
-use Rattle.std.specs.Prelude.{ℕ, List, ◌++◌, Bool, ◌||◌}
+-- The bytes, the length and the tests of each part of a set's tree.
+use Rattle.std.specs.Prelude.{ℕ, List, ◌++◌, Bool, ◌||◌, ◌≡◌, ◌<◌, false, ◌+◌, min, if◌then◌else◌, ◌≤◌, length, take}
 use Rattle.std.specs.List.{flat_map, list_any}
 use Rattle.usb_set.specs.declared.extra.Extra.{Extra}
 use Rattle.usb_set.specs.declared.tree.Endpoint.{Endpoint}
 use Rattle.usb_set.specs.declared.tree.Setting.{Setting}
 use Rattle.usb_set.specs.declared.tree.Configuration.{Configuration}
 use Rattle.usb_set.specs.Descriptors.{descriptor_bytes, extra_descriptor, endpoint_descriptor, interface_descriptor, configuration_descriptor}
-use Rattle.usb_set.specs.Layout.{is_long, is_typed_raw}
+use Rattle.usb_set.specs.Layout.{is_long, is_typed_raw, set_length, has_long_descriptor, has_typed_raw}
+
+-- The bytes and the tests of each part of a set's tree.
 
 -- the bytes of an extra, of an endpoint, of a setting and of a set, each with all that belongs to it
 abbrev pub extra_bytes : Extra → List ℕ
@@ -43,3 +45,31 @@ is_setting_typed s = list_any is_typed_raw s.extras || list_any is_endpoint_type
 
 abbrev pub is_tree_typed : Configuration → Bool
 is_tree_typed c = list_any is_typed_raw c.extras || list_any is_setting_typed c.settings
+
+-- How many bytes a set has, where it has any.
+
+-- the set is refused for no reason, and it has this many bytes
+pub record HasLength (c : Configuration) (total : ℕ) : Type 0 where
+  pub within_255 : has_long_descriptor c ≡ false
+  pub raws_are_raw : has_typed_raw c ≡ false
+  pub is_length : total ≡ set_length c
+  pub short : total < 65536
+
+-- What the encoder's pass over a set counts.
+
+-- the count of bytes after so many more, or 65536 where that is less, or where one of their descriptors is long or
+-- is raw and typed
+abbrev pub measured : ℕ → Bool → Bool → ℕ → ℕ
+measured start long typed count = if long || typed then 65536 else min (start + count) 65536
+
+-- Writing bytes into a buffer, one part after another.
+
+-- there is room for the bytes at this place
+abbrev pub HasRoom : List ℕ → ℕ → List ℕ → Type 0
+HasRoom buffer at bytes = at + length bytes ≤ length buffer
+
+-- the bytes are at this place, after what was before it, and end there; the buffer keeps its length
+pub record Puts (old : List ℕ) (at : ℕ) (bytes new : List ℕ) (end : ℕ) : Type 0 where
+  pub front : take end new ≡ take at old ++ bytes
+  pub ends : end ≡ at + length bytes
+  pub count : length new ≡ length old

@@ -3,13 +3,13 @@ use Rattle.std.specs.Prelude.{◌≡◌, ℕ, ◌≤◌, ◌<◌, List, [], ◌�
 use Rattle.std.specs.Io.KnownBytes.{Consumes, IsAtEnd}
 use Rattle.usb_set.specs.Decoding.{Decoding, gathers, has, refused}
 use Rattle.usb_set.specs.Faults.{Begins, Faulty, IsOpen}
-use Rattle.usb_file.specs.Inputs.{is_one_set}
-use Rattle.usb_tool.specs.Input.{Left, ReadsAll, ReadsSome}
+use Rattle.usb_file_data.specs.Inputs.{is_one_set}
+use Rattle.usb_tool.specs.Endings.{Left, ReadsAll, ReadsSome}
 use Rattle.usb_tool.specs.declared.fault.ToolFault.{ToolFault}
 use Rattle.usb_tool.specs.declared.fault.ToolFault.TheVariants as faults
 use Rattle.usb_tool.specs.declared.intake.Intake.{Intake}
 use Rattle.usb_tool.specs.declared.intake.Intake.TheVariants as intakes
-use Rattle.usb_tool.specs.declared.set_intake.SetIntake.{SetIntake}
+use Rattle.usb_tool.specs.declared.intake.SetIntake.{SetIntake}
 
 -- a decoder was fed these bytes, of which a set was the front up to this place, where one was
 abbrev pub Fed : Decoding → Option ℕ → List ℕ → Type 0

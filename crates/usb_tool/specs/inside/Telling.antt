@@ -4,7 +4,7 @@ use Rattle.std.specs.Io.KnownBytes.{Appends, Keeps}
 use Rattle.usb_text.specs.declared.output.OutFault.TheVariants as outs
 use Rattle.usb_text.specs.Output.{AppendsFront, AppendsLess, Held}
 use Rattle.usb_file_data.specs.declared.file.DescriptorFile.{DescriptorFile}
-use Rattle.usb_bus.specs.declared.run.Run.{Run}
+use Rattle.usb_bus.specs.declared.enumeration.Run.{Run}
 use Rattle.usb_bus.specs.Log.{WritesLogLess}
 use Rattle.usb_tool.specs.Endings.{Extent}
 use Rattle.usb_tool.specs.Enumerations.{Conditions, IsRun}

@@ -1,5 +1,5 @@
 use Rattle.std.proofs.Common.{refl, ap, ◌∙◌}
-use Rattle.usb_fields.specs.Packet.{reply_of}
+use Rattle.usb_fields.specs.Packets.{reply_of}
 use Rattle.usb_bus.proofs.Leading.{failure_in, failure_in-taken}
 use Rattle.usb_bus.proofs.exchange.hear.Goals as goal
 

@@ -1,7 +1,6 @@
 use Rattle.std.proofs.Common.{◌≡◌, ◌<◌, Some, [], refl, sym, ◌∙◌, arith, add-one, rules, subst, IsSome}
-use Rattle.usb_fields.specs.Packet.{sent_of}
-use Rattle.usb_host.specs.Transfer.{due}
-use Rattle.usb_host.specs.Bound.{left}
+use Rattle.usb_fields.specs.Packets.{sent_of}
+use Rattle.usb_host.specs.Transfer.{due, left}
 use Rattle.usb_device.specs.Requests.{answer}
 use Rattle.usb_bus.specs.Bus.{HostEnd, Ends, exchanged}
 use Rattle.usb_bus.proofs.Leading.{Leads-more}

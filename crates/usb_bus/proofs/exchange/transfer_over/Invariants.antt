@@ -1,5 +1,5 @@
 use Rattle.std.proofs.Common.{◌≡◌, ◌≤◌, ◌+◌, []}
-use Rattle.usb_host.specs.Bound.{left}
+use Rattle.usb_host.specs.Transfer.{left}
 use Rattle.usb_device.specs.Requests.{answer}
 use Rattle.usb_bus.specs.inside.Running.{failure_of, LeadsTo}
 use Rattle.usb_bus.proofs.exchange.transfer_over.Given as goal

@@ -1,6 +1,5 @@
 use Rattle.usb_bus.specs.Attempt.{begins}
-use Rattle.usb_bus.specs.Bus.{Ends, run}
-use Rattle.usb_bus.specs.Fates.{losses, busies, acks_lost}
+use Rattle.usb_bus.specs.Bus.{Ends, run, losses, busies, acks_lost}
 use Rattle.usb_bus.proofs.Keeps.{stages_end, stays_together}
 use Rattle.usb_bus.proofs.laws.a_transfer_has_causes.Goals as goal
 

@@ -3,10 +3,9 @@ use Rattle.std.specs.Prelude.{IsNone, IsSome}
 use Rattle.usb_host.specs.Cost.{left_to_ask}
 use Rattle.usb_host.specs.Steps.{new_host}
 use Rattle.usb_host.proofs.LowerLemmas.{asks_less}
-use Rattle.usb_bus.specs.declared.run.Run.{Run}
-use Rattle.usb_bus.specs.EnumerationRun.{Pair}
-use Rattle.usb_bus.specs.Stepping.{IsStep, Moves, both}
-use Rattle.usb_bus.specs.inside.Walking.{Breaks, Leads, Walks}
+use Rattle.usb_bus.specs.declared.enumeration.Run.{Run}
+use Rattle.usb_bus.specs.Enumerate.{Pair, IsStep, Moves, both}
+use Rattle.usb_bus.specs.inside.Running.{Breaks, Leads, Walks}
 use Rattle.usb_bus.proofs.EnumerateLemmas.{most_few}
 use Rattle.usb_bus.proofs.LogLemmas.{leads_none, leads_on}
 use Rattle.usb_device.proofs.Exits.{exit_err}

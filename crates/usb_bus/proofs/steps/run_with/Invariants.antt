@@ -1,7 +1,7 @@
 use Rattle.std.proofs.Common.{◌≡◌, ◌≤◌, ◌+◌}
 use Rattle.usb_host.specs.Cost.{left_to_ask, most}
-use Rattle.usb_bus.specs.Stepping.{both, measure}
-use Rattle.usb_bus.specs.inside.Walking.{Leads}
+use Rattle.usb_bus.specs.Enumerate.{both, measure}
+use Rattle.usb_bus.specs.inside.Running.{Leads}
 use Rattle.usb_bus.proofs.steps.run_with.Given as goal
 
 abbrev pub invariant-loop-host : goal.invariant-loop-host

@@ -1,5 +1,5 @@
 use Rattle.std.proofs.Common.{Option, refl, subst}
-use Rattle.usb_fields.specs.declared.speed.Speed.{Speed}
+use Rattle.usb_fields.specs.declared.packet.Speed.{Speed}
 use Rattle.usb_c.specs.declared.answer.Verdict.TheVariants as verdicts
 use Rattle.usb_c.specs.Devices.{Opens}
 use Rattle.usb_c.proofs.device.usb_device_open.Goals as goal

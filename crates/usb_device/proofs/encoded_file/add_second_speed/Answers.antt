@@ -1,6 +1,6 @@
 use Rattle.std.proofs.Common.{◌≡◌, ◌++◌, ◌∷◌, [], map}
 use Rattle.std.proofs.lemmas.List.{append_assoc}
-use Rattle.usb_fields.specs.Qualifier.{qualifier_bytes}
+use Rattle.usb_fields.specs.Device.{qualifier_bytes}
 use Rattle.usb_file_data.specs.File.{whole_set}
 use Rattle.usb_device.proofs.encoded_file.add_second_speed.Goals as goal
 

@@ -1,7 +1,7 @@
 use Rattle.std.proofs.Common.{◌≡◌, ◌+◌, ◌-◌, ◌<◌, ◌++◌, append_assoc, arith}
 use Rattle.std.proofs.lemmas.Result.{on_ok_weaker}
 use Rattle.usb_explain.specs.Layouts.{group_lines, groups_lines, width_of}
-use Rattle.usb_explain.specs.inside.LayoutOf.{layout_of}
+use Rattle.usb_explain.specs.inside.Walking.{layout_of}
 use Rattle.usb_explain.proofs.Groups.{one_more}
 use Rattle.usb_explain.proofs.layout.+put_groups.Goals as goal
 

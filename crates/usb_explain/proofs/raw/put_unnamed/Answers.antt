@@ -1,7 +1,7 @@
 use Rattle.std.proofs.Common.{◌≡◌, ◌++◌, append_assoc, codes}
 use Rattle.std.proofs.lemmas.Result.{on_ok_weaker}
 use Rattle.usb_text.specs.Numbers.{byte_code}
-use Rattle.usb_explain.specs.Raws.{unnamed_words}
+use Rattle.usb_explain.specs.Headers.{unnamed_words}
 use Rattle.usb_explain.proofs.raw.put_unnamed.Goals as goal
 
 pub returns : goal.returns

@@ -2,7 +2,7 @@ use Rattle.std.proofs.Common.{subst, sym}
 use Rattle.usb_file_data.specs.declared.file.DescriptorFile.{DescriptorFile}
 use Rattle.usb_file_data.specs.File.{File, file_bytes}
 use Rattle.usb_file.specs.Completed.{completed}
-use Rattle.usb_file.specs.Dumps.{Dump}
+use Rattle.usb_file_data.specs.Inputs.{Dump}
 use Rattle.usb_file.specs.declared.file_reader.Form.{Form}
 use Rattle.usb_file.specs.inside.Reading.{IsOfForm}
 use Rattle.usb_file.proofs.CompletedLemmas.{completed_file}

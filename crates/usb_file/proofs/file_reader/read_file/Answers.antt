@@ -1,10 +1,10 @@
 use Rattle.std.proofs.Common.{◌≡◌, length, inr, sym, subst}
 use Rattle.usb_file_data.specs.declared.file.DescriptorFile.{DescriptorFile}
 use Rattle.usb_file_data.specs.File.{File}
-use Rattle.usb_file.specs.declared.fault.FileFault.{FileFault}
-use Rattle.usb_file.specs.declared.fault.FileWhy.TheVariants as files
-use Rattle.usb_file.specs.Dumps.{Dump}
-use Rattle.usb_file.specs.FileFaults.{ReadRefused}
+use Rattle.usb_file_data.specs.declared.fault.FileFault.{FileFault}
+use Rattle.usb_file_data.specs.declared.fault.FileWhy.TheVariants as files
+use Rattle.usb_file_data.specs.Inputs.{Dump}
+use Rattle.usb_file_data.specs.FileFaults.{ReadRefused}
 use Rattle.usb_file.specs.inside.Reading.{IsOfForm}
 use Rattle.usb_file.proofs.Dumps.{dump_fault, still_refused}
 use Rattle.usb_file.proofs.Ends.{only_memory}

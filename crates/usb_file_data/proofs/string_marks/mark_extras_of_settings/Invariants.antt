@@ -2,7 +2,7 @@ use Rattle.std.proofs.Common.{◌≡◌, drop}
 use Rattle.std.specs.Prelude.{fold}
 use Rattle.std.specs.List.{flat_map}
 use Rattle.usb_fields.specs.Marks.{marked, is_marked}
-use Rattle.usb_file_data.specs.inside.ExtraIndices.{setting_extra_indices}
+use Rattle.usb_file_data.specs.inside.Walk.{setting_extra_indices}
 use Rattle.usb_file_data.proofs.string_marks.mark_extras_of_settings.Given as goal
 
 abbrev pub invariant-loop-setting : goal.invariant-loop-setting

@@ -1,7 +1,7 @@
 use Rattle.std.proofs.Common.{◌≡◌, drop}
 use Rattle.std.specs.Prelude.{fold, map}
 use Rattle.usb_fields.specs.Marks.{marked, is_marked}
-use Rattle.usb_file_data.specs.Named.{interface_string_index}
+use Rattle.usb_file_data.specs.File.{interface_string_index}
 use Rattle.usb_file_data.proofs.string_marks.mark_settings.Given as goal
 
 abbrev pub invariant-loop-setting : goal.invariant-loop-setting

@@ -1,6 +1,6 @@
 use Rattle.std.proofs.Common.{[], refl, ap, ◌∙◌}
 use Rattle.usb_host.specs.declared.due.Due.TheVariants as dues
-use Rattle.usb_host.specs.declared.kept.Kept.TheVariants as kept
+use Rattle.usb_host.specs.declared.place.Kept.TheVariants as kept
 use Rattle.usb_host.specs.declared.place.Place.TheVariants.{First}
 use Rattle.usb_host.specs.Steps.{Reading}
 use Rattle.usb_host.proofs.current_read.begin.Goals as goal

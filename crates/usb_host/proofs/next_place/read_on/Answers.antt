@@ -1,7 +1,7 @@
 use Rattle.std.proofs.Common.{subst}
 use Rattle.usb_host.specs.Order.{bytes_lead}
 use Rattle.usb_host.specs.declared.place.Place.TheVariants.{First, Device, Header}
-use Rattle.usb_host.specs.inside.NextPlace.{LeadsTo}
+use Rattle.usb_host.specs.inside.Places.{LeadsTo}
 use Rattle.usb_host.proofs.next_place.read_on.Goals as goal
 
 -- src/leading.rt: the bytes that are held are those that were read

@@ -1,6 +1,6 @@
 use Rattle.std.proofs.Common.{subst, sym}
 use Rattle.usb_listing.specs.inside.Drafts.{Told, so_far}
-use Rattle.usb_listing.specs.inside.Forms.{text_read}
+use Rattle.usb_listing.specs.inside.Walking.{text_read}
 use Rattle.usb_listing.proofs.FeedLemmas.{no_feed_faulty, read_told}
 use Rattle.usb_listing.proofs.FormLemmas.{none_before_none, none_before_read}
 use Rattle.usb_listing.proofs.ReadingLemmas.{begun_of}

@@ -1,5 +1,5 @@
 use Rattle.std.proofs.Common.{◌≡◌, ◌+◌, drop, length, take}
-use Rattle.usb_fields.specs.Widths.{size_of}
+use Rattle.usb_fields.specs.Fields.{size_of}
 use Rattle.usb_listing.specs.inside.Fields.{cells_from}
 use Rattle.usb_listing.proofs.fields.put_fields.Given as goal
 

@@ -1,9 +1,7 @@
 use Rattle.std.proofs.Common.{◌++◌}
 use Rattle.std.specs.List.{flat_map}
 use Rattle.std.proofs.lemmas.Result.{on_err_weaker, on_ok_weaker}
-use Rattle.usb_listing.specs.Listing.{device_line, other_lines}
-use Rattle.usb_listing.specs.SetListing.{set_lines}
-use Rattle.usb_listing.specs.StringListing.{strings_lines}
+use Rattle.usb_listing.specs.Listing.{device_line, other_lines, set_lines, strings_lines}
 use Rattle.usb_text.proofs.Pages.{broken_after, front_more, longer, not_begun, on_err, puts_after, puts_broken, puts_more}
 use Rattle.usb_listing.proofs.HasBytes.{device_has}
 use Rattle.usb_listing.proofs.listing.list_file.Goals as goal

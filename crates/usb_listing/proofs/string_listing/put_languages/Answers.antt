@@ -1,9 +1,9 @@
 use Rattle.std.proofs.Common.{◌≡◌, ◌++◌, codes, map}
 use Rattle.std.specs.List.{flat_map}
 use Rattle.std.proofs.lemmas.Result.{on_ok_weaker}
-use Rattle.usb_listing.specs.Lines.{written_field}
-use Rattle.usb_text.specs.Units.{two_bytes}
-use Rattle.usb_listing.specs.StringListing.{languages_line}
+use Rattle.usb_listing.specs.Table.{written_field}
+use Rattle.usb_text.specs.Characters.{two_bytes}
+use Rattle.usb_listing.specs.Listing.{languages_line}
 use Rattle.usb_listing.proofs.Lines.{row_line_put}
 use Rattle.usb_listing.proofs.string_listing.put_languages.Goals as goal
 

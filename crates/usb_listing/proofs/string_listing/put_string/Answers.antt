@@ -1,8 +1,8 @@
 use Rattle.std.proofs.Common.{◌≡◌, ◌++◌, codes}
 use Rattle.std.specs.List.{flat_map}
 use Rattle.std.proofs.lemmas.Result.{on_ok_weaker}
-use Rattle.usb_listing.specs.StringListing.{string_line}
-use Rattle.usb_text.specs.Units.{written_unit}
+use Rattle.usb_listing.specs.Listing.{string_line}
+use Rattle.usb_text.specs.Characters.{written_unit}
 use Rattle.usb_listing.proofs.Lines.{quoted_put}
 use Rattle.usb_listing.proofs.string_listing.put_string.Goals as goal
 

@@ -1,6 +1,6 @@
 use Rattle.std.proofs.Common.{◌≡◌, ◌++◌, take}
 use Rattle.std.specs.List.{flat_map}
-use Rattle.usb_text.specs.Units.{written_unit}
+use Rattle.usb_text.specs.Characters.{written_unit}
 use Rattle.usb_listing.proofs.string_listing.put_units.Given as goal
 
 abbrev pub invariant-loop-unit : goal.invariant-loop-unit

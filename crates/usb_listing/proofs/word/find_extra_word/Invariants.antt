@@ -1,6 +1,6 @@
 use Rattle.std.proofs.Common.{◌≡◌, drop, map}
 use Rattle.usb_listing.specs.declared.word.Word.TheVariants as words
-use Rattle.usb_listing.specs.inside.Finding.{word_among}
+use Rattle.usb_listing.specs.inside.Rows.{word_among}
 use Rattle.usb_listing.proofs.word.find_extra_word.Given as goal
 
 abbrev pub invariant-loop-word : goal.invariant-loop-word

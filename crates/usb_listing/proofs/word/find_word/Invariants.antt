@@ -1,5 +1,5 @@
 use Rattle.std.proofs.Common.{◌≡◌, drop}
-use Rattle.usb_listing.specs.inside.Finding.{word_among}
+use Rattle.usb_listing.specs.inside.Rows.{word_among}
 use Rattle.usb_listing.proofs.word.find_word.Given as goal
 
 abbrev pub invariant-loop-word : goal.invariant-loop-word

@@ -1,6 +1,6 @@
 use Rattle.std.proofs.Common.{◌≡◌, ◌≤◌, drop, length}
 use Rattle.std.specs.List.{flat_map, list_any}
-use Rattle.usb_set.specs.inside.Measuring.{measured}
+use Rattle.usb_set.specs.inside.Trees.{measured}
 use Rattle.usb_set.proofs.lengths.all_len.Given as goal
 
 abbrev pub invariant-loop-part : goal.invariant-loop-part

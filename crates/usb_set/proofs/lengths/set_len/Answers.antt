@@ -1,7 +1,6 @@
 use Rattle.std.proofs.Common.{◌∙◌, ℕ, List, Bool, length, sym, ap}
 use Rattle.usb_set.specs.Layout.{has_long_descriptor, has_typed_raw}
-use Rattle.usb_set.specs.inside.Trees.{is_tree_typed, tree_bytes}
-use Rattle.usb_set.specs.inside.Measuring.{measured}
+use Rattle.usb_set.specs.inside.Trees.{is_tree_typed, tree_bytes, measured}
 use Rattle.usb_set.proofs.Trees.{has_long_is, has_typed_is, set_bytes_is}
 use Rattle.usb_set.proofs.lengths.set_len.Goals as goal
 

@@ -1,6 +1,6 @@
 use Rattle.std.proofs.Common.{drop, take}
 use Rattle.std.specs.List.{flat_map}
-use Rattle.usb_set.specs.inside.Writing.{HasRoom, Puts}
+use Rattle.usb_set.specs.inside.Trees.{HasRoom, Puts}
 use Rattle.usb_set.proofs.parts.put_all.Given as goal
 
 abbrev pub invariant-loop-part : goal.invariant-loop-part

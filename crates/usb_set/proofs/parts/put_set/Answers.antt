@@ -1,6 +1,6 @@
 use Rattle.std.proofs.Common.{◌∙◌, ◌≤◌, ◌++◌, List, ℕ, length, take, sym, ap, subst, arith}
 use Rattle.std.proofs.lemmas.List.{take_all}
-use Rattle.usb_set.specs.inside.Writing.{HasRoom}
+use Rattle.usb_set.specs.inside.Trees.{HasRoom}
 use Rattle.usb_set.proofs.Trees.{has_long_is, set_bytes_is}
 use Rattle.usb_set.proofs.parts.put_set.Goals as goal
 

@@ -1,9 +1,8 @@
 use Rattle.std.proofs.Common.{subst, sym}
 use Rattle.usb_listing.specs.declared.laws.TheConstants.{LISTING_LIMIT}
 use Rattle.usb_listing.specs.Listings.{ListFaulty}
-use Rattle.usb_tool.specs.Builds.{IsListing, RefusesListing, TellsBytes}
-use Rattle.usb_tool.specs.Endings.{AppendsNone}
-use Rattle.usb_tool.specs.Input.{ReadsAll}
+use Rattle.usb_tool.specs.Commands.{IsListing, RefusesListing, TellsBytes}
+use Rattle.usb_tool.specs.Endings.{AppendsNone, ReadsAll}
 use Rattle.usb_tool.proofs.Taken.{bytes_told, cut, not_built, not_listed, told}
 use Rattle.usb_tool.proofs.build.run_build.Goals as goal
 

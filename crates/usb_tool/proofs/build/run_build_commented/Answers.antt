@@ -1,9 +1,8 @@
 use Rattle.std.proofs.Common.{subst, sym}
 use Rattle.usb_listing.specs.declared.laws.TheConstants.{LISTING_LIMIT}
-use Rattle.usb_listing.specs.CommentedListings.{CommentedFaulty}
-use Rattle.usb_tool.specs.Builds.{IsCommented, RefusesListing, TellsBytes}
-use Rattle.usb_tool.specs.Endings.{AppendsNone}
-use Rattle.usb_tool.specs.Input.{ReadsAll}
+use Rattle.usb_listing.specs.Comments.{CommentedFaulty}
+use Rattle.usb_tool.specs.Commands.{IsCommented, RefusesListing, TellsBytes}
+use Rattle.usb_tool.specs.Endings.{AppendsNone, ReadsAll}
 use Rattle.usb_tool.proofs.Taken.{bytes_told, cut, not_built, not_commented, told}
 use Rattle.usb_tool.proofs.build.run_build_commented.Goals as goal
 

@@ -1,5 +1,5 @@
 use Rattle.usb_file_data.specs.declared.laws.TheConstants.{FILE_LIMIT}
-use Rattle.usb_tool.specs.Checks.{TellsFindings}
+use Rattle.usb_tool.specs.Commands.{TellsFindings}
 use Rattle.usb_tool.specs.Endings.{AppendsNone}
 use Rattle.usb_tool.specs.Inputs.{FileShows, IsFile, RefusesInput}
 use Rattle.usb_tool.proofs.Taken.{cut, findings_told, not_taken, told}

@@ -1,6 +1,6 @@
-use Rattle.usb_file.specs.Inputs.{InputFaulty, IsInput}
+use Rattle.usb_file_data.specs.Inputs.{InputFaulty, IsInput}
 use Rattle.usb_file_data.specs.declared.laws.TheConstants.{FILE_LIMIT}
-use Rattle.usb_tool.specs.Checks.{TellsFindings}
+use Rattle.usb_tool.specs.Commands.{TellsFindings}
 use Rattle.usb_tool.specs.Endings.{AppendsNone}
 use Rattle.usb_tool.specs.Inputs.{RefusesInput}
 use Rattle.usb_tool.proofs.Taken.{cut, findings_told, not_taken, told}

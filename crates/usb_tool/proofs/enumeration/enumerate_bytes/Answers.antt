@@ -1,6 +1,6 @@
 use Rattle.std.proofs.Common.{◌≢◌, rules, subst}
-use Rattle.usb_device.specs.Described.{Described}
-use Rattle.usb_device.specs.declared.fault.DescriptionFault.TheVariants.{Memory}
+use Rattle.usb_device.specs.Descriptors.{Described}
+use Rattle.usb_device.specs.declared.acceptance.DescriptionFault.TheVariants.{Memory}
 use Rattle.usb_text.proofs.Pages.{appends_nothing, keeps_refl}
 use Rattle.usb_tool.specs.Enumerations.{under}
 use Rattle.usb_tool.specs.inside.Telling.{MakesRun}

@@ -3,7 +3,7 @@ use Rattle.std.specs.Io.KnownBytes.{Appends}
 use Rattle.usb_listing.specs.Listing.{file_lines}
 use Rattle.usb_text.specs.Output.{AppendsLess}
 use Rattle.usb_text.proofs.Pages.{appends_kept, appends_more, front_longer, front_whole}
-use Rattle.usb_tool.specs.ResultLines.{success_line}
+use Rattle.usb_tool.specs.Enumerations.{success_line}
 use Rattle.usb_tool.proofs.Reading.{when_err}
 use Rattle.usb_tool.proofs.Telling.{cut_by, less_after}
 use Rattle.usb_tool.proofs.enumeration.tell_success.Goals as goal

@@ -3,11 +3,11 @@ use Rattle.std.specs.Fmt.{decimal}
 use Rattle.usb_set.specs.Numbers.{why_message as set_message, why_number as set_why_number}
 use Rattle.usb_set.specs.declared.fault.SetWhy.{SetWhy}
 use Rattle.usb_set.specs.declared.fault.SetWhy.TheVariants as whys
-use Rattle.usb_file.specs.Numbers.{why_number}
-use Rattle.usb_file.specs.declared.fault.FileWhy.{FileWhy}
-use Rattle.usb_file.specs.declared.fault.FileWhy.TheVariants as files
-use Rattle.usb_file.specs.declared.input_fault.InputFault.{InputFault}
-use Rattle.usb_file.specs.declared.input_fault.InputFault.TheVariants as faults
+use Rattle.usb_file_data.specs.FileFaults.{why_number}
+use Rattle.usb_file_data.specs.declared.fault.FileWhy.{FileWhy}
+use Rattle.usb_file_data.specs.declared.fault.FileWhy.TheVariants as files
+use Rattle.usb_file_data.specs.declared.fault.InputFault.{InputFault}
+use Rattle.usb_file_data.specs.declared.fault.InputFault.TheVariants as faults
 use Rattle.usb_explain.specs.Faults.{fault_words, file_message, numbered, trailing_words}
 use Rattle.usb_tool.specs.Explains.{SaysLineOfFault}
 use Rattle.usb_tool.specs.Faults.{fault_line, fault_of_input}

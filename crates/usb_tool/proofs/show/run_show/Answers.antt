@@ -1,7 +1,7 @@
 use Rattle.usb_file_data.specs.declared.laws.TheConstants.{FILE_LIMIT}
 use Rattle.usb_text.specs.Output.{AppendsLess}
 use Rattle.usb_tool.specs.Inputs.{IsSetOrFile, RefusesInput, SetOrFileShows}
-use Rattle.usb_tool.specs.Shows.{TellsListing}
+use Rattle.usb_tool.specs.Commands.{TellsListing}
 use Rattle.usb_tool.proofs.Taken.{cut, listing_told, not_taken, told}
 use Rattle.usb_tool.proofs.show.run_show.Goals as goal
 

@@ -1,8 +1,8 @@
-use Rattle.usb_file.specs.Inputs.{InputFaulty, IsInput}
+use Rattle.usb_file_data.specs.Inputs.{InputFaulty, IsInput}
 use Rattle.usb_file_data.specs.declared.laws.TheConstants.{FILE_LIMIT}
 use Rattle.usb_text.specs.Output.{AppendsLess}
 use Rattle.usb_tool.specs.Inputs.{RefusesInput}
-use Rattle.usb_tool.specs.Shows.{TellsListing}
+use Rattle.usb_tool.specs.Commands.{TellsListing}
 use Rattle.usb_tool.proofs.Taken.{cut, listing_told, not_taken, told}
 use Rattle.usb_tool.proofs.show.run_show_any.Goals as goal
 

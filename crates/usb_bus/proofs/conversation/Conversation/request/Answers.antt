@@ -3,8 +3,7 @@ use Rattle.usb_host.specs.Transfer.{begun}
 use Rattle.usb_device.specs.Requests.{answer}
 use Rattle.usb_bus.specs.Bus.{HostEnd}
 use Rattle.usb_bus.specs.Converse.{IsTalk, TalkView}
-use Rattle.usb_bus.specs.inside.Conversations.{view_of}
-use Rattle.usb_bus.specs.inside.Running.{failure_of, LeadsTo, settled}
+use Rattle.usb_bus.specs.inside.Running.{view_of, failure_of, LeadsTo, settled}
 use Rattle.usb_bus.proofs.Conversing.{none_told, talk_on}
 use Rattle.usb_bus.proofs.conversation.Conversation.request.Goals.{in-Ok+in_ok-push-in-Ok, in-Err}
 use Rattle.usb_bus.proofs.conversation.Conversation.request.Goals as goal

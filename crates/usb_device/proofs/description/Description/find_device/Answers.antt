@@ -1,7 +1,5 @@
 use Rattle.std.proofs.Common.{subst}
-use Rattle.usb_device.specs.Descriptors.{device_of}
-use Rattle.usb_device.specs.Described.{Described}
-use Rattle.usb_device.specs.Places.{IsFound}
+use Rattle.usb_device.specs.Descriptors.{device_of, Described, IsFound}
 use Rattle.usb_device.proofs.PlaceLemmas.{device_found}
 use Rattle.usb_device.proofs.description.Description.find_device.Goals as goal
 

@@ -1,7 +1,5 @@
 use Rattle.std.proofs.Common.{◌≡◌, ◌+◌, ◌<◌, length, ap, refl, subst, arith}
-use Rattle.usb_device.specs.Descriptors.{other_set_at}
-use Rattle.usb_device.specs.Described.{Described}
-use Rattle.usb_device.specs.Places.{descriptors, IsFound}
+use Rattle.usb_device.specs.Descriptors.{other_set_at, Described, descriptors, IsFound}
 use Rattle.usb_device.proofs.PlaceLemmas.{other_set_found, qualifier_found}
 use Rattle.usb_device.proofs.description.Description.find_other_set.Goals as goal
 

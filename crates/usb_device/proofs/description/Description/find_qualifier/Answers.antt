@@ -1,7 +1,5 @@
 use Rattle.std.proofs.Common.{subst}
-use Rattle.usb_device.specs.Descriptors.{qualifier_of}
-use Rattle.usb_device.specs.Described.{Described}
-use Rattle.usb_device.specs.Places.{IsFound}
+use Rattle.usb_device.specs.Descriptors.{qualifier_of, Described, IsFound}
 use Rattle.usb_device.proofs.PlaceLemmas.{qualifier_found}
 use Rattle.usb_device.proofs.description.Description.find_qualifier.Goals as goal
 

@@ -1,7 +1,5 @@
 use Rattle.std.proofs.Common.{◌≡◌, ◌+◌, ◌<◌, length, subst, arith}
-use Rattle.usb_device.specs.Descriptors.{set_at}
-use Rattle.usb_device.specs.Described.{Described}
-use Rattle.usb_device.specs.Places.{IsFound}
+use Rattle.usb_device.specs.Descriptors.{set_at, Described, IsFound}
 use Rattle.usb_device.proofs.PlaceLemmas.{set_found}
 use Rattle.usb_device.proofs.description.Description.find_set.Goals as goal
 

@@ -1,9 +1,6 @@
 use Rattle.std.proofs.Common.{◌≡◌, ◌+◌, ◌<◌, length, Some, ap, subst, arith}
-use Rattle.usb_file_data.specs.Named.{named_indices}
-use Rattle.usb_file_data.specs.StringPlaces.{string_place}
-use Rattle.usb_device.specs.Descriptors.{string_at}
-use Rattle.usb_device.specs.Described.{Described}
-use Rattle.usb_device.specs.Places.{descriptors, IsFound}
+use Rattle.usb_file_data.specs.File.{named_indices, string_place}
+use Rattle.usb_device.specs.Descriptors.{string_at, Described, descriptors, IsFound}
 use Rattle.usb_device.proofs.AcceptedLemmas.{texts_as_many}
 use Rattle.usb_device.proofs.PlaceLemmas.{languages_found, string_below, string_found}
 use Rattle.usb_device.proofs.description.Description.find_string.Goals as goal

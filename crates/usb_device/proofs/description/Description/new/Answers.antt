@@ -1,6 +1,6 @@
 use Rattle.std.proofs.Common.{◌≡◌, ◌++◌, length, ap, ◌∙◌}
 use Rattle.usb_device.specs.Accepted.{Refuses}
-use Rattle.usb_device.specs.Places.{descriptors, main_descriptors, other_descriptors, string_descriptors}
+use Rattle.usb_device.specs.Descriptors.{descriptors, main_descriptors, other_descriptors, string_descriptors}
 use Rattle.usb_device.proofs.Exits.{exit_err}
 use Rattle.usb_device.proofs.description.Description.new.Goals as goal
 

@@ -1,5 +1,5 @@
-use Rattle.usb_fields.specs.Packet.{reply_of, sent_of}
-use Rattle.usb_device.specs.EndpointZero.{device_of}
+use Rattle.usb_fields.specs.Packets.{reply_of, sent_of}
+use Rattle.usb_device.specs.View.{device_of}
 use Rattle.usb_device.proofs.Replies.{reply_has_room}
 use Rattle.usb_device.proofs.owned_device.OwnedDevice.serve.Goals as goal
 

@@ -1,6 +1,6 @@
 use Rattle.std.proofs.Common.{◌≡◌, ◌∷◌, ◌∙◌, ◌-◌, ℕ, List, Some, arith, drop, length, length-drop, sym, take}
-use Rattle.usb_explain.specs.Cut.{descriptor_length, descriptors}
-use Rattle.usb_explain.specs.inside.Gathered.{Gathers}
+use Rattle.usb_explain.specs.Trees.{descriptor_length, descriptors}
+use Rattle.usb_explain.specs.inside.Walking.{Gathers}
 use Rattle.usb_explain.proofs.Cuts.{descriptors_step}
 use Rattle.usb_explain.proofs.survey.Survey.of.Goals as goal
 

@@ -1,6 +1,6 @@
 use Rattle.std.proofs.Common.{◌≤◌, ◌+◌, length}
-use Rattle.usb_explain.specs.Cut.{descriptors}
-use Rattle.usb_explain.specs.inside.Gathered.{Gathers}
+use Rattle.usb_explain.specs.Trees.{descriptors}
+use Rattle.usb_explain.specs.inside.Walking.{Gathers}
 use Rattle.usb_explain.proofs.survey.Survey.of.Given as goal
 
 abbrev pub invariant-loop-length : goal.invariant-loop-length

@@ -1,5 +1,5 @@
 use Rattle.std.specs.Prelude.{None}
-use Rattle.usb_fields.specs.Packet.{reply_of}
+use Rattle.usb_fields.specs.Packets.{reply_of}
 use Rattle.usb_host.specs.Transfer.{taken}
 use Rattle.usb_host.specs.inside.Places.{kept_of}
 use Rattle.usb_host.specs.inside.Reads.{kept_in, place_in}

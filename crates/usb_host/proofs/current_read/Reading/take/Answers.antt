@@ -1,5 +1,5 @@
 use Rattle.std.proofs.Common.{sym, subst}
-use Rattle.usb_fields.specs.Packet.{reply_of}
+use Rattle.usb_fields.specs.Packets.{reply_of}
 use Rattle.usb_host.specs.inside.Reads.{GoesOn, IsStanding, kept_in, place_in, standing, stands}
 use Rattle.usb_host.specs.Steps.{TakesHeard}
 use Rattle.usb_host.specs.Transfer.{taken}

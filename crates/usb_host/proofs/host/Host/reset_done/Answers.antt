@@ -1,7 +1,6 @@
 use Rattle.std.proofs.Common.{◌+◌, ◌≤◌, false, ap, subst}
 use Rattle.usb_host.specs.Cost.{left_to_ask}
-use Rattle.usb_host.specs.inside.Hosts.{phase_in, view_of}
-use Rattle.usb_host.specs.inside.Reads.{kept_in, place_in, stands}
+use Rattle.usb_host.specs.inside.Reads.{phase_in, view_of, kept_in, place_in, stands}
 use Rattle.usb_host.proofs.EndLemmas.{begun_fewer}
 use Rattle.usb_host.proofs.host.Host.reset_done.Goals as goal
 

@@ -1,8 +1,7 @@
 use Rattle.std.proofs.Common.{◌≡◌, ◌&&◌, nat_lt, ap, sym, ◌∙◌, subst}
-use Rattle.usb_fields.specs.Packet.{reply_of}
+use Rattle.usb_fields.specs.Packets.{reply_of}
 use Rattle.usb_host.specs.Steps.{Takes, Reading}
-use Rattle.usb_host.specs.inside.Hosts.{view_of}
-use Rattle.usb_host.specs.inside.Reads.{kept_in, place_in}
+use Rattle.usb_host.specs.inside.Reads.{view_of, kept_in, place_in}
 use Rattle.usb_host.specs.contracts.host.Host.{the_view}
 use Rattle.usb_host.proofs.StandLemmas.{reads_here, host_takes, host_asks_less, reads_sound}
 use Rattle.usb_host.proofs.host.Host.take.Goals as goal

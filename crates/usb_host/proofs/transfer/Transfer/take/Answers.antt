@@ -1,4 +1,4 @@
-use Rattle.usb_fields.specs.Packet.{reply_of}
+use Rattle.usb_fields.specs.Packets.{reply_of}
 use Rattle.usb_host.proofs.BoundLemmas.{left-taken}
 use Rattle.usb_host.specs.inside.Transfers.{IsTransfer}
 use Rattle.usb_host.proofs.transfer.Transfer.take.Goals as goal

@@ -1,7 +1,7 @@
 use Rattle.std.proofs.Common.{◌≡◌, ◌++◌, drop, false}
 use Rattle.std.specs.List.{flat_map}
-use Rattle.usb_fields.specs.Widths.{cells}
-use Rattle.usb_listing.specs.Lines.{written_field}
+use Rattle.usb_fields.specs.Fields.{cells}
+use Rattle.usb_listing.specs.Table.{written_field}
 use Rattle.usb_listing.proofs.page.Page.put_fields.Given as goal
 
 abbrev pub invariant-loop-width : goal.invariant-loop-width

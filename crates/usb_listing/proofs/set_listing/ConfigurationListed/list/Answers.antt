@@ -1,7 +1,7 @@
 use Rattle.std.proofs.Common.{◌++◌}
 use Rattle.std.specs.List.{flat_map}
 use Rattle.std.proofs.lemmas.Result.{on_err_weaker, on_ok_weaker}
-use Rattle.usb_listing.specs.SetListing.{configuration_line, extra_line, setting_lines}
+use Rattle.usb_listing.specs.Listing.{configuration_line, extra_line, setting_lines}
 use Rattle.usb_text.proofs.Pages.{front_more, on_err, puts_broken, puts_more}
 use Rattle.usb_listing.proofs.set_listing.ConfigurationListed.list.Goals as goal
 

@@ -1,7 +1,7 @@
 use Rattle.std.proofs.Common.{◌++◌}
 use Rattle.std.specs.List.{flat_map}
 use Rattle.std.proofs.lemmas.Result.{on_err_weaker, on_ok_weaker}
-use Rattle.usb_listing.specs.SetListing.{endpoint_lines, interface_line, extra_line}
+use Rattle.usb_listing.specs.Listing.{endpoint_lines, interface_line, extra_line}
 use Rattle.usb_text.proofs.Pages.{broken_after, broken_passed, front_more, longer, not_begun, on_err, puts_after, puts_broken, puts_more, puts_passed}
 use Rattle.usb_listing.proofs.HasBytes.{interface_has}
 use Rattle.usb_listing.proofs.set_listing.SettingListed.list.Goals as goal

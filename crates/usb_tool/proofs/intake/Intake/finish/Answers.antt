@@ -1,5 +1,5 @@
 use Rattle.std.proofs.Common.{rules, ◌≡◌, ◌∙◌, subst}
-use Rattle.usb_file.specs.FileFaults.{ReadRefused}
+use Rattle.usb_file_data.specs.FileFaults.{ReadRefused}
 use Rattle.usb_tool.specs.Inputs.{SetOrFileShows}
 use Rattle.usb_tool.specs.inside.Intake.{IsIntake}
 use Rattle.usb_tool.proofs.Reading.{when_err}

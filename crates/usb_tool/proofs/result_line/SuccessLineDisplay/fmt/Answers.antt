@@ -1,7 +1,7 @@
 use Rattle.std.proofs.Common.{ap, codes, sym, ◌++◌}
 use Rattle.std.proofs.Output.{has_written_of_eq}
 use Rattle.std.specs.Fmt.{decimal}
-use Rattle.usb_tool.specs.ResultLines.{success_line}
+use Rattle.usb_tool.specs.Enumerations.{success_line}
 use Rattle.usb_tool.proofs.Telling.{eight_joined}
 use Rattle.usb_tool.proofs.result_line.SuccessLineDisplay.fmt.Goals as goal
 

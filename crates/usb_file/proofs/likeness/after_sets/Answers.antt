@@ -1,5 +1,0 @@
-use Rattle.usb_file.proofs.SetsAhead.{one_more}
-use Rattle.usb_file.proofs.likeness.after_sets.Goals as goal
-
-pub loop-preserved : goal.loop-preserved
-loop-preserved c = cc (one_more c.loop.counter c.args.b.now)

@@ -1,0 +1,86 @@
+-- What bytes that are no input look like.
+use Rattle.std.specs.Prelude.{◌≡◌, ℕ, zero, suc, ◌+◌, ◌%◌, List, [], ◌∷◌, length, take, drop, slice_index, Bool, false, nat_le, ◌==◌, ◌&&◌, ◌||◌, Option, Some, None, if◌then◌else◌}
+use Rattle.std.specs.List.{list_all}
+use Rattle.usb_fields.specs.Bytes.{AreBytes, little_endian_at}
+use Rattle.usb_file_data.specs.declared.file.DescriptorFile.{DescriptorFile}
+use Rattle.usb_file_data.specs.declared.fault.FileFault.{FileFault}
+use Rattle.usb_file_data.specs.declared.fault.FileWhy.{FileWhy}
+use Rattle.usb_file_data.specs.declared.fault.FileWhy.TheVariants as files
+use Rattle.usb_file_data.specs.declared.fault.InputFault.{InputFault}
+use Rattle.usb_file_data.specs.declared.fault.InputFault.TheVariants as faults
+use Rattle.usb_file_data.specs.declared.likeness.Likeness.{Likeness}
+use Rattle.usb_file_data.specs.declared.likeness.Likeness.TheVariants as likes
+use Rattle.usb_file_data.specs.Inputs.{Dump}
+use Rattle.usb_file_data.specs.FileFaults.{FileFaulty}
+
+-- a byte of text: printable ASCII, a tab, a line feed or a carriage return
+abbrev pub is_of_text : ℕ → Bool
+is_of_text byte = (nat_le 0x20 byte && nat_le byte 0x7e) || (byte == 9) || (byte == 10) || (byte == 13)
+
+-- the bytes after so many sets, each as long as its wTotalLength says (USB 2.0, 9.6.3)
+unfoldable pub after_sets : ℕ → List ℕ → List ℕ
+after_sets zero b = b
+after_sets (suc n) b = let rest = after_sets n b in drop (little_endian_at rest 2) rest
+
+-- Bytes go on after a dump: no string descriptor is at the place of the fault, where the sets end that bNumConfigurations
+-- of the device counts (USB 2.0, 9.6.1). So the language list was due there.
+abbrev pub goes_on_after_dump : FileWhy → ℕ → List ℕ → Bool
+goes_on_after_dump files.Text at b = length (drop at b) == length (after_sets (slice_index b 17) (drop 18 b))
+goes_on_after_dump why at b = false
+
+-- a BOS descriptor is of type 15 and has 5 bytes (USB 3.2, 9.6.2)
+abbrev pub is_bos : List ℕ → Bool
+is_bos b = (slice_index b 1 == 15) && (slice_index b 0 == 5) && nat_le 5 (length b)
+
+-- a string descriptor is of type 3 and has an even number of bytes (USB 2.0, 9.6.7)
+abbrev pub is_string : List ℕ → Bool
+is_string b = (slice_index b 1 == 3) && (slice_index b 0 == length b) && (length b % 2 == 0)
+
+-- the bytes begin with a Usage item, 09 and one byte or 0a and two (HID 1.11, 6.2.2.8)
+abbrev pub begins_usage : List ℕ → Bool
+begins_usage b =
+    if slice_index b 0 == 0x09 then nat_le 2 (length b)
+    else if slice_index b 0 == 0x0a then nat_le 3 (length b)
+    else false
+
+-- they begin with a Usage Page item, 05 and one byte or 06 and two, and then a Usage item (HID 1.11, 6.2.2.7)
+abbrev pub is_report : List ℕ → Bool
+is_report b =
+    if slice_index b 0 == 0x05 then begins_usage (drop 2 b)
+    else if slice_index b 0 == 0x06 then begins_usage (drop 3 b)
+    else false
+
+-- what bytes look like that are read as a file
+abbrev pub file_likeness : FileFault → List ℕ → Option Likeness
+file_likeness fault [] = Some likes.Nothing
+file_likeness fault (x ∷ rest) =
+    let b = x ∷ rest in
+    if list_all is_of_text b then Some likes.Text
+    else if goes_on_after_dump fault.why fault.at b then Some (likes.DumpAndMore (length (drop fault.at b)))
+    else if is_bos b then Some likes.Bos
+    else if is_string b then Some likes.StringDescriptor
+    else if is_report b then Some likes.Report
+    else None
+
+-- What bytes with this fault look like: nothing else, where they are read as a set by their second byte.
+abbrev pub likeness_of : InputFault → List ℕ → Option Likeness
+likeness_of (faults.File fault) b = file_likeness fault b
+likeness_of fault b = None
+
+-- the bytes before this place are a dump, and so many follow
+pub record DumpGoesOn (b : List ℕ) (at n : ℕ) : Type 0 where
+  pub file : DescriptorFile
+  pub dump : Dump file (take at b)
+  pub more : length b ≡ at + n
+
+-- bytes that look like a dump and more are one up to the place of the fault that they show
+abbrev pub DumpsEndAtFaults : Type 0
+DumpsEndAtFaults =
+    (b : List ℕ) (fault : FileFault) (n : ℕ) → AreBytes b → FileFaulty b fault.at fault.why → likeness_of (faults.File fault) b ≡ Some (likes.DumpAndMore n) →
+    DumpGoesOn b fault.at n
+
+-- each dump that is followed by no string descriptor is seen
+abbrev pub DumpsAreSeen : Type 0
+DumpsAreSeen =
+    (f : DescriptorFile) (b : List ℕ) (at : ℕ) → Dump f (take at b) →
+    likeness_of (faults.File (record { at = at; why = files.Text })) b ≡ Some (likes.DumpAndMore (length (drop at b)))

@@ -1,0 +1,68 @@
+//! V1 to V4: interface numbers and alternate settings.
+ghost use Rattle.std.specs.Prelude.{◌≡◌, ◌++◌, OnOk};
+ghost use Rattle.usb_file_data.specs.declared.rule.Rule.TheVariants as rules;
+ghost use Rattle.usb_file_data.specs.Places.{when};
+ghost use Rattle.usb_file_data.specs.inside.Walk.{broken};
+ghost use Rattle.usb_file_data.specs.Rules.{has_number_gap, wrong_interface_count};
+ghost use Rattle.usb_file_data.specs.inside.Interfaces.{AreEntered, kept};
+ghost use Rattle.std.specs.Prelude.{◌≡◌, ◌&&◌, not};
+ghost use Rattle.usb_file_data.specs.inside.Interfaces.{kept};
+ghost use Rattle.usb_file_data.specs.inside.Interfaces.{entered, kept};
+
+use crate::found::Found;
+use crate::interfaces::Interfaces;
+use crate::place::Place;
+use crate::rule::Rule;
+use std::alloc::AllocError;
+use usb_set::{Configuration, Setting};
+
+pub(crate) fn check_interface_count(
+    found: &mut Found,
+    interfaces: &Interfaces,
+    place: Place,
+    c: &Configuration,
+) -> Result<(), AllocError>
+    requires { AreEntered c.now.settings (kept interfaces.now) }
+    ensures { OnOk result (found.new ≡ found.old ++ when (wrong_interface_count c.now) (broken rules.V1 place)) }
+{
+    let declared = usize::from(c.declared_interfaces);
+    found.report(Rule::V1, declared != interfaces.list().len(), place)
+}
+
+pub(crate) fn check_number_gap(
+    found: &mut Found,
+    interfaces: &Interfaces,
+    place: Place,
+    c: &Configuration,
+) -> Result<(), AllocError>
+    requires { AreEntered c.now.settings (kept interfaces.now) }
+    ensures { OnOk result (found.new ≡ found.old ++ when (has_number_gap c.now) (broken rules.V2 place)) }
+{
+    found.report(
+        Rule::V2,
+        interfaces.next_absent(0) < interfaces.list().len(),
+        place,
+    )
+}
+
+/// Whether the setting is the first of an interface that has no alternate setting 0, by the interfaces of the whole set
+/// and those of the settings before.
+pub(crate) fn lacks_default_setting(whole: &Interfaces, before: &Interfaces, s: &Setting) -> bool
+    ensures { result ≡ (not ((kept before.now).numbers s.now.number) && not ((kept whole.now).alternates s.now.number 0)) }
+{
+    !before.has_any(s.number) && !whole.has(s.number, 0)
+}
+
+/// Enters the setting among those before it.
+pub(crate) fn check_repeated_setting(
+    found: &mut Found,
+    interfaces: &mut Interfaces,
+    place: Place,
+    s: &Setting,
+) -> Result<(), AllocError>
+    ensures reported { OnOk result (found.new ≡ found.old ++ when ((kept interfaces.old).alternates s.now.number s.now.alternate) (broken rules.V3 place)) }
+    ensures entered { OnOk result (kept interfaces.new ≡ entered place.setting s.now (kept interfaces.old)) }
+{
+    let again = interfaces.add(place.setting, s)?;
+    found.report(Rule::V3, again, place)
+}

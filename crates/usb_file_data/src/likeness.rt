@@ -1,0 +1,153 @@
+//! What bytes that are no input look like.
+ghost use Rattle.std.specs.Prelude.{◌≡◌, drop, length};
+ghost use Rattle.std.specs.List.{list_all};
+ghost use Rattle.usb_file_data.specs.Likeness.{after_sets, begins_usage, file_likeness, goes_on_after_dump, is_bos, is_of_text, is_report, is_string, likeness_of};
+
+use crate::fault::{FileFault, FileWhy, InputFault};
+use usb_fields::{after, byte_at, descriptor_type, word_at};
+
+/// The type of a BOS descriptor (USB 3.2, table 9-6).
+const BOS: u8 = 15;
+
+/// The first byte of a Usage Page item with one byte of data (HID 1.11, 6.2.2.7).
+const USAGE_PAGE: u8 = 0x05;
+
+/// The first byte of one with two bytes of data.
+const WIDE_USAGE_PAGE: u8 = 0x06;
+
+/// The first byte of a Usage item with one byte of data (HID 1.11, 6.2.2.8).
+const USAGE: u8 = 0x09;
+
+/// The first byte of one with two bytes of data.
+const WIDE_USAGE: u8 = 0x0a;
+
+/// What bytes that are no input look like.
+#[derive(Clone, Copy, Debug, Drop, PartialEq, Eq, Hash)]
+pub enum Likeness {
+    /// There are no bytes.
+    Nothing,
+    /// Text: each byte is printable ASCII, a tab, a line feed or a carriage return.
+    Text,
+    /// A dump of Linux, and so many bytes after it.
+    DumpAndMore(usize),
+    /// A BOS descriptor alone (USB 3.2, 9.6.2).
+    Bos,
+    /// A string descriptor alone (USB 2.0, 9.6.7).
+    StringDescriptor,
+    /// A report descriptor, by its first two items: a Usage Page and a Usage (HID 1.11, 6.2.2).
+    Report,
+}
+
+/// What bytes with this fault look like, where they aren't read as a set: the first of the likenesses that they have.
+///
+/// ```rust
+/// let bos = [5, 15, 5, 0, 0];
+/// if let Err(fault) = read_input(alloc, &bos) {
+///     assert_eq!(rt; likeness_of(fault, &bos), Some(Likeness::Bos));
+/// }
+/// ```
+pub fn likeness_of(fault: InputFault, b: &[u8]) -> Option<Likeness>
+    ensures { result ≡ likeness_of fault b.now }
+{
+    match fault {
+        InputFault::File(fault) => file_likeness(fault, b),
+        _ => None,
+    }
+}
+
+/// What bytes that are read as a file look like.
+fn file_likeness(fault: FileFault, b: &[u8]) -> Option<Likeness>
+    ensures { result ≡ file_likeness fault b.now }
+{
+    if b.is_empty() {
+        Some(Likeness::Nothing)
+    } else if is_text(b) {
+        Some(Likeness::Text)
+    } else if goes_on_after_dump(fault, b) {
+        Some(Likeness::DumpAndMore(after(b, fault.at).len()))
+    } else if is_bos(b) {
+        Some(Likeness::Bos)
+    } else if is_string(b) {
+        Some(Likeness::StringDescriptor)
+    } else if is_report(b) {
+        Some(Likeness::Report)
+    } else {
+        None
+    }
+}
+
+/// Whether the byte is one of text: printable ASCII, a tab, a line feed or a carriage return.
+fn is_of_text(byte: u8) -> bool
+    ensures { result ≡ is_of_text byte }
+{
+    matches!(byte, 0x20..=0x7e | b'\t' | b'\n' | b'\r')
+}
+
+fn is_text(b: &[u8]) -> bool
+    ensures { result ≡ list_all is_of_text b.now }
+{
+    b.iter().all(|byte| is_of_text(*byte))
+}
+
+/// Whether the fault is that something else follows the sets of a dump where the language list was due.
+fn goes_on_after_dump(fault: FileFault, b: &[u8]) -> bool
+    ensures { result ≡ goes_on_after_dump fault.why fault.at b.now }
+{
+    match fault.why {
+        FileWhy::Text => {
+            let rest = after_sets(byte_at(b, 17), after(b, 18));
+            after(b, fault.at).len() == rest.len()
+        }
+        _ => false,
+    }
+}
+
+/// The bytes after so many sets, each as long as its wTotalLength says (USB 2.0, 9.6.3).
+#[tactic(auto, unfolding(crate::specs::Likeness::after_sets))]
+pub fn after_sets(count: u8, b: &[u8]) -> &[u8]
+    ensures { result.now ≡ after_sets count b.now }
+{
+    let mut rest = b;
+    for _ in 0..count {
+        rest = after(rest, usize::from(word_at(rest, 2)));
+    }
+    rest
+}
+
+/// Whether the bytes begin with a BOS descriptor (USB 3.2, 9.6.2).
+fn is_bos(b: &[u8]) -> bool
+    ensures { result ≡ is_bos b.now }
+{
+    byte_at(b, 1) == BOS && byte_at(b, 0) == 5 && b.len() >= 5
+}
+
+/// Whether the bytes are as many as the bLength of a string descriptor says (USB 2.0, 9.6.7).
+fn is_string(b: &[u8]) -> bool
+    ensures { result ≡ is_string b.now }
+{
+    byte_at(b, 1) == descriptor_type::STRING
+        && usize::from(byte_at(b, 0)) == b.len()
+        && b.len() % 2 == 0
+}
+
+/// Whether the bytes begin with a Usage Page item and then a Usage item (HID 1.11, 6.2.2).
+fn is_report(b: &[u8]) -> bool
+    ensures { result ≡ is_report b.now }
+{
+    match byte_at(b, 0) {
+        USAGE_PAGE => begins_usage(after(b, 2)),
+        WIDE_USAGE_PAGE => begins_usage(after(b, 3)),
+        _ => false,
+    }
+}
+
+/// Whether the bytes begin with a whole Usage item.
+fn begins_usage(b: &[u8]) -> bool
+    ensures { result ≡ begins_usage b.now }
+{
+    match byte_at(b, 0) {
+        USAGE => b.len() >= 2,
+        WIDE_USAGE => b.len() >= 3,
+        _ => false,
+    }
+}

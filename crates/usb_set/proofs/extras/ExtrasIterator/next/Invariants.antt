@@ -1,9 +1,0 @@
-use Rattle.std.proofs.Common.{◌≡◌, length}
-use Rattle.usb_set.specs.Left.{extras_left, holders_left}
-use Rattle.usb_set.proofs.extras.ExtrasIterator.next.Given as goal
-
-abbrev pub invariant-owners : goal.invariant-owners
-invariant-owners l = extras_left l.self ≡ extras_left l.initial.self
-
-abbrev pub decreases-owners : goal.decreases-owners
-decreases-owners l = length (holders_left l.self.owners)

@@ -1,0 +1,7 @@
+use Rattle.std.proofs.Common.{◌≡◌, ◌++◌, take}
+use Rattle.std.specs.List.{flat_map}
+use Rattle.usb_text.specs.Characters.{written_unit}
+use Rattle.usb_text.proofs.shown.put_escaped.Given as goal
+
+abbrev pub invariant-loop-unit : goal.invariant-loop-unit
+invariant-loop-unit l = l.text ≡ l.initial.text ++ flat_map written_unit (take l.unit-index l.units)
