@@ -1,34 +1,26 @@
-//! A bus between a host and a device that loses packets and handshakes.
+//! A bus between a host and a device that loses packets and handshakes, and the enumeration of a device over it.
 //!
 //! Each transaction has a [`Fate`]. [`converse`] makes control transfers, one after another, between a real host's end
-//! and a real device's end under any list of fates, and [`laws`] says what holds of the two ends, whatever is lost.
+//! and a real device's end under any list of fates. [`enumerate`] joins a real host and a real device: the host resets
+//! the device, reads its descriptors, gives it an address and configures it; its answer is a [`Run`]. [`step`] is one
+//! step of it, for a caller that looks at both ends on the way, [`step_seen`] shows an [`Observer`] what the device has
+//! answered, and [`enumerate_logged`] writes a log, a line for each bus reset, each transfer and each transaction.
 //!
-//! - In a transfer both ends stay together: the host has kept as many packets as the device counts acknowledged, or one more,
-//!   and each strike has a loss of its own.
+//! [`laws`] says what holds, whatever is lost:
+//!
+//! - In a transfer both ends stay together: the host has kept as many packets as the device counts acknowledged, or one
+//!   more, and each strike has a loss of its own.
 //! - A transfer that completes brought what the device's table of requests answers, and the device is in the state that
-//!   the table gives.
-//! - One loss is excepted: where the ACK of a SET_ADDRESS's status stage is lost, the host goes to the new address while
-//!   the device stays at the old one, and nothing answers the host any more.
-//! - A transfer that fails does so for a cause: three losses, that lost ACK, or more busy transactions than the
-//!   NAK limit.
+//!   the table gives. One loss is excepted: where the ACK of a SET_ADDRESS's status stage is lost, the host goes to the
+//!   new address while the device stays at the old one, and nothing answers the host any more.
+//! - A transfer that fails does so for a cause: three losses, that lost ACK, or more busy transactions than the NAK
+//!   limit.
+//! - An enumeration that succeeds has read just the descriptors of the device. Any other end has a cause: for each
+//!   attempt a loss of its own, or one busy transaction more than the NAK limit; or out of memory. There are at most as
+//!   many attempts and transactions as the limits allow.
 //!
-//! The enumeration of a device over a bus that loses packets and handshakes.
-//!
-//! [`enumerate`] joins a real host and a real device: the host resets the device, reads its descriptors, gives it an
-//! address and configures it, under any list of fates of its transactions. Its answer is a [`Run`].
-//!
-//! - A success has read just the descriptors of the device, whatever was lost on the way.
-//! - Any other end has a cause: for each attempt a loss of its own, or one busy transaction more than the NAK limit;
-//!   or out of memory.
-//! - There are at most as many attempts and transactions as the limits allow.
-//!
-//! [`step`] is one step of it, for a caller that looks at both ends on the way, and [`step_seen`] shows an [`Observer`]
-//! what the device has answered. [`enumerate_logged`] writes a log of the run on the way: what passes over the bus and
-//! what each end makes of it, a line for each bus reset, each transfer and each transaction.
-//!
-//! A run of both ends is defined in `specs/Enumerate.antt`, a step in `specs/Enumerate.antt`, and [`laws`] says what
-//! holds of every such run. Which lines a log has is `specs/Log.antt`, and what a line says `specs/Lines.antt`, with the
-//! words for requests in `specs/Lines.antt`.
+//! One transaction is `specs/Bus.antt`, a talk `specs/Converse.antt`, a run of both ends `specs/Enumerate.antt`, and a
+//! log `specs/Log.antt` with its lines in `specs/Lines.antt`.
 #![tactic(auto)]
 
 mod conversation;

@@ -8,8 +8,8 @@
 //!
 //! - The data, what its bytes are and which strings it names are in the crate usb_file_data, whose types are named here
 //!   too.
-//! - What is wrong with bytes, and where, is `specs/FileFaults.antt`: the fault is that of the part which
-//!   comes next after a prefix of a file, `specs/Front.antt`.
+//! - What is wrong with bytes, and where, is `usb_file_data/specs/FileFaults.antt`: the fault is that of the part which
+//!   comes next after a prefix of a file, `usb_file_data/specs/Front.antt`.
 //! - The module [`laws`] states what holds of files and faults, whoever reads them.
 #![tactic(auto)]
 

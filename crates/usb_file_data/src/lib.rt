@@ -1,24 +1,20 @@
-//! What a descriptor file says, as plain data: all descriptors that a USB 2.0 device can be asked for.
+//! What a descriptor file says, as plain data, and what chapter 9 of USB 2.0 says of it.
 //!
-//! A file is the device descriptor and the configuration sets that bNumConfigurations counts (USB 2.0, 9.4.3
-//! and 9.6). Where the device has a second speed, its qualifier follows with the sets of that speed, and
-//! where a string is named, the language list and the strings. [`DescriptorFile`] holds all of it, [`named`]
-//! has the indices of the strings that it names, and [`WriteFault`] the reasons for which it has no bytes. [`Input`] is a
-//! file or what is less, one set or a dump of Linux.
+//! A file is the device descriptor and the configuration sets that bNumConfigurations counts (USB 2.0, 9.4.3 and 9.6).
+//! Where the device has a second speed, its qualifier follows with the sets of that speed, and where a string is named,
+//! the language list and the strings. [`DescriptorFile`] holds all of it, and [`named`] has the indices of the strings
+//! that it names. [`Input`] is a file or what is less, one set or a dump of Linux.
 //!
-//! What the bytes of a file are is `specs/File.antt`; which strings are named is `specs/File.antt`. The module [`laws`]
-//! says how long a file can be, and that a copy of a file is that file.
-//!
-//! The rules of chapter 9 of USB 2.0 that the descriptors of a device keep among themselves.
-//!
-//! A file can be parsed and yet be wrong: counts that do not match, settings that occur twice, addresses
-//! that two interfaces claim. [`check`] reports all of that at once, each [`Finding`] at its place. [`check_dump`] and
-//! [`check_set`] do so of what is less than a file, and [`check_input`] of any of the three.
-//!
-//! They come rule by rule, or from [`findings_in_order`] and its like in the order of the bytes.
-//!
-//! - What breaks each rule is `specs/Rules.antt`; what is found, rule by rule, is `specs/Findings.antt`, and in the order of
-//!   the bytes `specs/InOrder.antt`.
+//! - What the bytes of a file are, and which strings are named, is `specs/File.antt`; [`WriteFault`] is why a file has
+//!   no bytes.
+//! - [`FileFault`] and [`InputFault`] are why bytes are no file or no input (`specs/FileFaults.antt`,
+//!   `specs/Inputs.antt`), and [`Likeness`] is what they look like then (`specs/Likeness.antt`).
+//! - [`check`] reports all that breaks a rule of chapter 9, each [`Finding`] at its place: counts that do not match,
+//!   settings that occur twice, addresses that two interfaces claim. [`check_dump`] and [`check_set`] do so of what is
+//!   less than a file, and [`check_input`] of any of the three. What breaks each rule is `specs/Rules.antt`; what is
+//!   found, rule by rule, is `specs/Findings.antt`, and in the order of the bytes, as from [`findings_in_order`],
+//!   `specs/InOrder.antt`.
+//! - [`laws`] says how long a file can be, and that a copy of a file is that file.
 #![tactic(auto)]
 
 mod addresses;

@@ -1,24 +1,18 @@
-//! A host that reads all descriptors of a device over control transfers, and configures it.
+//! The host's end of a USB 2.0 control pipe, and a host that reads all descriptors of a device and configures it.
 //!
-//! [`Host`] says what is due, a bus reset or a transaction, and takes what came back. It drives no bus and knows no
-//! device. The steps of a host are definitions (`specs/Steps.antt`, `specs/Order.antt`), and [`laws`] says what holds of
-//! them whatever a device answers.
-//!
-//! The host's end of a USB 2.0 control pipe.
-//!
-//! This crate uses the packet types alone and knows no device. It has
-//!
-//! * [`Transfer`], one control transfer (USB 2.0, 8.5.3): [`Transfer::next`] is the transaction that is due,
-//!   [`Transfer::take`] gets the reply, and [`Heard`] is what that means to the caller;
-//! * [`Why`], the reasons for which a transfer fails;
-//! * [`Limits`], of the NAKs in a transfer and the attempts at an enumeration, with the address that the device gets.
-//!
-//! A transfer moves by one function of its view and the reply, written out in `specs/Transfer.antt` as the
+//! [`Transfer`] is one control transfer (USB 2.0, 8.5.3): [`Transfer::next`] is the transaction that is due,
+//! [`Transfer::take`] gets the reply, [`Heard`] is what that means to the caller, and [`Why`] has the reasons for which
+//! a transfer fails. It moves by one function of its view and the reply, written out in `specs/Transfer.antt` as the
 //! standard's table of stages: SETUP, data stage, status stage. Progress, a strike (no reply, or a packet that came
 //! before) and a NAK each have a name there. Whatever a device replies, a transfer ends: its view gives a number of
 //! transactions, at most `(naks + 3) * (wLength / packet size + 3)` at the start, and each reply lowers it.
 //!
-//! Nothing here allocates.
+//! [`Host`] says what is due in an enumeration, a bus reset or a transaction, and takes what came back, within
+//! [`Limits`] of the NAKs in a transfer and of the attempts. It drives no bus and knows no device. Its steps are
+//! definitions (`specs/Steps.antt`, `specs/Order.antt`), and [`laws`] says what holds of them whatever a device
+//! answers.
+//!
+//! A transfer asks for no memory; a host does for what it keeps.
 #![tactic(auto)]
 
 mod current_read;

@@ -1,17 +1,12 @@
-//! Listings: a descriptor file, or one set, as text with a line for each descriptor.
+//! Listings: a descriptor file, or one set, as text with a line for each descriptor, written and read.
 //!
-//! [`list`] writes the listing of a file, and [`list_set`] that of one set alone.
-//!
-//! What a listing is is `specs/Listing.antt`, with the lines of a set in `specs/Listing.antt`, those of
-//! the strings in `specs/Listing.antt`, the form of a line in `specs/Table.antt`, and the table of lines
-//! in `specs/Table.antt`. The module [`laws`] says that a set's lines are those of its descriptors, and how
-//! long a listing can be.
-//!
-//! Listings parsed: the descriptor file that a text lists, or the first line at fault.
-//!
-//! [`assemble`] reads a listing as it stands, and [`assemble_commented`] one with comments, empty lines and carriage
-//! returns. The modules [`reader_laws`] and [`comment_laws`] state what holds of texts, files and faults, whoever reads
-//! them. A line becomes the bytes of its descriptor, which usb_set and usb_fields read.
+//! - [`list`] writes the listing of a file, and [`list_set`] that of one set alone (`specs/Listing.antt`). The form of
+//!   a line and the table of lines are `specs/Table.antt`. [`laws`] says that a set's lines are those of its
+//!   descriptors, and how long a listing can be.
+//! - [`assemble`] gives the file that a listing lists, or the first line at fault (`specs/Listings.antt`), and
+//!   [`assemble_commented`] takes comments, empty lines and carriage returns too (`specs/Comments.antt`). A line
+//!   becomes the bytes of its descriptor, which usb_set and usb_fields read. [`reader_laws`] and [`comment_laws`] state
+//!   what holds of texts, files and faults, whoever reads them.
 #![tactic(auto)]
 
 mod assembly;
@@ -35,4 +30,3 @@ pub use fault::{ListFault, ListWhy};
 pub use laws::LISTING_LIMIT;
 pub use listing::list;
 pub use set_listing::list_set;
-pub use word::{EXTRA_WORDS, ExtraWord, RAW_WIDTHS};

@@ -123,7 +123,7 @@ pub(crate) fn split_word(line: &[u8]) -> (&[u8], &[u8])
 
 /// The word of a line whose descriptor belongs to the one before it.
 #[derive(Clone, Copy, Debug, PartialEq, Eq)]
-pub enum ExtraWord {
+pub(crate) enum ExtraWord {
     /// `raw`, of a descriptor that is kept as it is.
     Raw,
     /// `association`, of an interface association descriptor.
@@ -131,10 +131,10 @@ pub enum ExtraWord {
 }
 
 /// All of them, those of most lines first.
-pub const EXTRA_WORDS: [ExtraWord; 2] = [ExtraWord::Raw, ExtraWord::Association];
+pub(crate) const EXTRA_WORDS: [ExtraWord; 2] = [ExtraWord::Raw, ExtraWord::Association];
 
 /// The widths of the fields that the line of a raw descriptor has before its body: bDescriptorType.
-pub const RAW_WIDTHS: [Width; 1] = [Width::One];
+pub(crate) const RAW_WIDTHS: [Width; 1] = [Width::One];
 
 /// Does one thing with what the lines of a word leave out, bLength counted as 0 among it, and with the widths of the fields
 /// that they say.
@@ -146,11 +146,11 @@ pub const RAW_WIDTHS: [Width; 1] = [Width::One];
 macro_rules! with_extra_row {
     ($word:expr, $left_out:ident, $widths:ident => $work:expr) => {
         match $word {
-            $crate::ExtraWord::Raw => {
-                let ($left_out, $widths) = ([0], $crate::RAW_WIDTHS);
+            $crate::word::ExtraWord::Raw => {
+                let ($left_out, $widths) = ([0], $crate::word::RAW_WIDTHS);
                 $work
             }
-            $crate::ExtraWord::Association => {
+            $crate::word::ExtraWord::Association => {
                 let ($left_out, $widths) = (
                     [0, usb_fields::descriptor_type::INTERFACE_ASSOCIATION],
                     usb_set::ASSOCIATION_WIDTHS,

@@ -1,26 +1,15 @@
 //! Configuration sets of USB 2.0: a configuration descriptor and all that follows it, as a tree.
 //!
-//! A device hands out each of its configurations as one run of bytes, the configuration descriptor
-//! first, then interface, endpoint, class and vendor descriptors (USB 2.0, 9.4.3 and 9.6.3 to 9.6.6).
-//! This crate reads such a set in pieces of any length ([`Decoder`]) or from one slice ([`read_set`]),
-//! and keeps each of its bytes in plain data ([`Configuration`]). usb_set writes it again.
+//! A device hands out each of its configurations as one run of bytes, the configuration descriptor first, then
+//! interface, endpoint, class and vendor descriptors (USB 2.0, 9.4.3 and 9.6.3 to 9.6.6). This crate reads such a set
+//! in pieces of any length ([`Decoder`]) or from one slice ([`read_set`]), keeps each of its bytes in plain data
+//! ([`Configuration`]), and writes it again ([`encode`], [`encode_onto`]) or says why it has no bytes ([`refusal`]).
 //!
-//! - What the bytes of a set are is `specs/Layout.antt`; what is wrong with bytes, and where, is
-//!   `specs/Faults.antt`. The decoder's answers are those of these two, whatever the pieces.
-//! - [`Configuration::endpoints`], [`Configuration::all_extras`] and [`Configuration::associations`] go over a set in the
-//!   order of its bytes, with what each part belongs to: `specs/Owners.antt`.
-//! - The module [`laws`] states what holds of layouts and faults, whoever reads them.
-//!
-//! The bytes of configuration sets of USB 2.0: what usb_set reads, written again.
-//!
-//! [`encode`] gives the bytes of a set, [`encode_onto`] adds them at the end of a list, and [`refusal`] is why a set
-//! has none. One pass over the set judges its descriptors and counts their bytes, and a second one writes them.
-//!
-//! [`write_refusal`] is why a descriptor file has no bytes, for which its sets are asked.
-//!
-//! - What the bytes of a set are is `specs/Layout.antt` of usb_set, and which sets have bytes its `specs/Layout.antt`.
-//! - That a decoder reads back what is written here, and gives the set, is a law of usb_set:
-//!   `decoding_undoes_encoding`.
+//! - What the bytes of a set are, and which sets have bytes, is `specs/Layout.antt`; what is wrong with bytes, and
+//!   where, is `specs/Faults.antt`. The decoder's answers are those of these two, whatever the pieces.
+//! - [`Configuration::endpoints`], [`Configuration::all_extras`] and [`Configuration::associations`] go over a set in
+//!   the order of its bytes, with what each part belongs to: `specs/Owners.antt`.
+//! - [`laws`] states what holds of layouts and faults, whoever reads them: a decoder reads back what is written.
 #![tactic(auto)]
 
 mod attachment;

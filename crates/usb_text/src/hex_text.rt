@@ -61,7 +61,7 @@ fn column_after(text: &[u8]) -> usize
 
 /// How the lines of a text are laid out.
 #[derive(Clone, Copy, Debug, PartialEq, Eq, Hash)]
-pub enum Form {
+pub(crate) enum Form {
     /// Without columns.
     Plain,
     /// In columns with a colon after each offset, as `xxd` writes them.
