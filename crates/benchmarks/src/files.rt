@@ -3,8 +3,7 @@ use anyhow::Result;
 use std::alloc::Global;
 use usb_device::Description;
 use usb_fields::{DeviceDescriptor, Qualifier, Speed, descriptor_type};
-use usb_file::{DescriptorFile, Other, named, read_file, write_file};
-use usb_listing::list;
+use usb_file::{DescriptorFile, Other, list, named, read_file, write_file};
 use usb_set::{Sequence, SetKind, read_set};
 
 /// The most configurations that a device has at one speed.

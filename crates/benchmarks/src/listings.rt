@@ -1,7 +1,7 @@
 //! Listings read back.
 use anyhow::Result;
 use std::alloc::Global;
-use usb_listing::assemble;
+use usb_file::assemble;
 
 /// Of the listing that the bytes are, or of none where they are bytes of something else.
 pub(crate) fn assemble_again(alloc: Global, text: &[u8], rounds: u32) -> Result<usize> {

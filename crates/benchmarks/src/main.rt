@@ -23,7 +23,7 @@ use std::process::ExitCode;
 use std::rt::{Clock, Env};
 use std::time::Instant;
 use std::{env, io};
-use usb_listing::LISTING_LIMIT;
+use usb_file::LISTING_LIMIT;
 use work::{WORKS, run};
 
 fn main(rt: HostRuntime) -> Result<ExitCode> {

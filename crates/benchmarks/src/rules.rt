@@ -2,8 +2,7 @@
 use crate::files::file_of;
 use anyhow::Result;
 use std::alloc::Global;
-use usb_file::{read_file, write_file};
-use usb_file_data::check;
+use usb_file::{check, read_file, write_file};
 
 /// Of a file with so many copies of the set.
 pub(crate) fn check_sets(alloc: Global, set: &[u8], copies: u32, rounds: u32) -> Result<usize> {

@@ -11,8 +11,7 @@ use std::alloc::Global;
 use std::mem::size_of;
 use std::result;
 use usb_device::EndpointZero;
-use usb_file::{read_file, write_file};
-use usb_listing::list_set;
+use usb_file::{list_set, read_file, write_file};
 use usb_set::{Configuration, Decoder, SetFault, encode};
 
 /// The words that ask for each kind of work.

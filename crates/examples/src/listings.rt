@@ -3,8 +3,7 @@ use crate::row::Row;
 use crate::words::changed;
 use anyhow::{Result, ensure};
 use std::alloc::Global;
-use usb_file::{DescriptorFile, read_file, write_file};
-use usb_listing::{ListFault, assemble, assemble_commented};
+use usb_file::{DescriptorFile, ListFault, assemble, assemble_commented, read_file, write_file};
 
 /// The bytes of a file that was assembled, or the fault and its line.
 fn told(alloc: Global, answer: std::result::Result<DescriptorFile, ListFault>) -> Result<String> {

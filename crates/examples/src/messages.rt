@@ -4,12 +4,9 @@ use std::alloc::Global;
 use std::fmt::Display;
 use usb_device::DescriptionFault;
 use usb_fields::{FieldFault, UnitFault};
-use usb_file::{FileFault, FileWhy, WriteFault};
-use usb_file_data::{Finding, Part, Rule};
+use usb_file::{FileFault, FileWhy, Finding, ListFault, ListWhy, OutFault, Part, Rule, WriteFault};
 use usb_host::{LimitFault, Why};
-use usb_listing::{ListFault, ListWhy};
 use usb_set::{EncodeFault, SetFault, SetWhy};
-use usb_text::OutFault;
 use usb_tool::{FatesFault, SettingsFault, ToolFault, verdict};
 
 const FIELD_FAULTS: [FieldFault; 2] = [FieldFault::Length, FieldFault::Kind];

@@ -8,10 +8,9 @@ use crate::sets::listed;
 use std::alloc::Global;
 use std::io::Cursor;
 use usb_file::{
-    DescriptorFile, FileFault, FileWhy, Input, InputFault, WriteFault, named, read_file,
-    read_input, write_file,
+    DescriptorFile, FileFault, FileWhy, Input, InputFault, ListWhy, WriteFault, assemble, list,
+    named, read_file, read_input, write_file,
 };
-use usb_listing::{ListWhy, assemble, list};
 
 /// More bytes than a listing of these has.
 const PAGE: usize = 512;

@@ -9,8 +9,7 @@ use crate::talks;
 use crate::units::{EUROS, read_to, spell};
 use std::alloc::{AllocError, Global};
 use usb_fields::write_units;
-use usb_file::{DescriptorFile, read_file};
-use usb_listing::list;
+use usb_file::{DescriptorFile, list, read_file};
 use usb_set::{Decoder, Progress, Sequence};
 use usb_text::Text;
 

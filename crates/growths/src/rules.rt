@@ -1,8 +1,7 @@
 //! Calls that look what breaks a rule.
 use crate::answer::{Answer, right};
 use std::alloc::Global;
-use usb_file::DescriptorFile;
-use usb_file_data::{check, check_dump, check_set};
+use usb_file::{DescriptorFile, check, check_dump, check_set};
 use usb_set::Configuration;
 
 /// What is looked at.

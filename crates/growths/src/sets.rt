@@ -4,9 +4,8 @@ use crate::longest::{SET_LENGTH, SET_TEXT_LENGTH, fill_set, is_front_of_set_text
 use crate::onto::{Added, add_twice};
 use std::alloc::Global;
 use std::io::Cursor;
-use usb_listing::list_set;
+use usb_file::{OutFault, list_set};
 use usb_set::{Configuration, Decoder, EncodeFault, SetFault, SetWhy, encode, read_set, refusal};
-use usb_text::OutFault;
 
 /// The calls on the longest set.
 pub(crate) fn calls(alloc: Global) -> [Call; 5] {

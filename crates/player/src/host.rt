@@ -6,9 +6,8 @@ use crate::words::read_speed;
 use anyhow::Result;
 use std::alloc::{AllocError, Global};
 use usb_fields::Speed;
-use usb_file::DescriptorFile;
+use usb_file::{DescriptorFile, list};
 use usb_host::{Action, Host, LimitFault, Limits, Trouble};
-use usb_listing::list;
 
 /// A host.
 #[derive(Drop)]

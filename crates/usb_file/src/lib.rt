@@ -27,7 +27,10 @@ pub use file_writer::write_file;
 pub use input::read_input;
 pub use usb_file_data::{
     DescriptorFile, FILE_LIMIT, FileFault, FileWhy, Finding, Input, InputFault, Likeness, NoMemory,
-    Other, Part, Strings, WriteFault, check, likeness_of, named, write_refusal,
+    Other, Part, Rule, Strings, WriteFault, check, check_dump, check_input, check_set, likeness_of,
+    named, write_refusal,
 };
-pub use usb_listing::{ListFault, ListWhy, assemble, assemble_commented, list, list_set};
+pub use usb_listing::{
+    LISTING_LIMIT, ListFault, ListWhy, assemble, assemble_commented, list, list_set,
+};
 pub use usb_text::OutFault;

@@ -63,7 +63,6 @@ pub use settings::{
     settings_of,
 };
 pub use show::{run_show, run_show_any};
-pub use usb_bus;
 pub use usb_bus::{Fate, Reply, Run, Talk, converse, enumerate, laws};
 pub use usb_explain::{Look, Manner, SetSpeed};
 pub use usb_listing::LISTING_LIMIT;
