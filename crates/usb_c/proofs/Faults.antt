@@ -12,7 +12,7 @@ use Rattle.usb_device.specs.declared.acceptance.DescriptionFault.{DescriptionFau
 use Rattle.usb_device.specs.declared.acceptance.DescriptionFault.TheVariants as descriptions
 use Rattle.usb_device.specs.View.{View}
 use Rattle.usb_c.specs.Devices.{OpensAt}
-use Rattle.usb_c.specs.Answers.{file_by, refused_description, refused_file}
+use Rattle.usb_c.specs.inside.Refusals.{file_by, refused_description, refused_file}
 
 module _ (b : List ℕ) (speed : Speed) (new : Option View) (none : new ≡ None) where
   file_opens : (e : FileFault) (why : FileWhy) → e.why ≡ why → ReadRefused b e.at why → OpensAt b speed new (file_by why e)

@@ -25,8 +25,9 @@ use Rattle.usb_device.specs.declared.acceptance.DescriptionFault.TheVariants as 
 use Rattle.usb_explain.specs.declared.manner.Manner.{Manner}
 use Rattle.usb_c.specs.declared.answer.Verdict.{Verdict}
 use Rattle.usb_c.specs.Enumerations.{RefusesRun}
-use Rattle.usb_c.specs.Answers.{file_by, file_wants, list_by, refused_description, refused_file, refused_input, refused_list, set_by, set_wants, wants_memory}
-use Rattle.usb_c.specs.Texts.{Explains, ExplainsFault, Refuses, RefusesList}
+use Rattle.usb_c.specs.Answers.{set_by}
+use Rattle.usb_c.specs.inside.Refusals.{ExplainsFault, file_by, file_wants, list_by, refused_description, refused_file, refused_input, refused_list, set_wants, wants_memory}
+use Rattle.usb_c.specs.Texts.{Explains, Refuses, RefusesList}
 use Rattle.usb_c.specs.inside.Taking.{BuildRefused}
 
 -- a set's fault, by what says which bytes show it

@@ -11,7 +11,7 @@ use Rattle.usb_file_data.specs.declared.fault.FileWhy.{FileWhy}
 use Rattle.usb_file_data.specs.declared.fault.FileWhy.TheVariants as files
 use Rattle.usb_file_data.specs.declared.fault.InputFault.{InputFault}
 use Rattle.usb_file_data.specs.declared.fault.InputFault.TheVariants as faults
-use Rattle.usb_c.specs.Answers.{file_by, refused_file, refused_input}
+use Rattle.usb_c.specs.inside.Refusals.{file_by, refused_file, refused_input}
 use Rattle.usb_c.specs.Texts.{CheckFaulty, IsShown, ShowFaulty, Refuses}
 use Rattle.usb_c.specs.inside.Taking.{CheckRefused, ShowRefused}
 use Rattle.usb_c.proofs.InputFaults.{input_refuses, set_refuses}

@@ -20,7 +20,7 @@ use Rattle.usb_listing.specs.Listing.{file_lines, set_lines}
 use Rattle.usb_file_data.specs.FindingLine.{check_text}
 use Rattle.usb_c.specs.declared.answer.Verdict.{Verdict}
 use Rattle.usb_c.specs.declared.answer.Verdict.TheVariants as verdicts
-use Rattle.usb_c.specs.Answers.{Fills, wants_memory}
+use Rattle.usb_c.specs.Answers.{Fills}
 use Rattle.usb_c.specs.Hosts.{PutsFile}
 
 -- What `show`, `check` and `build` take, and what is wrong with other bytes and texts.
@@ -117,12 +117,6 @@ abbrev pub Explains : Manner → List ℕ → List ℕ → List ℕ → Verdict 
 Explains m b old new verdict =
     TellsInput IsInput (λ input. explanation m input b) b old new verdict
     ⊎ (TellsBroken m b old new verdict ⊎ ((verdict ≡ verdicts.NoMemory) × (new ≡ old)))
-
--- bytes with this fault are explained as far as they go, or memory was wanting before or is now
-abbrev pub ExplainsFault : Manner → InputFault → List ℕ → List ℕ → List ℕ → Verdict → Type 0
-ExplainsFault m fault b old new verdict =
-    ((wants_memory fault ≡ false) × Fills (verdicts.Broken fault) (broken_explanation m fault b) old new verdict)
-    ⊎ ((verdict ≡ verdicts.NoMemory) × (new ≡ old))
 
 -- the bytes of the file that the text lists are in the buffer
 pub record TellsListed (comments : Bool) (text old new : List ℕ) (verdict : Verdict) : Type 0 where

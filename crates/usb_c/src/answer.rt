@@ -1,7 +1,7 @@
 //! What a call answers, as numbers, and how faults are reported.
 ghost use Rattle.std.specs.Prelude.{◌≡◌};
-ghost use Rattle.usb_c.specs.Answers.{broken_answer, numbers};
-ghost use Rattle.usb_c.specs.Answers.{refused_description, refused_file, refused_input, refused_list, refused_set, wants_memory};
+ghost use Rattle.usb_c.specs.Answers.{broken_answer, numbers, refused_set};
+ghost use Rattle.usb_c.specs.inside.Refusals.{refused_description, refused_file, refused_input, refused_list, wants_memory};
 
 use usb_device::{DescriptionFault, Unanswered};
 use usb_file::WriteFault;

@@ -7,7 +7,8 @@ ghost use Rattle.usb_listing.specs.Listing.{set_lines};
 ghost use Rattle.usb_file_data.specs.FindingLine.{check_text};
 ghost use Rattle.usb_c.specs.Answers.{Fills};
 ghost use Rattle.usb_c.specs.Hosts.{PutsFile};
-ghost use Rattle.usb_c.specs.Texts.{ExplainsFault, Builds, Checks, Explains, Shows, input_lines, manner_told, running_speed_told};
+ghost use Rattle.usb_c.specs.inside.Refusals.{ExplainsFault};
+ghost use Rattle.usb_c.specs.Texts.{Builds, Checks, Explains, Shows, input_lines, manner_told, running_speed_told};
 ghost use Rattle.usb_c.specs.declared.answer.Verdict.TheVariants as verdicts;
 
 use crate::answer::{Verdict, refused_input, refused_list, wants_memory};
