@@ -1,6 +1,6 @@
 -- The findings of a set in the order of the bytes, of each rule.
 use Rattle.std.proofs.Common.{◌≡◌, ℕ, ◌+◌, ◌<◌, ◌==◌, Bool, true, false, List, [], ◌∷◌, ◌++◌, refl, ap, sym, ◌∙◌, length, map, take, get_or, drop, arith}
-use Rattle.std.specs.Prelude.{◌||◌, filter, fold}
+use Rattle.std.specs.Prelude.{◌||◌, filter, fold, if◌then◌else◌}
 use Rattle.std.specs.List.{flat_map}
 use Rattle.std.proofs.lemmas.List.{append-nil}
 use Rattle.std.proofs.lemmas.List.Elements.{filter-append}
