@@ -6,13 +6,21 @@
 #[cfg(test)]
 mod bench;
 #[cfg(test)]
+mod controller;
+#[cfg(test)]
 mod driver;
 #[cfg(test)]
 mod findings;
 #[cfg(test)]
 mod firmware;
 #[cfg(test)]
+mod losses;
+#[cfg(test)]
+mod lossy_bus;
+#[cfg(test)]
 mod names;
+#[cfg(test)]
+mod observing;
 #[cfg(test)]
 mod packets;
 #[cfg(test)]

@@ -1,6 +1,7 @@
 //! The names of usb_tool.
 use crate::names::files::file;
 use anyhow::Result as Outcome;
+use clap::Error;
 use std::alloc::{AllocError, Global};
 use usb_device::{Description, State};
 use usb_fields::{Sequence, Setup, Speed};
@@ -197,5 +198,54 @@ fn options(rt: HostRuntime) -> Outcome<()> {
     assert_eq!(rt; letters.as_str(), ".ndua");
     let fault = read_fates(rt.alloc(), ".x").err().map(fates_fault_number);
     assert_eq!(rt; fault, Some(1));
+    Ok(())
+}
+
+/// The words of a command line, the program's name first.
+fn words(alloc: Global, rest: &[&str]) -> Result<Vec<String>, AllocError> {
+    let mut words = vec![in alloc; String::from_str(alloc, "usbdesc")?]?;
+    for word in rest {
+        words.push(String::from_str(alloc, word)?)?;
+    }
+    Ok(words)
+}
+
+#[test]
+fn a_line(rt: HostRuntime) -> Outcome<()> {
+    for (word, line) in [
+        ("show", Line::Show),
+        ("check", Line::Check),
+        ("build", Line::Build),
+    ] {
+        let words: Vec<String> = words(rt.alloc(), &[word])?;
+        let read: Result<Line<'_>, Error> = read_line(rt.alloc(), &words);
+        assert_eq!(rt; read?, line);
+    }
+    let words = words(
+        rt.alloc(),
+        &[
+            "enumerate",
+            "--speed",
+            "high",
+            "--address",
+            "5",
+            "--naks",
+            "2",
+            "--attempts",
+            "4",
+            "--fates",
+            ".d",
+        ],
+    )?;
+    let options = Options {
+        speed: Some("high"),
+        address: Some("5"),
+        naks: Some("2"),
+        attempts: Some("4"),
+        fates: Some(".d"),
+    };
+    let line: Line<'_> = read_line(rt.alloc(), &words)?;
+    assert_eq!(rt; line, Line::Enumerate(options));
+    assert_eq!(rt; line_number(&line), 4);
     Ok(())
 }
