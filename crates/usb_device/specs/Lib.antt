@@ -4,6 +4,7 @@ pub mod Step
 pub mod Beside
 pub mod Accepted
 pub mod View
+pub mod Lending
 pub mod Stages
 pub mod Descriptors
 pub mod Transactions

@@ -1,5 +1,5 @@
 -- What callers see of a device, whoever owns its description.
-use Rattle.std.specs.Prelude.{ℕ, ◌*◌, Bool, ◌≡◌, ⊤, []}
+use Rattle.std.specs.Prelude.{ℕ, ◌*◌, Bool}
 use Rattle.usb_fields.specs.Packets.{Sent}
 use Rattle.usb_file_data.specs.declared.file.DescriptorFile.{DescriptorFile}
 use Rattle.usb_device.specs.Descriptors.{Described}
@@ -8,11 +8,6 @@ use Rattle.usb_device.specs.Step.{DeviceStage, Idle, Halted, Sending, StatusOut,
 use Rattle.usb_device.specs.declared.endpoint_zero.EndpointZero.{EndpointZero}
 use Rattle.usb_device.specs.Stages.{stage_of, IsStage}
 use Rattle.usb_device.specs.declared.owned_device.OwnedDevice.TheInside.{Inside}
-use Rattle.std.specs.Borrow.{Fml, MutBor, follows_so}
-use mathlib.Core.Option.{none}
-use mir.Syntax.{named}
-use Rattle.usb_device.specs.contracts.device.Device.{the_row}
-use Rattle.usb_device.specs.contracts.endpoint_zero.EndpointZero.{the_row as the_part_row}
 
 -- What callers see of a device.
 
@@ -67,15 +62,3 @@ IsEnd d = IsOf d.description.file d.endpoint_zero
 -- the device with what has changed
 abbrev pub after : View → DeviceView → View
 after v device = record v { device = device }
-
--- What a device is once it has its answer back.
-
--- once the answer is let go, and with it the bytes that it lends, the device is this one
-abbrev pub EndsAs : MutBor View → View → Fml
-EndsAs device v =
-    let row = the_row (record { mir = named 1; lft = [] }) in
-    follows_so row row device.ghost_name none (λ _ _. ⊤) (λ u. u ≡ v)
-
--- and so of what changes in a device: it is then that of a device with these descriptors, and this one
-abbrev pub PartEndsAs : MutBor EndpointZero → DescriptorFile → DeviceView → Fml
-PartEndsAs part f v = follows_so the_part_row the_part_row part.ghost_name none (λ _ _. ⊤) (λ u. (device_of f u ≡ v) × IsOf f u)

@@ -49,7 +49,8 @@ impl<'d> Device<'d> {
     ghost use Rattle.usb_fields.specs.Packets.{reply_of, sent_of};
     ghost use Rattle.usb_device.specs.Step.{new_device};
     ghost use Rattle.usb_device.specs.Stages.{stage_kind};
-    ghost use Rattle.usb_device.specs.View.{acked_by, acknowledged, served_by, EndsAs};
+    ghost use Rattle.usb_device.specs.View.{acked_by, acknowledged, served_by};
+    ghost use Rattle.usb_device.specs.Lending.{EndsAs};
     ghost use Rattle.usb_device.specs.Beside.{answered, carried_out_in, refused_in, room_size, unanswered, unfit_bytes, unfit_status, Gives, Does};
     ghost use Rattle.usb_device.specs.inside.Reactions.{packet_due, reply_with};
 

@@ -47,7 +47,8 @@ pub struct EndpointZero {
 
 impl EndpointZero {
     ghost use Rattle.usb_device.specs.Step.{new_device};
-    ghost use Rattle.usb_device.specs.View.{acked_by, acknowledged, served_by, device_of, IsOf, PartEndsAs};
+    ghost use Rattle.usb_device.specs.View.{acked_by, acknowledged, served_by, device_of, IsOf};
+    ghost use Rattle.usb_device.specs.Lending.{PartEndsAs};
     ghost use Rattle.usb_file_data.specs.declared.file.DescriptorFile.{DescriptorFile};
     ghost use Rattle.usb_device.specs.Beside.{answered, carried_out_in, refused_in, room_size, unanswered, unfit_bytes, unfit_status, Gives, Does};
     ghost use Rattle.usb_device.specs.inside.Reactions.{received_by, replied, sent_by, packet_due};

@@ -15,7 +15,6 @@ use Rattle.usb_host.specs.declared.why.Why.{Why}
 use Rattle.usb_host.specs.declared.why.Why.TheVariants.{Memory}
 use Rattle.usb_host.specs.Plan.{Plan, Begin}
 use Rattle.usb_host.specs.Transfer.{Hearing, Brings, Completes}
-use Rattle.usb_host.specs.declared.due.Due.TheVariants as dues
 use Rattle.usb_host.specs.declared.request.Request.{Request}
 use Rattle.usb_host.specs.declared.step.Step.{Step}
 use Rattle.usb_host.specs.Order.{stopped}
@@ -90,7 +89,7 @@ OrMemory (Err e) new = new ≡ Err Memory
 -- what is due, or the end at this step
 abbrev pub Settles : Step → Result Due Why → Due → Type 0
 Settles step (Ok due) new = new ≡ due
-Settles step (Err why) new = new ≡ dues.Stopped (record { step = step; why = why })
+Settles step (Err why) new = new ≡ due.Stopped (record { step = step; why = why })
 
 -- whether an enumeration has ended by trouble for which the bus is to blame
 abbrev pub is_bus_trouble : Place → Bool
