@@ -29,9 +29,14 @@ pub mod descriptors {
 /// mean, in words.
 pub mod files {
     pub use usb_explain::{Look, Manner, SetSpeed, explain, explain_broken};
-    pub use usb_file::{DescriptorFile, FILE_LIMIT, Input, NoMemory, Other, Strings, WriteFault, named, read_file, read_input, write_file, write_refusal};
+    pub use usb_file::{
+        DescriptorFile, FILE_LIMIT, Input, NoMemory, Other, Strings, WriteFault, named, read_file,
+        read_input, write_file, write_refusal,
+    };
     pub use usb_file_data::{FileFault, FileWhy, InputFault, Likeness, likeness_of};
-    pub use usb_listing::{LISTING_LIMIT, ListFault, ListWhy, assemble, assemble_commented, list, list_set};
+    pub use usb_listing::{
+        LISTING_LIMIT, ListFault, ListWhy, assemble, assemble_commented, list, list_set,
+    };
     pub use usb_text::OutFault;
 }
 
