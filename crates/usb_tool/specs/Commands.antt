@@ -110,14 +110,14 @@ input_lines (inputs.File file) = file_lines file
 input_lines (inputs.Dump file) = file_lines file
 
 -- the text is the listing of what the bytes are taken for
-pub record IsListing (is : Form) (b text : List ℕ) : Type 0 where
+pub record IsListingOf (is : Form) (b text : List ℕ) : Type 0 where
   pub input : Input
   pub taken : is input b
   pub listing : text ≡ input_lines input
 
 -- the listing of the bytes is reported, with status 0
 abbrev pub TellsListing : Form → Telling
-TellsListing is b text status = IsListing is b text × (status ≡ 0)
+TellsListing is b text status = IsListingOf is b text × (status ≡ 0)
 
 -- how bytes are not shown: a prefix of their listing was written, out of memory not all of it, or nothing where they are
 -- nothing that they are taken for
