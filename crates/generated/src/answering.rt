@@ -22,7 +22,7 @@ const LISTS: u32 = 20;
 /// How many resets and answers each of these is given, whether it has ended or not.
 const LONG: usize = 10_000;
 
-/// How many steps of progress an attempt has at most. Each has as many transactions as NAKs are borne, and three more.
+/// How many steps of progress an attempt has at most. Each has at most three transactions more than the limit of NAKs.
 const STEPS: u64 = 5_273_453;
 
 /// Hosts that are answered by anything. Packets begin as the bytes of the example do.

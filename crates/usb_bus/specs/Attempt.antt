@@ -7,7 +7,7 @@ use Rattle.usb_host.specs.declared.transfer.TransferStage.{TransferStage}
 use Rattle.usb_host.specs.declared.transfer.TransferStage.TheVariants.{Completed, Failed}
 use Rattle.usb_host.specs.declared.reply.Reply.{Reply}
 use Rattle.usb_host.specs.declared.reply.Reply.TheVariants as replied
-use Rattle.usb_host.specs.Plan.{Plan, Begin, Success, Trouble}
+use Rattle.usb_host.specs.Plan.{Plan, Begin, Success, GivesUp}
 use Rattle.usb_host.specs.Transfer.{begun}
 use Rattle.usb_device.specs.declared.state.State.{State}
 use Rattle.usb_device.specs.Requests.{Outcome, Bytes, Done, Refused}
@@ -48,7 +48,7 @@ begins address packet naks q = record { transfer = begun address packet naks q; 
 abbrev pub phase_of : ℕ → Plan → Phase
 phase_of naks (Begin address packet q) = Running (begins address packet naks q)
 phase_of naks Success = Succeeded
-phase_of naks (Trouble why) = Broken why
+phase_of naks (GivesUp why) = Broken why
 
 -- whether a SET_ADDRESS is what a plan puts in work
 abbrev pub is_moving : Plan → Bool
@@ -107,7 +107,7 @@ module _ (plan : List Reply → Plan) (naks : ℕ) where
 
 -- One transfer of request q, begun in state s, by its stage after so many losses, Busy and lost ACKs. Completed, it brought
 -- the answer, and the device is in the next state, or the ACK after which it takes its new address was lost. Failed, it had
--- three losses, or more Busy than NAKs are borne, or was refused. While it goes on there is nothing to say.
+-- three losses, or more busy transactions than the limit of NAKs, or was refused. While it goes on there is nothing to say.
 abbrev pub TransferEnds : (State → SetupPacket → Outcome) → State → SetupPacket → ℕ → ℕ → ℕ → ℕ → TransferStage → List ℕ → State → Type 0
 TransferEnds answer s q naks l b a Completed got d =
     ((answer s q ≡ Bytes got) × (d ≡ s))
@@ -118,7 +118,8 @@ TransferEnds answer s q naks l b a (Failed Stalled) got d = (answer s q ≡ Refu
 TransferEnds answer s q naks l b a (Failed why) got d = ⊥
 TransferEnds answer s q naks l b a stage got d = Unit {0}
 
--- why transfers under these fates break off: no answer, after three losses or a lost ACK, or more Busy than NAKs are borne
+-- why transfers under these fates break off: no answer, after three losses or a lost ACK, or more busy transactions
+-- than the limit of NAKs
 abbrev pub IsCause : ℕ → List Fate → Why → Type 0
 IsCause naks used NoAnswer = (3 ≤ losses used) ⊎ (0 < acks_lost used)
 IsCause naks used Busy = naks < busies used

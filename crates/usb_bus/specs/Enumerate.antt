@@ -137,8 +137,8 @@ ends_heard (fate ∷ []) = brings fate
 ends_heard (fate ∷ next ∷ more) = ends_heard (next ∷ more)
 
 -- Why an enumeration of a device that keeps to the standard ends without success, after these fates: out of memory, at an
--- answer that reached the host; or it used all attempts, and each cost a loss of its own, or a Busy more than NAKs are
--- borne.
+-- answer that reached the host; or it used all attempts, and each cost a loss of its own, or one busy transaction more than
+-- the limit of NAKs.
 abbrev pub HasCause : LimitView → List Fate → ℕ → Why → Type 0
 HasCause limits used attempts why =
     ((why ≡ Memory) × (ends_heard used ≡ true))
@@ -156,7 +156,7 @@ pub record EndsWell (f : DescriptorFile) (limits : LimitView) (fates : List Fate
   pub cause : IfErr run.outcome (λ trouble. HasCause limits (fates_used fates run.transactions) run.attempts trouble.why)
   -- where the bus is blamed, all attempts were used
   pub all : IfErr run.outcome (λ trouble. blames_bus trouble.why ≡ true → run.attempts ≡ limits.attempts)
-  -- with fewer losses, and Busy for each time that NAKs are no longer borne, than attempts, it succeeds if memory is there
+  -- it succeeds if memory is there and losses, with the times that the limit of NAKs can be passed, are fewer than attempts
   pub succeeds : losses fates + busies fates / suc limits.naks < limits.attempts → IfErr run.outcome (λ trouble. trouble.why ≡ Memory)
-  -- so with fewer losses than attempts, and no more Busy than NAKs are borne
+  -- so with fewer losses than attempts, and no more busy transactions than the limit of NAKs
   pub plainly : losses fates < limits.attempts → busies fates ≤ limits.naks → IfErr run.outcome (λ trouble. trouble.why ≡ Memory)

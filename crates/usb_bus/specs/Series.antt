@@ -18,7 +18,7 @@ pub record Series : Type 0 where
   pub attempts : ℕ
   pub attempt : Attempt
 
--- what a failed attempt costs: a loss of its own, or more Busy than NAKs are borne
+-- what a failed attempt costs: a loss of its own, or more busy transactions than the limit of NAKs
 abbrev pub HasCost : ℕ → List Fate → Type 0
 HasCost naks used = (0 < losses used) ⊎ (naks < busies used)
 

@@ -30,16 +30,16 @@ pub record OpensFile (b : List ℕ) (speed : Speed) (new : Option View) : Type 0
   pub held : new ≡ Some (record { description = record { file = file; speed = speed }; device = new_device })
 
 -- of bytes that are no file, or of which no device is made, none is held
-abbrev pub OpensAt : List ℕ → Speed → Option View → Verdict → Type 0
-OpensAt b speed new (verdicts.Done length) = (length ≡ 0) × OpensFile b speed new
-OpensAt b speed new (verdicts.Broken (inputs.File fault) length) = (length ≡ 0) × FileFaulty b fault.at fault.why × (new ≡ None)
-OpensAt b speed new (verdicts.Description fault) = RefusesFile b speed fault × (new ≡ None)
-OpensAt b speed new verdicts.NoMemory = new ≡ None
-OpensAt b speed new verdict = ⊥
+abbrev pub DeviceOpensAt : List ℕ → Speed → Option View → Verdict → Type 0
+DeviceOpensAt b speed new (verdicts.Done length) = (length ≡ 0) × OpensFile b speed new
+DeviceOpensAt b speed new (verdicts.Broken (inputs.File fault) length) = (length ≡ 0) × FileFaulty b fault.at fault.why × (new ≡ None)
+DeviceOpensAt b speed new (verdicts.Description fault) = RefusesFile b speed fault × (new ≡ None)
+DeviceOpensAt b speed new verdicts.NoMemory = new ≡ None
+DeviceOpensAt b speed new verdict = ⊥
 
-abbrev pub Opens : List ℕ → Option Speed → Option View → Verdict → Type 0
-Opens b None new verdict = (verdict ≡ verdicts.BadArgument 3) × (new ≡ None)
-Opens b (Some speed) new verdict = OpensAt b speed new verdict
+abbrev pub DeviceOpens : List ℕ → Option Speed → Option View → Verdict → Type 0
+DeviceOpens b None new verdict = (verdict ≡ verdicts.BadArgument 3) × (new ≡ None)
+DeviceOpens b (Some speed) new verdict = DeviceOpensAt b speed new verdict
 
 -- a transaction that has a meaning, with a device that is held; else nothing changes
 abbrev pub Serves : Option View → Option Sent → Bool → UsbPacket → Option View → UsbPacket → Bool → Type 0

@@ -66,18 +66,18 @@ EndsWith (Some (Err trouble)) told now old new verdict =
 -- What calls do to a host that C holds, or to none.
 
 -- limits that are refused, or a new host with these limits, or out of memory
-abbrev pub OpensAt : ℕ → ℕ → ℕ → Speed → Option HostView → Verdict → Type 0
-OpensAt address naks attempts speed new (verdicts.Done length) =
+abbrev pub HostOpensAt : ℕ → ℕ → ℕ → Speed → Option HostView → Verdict → Type 0
+HostOpensAt address naks attempts speed new (verdicts.Done length) =
     (length ≡ 0) × (limit_fault address attempts ≡ None)
     × (new ≡ Some (new_host (record { address = address; naks = naks; attempts = attempts }) speed))
-OpensAt address naks attempts speed new (verdicts.BadArgument number) =
+HostOpensAt address naks attempts speed new (verdicts.BadArgument number) =
     ((fault : LimitFault) × (limit_fault address attempts ≡ Some fault) × (number ≡ limit_fault_number fault)) × (new ≡ None)
-OpensAt address naks attempts speed new verdicts.NoMemory = new ≡ None
-OpensAt address naks attempts speed new verdict = ⊥
+HostOpensAt address naks attempts speed new verdicts.NoMemory = new ≡ None
+HostOpensAt address naks attempts speed new verdict = ⊥
 
-abbrev pub Opens : ℕ → ℕ → ℕ → Option Speed → Option HostView → Verdict → Type 0
-Opens address naks attempts None new verdict = (verdict ≡ verdicts.BadArgument 3) × (new ≡ None)
-Opens address naks attempts (Some speed) new verdict = OpensAt address naks attempts speed new verdict
+abbrev pub HostOpens : ℕ → ℕ → ℕ → Option Speed → Option HostView → Verdict → Type 0
+HostOpens address naks attempts None new verdict = (verdict ≡ verdicts.BadArgument 3) × (new ≡ None)
+HostOpens address naks attempts (Some speed) new verdict = HostOpensAt address naks attempts speed new verdict
 
 -- what is wanted, as a number
 abbrev pub action_number : Option Wanted → ℕ

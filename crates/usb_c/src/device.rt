@@ -5,7 +5,7 @@ ghost use Rattle.usb_device.specs.Beside.{carried_out_in, refused_in, room_size,
 ghost use Rattle.usb_device.specs.Step.{new_device};
 ghost use Rattle.usb_device.specs.View.{acked_by, after};
 ghost use Rattle.usb_c.specs.Answers.{AnswersOn, answer_of};
-ghost use Rattle.usb_c.specs.Devices.{Opens, OpensAt, Serves, answer_told, answered_for, setup_told, state_numbers, state_told};
+ghost use Rattle.usb_c.specs.Devices.{DeviceOpens, DeviceOpensAt, Serves, answer_told, answered_for, setup_told, state_numbers, state_told};
 ghost use Rattle.usb_device.specs.Transactions.{sent_told, speed_told};
 
 use crate::answer::{Answer, Verdict, refused_description, refused_file};
@@ -46,7 +46,7 @@ pub extern "C" fn usb_device_open(
     file: &[u8],
     speed: u8,
 ) -> Answer
-    ensures { AnswersOn (Opens file.now (speed_told speed) device.new.held) result }
+    ensures { AnswersOn (DeviceOpens file.now (speed_told speed) device.new.held) result }
 {
     *device = UsbDevice::empty(alloc);
     match speed_of(speed) {
@@ -58,7 +58,7 @@ pub extern "C" fn usb_device_open(
 #[tactic(auto, using(crate::proofs::Faults::no_file_opens, crate::proofs::Faults::no_description_opens))]
 fn open_at(alloc: Global, device: &mut UsbDevice, bytes: &[u8], speed: Speed) -> Verdict
     requires { device.old.held ≡ None }
-    ensures { OpensAt bytes.now speed device.new.held result }
+    ensures { DeviceOpensAt bytes.now speed device.new.held result }
 {
     let file = match read_file(alloc, bytes) {
         Ok(file) => file,

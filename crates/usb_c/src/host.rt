@@ -4,7 +4,7 @@ ghost use Rattle.std.specs.Option.{option_map};
 ghost use Rattle.usb_fields.specs.Packets.{Sent};
 ghost use Rattle.usb_host.specs.Steps.{WantsSent, reset, wanted};
 ghost use Rattle.usb_c.specs.Answers.{AnswersOn};
-ghost use Rattle.usb_c.specs.Hosts.{Ends, Opens, OpensAt, TakesOne, action_number, resets_of, transaction_due};
+ghost use Rattle.usb_c.specs.Hosts.{Ends, HostOpens, HostOpensAt, TakesOne, action_number, resets_of, transaction_due};
 ghost use Rattle.usb_device.specs.Transactions.{reply_told, sent_told, speed_told};
 
 use crate::answer::{Answer, Verdict};
@@ -26,7 +26,7 @@ pub extern "C" fn usb_host_open(
     attempts: u8,
     speed: u8,
 ) -> Answer
-    ensures { AnswersOn (Opens address naks attempts (speed_told speed) host.new.held) result }
+    ensures { AnswersOn (HostOpens address naks attempts (speed_told speed) host.new.held) result }
 {
     *host = UsbHost::empty(alloc);
     match speed_of(speed) {
@@ -44,7 +44,7 @@ fn open_at(
     speed: Speed,
 ) -> Verdict
     requires { host.old.held ≡ None }
-    ensures { OpensAt address naks attempts speed host.new.held result }
+    ensures { HostOpensAt address naks attempts speed host.new.held result }
 {
     let limits = match Limits::new(address, naks, attempts) {
         Ok(limits) => limits,

@@ -10,7 +10,7 @@ ghost use Rattle.usb_device.specs.Stages.{data_bytes, stage_kind, IsData, IsSour
 use crate::beside::{ROOM, Unanswered, is_open};
 use crate::description::Description;
 use crate::request::Request;
-use crate::stage::{DataStage, Reaction, Response, Source, Stage};
+use crate::stage::{DataStage, Decision, Reaction, Source, Stage};
 use crate::state::State;
 use usb_fields::{Answer, Direction, Setup, Stage as Token, Toggle, Transaction, request};
 
@@ -164,12 +164,12 @@ impl EndpointZero {
             state: &self.state,
             setup: q,
         };
-        match request.respond() {
-            Response::Descriptor(place) => self.send_descriptor(d, place, q.length),
-            Response::Byte(byte) => self.send_kept(d, &[byte], 1),
-            Response::Status(first) => self.send_kept(d, &[first, 0], 2),
-            Response::Done(_) => self.wait(Stage::StatusIn, q),
-            Response::Refused => self.wait(Stage::Halted, q),
+        match request.decide() {
+            Decision::Descriptor(place) => self.send_descriptor(d, place, q.length),
+            Decision::Byte(byte) => self.send_kept(d, &[byte], 1),
+            Decision::Status(first) => self.send_kept(d, &[first, 0], 2),
+            Decision::Done(_) => self.wait(Stage::StatusIn, q),
+            Decision::Refused => self.wait(Stage::Halted, q),
         }
     }
 
@@ -371,7 +371,7 @@ impl EndpointZero {
             state: &self.state,
             setup: q,
         };
-        if let Response::Done(change) = request.respond() {
+        if let Decision::Done(change) = request.decide() {
             self.state.change(change);
         }
     }

@@ -4,7 +4,7 @@
 ghost use Rattle.std.specs.Prelude.{◌≡◌, ◌∷◌, [], if◌then◌else◌};
 
 use crate::description::Description;
-use crate::stage::{Change, Response};
+use crate::stage::{Change, Decision};
 use crate::state::State;
 use crate::{halts, selected};
 use usb_fields::{Class, Direction, Recipient, Setup, feature, request};
@@ -26,19 +26,19 @@ impl<'r> Request<'r> {
     /// The answer.
     #[tactic(auto, unfolding(crate::specs::Requests::answer, crate::specs::Requests::answer_of))]
     #[inline(always)]
-    pub(crate) fn respond(&self) -> Response
+    pub(crate) fn decide(&self) -> Decision
         ensures answer { says self.now result ≡ answer self.now.description.now.file self.now.state.now self.now.setup }
         ensures asked { AsksFor self.now result }
     {
         match self.setup.class() {
             Class::Standard => self.by_request(),
-            _ => Response::Refused,
+            _ => Decision::Refused,
         }
     }
 
     /// The answer to a standard request, by bRequest (table 9-4).
     #[inline(always)]
-    fn by_request(&self) -> Response
+    fn by_request(&self) -> Decision
         ensures answer { says self.now result ≡ row self.now.description.now.file self.now.state.now self.now.setup }
         ensures asked { AsksFor self.now result }
     {
@@ -52,35 +52,35 @@ impl<'r> Request<'r> {
             request::SET_CONFIGURATION => self.set_configuration(),
             request::GET_INTERFACE => self.get_interface(),
             request::SET_INTERFACE => self.set_interface(),
-            _ => Response::Refused,
+            _ => Decision::Refused,
         }
     }
 
     /// GET_STATUS (9.4.5).
     #[inline(always)]
-    fn get_status(&self) -> Response
+    fn get_status(&self) -> Decision
         ensures answer { says self.now result ≡ get_status self.now.description.now.file self.now.state.now self.now.setup }
         ensures asked { AsksFor self.now result }
     {
         if self.setup.value != 0 {
-            return Response::Refused;
+            return Decision::Refused;
         }
         match self.setup.recipient() {
             Recipient::Device => self.status_of_device(),
             Recipient::Interface => self.status_of_interface(),
             Recipient::Endpoint => self.status_of_endpoint(),
-            Recipient::Other | Recipient::Reserved => Response::Refused,
+            Recipient::Other | Recipient::Reserved => Decision::Refused,
         }
     }
 
     /// Bit 0 self-powered, bit 1 remote wakeup (figure 9-4).
     #[inline(always)]
-    fn status_of_device(&self) -> Response
+    fn status_of_device(&self) -> Decision
         ensures answer { says self.now result ≡ status_of_device self.now.description.now.file self.now.state.now self.now.setup }
         ensures asked { AsksFor self.now result }
     {
         if !self.state.has_address() || self.setup.index != 0 {
-            return Response::Refused;
+            return Decision::Refused;
         }
         let attributes = selected::attributes(self.description.file(), self.state);
         self.status(attributes / 64 % 2 + 2 * u8::from(self.state.wakeup))
@@ -88,20 +88,20 @@ impl<'r> Request<'r> {
 
     /// Two zero bytes (figure 9-5).
     #[inline(always)]
-    fn status_of_interface(&self) -> Response
+    fn status_of_interface(&self) -> Decision
         ensures answer { says self.now result ≡ status_of_interface self.now.description.now.file self.now.state.now self.now.setup }
         ensures asked { AsksFor self.now result }
     {
         if self.state.is_configured() && self.names_interface() {
             self.status(0)
         } else {
-            Response::Refused
+            Decision::Refused
         }
     }
 
     /// Bit 0 the endpoint's halt (figure 9-6).
     #[inline(always)]
-    fn status_of_endpoint(&self) -> Response
+    fn status_of_endpoint(&self) -> Decision
         ensures answer { says self.now result ≡ status_of_endpoint self.now.description.now.file self.now.state.now self.now.setup }
         ensures asked { AsksFor self.now result }
     {
@@ -109,7 +109,7 @@ impl<'r> Request<'r> {
             return if self.state.has_address() {
                 self.status(0)
             } else {
-                Response::Refused
+                Decision::Refused
             };
         }
         match self.endpoint() {
@@ -117,26 +117,26 @@ impl<'r> Request<'r> {
                 self.state.halts,
                 endpoint,
             )),
-            _ => Response::Refused,
+            _ => Decision::Refused,
         }
     }
 
     /// CLEAR_FEATURE and SET_FEATURE (9.4.1 and 9.4.9).
     #[inline(always)]
-    fn change_feature(&self, on: bool) -> Response
+    fn change_feature(&self, on: bool) -> Decision
         ensures answer { says self.now result ≡ feature_of (recipient_of self.now.setup.request_type) on self.now.description.now.file self.now.state.now self.now.setup }
         ensures asked { AsksFor self.now result }
     {
         match self.setup.recipient() {
             Recipient::Device => self.change_wakeup(on),
             Recipient::Endpoint => self.change_halt(on),
-            Recipient::Interface | Recipient::Other | Recipient::Reserved => Response::Refused,
+            Recipient::Interface | Recipient::Other | Recipient::Reserved => Decision::Refused,
         }
     }
 
     /// DEVICE_REMOTE_WAKEUP (table 9-6).
     #[inline(always)]
-    fn change_wakeup(&self, on: bool) -> Response
+    fn change_wakeup(&self, on: bool) -> Decision
         ensures answer { says self.now result ≡ wakeup_feature on self.now.description.now.file self.now.state.now self.now.setup }
         ensures asked { AsksFor self.now result }
     {
@@ -147,13 +147,13 @@ impl<'r> Request<'r> {
         {
             self.done(Change::Wakeup(on))
         } else {
-            Response::Refused
+            Decision::Refused
         }
     }
 
     /// ENDPOINT_HALT (table 9-6).
     #[inline(always)]
-    fn change_halt(&self, on: bool) -> Response
+    fn change_halt(&self, on: bool) -> Decision
         ensures answer { says self.now result ≡ halt_feature on self.now.description.now.file self.now.state.now self.now.setup }
         ensures asked { AsksFor self.now result }
     {
@@ -161,7 +161,7 @@ impl<'r> Request<'r> {
             || self.setup.value != feature::ENDPOINT_HALT
             || self.names_endpoint_zero()
         {
-            return Response::Refused;
+            return Decision::Refused;
         }
         match self.endpoint() {
             Some(endpoint) => self.done(Change::Halts(halts::changed(
@@ -169,13 +169,13 @@ impl<'r> Request<'r> {
                 endpoint,
                 on,
             ))),
-            None => Response::Refused,
+            None => Decision::Refused,
         }
     }
 
     /// SET_ADDRESS (9.4.6).
     #[inline(always)]
-    fn set_address(&self) -> Response
+    fn set_address(&self) -> Decision
         ensures answer { says self.now result ≡ set_address self.now.description.now.file self.now.state.now self.now.setup }
         ensures asked { AsksFor self.now result }
     {
@@ -186,33 +186,33 @@ impl<'r> Request<'r> {
         {
             self.done(Change::Address(self.setup.value as u8))
         } else {
-            Response::Refused
+            Decision::Refused
         }
     }
 
     /// GET_DESCRIPTOR (9.4.3).
     #[inline(always)]
-    fn get_descriptor(&self) -> Response
+    fn get_descriptor(&self) -> Decision
         ensures answer { says self.now result ≡ get_descriptor self.now.description.now.file self.now.state.now self.now.setup }
         ensures asked { AsksFor self.now result }
     {
         if !self.is_to_device() {
-            return Response::Refused;
+            return Decision::Refused;
         }
         let [index, kind] = self.setup.value.to_le_bytes();
         match self.description.find(kind, index, self.setup.index) {
-            Some(_) if self.setup.length == 0 => Response::Done(Change::Nothing),
+            Some(_) if self.setup.length == 0 => Decision::Done(Change::Nothing),
             Some(place) => match self.setup.direction() {
-                Direction::In => Response::Descriptor(place),
-                Direction::Out => Response::Refused,
+                Direction::In => Decision::Descriptor(place),
+                Direction::Out => Decision::Refused,
             },
-            None => Response::Refused,
+            None => Decision::Refused,
         }
     }
 
     /// GET_CONFIGURATION (9.4.2).
     #[inline(always)]
-    fn get_configuration(&self) -> Response
+    fn get_configuration(&self) -> Decision
         ensures answer { says self.now result ≡ get_configuration self.now.description.now.file self.now.state.now self.now.setup }
         ensures asked { AsksFor self.now result }
     {
@@ -223,33 +223,33 @@ impl<'r> Request<'r> {
         {
             self.byte(self.state.selected)
         } else {
-            Response::Refused
+            Decision::Refused
         }
     }
 
     /// SET_CONFIGURATION (9.4.7).
     #[inline(always)]
-    fn set_configuration(&self) -> Response
+    fn set_configuration(&self) -> Decision
         ensures answer { says self.now result ≡ set_configuration self.now.description.now.file self.now.state.now self.now.setup }
         ensures asked { AsksFor self.now result }
     {
         if !self.is_to_device() || !self.state.has_address() || self.setup.index != 0 {
-            return Response::Refused;
+            return Decision::Refused;
         }
         if self.setup.value >= 256 {
-            return Response::Refused;
+            return Decision::Refused;
         }
         let value = self.setup.value as u8;
         if value == 0 || selected::any_with_value(&self.description.file().sets, value) {
             self.done(Change::Configuration(value))
         } else {
-            Response::Refused
+            Decision::Refused
         }
     }
 
     /// GET_INTERFACE (9.4.4).
     #[inline(always)]
-    fn get_interface(&self) -> Response
+    fn get_interface(&self) -> Decision
         ensures answer { says self.now result ≡ get_interface self.now.description.now.file self.now.state.now self.now.setup }
         ensures asked { AsksFor self.now result }
     {
@@ -260,27 +260,27 @@ impl<'r> Request<'r> {
         {
             self.byte(self.state.alternates[usize::from(self.setup.index)])
         } else {
-            Response::Refused
+            Decision::Refused
         }
     }
 
     /// SET_INTERFACE (9.4.10).
     #[inline(always)]
-    fn set_interface(&self) -> Response
+    fn set_interface(&self) -> Decision
         ensures answer { says self.now result ≡ set_interface self.now.description.now.file self.now.state.now self.now.setup }
         ensures asked { AsksFor self.now result }
     {
         if !self.is_to_interface() || !self.state.is_configured() {
-            return Response::Refused;
+            return Decision::Refused;
         }
         if self.setup.index >= 256 || self.setup.value >= 256 {
-            return Response::Refused;
+            return Decision::Refused;
         }
         let number = self.setup.index as u8;
         let alternate = self.setup.value as u8;
         let settings = self.settings();
         if !selected::has_alternate(settings, number, alternate) {
-            return Response::Refused;
+            return Decision::Refused;
         }
         let halts = halts::without_interface(self.state.halts, settings, number);
         self.done(Change::Alternate(number, alternate, halts))
@@ -288,38 +288,38 @@ impl<'r> Request<'r> {
 
     /// What is done where no data stage is asked for.
     #[inline(always)]
-    fn done(&self, change: Change) -> Response
+    fn done(&self, change: Change) -> Decision
         ensures answer { says self.now result ≡ does self.now.setup (changed self.now.state.now change) }
         ensures asked { AsksFor self.now result }
     {
         if self.setup.length == 0 {
-            Response::Done(change)
+            Decision::Done(change)
         } else {
-            Response::Refused
+            Decision::Refused
         }
     }
 
     /// A byte, where one is asked for.
     #[inline(always)]
-    fn byte(&self, byte: u8) -> Response
+    fn byte(&self, byte: u8) -> Decision
         ensures answer { says self.now result ≡ tells self.now.setup (byte ∷ []) }
         ensures asked { AsksFor self.now result }
     {
         match self.setup.direction() {
-            Direction::In if self.setup.length == 1 => Response::Byte(byte),
-            _ => Response::Refused,
+            Direction::In if self.setup.length == 1 => Decision::Byte(byte),
+            _ => Decision::Refused,
         }
     }
 
     /// A status with this first byte, where two are asked for.
     #[inline(always)]
-    fn status(&self, first: u8) -> Response
+    fn status(&self, first: u8) -> Decision
         ensures answer { says self.now result ≡ tells self.now.setup (first ∷ 0 ∷ []) }
         ensures asked { AsksFor self.now result }
     {
         match self.setup.direction() {
-            Direction::In if self.setup.length == 2 => Response::Status(first),
-            _ => Response::Refused,
+            Direction::In if self.setup.length == 2 => Decision::Status(first),
+            _ => Decision::Refused,
         }
     }
 

@@ -32,9 +32,9 @@ pub(crate) enum Change {
     Alternate(u8, u8, u32),
 }
 
-/// What a request is answered by.
+/// What the device does about a request.
 #[derive(Clone, Copy)]
-pub(crate) enum Response {
+pub(crate) enum Decision {
     /// The descriptor at this place, cut to wLength.
     Descriptor(usize),
     /// One byte.

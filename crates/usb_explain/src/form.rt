@@ -4,7 +4,7 @@ ghost use Rattle.usb_explain.specs.Forms.{decimal_words, form_words, hexadecimal
 
 use crate::bits::put_bits;
 use crate::endpoint::{put_address, put_attributes_value, put_interval_value, put_size_value};
-use crate::layout::Shown;
+use crate::layout::ShownBytes;
 use crate::names::{
     put_audio_terminal, put_class, put_function_class, put_guid, put_protocol, put_subclass,
     put_video_terminal,
@@ -27,7 +27,7 @@ const ATTRIBUTES: usize = 3;
 #[tactic(auto, unfolding(crate::specs::Forms::form_words))]
 pub(crate) fn put_form(
     text: &mut Text,
-    shown: &Shown,
+    shown: &ShownBytes,
     field: &ClassField,
     place: usize,
 ) -> Result<(), AllocError>

@@ -27,7 +27,7 @@ pub(crate) struct DescriptorLayout {
 
 /// A descriptor whose fields are put: its bytes, and what its lines depend on beside them.
 #[derive(Clone, Copy)]
-pub(crate) struct Shown<'d> {
+pub(crate) struct ShownBytes<'d> {
     pub(crate) context: Context,
     pub(crate) names: &'d Names<'d>,
     pub(crate) b: &'d [u8],
@@ -43,7 +43,7 @@ pub(crate) fn put_layout(
 ) -> Result<(), AllocError>
     ensures { OnOk result (text.new ≡ text.old ++ layout_lines context.now names.now (layout_of layout.now) b.now) }
 {
-    let shown = Shown {
+    let shown = ShownBytes {
         context: *context,
         names,
         b,
@@ -55,7 +55,7 @@ pub(crate) fn put_layout(
 #[tactic(auto, unfolding(crate::specs::Layouts::body_lines))]
 fn put_body(
     text: &mut Text,
-    shown: &Shown,
+    shown: &ShownBytes,
     fields: &[ClassField],
     layout: &DescriptorLayout,
     place: usize,
@@ -105,7 +105,7 @@ fn group_count(width: usize, count: usize) -> usize
 /// Puts the groups that are there, and what is left after them.
 fn put_all_groups(
     text: &mut Text,
-    shown: &Shown,
+    shown: &ShownBytes,
     layout: &DescriptorLayout,
     place: usize,
 ) -> Result<(), AllocError>
@@ -122,7 +122,7 @@ fn put_all_groups(
 #[tactic(auto, unfolding(crate::specs::Layouts::groups_lines))]
 fn put_groups(
     text: &mut Text,
-    shown: &Shown,
+    shown: &ShownBytes,
     layout: &DescriptorLayout,
     count: usize,
     place: usize,
@@ -139,7 +139,7 @@ fn put_groups(
 /// Puts the bytes that are left from this place on.
 fn put_left(
     text: &mut Text,
-    shown: &Shown,
+    shown: &ShownBytes,
     layout: &DescriptorLayout,
     place: usize,
 ) -> Result<(), AllocError>
@@ -157,7 +157,7 @@ fn put_left(
 #[tactic(auto, unfolding(crate::specs::Layouts::group_lines))]
 fn put_group(
     text: &mut Text,
-    shown: &Shown,
+    shown: &ShownBytes,
     fields: &[ClassField],
     place: usize,
 ) -> Result<usize, AllocError>
@@ -179,7 +179,7 @@ fn put_group(
 #[tactic(auto, unfolding(crate::specs::Lines::field_line))]
 fn put_field(
     text: &mut Text,
-    shown: &Shown,
+    shown: &ShownBytes,
     field: &ClassField,
     place: usize,
 ) -> Result<(), AllocError>

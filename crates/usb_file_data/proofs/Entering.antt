@@ -10,7 +10,7 @@ use Rattle.std.proofs.lemmas.Grind.{get_or-set_at}
 use lib.ListN.{get_or-eq_default}
 use Rattle.usb_fields.specs.Marks.{is_marked, marked, unmarked}
 use Rattle.usb_fields.proofs.Cells.{funext}
-use Rattle.usb_file_data.specs.inside.Interfaces.{AreFound, Entered, Table, with_interface, begun, entries, first_of, kept, pair_too, with_alternate, place_of}
+use Rattle.usb_file_data.specs.inside.Interfaces.{AreFound, Entered, InterfaceTable, with_interface, begun, entries, first_of, kept, pair_too, with_alternate, place_of}
 use Rattle.usb_file_data.specs.Places.{when}
 use Rattle.usb_file_data.specs.declared.interfaces.Interface.{Interface}
 
@@ -160,14 +160,14 @@ pub row_of : (list : List Interface) (place : ℕ) (i : Interface) → place < l
 row_of list place i small is = get_or-map (λ x. x.alternates) list place i [] small ∙ ap (λ x. x.alternates) (sym is)
 
 -- the interface of a number that is there lies within the list
-pub within_list : (t : Table) (n : ℕ) → AreFound t → is_marked t.marks n ≡ true → place_of t.places n < length t.list
+pub within_list : (t : InterfaceTable) (n : ℕ) → AreFound t → is_marked t.marks n ≡ true → place_of t.places n < length t.list
 within_list t n sound there = omega (arith, within (map (λ i. i.number) t.list) (place_of t.places n) n (sound.found n there), length-map t.list (λ i. i.number))
 
 -- an interface with one alternate more in the place of another
 abbrev pub IsRowMore : Interface → Interface → ℕ → Type 0
 IsRowMore i old a = (i.number ≡ old.number) × (i.first ≡ old.first) × (is_marked i.alternates ≡ marked (is_marked old.alternates) a)
 
-pub found_paired : (t : Table) (place a : ℕ) (i old : Interface) → AreFound t → old ≡ get_or t.list place old → IsRowMore i old a
+pub found_paired : (t : InterfaceTable) (place a : ℕ) (i old : Interface) → AreFound t → old ≡ get_or t.list place old → IsRowMore i old a
     → AreFound (record { list = slice_set t.list place i; places = t.places; marks = t.marks })
 found_paired t place a i old sound is more =
     let numbers : map (λ x. x.number) (slice_set t.list place i) ≡ map (λ x. x.number) t.list =
@@ -177,7 +177,7 @@ found_paired t place a i old sound is more =
       found = λ m there. ap (λ ns. get_or ns (place_of t.places m) (m + 1)) numbers ∙ sound.found m there;
     }
 
-pub kept_paired : (t : Table) (n a place : ℕ) (i old : Interface) → AreFound t → is_marked t.marks n ≡ true → place ≡ place_of t.places n
+pub kept_paired : (t : InterfaceTable) (n a place : ℕ) (i old : Interface) → AreFound t → is_marked t.marks n ≡ true → place ≡ place_of t.places n
     → old ≡ get_or t.list place old → IsRowMore i old a
     → kept (record { list = slice_set t.list place i; places = t.places; marks = t.marks }) ≡ with_alternate n a (kept t)
 unfolding kept
@@ -202,16 +202,16 @@ abbrev pub IsNew : Interface → ℕ → ℕ → Type 0
 IsNew i n setting = (i.number ≡ n) × (i.first ≡ setting) × (is_marked i.alternates ≡ unmarked)
 
 -- the fields with it
-abbrev pub with_new : Table → ℕ → Interface → List ℕ → Table
+abbrev pub with_new : InterfaceTable → ℕ → Interface → List ℕ → InterfaceTable
 with_new t n i marks = record { list = t.list ++ i ∷ []; places = slice_set t.places n (length t.list); marks = marks }
 
 -- the fields as they are written
 pub fields_are : (list new : List Interface) (places : List ℕ) (n at place : ℕ) (i : Interface) (marks : List ℕ)
     → new ≡ list ++ i ∷ [] → at ≡ n → place ≡ length list
-    → ◌≡◌ {A = Table} (record { list = list ++ i ∷ []; places = slice_set places n (length list); marks = marks }) (record { list = new; places = slice_set places at place; marks = marks })
+    → ◌≡◌ {A = InterfaceTable} (record { list = list ++ i ∷ []; places = slice_set places n (length list); marks = marks }) (record { list = new; places = slice_set places at place; marks = marks })
 fields_are list new places n at place i marks list_is at_is place_is = cc
 
-pub found_begun : (t : Table) (n setting : ℕ) (i : Interface) (marks : List ℕ) → AreFound t → n < 256 → IsNew i n setting
+pub found_begun : (t : InterfaceTable) (n setting : ℕ) (i : Interface) (marks : List ℕ) → AreFound t → n < 256 → IsNew i n setting
     → is_marked marks ≡ marked (is_marked t.marks) n → AreFound (with_new t n i marks)
 found_begun t n setting i marks sound small new more =
     let numbers = map (λ x. x.number) t.list in
@@ -225,7 +225,7 @@ found_begun t n setting i marks sound small new more =
           ∙ found_more numbers t.places (is_marked t.marks) n sound.found (omega (arith, small, sound.room)) m (ap (λ f. f m) (sym more) ∙ there);
     }
 
-pub kept_begun : (t : Table) (n setting : ℕ) (i : Interface) (marks : List ℕ) → AreFound t → n < 256 → IsNew i n setting
+pub kept_begun : (t : InterfaceTable) (n setting : ℕ) (i : Interface) (marks : List ℕ) → AreFound t → n < 256 → IsNew i n setting
     → is_marked marks ≡ marked (is_marked t.marks) n → is_marked t.marks n ≡ false → kept (with_new t n i marks) ≡ begun n setting (kept t)
 unfolding kept
 kept_begun t n setting i marks sound small new more none =

@@ -46,9 +46,9 @@ pub(crate) struct Addresses {
 
 impl Model for Addresses {
     ghost use Rattle.std.specs.Prelude.{◌≡◌, length};
-    ghost use Rattle.usb_file_data.specs.inside.Addresses.{Table};
+    ghost use Rattle.usb_file_data.specs.inside.Addresses.{AddressTable};
 
-    ghost Value = { Table };
+    ghost Value = { AddressTable };
 
     ghost view = { λ t. record { number = t.number; in_setting = t.in_setting; in_set = t.in_set; owners = t.owners } };
 

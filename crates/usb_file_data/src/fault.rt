@@ -102,7 +102,7 @@ pub struct FileFault {
 }
 
 impl FileFault {
-    /// This, at this place.
+    /// The fault of this reason, at this place in the file.
     pub fn new(at: usize, why: FileWhy) -> FileFault
         ensures { result ≡ record { at = at; why = why } }
     {

@@ -29,9 +29,9 @@ pub(crate) struct Interfaces {
 }
 
 impl Model for Interfaces {
-    ghost use Rattle.usb_file_data.specs.inside.Interfaces.{AreFound, Table};
+    ghost use Rattle.usb_file_data.specs.inside.Interfaces.{AreFound, InterfaceTable};
 
-    ghost Value = { Table };
+    ghost Value = { InterfaceTable };
 
     ghost view = { λ t. record { list = t.list.items; places = t.places; marks = t.numbers } };
 

@@ -20,7 +20,7 @@ use Rattle.usb_file_data.specs.declared.file.Strings.{Strings}
 use Rattle.usb_file_data.specs.File.{named_among, named_indices, string_indices}
 use Rattle.usb_file_data.specs.Front.{with_set, with_qualifier}
 use Rattle.usb_host.specs.declared.why.Why.TheVariants.{Malformed}
-use Rattle.usb_host.specs.Plan.{Plan, Begin, Success, Trouble}
+use Rattle.usb_host.specs.Plan.{Plan, Begin, Success, GivesUp}
 use Rattle.usb_host.specs.declared.place.Place.{Place}
 use Rattle.usb_host.specs.declared.place.Place.TheVariants.{First, Address, Device, Header, Set, Qualifier as SecondSpeed, Languages, Text, Configure, Reported, Stopped}
 use Rattle.usb_host.specs.Read.{packet_fits, same_bytes, is_first, may_have_second, total_said, total_in, device_of, qualifier_of, units_of}
@@ -189,7 +189,7 @@ refused_falls place g = (tt, omega arith)
 abbrev pub Pays : Plan → ℕ → Type 0
 Pays (Begin a p q) k = (8 ≤ p) × (q.length / p + 3 ≤ k)
 Pays Success k = Unit {0}
-Pays (Trouble why) k = Unit {0}
+Pays (GivesUp why) k = Unit {0}
 
 fewer : (w p k : ℕ) → 8 ≤ p → w / 8 + 3 ≤ k → (8 ≤ p) × (w / p + 3 ≤ k)
 fewer w p k h e =

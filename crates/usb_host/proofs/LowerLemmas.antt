@@ -15,7 +15,7 @@ use Rattle.usb_host.specs.declared.transfer.TransferStage.{TransferStage}
 use Rattle.usb_host.specs.declared.transfer.TransferStage.TheVariants.{Setup, DataIn, DataOut, StatusOut, StatusIn, Completed, Failed}
 use Rattle.usb_host.specs.Limits.{LimitView}
 use Rattle.usb_host.specs.Transfer.{TransferView, Hearing, Goes, Brings, Completes, Fails, Taken, taken, taken_at, begun, left}
-use Rattle.usb_host.specs.Plan.{Plan, Begin, Success, Trouble}
+use Rattle.usb_host.specs.Plan.{Plan, Begin, Success, GivesUp}
 use Rattle.usb_host.specs.declared.place.Place.{Place}
 use Rattle.usb_host.specs.declared.place.Place.TheVariants.{First, Set, Stopped}
 use Rattle.usb_host.specs.declared.place.Kept.{Kept}
@@ -104,7 +104,7 @@ begins_low address naks place (Begin to packet q) e good =
     split : (p k : ℕ) → p ≤ k → p * (naks + 3) + (k - p) * (naks + 3) ≡ k * (naks + 3)
     split p k h = (let e : k ≡ p + (k - p) = omega arith in let d : (p + (k - p)) * (naks + 3) ≡ p * (naks + 3) + (k - p) * (naks + 3) = grind arith in sym d ∙ ap (λ x. x * (naks + 3)) (sym e))
 begins_low address naks place Success e good = (tt, omega arith)
-begins_low address naks place (Trouble why) e good = (tt, omega arith)
+begins_low address naks place (GivesUp why) e good = (tt, omega arith)
 
 enters_low : (limits : LimitView) (k : ℕ) (place : Place) → Fits k place →
     IsSteady (enter limits place) × (left_in_attempt limits.naks (enter limits place) ≤ k * (limits.naks + 3))

@@ -49,7 +49,7 @@ price (Configure f) = 3
 price (Reported f) = 0
 price (Stopped trouble) = 0
 
--- what one attempt asks for at most, where so many NAKs are borne
+-- what one attempt asks for at most, with this limit of NAKs
 abbrev pub most_in_attempt : ℕ → ℕ
 most_in_attempt naks = 5273453 * (naks + 3)
 

@@ -16,7 +16,7 @@ use Rattle.usb_host.specs.declared.why.Why.{Why}
 use Rattle.usb_host.specs.declared.why.Why.TheVariants.{Stalled, Malformed}
 use Rattle.usb_host.specs.declared.reply.Reply.{Reply}
 use Rattle.usb_host.specs.declared.reply.Reply.TheVariants.{Bytes, Done, Refused}
-use Rattle.usb_host.specs.Plan.{Plan, Begin, Success, Trouble}
+use Rattle.usb_host.specs.Plan.{Plan, Begin, Success, GivesUp}
 use Rattle.usb_host.specs.declared.step.Step.{Step}
 use Rattle.usb_host.specs.declared.step.Step.TheVariants as steps
 use Rattle.usb_host.specs.declared.place.Place.{Place}
@@ -99,7 +99,7 @@ asks address (Text f s named) =
     (get_descriptor 3 (index_due named (length s.texts)) (language_due s.languages named (length s.texts)) 255)
 asks address (Configure f) = Begin address f.device.packet (set_configuration (first_value f.sets))
 asks address (Reported f) = Success
-asks address (Stopped trouble) = Trouble trouble.why
+asks address (Stopped trouble) = GivesUp trouble.why
 
 -- the next string, or the configuration once all are there
 abbrev pub texts_due : DescriptorFile → Strings → List ℕ → Place

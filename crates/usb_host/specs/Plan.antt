@@ -7,4 +7,4 @@ use Rattle.usb_host.specs.declared.why.Why.{Why}
 pub data Plan : Type 0 where
   Begin : (address packet : ℕ) (q : SetupPacket) → Plan
   Success : Plan
-  Trouble : (why : Why) → Plan
+  GivesUp : (why : Why) → Plan

@@ -11,7 +11,7 @@ use Rattle.usb_host.specs.declared.why.Why.TheVariants.{NoAnswer, Busy, Stalled,
 use Rattle.usb_host.specs.declared.transfer.TransferStage.{TransferStage}
 use Rattle.usb_host.specs.declared.transfer.TransferStage.TheVariants.{Completed, Failed}
 use Rattle.usb_host.specs.Limits.{LimitView}
-use Rattle.usb_host.specs.Plan.{Plan, Begin, Success, Trouble as GivesUp}
+use Rattle.usb_host.specs.Plan.{Plan, Begin, Success, GivesUp}
 use Rattle.usb_host.specs.Transfer.{TransferView, Hearing, Goes, Brings, Completes, Fails, Taken, taken, begun, due}
 use Rattle.usb_host.specs.declared.step.Action.{Action}
 use Rattle.usb_host.specs.declared.step.Action.TheVariants as actions
@@ -95,7 +95,7 @@ lent_outcome None = None
 lent_outcome (Some (Ok f)) = Some (Ok f.now)
 lent_outcome (Some (Err trouble)) = Some (Err trouble)
 
--- what a plan puts in work at a place, where so many NAKs are borne
+-- what a plan puts in work at a place, with this limit of NAKs
 abbrev pub entered : ℕ → Place → Plan → HostPhase
 entered naks place (Begin address packet q) = Reading place (begun address packet naks q) (nothing_kept place)
 entered naks place Success = Ended place

@@ -17,7 +17,7 @@ use Rattle.usb_host.specs.declared.transfer.TransferStage.TheVariants.{Setup, Da
 
 -- what callers see of a transfer
 pub record TransferView : Type 0 where
-  -- the device's address, its packet size, the NAKs that are borne, and what is asked for
+  -- the device's address, its packet size, the limit of NAKs, and what is asked for
   pub address : ℕ
   pub packet : ℕ
   pub naks : ℕ
@@ -109,7 +109,7 @@ struck t =
     then record { heard = Goes; transfer = record t { strikes = suc t.strikes } }
     else failed t NoAnswer
 
--- A NAK of IN (8.4.6.1) or of OUT (8.4.6.3): one more than are borne ends the transfer. Strikes are neither counted nor
+-- A NAK of IN (8.4.6.1) or of OUT (8.4.6.3): one more than the limit ends the transfer. Strikes are neither counted nor
 -- cleared.
 abbrev pub delayed : TransferView → Taken
 delayed t =
@@ -197,7 +197,7 @@ taken t reply = taken_at t t.stage reply
 -- How many transactions a transfer asks for, whatever is replied.
 
 -- a transfer asks for no more than this from its start: between two steps of progress there are at most two strikes
--- and as many NAKs as are borne
+-- and as many NAKs as the limit
 abbrev pub most_transactions : ℕ → ℕ → SetupPacket → ℕ
 most_transactions packet naks request = (naks + 3) * (request.length / packet + 3)
 

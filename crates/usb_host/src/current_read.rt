@@ -34,14 +34,14 @@ pub enum Ending {
 /// The read in work: what is due, what was read so far, the transfer, and what is held of its bytes. All of it stays
 /// where it is, and is changed there.
 #[derive(Debug, Drop)]
-pub struct Reading {
+pub struct CurrentRead {
     pub due: Due,
     pub transfer: Transfer,
     pub draft: Draft,
     pub held: Held,
 }
 
-impl Reading {
+impl CurrentRead {
     /// Takes an answer into the transfer, and keeps what is new. How the read ended, if it did.
     #[inline(always)]
     #[tactic(auto, using(crate::proofs::TakeLemmas::room, crate::proofs::TakeLemmas::hears_steady, crate::proofs::StandLemmas::going_due))]
@@ -140,12 +140,12 @@ fn transfer_at(limits: &Limits, due: &Due, draft: &Draft) -> Transfer
 }
 
 /// The first read.
-pub(crate) fn begin(alloc: Global, limits: &Limits) -> Reading
+pub(crate) fn begin(alloc: Global, limits: &Limits) -> CurrentRead
     ensures { stands result ≡ enter limits.now First }
 {
     let draft = Draft::new(alloc);
     let transfer = transfer_at(limits, &Due::First, &draft);
-    Reading {
+    CurrentRead {
         due: Due::First,
         transfer,
         draft,

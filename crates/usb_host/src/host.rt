@@ -5,7 +5,7 @@ ghost use Rattle.usb_host.specs.Cost.{BringsBytes};
 ghost use Rattle.usb_host.specs.inside.Places.{is_bus_trouble};
 ghost use Rattle.usb_host.specs.inside.Reads.{place_in};
 
-use crate::current_read::{Reading, begin};
+use crate::current_read::{CurrentRead, begin};
 use crate::draft::Draft;
 use crate::due::Due;
 use crate::limits::Limits;
@@ -42,7 +42,7 @@ pub struct Host {
     speed: Speed,
     resets: u8,
     reset_due: bool,
-    reading: Reading,
+    reading: CurrentRead,
 }
 
 impl Model for Host {
@@ -223,7 +223,7 @@ impl Host {
             reset_due,
             reading,
         } = self;
-        let Reading {
+        let CurrentRead {
             due,
             transfer: _,
             draft,
@@ -247,7 +247,7 @@ impl Host {
 
 /// Whether the bus is to blame for the end of a read, and attempts are left.
 #[inline(always)]
-fn may_try_again(reading: &Reading, resets: u8, limits: &Limits) -> bool
+fn may_try_again(reading: &CurrentRead, resets: u8, limits: &Limits) -> bool
     ensures { result ≡ (is_bus_trouble (place_in reading.now) && nat_lt resets limits.now.attempts) }
 {
     reading.due.is_bus_trouble() && resets < limits.attempts()

@@ -7,8 +7,8 @@ use Rattle.usb_device.specs.declared.request.Request.{Request}
 use Rattle.usb_device.specs.declared.state.State.{State}
 use Rattle.usb_device.specs.declared.stage.Change.{Change}
 use Rattle.usb_device.specs.declared.stage.Change.TheVariants.{Nothing, Address, Configuration, Wakeup, Halts, Alternate}
-use Rattle.usb_device.specs.declared.stage.Response.{Response}
-use Rattle.usb_device.specs.declared.stage.Response.TheVariants as responses
+use Rattle.usb_device.specs.declared.stage.Decision.{Decision}
+use Rattle.usb_device.specs.declared.stage.Decision.TheVariants as decisions
 use Rattle.usb_device.specs.States.{first_alternates}
 use Rattle.usb_device.specs.Requests.{Outcome, Bytes, Done, Refused, answer}
 use Rattle.usb_fields.specs.Packets.{Reply, AckReply, NakReply, StallReply, DataReply, NoReply, packets}
@@ -32,28 +32,28 @@ changed s (Halts halts) = record s { halts = halts }
 changed s (Alternate number alternate halts) =
     record s { alternates = slice_set s.alternates number alternate; halts = halts }
 
--- what a response says
-abbrev pub outcome_of : DescriptorFile → State → Setup → Response → Outcome
-outcome_of f s q (responses.Descriptor place) = Bytes (take q.length (descriptor_at f place))
-outcome_of f s q (responses.Byte byte) = Bytes (byte ∷ [])
-outcome_of f s q (responses.Status byte) = Bytes (byte ∷ 0 ∷ [])
-outcome_of f s q (responses.Done change) = Done (changed s change)
-outcome_of f s q responses.Refused = Refused
+-- what a decision says
+abbrev pub outcome_of : DescriptorFile → State → Setup → Decision → Outcome
+outcome_of f s q (decisions.Descriptor place) = Bytes (take q.length (descriptor_at f place))
+outcome_of f s q (decisions.Byte byte) = Bytes (byte ∷ [])
+outcome_of f s q (decisions.Status byte) = Bytes (byte ∷ 0 ∷ [])
+outcome_of f s q (decisions.Done change) = Done (changed s change)
+outcome_of f s q decisions.Refused = Refused
 
 -- what is sent is there, and was asked for
-abbrev pub IsAsked : DescriptorFile → Setup → Response → Type 0
-IsAsked f q (responses.Descriptor place) = (place < length (descriptors f)) × (0 < q.length)
-IsAsked f q (responses.Byte byte) = q.length ≡ 1
-IsAsked f q (responses.Status byte) = q.length ≡ 2
-IsAsked f q (responses.Done change) = Unit {0}
-IsAsked f q responses.Refused = Unit {0}
+abbrev pub IsAsked : DescriptorFile → Setup → Decision → Type 0
+IsAsked f q (decisions.Descriptor place) = (place < length (descriptors f)) × (0 < q.length)
+IsAsked f q (decisions.Byte byte) = q.length ≡ 1
+IsAsked f q (decisions.Status byte) = q.length ≡ 2
+IsAsked f q (decisions.Done change) = Unit {0}
+IsAsked f q decisions.Refused = Unit {0}
 
--- what a response to a request says
-abbrev pub says : Request → Response → Outcome
+-- what a decision to a request says
+abbrev pub says : Request → Decision → Outcome
 says r response = outcome_of r.description.now.file r.state.now r.setup response
 
 -- what it sends is there, and was asked for
-abbrev pub AsksFor : Request → Response → Type 0
+abbrev pub AsksFor : Request → Decision → Type 0
 AsksFor r response = IsAsked r.description.now.file r.setup response
 
 -- the first of these packets, if there is one

@@ -40,7 +40,7 @@ unfoldable pub owned : ℕ → List Endpoint → (ℕ → ℕ → Bool) → ℕ 
 owned n endpoints t b m = (not (n == m) && is_among (map address_of endpoints) b) || t b m
 
 -- the fields of a value that keeps this
-pub record Table : Type 0 where
+pub record AddressTable : Type 0 where
   pub number : ℕ
   pub in_setting : List ℕ
   pub in_set : List ℕ
@@ -55,5 +55,5 @@ claims n here stands cells = record {
 }
 
 -- what the fields say
-unfoldable pub kept : Table → Claims
+unfoldable pub kept : AddressTable → Claims
 kept t = claims t.number (is_marked t.in_setting) (is_marked t.in_set) t.owners

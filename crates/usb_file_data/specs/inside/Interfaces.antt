@@ -87,13 +87,13 @@ abbrev pub place_of : List ℕ → ℕ → ℕ
 place_of places n = slice_index_or places n 0
 
 -- the fields of a value that keeps this
-pub record Table : Type 0 where
+pub record InterfaceTable : Type 0 where
   pub list : List Interface
   pub places : List ℕ
   pub marks : List ℕ
 
 -- each number with a mark has an interface at its place
-pub record AreFound (t : Table) : Type 0 where
+pub record AreFound (t : InterfaceTable) : Type 0 where
   pub room : length t.places ≡ 256
   pub found : (n : ℕ) → is_marked t.marks n ≡ true → number_at t.list (place_of t.places n) n ≡ n
 
@@ -106,7 +106,7 @@ entries stands rows places firsts = record {
 }
 
 -- what the fields say
-unfoldable pub kept : Table → Entered
+unfoldable pub kept : InterfaceTable → Entered
 kept t = entries (is_marked t.marks) (map (λ i. i.alternates) t.list) t.places (map first_of t.list)
 
 -- the association has no interface, or one of its numbers isn't among these

@@ -13,7 +13,7 @@ use Rattle.usb_host.specs.declared.place.Kept.{Kept}
 use Rattle.usb_host.specs.declared.place.Kept.TheVariants as kept
 use Rattle.usb_host.specs.declared.current_read.Ending.{Ending}
 use Rattle.usb_host.specs.declared.current_read.Ending.TheVariants as endings
-use Rattle.usb_host.specs.declared.current_read.Reading.{Reading as Work}
+use Rattle.usb_host.specs.declared.current_read.CurrentRead.{CurrentRead}
 use Rattle.usb_host.specs.Order.{stopped, refused_leads}
 use Rattle.usb_host.specs.Steps.{HostPhase, ResetDue, Reading, Ended, KeepsHeard, LacksMemory, completed_leads, enter, HostView}
 use Rattle.usb_host.specs.inside.Sound.{IsGood, FitsPlace, KeepsBytes}
@@ -21,11 +21,11 @@ use Rattle.usb_host.specs.inside.Places.{is_end, Leads, place_of, kept_of}
 use Rattle.usb_host.specs.declared.host.Host.TheInside.{Inside}
 
 -- where the enumeration stands
-abbrev pub place_in : Work → Place
+abbrev pub place_in : CurrentRead → Place
 place_in r = place_of r.due r.draft
 
 -- what is kept of the read in work
-abbrev pub kept_in : Work → Kept
+abbrev pub kept_in : CurrentRead → Kept
 kept_in r = kept_of r.due r.held
 
 -- a transfer that goes on
@@ -87,7 +87,7 @@ abbrev pub standing : Place → TransferView → Kept → HostPhase
 standing place t k = if is_end place then Ended place else Reading place t k
 
 -- the phase of a host with this read
-abbrev pub stands : Work → HostPhase
+abbrev pub stands : CurrentRead → HostPhase
 stands r = standing (place_in r) r.transfer (kept_in r)
 
 -- what holds of a host's phase: of a read in work this

@@ -1,7 +1,7 @@
 use Rattle.std.proofs.Common.{Option, refl, subst}
 use Rattle.usb_fields.specs.declared.packet.Speed.{Speed}
 use Rattle.usb_c.specs.declared.answer.Verdict.TheVariants as verdicts
-use Rattle.usb_c.specs.Devices.{Opens}
+use Rattle.usb_c.specs.Devices.{DeviceOpens}
 use Rattle.usb_c.proofs.device.usb_device_open.Goals as goal
 
 pub returns-in-None : goal.returns-in-None
@@ -10,7 +10,7 @@ returns-in-None c =
       verdict = verdicts.BadArgument 3;
       says =
           subst
-          (λ (s : Option Speed). Opens c.args.file.now s c.empty.result.held (verdicts.BadArgument 3))
+          (λ (s : Option Speed). DeviceOpens c.args.file.now s c.empty.result.held (verdicts.BadArgument 3))
           c.in-None.ensures
           (refl, c.empty.ensures);
       numbers = c.answer-in-None.ensures;

@@ -2,13 +2,13 @@ use Rattle.std.proofs.Common.{◌≡◌, ◌∙◌, refl, ap, subst, sym, false,
 use Rattle.std.specs.Prelude.{slice_set}
 use Rattle.usb_fields.specs.Marks.{is_marked}
 use Rattle.usb_file_data.specs.declared.interfaces.Interface.{Interface}
-use Rattle.usb_file_data.specs.inside.Interfaces.{AreFound, Table, begun, kept}
+use Rattle.usb_file_data.specs.inside.Interfaces.{AreFound, InterfaceTable, begun, kept}
 use Rattle.usb_file_data.proofs.Entering.{fields_are, found_begun, kept_begun, with_new}
 use Rattle.usb_file_data.proofs.interfaces.Interfaces.begin.Goals as goal
 
 pub invariant_of-self-2 : goal.invariant_of-self-2
 invariant_of-self-2 c =
-    let t : Table = record { list = c.self.inside.list.items; places = c.self.inside.places; marks = c.self.inside.numbers } in
+    let t : InterfaceTable = record { list = c.self.inside.list.items; places = c.self.inside.places; marks = c.self.inside.numbers } in
     let n = c.args.number in
     let i : Interface = record { number = n; first = c.args.setting; alternates = c.new.result } in
     let fields : with_new t n i c.add.new.self ≡ record { list = c.push.new.self.items; places = slice_set t.places c.from.result c.in-Ok.place; marks = c.add.new.self } =
@@ -18,7 +18,7 @@ invariant_of-self-2 c =
 pub returns : goal.returns
 unfolding kept
 returns c =
-    let t : Table = record { list = c.self.inside.list.items; places = c.self.inside.places; marks = c.self.inside.numbers } in
+    let t : InterfaceTable = record { list = c.self.inside.list.items; places = c.self.inside.places; marks = c.self.inside.numbers } in
     let n = c.args.number in
     let i : Interface = record { number = n; first = c.args.setting; alternates = c.new.result } in
     let none : is_marked t.marks n ≡ false = ap (λ v. (kept v).numbers n) c.self.view_is ∙ c.requires in
