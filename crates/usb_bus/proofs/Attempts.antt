@@ -20,7 +20,7 @@ use Rattle.usb_bus.specs.Bus.{lost, busy, ack_lost, losses, busies, acks_lost, H
 use Rattle.usb_bus.specs.Run.{due_in}
 use Rattle.usb_bus.specs.Together.{IsSilent, Stages, StaysTogether}
 use Rattle.usb_host.specs.Plan.{Plan, Begin}
-use Rattle.usb_host.specs.Transfer.{TransferView, addressed, due, token_due}
+use Rattle.usb_host.specs.Transfer.{addressed, token_due}
 use Rattle.usb_bus.specs.Attempt.{Answers, Phase, Running, Succeeded, Broken, Attempt, reply_from, reply_to, proceed, advance, attempt_step, attempt_run, is_moved_last, is_moving, AttemptEnds}
 use Rattle.usb_bus.specs.inside.Sound.{AttemptsAreSound, Follows, HasMoved, Sound, TogetherOn}
 use Rattle.usb_bus.proofs.Cutting.{alike_cut}

@@ -1,5 +1,5 @@
 -- The first packets of a list, and those that are left.
-use Rattle.std.proofs.Common.{◌≡◌, ℕ, zero, suc, ◌+◌, ◌<◌, ◌≤◌, List, [], ◌∷◌, ◌++◌, length, take, drop, refl, sym, ap, ◌∙◌, arith, subst, append_assoc, length-append, zero-add}
+use Rattle.std.proofs.Common.{◌≡◌, ℕ, zero, suc, ◌+◌, ◌<◌, List, [], ◌∷◌, ◌++◌, length, take, drop, refl, sym, ap, ◌∙◌, arith, subst, append_assoc, length-append, zero-add}
 use Rattle.std.proofs.lemmas.List.{append-nil}
 use Rattle.usb_fields.specs.Packets.{packets, joined}
 use Rattle.usb_bus.specs.inside.Sound.{Due, IsCut}

@@ -14,7 +14,7 @@ use Rattle.usb_bus.specs.declared.fate.Fate.{Fate}
 use Rattle.usb_bus.specs.Bus.{lost, busy, ack_lost, losses, busies, acks_lost, Ends, HostEnd, step, run}
 use Rattle.usb_bus.specs.Attempt.{begins, TransferEnds}
 use Rattle.usb_bus.specs.Together.{Stages, IsReading, InOneTransfer}
-use Rattle.usb_bus.specs.inside.Sound.{IsCut, Due}
+use Rattle.usb_bus.specs.inside.Sound.{IsCut}
 use Rattle.usb_bus.specs.Laws.{TransfersStayTogether}
 use Rattle.usb_bus.specs.Beside.{IsAnswering}
 use Rattle.usb_bus.proofs.Cutting.{alike_cut}

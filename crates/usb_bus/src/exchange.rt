@@ -4,7 +4,7 @@ ghost use Rattle.usb_fields.specs.Packets.{reply_of, sent_of};
 ghost use Rattle.usb_host.specs.Transfer.{taken, due, left};
 ghost use Rattle.usb_host.specs.declared.transfer.TransferStage.TheVariants.{Setup};
 ghost use Rattle.usb_device.specs.Requests.{answer};
-ghost use Rattle.usb_bus.specs.Bus.{HostEnd, Ends, exchanged, with_heard};
+ghost use Rattle.usb_bus.specs.Bus.{exchanged, with_heard};
 ghost use Rattle.usb_bus.specs.inside.Running.{failure_of, LeadsTo};
 
 use crate::fate::Fate;

@@ -3,7 +3,6 @@ ghost use Rattle.std.specs.Prelude.{◌≡◌, ◌++◌, OnOk};
 ghost use Rattle.usb_fields.specs.Packets.{reply_of, token_of};
 ghost use Rattle.usb_host.specs.Transfer.{sent_by};
 ghost use Rattle.usb_text.specs.Lines.{column};
-ghost use Rattle.usb_bus.specs.Exchanges.{is_lost_ack, is_lost_down, is_lost_up};
 ghost use Rattle.usb_bus.specs.Lines.{ack_words, answer_words, fate_letter, marked, packets_part, sent_words, token_words};
 
 use crate::fate::Fate;

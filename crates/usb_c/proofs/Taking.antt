@@ -1,9 +1,6 @@
 -- On bytes that `show` and `check` don't take.
-use Rattle.std.proofs.Common.{◌≡◌, ℕ, ◌⊎◌, Bool, true, false, List, length, ap, refl, sym, subst, inl, inr}
-use Rattle.usb_set.specs.declared.fault.SetFault.{SetFault}
+use Rattle.std.proofs.Common.{◌≡◌, ℕ, Bool, true, false, List, length, ap, refl, sym, subst}
 use Rattle.usb_file_data.specs.declared.file.DescriptorFile.{DescriptorFile}
-use Rattle.usb_file_data.specs.declared.file.Input.{Input}
-use Rattle.usb_file_data.specs.declared.file.Input.TheVariants as inputs
 use Rattle.usb_file_data.specs.Inputs.{Dump, DeviceRefused, InputRefused, is_one_set}
 use Rattle.usb_file_data.specs.FileFaults.{FileFaulty, ReadRefused}
 use Rattle.usb_file_data.specs.declared.fault.FileFault.{FileFault}
@@ -11,8 +8,8 @@ use Rattle.usb_file_data.specs.declared.fault.FileWhy.{FileWhy}
 use Rattle.usb_file_data.specs.declared.fault.FileWhy.TheVariants as files
 use Rattle.usb_file_data.specs.declared.fault.InputFault.{InputFault}
 use Rattle.usb_file_data.specs.declared.fault.InputFault.TheVariants as faults
-use Rattle.usb_c.specs.inside.Refusals.{file_by, refused_file, refused_input}
-use Rattle.usb_c.specs.Texts.{CheckFaulty, IsShown, ShowFaulty, Refuses}
+use Rattle.usb_c.specs.inside.Refusals.{file_by, refused_input}
+use Rattle.usb_c.specs.Texts.{CheckFaulty, ShowFaulty, Refuses}
 use Rattle.usb_c.specs.inside.Taking.{CheckRefused, ShowRefused}
 use Rattle.usb_c.proofs.InputFaults.{input_refuses, set_refuses}
 

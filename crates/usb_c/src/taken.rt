@@ -1,5 +1,5 @@
 //! What `show`, `check` and `build` take.
-ghost use Rattle.std.specs.Prelude.{◌≡◌, IfErr, IfOk, false};
+ghost use Rattle.std.specs.Prelude.{IfErr, IfOk, false};
 ghost use Rattle.usb_listing.specs.Listings.{Lists};
 ghost use Rattle.usb_c.specs.Texts.{IsChecked, IsShown, kept_text};
 ghost use Rattle.usb_c.specs.inside.Taking.{BuildRefused, CheckRefused, ShowRefused};

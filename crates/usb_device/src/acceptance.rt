@@ -1,8 +1,7 @@
 //! Whether a device can be made of a descriptor file, and why not.
 ghost use Rattle.std.specs.Prelude.{◌≡◌, ◌≤◌, length, OnOk, IfErr, false};
-ghost use Rattle.std.specs.List.{list_any};
 ghost use Rattle.usb_file_data.specs.File.{named_indices};
-ghost use Rattle.usb_device.specs.Accepted.{has_early_second_speed, has_other_packets, has_wrong_sets, has_wrong_speed, has_wrong_strings, refusal_of, repeats, repeats_language, is_among, Accepted, Refuses};
+ghost use Rattle.usb_device.specs.Accepted.{has_early_second_speed, has_other_packets, has_wrong_sets, has_wrong_speed, has_wrong_strings, repeats, repeats_language, is_among, Accepted, Refuses};
 
 use std::alloc::{AllocError, Global};
 use thiserror::Error;

@@ -19,7 +19,7 @@ pub(crate) struct Request<'r> {
 }
 
 impl<'r> Request<'r> {
-    ghost use Rattle.usb_device.specs.Requests.{answer, clear_feature, does, feature_of, get_configuration, get_descriptor, get_interface, get_status, halt_feature, is_device, is_interface, names_alternate, names_endpoint, names_endpoint_zero, names_interface, row, selected_settings, set_address, set_configuration, set_feature, set_interface, status_of_device, status_of_endpoint, status_of_interface, tells, wakeup_feature};
+    ghost use Rattle.usb_device.specs.Requests.{answer, does, feature_of, get_configuration, get_descriptor, get_interface, get_status, halt_feature, is_device, is_interface, names_endpoint, names_endpoint_zero, names_interface, row, selected_settings, set_address, set_configuration, set_interface, status_of_device, status_of_endpoint, status_of_interface, tells, wakeup_feature};
     ghost use Rattle.usb_fields.specs.Setup.{recipient_of};
     ghost use Rattle.usb_device.specs.inside.Reactions.{changed, says, AsksFor};
 

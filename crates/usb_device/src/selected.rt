@@ -2,7 +2,7 @@
 ghost use Rattle.std.specs.Prelude.{◌≡◌, find};
 ghost use Rattle.std.specs.Option.{option_copied};
 ghost use Rattle.std.specs.List.{list_any};
-ghost use Rattle.usb_device.specs.Requests.{attributes_of, can_wake, has_endpoint, has_value, is_alternate, is_at, is_of_interface, selected_settings, settings_of, shown_attributes};
+ghost use Rattle.usb_device.specs.Requests.{can_wake, has_endpoint, has_value, is_alternate, is_at, is_of_interface, selected_settings, shown_attributes};
 
 use crate::state::State;
 use usb_file_data::DescriptorFile;

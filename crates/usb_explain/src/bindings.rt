@@ -1,5 +1,5 @@
 //! Which association binds each interface.
-ghost use Rattle.std.specs.Prelude.{◌≡◌, ◌<◌, ℕ, length, None, Some, if◌then◌else◌, replicate, slice_index_or};
+ghost use Rattle.std.specs.Prelude.{◌≡◌, ◌<◌, ℕ, length, None, Some, if◌then◌else◌, replicate};
 ghost use Rattle.std.specs.Option.{option_or};
 ghost use Rattle.usb_explain.specs.Bindings.{binds, bound_at};
 

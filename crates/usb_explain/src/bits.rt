@@ -1,7 +1,7 @@
 //! The bits of a byte by their names.
-ghost use Rattle.std.specs.Prelude.{◌≡◌, ◌<◌, ◌++◌, map, option_map, OnOk};
+ghost use Rattle.std.specs.Prelude.{◌≡◌, ◌<◌, ◌++◌, map, OnOk};
 ghost use Rattle.std.specs.List.{AllByRecursion, filter};
-ghost use Rattle.usb_explain.specs.Names.{bit_words, bits_field, bits_meaning, further_bits, is_set, name_or_number};
+ghost use Rattle.usb_explain.specs.Names.{bit_words, bits_field, bits_meaning, further_bits, is_set};
 
 use std::alloc::AllocError;
 use usb_text::{Text, put_byte_code};

@@ -1,9 +1,8 @@
 //! The endpoint descriptor: what it says, in words.
-ghost use Rattle.std.specs.Prelude.{◌≡◌, ◌++◌, codes, OnOk};
+ghost use Rattle.std.specs.Prelude.{◌≡◌, ◌++◌, OnOk};
 ghost use Rattle.usb_fields.specs.Setup.{direction_of};
 ghost use Rattle.usb_set.specs.Descriptors.{transactions_of};
-ghost use Rattle.usb_explain.specs.Endpoints.{attributes_words, direction_words, end_words, has_packets, packets_words, size_words, synchronization_words, transfer_words, usage_words, way_words};
-ghost use Rattle.usb_text.specs.Numbers.{count};
+ghost use Rattle.usb_explain.specs.Endpoints.{attributes_words, direction_words, end_words, has_packets, packets_words, size_words, synchronization_words, usage_words, way_words};
 ghost use Rattle.std.specs.Prelude.{◌≡◌, ◌++◌, OnOk};
 ghost use Rattle.usb_explain.specs.Endpoints.{endpoint_words, interval_words};
 ghost use Rattle.usb_explain.specs.Endpoints.{address_value, attributes_value, interval_value, size_value};

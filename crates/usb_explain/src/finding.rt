@@ -1,7 +1,5 @@
 //! The findings of an input, and their lines.
-ghost use Rattle.std.specs.Prelude.{◌≡◌, ◌++◌, codes, OnOk};
-ghost use Rattle.std.specs.Fmt.{decimal};
-ghost use Rattle.usb_text.specs.Numbers.{count};
+ghost use Rattle.std.specs.Prelude.{◌≡◌, ◌++◌, OnOk};
 ghost use Rattle.usb_explain.specs.FindingLines.{caused, causes_words, counts_words, device_words, finding_line, has_more, packet_words, qualifier_words, reserved_words, told_words};
 ghost use Rattle.std.specs.Prelude.{◌≡◌, IfOk};
 ghost use Rattle.usb_explain.specs.Subjects.{findings_in};

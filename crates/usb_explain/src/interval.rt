@@ -1,7 +1,7 @@
 //! bInterval of periodic endpoints as a time, and remarks on it.
 ghost use Rattle.std.specs.Prelude.{◌≡◌, ◌++◌, OnOk};
 ghost use Rattle.usb_set.specs.Descriptors.{transfer_type_of};
-ghost use Rattle.usb_explain.specs.Speeds.{at_least_one, frames, full_interval, full_period, high_interval, interval_at, is_periodic, microframes, period, period_words};
+ghost use Rattle.usb_explain.specs.Speeds.{at_least_one, frames, full_interval, full_period, high_interval, interval_at, is_periodic, microframes, period};
 ghost use Rattle.std.specs.Prelude.{◌≡◌};
 ghost use Rattle.usb_explain.specs.Remarks.{from_to, interval_range, interval_remark};
 

@@ -1,5 +1,5 @@
 //! Descriptors of classes, and the device descriptor and qualifier.
-ghost use Rattle.std.specs.Prelude.{◌≡◌, ◌++◌, codes, drop, option_map, OnOk};
+ghost use Rattle.std.specs.Prelude.{◌≡◌, ◌++◌, codes, option_map, OnOk};
 ghost use Rattle.std.specs.Option.{option_copied};
 ghost use Rattle.usb_names.specs.Shown.{row_of};
 ghost use Rattle.usb_text.specs.Numbers.{byte_code};

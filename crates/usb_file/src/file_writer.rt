@@ -1,8 +1,7 @@
 //! A file as its bytes.
 ghost use Rattle.std.specs.Prelude.{◌≡◌, ◌++◌, ℕ, List, IfErr, IfOk, IfSome, None, OnOk, OnSome, false};
 ghost use Rattle.std.specs.List.{list_any};
-ghost use Rattle.usb_fields.specs.Units.{units_bytes};
-ghost use Rattle.usb_file_data.specs.File.{File, WriteRefused, file_bytes, has_no_layout, has_wrong_layout, other_bytes, sets_bytes, strings_bytes, each_string_bytes, whole_set, write_refusal, other_sets};
+ghost use Rattle.usb_file_data.specs.File.{File, WriteRefused, file_bytes, has_no_layout, other_bytes, sets_bytes, strings_bytes, each_string_bytes, whole_set, write_refusal, other_sets};
 
 use std::alloc::Global;
 use usb_fields::{UnitFault, known_bytes, write_units_onto};

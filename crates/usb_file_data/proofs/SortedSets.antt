@@ -13,7 +13,6 @@ use Rattle.usb_set.specs.declared.tree.Setting.{Setting}
 use Rattle.usb_set.specs.Owners.{association_in, setting_extras}
 use Rattle.usb_file_data.specs.declared.finding.Finding.{Finding}
 use Rattle.usb_file_data.specs.declared.finding.Part.{Part}
-use Rattle.usb_file_data.specs.declared.finding.Part.TheVariants as parts
 use Rattle.usb_file_data.specs.declared.rule.Rule.{Rule}
 use Rattle.usb_file_data.specs.declared.rule.Rule.TheVariants as rules
 use Rattle.usb_file_data.specs.Numbers.{rule_number}

@@ -1,6 +1,6 @@
 -- The findings in the order of the bytes, rule by rule.
 use Rattle.std.proofs.Common.{◌≡◌, ℕ, suc, ◌+◌, ◌<◌, ◌≤◌, ◌==◌, Bool, true, false, List, [], ◌∷◌, ◌++◌, refl, ap, sym, subst, ◌∙◌, length, map, take, get_or, arith, append_assoc, length-append, nat_lt, not}
-use Rattle.std.specs.Prelude.{Option, Some, None, is_some, filter, fold, if◌then◌else◌}
+use Rattle.std.specs.Prelude.{Option, Some, None, is_some, fold, if◌then◌else◌}
 use Rattle.std.specs.List.{AllByRecursion, list_all}
 use Rattle.std.proofs.lemmas.List.{append-nil, get_or_default}
 use Rattle.std.proofs.lemmas.Bool.Decides.{nat_tests}

@@ -1,5 +1,5 @@
 //! What bytes that are no input look like.
-ghost use Rattle.std.specs.Prelude.{◌≡◌, drop, length};
+ghost use Rattle.std.specs.Prelude.{◌≡◌};
 ghost use Rattle.std.specs.List.{list_all};
 ghost use Rattle.usb_file_data.specs.Likeness.{after_sets, begins_usage, file_likeness, goes_on_after_dump, is_bos, is_of_text, is_report, is_string, likeness_of};
 

@@ -8,7 +8,7 @@ ghost use Rattle.usb_host.specs.declared.place.Place.TheVariants.{First};
 ghost use Rattle.usb_host.specs.Cost.{BringsBytes};
 ghost use Rattle.usb_host.specs.inside.Sound.{FitsPlace, IsGood, KeepsBytes};
 ghost use Rattle.usb_host.specs.Steps.{TakesHeard, enter};
-ghost use Rattle.usb_host.specs.inside.Places.{kept_of, place_of, is_bus_trouble};
+ghost use Rattle.usb_host.specs.inside.Places.{place_of, is_bus_trouble};
 ghost use Rattle.usb_host.specs.inside.Reads.{GoesOn, Hears, IsReading, IsStanding, LeadsOn, kept_in, place_in, standing, stands};
 
 use crate::draft::Draft;

@@ -1,6 +1,6 @@
 //! Where a read leads to.
 ghost use Rattle.std.specs.Prelude.{◌≡◌, ◌<◌, ◌≤◌, ◌*◌, IfOk, OnErr, length};
-ghost use Rattle.usb_host.specs.Order.{after_sets as place_after_sets, bytes_lead, declared_sets, done_leads, refused_leads, set_leads, step_of, sets_of, sets_due as set_due_at, strings_due as strings_due_at, texts_due as text_due_at};
+ghost use Rattle.usb_host.specs.Order.{after_sets as place_after_sets, bytes_lead, declared_sets, done_leads, refused_leads, set_leads, sets_of, sets_due as set_due_at, strings_due as strings_due_at, texts_due as text_due_at};
 ghost use Rattle.usb_host.specs.inside.Places.{Leads, LeadsTo, OrMemory, Settles, kept_of, place_of};
 ghost use Rattle.usb_host.specs.inside.Sound.{IsGood};
 ghost use Rattle.usb_host.specs.Steps.{completed_leads, read_leads};

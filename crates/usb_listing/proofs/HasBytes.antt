@@ -1,5 +1,5 @@
 -- Each line has a byte, its first letter.
-use Rattle.std.proofs.Common.{◌<◌, ℕ, List, ◌∷◌, ◌++◌, map, drop, length, codes, lit<, arith, length-append}
+use Rattle.std.proofs.Common.{◌<◌, ℕ, List, ◌∷◌, ◌++◌, map, drop, length, codes, lit<}
 use Rattle.usb_fields.specs.declared.device.DeviceDescriptor.{DeviceDescriptor}
 use Rattle.usb_fields.specs.declared.qualifier.Qualifier.{Qualifier}
 use Rattle.usb_set.specs.declared.tree.SetKind.{SetKind}

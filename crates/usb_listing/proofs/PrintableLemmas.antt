@@ -1,14 +1,12 @@
 -- A line that says a descriptor has only bytes that a line may have.
-use Rattle.std.proofs.Common.{◌≡◌, ℕ, ◌/◌, ◌%◌, ◌<◌, ◌==◌, ◌&&◌, ◌||◌, not, Bool, true, false, cond, List, [], ◌∷◌, ◌++◌, Option, Some, None, length, drop, slice_index, refl, sym, subst, ◌∙◌, arith, codes}
-use Rattle.std.specs.List.{AllByRecursion, flat_map, list_all}
-use Rattle.std.proofs.lemmas.Bool.{and_parts}
-use Rattle.std.proofs.lemmas.List.Folds.{list_all-append}
-use Rattle.hex.specs.Hex.{encode_lower, encode_with, lower_digits}
+use Rattle.std.proofs.Common.{ℕ, ◌<◌, Bool, true, false, List, [], ◌∷◌, ◌++◌, Option, Some, None, length, drop, refl, sym, subst, codes}
+use Rattle.std.specs.List.{AllByRecursion, flat_map}
+use Rattle.hex.specs.Hex.{encode_with}
 use Rattle.usb_fields.specs.Bytes.{AreBytes}
 use Rattle.usb_fields.specs.declared.field.Width.{Width}
 use Rattle.usb_fields.specs.declared.field.Width.TheVariants.{One, Two}
 use Rattle.usb_listing.specs.Table.{written_field, Row}
-use Rattle.usb_text.specs.Characters.{is_plain, two_bytes, written_unit}
+use Rattle.usb_text.specs.Characters.{two_bytes}
 use Rattle.usb_listing.specs.declared.word.Word.{Word}
 use Rattle.usb_listing.specs.declared.word.Word.TheVariants as words
 use Rattle.usb_listing.specs.declared.word.ExtraWord.TheVariants as extra
@@ -16,7 +14,6 @@ use Rattle.usb_listing.specs.declared.row.Written.{Written}
 use Rattle.usb_listing.specs.declared.row.Written.TheVariants as forms
 use Rattle.usb_listing.specs.Words.{word_text}
 use Rattle.usb_listing.specs.Says.{IsItem, Item, Says, fields, item_word, languages, row_for, string}
-use Rattle.usb_text.specs.Lines.{is_printable}
 use Rattle.usb_text.proofs.Printables.{Printable, digits_printable, encoded_printable, high_digit, joined, low_digit, two_fit, unit_printable}
 use Rattle.usb_listing.proofs.RowLemmas.{body_text}
 use Rattle.usb_fields.proofs.ByteParts.{bytes_back}

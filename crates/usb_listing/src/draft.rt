@@ -1,11 +1,9 @@
 //! A file that grows by a descriptor.
-ghost use Rattle.std.specs.Prelude.{is_some, ◌<◌, ◌≤◌, ◌+◌, ◌≡◌, ◌++◌, ◌∷◌, [], IfErr, IfOk, None, OnOk, Some, drop, length, slice_index, true};
-ghost use Rattle.usb_fields.specs.Bytes.{AreBytes};
-ghost use Rattle.usb_fields.specs.Units.{units_bytes};
+ghost use Rattle.std.specs.Prelude.{is_some, ◌<◌, ◌≤◌, ◌+◌, ◌≡◌, ◌++◌, ◌∷◌, [], IfErr, IfOk, None, OnOk, Some, length, true};
 ghost use Rattle.usb_set.specs.inside.Reading.{configuration_of, with_last};
 ghost use Rattle.usb_listing.specs.Says.{IsItem, fields, languages, string};
 ghost use Rattle.usb_listing.specs.inside.Drafts.{Fits, Holds, IsDraft, IsFirst, Joins, JoinsLast, Refuses, work_with};
-ghost use Rattle.usb_listing.specs.inside.Growing.{begun, device_of, file_and, joined_to, may_follow, open_sets, qualifier_of, set_and, with_sets, with_string};
+ghost use Rattle.usb_listing.specs.inside.Growing.{begun, file_and, joined_to, may_follow, open_sets, qualifier_of, set_and, with_sets, with_string};
 ghost use Rattle.usb_listing.specs.inside.Walking.{file_of};
 ghost use Rattle.usb_listing.specs.declared.word.Word.TheVariants as words;
 

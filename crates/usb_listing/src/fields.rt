@@ -1,7 +1,7 @@
 //! The fields of a line, read into the bytes of a descriptor.
 ghost use Rattle.std.specs.Prelude.{◌≡◌, ◌+◌, ◌*◌, ◌≤◌, slice_index};
 ghost use Rattle.usb_listing.specs.inside.Fields.{pair_value, value_or};
-ghost use Rattle.std.specs.Prelude.{◌≡◌, ◌+◌, ◌-◌, ◌*◌, ◌∷◌, [], if◌then◌else◌, ◌<◌, ◌≤◌, IfNone, IfSome, MatchOption, None, Some, length, take, ℕ, List};
+ghost use Rattle.std.specs.Prelude.{◌≡◌, ◌+◌, ◌-◌, ◌*◌, ◌∷◌, [], if◌then◌else◌, ◌<◌, ◌≤◌, IfSome, MatchOption, None, Some, length, take};
 ghost use Rattle.usb_fields.specs.Fields.{size_of};
 ghost use Rattle.usb_listing.specs.inside.Fields.{PutsCell, PutsCells, behind_space, bytes_in, cell_first, cell_of, cells_from, ended, pairs_of, tail_of, with_tail};
 

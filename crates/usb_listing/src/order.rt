@@ -1,7 +1,7 @@
 //! Where a line is allowed.
 ghost use Rattle.std.specs.Prelude.{◌≡◌, ◌==◌, None, Some, length, not};
 ghost use Rattle.usb_file_data.specs.File.{named_indices};
-ghost use Rattle.usb_listing.specs.inside.Growing.{declared, has_interface, is_string, last_of, may_follow, may_follow_sets, may_stand, open_sets};
+ghost use Rattle.usb_listing.specs.inside.Growing.{declared, has_interface, last_of, may_follow, may_follow_sets, may_stand, open_sets};
 ghost use Rattle.usb_listing.specs.inside.Drafts.{AreHeld, Holds, so_far};
 
 use crate::draft::Draft;

@@ -1,6 +1,5 @@
 //! Lines on their way to a writer, some thirty kilobytes at a time.
 ghost use Rattle.std.specs.Prelude.{◌≡◌, ◌+◌, ◌*◌, [], ◌∷◌, ◌++◌, codes, ◌<◌, false, length, IfErr, IfOk, IfSome, OnErr, OnOk};
-ghost use Rattle.hex.specs.Hex.{encode_lower};
 ghost use Rattle.std.specs.List.{flat_map};
 ghost use Rattle.usb_fields.specs.Fields.{cells};
 ghost use Rattle.usb_listing.specs.Table.{written_field, written_line};

@@ -1,6 +1,5 @@
 //! The listing of a set, a line for each descriptor.
 ghost use Rattle.std.specs.Prelude.{◌≡◌, ◌++◌, OnErr, OnOk};
-ghost use Rattle.std.specs.List.{flat_map};
 ghost use Rattle.std.specs.Io.KnownBytes.{Appends};
 ghost use Rattle.usb_listing.specs.Listing.{configuration_line, endpoint_line, endpoint_lines, extra_line, interface_line, set_lines, setting_lines, set_word};
 ghost use Rattle.usb_text.specs.Output.{AppendsLess};

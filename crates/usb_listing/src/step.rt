@@ -1,5 +1,5 @@
 //! A file so far, and the next line.
-ghost use Rattle.std.specs.Prelude.{◌≡◌, IfErr, IfOk, None, OnOk, Some, length, slice_index, true};
+ghost use Rattle.std.specs.Prelude.{◌≡◌, IfErr, IfOk, None, OnOk, Some, true};
 ghost use Rattle.usb_listing.specs.Says.{IsItem, fields, is_typed_raw};
 ghost use Rattle.usb_listing.specs.inside.Drafts.{AreHeld, Drafted, IsJudged, IsMisplaced, Stops, so_far};
 ghost use Rattle.usb_listing.specs.inside.Rows.{word_in, item_in, says_fields};

@@ -1,7 +1,7 @@
 //! The tree with one more descriptor.
 ghost use Rattle.std.specs.Prelude.{◌≡◌, ◌≤◌, ◌<◌, ◌+◌, [], ◌∷◌, ◌++◌, length, OnOk, OnErr, IfOk};
 ghost use Rattle.usb_set.specs.Faults.{least_length};
-ghost use Rattle.usb_set.specs.inside.Reading.{attach, configuration_of, endpoint_of, endpoint_with_extra, set_with_endpoint, set_with_extra, set_with_setting, setting_of, setting_with_endpoint, setting_with_extra, with_last};
+ghost use Rattle.usb_set.specs.inside.Reading.{attach, configuration_of, endpoint_of, endpoint_with_extra, set_with_endpoint, set_with_extra, set_with_setting, setting_of, setting_with_endpoint, setting_with_extra};
 
 use crate::extra::Extra;
 use crate::tree::{Configuration, Endpoint, SetKind, Setting};

@@ -1,5 +1,5 @@
 //! A set, built descriptor by descriptor.
-ghost use Rattle.std.specs.Prelude.{◌≡◌, ◌≤◌, [], None, OnOk, OnErr, IfOk, length, true, false};
+ghost use Rattle.std.specs.Prelude.{◌≡◌, ◌≤◌, None, OnOk, OnErr, IfOk, length, true, false};
 ghost use Rattle.usb_set.specs.Building.{Adds, BeginsWith, has_setting};
 ghost use Rattle.usb_set.specs.Faults.{is_set_type, is_whole, item_fault};
 ghost use Rattle.usb_set.specs.Layout.{has_typed_raw};

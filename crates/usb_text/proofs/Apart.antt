@@ -1,10 +1,10 @@
 -- A hexadecimal text is apart from descriptors in its first two bytes.
-use Rattle.std.proofs.Common.{◌≡◌, ℕ, suc, ◌+◌, ◌<◌, ◌&&◌, ◌||◌, ◌==◌, ◌⊎◌, Bool, true, false, cond, eqb, nat_le, List, [], ◌∷◌, length, slice_index, Option, Some, None, option_map, refl, sym, ap, subst, ◌∙◌, inl, inr, arith}
+use Rattle.std.proofs.Common.{◌≡◌, ℕ, suc, ◌+◌, ◌&&◌, ◌||◌, ◌==◌, ◌⊎◌, Bool, true, false, cond, eqb, nat_le, List, [], ◌∷◌, length, slice_index, Option, Some, None, option_map, refl, sym, ap, subst, ◌∙◌, inl, inr, arith}
 use Rattle.std.proofs.lemmas.Bool.{eqb-true, leb-true}
 use Rattle.hex.specs.Hex.{hex_digit_value}
 use Rattle.usb_text.specs.declared.hex_text.Form.{Form}
-use Rattle.usb_text.specs.declared.hex_text.Form.TheVariants.{Plain, Colons, Spaces}
-use Rattle.usb_text.specs.HexText.{HexText, Item, Reads, after_all, ends, form_by, form_of, goes_on, in_line, is_gap, is_offset, is_zero, item, joined, plain_item, IsApart, IsNoDescriptor}
+use Rattle.usb_text.specs.declared.hex_text.Form.TheVariants.{Plain}
+use Rattle.usb_text.specs.HexText.{Item, Reads, after_all, ends, form_by, form_of, goes_on, in_line, is_gap, is_offset, is_zero, item, joined, plain_item, IsApart, IsNoDescriptor}
 
 -- nothing is read where no item begins
 stuck : {form : Form} {text bytes left : List ℕ} → Reads form text bytes left → item form text ≡ None → left ≡ text

@@ -3,7 +3,7 @@
 -- A text is a run of items: white space or a comma, a mark `0x` or `\x`, and two digits, which are a byte. Where it begins
 -- with an offset of zeros, as `xxd`, `hexdump -C` and Wireshark write it, each line has columns: an offset, the bytes and
 -- their characters. Then only the bytes are read.
-use Rattle.std.specs.Prelude.{◌≡◌, ℕ, ◌+◌, ◌-◌, ◌*◌, ◌<◌, ◌==◌, ◌||◌, ◌&&◌, ◌⊎◌, Bool, true, false, not, nat_le, if◌then◌else◌, List, [], ◌∷◌, ◌++◌, length, take, slice_index, Option, Some, None, option_map, count_by}
+use Rattle.std.specs.Prelude.{◌≡◌, ℕ, ◌+◌, ◌-◌, ◌*◌, ◌<◌, ◌==◌, ◌||◌, ◌&&◌, ◌⊎◌, Bool, false, not, nat_le, if◌then◌else◌, List, [], ◌∷◌, ◌++◌, length, take, slice_index, Option, Some, None, option_map, count_by}
 use Rattle.hex.specs.Hex.{hex_digit_value, is_hex_digit}
 use Rattle.usb_text.specs.declared.hex_text.Form.{Form}
 use Rattle.usb_text.specs.declared.hex_text.Form.TheVariants.{Plain, Colons, Spaces}

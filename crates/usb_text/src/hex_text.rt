@@ -2,7 +2,7 @@
 ghost use Rattle.std.specs.Prelude.{◌≡◌, ◌+◌, ◌≤◌, count_by, length};
 ghost use Rattle.usb_text.specs.HexText.{column_after, fault_at, is_line_feed};
 ghost use Rattle.std.specs.Prelude.{◌≡◌};
-ghost use Rattle.usb_text.specs.HexText.{form_by, form_of, is_zero};
+ghost use Rattle.usb_text.specs.HexText.{form_by, form_of};
 ghost use Rattle.std.specs.Prelude.{◌≡◌, ◌<◌, IfSome, MatchOption, None, Some, length};
 ghost use Rattle.usb_text.specs.HexText.{is_gap, is_mark, item, plain_item};
 ghost use Rattle.std.specs.Prelude.{◌≡◌, ◌≤◌, ◌++◌, IfErr, IfOk, OnOk, length};

@@ -1,8 +1,8 @@
 //! The command `usbdesc`, as `clap` has it.
-ghost use Rattle.std.specs.Prelude.{◌≡◌, IfOk, [], ◌∷◌, false};
+ghost use Rattle.std.specs.Prelude.{◌≡◌, IfOk, false};
 ghost use Rattle.clap.specs.Words.{app_of, new_app, rule_of, with_rule, with_subcommand};
 ghost use Rattle.clap.specs.declared.builder.Command.TheViews.{out-Command};
-ghost use Rattle.usb_tool.specs.CommandLine.{address_rule, attempts_rule, build_app, check_app, chosen_rule, command_with, enumerate_app, explain_app, fates_rule, flag_rule, naks_rule, show_app, speed_rule, usbdesc_app, valued_rule};
+ghost use Rattle.usb_tool.specs.CommandLine.{address_rule, attempts_rule, build_app, check_app, chosen_rule, enumerate_app, explain_app, fates_rule, flag_rule, naks_rule, show_app, speed_rule, usbdesc_app, valued_rule};
 
 use crate::help::{
     ABOUT, ADDRESS_HELP, ATTEMPTS_HELP, BRIEF_HELP, BUILD_ABOUT, BUILD_HELP, CHECK_ABOUT,

@@ -2,7 +2,7 @@
 ghost use Rattle.std.specs.Prelude.{◌≡◌, ◌++◌, IfErr, IfOk, OnErr, OnOk, length};
 ghost use Rattle.std.specs.Io.KnownBytes.{Appends};
 ghost use Rattle.usb_explain.specs.Explanations.{broken_explanation, explanation};
-ghost use Rattle.usb_file_data.specs.Inputs.{InputRefused, IsInput};
+ghost use Rattle.usb_file_data.specs.Inputs.{InputRefused};
 ghost use Rattle.usb_text.specs.Output.{AppendsLess};
 ghost use Rattle.usb_tool.specs.Endings.{Writes};
 ghost use Rattle.usb_tool.specs.Explains.{ExplainFails, Explained, NoInputIsHexadecimal, RefusesText, RefusesToExplain, SaysLineOfFault, TellsExplanation, TellsText, hexadecimal_words};

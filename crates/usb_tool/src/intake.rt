@@ -1,5 +1,5 @@
 //! What is kept of an input while it is read: of a set a decoder and no byte, of a file all bytes.
-ghost use Rattle.std.specs.Prelude.{◌≡◌, ◌≤◌, ◌+◌, ◌^◌, ◌<◌, ℕ, List, ◌++◌, length, IfErr, IfOk, OnOk};
+ghost use Rattle.std.specs.Prelude.{◌≡◌, ◌+◌, ◌^◌, ◌<◌, ℕ, List, ◌++◌, length, IfErr, IfOk, OnOk};
 ghost use Rattle.usb_tool.specs.Inputs.{IsSetOrFile, SetOrFileShows};
 ghost use Rattle.usb_tool.specs.declared.fault.ToolFault.TheVariants.{Memory};
 ghost use Rattle.std.specs.Prelude.{◌≡◌, true, ◌+◌, ◌^◌, ◌<◌, ℕ, List, [], ◌++◌, length, IfErr, IfOk, OnOk};

@@ -1,6 +1,5 @@
 //! How an input is to be explained.
-ghost use Rattle.std.specs.Prelude.{◌≡◌, IfErr, IfOk, None, not};
-ghost use Rattle.std.specs.Option.{option_map};
+ghost use Rattle.std.specs.Prelude.{◌≡◌, IfErr, IfOk, None};
 ghost use Rattle.usb_tool.specs.Explains.{IsManner, HasBadSpeed, running_said, running_speed_of};
 ghost use Rattle.usb_tool.specs.declared.settings.SettingsFault.TheVariants.{Speed};
 

@@ -3,7 +3,7 @@ ghost use Rattle.std.specs.Prelude.{◌≡◌};
 ghost use Rattle.std.specs.IoError.{error_kind};
 ghost use Rattle.usb_tool.specs.Faults.{words_line, words_status};
 ghost use Rattle.usb_tool.specs.CommandLine.{no_flags};
-ghost use Rattle.usb_tool.specs.Faults.{fault_line, status_of};
+ghost use Rattle.usb_tool.specs.Faults.{status_of};
 ghost use Rattle.usb_tool.specs.Runs.{Answers, EndsEnumeration, EndsExplanation, EndsLine, Runs, TellsLine, TellsOutcome, line_status};
 ghost use Rattle.usb_tool.specs.OptionFaults.{settings_line, settings_status};
 

@@ -1,6 +1,5 @@
-use Rattle.std.proofs.Common.{◌≤◌, ◌+◌, ◌∙◌, IfSome, refl, sym, ap, subst, arith}
+use Rattle.std.proofs.Common.{◌∙◌, IfSome, refl, sym, ap, subst, arith}
 use Rattle.std.specs.Prelude.{IsNone, IsSome}
-use Rattle.usb_host.specs.Cost.{left_to_ask}
 use Rattle.usb_host.specs.Steps.{new_host}
 use Rattle.usb_host.proofs.LowerLemmas.{asks_less}
 use Rattle.usb_bus.specs.declared.enumeration.Run.{Run}

@@ -1,4 +1,4 @@
-use Rattle.std.proofs.Common.{◌≡◌, subst, arith, slice_set, ◌/◌}
+use Rattle.std.proofs.Common.{◌≡◌, arith, slice_set, ◌/◌}
 use Rattle.usb_fields.specs.Marks.{is_marked, marked}
 use Rattle.usb_fields.proofs.Cells.{funext}
 use Rattle.usb_fields.proofs.WordLemmas.{set_bit, word_with}

@@ -1,4 +1,3 @@
-use Rattle.std.proofs.Common.{◌≡◌}
 use Rattle.usb_fields.proofs.WordLemmas.{other_numbers}
 use Rattle.usb_fields.proofs.marks.Marks.complement.Goals as goal
 

@@ -1,4 +1,4 @@
-use Rattle.usb_fields.specs.Marks.{is_marked, unmarked}
+use Rattle.usb_fields.specs.Marks.{unmarked}
 use Rattle.usb_fields.proofs.Cells.{funext}
 use Rattle.usb_fields.proofs.WordLemmas.{none_in}
 use Rattle.usb_fields.proofs.marks.Marks.new.Goals as goal

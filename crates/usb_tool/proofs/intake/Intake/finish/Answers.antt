@@ -1,4 +1,4 @@
-use Rattle.std.proofs.Common.{rules, ◌≡◌, ◌∙◌, subst}
+use Rattle.std.proofs.Common.{◌≡◌, ◌∙◌, subst}
 use Rattle.usb_file_data.specs.FileFaults.{ReadRefused}
 use Rattle.usb_tool.specs.Inputs.{SetOrFileShows}
 use Rattle.usb_tool.specs.inside.Intake.{IsIntake}
