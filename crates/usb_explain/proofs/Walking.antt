@@ -1,5 +1,5 @@
 -- The walk over the descriptors of an input, step by step.
-use Rattle.std.proofs.Common.{◌≡◌, ◌≤◌, ◌<◌, ◌⊎◌, inl, inr, ℕ, zero, suc, ◌+◌, ◌-◌, List, [], ◌++◌, length, take, drop, Some, None, Result, Ok, Err, unwrap_or, refl, sym, ap, subst, ◌∙◌, arith, append_assoc, append-nil, length-append, length-drop}
+use Rattle.std.proofs.Common.{◌≡◌, ◌≤◌, ◌<◌, ◌⊎◌, inl, inr, ℕ, zero, suc, ◌+◌, ◌-◌, List, [], ◌∷◌, ◌++◌, flat_map, length, take, drop, Some, None, Result, Ok, Err, unwrap_or, refl, sym, ap, subst, ◌∙◌, arith, append_assoc, append-nil, length-append, length-drop}
 use Rattle.std.proofs.lemmas.List.{length-take-le}
 use Rattle.std.specs.Io.KnownBytes.{Appends, Keeps}
 use Rattle.std.specs.Option.{option_map}
@@ -15,27 +15,55 @@ use Rattle.usb_explain.specs.Descriptors.{heading}
 use Rattle.usb_explain.specs.Lines.{heading_line}
 use Rattle.usb_explain.specs.declared.role.Role.{Role}
 use Rattle.usb_explain.specs.declared.position.Standing.{Standing}
-use Rattle.usb_explain.specs.Explanations.{StopsBetween, behind_next, block, here, next_block, told_next, walked}
+use Rattle.usb_explain.specs.Explanations.{StopsBetween, block, lines_of, walked}
+use Rattle.usb_explain.specs.Outline.{after_next, bytes_of, entry_next, first_entries, here, told_next}
 use Rattle.usb_explain.specs.Roles.{next_role}
 use Rattle.usb_explain.specs.Standings.{start}
 use Rattle.usb_explain.specs.Subjects.{Subject}
-use Rattle.usb_explain.specs.inside.Walking.{Counted, PutsWalk}
+use Rattle.usb_explain.specs.inside.Walking.{Counted, PutsWalk, next_block}
 use Rattle.usb_explain.proofs.Standings.{counted_entered, counted_noted, counted_told, entered_at, noted_at}
+
+-- where a descriptor can stand, it comes first
+pub entries_next : (n : ℕ) (subject : Subject) (s : Standing) (ahead : List ℕ) (next : Role × ℕ) → next_role s ahead ≡ Some next
+    → first_entries (suc n) subject s ahead ≡ entry_next subject s ahead next ∷ first_entries n subject (after_next subject s ahead next) (drop next.1 ahead)
+unfolding first_entries
+entries_next n subject s ahead next e =
+    ap (λ o. unwrap_or (option_map (λ next. entry_next subject s ahead next ∷ first_entries n subject (after_next subject s ahead next) (drop next.1 ahead)) o) []) e
+
+-- where none can, none comes
+pub entries_none : (n : ℕ) (subject : Subject) (s : Standing) (ahead : List ℕ) → next_role s ahead ≡ None → first_entries n subject s ahead ≡ []
+unfolding first_entries
+entries_none zero subject s ahead e = refl
+entries_none (suc n) subject s ahead e =
+    ap (λ o. unwrap_or (option_map (λ next. entry_next subject s ahead next ∷ first_entries n subject (after_next subject s ahead next) (drop next.1 ahead)) o) []) e
+
+-- a descriptor ends where the next one begins
+ends_at_next : (subject : Subject) (s : Standing) (ahead : List ℕ) (next : Role × ℕ) (more : List ℕ)
+    → s.at + length (take next.1 ahead ++ more) ≡ (after_next subject s ahead next).at + length more
+ends_at_next subject s ahead next more =
+    let at_here : (here subject s ahead next).at ≡ s.at = entered_at next.0 subject.manner.speed ahead s in
+    let at_after : (after_next subject s ahead next).at ≡ s.at + length (take next.1 ahead) =
+    ap (λ k. k + length (take next.1 ahead)) (noted_at next.0 (take next.1 ahead) (told_next subject s ahead next) ∙ at_here) in
+    omega (arith, at_after, length-append (take next.1 ahead) more)
 
 -- where a descriptor can stand, its lines come first
 pub walk_next : (n : ℕ) (subject : Subject) (ending : ℕ → List ℕ) (s : Standing) (ahead : List ℕ) (next : Role × ℕ) → next_role s ahead ≡ Some next
-    → walked (suc n) subject ending s ahead ≡ next_block subject s ahead next ++ walked n subject ending (behind_next subject s ahead next) (drop next.1 ahead)
+    → walked (suc n) subject ending s ahead ≡ next_block subject s ahead next ++ walked n subject ending (after_next subject s ahead next) (drop next.1 ahead)
 unfolding walked
 walk_next n subject ending s ahead next e =
-    ap (λ o. unwrap_or (option_map (λ next. next_block subject s ahead next ++ walked n subject ending (behind_next subject s ahead next) (drop next.1 ahead)) o) (ending s.at)) e
+    let first = next_block subject s ahead next in
+    let rest = first_entries n subject (after_next subject s ahead next) (drop next.1 ahead) in
+    ap (λ l. flat_map (lines_of subject) l ++ ending (s.at + length (bytes_of l))) (entries_next n subject s ahead next e)
+    ∙ append_assoc first (flat_map (lines_of subject) rest) (ending (s.at + length (take next.1 ahead ++ bytes_of rest)))
+    ∙ ap (λ k. first ++ (flat_map (lines_of subject) rest ++ ending k)) (ends_at_next subject s ahead next (bytes_of rest))
 
 -- where none can, the text ends
 pub walk_end : (n : ℕ) (subject : Subject) (ending : ℕ → List ℕ) (s : Standing) (ahead : List ℕ) → next_role s ahead ≡ None
     → walked n subject ending s ahead ≡ ending s.at
 unfolding walked
-walk_end zero subject ending s ahead e = refl
-walk_end (suc n) subject ending s ahead e =
-    ap (λ o. unwrap_or (option_map (λ next. next_block subject s ahead next ++ walked n subject ending (behind_next subject s ahead next) (drop next.1 ahead)) o) (ending s.at)) e
+walk_end n subject ending s ahead e =
+    let nothing : s.at + 0 ≡ s.at = omega arith in
+    ap (λ l. flat_map (lines_of subject) l ++ ending (s.at + length (bytes_of l))) (entries_none n subject s ahead e) ∙ ap ending nothing
 
 -- a heading has bytes
 pub heading_has : (look : Look) (role : Role) (context : Context) (b : List ℕ) (at : ℕ) → 0 < length (heading look role context b at)
@@ -54,18 +82,18 @@ AreBlocks subject bytes done s ahead count =
     (n : ℕ) (ending : ℕ → List ℕ) → walked (count + n) subject ending start bytes ≡ done ++ walked n subject ending s ahead
 
 walk_none : (subject : Subject) (ending : ℕ → List ℕ) (s : Standing) (ahead : List ℕ) → walked zero subject ending s ahead ≡ ending s.at
-unfolding walked
-walk_none subject ending s ahead = refl
+unfolding walked first_entries
+walk_none subject ending s ahead = let nothing : s.at + 0 ≡ s.at = omega arith in ap ending nothing
 
 next_blocks : (subject : Subject) (bytes done ahead : List ℕ) (s : Standing) (next : Role × ℕ) (count : ℕ) → next_role s ahead ≡ Some next
     → AreBlocks subject bytes done s ahead count
-    → AreBlocks subject bytes (done ++ next_block subject s ahead next) (behind_next subject s ahead next) (drop next.1 ahead) (suc count)
+    → AreBlocks subject bytes (done ++ next_block subject s ahead next) (after_next subject s ahead next) (drop next.1 ahead) (suc count)
 next_blocks subject bytes done ahead s next count e blocks n ending =
     let same : suc count + n ≡ count + suc n = omega arith in
     ap (λ k. walked k subject ending start bytes) same
     ∙ blocks (suc n) ending
     ∙ ap (λ l. done ++ l) (walk_next n subject ending s ahead next e)
-    ∙ sym (append_assoc done (next_block subject s ahead next) (walked n subject ending (behind_next subject s ahead next) (drop next.1 ahead)))
+    ∙ sym (append_assoc done (next_block subject s ahead next) (walked n subject ending (after_next subject s ahead next) (drop next.1 ahead)))
 
 -- these lines are those of the first descriptors
 first_blocks : (subject : Subject) (bytes done ahead : List ℕ) (s : Standing) (count : ℕ) → AreBlocks subject bytes done s ahead count
@@ -135,20 +163,20 @@ pub next_whole : (subject : Subject) (bytes done ahead : List ℕ) (s : Standing
     → ((ending : ℕ → List ℕ) → walked (length bytes) subject ending start bytes ≡ done ++ walked fuel subject ending s ahead)
     → (n : ℕ) × (length (drop next.1 ahead) ≤ n)
     × ((ending : ℕ → List ℕ) → walked (length bytes) subject ending start bytes
-    ≡ (done ++ next_block subject s ahead next) ++ walked n subject ending (behind_next subject s ahead next) (drop next.1 ahead))
+    ≡ (done ++ next_block subject s ahead next) ++ walked n subject ending (after_next subject s ahead next) (drop next.1 ahead))
 next_whole subject bytes done ahead s next zero enough e least most whole = absurd (omega arith)
 next_whole subject bytes done ahead s next (suc n) enough e least most whole =
     let left : length (drop next.1 ahead) ≡ length ahead - next.1 = length-drop next.1 ahead in (
       n,
       omega arith,
       λ ending. whole ending ∙ ap (λ l. done ++ l) (walk_next n subject ending s ahead next e)
-          ∙ sym (append_assoc done (next_block subject s ahead next) (walked n subject ending (behind_next subject s ahead next) (drop next.1 ahead))),
+          ∙ sym (append_assoc done (next_block subject s ahead next) (walked n subject ending (after_next subject s ahead next) (drop next.1 ahead))),
     )
 
 pub walks_next : (subject : Subject) (bytes : List ℕ) (s : Standing) (ahead : List ℕ) (old mid new : Held) (page text more rest : List ℕ) (next : Role × ℕ)
     → WalksOn subject bytes s ahead old mid page text → next_role s ahead ≡ Some next → 2 ≤ next.1 → next.1 ≤ length ahead
     → more ≡ text ++ next_block subject s ahead next → Puts mid new more rest [] → Keeps mid new ⊎ Appends mid new more
-    → WalksOn subject bytes (behind_next subject s ahead next) (drop next.1 ahead) old new page rest
+    → WalksOn subject bytes (after_next subject s ahead next) (drop next.1 ahead) old new page rest
 walks_next subject bytes s ahead old mid new page text more rest next w e least most put passed_on whole =
     let onward = next_whole subject bytes w.done ahead s next w.fuel w.enough e least most w.whole in
     let here_puts : Puts mid new text rest (next_block subject s ahead next) =
@@ -157,7 +185,7 @@ walks_next subject bytes s ahead old mid new page text more rest next w e least 
     let taken : length (take next.1 ahead) ≡ next.1 = length-take-le next.1 ahead most in
     let at_here : (here subject s ahead next).at ≡ s.at = entered_at next.0 subject.manner.speed ahead s in
     let at_noted = noted_at next.0 (take next.1 ahead) (told_next subject s ahead next) in
-    let blocks : AreBlocks subject bytes (w.done ++ next_block subject s ahead next) (behind_next subject s ahead next) (drop next.1 ahead) (suc w.count) =
+    let blocks : AreBlocks subject bytes (w.done ++ next_block subject s ahead next) (after_next subject s ahead next) (drop next.1 ahead) (suc w.count) =
     next_blocks subject bytes w.done ahead s next w.count e w.blocks in
     record {
       done = w.done ++ next_block subject s ahead next;
@@ -171,7 +199,7 @@ walks_next subject bytes s ahead old mid new page text more rest next w e least 
       count = suc w.count;
       blocks = blocks;
       between = next_between subject bytes page text more w.done (next_block subject s ahead next) old mid new (suc w.count) w.puts put
-          (first_blocks subject bytes (w.done ++ next_block subject s ahead next) (drop next.1 ahead) (behind_next subject s ahead next) (suc w.count) blocks)
+          (first_blocks subject bytes (w.done ++ next_block subject s ahead next) (drop next.1 ahead) (after_next subject s ahead next) (suc w.count) blocks)
           w.between whole;
     }
 
@@ -182,7 +210,7 @@ pub walks_stopped : (subject : Subject) (bytes : List ℕ) (s : Standing) (ahead
     → (ending : ℕ → List ℕ) → AppendsLess old new (page ++ walked (length bytes) subject ending start bytes)
 walks_stopped subject bytes s ahead old mid new page text next w e least most less ending =
     let onward = next_whole subject bytes w.done ahead s next w.fuel w.enough e least most w.whole in
-    let more : List ℕ = walked onward.0 subject ending (behind_next subject s ahead next) (drop next.1 ahead) in
+    let more : List ℕ = walked onward.0 subject ending (after_next subject s ahead next) (drop next.1 ahead) in
     let whole : walked (length bytes) subject ending start bytes ≡ w.done ++ (next_block subject s ahead next ++ more) =
     onward.2 ending ∙ append_assoc w.done (next_block subject s ahead next) more in
     subst (λ l. AppendsLess old new (page ++ l)) (sym whole) (puts_broken old mid new page text w.done (next_block subject s ahead next ++ more) w.puts (less more))

@@ -1,15 +1,13 @@
 -- The explanation of an input, and of bytes that are none: the lines of all descriptors.
-use Rattle.std.specs.Prelude.{ℕ, zero, suc, List, ◌+◌, ◌-◌, ◌++◌, length, take, drop, nat_le, Option, Some, None, unwrap_or, if◌then◌else◌, [], ◌∷◌, codes, nat_lt, ◌⊎◌, slice_index, is_some, ◌==◌, ◌||◌}
-use Rattle.std.specs.Option.{option_map}
+use Rattle.std.specs.Prelude.{ℕ, List, ◌+◌, ◌-◌, ◌++◌, length, take, drop, flat_map, nat_le, Option, Some, None, if◌then◌else◌, [], ◌∷◌, codes, nat_lt, ◌⊎◌, slice_index, is_some, ◌==◌, ◌||◌}
 use Rattle.usb_explain.specs.Descriptors.{fields, heading}
 use Rattle.usb_explain.specs.declared.role.Role.{Role}
 use Rattle.usb_explain.specs.RemarkLines.{remark_lines}
 use Rattle.usb_explain.specs.declared.position.Standing.{Standing}
-use Rattle.usb_explain.specs.Findings.{found_at, role_findings}
+use Rattle.usb_explain.specs.Findings.{role_findings}
 use Rattle.usb_explain.specs.Contexts.{context_of}
-use Rattle.usb_explain.specs.SetStart.{entered}
-use Rattle.usb_explain.specs.Standings.{passed, with_told, start}
-use Rattle.usb_explain.specs.Roles.{next_role}
+use Rattle.usb_explain.specs.Standings.{start}
+use Rattle.usb_explain.specs.Outline.{Entry, bytes_of, first_entries}
 use Rattle.usb_explain.specs.Subjects.{Subject, broken_subject, findings_in, subject_with}
 use Rattle.std.specs.Fmt.{decimal}
 use Rattle.hex.specs.Hex.{encode_lower}
@@ -28,47 +26,27 @@ use Rattle.usb_explain.specs.Faults.{fault_lines, place_of_fault}
 
 -- the bytes of its set after a descriptor, where they are all there
 abbrev pub rest_of_set : Standing → List ℕ → List ℕ → Option (List ℕ)
-rest_of_set s d behind =
-    let count = s.left - length d in if nat_le count (length behind) then Some (take count behind) else None
+rest_of_set s d after =
+    let count = s.left - length d in if nat_le count (length after) then Some (take count after) else None
 
 -- the lines of a descriptor, with the bytes after it: its heading, what it breaks, what is remarked of it, and
 -- its fields
 unfoldable pub block : Subject → Standing → Role → List ℕ → List ℕ → List ℕ
-block subject s role d behind =
+block subject s role d after =
     heading subject.manner.look role (context_of subject s role d) d s.at
-    ++ role_findings subject s role d behind
-    ++ remark_lines role (context_of subject s role d) d (rest_of_set s d behind)
+    ++ role_findings subject s role d after
+    ++ remark_lines role (context_of subject s role d) d (rest_of_set s d after)
     ++ fields subject.manner.look subject.names role (context_of subject s role d) d
 
--- the state at the first of these bytes
-abbrev pub here : Subject → Standing → List ℕ → Role × ℕ → Standing
-here subject s ahead next = entered next.0 subject.manner.speed ahead s
-
--- the lines of the descriptor with which these bytes begin
-abbrev pub next_block : Subject → Standing → List ℕ → Role × ℕ → List ℕ
-next_block subject s ahead next = block subject (here subject s ahead next) next.0 (take next.1 ahead) (drop next.1 ahead)
-
--- the same with the findings of a descriptor reported, after which these bytes come
-abbrev pub telling : Subject → Role → List ℕ → List ℕ → Standing → Standing
-telling subject role d behind s = with_told (s.told + length (found_at subject s role d behind)) s
-
--- the state when its findings are reported
-abbrev pub told_next : Subject → Standing → List ℕ → Role × ℕ → Standing
-told_next subject s ahead next = telling subject next.0 (take next.1 ahead) (drop next.1 ahead) (here subject s ahead next)
-
--- the state after that descriptor
-abbrev pub behind_next : Subject → Standing → List ℕ → Role × ℕ → Standing
-behind_next subject s ahead next = passed next.0 (take next.1 ahead) (told_next subject s ahead next)
+-- the lines of a descriptor of an outline
+abbrev pub lines_of : Subject → Entry → List ℕ
+lines_of subject d = block subject d.standing d.role d.bytes d.after
 
 -- The lines of the descriptors in these bytes, at most so many, and then what ends the text, given the place
 -- where they end.
 unfoldable pub walked : ℕ → Subject → (ℕ → List ℕ) → Standing → List ℕ → List ℕ
-walked zero subject ending s ahead = ending s.at
-walked (suc n) subject ending s ahead =
-    unwrap_or
-    (option_map (λ next. next_block subject s ahead next ++ walked n subject ending (behind_next subject s ahead next) (drop next.1 ahead))
-    (next_role s ahead))
-    (ending s.at)
+walked n subject ending s ahead =
+    let entries = first_entries n subject s ahead in flat_map (lines_of subject) entries ++ ending (s.at + length (bytes_of entries))
 
 -- What is left of an input after the descriptors that were explained.
 

@@ -4,6 +4,7 @@ pub mod Roles
 pub mod SetStart
 pub mod Contexts
 pub mod Findings
+pub mod Outline
 pub mod Explanations
 pub mod Faults
 pub mod Lines

@@ -1,26 +1,24 @@
-//! What holds of each explanation. The functions of these laws do nothing: their contracts are the laws.
-ghost use Rattle.usb_explain.specs.Laws.{BrokenCoversUpToFault, BrokenEachByteOnce, BrokenInLines, BrokenLeavesOutFields, WholeEachByteOnce, WholeHasNoRest, WholeInLines, WholeLeavesOutFields, WholeShowsTree, WholeTellsCounts, WholeTellsFindings};
+//! What holds of the outline of each input, and so of its explanation, which has the lines of each descriptor of it. The
+//! functions of these laws do nothing: their contracts are the laws.
+ghost use Rattle.usb_explain.specs.Laws.{AllEachByteOnce, BriefLeavesOutFields, BrokenCoversUpToFault, BrokenInLines, WholeHasNoRest, WholeInLines, WholeShowsTree, WholeTellsCounts, WholeTellsFindings};
 ghost use Rattle.usb_explain.specs.Remarks.{FullOrHighIsOpen, LowOrFullIsOpen};
 
-/// Each byte once: the places and lengths in the headings follow each other from 0 to the number of bytes, and each heading
-/// begins the lines of the descriptor there, as long as its bLength. The last one is that of the rest, if bytes
-/// are left. In bytes that are no input the rest begins at the place of the fault or before it. Of a set, a file or a dump
-/// no bytes are left: each of them is under the heading of a descriptor.
-pub fn each_byte_has_one_heading()
-    ensures whole { WholeEachByteOnce }
-    ensures broken { BrokenEachByteOnce }
+/// Each byte once: the descriptors of any bytes follow each other from the first byte on, each at its place and as long as its
+/// bLength, and then comes the rest. Of a set, a file or a dump no bytes are left: each of them is in a descriptor.
+pub fn each_byte_is_in_one_descriptor()
+    ensures bytes { AllEachByteOnce }
     ensures inputs { WholeHasNoRest }
 {}
 
 /// A broken input is explained up to its fault: of bytes that `read_input` refuses, all before the place of the fault are
-/// under headings of descriptors. Where the bytes end in a descriptor, its own bytes do not, which are at most 254; where the
+/// in descriptors. Where the bytes end in a descriptor, its own bytes are not, which are at most 254; where the
 /// first descriptor of a set is at fault, at most two of its bytes.
 pub fn a_broken_input_is_explained_up_to_its_fault()
     ensures { BrokenCoversUpToFault }
 {}
 
-/// Each finding once: the findings under the headings are, in their order, just those that `check` reports of the input, each
-/// under the heading of the descriptor that breaks the rule. The last line says how many they are.
+/// Each finding once: the findings that stand at the descriptors are, in their order, just those that `check` reports of the
+/// input, each at the descriptor that breaks the rule. They are as many as the last line says.
 pub fn each_finding_is_told_once()
     ensures { WholeTellsFindings }
 {}
@@ -31,17 +29,16 @@ pub fn each_count_is_as_judged()
     ensures { WholeTellsCounts }
 {}
 
-/// Each descriptor has its owner: the headings are those of the descriptors that were read, in their order. Each says what
+/// Each descriptor has its owner: the outline of an input has the descriptors that were read, in their order. Each says what
 /// the descriptor is, and its depth which one before it the descriptor belongs to.
 pub fn each_descriptor_has_its_owner()
     ensures { WholeShowsTree }
 {}
 
-/// A brief explanation is the other one without the lines of fields: it has the same headings at the same places, and the
-/// same findings and remarks.
+/// A brief explanation is the other one without the lines of fields: it has the same descriptors, headings, findings and
+/// remarks.
 pub fn a_brief_explanation_leaves_out_the_fields()
-    ensures whole { WholeLeavesOutFields }
-    ensures broken { BrokenLeavesOutFields }
+    ensures { BriefLeavesOutFields }
 {}
 
 /// A line is a line: in ASCII each heading, finding, remark and field is one, and so are the first line, those of the fault and

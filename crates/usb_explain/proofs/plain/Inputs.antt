@@ -1,5 +1,5 @@
 -- Inputs are bytes, and their strings have numbers of two bytes: so their explanations are in lines.
-use Rattle.std.proofs.Common.{◌≡◌, false, ℕ, List, [], ◌∷◌, ◌++◌, Option, Some, None, length, take, refl, subst, arith}
+use Rattle.std.proofs.Common.{◌≡◌, false, ℕ, List, [], ◌∷◌, ◌++◌, Option, Some, None, length, take, drop, refl, subst, arith}
 use Rattle.std.specs.List.{AllByRecursion, flat_map}
 use Rattle.usb_fields.specs.Bytes.{AreBytes, little_endian}
 use Rattle.usb_fields.specs.Device.{device_bytes}
@@ -13,17 +13,18 @@ use Rattle.usb_file_data.specs.declared.file.Input.TheVariants as inputs
 use Rattle.usb_file_data.specs.Inputs.{IsInput}
 use Rattle.usb_file_data.specs.Likeness.{likeness_of}
 use Rattle.usb_text.proofs.Printables.{Printable}
-use Rattle.usb_fields.proofs.ByteParts.{bytes_front}
+use Rattle.usb_fields.proofs.ByteParts.{bytes_back, bytes_front}
 use Rattle.usb_explain.specs.declared.manner.Manner.{Manner}
-use Rattle.usb_explain.specs.Explanations.{broken_explanation, broken_name, explanation, first_line, input_name, last_line}
-use Rattle.usb_explain.specs.Faults.{fault_lines, place_of_fault}
-use Rattle.usb_explain.specs.Laws.{BrokenInLines, WholeInLines}
+use Rattle.usb_explain.specs.Explanations.{broken_name, input_name}
+use Rattle.usb_explain.specs.Outline.{outline_of}
+use Rattle.usb_explain.specs.Faults.{place_of_fault}
+use Rattle.usb_explain.specs.Laws.{BrokenInLines, WholeInLines, end_of}
 use Rattle.usb_explain.specs.Subjects.{broken_subject, findings_in, subject_with}
-use Rattle.usb_explain.proofs.Spans.{broken_once, whole_once}
+use Rattle.usb_explain.proofs.Spans.{once_by}
 use Rattle.usb_explain.proofs.plain.Texts.{AreWords, parts}
 use Rattle.usb_explain.proofs.plain.Fields.{MaybeFit}
 use Rattle.usb_explain.proofs.plain.Findings.{fault_is_line, likeness_is_line}
-use Rattle.usb_explain.proofs.plain.Walks.{SubjectFits, broken_name_plain, first_is_line, in_lines, last_is_line}
+use Rattle.usb_explain.proofs.plain.Walks.{SubjectFits, blocks_are_lines, broken_name_plain, first_is_line, last_is_line, rest_is_lines}
 
 units_are_words : (us : List ℕ) → AreBytes (flat_map little_endian us) → AreWords us
 units_are_words [] h = tt
@@ -62,18 +63,20 @@ name_plain (inputs.Dump file) = refl
 
 pub whole_in_lines : WholeInLines
 whole_in_lines manner input b ascii is =
-    let subject = subject_with manner input (findings_in input) in
-    let last = last_line (length (findings_in input)) in (
-      in_lines subject b b (first_line (input_name input) (length b)) [] last (explanation manner input b) (subject_fits manner input b ascii is)
-          (are_bytes input b is) (are_bytes input b is) (whole_once manner input b) (first_is_line (input_name input) (length b) (name_plain input)),
+    let subject = subject_with manner input (findings_in input) in (
+      first_is_line (input_name input) (length b) (name_plain input),
+      blocks_are_lines subject (outline_of subject b) b (drop (end_of subject b) b) (subject_fits manner input b ascii is) (once_by subject b).cut (are_bytes input b is),
       last_is_line (length (findings_in input)),
     )
 
 pub broken_in_lines : BrokenInLines
-broken_in_lines manner fault b ascii are = (
-  in_lines (broken_subject manner) (take (place_of_fault fault) b) b (first_line (broken_name b) (length b)) (fault_lines fault b) []
-      (broken_explanation manner fault b) (ascii, record { strings = tt; ascii = refl }) are (bytes_front (place_of_fault fault) b are) (broken_once manner fault b)
-      (first_is_line (broken_name b) (length b) (broken_name_plain b)),
-  fault_is_line fault,
-  likeness_is_line (likeness_of fault b),
-)
+broken_in_lines manner fault b ascii are =
+    let subject = broken_subject manner in
+    let before = take (place_of_fault fault) b in (
+      first_is_line (broken_name b) (length b) (broken_name_plain b),
+      blocks_are_lines subject (outline_of subject before) before (drop (end_of subject before) before) (ascii, record { strings = tt; ascii = refl }) (once_by subject before).cut
+          (bytes_front (place_of_fault fault) b are),
+      fault_is_line fault,
+      likeness_is_line (likeness_of fault b),
+      rest_is_lines subject (end_of subject before) (drop (end_of subject before) b) (bytes_back (end_of subject before) b are),
+    )

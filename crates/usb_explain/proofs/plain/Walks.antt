@@ -1,5 +1,5 @@
 -- The parts of explanations are lines.
-use Rattle.std.proofs.Common.{◌≡◌, false, ℕ, zero, suc, ◌/◌, ◌%◌, ◌==◌, List, [], ◌∷◌, ◌++◌, Option, Some, None, drop, length, option_and_then, codes, refl, subst}
+use Rattle.std.proofs.Common.{◌≡◌, false, ℕ, zero, suc, ◌/◌, ◌%◌, ◌==◌, List, [], ◌∷◌, ◌++◌, Option, Some, None, length, option_and_then, codes, refl, subst}
 use Rattle.std.specs.Prelude.{slice_get}
 use Rattle.std.specs.List.{AllByRecursion}
 use Rattle.usb_fields.specs.Bytes.{AreBytes}
@@ -7,13 +7,13 @@ use Rattle.usb_file_data.specs.declared.file.Strings.{Strings}
 use Rattle.usb_file_data.proofs.Lists.{bytes_before, bytes_behind}
 use Rattle.usb_text.specs.Numbers.{count}
 use Rattle.usb_text.proofs.Printables.{Printable}
-use Rattle.usb_fields.proofs.ByteParts.{bytes_back}
 use Rattle.usb_explain.specs.Descriptors.{fields}
 use Rattle.usb_explain.specs.declared.role.Role.{Role}
 use Rattle.usb_explain.specs.declared.position.Standing.{Standing}
 use Rattle.usb_explain.specs.Explanations.{broken_name, first_line, last_line}
 use Rattle.usb_explain.specs.Contexts.{context_of, depth_of}
-use Rattle.usb_explain.specs.Laws.{BlockIsLines, Cut, EachByteOnce, InLines, RestIsLines, Shown, context_at, findings_of, remarks_of}
+use Rattle.usb_explain.specs.Laws.{BlockIsLines, Cut, RestIsLines, context_at, findings_of, remarks_of}
+use Rattle.usb_explain.specs.Outline.{Entry}
 use Rattle.usb_explain.specs.Lines.{IsLine, SayFields}
 use Rattle.usb_explain.specs.Subjects.{Subject, place_among, place_by}
 use Rattle.usb_explain.proofs.rest.Walks.{tells_own}
@@ -59,7 +59,7 @@ context_fits : (subject : Subject) (s : Standing) (role : Role) (d : List ℕ) �
 unfolding context_of
 context_fits subject s role d fit = place_fits subject.names.named s.strings subject.names.strings fit.1.strings
 
-fields_say_here : (subject : Subject) (d : Shown) → SubjectFits subject → AreBytes d.bytes
+fields_say_here : (subject : Subject) (d : Entry) → SubjectFits subject → AreBytes d.bytes
     → SayFields (depth_of d.standing d.role) (fields subject.manner.look subject.names d.role (context_at subject d) d.bytes)
 unfolding context_of
 fields_say_here subject d fit h = fields_say subject.manner.look subject.names d.role (context_at subject d) d.bytes fit.1 h
@@ -67,22 +67,22 @@ fields_say_here subject d fit h = fields_say subject.manner.look subject.names d
 -- ---- descriptors and the rest
 
 -- the lines of the descriptors into which bytes are cut
-pub blocks_are_lines : (subject : Subject) (shown : List Shown) (b rest : List ℕ) → SubjectFits subject → Cut b shown rest → AreBytes b
+pub blocks_are_lines : (subject : Subject) (shown : List Entry) (b rest : List ℕ) → SubjectFits subject → Cut b shown rest → AreBytes b
     → AllByRecursion (BlockIsLines subject) shown
 blocks_are_lines subject [] b rest fit cut h = tt
 blocks_are_lines subject (d ∷ ds) b rest fit cut h =
     let parts = subst AreBytes cut.0 h in
-    let bytes = bytes_before d.bytes d.behind parts in (
+    let bytes = bytes_before d.bytes d.after parts in (
       (
         heading_of_role subject.manner.look d.role (context_at subject d) d.bytes d.standing.at fit.0 (context_fits subject d.standing d.role d.bytes fit) bytes,
         fields_say_here subject d fit bytes,
-        each_told subject.is_dump d.standing d.role d.bytes d.behind (findings_of subject d) (tells_own subject d),
+        each_told subject.is_dump d.standing d.role d.bytes d.after (findings_of subject d) (tells_own subject d),
         each_remarked (context_at subject d).depth (remarks_of subject d),
       ),
-      blocks_are_lines subject ds d.behind rest fit cut.2 (bytes_behind d.bytes d.behind parts),
+      blocks_are_lines subject ds d.after rest fit cut.2 (bytes_behind d.bytes d.after parts),
     )
 
-rest_is_lines : (subject : Subject) (at : ℕ) (rest : List ℕ) → AreBytes rest → RestIsLines subject at rest
+pub rest_is_lines : (subject : Subject) (at : ℕ) (rest : List ℕ) → AreBytes rest → RestIsLines subject at rest
 rest_is_lines subject at [] h = tt
 rest_is_lines subject at (x ∷ rest) h = (rest_heading_is_line subject.manner.look at (x ∷ rest), rest_fields_say subject.manner.look (x ∷ rest) h)
 
@@ -99,13 +99,3 @@ last_is_line n =
 
 pub broken_name_plain : (b : List ℕ) → Printable (broken_name b)
 broken_name_plain b = simp parts refl
-
-pub in_lines : (subject : Subject) (front b first before_rest last text : List ℕ) → SubjectFits subject → AreBytes b → AreBytes front
-    → EachByteOnce subject front b first before_rest last text → IsLine first
-    → InLines subject front b first before_rest last text
-in_lines subject front b first before_rest last text fit h k once first_so = record {
-  once = once;
-  begins = first_so;
-  blocks = blocks_are_lines subject once.shown front (drop once.end front) fit once.cut k;
-  rest = rest_is_lines subject once.end (drop once.end b) (bytes_back once.end b h);
-}

@@ -1,10 +1,9 @@
 -- A walk over bytes that are no input comes up to their fault.
-use Rattle.std.proofs.Common.{◌≡◌, ◌≤◌, ◌<◌, ℕ, ◌+◌, ◌*◌, ◌||◌, Bool, true, false, if◌then◌else◌, List, [], ◌∷◌, ◌++◌, length, slice_index, take, drop, nat_lt, Option, Some, None, is_some, refl, sym, ap, subst, ◌∙◌, arith, inl, inr, ◌⊎◌, append_assoc, append-nil}
+use Rattle.std.proofs.Common.{◌≡◌, ◌≤◌, ◌<◌, ℕ, ◌+◌, ◌*◌, ◌||◌, Bool, true, false, if◌then◌else◌, List, [], ◌∷◌, ◌++◌, length, slice_index, take, nat_lt, Option, Some, None, is_some, refl, sym, ap, subst, ◌∙◌, arith, inl, inr, ◌⊎◌, append_assoc, append-nil}
 use Rattle.std.specs.List.{flat_map, list_any}
 use Rattle.std.proofs.Math.Seq.{take-append-add, take-append_seam, take-length}
 use Rattle.std.proofs.lemmas.Bool.{or_parts}
 use Rattle.std.proofs.lemmas.Bool.Decides.{nat_tests}
-use Rattle.std.proofs.lemmas.List.{take-append-drop}
 use Rattle.usb_fields.specs.Bytes.{AreBytes, little_endian}
 use Rattle.usb_fields.specs.Fields.{fields_bytes}
 use Rattle.usb_fields.specs.declared.device.DeviceDescriptor.{DeviceDescriptor}
@@ -31,14 +30,13 @@ use Rattle.usb_file_data.specs.FileFaults.{FileFaulty, NextPart, a_set, a_qualif
 use Rattle.usb_file_data.specs.Inputs.{DeviceRefused, HasFault, InputRefused}
 use Rattle.usb_explain.specs.declared.role.Role.TheVariants as roles
 use Rattle.usb_explain.specs.declared.position.Standing.{Standing}
-use Rattle.usb_explain.specs.Explanations.{broken_end, broken_explanation, broken_name, first_line}
-use Rattle.usb_explain.specs.Faults.{fault_lines, place_of_fault}
+use Rattle.usb_explain.specs.Faults.{place_of_fault}
 use Rattle.usb_explain.specs.Laws.{BrokenCoversUpToFault}
 use Rattle.usb_explain.specs.Standings.{noted, start}
 use Rattle.usb_explain.specs.Uncovered.{uncovered_in_file, uncovered_in_set, most_uncovered}
 use Rattle.usb_explain.specs.Subjects.{Subject, broken_subject}
 use Rattle.usb_explain.proofs.plain.Parts.{byte_fits}
-use Rattle.usb_explain.proofs.Spans.{broken_ends, broken_is, cut_parts, ends_at, left_behind, once_of}
+use Rattle.usb_explain.proofs.Spans.{end_and_rest}
 use Rattle.usb_explain.proofs.rest.Walks.{Ends}
 use Rattle.usb_explain.proofs.rest.Steps.{behind_one, goes_on, length_is}
 use Rattle.usb_explain.proofs.rest.Seen.{seen}
@@ -254,15 +252,9 @@ input_few subject b (faults.Trailing at) none h is = layout_few 0 subject is.1.s
 input_few subject b (faults.File fault) none h is = refused_few subject b fault.at fault.why none h is.1
 
 pub broken_covers : BrokenCoversUpToFault
-unfolding once_of
 broken_covers manner fault b h is =
     let subject = broken_subject manner in
-    let front = take (place_of_fault fault) b in
-    let ended = input_few subject b fault refl h is (length front) (omega arith) in
-    let w = ended.walk in
-    let left : drop w.end front ≡ w.rest = left_behind (flat_map (λ d. d.bytes) w.shown) w.rest front w.end (cut_parts w.shown front w.rest w.cut) (ends_at w.shown w.end w.spans) in
-    record {
-      once = once_of subject b front (drop (place_of_fault fault) b) (first_line (broken_name b) (length b)) (fault_lines fault b) [] (broken_explanation manner fault b)
-          (length front) (broken_end subject fault b) (sym (take-append-drop (place_of_fault fault) b)) (broken_ends subject fault b) (broken_is subject fault b) w;
-      near = subst (λ l. length l ≤ most_uncovered fault) (sym left) ended.aimed;
-    }
+    let before = take (place_of_fault fault) b in
+    let ended = input_few subject b fault refl h is (length before) (omega arith) in
+    let few_are : length ended.walk.rest ≤ most_uncovered fault = ended.aimed in
+    omega (arith, few_are, end_and_rest subject before ended.walk)

@@ -38,7 +38,6 @@ use Rattle.usb_explain.specs.declared.manner.Manner.{Manner}
 use Rattle.usb_explain.specs.declared.role.Role.{Role}
 use Rattle.usb_explain.specs.declared.role.Role.TheVariants as roles
 use Rattle.usb_explain.specs.declared.position.Standing.{Standing}
-use Rattle.usb_explain.specs.Explanations.{explanation, first_line, input_name, whole_end, walked}
 use Rattle.usb_explain.specs.Findings.{finding_at, is_here, none_told, told_at}
 use Rattle.usb_explain.specs.Contexts.{depth_of}
 use Rattle.usb_explain.specs.Laws.{WholeHasNoRest, WholeShowsTree, WholeTellsCounts, WholeTellsFindings, counts_at}
@@ -47,7 +46,7 @@ use Rattle.usb_explain.specs.Standings.{noted, passed, with_told, start}
 use Rattle.usb_explain.specs.Roles.{outer_role, role_if, role_of, string_role}
 use Rattle.usb_explain.specs.Subjects.{Subject, findings_in, subject_with}
 use Rattle.usb_explain.proofs.Standings.{start_told}
-use Rattle.usb_explain.proofs.Spans.{Aim, adding, whole_is}
+use Rattle.usb_explain.proofs.Spans.{Aim, adding}
 use Rattle.usb_explain.proofs.rest.Walks.{Ends, ShowsAll, Tells, all_tells, ends_here, nothing_left}
 use Rattle.usb_explain.proofs.rest.Steps.{behind_one, goes_on, length_is, shown_at}
 use Rattle.usb_explain.proofs.rest.Seen.{AllHere, Rear, here_both, here_when, goes_as, rear_behind, seen}
@@ -358,26 +357,19 @@ sorts (inputs.Dump file) = sorted (wrong_dumped_device file.device) file
 pub whole_has_no_rest : WholeHasNoRest
 whole_has_no_rest manner input b is =
     let all = findings_in input in
-    let subject = subject_with manner input all in
-    nothing_left subject input (length all) b (first_line (input_name input) (length b)) (explanation manner input b)
-    (whole_is subject (input_name input) (length all) b) (input_leaves subject input b is (found_is manner input all))
+    nothing_left (subject_with manner input all) input b (input_leaves (subject_with manner input all) input b is (found_is manner input all))
 
-all_is_told : (manner : Manner) (input : Input) (b : List ℕ) → IsInput input b
-    → Tells (subject_with manner input (findings_in input)) input b (first_line (input_name input) (length b)) (explanation manner input b)
+all_is_told : (manner : Manner) (input : Input) (b : List ℕ) → IsInput input b → Tells (subject_with manner input (findings_in input)) input b
 all_is_told manner input b is =
     let all = findings_in input in
-    let subject = subject_with manner input all in
-    let same : subject.found ≡ all = found_is manner input all in
-    let first = first_line (input_name input) (length b) in
-    all_tells subject input b first (explanation manner input b)
-    (whole_is subject (input_name input) (length all) b ∙ ap (λ (l : List Finding). first ++ walked (length b) subject (whole_end subject (length l) b) start b) (sym same))
-    (ap (λ l. by_rule l) same ∙ sorts input) (input_leaves subject input b is same)
+    let same : (subject_with manner input all).found ≡ all = found_is manner input all in
+    all_tells (subject_with manner input all) input b (ap (λ l. by_rule l) same ∙ sorts input) (input_leaves (subject_with manner input all) input b is same)
 
 pub whole_tells : WholeTellsFindings
 whole_tells manner input b is = (all_is_told manner input b is).tells
 
 pub whole_counts : WholeTellsCounts
-whole_counts manner input b is = let all = all_is_told manner input b is in record { tells = all.tells; counts = all.counts }
+whole_counts manner input b is = (all_is_told manner input b is).counts
 
 pub whole_shows : WholeShowsTree
-whole_shows manner input b is = let all = all_is_told manner input b is in record { tells = all.tells; entries = all.entries }
+whole_shows manner input b is = (all_is_told manner input b is).entries

@@ -22,7 +22,8 @@ use Rattle.usb_explain.specs.declared.role.Role.{Role}
 use Rattle.usb_explain.specs.declared.role.Role.TheVariants.{Device, Qualifier, Association, Interface, Endpoint, Raw, Languages, Text}
 use Rattle.usb_explain.specs.declared.role.Role.TheVariants as roles
 use Rattle.usb_explain.specs.declared.position.Standing.{Standing}
-use Rattle.usb_explain.specs.Laws.{Cut, Shown}
+use Rattle.usb_explain.specs.Laws.{Cut}
+use Rattle.usb_explain.specs.Outline.{Entry}
 use Rattle.usb_explain.specs.SetStart.{entered}
 use Rattle.usb_explain.specs.Standings.{noted, passed, with_told}
 use Rattle.usb_explain.specs.Roles.{inner_role, typed_role}
@@ -47,10 +48,10 @@ rear_of_none subject s found none = (length found, ap (λ l. drop s.told l) none
 
 -- ---- few bytes
 
-cut_rest : (shown : List Shown) (b rest : List ℕ) → Cut b shown rest → length rest ≤ length b
+cut_rest : (shown : List Entry) (b rest : List ℕ) → Cut b shown rest → length rest ≤ length b
 cut_rest [] b rest e = omega (arith, ap (λ (l : List ℕ). length l) e)
 cut_rest (d ∷ ds) b rest c =
-    omega (arith, ap (λ (l : List ℕ). length l) c.0, length-append d.bytes d.behind, cut_rest ds d.behind rest c.2)
+    omega (arith, ap (λ (l : List ℕ). length l) c.0, length-append d.bytes d.after, cut_rest ds d.after rest c.2)
 
 -- of few bytes few are left
 pub few_left : (k : ℕ) (subject : Subject) (s : Standing) (ahead : List ℕ) → TellsNothing subject → length ahead ≤ k → Ends (few k) subject s ahead

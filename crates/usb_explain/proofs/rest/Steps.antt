@@ -9,12 +9,12 @@ use Rattle.usb_explain.specs.declared.role.Role.{Role}
 use Rattle.usb_explain.specs.declared.position.Standing.{Standing}
 use Rattle.usb_explain.specs.declared.finding_words.Told.{Told}
 use Rattle.usb_explain.specs.Contexts.{depth_of}
-use Rattle.usb_explain.specs.Laws.{Shown, counts_at, entry_of}
+use Rattle.usb_explain.specs.Laws.{counts_at, entry_of}
 use Rattle.usb_explain.specs.SetStart.{entered}
 use Rattle.usb_explain.specs.Standings.{passed}
 use Rattle.usb_explain.specs.Roles.{inner_role, next_role, role_of}
 use Rattle.usb_explain.specs.Subjects.{Subject}
-use Rattle.usb_explain.specs.Explanations.{telling}
+use Rattle.usb_explain.specs.Outline.{Entry, telling}
 use Rattle.usb_explain.proofs.Spans.{Aim, adding}
 use Rattle.usb_explain.proofs.rest.Walks.{Ends, ends_behind}
 
@@ -45,8 +45,8 @@ abbrev pub behind_one : Subject → Standing → Role → List ℕ → List ℕ 
 behind_one subject s role d behind = passed role d (telling subject role d behind (entered role subject.manner.speed (d ++ behind) s))
 
 -- a descriptor of this role where it is shown
-abbrev pub shown_at : Subject → Standing → Role → List ℕ → List ℕ → List ℕ → Shown
-shown_at subject s role ahead d behind = record { standing = entered role subject.manner.speed ahead s; role = role; bytes = d; behind = behind }
+abbrev pub shown_at : Subject → Standing → Role → List ℕ → List ℕ → List ℕ → Entry
+shown_at subject s role ahead d behind = record { standing = entered role subject.manner.speed ahead s; role = role; bytes = d; after = behind }
 
 -- behind it a walk ends so, where it has this entry and these counts
 abbrev EndsBehind : Aim → Subject → Standing → Role → List ℕ → List ℕ → List ℕ → Type 0

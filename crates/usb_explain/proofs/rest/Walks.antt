@@ -2,8 +2,8 @@
 use Rattle.std.proofs.Common.{◌≡◌, ◌≤◌, ℕ, zero, suc, List, [], ◌++◌, flat_map, length, map, drop, Option, Some, None, is_some, option_and_then, sym, ap, subst, ◌∙◌, arith, append-nil, length-drop, Bool, true, false, cond, ◌∷◌, refl}
 use Rattle.usb_explain.specs.declared.role.Role.{Role}
 use Rattle.usb_explain.specs.declared.position.Standing.{Standing}
-use Rattle.usb_explain.specs.Explanations.{last_line, whole_end, rest_lines, behind_next, walked}
-use Rattle.usb_explain.specs.Laws.{Cut, EachFindingOnce, Follow, NothingLeft, Shown, TellsItsOwn, counts_at, entry_of, findings_of, lines_of, span_of}
+use Rattle.usb_explain.specs.Outline.{Entry, after_next, entry_next, outline_of}
+use Rattle.usb_explain.specs.Laws.{EachFindingOnce, TellsItsOwn, counts_at, end_of, entry_of, findings_of}
 use Rattle.usb_explain.specs.Findings.{found_at, is_here, told_by, told_of}
 use Rattle.std.specs.List.{AllByRecursion, take_while}
 use Rattle.std.proofs.lemmas.List.Sums.{take_while-cons}
@@ -13,13 +13,13 @@ use Rattle.usb_explain.specs.Subjects.{Subject}
 use Rattle.usb_explain.specs.Trees.{counts_in, outline}
 use Rattle.usb_file_data.specs.declared.file.Input.{Input}
 use Rattle.usb_file_data.specs.Findings.{input_findings}
-use Rattle.usb_explain.proofs.Standings.{start_at, start_told}
+use Rattle.usb_explain.proofs.Standings.{start_told}
 use Rattle.usb_file_data.specs.declared.finding.Finding.{Finding}
 use Rattle.usb_file_data.specs.InOrder.{by_rule}
 use Rattle.usb_file_data.specs.Numbers.{rule_numbered}
 use Rattle.usb_file_data.specs.declared.rule.Rule.{Rule}
 use Rattle.usb_file_data.proofs.Sorting.{HasRule, as_many}
-use Rattle.usb_explain.proofs.Spans.{Aim, Ended, adding, ended_more, ended_none, left_behind, cut_parts, next_bounds, ends_at, shown_next}
+use Rattle.usb_explain.proofs.Spans.{Aim, Ended, adding, end_and_rest, ended_more, ended_none, next_bounds}
 
 -- a walk from here ends so, if it may take as many steps as there are bytes
 abbrev pub Ends : Aim → Subject → Standing → List ℕ → Type 0
@@ -30,7 +30,7 @@ ends_here E subject s none aimed n enough = ended_none E subject n s none aimed
 
 -- a descriptor takes one step, and has two bytes at least
 pub ends_behind : (E : Aim) (subject : Subject) (s : Standing) (ahead : List ℕ) (next : Role × ℕ) → next_role s ahead ≡ Some next
-    → Ends (adding E (entry_of (shown_next subject s ahead next) ∷ []) (counts_at subject (shown_next subject s ahead next))) subject (behind_next subject s ahead next) (drop next.1 ahead)
+    → Ends (adding E (entry_of (entry_next subject s ahead next) ∷ []) (counts_at subject (entry_next subject s ahead next))) subject (after_next subject s ahead next) (drop next.1 ahead)
     → Ends E subject s ahead
 ends_behind E subject s ahead next e onward zero enough =
     let bounds = next_bounds s ahead next e in
@@ -43,24 +43,12 @@ ends_behind E subject s ahead next e onward (suc n) enough =
 abbrev pub ShowsAll : Input → Aim
 ShowsAll input rest entries counts = (rest ≡ []) × (entries ≡ outline input) × (counts ≡ counts_in input)
 
--- the text of a walk that leaves nothing
-pub nothing_left : (subject : Subject) (input : Input) (findings : ℕ) (b first text : List ℕ) → text ≡ first ++ walked (length b) subject (whole_end subject findings b) start b
-    → Ends (ShowsAll input) subject start b → NothingLeft subject b first (last_line findings) text
-nothing_left subject input findings b first text e leaves =
+-- a walk that leaves nothing comes to the end
+pub nothing_left : (subject : Subject) (input : Input) (b : List ℕ) → Ends (ShowsAll input) subject start b → end_of subject b ≡ length b
+nothing_left subject input b leaves =
     let ended = leaves (length b) (omega arith) in
-    let w = ended.walk in
-    let ends : length (flat_map (λ d. d.bytes) w.shown) ≡ w.end = ends_at w.shown w.end w.spans in
-    let cut : Cut b w.shown [] = subst (λ l. Cut b w.shown l) ended.aimed.0 w.cut in
-    let parts : b ≡ flat_map (λ d. d.bytes) w.shown ++ [] = cut_parts w.shown b [] cut in
-    let left : drop w.end b ≡ [] = left_behind (flat_map (λ d. d.bytes) w.shown) [] b w.end parts ends in
-    let total : w.end ≡ length b = sym ends ∙ ap length (sym (parts ∙ append-nil (flat_map (λ d. d.bytes) w.shown))) in
-    let at_end : whole_end subject findings b w.end ≡ last_line findings = ap (λ l. rest_lines subject.manner.look w.end l ++ last_line findings) left in
-    record {
-      shown = w.shown;
-      lines = e ∙ ap (λ l. first ++ l) (w.lines subject.manner.look (whole_end subject findings b) ∙ ap (λ l. flat_map (lines_of subject) w.shown ++ l) at_end);
-      cut = cut;
-      spans = subst (λ k. Follow 0 (map span_of w.shown) k) total (subst (λ k. Follow k (map span_of w.shown) w.end) start_at w.spans);
-    }
+    let none : length ended.walk.rest ≡ 0 = ap length ended.aimed.0 in
+    omega (arith, none, end_and_rest subject b ended.walk)
 
 -- those that stand at the front while a test holds pass it
 passed_by : (p : Finding → Bool) (f : Finding) (rest : List Finding) (b : Bool) → p f ≡ b → AllByRecursion (λ f. p f ≡ true) rest
@@ -73,11 +61,11 @@ all_pass p [] = tt
 all_pass p (f ∷ found) =
     subst (λ l. AllByRecursion (λ f. p f ≡ true) l) (sym (take_while-cons p f found)) (passed_by p f (take_while p found) (p f) refl (all_pass p found))
 
-pub tells_own : (subject : Subject) (d : Shown) → TellsItsOwn subject d
+pub tells_own : (subject : Subject) (d : Entry) → TellsItsOwn subject d
 unfolding found_at
-tells_own subject d = all_pass (is_here subject.is_dump d.standing d.role d.bytes d.behind) (drop d.standing.told subject.found)
+tells_own subject d = all_pass (is_here subject.is_dump d.standing d.role d.bytes d.after) (drop d.standing.told subject.found)
 
-all_own : (subject : Subject) (shown : List Shown) → AllByRecursion (TellsItsOwn subject) shown
+all_own : (subject : Subject) (shown : List Entry) → AllByRecursion (TellsItsOwn subject) shown
 all_own subject [] = tt
 all_own subject (d ∷ ds) = (tells_own subject d, all_own subject ds)
 
@@ -98,47 +86,34 @@ both_all : (P : Finding → Type 0) (xs ys : List Finding) → AllByRecursion P 
 both_all P [] ys one two = two
 both_all P (x ∷ xs) ys one two = (one.0, both_all P xs ys one.1 two)
 
-all_have_rules : (subject : Subject) (shown : List Shown) → AllByRecursion (TellsItsOwn subject) shown → AllByRecursion HasRule (flat_map (findings_of subject) shown)
+all_have_rules : (subject : Subject) (shown : List Entry) → AllByRecursion (TellsItsOwn subject) shown → AllByRecursion HasRule (flat_map (findings_of subject) shown)
 all_have_rules subject [] own = tt
 all_have_rules subject (d ∷ ds) own =
     both_all HasRule (findings_of subject d) (flat_map (findings_of subject) ds)
-    (have_rules subject.is_dump d.standing d.role d.bytes d.behind (findings_of subject d) own.0) (all_have_rules subject ds own.1)
+    (have_rules subject.is_dump d.standing d.role d.bytes d.after (findings_of subject d) own.0) (all_have_rules subject ds own.1)
 
--- it tells each finding
-nothing_untold : (subject : Subject) (input : Input) (b : List ℕ) (first text : List ℕ) (findings : List Finding)
-    → text ≡ first ++ walked (length b) subject (whole_end subject (length subject.found) b) start b → by_rule subject.found ≡ findings
-    → Ended (ShowsAll input) subject (length b) start b → EachFindingOnce subject b first findings text
-nothing_untold subject input b first text findings e sorts ended =
-    let w = ended.walk in
-    let ends : length (flat_map (λ d. d.bytes) w.shown) ≡ w.end = ends_at w.shown w.end w.spans in
-    let cut : Cut b w.shown [] = subst (λ l. Cut b w.shown l) ended.aimed.0 w.cut in
-    let left : drop w.end b ≡ [] = left_behind (flat_map (λ d. d.bytes) w.shown) [] b w.end (cut_parts w.shown b [] cut) ends in
-    let told : flat_map (findings_of subject) w.shown ≡ subject.found =
-    sym (append-nil (flat_map (findings_of subject) w.shown)) ∙ ap (λ l. flat_map (findings_of subject) w.shown ++ l) (sym ended.all_told) ∙ w.tells
-    ∙ ap (λ k. drop k subject.found) start_told in
-    let own = all_own subject w.shown in
-    let ruled : AllByRecursion HasRule subject.found = subst (λ l. AllByRecursion HasRule l) told (all_have_rules subject w.shown own) in
-    let many : length subject.found ≡ length findings = sym (as_many subject.found ruled) ∙ ap (λ (l : List Finding). length l) sorts in
-    let at_end : whole_end subject (length subject.found) b w.end ≡ last_line (length findings) =
-    ap (λ l. rest_lines subject.manner.look w.end l ++ last_line (length subject.found)) left ∙ ap (λ n. last_line n) many in
-    record {
-      shown = w.shown;
-      lines = e ∙ ap (λ l. first ++ l) (w.lines subject.manner.look (whole_end subject (length subject.found) b) ∙ ap (λ l. flat_map (lines_of subject) w.shown ++ l) at_end);
-      cut = cut;
-      told = ap (λ l. by_rule l) told ∙ sorts;
-      own = own;
-    }
+-- it tells each finding, and has the counts of the input and the entries of its outline
+pub record Tells (subject : Subject) (input : Input) (bytes : List ℕ) : Type 0 where
+  pub tells : EachFindingOnce subject input bytes
+  pub entries : map entry_of (outline_of subject bytes) ≡ outline input
+  pub counts : flat_map (counts_at subject) (outline_of subject bytes) ≡ counts_in input
 
--- with the counts of the input, and the entries of its outline
-pub record Tells (subject : Subject) (input : Input) (bytes first text : List ℕ) : Type 0 where
-  pub tells : EachFindingOnce subject bytes first (input_findings input) text
-  pub entries : map entry_of tells.shown ≡ outline input
-  pub counts : flat_map (counts_at subject) tells.shown ≡ counts_in input
-
-pub all_tells : (subject : Subject) (input : Input) (b first text : List ℕ)
-    → text ≡ first ++ walked (length b) subject (whole_end subject (length subject.found) b) start b → by_rule subject.found ≡ input_findings input
-    → Ends (ShowsAll input) subject start b → Tells subject input b first text
-unfolding nothing_untold
-all_tells subject input b first text e sorts leaves =
+pub all_tells : (subject : Subject) (input : Input) (b : List ℕ) → by_rule subject.found ≡ input_findings input → Ends (ShowsAll input) subject start b
+    → Tells subject input b
+all_tells subject input b sorts leaves =
     let ended = leaves (length b) (omega arith) in
-    record { tells = nothing_untold subject input b first text (input_findings input) e sorts ended; entries = ended.aimed.1; counts = ended.aimed.2 }
+    let w = ended.walk in
+    let told : flat_map (findings_of subject) (outline_of subject b) ≡ subject.found =
+    ap (λ l. flat_map (findings_of subject) l) w.is ∙ sym (append-nil (flat_map (findings_of subject) w.shown))
+    ∙ ap (λ l. flat_map (findings_of subject) w.shown ++ l) (sym ended.all_told) ∙ w.tells ∙ ap (λ k. drop k subject.found) start_told in
+    let own = all_own subject (outline_of subject b) in
+    let ruled : AllByRecursion HasRule subject.found = subst (λ l. AllByRecursion HasRule l) told (all_have_rules subject (outline_of subject b) own) in
+    record {
+      tells = record {
+        told = ap (λ l. by_rule l) told ∙ sorts;
+        own = own;
+        count = sym (as_many subject.found ruled) ∙ ap (λ (l : List Finding). length l) sorts;
+      };
+      entries = ap (λ l. map entry_of l) w.is ∙ ended.aimed.1;
+      counts = ap (λ l. flat_map (counts_at subject) l) w.is ∙ ended.aimed.2;
+    }

@@ -16,10 +16,12 @@ use Rattle.usb_explain.specs.Layouts.{Layout}
 use Rattle.usb_text.specs.Output.{Held}
 use Rattle.usb_text.specs.inside.Pages.{Puts}
 use Rattle.usb_explain.specs.declared.position.SettingStanding.{SettingStanding}
+use Rattle.usb_explain.specs.declared.role.Role.{Role}
 use Rattle.usb_explain.specs.declared.position.Standing.{Standing}
 use Rattle.usb_explain.specs.Standings.{start}
 use Rattle.usb_explain.specs.Subjects.{Subject}
-use Rattle.usb_explain.specs.Explanations.{walked}
+use Rattle.usb_explain.specs.Explanations.{lines_of, walked}
+use Rattle.usb_explain.specs.Outline.{entry_next}
 
 -- What is heard of the speed of a set, descriptor by descriptor.
 
@@ -75,6 +77,10 @@ pub record Counted (s : Standing) : Type 0 where
   pub associations : s.set.associations ≤ s.at
   pub settings : s.set.settings ≤ s.at
   pub endpoints : endpoints_of s.set.setting ≤ s.at
+
+-- the lines of the descriptor with which these bytes begin
+abbrev pub next_block : Subject → Standing → List ℕ → Role × ℕ → List ℕ
+next_block subject s ahead next = lines_of subject (entry_next subject s ahead next)
 
 -- these lines, and then what ends the text, are all that is walked
 pub record Walked (subject : Subject) (bytes done : List ℕ) (at : ℕ) : Type 0 where

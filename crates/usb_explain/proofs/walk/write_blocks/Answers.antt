@@ -4,8 +4,8 @@ use Rattle.usb_text.proofs.Pages.{appends_nothing, keeps_refl, on_err}
 use Rattle.usb_explain.specs.declared.position.Standing.{Standing}
 use Rattle.usb_explain.specs.Standings.{with_told, start}
 use Rattle.usb_explain.specs.Roles.{next_role}
-use Rattle.usb_explain.specs.Explanations.{next_block, walked}
-use Rattle.usb_explain.specs.inside.Walking.{Counted}
+use Rattle.usb_explain.specs.Explanations.{walked}
+use Rattle.usb_explain.specs.inside.Walking.{Counted, next_block}
 use Rattle.usb_explain.proofs.Standings.{counted_entered, counted_told, entered_at, start_at}
 use Rattle.usb_explain.proofs.Walking.{if_memory, block_broken, block_unwritten, walks_end, walks_next, walks_stopped}
 use Rattle.usb_explain.proofs.walk.write_blocks.Goals as goal
