@@ -60,6 +60,7 @@ fn protocols() -> &'static [Named<(u8, u8, u8)>]
     &PROTOCOLS
 }
 
+// made by tables.py
 static CLASSES: [Named<u8>; 25] = [
     (0x00, "by interface"),
     (0x01, "Audio"),
@@ -223,3 +224,4 @@ static PROTOCOLS: [Named<(u8, u8, u8)>; 85] = [
     ((0xfe, 0x03, 0x01), "USB488"),
     ((0xff, 0xff, 0xff), "vendor specific"),
 ];
+// end

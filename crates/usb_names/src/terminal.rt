@@ -33,7 +33,7 @@ fn video_terminals() -> &'static [Named<u16>]
     &VIDEO_TERMINALS
 }
 
-// made by tables.py: terminals
+// made by tables.py
 static AUDIO_TERMINALS: [Named<u16>; 56] = [
     (0x0100, "USB undefined"),
     (0x0101, "USB streaming"),
