@@ -6,7 +6,8 @@ use Rattle.usb_names.specs.declared.codes.ClassCodes.{ClassCodes}
 use Rattle.usb_explain.specs.Trees.{descriptors}
 use Rattle.usb_explain.specs.declared.remark.Remark.{Remark}
 use Rattle.usb_explain.specs.declared.remark.Remark.TheVariants as remarks
-use Rattle.usb_names.specs.Rows.{Row, first_row, rows_behind}
+use Rattle.usb_names.specs.Rows.{first_row, rows_behind}
+use Rattle.usb_names.specs.Shown.{Row}
 use Rattle.usb_text.specs.Numbers.{byte_code}
 use Rattle.usb_explain.specs.declared.context.Context.{Context}
 use Rattle.usb_explain.specs.Layouts.{Layout, layout_lines}

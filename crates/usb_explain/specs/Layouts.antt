@@ -1,6 +1,6 @@
 -- The lines of a descriptor's fields, and the fields of the standard's descriptors.
 use Rattle.std.specs.Prelude.{ℕ, zero, suc, ◌+◌, ◌-◌, ◌/◌, ◌==◌, List, [], ◌∷◌, ◌++◌, drop, length, nat_lt, if◌then◌else◌, codes, ◌&&◌, Bool, false, Option, Some, None}
-use Rattle.usb_names.specs.Rows.{Field, decimal, hexadecimal}
+use Rattle.usb_names.specs.Shown.{Field}
 use Rattle.usb_explain.specs.declared.context.Context.{Context}
 use Rattle.usb_explain.specs.Forms.{form_words}
 use Rattle.usb_explain.specs.Lines.{digits_line, field_line}
@@ -61,10 +61,14 @@ layout_lines context strings layout b = body_lines context strings layout.fields
 
 -- The fields of the standard's descriptors after bDescriptorType, each with the form of its number (USB 2.0, 9.6).
 
+-- a field: how its number is written, how many bytes it has, and its name
+abbrev pub field_in : Form → ℕ → List ℕ → Field
+field_in form width name = record { name = name; width = width; form = form }
+
 -- fields of the standard's names and widths, in these forms
 abbrev pub fields_in : {Descriptor : Type 0} → List (standard.Field Descriptor) → List Form → List Field
-fields_in (standard.byte name number ∷ fields) (form ∷ forms) = record { name = name; width = 1; form = form } ∷ fields_in fields forms
-fields_in (standard.word name number ∷ fields) (form ∷ forms) = record { name = name; width = 2; form = form } ∷ fields_in fields forms
+fields_in (standard.byte name number ∷ fields) (form ∷ forms) = field_in form 1 name ∷ fields_in fields forms
+fields_in (standard.word name number ∷ fields) (form ∷ forms) = field_in form 2 name ∷ fields_in fields forms
 fields_in fields forms = []
 
 -- a descriptor of these fields, after which there may be a tail
@@ -83,7 +87,7 @@ qualifier_layout = with_tail (fields_in qualifier_fields (Release ∷ Class ∷ 
 -- the first descriptor of a set (9.6.3 and 9.6.4)
 abbrev pub configuration_layout : Layout
 configuration_layout =
-    with_tail (decimal 2 (codes "wTotalLength") ∷ fields_in configuration_fields (Decimal ∷ Decimal ∷ Index ∷ Supply ∷ Power ∷ []))
+    with_tail (field_in Decimal 2 (codes "wTotalLength") ∷ fields_in configuration_fields (Decimal ∷ Decimal ∷ Index ∷ Supply ∷ Power ∷ []))
 
 -- an interface association (its ECN, 9.X.Y)
 abbrev pub association_layout : Layout
@@ -102,9 +106,12 @@ abbrev pub is_audio : Option ClassCodes → Bool
 is_audio None = false
 is_audio (Some codes) = codes.class == 1
 
--- An endpoint of so many bytes, after an interface of these codes. Two bytes after the fields of an audio endpoint are bRefresh and bSynchAddress (audio 1.0,
--- 4.6.1.1 and 4.6.2.1).
+-- the fields that an endpoint of audio has after those (audio 1.0, 4.6.1.1 and 4.6.2.1)
+abbrev pub further_audio_fields : List Field
+further_audio_fields = field_in Decimal 1 (codes "bRefresh") ∷ field_in Hexadecimal 1 (codes "bSynchAddress") ∷ []
+
+-- an endpoint of so many bytes, after an interface of these codes
 abbrev pub endpoint_layout : Option ClassCodes → ℕ → Layout
 endpoint_layout interface n =
-    if is_audio interface && (n == 9) then with_tail (fields_of_endpoint ++ decimal 1 (codes "bRefresh") ∷ hexadecimal 1 (codes "bSynchAddress") ∷ [])
+    if is_audio interface && (n == 9) then with_tail (fields_of_endpoint ++ further_audio_fields)
     else with_tail fields_of_endpoint

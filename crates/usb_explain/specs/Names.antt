@@ -1,6 +1,7 @@
 -- Class codes, bits, types of terminals and GUIDs in words.
 use Rattle.std.specs.Prelude.{ℕ, List, [], ◌++◌, ◌==◌, Option, Some, None, codes, if◌then◌else◌, ◌/◌, ◌%◌, ◌^◌, Bool, ◌∷◌, slice_get, ◌+◌, ◌*◌, ◌&&◌, ◌||◌, drop, nat_eq, nat_le, take}
-use Rattle.usb_names.specs.Classes.{classes, name_in, protocol_in, protocols, subclasses, Named}
+use Rattle.usb_names.specs.Classes.{class_name, protocol_name, subclass_name}
+use Rattle.usb_names.specs.Named.{Named, name_where}
 use Rattle.usb_text.specs.Numbers.{byte_code, meaning, word_code}
 use Rattle.std.specs.Fmt.{decimal}
 use Rattle.std.specs.List.{filter, flat_map, list_all}
@@ -22,9 +23,9 @@ class_or_code class (Some name) = name
 -- the names that class, subclass and protocol have
 unfoldable pub class_words : ℕ → ℕ → ℕ → List ℕ
 class_words class subclass protocol =
-    class_or_code class (name_in classes class)
-    ++ further (name_in (subclasses class) subclass)
-    ++ further (protocol_in (protocols class) subclass protocol)
+    class_or_code class (class_name class)
+    ++ further (subclass_name class subclass)
+    ++ further (protocol_name class subclass protocol)
 
 -- the same of an interface or a function, for which class 00 is reserved (USB-IF, Defined Class Codes; USB 2.0, table 9-12)
 unfoldable pub function_class_words : ℕ → ℕ → ℕ → List ℕ
@@ -38,7 +39,7 @@ named (Some name) = meaning name
 
 -- a class code, with its name if it has one
 unfoldable pub class_field : ℕ → List ℕ
-class_field class = byte_code class ++ named (name_in classes class)
+class_field class = byte_code class ++ named (class_name class)
 
 -- the same of an interface or a function
 unfoldable pub function_class_field : ℕ → List ℕ
@@ -46,11 +47,11 @@ function_class_field class = if class == 0 then byte_code class ++ codes " (rese
 
 -- a subclass code, with the name that it has in its class
 unfoldable pub subclass_field : ℕ → ℕ → List ℕ
-subclass_field class subclass = byte_code subclass ++ named (name_in (subclasses class) subclass)
+subclass_field class subclass = byte_code subclass ++ named (subclass_name class subclass)
 
 -- a protocol code, with the name that it has in its class and subclass
 unfoldable pub protocol_field : ℕ → ℕ → ℕ → List ℕ
-protocol_field class subclass protocol = byte_code protocol ++ named (protocol_in (protocols class) subclass protocol)
+protocol_field class subclass protocol = byte_code protocol ++ named (protocol_name class subclass protocol)
 
 -- The bits of a byte by their names.
 
@@ -84,8 +85,8 @@ bits_field names value =
 -- Types of terminals in words.
 
 -- a type of two bytes, the low one first, and its name among these if it has one: `0x0101 (USB streaming)`
-unfoldable pub terminal_words : List Named → List ℕ → List ℕ
-terminal_words types (low ∷ high ∷ []) = let code = low + 256 * high in word_code code ++ named (name_in types code)
+unfoldable pub terminal_words : List (Named ℕ) → List ℕ → List ℕ
+terminal_words types (low ∷ high ∷ []) = let code = low + 256 * high in word_code code ++ named (name_where (λ its. its == code) types)
 terminal_words types value = encode_lower value
 
 -- GUIDs, of which those of formats of video may be named by four characters (UVC 1.5, Uncompressed Payload).

@@ -7,52 +7,63 @@ use crate::layout::DescriptorLayout;
 use usb_names::{ClassCodes, ClassField, Form};
 
 /// The class of audio devices.
-const AUDIO: u8 = 1;
+const AUDIO_CLASS: u8 = 1;
 
 /// The fields after bDescriptorType: name, form and width of each. What follows them is a tail.
 macro_rules! layout {
-    [$($name:literal $form:ident $width:literal),*] => {
-        &DescriptorLayout {
+    [$($name:literal $form:ident $width:literal),*] => {{
+        static LAYOUT: DescriptorLayout = DescriptorLayout {
             fields: &[$(ClassField { name: $name, width: $width, form: Form::$form }),*],
             group: &[],
             rest: "tail",
-        }
-    };
+        };
+        &LAYOUT
+    }};
 }
 
 /// The device descriptor (USB 2.0, 9.6.1).
 pub(crate) fn device_layout() -> &'static DescriptorLayout
     ensures { layout_of result.now ≡ device_layout }
 {
-    layout!["bcdUSB" Release 2, "bDeviceClass" Class 1, "bDeviceSubClass" Subclass 1, "bDeviceProtocol" Protocol 1, "bMaxPacketSize0" DevicePacket 1, "idVendor" Hexadecimal 2, "idProduct" Hexadecimal 2, "bcdDevice" Release 2, "iManufacturer" Index 1, "iProduct" Index 1, "iSerialNumber" Index 1, "bNumConfigurations" Decimal 1]
+    static LAYOUT: DescriptorLayout =
+        layout!["bcdUSB" Release 2, "bDeviceClass" Class 1, "bDeviceSubClass" Subclass 1, "bDeviceProtocol" Protocol 1, "bMaxPacketSize0" DevicePacket 1, "idVendor" Hexadecimal 2, "idProduct" Hexadecimal 2, "bcdDevice" Release 2, "iManufacturer" Index 1, "iProduct" Index 1, "iSerialNumber" Index 1, "bNumConfigurations" Decimal 1];
+    &LAYOUT
 }
 
 /// The device qualifier (9.6.2).
 pub(crate) fn qualifier_layout() -> &'static DescriptorLayout
     ensures { layout_of result.now ≡ qualifier_layout }
 {
-    layout!["bcdUSB" Release 2, "bDeviceClass" Class 1, "bDeviceSubClass" Subclass 1, "bDeviceProtocol" Protocol 1, "bMaxPacketSize0" Decimal 1, "bNumConfigurations" Decimal 1, "bReserved" Hexadecimal 1]
+    static LAYOUT: DescriptorLayout =
+        layout!["bcdUSB" Release 2, "bDeviceClass" Class 1, "bDeviceSubClass" Subclass 1, "bDeviceProtocol" Protocol 1, "bMaxPacketSize0" Decimal 1, "bNumConfigurations" Decimal 1, "bReserved" Hexadecimal 1];
+    &LAYOUT
 }
 
 /// A set's first descriptor (9.6.3 and 9.6.4).
 pub(crate) fn configuration_layout() -> &'static DescriptorLayout
     ensures { layout_of result.now ≡ configuration_layout }
 {
-    layout!["wTotalLength" Decimal 2, "bNumInterfaces" Decimal 1, "bConfigurationValue" Decimal 1, "iConfiguration" Index 1, "bmAttributes" Supply 1, "bMaxPower" Power 1]
+    static LAYOUT: DescriptorLayout =
+        layout!["wTotalLength" Decimal 2, "bNumInterfaces" Decimal 1, "bConfigurationValue" Decimal 1, "iConfiguration" Index 1, "bmAttributes" Supply 1, "bMaxPower" Power 1];
+    &LAYOUT
 }
 
 /// An interface association (its ECN, 9.X.Y).
 pub(crate) fn association_layout() -> &'static DescriptorLayout
     ensures { layout_of result.now ≡ association_layout }
 {
-    layout!["bFirstInterface" Decimal 1, "bInterfaceCount" Decimal 1, "bFunctionClass" FunctionClass 1, "bFunctionSubClass" Subclass 1, "bFunctionProtocol" Protocol 1, "iFunction" Index 1]
+    static LAYOUT: DescriptorLayout =
+        layout!["bFirstInterface" Decimal 1, "bInterfaceCount" Decimal 1, "bFunctionClass" FunctionClass 1, "bFunctionSubClass" Subclass 1, "bFunctionProtocol" Protocol 1, "iFunction" Index 1];
+    &LAYOUT
 }
 
 /// An interface (USB 2.0, 9.6.5).
 pub(crate) fn interface_layout() -> &'static DescriptorLayout
     ensures { layout_of result.now ≡ interface_layout }
 {
-    layout!["bInterfaceNumber" Decimal 1, "bAlternateSetting" Decimal 1, "bNumEndpoints" Decimal 1, "bInterfaceClass" FunctionClass 1, "bInterfaceSubClass" Subclass 1, "bInterfaceProtocol" Protocol 1, "iInterface" Index 1]
+    static LAYOUT: DescriptorLayout =
+        layout!["bInterfaceNumber" Decimal 1, "bAlternateSetting" Decimal 1, "bNumEndpoints" Decimal 1, "bInterfaceClass" FunctionClass 1, "bInterfaceSubClass" Subclass 1, "bInterfaceProtocol" Protocol 1, "iInterface" Index 1];
+    &LAYOUT
 }
 
 /// An endpoint of so many bytes (9.6.6), after an interface of these codes. Two bytes after the fields of an audio endpoint have names.
@@ -62,10 +73,14 @@ pub(crate) fn endpoint_layout(
 ) -> &'static DescriptorLayout
     ensures { layout_of result.now ≡ endpoint_layout interface length }
 {
+    static OTHER: DescriptorLayout =
+        layout!["bEndpointAddress" Address 1, "bmAttributes" Transfer 1, "wMaxPacketSize" PacketSize 2, "bInterval" Interval 1];
+    static AUDIO: DescriptorLayout =
+        layout!["bEndpointAddress" Address 1, "bmAttributes" Transfer 1, "wMaxPacketSize" PacketSize 2, "bInterval" Interval 1, "bRefresh" Decimal 1, "bSynchAddress" Hexadecimal 1];
     if is_audio(interface) && length == 9 {
-        layout!["bEndpointAddress" Address 1, "bmAttributes" Transfer 1, "wMaxPacketSize" PacketSize 2, "bInterval" Interval 1, "bRefresh" Decimal 1, "bSynchAddress" Hexadecimal 1]
+        &AUDIO
     } else {
-        layout!["bEndpointAddress" Address 1, "bmAttributes" Transfer 1, "wMaxPacketSize" PacketSize 2, "bInterval" Interval 1]
+        &OTHER
     }
 }
 
@@ -74,6 +89,6 @@ fn is_audio(interface: Option<ClassCodes>) -> bool
 {
     match interface {
         None => false,
-        Some(codes) => codes.class == AUDIO,
+        Some(codes) => codes.class == AUDIO_CLASS,
     }
 }

@@ -1,3 +1,4 @@
+pub mod Named
 pub mod Classes
 pub mod Terminals
 pub mod Bits

@@ -1,22 +1,41 @@
--- The rows of the code, as those of the definitions.
-use Rattle.std.specs.Prelude.{map}
+-- Descriptors of classes and their fields, with names as lists of bytes.
+use Rattle.std.specs.Prelude.{ℕ, List, map}
+use Rattle.std.specs.Borrow.{Bor}
 use Rattle.usb_names.specs.declared.field.ClassField.{ClassField}
 use Rattle.usb_names.specs.declared.row.ClassDescriptor.{ClassDescriptor}
-use Rattle.usb_names.specs.Rows.{Field, Row}
+
+-- a field
+abbrev pub Field : Type 0
+Field = ClassField (List ℕ)
 
 -- a field of the code
-abbrev pub field_of : ClassField → Field
+abbrev pub field_of : ClassField (Bor (List ℕ)) → Field
 field_of f = record { name = f.name.now; width = f.width; form = f.form }
 
--- a row of the code
-abbrev pub row_of : ClassDescriptor → Row
-row_of r = record {
+-- a descriptor of a class
+abbrev pub Row : Type 0
+Row = ClassDescriptor (List ℕ) (List Field)
+
+-- a row whose name and fields are these
+abbrev pub row_with : {Name Fields : Type 0} → (Name → List ℕ) → (Fields → List Field) → ClassDescriptor Name Fields → Row
+row_with name fields r = record {
   subclass = r.subclass;
   protocol = r.protocol;
-  type = r.descriptor_type;
+  descriptor_type = r.descriptor_type;
   first = r.first;
   second = r.second;
-  name = r.name.now;
-  fields = map field_of r.fields.now;
-  group = map field_of r.group.now;
+  name = name r.name;
+  fields = fields r.fields;
+  group = fields r.group;
 }
+
+-- a row of the code
+abbrev pub row_of : ClassDescriptor (Bor (List ℕ)) (Bor (List (ClassField (Bor (List ℕ))))) → Row
+row_of = row_with (λ name. name.now) (λ fields. map field_of fields.now)
+
+-- a field and a row of a constant of the code
+abbrev pub field_of_constant : ClassField (record { now : List ℕ }) → Field
+field_of_constant f = record { name = f.name.now; width = f.width; form = f.form }
+
+abbrev pub of_constant : ClassDescriptor (record { now : List ℕ }) (record { now : List (ClassField (record { now : List ℕ })) }) → Row
+of_constant = row_with (λ name. name.now) (λ fields. map field_of_constant fields.now)

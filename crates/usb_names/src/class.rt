@@ -1,7 +1,9 @@
 //! Names of classes, subclasses and protocols.
-ghost use Rattle.std.specs.Prelude.{◌≡◌, option_map};
-ghost use Rattle.usb_names.specs.Classes as tables;
-ghost use Rattle.usb_names.specs.Classes.{classes, name_in, protocol_in, protocols, subclasses};
+ghost use Rattle.std.specs.Prelude.{◌≡◌, map, option_map};
+ghost use Rattle.usb_names.specs.Classes.{class_name, classes, protocol_name, protocols, subclass_name, subclasses};
+ghost use Rattle.usb_names.specs.Named.{row_of};
+
+use crate::named::{Named, name_in};
 
 /// The name of a class code, as bDeviceClass, bInterfaceClass and bFunctionClass have it (USB 2.0, 9.6.1, 9.6.5).
 ///
@@ -10,38 +12,9 @@ ghost use Rattle.usb_names.specs.Classes.{classes, name_in, protocol_in, protoco
 /// assert_eq!(rt; class_name(0x77), None);
 /// ```
 pub fn class_name(class: u8) -> Option<&'static str>
-    ensures { option_map (λ name. name.now) result ≡ name_in classes class }
+    ensures { option_map (λ name. name.now) result ≡ class_name class }
 {
-    match class {
-        // made by tables.py: classes
-        0x00 => Some("by interface"),
-        0x01 => Some("Audio"),
-        0x02 => Some("Communications"),
-        0x03 => Some("HID"),
-        0x05 => Some("Physical"),
-        0x06 => Some("Image"),
-        0x07 => Some("Printer"),
-        0x08 => Some("Mass storage"),
-        0x09 => Some("Hub"),
-        0x0a => Some("CDC data"),
-        0x0b => Some("Smart card"),
-        0x0d => Some("Content security"),
-        0x0e => Some("Video"),
-        0x0f => Some("Personal healthcare"),
-        0x10 => Some("Audio/video"),
-        0x11 => Some("Billboard"),
-        0x12 => Some("Type-C bridge"),
-        0x13 => Some("Bulk display"),
-        0x14 => Some("MCTP"),
-        0x3c => Some("I3C"),
-        0xdc => Some("Diagnostic"),
-        0xe0 => Some("Wireless controller"),
-        0xef => Some("Miscellaneous"),
-        0xfe => Some("Application specific"),
-        0xff => Some("Vendor specific"),
-        // end
-        _ => None,
-    }
+    name_in(classes(), class)
 }
 
 /// The name of a subclass code of a class.
@@ -50,26 +23,9 @@ pub fn class_name(class: u8) -> Option<&'static str>
 /// assert_eq!(rt; subclass_name(0x02, 0x06), Some("Ethernet networking"));
 /// ```
 pub fn subclass_name(class: u8, subclass: u8) -> Option<&'static str>
-    ensures { option_map (λ name. name.now) result ≡ name_in (subclasses class) subclass }
+    ensures { option_map (λ name. name.now) result ≡ subclass_name class subclass }
 {
-    match class {
-        // made by tables.py: subclasses
-        0x01 => audio_subclass(subclass),
-        0x02 => communications_subclass(subclass),
-        0x03 => hid_subclass(subclass),
-        0x06 => image_subclass(subclass),
-        0x07 => printer_subclass(subclass),
-        0x08 => mass_storage_subclass(subclass),
-        0x0e => video_subclass(subclass),
-        0x10 => audio_video_subclass(subclass),
-        0xdc => diagnostic_subclass(subclass),
-        0xe0 => wireless_controller_subclass(subclass),
-        0xef => miscellaneous_subclass(subclass),
-        0xfe => application_specific_subclass(subclass),
-        0xff => vendor_specific_subclass(subclass),
-        // end
-        _ => None,
-    }
+    name_in(subclasses(), (class, subclass))
 }
 
 /// The name of a protocol code of a class and its subclass.
@@ -78,382 +34,194 @@ pub fn subclass_name(class: u8, subclass: u8) -> Option<&'static str>
 /// assert_eq!(rt; protocol_name(0x08, 0x06, 0x50), Some("bulk-only"));
 /// ```
 pub fn protocol_name(class: u8, subclass: u8, protocol: u8) -> Option<&'static str>
-    ensures { option_map (λ name. name.now) result ≡ protocol_in (protocols class) subclass protocol }
+    ensures { option_map (λ name. name.now) result ≡ protocol_name class subclass protocol }
 {
-    match class {
-        // made by tables.py: protocols
-        0x01 => audio_protocol(subclass, protocol),
-        0x02 => communications_protocol(subclass, protocol),
-        0x03 => hid_protocol(subclass, protocol),
-        0x06 => image_protocol(subclass, protocol),
-        0x07 => printer_protocol(subclass, protocol),
-        0x08 => mass_storage_protocol(subclass, protocol),
-        0x09 => hub_protocol(subclass, protocol),
-        0x0a => cdc_data_protocol(subclass, protocol),
-        0x0b => smart_card_protocol(subclass, protocol),
-        0x0e => video_protocol(subclass, protocol),
-        0xdc => diagnostic_protocol(subclass, protocol),
-        0xe0 => wireless_controller_protocol(subclass, protocol),
-        0xef => miscellaneous_protocol(subclass, protocol),
-        0xfe => application_specific_protocol(subclass, protocol),
-        0xff => vendor_specific_protocol(subclass, protocol),
-        // end
-        _ => None,
-    }
+    name_in(protocols(), (class, subclass, protocol))
 }
 
-// made by tables.py: names of each class
-fn audio_subclass(subclass: u8) -> Option<&'static str>
-    ensures { option_map (λ name. name.now) result ≡ name_in tables.audio_subclasses subclass }
+#[tactic(auto, unfolding(crate::specs::Classes::classes))]
+fn classes() -> &'static [Named<u8>]
+    ensures { map row_of result.now ≡ classes }
 {
-    match subclass {
-        0x01 => Some("control"),
-        0x02 => Some("streaming"),
-        0x03 => Some("MIDI streaming"),
-        _ => None,
-    }
+    &CLASSES
 }
 
-fn communications_subclass(subclass: u8) -> Option<&'static str>
-    ensures { option_map (λ name. name.now) result ≡ name_in tables.communications_subclasses subclass }
+#[tactic(auto, unfolding(crate::specs::Classes::subclasses))]
+fn subclasses() -> &'static [Named<(u8, u8)>]
+    ensures { map row_of result.now ≡ subclasses }
 {
-    match subclass {
-        0x01 => Some("direct line"),
-        0x02 => Some("abstract control"),
-        0x03 => Some("telephone control"),
-        0x04 => Some("multi-channel control"),
-        0x05 => Some("CAPI control"),
-        0x06 => Some("Ethernet networking"),
-        0x07 => Some("ATM networking"),
-        0x08 => Some("wireless handset control"),
-        0x09 => Some("device management"),
-        0x0a => Some("mobile direct line"),
-        0x0b => Some("OBEX"),
-        0x0c => Some("Ethernet emulation"),
-        0x0d => Some("network control"),
-        0x0e => Some("mobile broadband"),
-        _ => None,
-    }
+    &SUBCLASSES
 }
 
-fn hid_subclass(subclass: u8) -> Option<&'static str>
-    ensures { option_map (λ name. name.now) result ≡ name_in tables.hid_subclasses subclass }
+#[tactic(auto, unfolding(crate::specs::Classes::protocols))]
+fn protocols() -> &'static [Named<(u8, u8, u8)>]
+    ensures { map row_of result.now ≡ protocols }
 {
-    match subclass {
-        0x01 => Some("boot interface"),
-        _ => None,
-    }
+    &PROTOCOLS
 }
 
-fn image_subclass(subclass: u8) -> Option<&'static str>
-    ensures { option_map (λ name. name.now) result ≡ name_in tables.image_subclasses subclass }
-{
-    match subclass {
-        0x01 => Some("still image capture"),
-        _ => None,
-    }
-}
+// made by tables.py
+static CLASSES: [Named<u8>; 25] = [
+    (0x00, "by interface"),
+    (0x01, "Audio"),
+    (0x02, "Communications"),
+    (0x03, "HID"),
+    (0x05, "Physical"),
+    (0x06, "Image"),
+    (0x07, "Printer"),
+    (0x08, "Mass storage"),
+    (0x09, "Hub"),
+    (0x0a, "CDC data"),
+    (0x0b, "Smart card"),
+    (0x0d, "Content security"),
+    (0x0e, "Video"),
+    (0x0f, "Personal healthcare"),
+    (0x10, "Audio/video"),
+    (0x11, "Billboard"),
+    (0x12, "Type-C bridge"),
+    (0x13, "Bulk display"),
+    (0x14, "MCTP"),
+    (0x3c, "I3C"),
+    (0xdc, "Diagnostic"),
+    (0xe0, "Wireless controller"),
+    (0xef, "Miscellaneous"),
+    (0xfe, "Application specific"),
+    (0xff, "Vendor specific"),
+];
 
-fn printer_subclass(subclass: u8) -> Option<&'static str>
-    ensures { option_map (λ name. name.now) result ≡ name_in tables.printer_subclasses subclass }
-{
-    match subclass {
-        0x01 => Some("printer"),
-        _ => None,
-    }
-}
+static SUBCLASSES: [Named<(u8, u8)>; 45] = [
+    ((0x01, 0x01), "control"),
+    ((0x01, 0x02), "streaming"),
+    ((0x01, 0x03), "MIDI streaming"),
+    ((0x02, 0x01), "direct line"),
+    ((0x02, 0x02), "abstract control"),
+    ((0x02, 0x03), "telephone control"),
+    ((0x02, 0x04), "multi-channel control"),
+    ((0x02, 0x05), "CAPI control"),
+    ((0x02, 0x06), "Ethernet networking"),
+    ((0x02, 0x07), "ATM networking"),
+    ((0x02, 0x08), "wireless handset control"),
+    ((0x02, 0x09), "device management"),
+    ((0x02, 0x0a), "mobile direct line"),
+    ((0x02, 0x0b), "OBEX"),
+    ((0x02, 0x0c), "Ethernet emulation"),
+    ((0x02, 0x0d), "network control"),
+    ((0x02, 0x0e), "mobile broadband"),
+    ((0x03, 0x01), "boot interface"),
+    ((0x06, 0x01), "still image capture"),
+    ((0x07, 0x01), "printer"),
+    ((0x08, 0x01), "RBC"),
+    ((0x08, 0x02), "MMC-5"),
+    ((0x08, 0x04), "UFI"),
+    ((0x08, 0x06), "SCSI transparent"),
+    ((0x08, 0x07), "LSD FS"),
+    ((0x08, 0x08), "IEEE 1667"),
+    ((0x0e, 0x01), "control"),
+    ((0x0e, 0x02), "streaming"),
+    ((0x0e, 0x03), "interface collection"),
+    ((0x10, 0x01), "control"),
+    ((0x10, 0x02), "video stream"),
+    ((0x10, 0x03), "audio stream"),
+    ((0xdc, 0x01), "reprogrammable"),
+    ((0xe0, 0x01), "radio frequency"),
+    ((0xe0, 0x02), "wire adapter"),
+    ((0xef, 0x02), "common class"),
+    ((0xef, 0x03), "cable based association"),
+    ((0xef, 0x04), "RNDIS"),
+    ((0xef, 0x05), "USB3 Vision"),
+    ((0xef, 0x06), "STEP"),
+    ((0xef, 0x07), "DVB common interface"),
+    ((0xfe, 0x01), "firmware upgrade"),
+    ((0xfe, 0x02), "IrDA bridge"),
+    ((0xfe, 0x03), "test and measurement"),
+    ((0xff, 0xff), "vendor specific"),
+];
 
-fn mass_storage_subclass(subclass: u8) -> Option<&'static str>
-    ensures { option_map (λ name. name.now) result ≡ name_in tables.mass_storage_subclasses subclass }
-{
-    match subclass {
-        0x01 => Some("RBC"),
-        0x02 => Some("MMC-5"),
-        0x04 => Some("UFI"),
-        0x06 => Some("SCSI transparent"),
-        0x07 => Some("LSD FS"),
-        0x08 => Some("IEEE 1667"),
-        _ => None,
-    }
-}
-
-fn video_subclass(subclass: u8) -> Option<&'static str>
-    ensures { option_map (λ name. name.now) result ≡ name_in tables.video_subclasses subclass }
-{
-    match subclass {
-        0x01 => Some("control"),
-        0x02 => Some("streaming"),
-        0x03 => Some("interface collection"),
-        _ => None,
-    }
-}
-
-fn audio_video_subclass(subclass: u8) -> Option<&'static str>
-    ensures { option_map (λ name. name.now) result ≡ name_in tables.audio_video_subclasses subclass }
-{
-    match subclass {
-        0x01 => Some("control"),
-        0x02 => Some("video stream"),
-        0x03 => Some("audio stream"),
-        _ => None,
-    }
-}
-
-fn diagnostic_subclass(subclass: u8) -> Option<&'static str>
-    ensures { option_map (λ name. name.now) result ≡ name_in tables.diagnostic_subclasses subclass }
-{
-    match subclass {
-        0x01 => Some("reprogrammable"),
-        _ => None,
-    }
-}
-
-fn wireless_controller_subclass(subclass: u8) -> Option<&'static str>
-    ensures { option_map (λ name. name.now) result ≡ name_in tables.wireless_controller_subclasses subclass }
-{
-    match subclass {
-        0x01 => Some("radio frequency"),
-        0x02 => Some("wire adapter"),
-        _ => None,
-    }
-}
-
-fn miscellaneous_subclass(subclass: u8) -> Option<&'static str>
-    ensures { option_map (λ name. name.now) result ≡ name_in tables.miscellaneous_subclasses subclass }
-{
-    match subclass {
-        0x02 => Some("common class"),
-        0x03 => Some("cable based association"),
-        0x04 => Some("RNDIS"),
-        0x05 => Some("USB3 Vision"),
-        0x06 => Some("STEP"),
-        0x07 => Some("DVB common interface"),
-        _ => None,
-    }
-}
-
-fn application_specific_subclass(subclass: u8) -> Option<&'static str>
-    ensures { option_map (λ name. name.now) result ≡ name_in tables.application_specific_subclasses subclass }
-{
-    match subclass {
-        0x01 => Some("firmware upgrade"),
-        0x02 => Some("IrDA bridge"),
-        0x03 => Some("test and measurement"),
-        _ => None,
-    }
-}
-
-fn vendor_specific_subclass(subclass: u8) -> Option<&'static str>
-    ensures { option_map (λ name. name.now) result ≡ name_in tables.vendor_specific_subclasses subclass }
-{
-    match subclass {
-        0xff => Some("vendor specific"),
-        _ => None,
-    }
-}
-
-fn audio_protocol(subclass: u8, protocol: u8) -> Option<&'static str>
-    ensures { option_map (λ name. name.now) result ≡ protocol_in tables.audio_protocols subclass protocol }
-{
-    match (subclass, protocol) {
-        (0x00, 0x20) => Some("version 2.0"),
-        (0x01, 0x20) => Some("version 2.0"),
-        (0x01, 0x30) => Some("version 3.0"),
-        (0x02, 0x20) => Some("version 2.0"),
-        (0x02, 0x30) => Some("version 3.0"),
-        _ => None,
-    }
-}
-
-fn communications_protocol(subclass: u8, protocol: u8) -> Option<&'static str>
-    ensures { option_map (λ name. name.now) result ≡ protocol_in tables.communications_protocols subclass protocol }
-{
-    match (subclass, protocol) {
-        (0x02, 0x01) => Some("AT commands V.250"),
-        (0x02, 0x02) => Some("AT commands PCCA-101"),
-        (0x02, 0x03) => Some("AT commands PCCA-101 Annex O"),
-        (0x02, 0x04) => Some("AT commands GSM 07.07"),
-        (0x02, 0x05) => Some("AT commands 3GPP 27.007"),
-        (0x02, 0x06) => Some("AT commands TIA for CDMA"),
-        (0x02, 0xff) => Some("vendor specific"),
-        (0x0c, 0x07) => Some("EEM"),
-        _ => None,
-    }
-}
-
-fn hid_protocol(subclass: u8, protocol: u8) -> Option<&'static str>
-    ensures { option_map (λ name. name.now) result ≡ protocol_in tables.hid_protocols subclass protocol }
-{
-    match (subclass, protocol) {
-        (0x01, 0x01) => Some("keyboard"),
-        (0x01, 0x02) => Some("mouse"),
-        _ => None,
-    }
-}
-
-fn image_protocol(subclass: u8, protocol: u8) -> Option<&'static str>
-    ensures { option_map (λ name. name.now) result ≡ protocol_in tables.image_protocols subclass protocol }
-{
-    match (subclass, protocol) {
-        (0x01, 0x01) => Some("PTP"),
-        _ => None,
-    }
-}
-
-fn printer_protocol(subclass: u8, protocol: u8) -> Option<&'static str>
-    ensures { option_map (λ name. name.now) result ≡ protocol_in tables.printer_protocols subclass protocol }
-{
-    match (subclass, protocol) {
-        (0x01, 0x01) => Some("unidirectional"),
-        (0x01, 0x02) => Some("bidirectional"),
-        (0x01, 0x03) => Some("IEEE 1284.4"),
-        (0x01, 0x04) => Some("IPP over USB"),
-        _ => None,
-    }
-}
-
-fn mass_storage_protocol(subclass: u8, protocol: u8) -> Option<&'static str>
-    ensures { option_map (λ name. name.now) result ≡ protocol_in tables.mass_storage_protocols subclass protocol }
-{
-    match (subclass, protocol) {
-        (0x01, 0x00) => Some("CBI with completion interrupt"),
-        (0x01, 0x01) => Some("CBI"),
-        (0x01, 0x50) => Some("bulk-only"),
-        (0x01, 0x62) => Some("UAS"),
-        (0x02, 0x00) => Some("CBI with completion interrupt"),
-        (0x02, 0x01) => Some("CBI"),
-        (0x02, 0x50) => Some("bulk-only"),
-        (0x02, 0x62) => Some("UAS"),
-        (0x04, 0x00) => Some("CBI with completion interrupt"),
-        (0x04, 0x01) => Some("CBI"),
-        (0x04, 0x50) => Some("bulk-only"),
-        (0x04, 0x62) => Some("UAS"),
-        (0x06, 0x00) => Some("CBI with completion interrupt"),
-        (0x06, 0x01) => Some("CBI"),
-        (0x06, 0x50) => Some("bulk-only"),
-        (0x06, 0x62) => Some("UAS"),
-        (0x07, 0x00) => Some("CBI with completion interrupt"),
-        (0x07, 0x01) => Some("CBI"),
-        (0x07, 0x50) => Some("bulk-only"),
-        (0x07, 0x62) => Some("UAS"),
-        (0x08, 0x00) => Some("CBI with completion interrupt"),
-        (0x08, 0x01) => Some("CBI"),
-        (0x08, 0x50) => Some("bulk-only"),
-        (0x08, 0x62) => Some("UAS"),
-        _ => None,
-    }
-}
-
-fn hub_protocol(subclass: u8, protocol: u8) -> Option<&'static str>
-    ensures { option_map (λ name. name.now) result ≡ protocol_in tables.hub_protocols subclass protocol }
-{
-    match (subclass, protocol) {
-        (0x00, 0x01) => Some("single TT"),
-        (0x00, 0x02) => Some("multiple TTs"),
-        (0x00, 0x03) => Some("SuperSpeed"),
-        _ => None,
-    }
-}
-
-fn cdc_data_protocol(subclass: u8, protocol: u8) -> Option<&'static str>
-    ensures { option_map (λ name. name.now) result ≡ protocol_in tables.cdc_data_protocols subclass protocol }
-{
-    match (subclass, protocol) {
-        (0x00, 0x01) => Some("network transfer block"),
-        _ => None,
-    }
-}
-
-fn smart_card_protocol(subclass: u8, protocol: u8) -> Option<&'static str>
-    ensures { option_map (λ name. name.now) result ≡ protocol_in tables.smart_card_protocols subclass protocol }
-{
-    match (subclass, protocol) {
-        (0x00, 0x00) => Some("CCID"),
-        (0x00, 0x01) => Some("ICCD version A"),
-        (0x00, 0x02) => Some("ICCD version B"),
-        _ => None,
-    }
-}
-
-fn video_protocol(subclass: u8, protocol: u8) -> Option<&'static str>
-    ensures { option_map (λ name. name.now) result ≡ protocol_in tables.video_protocols subclass protocol }
-{
-    match (subclass, protocol) {
-        (0x01, 0x01) => Some("version 1.5"),
-        (0x02, 0x01) => Some("version 1.5"),
-        _ => None,
-    }
-}
-
-fn diagnostic_protocol(subclass: u8, protocol: u8) -> Option<&'static str>
-    ensures { option_map (λ name. name.now) result ≡ protocol_in tables.diagnostic_protocols subclass protocol }
-{
-    match (subclass, protocol) {
-        (0x01, 0x01) => Some("USB2 compliance"),
-        _ => None,
-    }
-}
-
-fn wireless_controller_protocol(subclass: u8, protocol: u8) -> Option<&'static str>
-    ensures { option_map (λ name. name.now) result ≡ protocol_in tables.wireless_controller_protocols subclass protocol }
-{
-    match (subclass, protocol) {
-        (0x01, 0x01) => Some("Bluetooth"),
-        (0x01, 0x02) => Some("UWB radio control"),
-        (0x01, 0x03) => Some("remote NDIS"),
-        (0x01, 0x04) => Some("Bluetooth AMP"),
-        (0x02, 0x01) => Some("host wire adapter"),
-        (0x02, 0x02) => Some("device wire adapter"),
-        (0x02, 0x03) => Some("device wire adapter, isochronous"),
-        _ => None,
-    }
-}
-
-fn miscellaneous_protocol(subclass: u8, protocol: u8) -> Option<&'static str>
-    ensures { option_map (λ name. name.now) result ≡ protocol_in tables.miscellaneous_protocols subclass protocol }
-{
-    match (subclass, protocol) {
-        (0x01, 0x01) => Some("ActiveSync"),
-        (0x01, 0x02) => Some("Palm Sync"),
-        (0x02, 0x01) => Some("interface association"),
-        (0x02, 0x02) => Some("wire adapter multifunction"),
-        (0x03, 0x01) => Some("cable based association"),
-        (0x04, 0x01) => Some("over Ethernet"),
-        (0x04, 0x02) => Some("over WiFi"),
-        (0x04, 0x03) => Some("over WiMAX"),
-        (0x04, 0x04) => Some("over WWAN"),
-        (0x04, 0x05) => Some("raw IPv4"),
-        (0x04, 0x06) => Some("raw IPv6"),
-        (0x04, 0x07) => Some("GPRS"),
-        (0x05, 0x00) => Some("control"),
-        (0x05, 0x01) => Some("event"),
-        (0x05, 0x02) => Some("streaming"),
-        (0x06, 0x01) => Some("STEP"),
-        (0x06, 0x02) => Some("STEP RAW"),
-        (0x07, 0x01) => Some("command interface"),
-        (0x07, 0x02) => Some("media interface"),
-        _ => None,
-    }
-}
-
-fn application_specific_protocol(subclass: u8, protocol: u8) -> Option<&'static str>
-    ensures { option_map (λ name. name.now) result ≡ protocol_in tables.application_specific_protocols subclass protocol }
-{
-    match (subclass, protocol) {
-        (0x01, 0x01) => Some("run-time"),
-        (0x01, 0x02) => Some("DFU mode"),
-        (0x03, 0x00) => Some("USBTMC"),
-        (0x03, 0x01) => Some("USB488"),
-        _ => None,
-    }
-}
-
-fn vendor_specific_protocol(subclass: u8, protocol: u8) -> Option<&'static str>
-    ensures { option_map (λ name. name.now) result ≡ protocol_in tables.vendor_specific_protocols subclass protocol }
-{
-    match (subclass, protocol) {
-        (0xff, 0xff) => Some("vendor specific"),
-        _ => None,
-    }
-}
+static PROTOCOLS: [Named<(u8, u8, u8)>; 85] = [
+    ((0x01, 0x00, 0x20), "version 2.0"),
+    ((0x01, 0x01, 0x20), "version 2.0"),
+    ((0x01, 0x01, 0x30), "version 3.0"),
+    ((0x01, 0x02, 0x20), "version 2.0"),
+    ((0x01, 0x02, 0x30), "version 3.0"),
+    ((0x02, 0x02, 0x01), "AT commands V.250"),
+    ((0x02, 0x02, 0x02), "AT commands PCCA-101"),
+    ((0x02, 0x02, 0x03), "AT commands PCCA-101 Annex O"),
+    ((0x02, 0x02, 0x04), "AT commands GSM 07.07"),
+    ((0x02, 0x02, 0x05), "AT commands 3GPP 27.007"),
+    ((0x02, 0x02, 0x06), "AT commands TIA for CDMA"),
+    ((0x02, 0x02, 0xff), "vendor specific"),
+    ((0x02, 0x0c, 0x07), "EEM"),
+    ((0x03, 0x01, 0x01), "keyboard"),
+    ((0x03, 0x01, 0x02), "mouse"),
+    ((0x06, 0x01, 0x01), "PTP"),
+    ((0x07, 0x01, 0x01), "unidirectional"),
+    ((0x07, 0x01, 0x02), "bidirectional"),
+    ((0x07, 0x01, 0x03), "IEEE 1284.4"),
+    ((0x07, 0x01, 0x04), "IPP over USB"),
+    ((0x08, 0x01, 0x00), "CBI with completion interrupt"),
+    ((0x08, 0x01, 0x01), "CBI"),
+    ((0x08, 0x01, 0x50), "bulk-only"),
+    ((0x08, 0x01, 0x62), "UAS"),
+    ((0x08, 0x02, 0x00), "CBI with completion interrupt"),
+    ((0x08, 0x02, 0x01), "CBI"),
+    ((0x08, 0x02, 0x50), "bulk-only"),
+    ((0x08, 0x02, 0x62), "UAS"),
+    ((0x08, 0x04, 0x00), "CBI with completion interrupt"),
+    ((0x08, 0x04, 0x01), "CBI"),
+    ((0x08, 0x04, 0x50), "bulk-only"),
+    ((0x08, 0x04, 0x62), "UAS"),
+    ((0x08, 0x06, 0x00), "CBI with completion interrupt"),
+    ((0x08, 0x06, 0x01), "CBI"),
+    ((0x08, 0x06, 0x50), "bulk-only"),
+    ((0x08, 0x06, 0x62), "UAS"),
+    ((0x08, 0x07, 0x00), "CBI with completion interrupt"),
+    ((0x08, 0x07, 0x01), "CBI"),
+    ((0x08, 0x07, 0x50), "bulk-only"),
+    ((0x08, 0x07, 0x62), "UAS"),
+    ((0x08, 0x08, 0x00), "CBI with completion interrupt"),
+    ((0x08, 0x08, 0x01), "CBI"),
+    ((0x08, 0x08, 0x50), "bulk-only"),
+    ((0x08, 0x08, 0x62), "UAS"),
+    ((0x09, 0x00, 0x01), "single TT"),
+    ((0x09, 0x00, 0x02), "multiple TTs"),
+    ((0x09, 0x00, 0x03), "SuperSpeed"),
+    ((0x0a, 0x00, 0x01), "network transfer block"),
+    ((0x0b, 0x00, 0x00), "CCID"),
+    ((0x0b, 0x00, 0x01), "ICCD version A"),
+    ((0x0b, 0x00, 0x02), "ICCD version B"),
+    ((0x0e, 0x01, 0x01), "version 1.5"),
+    ((0x0e, 0x02, 0x01), "version 1.5"),
+    ((0xdc, 0x01, 0x01), "USB2 compliance"),
+    ((0xe0, 0x01, 0x01), "Bluetooth"),
+    ((0xe0, 0x01, 0x02), "UWB radio control"),
+    ((0xe0, 0x01, 0x03), "remote NDIS"),
+    ((0xe0, 0x01, 0x04), "Bluetooth AMP"),
+    ((0xe0, 0x02, 0x01), "host wire adapter"),
+    ((0xe0, 0x02, 0x02), "device wire adapter"),
+    ((0xe0, 0x02, 0x03), "device wire adapter, isochronous"),
+    ((0xef, 0x01, 0x01), "ActiveSync"),
+    ((0xef, 0x01, 0x02), "Palm Sync"),
+    ((0xef, 0x02, 0x01), "interface association"),
+    ((0xef, 0x02, 0x02), "wire adapter multifunction"),
+    ((0xef, 0x03, 0x01), "cable based association"),
+    ((0xef, 0x04, 0x01), "over Ethernet"),
+    ((0xef, 0x04, 0x02), "over WiFi"),
+    ((0xef, 0x04, 0x03), "over WiMAX"),
+    ((0xef, 0x04, 0x04), "over WWAN"),
+    ((0xef, 0x04, 0x05), "raw IPv4"),
+    ((0xef, 0x04, 0x06), "raw IPv6"),
+    ((0xef, 0x04, 0x07), "GPRS"),
+    ((0xef, 0x05, 0x00), "control"),
+    ((0xef, 0x05, 0x01), "event"),
+    ((0xef, 0x05, 0x02), "streaming"),
+    ((0xef, 0x06, 0x01), "STEP"),
+    ((0xef, 0x06, 0x02), "STEP RAW"),
+    ((0xef, 0x07, 0x01), "command interface"),
+    ((0xef, 0x07, 0x02), "media interface"),
+    ((0xfe, 0x01, 0x01), "run-time"),
+    ((0xfe, 0x01, 0x02), "DFU mode"),
+    ((0xfe, 0x03, 0x00), "USBTMC"),
+    ((0xfe, 0x03, 0x01), "USB488"),
+    ((0xff, 0xff, 0xff), "vendor specific"),
+];
 // end

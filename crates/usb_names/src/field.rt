@@ -53,9 +53,9 @@ pub enum Form {
 
 /// A field of a descriptor, by its standard name.
 #[derive(Clone, Copy, Debug)]
-pub struct ClassField {
+pub struct ClassField<Name = &'static str> {
     /// The standard name.
-    pub name: &'static str,
+    pub name: Name,
     /// How many bytes it has, the low one first.
     pub width: u8,
     /// How its number is written.

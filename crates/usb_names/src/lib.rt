@@ -5,6 +5,7 @@ mod bits;
 mod class;
 mod codes;
 mod field;
+mod named;
 mod row;
 mod rows;
 mod terminal;

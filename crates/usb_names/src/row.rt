@@ -10,7 +10,7 @@ use crate::rows::{class_rows, other_rows, standard_rows};
 
 /// A descriptor that a class defines: what it is known by, its name and its fields.
 #[derive(Clone, Copy, Debug)]
-pub struct ClassDescriptor {
+pub struct ClassDescriptor<Name = &'static str, Fields = &'static [ClassField]> {
     /// The subclass of the interface; none is any.
     pub subclass: Option<u8>,
     /// The protocol of the interface; none is any.
@@ -22,11 +22,11 @@ pub struct ClassDescriptor {
     /// The byte after that one; none is any.
     pub second: Option<u8>,
     /// The name.
-    pub name: &'static str,
+    pub name: Name,
     /// The fields after bDescriptorType, in order.
-    pub fields: &'static [ClassField],
+    pub fields: Fields,
     /// The fields that repeat after those.
-    pub group: &'static [ClassField],
+    pub group: Fields,
 }
 
 /// A row's code is any code, or this one.
@@ -40,9 +40,9 @@ fn agrees(wanted: Option<u8>, code: Option<u8>) -> bool
     }
 }
 
-impl ClassDescriptor {
+impl<Name, Fields> ClassDescriptor<Name, Fields> {
     fn holds(&self, interface: Option<ClassCodes>, descriptor_type: u8, body: &[u8]) -> bool
-        ensures { result ≡ holds (row_of self.now) interface descriptor_type body.now }
+        ensures { result ≡ holds self.now interface descriptor_type body.now }
     {
         self.descriptor_type == descriptor_type
             && agrees(self.first, body.first().copied())
@@ -66,6 +66,7 @@ fn find_row(
 }
 
 /// The same, of the rows as the table says them.
+#[tactic(auto, using(crate::proofs::RowLemmas::find_mapped))]
 fn first_row(
     rows: &'static [ClassDescriptor],
     interface: Option<ClassCodes>,

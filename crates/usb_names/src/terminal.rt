@@ -1,94 +1,110 @@
 //! Names of types of terminals.
-ghost use Rattle.std.specs.Prelude.{◌≡◌, option_map};
-ghost use Rattle.usb_names.specs.Classes.{name_in};
+ghost use Rattle.std.specs.Prelude.{◌≡◌, ◌==◌, map, option_map};
+ghost use Rattle.usb_names.specs.Named.{name_where, row_of};
 ghost use Rattle.usb_names.specs.Terminals as tables;
 
-// made by tables.py: terminals
+use crate::named::{Named, name_in};
+
 /// The name of a type of a terminal of audio, as wTerminalType has it.
-#[tactic(auto, unfolding(crate::specs::Terminals::audio_terminals))]
 pub fn audio_terminal(code: u16) -> Option<&'static str>
-    ensures { option_map (λ name. name.now) result ≡ name_in tables.audio_terminals code }
+    ensures { option_map (λ name. name.now) result ≡ name_where (λ its. its == code) tables.audio_terminals }
 {
-    match code {
-        0x0100 => Some("USB undefined"),
-        0x0101 => Some("USB streaming"),
-        0x01ff => Some("USB vendor specific"),
-        0x0200 => Some("input undefined"),
-        0x0201 => Some("microphone"),
-        0x0202 => Some("desktop microphone"),
-        0x0203 => Some("personal microphone"),
-        0x0204 => Some("omni-directional microphone"),
-        0x0205 => Some("microphone array"),
-        0x0206 => Some("processing microphone array"),
-        0x0300 => Some("output undefined"),
-        0x0301 => Some("speaker"),
-        0x0302 => Some("headphones"),
-        0x0303 => Some("head mounted display audio"),
-        0x0304 => Some("desktop speaker"),
-        0x0305 => Some("room speaker"),
-        0x0306 => Some("communication speaker"),
-        0x0307 => Some("low frequency effects speaker"),
-        0x0400 => Some("bi-directional undefined"),
-        0x0401 => Some("handset"),
-        0x0402 => Some("headset"),
-        0x0403 => Some("speakerphone"),
-        0x0404 => Some("echo-suppressing speakerphone"),
-        0x0405 => Some("echo-canceling speakerphone"),
-        0x0500 => Some("telephony undefined"),
-        0x0501 => Some("phone line"),
-        0x0502 => Some("telephone"),
-        0x0503 => Some("down line phone"),
-        0x0600 => Some("external undefined"),
-        0x0601 => Some("analog connector"),
-        0x0602 => Some("digital audio interface"),
-        0x0603 => Some("line connector"),
-        0x0604 => Some("legacy audio connector"),
-        0x0605 => Some("S/PDIF interface"),
-        0x0606 => Some("1394 DA stream"),
-        0x0607 => Some("1394 DV stream soundtrack"),
-        0x0700 => Some("embedded undefined"),
-        0x0701 => Some("level calibration noise source"),
-        0x0702 => Some("equalization noise"),
-        0x0703 => Some("CD player"),
-        0x0704 => Some("DAT"),
-        0x0705 => Some("DCC"),
-        0x0706 => Some("minidisk"),
-        0x0707 => Some("analog tape"),
-        0x0708 => Some("phonograph"),
-        0x0709 => Some("VCR audio"),
-        0x070a => Some("video disk audio"),
-        0x070b => Some("DVD audio"),
-        0x070c => Some("TV tuner audio"),
-        0x070d => Some("satellite receiver audio"),
-        0x070e => Some("cable tuner audio"),
-        0x070f => Some("DSS audio"),
-        0x0710 => Some("radio receiver"),
-        0x0711 => Some("radio transmitter"),
-        0x0712 => Some("multi-track recorder"),
-        0x0713 => Some("synthesizer"),
-        _ => None,
-    }
+    name_in(audio_terminals(), code)
+}
+
+#[tactic(auto, unfolding(crate::specs::Terminals::audio_terminals))]
+fn audio_terminals() -> &'static [Named<u16>]
+    ensures { map row_of result.now ≡ tables.audio_terminals }
+{
+    &AUDIO_TERMINALS
 }
 
 /// The name of a type of a terminal of video, as wTerminalType has it.
-#[tactic(auto, unfolding(crate::specs::Terminals::video_terminals))]
 pub fn video_terminal(code: u16) -> Option<&'static str>
-    ensures { option_map (λ name. name.now) result ≡ name_in tables.video_terminals code }
+    ensures { option_map (λ name. name.now) result ≡ name_where (λ its. its == code) tables.video_terminals }
 {
-    match code {
-        0x0100 => Some("USB vendor specific"),
-        0x0101 => Some("USB streaming"),
-        0x0200 => Some("ITT vendor specific"),
-        0x0201 => Some("camera"),
-        0x0202 => Some("media transport input"),
-        0x0300 => Some("OTT vendor specific"),
-        0x0301 => Some("display"),
-        0x0302 => Some("media transport output"),
-        0x0400 => Some("external vendor specific"),
-        0x0401 => Some("composite connector"),
-        0x0402 => Some("S-video connector"),
-        0x0403 => Some("component connector"),
-        _ => None,
-    }
+    name_in(video_terminals(), code)
 }
+
+#[tactic(auto, unfolding(crate::specs::Terminals::video_terminals))]
+fn video_terminals() -> &'static [Named<u16>]
+    ensures { map row_of result.now ≡ tables.video_terminals }
+{
+    &VIDEO_TERMINALS
+}
+
+// made by tables.py
+static AUDIO_TERMINALS: [Named<u16>; 56] = [
+    (0x0100, "USB undefined"),
+    (0x0101, "USB streaming"),
+    (0x01ff, "USB vendor specific"),
+    (0x0200, "input undefined"),
+    (0x0201, "microphone"),
+    (0x0202, "desktop microphone"),
+    (0x0203, "personal microphone"),
+    (0x0204, "omni-directional microphone"),
+    (0x0205, "microphone array"),
+    (0x0206, "processing microphone array"),
+    (0x0300, "output undefined"),
+    (0x0301, "speaker"),
+    (0x0302, "headphones"),
+    (0x0303, "head mounted display audio"),
+    (0x0304, "desktop speaker"),
+    (0x0305, "room speaker"),
+    (0x0306, "communication speaker"),
+    (0x0307, "low frequency effects speaker"),
+    (0x0400, "bi-directional undefined"),
+    (0x0401, "handset"),
+    (0x0402, "headset"),
+    (0x0403, "speakerphone"),
+    (0x0404, "echo-suppressing speakerphone"),
+    (0x0405, "echo-canceling speakerphone"),
+    (0x0500, "telephony undefined"),
+    (0x0501, "phone line"),
+    (0x0502, "telephone"),
+    (0x0503, "down line phone"),
+    (0x0600, "external undefined"),
+    (0x0601, "analog connector"),
+    (0x0602, "digital audio interface"),
+    (0x0603, "line connector"),
+    (0x0604, "legacy audio connector"),
+    (0x0605, "S/PDIF interface"),
+    (0x0606, "1394 DA stream"),
+    (0x0607, "1394 DV stream soundtrack"),
+    (0x0700, "embedded undefined"),
+    (0x0701, "level calibration noise source"),
+    (0x0702, "equalization noise"),
+    (0x0703, "CD player"),
+    (0x0704, "DAT"),
+    (0x0705, "DCC"),
+    (0x0706, "minidisk"),
+    (0x0707, "analog tape"),
+    (0x0708, "phonograph"),
+    (0x0709, "VCR audio"),
+    (0x070a, "video disk audio"),
+    (0x070b, "DVD audio"),
+    (0x070c, "TV tuner audio"),
+    (0x070d, "satellite receiver audio"),
+    (0x070e, "cable tuner audio"),
+    (0x070f, "DSS audio"),
+    (0x0710, "radio receiver"),
+    (0x0711, "radio transmitter"),
+    (0x0712, "multi-track recorder"),
+    (0x0713, "synthesizer"),
+];
+
+static VIDEO_TERMINALS: [Named<u16>; 12] = [
+    (0x0100, "USB vendor specific"),
+    (0x0101, "USB streaming"),
+    (0x0200, "ITT vendor specific"),
+    (0x0201, "camera"),
+    (0x0202, "media transport input"),
+    (0x0300, "OTT vendor specific"),
+    (0x0301, "display"),
+    (0x0302, "media transport output"),
+    (0x0400, "external vendor specific"),
+    (0x0401, "composite connector"),
+    (0x0402, "S-video connector"),
+    (0x0403, "component connector"),
+];
 // end

@@ -3,7 +3,7 @@ use Rattle.std.proofs.Common.{ℕ, zero, suc, ◌+◌, ◌-◌, List, [], ◌∷
 use Rattle.std.specs.List.{list_all}
 use Rattle.std.proofs.lemmas.Bool.{and_parts}
 use Rattle.usb_fields.specs.Bytes.{AreBytes}
-use Rattle.usb_names.specs.Rows.{Field}
+use Rattle.usb_names.specs.Shown.{Field}
 use Rattle.usb_fields.proofs.ByteParts.{bytes_back}
 use Rattle.usb_explain.specs.declared.context.Context.{Context}
 use Rattle.usb_explain.specs.Forms.{form_words}

@@ -2,7 +2,6 @@
 use Rattle.std.proofs.Common.{◌≡◌, ℕ, ◌<◌, ◌==◌, ◌&&◌, Bool, true, false, if◌then◌else◌, List, [], ◌∷◌, ◌++◌, Option, Some, None, codes, drop, length, slice_index, take, refl, sym, subst, arith}
 use Rattle.hex.specs.Hex.{encode_lower}
 use Rattle.usb_fields.specs.Bytes.{AreBytes, little_endian_at}
-use Rattle.usb_names.specs.Rows.{decimal, hexadecimal}
 use Rattle.usb_set.specs.Descriptors.{transfer_type_of}
 use Rattle.usb_explain.specs.declared.speed.SetSpeed.{SetSpeed}
 use Rattle.usb_fields.proofs.ByteParts.{bytes_back, bytes_front}
@@ -196,7 +195,7 @@ words_plain utf8 Languages context b ascii fit h = languages_plain b h
 words_plain utf8 Text context b ascii fit h = string_plain utf8 context.place b ascii fit h
 
 -- the layouts of the standard's descriptors
-endpoint_named : (b : Bool) → IsPlainLayout (if b then with_tail (fields_of_endpoint ++ decimal 1 (codes "bRefresh") ∷ hexadecimal 1 (codes "bSynchAddress") ∷ []) else with_tail fields_of_endpoint)
+endpoint_named : (b : Bool) → IsPlainLayout (if b then with_tail (fields_of_endpoint ++ further_audio_fields) else with_tail fields_of_endpoint)
 endpoint_named true = record { fields = refl; group = refl; rest = refl }
 endpoint_named false = record { fields = refl; group = refl; rest = refl }
 

@@ -1,11 +1,13 @@
 -- The names of class codes, and the rows of class descriptors, are plain.
-use Rattle.std.proofs.Common.{◌≡◌, ℕ, ◌==◌, ◌&&◌, Bool, true, false, if◌then◌else◌, List, [], ◌∷◌, Option, Some, None, find, refl}
+use Rattle.std.proofs.Common.{◌≡◌, ℕ, ◌&&◌, Bool, true, false, if◌then◌else◌, List, [], ◌∷◌, Option, Some, None, option_map, find, refl}
 use Rattle.std.specs.List.{list_all}
 use Rattle.std.proofs.lemmas.Bool.{and_parts}
 use Rattle.std.proofs.lemmas.List.Folds.{list_all-append}
 use Rattle.usb_names.specs.declared.codes.ClassCodes.{ClassCodes}
-use Rattle.usb_names.specs.Classes.{Named, NamedProtocol, classes, name_in, protocol_in, protocols, subclasses}
-use Rattle.usb_names.specs.Rows.{Field, Row, application_rows, audio_rows, cdc_data_rows, class_rows, communications_rows, first_row, hid_rows, holds, mass_storage_rows, other_rows, rows_behind, rows_of_class, smart_card_rows, standard_rows, video_rows}
+use Rattle.usb_names.specs.Classes.{class_name, classes, protocol_name, protocols, subclass_name, subclasses}
+use Rattle.usb_names.specs.Named.{Named, name_where}
+use Rattle.usb_names.specs.Rows.{application_rows, audio_rows, cdc_data_rows, class_rows, communications_rows, first_row, hid_rows, mass_storage_rows, other_rows, rows_behind, rows_of_class, smart_card_rows, standard_rows, video_rows}
+use Rattle.usb_names.specs.Shown.{Field, Row}
 use Rattle.usb_text.specs.Lines.{is_printable}
 use Rattle.usb_text.proofs.Printables.{Printable}
 use Rattle.usb_explain.proofs.plain.Texts.{MaybePlain, same}
@@ -18,45 +20,55 @@ either_all : {X : Type 0} (p : X → Bool) (b : Bool) (xs ys : List X) → list_
 either_all p true xs ys = refl
 either_all p false xs ys = refl
 
--- names of classes and subclasses
-abbrev pub has_plain_name : Named → Bool
-has_plain_name row = is_plain_name row.name
+-- what passes a test, if it is there
+abbrev Passes : {X : Type 0} → (X → Bool) → Option X → Type 0
+Passes p None = Unit {0}
+Passes p (Some x) = p x ≡ true
 
-name_chosen : (b : Bool) (name : List ℕ) (rest : Option (List ℕ)) → Printable name → MaybePlain rest → MaybePlain (if b then Some name else rest)
-name_chosen true name rest h k = h
-name_chosen false name rest h k = k
+chosen_passes : {X : Type 0} (p : X → Bool) (b : Bool) (x : X) (rest : Option X) → p x ≡ true → Passes p rest → Passes p (if b then Some x else rest)
+chosen_passes p true x rest h k = h
+chosen_passes p false x rest h k = k
 
-pub found_plain : (rows : List Named) (code : ℕ) → list_all has_plain_name rows ≡ true → MaybePlain (name_in rows code)
-found_plain [] code h = tt
-found_plain (row ∷ rows) code h =
-    let p = and_parts (has_plain_name row) (list_all has_plain_name rows) h in
-    name_chosen (row.code == code) row.name (name_in rows code) p.0 (found_plain rows code p.1)
+-- what is found among those that all pass a test passes it
+found_passes : {X : Type 0} (p test : X → Bool) (xs : List X) → list_all p xs ≡ true → Passes p (find test xs)
+found_passes p test [] h = tt
+found_passes p test (x ∷ xs) h =
+    let both = and_parts (p x) (list_all p xs) h in
+    chosen_passes p (test x) x (find test xs) both.0 (found_passes p test xs both.1)
 
-pub class_plain : (class : ℕ) → MaybePlain (name_in classes class)
-class_plain class = found_plain classes class refl
+-- names of codes
+abbrev pub has_plain_name : {Code : Type 0} → Named Code → Bool
+has_plain_name row = is_plain_name row.1
 
-all_subclasses : (class : ℕ) → list_all has_plain_name (subclasses class) ≡ true
-all_subclasses class = simp (either_all has_plain_name, same) refl
+name_of_row : {Code : Type 0} (row : Option (Named Code)) → Passes has_plain_name row → MaybePlain (option_map (λ (it : Named Code). it.1) row)
+name_of_row None h = tt
+name_of_row (Some row) h = h
 
-pub subclass_plain : (class subclass : ℕ) → MaybePlain (name_in (subclasses class) subclass)
-subclass_plain class subclass = found_plain (subclasses class) subclass (all_subclasses class)
+pub name_plain : {Code : Type 0} (test : Code → Bool) (rows : List (Named Code)) → list_all has_plain_name rows ≡ true → MaybePlain (name_where test rows)
+name_plain {Code} test rows h =
+    let has_code = λ (row : Named Code). test row.0 in
+    name_of_row (find has_code rows) (found_passes has_plain_name has_code rows h)
 
--- names of protocols
-abbrev has_plain_protocol : NamedProtocol → Bool
-has_plain_protocol row = is_plain_name row.name
+all_classes : list_all has_plain_name classes ≡ true
+unfolding classes
+all_classes = refl
 
-protocol_found : (rows : List NamedProtocol) (subclass protocol : ℕ) → list_all has_plain_protocol rows ≡ true → MaybePlain (protocol_in rows subclass protocol)
-protocol_found [] subclass protocol h = tt
-protocol_found (row ∷ rows) subclass protocol h =
-    let p = and_parts (has_plain_protocol row) (list_all has_plain_protocol rows) h in
-    name_chosen (row.subclass == subclass && (row.protocol == protocol)) row.name (protocol_in rows subclass protocol) p.0
-    (protocol_found rows subclass protocol p.1)
+pub class_plain : (class : ℕ) → MaybePlain (class_name class)
+class_plain class = name_plain _ classes all_classes
 
-all_protocols : (class : ℕ) → list_all has_plain_protocol (protocols class) ≡ true
-all_protocols class = simp (either_all has_plain_protocol, same) refl
+all_subclasses : list_all has_plain_name subclasses ≡ true
+unfolding subclasses
+all_subclasses = refl
 
-pub protocol_plain : (class subclass protocol : ℕ) → MaybePlain (protocol_in (protocols class) subclass protocol)
-protocol_plain class subclass protocol = protocol_found (protocols class) subclass protocol (all_protocols class)
+pub subclass_plain : (class subclass : ℕ) → MaybePlain (subclass_name class subclass)
+subclass_plain class subclass = name_plain _ subclasses all_subclasses
+
+all_protocols : list_all has_plain_name protocols ≡ true
+unfolding protocols
+all_protocols = refl
+
+pub protocol_plain : (class subclass protocol : ℕ) → MaybePlain (protocol_name class subclass protocol)
+protocol_plain class subclass protocol = name_plain _ protocols all_protocols
 
 -- rows of class descriptors: the name, and the names of the fields
 abbrev pub has_plain_field : Field → Bool
@@ -83,15 +95,9 @@ plain_row row h =
     let q = and_parts (list_all has_plain_field row.fields) (list_all has_plain_field row.group) p.1 in
     record { name = p.0; fields = q.0; group = q.1 }
 
-row_chosen : (b : Bool) (row : Row) (rest : Option Row) → IsPlainRow row → MaybePlainRow rest → MaybePlainRow (if b then Some row else rest)
-row_chosen true row rest h k = h
-row_chosen false row rest h k = k
-
-first_plain : (test : Row → Bool) (rows : List Row) → list_all is_plain_row rows ≡ true → MaybePlainRow (find test rows)
-first_plain test [] h = tt
-first_plain test (row ∷ rows) h =
-    let p = and_parts (is_plain_row row) (list_all is_plain_row rows) h in
-    row_chosen (test row) row (find test rows) (plain_row row p.0) (first_plain test rows p.1)
+found_row : (row : Option Row) → Passes is_plain_row row → MaybePlainRow row
+found_row None h = tt
+found_row (Some row) h = plain_row row h
 
 all_standard : list_all is_plain_row standard_rows ≡ true
 unfolding standard_rows
@@ -137,11 +143,13 @@ all_of_class : (class : ℕ) → list_all is_plain_row (class_rows class) ≡ tr
 all_of_class class =
     simp (either_all is_plain_row, same, all_audio, all_communications, all_hid, all_mass_storage, all_cdc_data, all_smart_card, all_video, all_application) refl
 
-all_behind : (interface : Option ClassCodes) → list_all is_plain_row (rows_of_class interface) ≡ true
-all_behind None = refl
-all_behind (Some codes) = all_of_class codes.class
+all_of_interface : (interface : Option ClassCodes) → list_all is_plain_row (rows_of_class interface) ≡ true
+all_of_interface None = refl
+all_of_interface (Some codes) = all_of_class codes.class
+
+all_behind : (interface : Option ClassCodes) → list_all is_plain_row (rows_behind interface) ≡ true
+all_behind interface = simp (list_all-append is_plain_row, all_standard, all_of_interface interface, all_other) refl
 
 pub row_plain : (interface : Option ClassCodes) (type : ℕ) (body : List ℕ) → MaybePlainRow (first_row (rows_behind interface) interface type body)
 row_plain interface type body =
-    first_plain (λ row. holds row interface type body) (rows_behind interface)
-    (simp (list_all-append is_plain_row, all_standard, all_behind interface, all_other) refl)
+    found_row (first_row (rows_behind interface) interface type body) (found_passes is_plain_row _ (rows_behind interface) (all_behind interface))

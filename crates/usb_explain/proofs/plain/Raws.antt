@@ -2,7 +2,7 @@
 use Rattle.std.proofs.Common.{ℕ, ◌<◌, List, ◌++◌, Option, Some, None, codes, drop, slice_index, refl}
 use Rattle.usb_fields.specs.Bytes.{AreBytes}
 use Rattle.usb_names.specs.declared.codes.ClassCodes.{ClassCodes}
-use Rattle.usb_names.specs.Rows.{Row}
+use Rattle.usb_names.specs.Shown.{Row}
 use Rattle.usb_text.specs.Numbers.{byte_code}
 use Rattle.usb_fields.proofs.ByteParts.{bytes_back}
 use Rattle.usb_explain.specs.declared.context.Context.{Context}

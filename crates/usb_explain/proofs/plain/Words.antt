@@ -7,7 +7,7 @@ use Rattle.usb_fields.specs.Setup.{direction_of}
 use Rattle.usb_set.specs.declared.endpoint.TransferType.{TransferType}
 use Rattle.usb_set.specs.declared.endpoint.TransferType.TheVariants.{Control, Isochronous, Bulk, Interrupt}
 use Rattle.usb_set.specs.Descriptors.{packet_size_of, transactions_of, transfer_type_of}
-use Rattle.usb_names.specs.Classes.{classes, name_in, protocol_in, protocols, subclasses}
+use Rattle.usb_names.specs.Classes.{class_name, protocol_name, subclass_name}
 use Rattle.usb_explain.specs.declared.speed.SetSpeed.{SetSpeed}
 use Rattle.usb_explain.specs.declared.speed.SetSpeed.TheVariants.{Low, Full, LowOrFull, High, FullOrHigh, Super}
 use Rattle.usb_text.specs.Numbers.{byte_code, count, meaning, release, word_code}
@@ -62,7 +62,7 @@ words_plain class lt a b c ha hb hc = simp (parts, class_or_code_plain class lt 
 pub class_words_plain : (class subclass protocol : ℕ) → class < 256 → Printable (class_words class subclass protocol)
 unfolding class_words
 class_words_plain class subclass protocol lt =
-    words_plain class lt (name_in classes class) (name_in (subclasses class) subclass) (protocol_in (protocols class) subclass protocol)
+    words_plain class lt (class_name class) (subclass_name class subclass) (protocol_name class subclass protocol)
     (class_plain class) (subclass_plain class subclass) (protocol_plain class subclass protocol)
 
 pub function_class_words_plain : (class subclass protocol : ℕ) → class < 256 → Printable (function_class_words class subclass protocol)
@@ -75,7 +75,7 @@ code_plain code lt name h = simp (parts, byte_code_plain code lt, named_plain na
 
 pub class_field_plain : (class : ℕ) → class < 256 → Printable (class_field class)
 unfolding class_field
-class_field_plain class lt = code_plain class lt (name_in classes class) (class_plain class)
+class_field_plain class lt = code_plain class lt (class_name class) (class_plain class)
 
 pub function_class_field_plain : (class : ℕ) → class < 256 → Printable (function_class_field class)
 unfolding function_class_field
@@ -83,12 +83,12 @@ function_class_field_plain class lt = simp (parts, byte_code_plain class lt, cla
 
 pub subclass_field_plain : (class subclass : ℕ) → subclass < 256 → Printable (subclass_field class subclass)
 unfolding subclass_field
-subclass_field_plain class subclass lt = code_plain subclass lt (name_in (subclasses class) subclass) (subclass_plain class subclass)
+subclass_field_plain class subclass lt = code_plain subclass lt (subclass_name class subclass) (subclass_plain class subclass)
 
 pub protocol_field_plain : (class subclass protocol : ℕ) → protocol < 256 → Printable (protocol_field class subclass protocol)
 unfolding protocol_field
 protocol_field_plain class subclass protocol lt =
-    code_plain protocol lt (protocol_in (protocols class) subclass protocol) (protocol_plain class subclass protocol)
+    code_plain protocol lt (protocol_name class subclass protocol) (protocol_plain class subclass protocol)
 
 -- ---- endpoints
 

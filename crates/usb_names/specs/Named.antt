@@ -1,0 +1,19 @@
+-- Tables of names.
+use Rattle.std.specs.Prelude.{ℕ, List, Option, option_map, Bool, find}
+use Rattle.std.specs.Borrow.{Bor}
+
+-- a row: a code, or several, and the name
+abbrev pub Named : Type 0 → Type 0
+Named Code = Code × List ℕ
+
+-- the name in the first row whose code passes the test
+abbrev pub name_where : {Code : Type 0} → (Code → Bool) → List (Named Code) → Option (List ℕ)
+name_where {Code} test rows = option_map (λ (row : Named Code). row.1) (find (λ (row : Named Code). test row.0) rows)
+
+-- a row of the code
+abbrev pub row_of : {Code : Type 0} → Code × Bor (List ℕ) → Named Code
+row_of row = (row.0, row.1.now)
+
+-- a row of a constant of the code
+abbrev pub of_constant : {Code : Type 0} → Code × record { now : List ℕ } → Named Code
+of_constant row = (row.0, row.1.now)
