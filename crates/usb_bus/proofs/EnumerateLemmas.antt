@@ -14,8 +14,7 @@ use Rattle.usb_bus.specs.Bus.{losses, busies}
 use Rattle.usb_bus.specs.Run.{fates_used}
 use Rattle.usb_bus.proofs.Runs.{losses-fates_used, busies-fates_used}
 use Rattle.usb_host.specs.declared.step.Trouble.{Trouble}
-use Rattle.usb_host.specs.declared.place.Place.{Place}
-use Rattle.usb_host.specs.declared.place.Place.TheVariants.{Reported, Stopped}
+use Rattle.usb_host.specs.Place.{Place, Reported, Stopped}
 use Rattle.usb_host.specs.Cost.{most, left_to_ask}
 use Rattle.usb_host.specs.Steps.{HostPhase, ResetDue, Reading, Ended, HostView, WantsReset, wanted, blames_bus, outcome_at, outcome_of, reset, Takes, TakesIn}
 use Rattle.usb_bus.specs.Enumerate.{HasReadAll, HasCause, Pair, Runs, Moves, measure}

@@ -13,8 +13,7 @@ use Rattle.usb_fields.specs.declared.packet.Speed.{Speed}
 use Rattle.usb_set.specs.declared.tree.Configuration.{Configuration}
 use Rattle.std.specs.Prelude.{Option}
 use Rattle.usb_host.specs.Limits.{LimitView}
-use Rattle.usb_host.specs.declared.place.Place.{Place}
-use Rattle.usb_host.specs.declared.place.Place.TheVariants.{First}
+use Rattle.usb_host.specs.Place.{Place, First}
 use Rattle.usb_host.specs.Order.{asks, next}
 use Rattle.usb_host.specs.Gathered.{reached}
 use Rattle.usb_bus.specs.inside.Script.{Exchange, replies_in}

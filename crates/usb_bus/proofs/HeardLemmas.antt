@@ -16,8 +16,8 @@ use Rattle.usb_device.specs.Step.{DeviceView, Served, replies, served}
 use Rattle.usb_bus.specs.declared.fate.Fate.{Fate}
 use Rattle.usb_bus.specs.declared.fate.Fate.TheVariants as fates
 use Rattle.usb_bus.specs.Bus.{carried}
-use Rattle.usb_host.specs.declared.place.Place.{Place}
-use Rattle.usb_host.specs.declared.place.Kept.{Kept}
+use Rattle.usb_host.specs.Place.{Place}
+use Rattle.usb_host.specs.Keeping.{Kept}
 use Rattle.usb_host.specs.Steps.{Grows, LacksMemory}
 use Rattle.usb_bus.specs.Enumerate.{brings}
 

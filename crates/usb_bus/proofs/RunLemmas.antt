@@ -24,9 +24,8 @@ use Rattle.usb_bus.specs.Attempt.{Phase, Running, Succeeded, Broken, Attempt, pr
 use Rattle.usb_bus.specs.Run.{fate_at, fates_used}
 use Rattle.usb_host.specs.declared.step.Step.{Step}
 use Rattle.usb_host.specs.declared.step.Trouble.{Trouble}
-use Rattle.usb_host.specs.declared.place.Place.{Place}
-use Rattle.usb_host.specs.declared.place.Place.TheVariants.{First, Reported, Stopped}
-use Rattle.usb_host.specs.declared.place.Kept.{Kept}
+use Rattle.usb_host.specs.Place.{Place, First, Reported, Stopped}
+use Rattle.usb_host.specs.Keeping.{Kept}
 use Rattle.usb_host.specs.Order.{stopped}
 use Rattle.usb_host.specs.Gathered.{reached}
 use Rattle.usb_host.specs.Steps.{HostPhase, ResetDue, Reading, Ended, HostView, WantsReset, WantsSent, wanted, sends, enter, settled, blames_bus, TakesHeard, TakesIn}

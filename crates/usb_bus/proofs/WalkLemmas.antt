@@ -18,8 +18,7 @@ use Rattle.usb_host.specs.declared.reply.Reply.TheVariants.{Bytes, Done}
 use Rattle.usb_host.specs.declared.why.Why.TheVariants.{Malformed}
 use Rattle.usb_host.specs.Plan.{Begin}
 use Rattle.usb_host.specs.Read.{get_descriptor, set_address, same_bytes, packet_fits, may_have_second}
-use Rattle.usb_host.specs.declared.place.Place.{Place}
-use Rattle.usb_host.specs.declared.place.Place.TheVariants.{First, Address, Device, Header, Set, Qualifier as SecondSpeed, Languages, Text, Configure, Reported}
+use Rattle.usb_host.specs.Place.{Place, First, Address, Device, Header, Set, Qualifier as SecondSpeed, Languages, Text, Configure, Reported}
 use Rattle.usb_host.proofs.ReadLemmas.{same_self, device_read}
 use Rattle.usb_file_data.specs.Front.{with_set, with_strings}
 use Rattle.usb_bus.specs.inside.Following.{WalksScript}

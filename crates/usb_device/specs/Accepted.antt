@@ -1,6 +1,7 @@
 -- Which descriptors a device can be made of, at which speed.
 use Rattle.std.specs.Prelude.{◌≡◌, ℕ, ◌==◌, ◌||◌, ◌&&◌, nat_lt, Bool, false, not, List, [], ◌∷◌, length, Option, Some, None, is_some, if◌then◌else◌, codes}
 use Rattle.std.specs.List.{list_any}
+use Rattle.usb_fields.specs.Numbers.{number_in}
 use Rattle.usb_fields.specs.declared.packet.Speed.{Speed}
 use Rattle.usb_fields.specs.declared.packet.Speed.TheVariants.{Low, Full, High}
 use Rattle.usb_file_data.specs.declared.file.DescriptorFile.{DescriptorFile}
@@ -9,8 +10,10 @@ use Rattle.usb_file_data.specs.File.{has_wrong_count, has_wrong_kind, has_wrong_
 use Rattle.usb_file_data.specs.declared.finding.Finding.{Finding}
 use Rattle.usb_file_data.specs.Findings.{findings}
 use Rattle.usb_device.specs.declared.acceptance.DescriptionFault.{DescriptionFault}
+use Rattle.usb_device.specs.contracts.acceptance.DescriptionFault.{the_type as description_faults}
 use Rattle.usb_device.specs.declared.acceptance.DescriptionFault.TheVariants as faults
 use Rattle.usb_device.specs.declared.beside.Unanswered.{Unanswered}
+use Rattle.usb_device.specs.contracts.beside.Unanswered.{the_type as unanswereds}
 use Rattle.usb_device.specs.declared.beside.Unanswered.TheVariants.{Nothing, Closed, Shape, Room}
 
 -- whether the number is in the list
@@ -78,20 +81,13 @@ Refuses f s fault = refusal_of f s ≡ Some fault
 
 -- the number of a refusal
 abbrev pub fault_number : DescriptionFault → ℕ
-fault_number (faults.Finding first) = 1
-fault_number faults.Texts = 2
-fault_number faults.Speed = 3
-fault_number faults.Memory = 4
-fault_number faults.Unwritable = 5
+fault_number fault = number_in description_faults fault
 
 -- The number of a fault, and its message.
 
 -- the number of the reason why an answer is not taken
 abbrev pub unanswered_number : Unanswered → ℕ
-unanswered_number Nothing = 1
-unanswered_number Closed = 2
-unanswered_number Shape = 3
-unanswered_number Room = 4
+unanswered_number why = number_in unanswereds why
 
 -- its message, for people
 abbrev pub unanswered_message : Unanswered → List ℕ

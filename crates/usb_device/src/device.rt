@@ -196,19 +196,4 @@ impl<'d> Device<'d> {
     {
         self.endpoint_zero.acknowledged()
     }
-
-    /// Another device of the same description, which is where this one is.
-    ///
-    /// ```rust
-    /// let mut twin = device.twin();
-    /// let answer = twin.serve(&transaction, true);
-    /// ```
-    pub fn twin(&self) -> Device<'d>
-        ensures { result ≡ self.now }
-    {
-        Device {
-            description: self.description,
-            endpoint_zero: self.endpoint_zero,
-        }
-    }
 }

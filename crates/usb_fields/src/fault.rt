@@ -25,10 +25,7 @@ impl FieldFault {
     pub fn number(self) -> u8
         ensures { result ≡ field_fault_number self }
     {
-        match self {
-            FieldFault::Length => 1,
-            FieldFault::Kind => 2,
-        }
+        self as u8 + 1
     }
 }
 
@@ -74,13 +71,7 @@ impl UnitFault {
     pub fn number(self) -> u8
         ensures { result ≡ unit_fault_number self }
     {
-        match self {
-            UnitFault::Length => 1,
-            UnitFault::Kind => 2,
-            UnitFault::Odd => 3,
-            UnitFault::TooLong => 4,
-            UnitFault::Memory => 5,
-        }
+        self as u8 + 1
     }
 }
 

@@ -37,10 +37,6 @@ below_more : (m : ℕ) (xs ys : List ℕ) → Below m xs → Below m ys → Belo
 below_more m [] ys hx hy = hy
 below_more m (x ∷ xs) ys hx hy = (hx.0, below_more m xs ys hx.1 hy)
 
-below_wide : (m k : ℕ) (xs : List ℕ) → m ≤ k → Below m xs → Below k xs
-below_wide m k [] le h = tt
-below_wide m k (x ∷ xs) le h = (let lt = h.0 in omega (arith, lt, le), below_wide m k xs le h.1)
-
 digits_below : (n : ℕ) → n < 2 ^ 64 → Below 256 (decimal n)
 digits_below n lt = decimal_by_steps (λ k ds. Below 256 ds) (λ k small. (omega (arith, small), tt)) (λ k ds big h. below_more 256 ds ((48 + k % 10) ∷ []) h (omega arith, tt)) n lt
 

@@ -1,5 +1,6 @@
 -- What is wrong with the bytes of a file, and where.
 use Rattle.std.specs.Prelude.{◌≡◌, ℕ, ◌+◌, ◌*◌, ◌%◌, ◌<◌, List, [], ◌∷◌, length, take, slice_index, Bool, true, false, not, nat_lt, ◌==◌, ◌||◌, Option, Some, None, is_some, if◌then◌else◌, ◌⊎◌, ◌-◌, get_or, map}
+use Rattle.usb_fields.specs.Numbers.{number_in}
 use Rattle.usb_fields.specs.Device.{device_fault, qualifier_fault}
 use Rattle.usb_set.specs.declared.tree.SetKind.{SetKind}
 use Rattle.usb_set.specs.declared.tree.SetKind.TheVariants as kinds
@@ -9,6 +10,7 @@ use Rattle.usb_file_data.specs.declared.file.DescriptorFile.{DescriptorFile}
 use Rattle.usb_file_data.specs.declared.file.Other.{Other}
 use Rattle.usb_file_data.specs.declared.file.Strings.{Strings}
 use Rattle.usb_file_data.specs.declared.fault.FileWhy.{FileWhy}
+use Rattle.usb_file_data.specs.contracts.fault.FileWhy.{the_type as file_whys}
 use Rattle.usb_file_data.specs.declared.fault.FileWhy.TheVariants as files
 use Rattle.usb_file_data.specs.File.{named_indices, file_bytes, has_wrong_count, are_wrong_strings, is_other_kind, File}
 use Rattle.usb_file_data.specs.Front.{AllSets, IsPartStart, Splits}
@@ -143,14 +145,7 @@ pub data FileOrFault (b : List ℕ) : Type 0 where
 
 -- the number of what is wrong with the bytes of a file
 abbrev pub why_number : FileWhy → ℕ
-why_number files.Device = 1
-why_number (files.Set why) = 2
-why_number files.SetKind = 3
-why_number files.Qualifier = 4
-why_number files.Text = 5
-why_number files.Truncated = 6
-why_number files.Trailing = 7
-why_number files.Memory = 8
+why_number why = number_in file_whys why
 
 -- the message, for people: of a fault in a set what comes before the message of that
 abbrev pub why_message : FileWhy → List ℕ

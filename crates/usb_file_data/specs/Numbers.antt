@@ -1,18 +1,15 @@
 -- The numbers of rules, and of the reasons why a file has no bytes.
 use Rattle.std.specs.Prelude.{ℕ, List, [], ◌∷◌, Option, ◌==◌}
 use Rattle.std.specs.List.{find}
+use Rattle.usb_fields.specs.Numbers.{number_in}
 use Rattle.usb_file_data.specs.declared.refusal.WriteFault.{WriteFault}
-use Rattle.usb_file_data.specs.declared.refusal.WriteFault.TheVariants as writes
+use Rattle.usb_file_data.specs.contracts.refusal.WriteFault.{the_type as write_faults}
 use Rattle.usb_file_data.specs.declared.rule.Rule.{Rule}
 use Rattle.usb_file_data.specs.declared.rule.Rule.TheVariants as rules
 
 -- the number of the reason why a file has no bytes
 abbrev pub write_number : WriteFault → ℕ
-write_number writes.Count = 1
-write_number writes.Kind = 2
-write_number writes.Layout = 3
-write_number writes.Texts = 4
-write_number writes.Memory = 5
+write_number fault = number_in write_faults fault
 
 -- the number of a rule
 abbrev pub rule_number : Rule → ℕ

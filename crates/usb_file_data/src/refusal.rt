@@ -42,13 +42,7 @@ impl WriteFault {
     pub fn number(self) -> u8
         ensures { result ≡ write_number self }
     {
-        match self {
-            WriteFault::Count => 1,
-            WriteFault::Kind => 2,
-            WriteFault::Layout => 3,
-            WriteFault::Texts => 4,
-            WriteFault::Memory => 5,
-        }
+        self as u8 + 1
     }
 }
 

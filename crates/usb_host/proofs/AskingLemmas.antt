@@ -15,9 +15,8 @@ use Rattle.usb_host.specs.Limits.{LimitView}
 use Rattle.usb_host.specs.Transfer.{TransferView, Goes, Taken, addressed, begun, delayed, due, failed, kept_packet, progress, struck, taken, taken_at, taken_data, taken_status, token_due}
 use Rattle.usb_host.specs.inside.Transfers.{IsTransfer}
 use Rattle.usb_host.proofs.BoundLemmas.{left-taken}
-use Rattle.usb_host.specs.declared.place.Place.{Place}
-use Rattle.usb_host.specs.declared.place.Place.TheVariants.{First, Address, Device, Header, Set, Qualifier, Languages, Text, Configure, Reported, Stopped}
-use Rattle.usb_host.specs.declared.place.Kept.{Kept}
+use Rattle.usb_host.specs.Place.{Place, First, Address, Device, Header, Set, Qualifier, Languages, Text, Configure, Reported, Stopped}
+use Rattle.usb_host.specs.Keeping.{Kept}
 use Rattle.usb_host.specs.Order.{refused_leads}
 use Rattle.usb_host.specs.Steps.{HostPhase, ResetDue, Reading, Ended, HostView, WantsReset, WantsSent, WantsNothing, blames_bus, completed_leads, enter, goes_on, new_host, outcome_at, outcome_of, reset, reset_in, sends, settled, wanted, Takes, TakesHeard, TakesIn}
 use Rattle.usb_host.specs.Cost.{most, left_to_ask, BringsBytes}

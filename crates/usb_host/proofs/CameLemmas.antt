@@ -23,12 +23,10 @@ use Rattle.usb_host.specs.declared.transfer.TransferStage.TheVariants.{Setup, Da
 use Rattle.usb_host.specs.Limits.{LimitView}
 use Rattle.usb_host.specs.Transfer.{TransferView, Hearing, Goes, Brings, Completes, Fails, taken, token_due, addressed}
 use Rattle.usb_host.specs.declared.step.Trouble.{Trouble}
-use Rattle.usb_host.specs.declared.place.Place.{Place}
-use Rattle.usb_host.specs.declared.place.Place.TheVariants.{First, Address, Device, Header, Set, Qualifier, Languages, Text, Configure, Reported, Stopped}
-use Rattle.usb_host.specs.declared.place.Kept.{Kept}
-use Rattle.usb_host.specs.declared.place.Kept.TheVariants as kept
+use Rattle.usb_host.specs.Place.{Place, First, Address, Device, Header, Set, Qualifier, Languages, Text, Configure, Reported, Stopped}
+use Rattle.usb_host.specs.Keeping as kept
 use Rattle.usb_host.specs.Order.{done_leads, refused_leads}
-use Rattle.usb_host.specs.Keeping.{is_over, set_kept}
+use Rattle.usb_host.specs.Keeping.{Kept, is_over, set_kept}
 use Rattle.usb_host.specs.Gathered.{Came, no_bytes, came_by, came_in, part_of}
 use Rattle.usb_host.specs.Steps.{HostPhase, ResetDue, Reading, Ended, HostView, WantsSent, blames_bus, completed_leads, enter, goes_on, new_host, outcome_of, read_leads, sends, settled, wanted, KeepsHeard, TakesHeard, TakesIn}
 use Rattle.usb_host.specs.Cost.{BringsBytes}

@@ -21,8 +21,7 @@ use Rattle.usb_file_data.specs.File.{named_among, named_indices, string_indices}
 use Rattle.usb_file_data.specs.Front.{with_set, with_qualifier}
 use Rattle.usb_host.specs.declared.why.Why.TheVariants.{Malformed}
 use Rattle.usb_host.specs.Plan.{Plan, Begin, Success, GivesUp}
-use Rattle.usb_host.specs.declared.place.Place.{Place}
-use Rattle.usb_host.specs.declared.place.Place.TheVariants.{First, Address, Device, Header, Set, Qualifier as SecondSpeed, Languages, Text, Configure, Reported, Stopped}
+use Rattle.usb_host.specs.Place.{Place, First, Address, Device, Header, Set, Qualifier as SecondSpeed, Languages, Text, Configure, Reported, Stopped}
 use Rattle.usb_host.specs.Read.{packet_fits, same_bytes, is_first, may_have_second, total_said, total_in, device_of, qualifier_of, units_of}
 use Rattle.usb_host.specs.Order.{is_first_zero, sets_of, declared_sets, other_declared, asks, stopped, texts_due, strings_due, after_sets, sets_due, device_leads, header_leads, set_leads, qualifier_leads, languages_lead, text_leads, bytes_lead, done_leads, refused_leads}
 use Rattle.usb_host.specs.Cost.{strings_cost, cost_after, cost, price}

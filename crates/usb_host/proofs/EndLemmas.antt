@@ -1,6 +1,6 @@
 -- A reset adds nothing to what may be asked for.
 use Rattle.std.proofs.Common.{◌≡◌, suc, ◌+◌, ◌<◌, ◌≤◌, sym, subst, arith}
-use Rattle.usb_host.specs.declared.place.Place.TheVariants.{First}
+use Rattle.usb_host.specs.Place.{First}
 use Rattle.usb_host.specs.Cost.{left_to_ask}
 use Rattle.usb_host.specs.Steps.{HostPhase, ResetDue, HostView, enter}
 use Rattle.usb_host.specs.inside.Reads.{IsHost, IsPhase}

@@ -9,8 +9,7 @@ use Rattle.usb_file_data.specs.declared.file.Strings.{Strings}
 use Rattle.usb_file_data.specs.File.{named_indices}
 use Rattle.usb_host.specs.declared.why.Why.TheVariants.{Malformed}
 use Rattle.usb_host.specs.Limits.{LimitView}
-use Rattle.usb_host.specs.declared.place.Place.{Place}
-use Rattle.usb_host.specs.declared.place.Place.TheVariants.{First, Address, Device, Header, Set, Qualifier, Languages, Text, Configure, Reported, Stopped}
+use Rattle.usb_host.specs.Place.{Place, First, Address, Device, Header, Set, Qualifier, Languages, Text, Configure, Reported, Stopped}
 use Rattle.usb_host.specs.Read.{may_have_second, same_bytes, units_of}
 use Rattle.usb_host.specs.Order.{after_sets, declared_sets, languages_lead, sets_due, sets_of, stopped, strings_due, text_leads, texts_due}
 use Rattle.usb_host.specs.Steps.{Ended, enter}

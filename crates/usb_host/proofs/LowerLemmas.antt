@@ -16,12 +16,10 @@ use Rattle.usb_host.specs.declared.transfer.TransferStage.TheVariants.{Setup, Da
 use Rattle.usb_host.specs.Limits.{LimitView}
 use Rattle.usb_host.specs.Transfer.{TransferView, Hearing, Goes, Brings, Completes, Fails, Taken, taken, taken_at, begun, left}
 use Rattle.usb_host.specs.Plan.{Plan, Begin, Success, GivesUp}
-use Rattle.usb_host.specs.declared.place.Place.{Place}
-use Rattle.usb_host.specs.declared.place.Place.TheVariants.{First, Set, Stopped}
-use Rattle.usb_host.specs.declared.place.Kept.{Kept}
-use Rattle.usb_host.specs.declared.place.Kept.TheVariants as kept
+use Rattle.usb_host.specs.Place.{Place, First, Set, Stopped}
+use Rattle.usb_host.specs.Keeping as kept
 use Rattle.usb_host.specs.Order.{asks, done_leads, refused_leads}
-use Rattle.usb_host.specs.Keeping.{nothing_kept, set_kept}
+use Rattle.usb_host.specs.Keeping.{Kept, nothing_kept, set_kept}
 use Rattle.usb_host.specs.Steps.{HostPhase, ResetDue, Reading, Ended, HostView, entered, enter, reset_in, reset, blames_bus, settled, read_leads, completed_leads, goes_on, KeepsHeard, TakesHeard, TakesIn, Takes}
 use Rattle.usb_host.specs.Cost.{cost, price, most_in_attempt, left_in_attempt, left_to_ask, BringsBytes}
 use Rattle.usb_host.specs.inside.Sound.{IsGood, FitsPlace, KeepsBytes, IsSteady, AsksLess}

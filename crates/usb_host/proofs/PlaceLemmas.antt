@@ -11,8 +11,7 @@ use Rattle.usb_host.specs.declared.draft.Draft.{Draft}
 use Rattle.usb_host.specs.declared.due.Due.{Due}
 use Rattle.usb_host.specs.declared.due.Due.TheVariants as dues
 use Rattle.usb_host.specs.declared.held.Held.{Held}
-use Rattle.usb_host.specs.declared.place.Place.{Place}
-use Rattle.usb_host.specs.declared.place.Place.TheVariants.{Stopped}
+use Rattle.usb_host.specs.Place.{Place, Stopped}
 use Rattle.usb_host.specs.declared.step.Step.{Step}
 use Rattle.usb_host.specs.Order.{step_of, stopped}
 use Rattle.usb_host.specs.inside.Places.{Adds, Leads, LeadsTo, Settles, kept_of, place_of}

@@ -6,8 +6,7 @@ use Rattle.usb_set.specs.declared.tree.SetKind.{SetKind}
 use Rattle.usb_set.specs.declared.tree.SetKind.TheVariants as kinds
 use Rattle.usb_host.specs.Transfer.{left}
 use Rattle.usb_host.specs.Limits.{LimitView}
-use Rattle.usb_host.specs.declared.place.Place.{Place}
-use Rattle.usb_host.specs.declared.place.Place.TheVariants.{First, Address, Device, Header, Set, Qualifier, Languages, Text, Configure, Reported, Stopped}
+use Rattle.usb_host.specs.Place.{Place, First, Address, Device, Header, Set, Qualifier, Languages, Text, Configure, Reported, Stopped}
 use Rattle.usb_host.specs.Order.{sets_of, declared_sets}
 use Rattle.usb_host.specs.Steps.{HostPhase, ResetDue, Reading, Ended, HostView}
 

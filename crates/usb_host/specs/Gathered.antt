@@ -6,8 +6,7 @@ use Rattle.usb_set.specs.declared.tree.Configuration.{Configuration}
 use Rattle.usb_host.specs.declared.reply.Reply.{Reply}
 use Rattle.usb_host.specs.declared.reply.Reply.TheVariants as replied
 use Rattle.usb_host.specs.Transfer.{Hearing, Goes, Brings, Completes, Fails, taken}
-use Rattle.usb_host.specs.declared.place.Place.{Place}
-use Rattle.usb_host.specs.declared.place.Place.TheVariants.{Device, Set, Qualifier, Languages, Text}
+use Rattle.usb_host.specs.Place.{Place, Device, Set, Qualifier, Languages, Text}
 use Rattle.usb_host.specs.Order.{next}
 use Rattle.usb_host.specs.Steps.{HostPhase, Reading}
 

@@ -6,10 +6,13 @@ use Rattle.usb_set.specs.declared.fault.SetWhy.TheVariants.{Memory}
 use Rattle.usb_set.specs.declared.decoder.Progress.{Progress}
 use Rattle.usb_set.specs.declared.decoder.Progress.TheVariants.{More, Done}
 use Rattle.usb_set.specs.Decoding.{Decoding, gathers, has, refused, Answers}
-use Rattle.usb_host.specs.declared.place.Place.{Place}
-use Rattle.usb_host.specs.declared.place.Place.TheVariants as places
-use Rattle.usb_host.specs.declared.place.Kept.{Kept}
-use Rattle.usb_host.specs.declared.place.Kept.TheVariants.{Bytes, Set}
+use Rattle.usb_host.specs.Place.{Place}
+use Rattle.usb_host.specs.Place as places
+
+-- what is kept of the read in work: the bytes, or of a set its decoder and whether bytes came after the set's last
+pub data Kept : Type 0 where
+  Bytes : (bytes : List ℕ) → Kept
+  Set : (decoder : Decoding) (over : Bool) → Kept
 
 -- what a read begins with: a set has a decoder, and any other read an empty list
 abbrev pub nothing_kept : Place → Kept

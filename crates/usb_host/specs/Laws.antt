@@ -9,7 +9,7 @@ use Rattle.usb_file_data.specs.declared.file.DescriptorFile.{DescriptorFile}
 use Rattle.usb_file_data.specs.File.{File}
 use Rattle.usb_host.specs.declared.reply.Reply.{Reply}
 use Rattle.usb_host.specs.Limits.{LimitView}
-use Rattle.usb_host.specs.declared.place.Place.TheVariants.{First, Reported}
+use Rattle.usb_host.specs.Place.{First, Reported}
 use Rattle.usb_host.specs.Steps.{HostView, WantsReset, WantsSent, WantsNothing, new_host, wanted, outcome_of, reset, Takes}
 use Rattle.usb_host.specs.Gathered.{Came, no_bytes, came_in, reached, parts_of}
 use Rattle.usb_host.specs.Cost.{most, BringsBytes}

@@ -1,4 +1,5 @@
 pub mod Read
+pub mod Place
 pub mod Order
 pub mod Keeping
 pub mod Steps

@@ -1,6 +1,8 @@
 -- The limits of a host.
 use Rattle.std.specs.Prelude.{ℕ, List, codes, ◌≤◌, ◌==◌, ◌||◌, nat_lt, Option, Some, None, if◌then◌else◌}
+use Rattle.usb_fields.specs.Numbers.{number_in}
 use Rattle.usb_host.specs.declared.limits.LimitFault.{LimitFault}
+use Rattle.usb_host.specs.contracts.limits.LimitFault.{the_type as limit_faults}
 use Rattle.usb_host.specs.declared.limits.LimitFault.TheVariants.{Address, Attempts}
 
 -- what callers see of limits
@@ -28,8 +30,7 @@ limit_fault address attempts =
 
 -- the number of a fault
 abbrev pub limit_fault_number : LimitFault → ℕ
-limit_fault_number Address = 1
-limit_fault_number Attempts = 2
+limit_fault_number fault = number_in limit_faults fault
 
 -- the message of a fault, for people
 abbrev pub limit_fault_message : LimitFault → List ℕ

@@ -19,8 +19,7 @@ use Rattle.usb_host.specs.declared.reply.Reply.TheVariants.{Bytes, Done, Refused
 use Rattle.usb_host.specs.Plan.{Plan, Begin, Success, GivesUp}
 use Rattle.usb_host.specs.declared.step.Step.{Step}
 use Rattle.usb_host.specs.declared.step.Step.TheVariants as steps
-use Rattle.usb_host.specs.declared.place.Place.{Place}
-use Rattle.usb_host.specs.declared.place.Place.TheVariants.{First, Address, Device, Header, Set, Qualifier as SecondSpeed, Languages, Text, Configure, Reported, Stopped}
+use Rattle.usb_host.specs.Place.{Place, First, Address, Device, Header, Set, Qualifier as SecondSpeed, Languages, Text, Configure, Reported, Stopped}
 use Rattle.usb_host.specs.Read.{get_descriptor, set_address, set_configuration, same_bytes, device_of, qualifier_of, units_of, is_first, may_have_second, total_in}
 
 -- bNumConfigurations of the other speed, if there is one (9.6.2)

@@ -17,12 +17,10 @@ use Rattle.usb_host.specs.declared.step.Action.{Action}
 use Rattle.usb_host.specs.declared.step.Action.TheVariants as actions
 use Rattle.usb_host.specs.declared.step.Step.{Step}
 use Rattle.usb_host.specs.declared.step.Trouble.{Trouble}
-use Rattle.usb_host.specs.declared.place.Place.{Place}
-use Rattle.usb_host.specs.declared.place.Place.TheVariants.{First, Set, Qualifier, Languages, Text, Reported, Stopped}
-use Rattle.usb_host.specs.declared.place.Kept.{Kept}
-use Rattle.usb_host.specs.declared.place.Kept.TheVariants as kept
+use Rattle.usb_host.specs.Place.{Place, First, Set, Qualifier, Languages, Text, Reported, Stopped}
+use Rattle.usb_host.specs.Keeping as kept
 use Rattle.usb_host.specs.Order.{asks, step_of, stopped, bytes_lead, set_leads, done_leads, refused_leads}
-use Rattle.usb_host.specs.Keeping.{nothing_kept, WantsMemory, Keeps, set_kept}
+use Rattle.usb_host.specs.Keeping.{Kept, nothing_kept, WantsMemory, Keeps, set_kept}
 
 -- a bus reset is due; or a read is in work, with its transfer and what is kept of its bytes; or there is an outcome
 pub data HostPhase : Type 0 where

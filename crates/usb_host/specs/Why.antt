@@ -1,8 +1,10 @@
 -- Why a transfer or an enumeration ended without success, and the words for its steps.
 use Rattle.std.specs.Prelude.{ℕ, List, codes, ◌/◌, ◌%◌, [], ◌∷◌, ◌++◌, false}
 use Rattle.usb_host.specs.declared.why.Why.{Why}
+use Rattle.usb_host.specs.contracts.why.Why.{the_type as whys}
 use Rattle.usb_host.specs.declared.why.Why.TheVariants.{NoAnswer, Busy, Stalled, TooLong, Unexpected, Malformed, Memory}
 use Rattle.std.specs.Fmt.{decimal, digit_glyph}
+use Rattle.usb_fields.specs.Numbers.{number_in}
 use Rattle.usb_host.specs.declared.step.Step.{Step}
 use Rattle.usb_host.specs.declared.step.Step.TheVariants as steps
 use Rattle.usb_host.specs.declared.step.Trouble.{Trouble}
@@ -11,13 +13,7 @@ use Rattle.usb_host.specs.declared.step.Trouble.{Trouble}
 
 -- the number of a reason
 abbrev pub why_number : Why → ℕ
-why_number NoAnswer = 1
-why_number Busy = 2
-why_number Stalled = 3
-why_number TooLong = 4
-why_number Unexpected = 5
-why_number Malformed = 6
-why_number Memory = 7
+why_number why = number_in whys why
 
 -- the message of a reason, for people
 abbrev pub why_message : Why → List ℕ

@@ -2,9 +2,8 @@
 ghost use Rattle.std.specs.Prelude.{◌≡◌, ◌<◌, false};
 ghost use Rattle.usb_fields.specs.Packets.{reply_of};
 ghost use Rattle.usb_host.specs.Transfer.{left, taken};
-ghost use Rattle.usb_host.specs.Keeping.{nothing_kept};
-ghost use Rattle.usb_host.specs.declared.place.Kept.{Kept};
-ghost use Rattle.usb_host.specs.declared.place.Place.TheVariants.{First};
+ghost use Rattle.usb_host.specs.Keeping.{nothing_kept, Kept};
+ghost use Rattle.usb_host.specs.Place.{First};
 ghost use Rattle.usb_host.specs.Cost.{BringsBytes};
 ghost use Rattle.usb_host.specs.inside.Sound.{FitsPlace, IsGood, KeepsBytes};
 ghost use Rattle.usb_host.specs.Steps.{TakesHeard, enter};

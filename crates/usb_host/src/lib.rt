@@ -23,7 +23,6 @@ mod host;
 pub mod laws;
 mod limits;
 mod next_place;
-mod place;
 mod read;
 mod reply;
 mod request;

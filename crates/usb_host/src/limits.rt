@@ -113,10 +113,7 @@ impl LimitFault {
     pub fn number(self) -> u8
         ensures { result ≡ limit_fault_number self }
     {
-        match self {
-            LimitFault::Address => 1,
-            LimitFault::Attempts => 2,
-        }
+        self as u8 + 1
     }
 }
 

@@ -7,7 +7,7 @@ ghost use Rattle.usb_host.specs.Steps.{completed_leads, read_leads};
 ghost use Rattle.usb_host.specs.declared.why.Why.TheVariants.{Stalled};
 ghost use Rattle.usb_host.specs.Transfer.{Completes, Fails};
 ghost use Rattle.usb_host.specs.declared.draft.Draft.{Draft as DraftView};
-ghost use Rattle.usb_host.specs.declared.place.Place.TheVariants.{First, Device, Header, Set, Qualifier as SecondSpeed, Languages, Text};
+ghost use Rattle.usb_host.specs.Place.{First, Device, Header, Set, Qualifier as SecondSpeed, Languages, Text};
 
 use crate::draft::{
     Draft, add_set, count_declared, count_sets, is_first_zero, new_file, no_strings,

@@ -70,9 +70,6 @@ pairs-next : (high low : ℕ) (rest : List ℕ) → pairs_of (high ∷ low ∷ r
 unfolding pairs_of
 pairs-next high low rest = refl
 
-before-none : (o : Option (List ℕ)) → before None o ≡ None
-before-none o = refl
-
 -- one byte more is decoded
 decode_step : (digits bytes : List ℕ) (i b : ℕ) → 2 * i + 1 < length digits → i < length bytes
     → pair_value (slice_index digits (2 * i)) (slice_index digits (2 * i + 1)) ≡ Some b

@@ -4,13 +4,12 @@ use Rattle.std.specs.List.{list_all}
 use Rattle.std.proofs.lemmas.List.{length-drop, take_all}
 use Rattle.memchr.specs.Find.{IsFirstByte, is_byte}
 use Rattle.usb_file_data.specs.declared.file.DescriptorFile.{DescriptorFile}
-use Rattle.usb_listing.specs.declared.draft.Draft.{Draft}
 use Rattle.usb_listing.specs.declared.fault.ListWhy.{ListWhy}
 use Rattle.usb_listing.specs.declared.fault.ListWhy.TheVariants as whys
 use Rattle.usb_text.specs.Lines.{is_printable}
 use Rattle.usb_listing.specs.Listings.{IsBegun, LineFaulty, NoLineGoesOn}
 use Rattle.usb_listing.specs.declared.assembly.Form.{Form}
-use Rattle.usb_listing.specs.inside.Drafts.{Drafted, IsJudged, Stops, Takes, TakesLine, Told, so_far}
+use Rattle.usb_listing.specs.inside.Drafts.{IsJudged, Stops, Told}
 use Rattle.usb_listing.specs.inside.Walking.{line_read, text_read, Cut, HasNo, add_line}
 use Rattle.usb_listing.proofs.FormLemmas.{read_cut, read_none}
 use Rattle.usb_listing.proofs.ReadingLemmas.{told_line}
@@ -78,21 +77,6 @@ bad_line text line more cut bad = at (ends line cut.none)
             some (y ∷ xs) x ys e = cc
 
 -- ---- a line that was found
-
-pub takes_line : (form : Form) (old new : Option Draft) (text line more read : List ℕ) → Cut 10 text line more → line_read form line ≡ Some read
-    → Drafted (add_line (so_far old) read) new → TakesLine form old text new more
-takes_line form old new text line more read cut is drafted = record {
-  line = line;
-  cut = cut;
-  takes = subst (λ (o : Option (List ℕ)). Takes o old new) (sym is) drafted;
-}
-
-pub drops_line : (form : Form) (old : Option Draft) (text line more : List ℕ) → Cut 10 text line more → line_read form line ≡ None → TakesLine form old text old more
-drops_line form old text line more cut is = record {
-  line = line;
-  cut = cut;
-  takes = subst (λ (o : Option (List ℕ)). Takes o old old) (sym is) refl;
-}
 
 -- the first reason that holds of a line that was refused
 first_told : (s : Option DescriptorFile) (text line more : List ℕ) (why : ListWhy) → IsBegun s → Cut 10 text line more → Stops (add_line s line) why → IsJudged s line why

@@ -1,5 +1,5 @@
 -- A listing read line by line.
-use Rattle.std.proofs.Common.{◌≡◌, ◌≢◌, inl, inr, ℕ, suc, ◌+◌, ◌<◌, ◌≤◌, true, false, List, [], ◌∷◌, ◌++◌, Option, Some, None, Result, Ok, Err, length, refl, ap, sym, subst, ◌∙◌, append_assoc, append-nil, length-append, zero-add, arith, codes}
+use Rattle.std.proofs.Common.{◌≡◌, ◌≢◌, inl, inr, ℕ, suc, ◌+◌, ◌<◌, ◌≤◌, true, false, List, [], ◌∷◌, ◌++◌, Option, Some, None, Result, Ok, Err, length, refl, ap, sym, subst, ◌∙◌, append_assoc, append-nil, length-append, arith, codes}
 use Rattle.std.specs.List.{flat_map}
 use Rattle.std.specs.Prelude.{IfErr, IfOk}
 use Rattle.std.specs.Result.{IsErrAnd}
@@ -33,14 +33,6 @@ lines_of-are (Some f) h = lines_are f h
 pub begun_of : (d : Option Draft) → AreHeld d → IsBegun (so_far d)
 begun_of None h = tt
 begun_of (Some d) h = h.begun
-
-pub reading_none : (form : Form) (text : List ℕ) (d : Option Draft) → d ≡ None → Reading form text d text 1
-reading_none form text d e = subst (λ (x : Option Draft). Reading form text x text 1) (sym e) (record {
-  parts = refl;
-  lines = λ k. let none : count_before form text (0 + k) ≡ count_before form text k = ap (count_before form text) (zero-add k) in omega (arith, none);
-  holds = tt;
-  few = omega arith;
-})
 
 -- the line fits behind those before it
 pub lines_more : (s : Option DescriptorFile) (f : DescriptorFile) (item : Item) (line : List ℕ) → AreOrdered s → IsOrdered f → file_items f ≡ items_of s ++ item ∷ [] → Says line item

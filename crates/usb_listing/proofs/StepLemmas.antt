@@ -31,17 +31,9 @@ drafted s item new i =
       holds = i.holds;
     }
 
-pub drafted_if : (r : Result (Unit {0}) ListWhy) (s : Option DescriptorFile) (item : Item) (new : Draft) → OnOk r (IsDraft (grown s item) new) → OnOk r (Drafted (add s item) (Some new))
-drafted_if (Err e) s item new h = tt
-drafted_if (Ok u) s item new h = drafted s item new h
-
 stopped : (s : Option DescriptorFile) (item : Item) (why : ListWhy) → Refuses (grown s item) why → Stops (add s item) why
 stopped s item why (inl memory) = inl memory
 stopped s item why (inr (is, over)) = inr (ap (λ (b : Bool). cond b (Err whys.TooLong) (Ok (grown s item))) over ∙ ap Err (sym is))
-
-pub stopped_if : (r : Result (Unit {0}) ListWhy) (s : Option DescriptorFile) (item : Item) → IfErr r (λ why. Refuses (grown s item) why) → IfErr r (λ why. Stops (add s item) why)
-stopped_if (Ok u) s item h = tt
-stopped_if (Err why) s item h = stopped s item why h
 
 pub some_drafted : (old : Option Draft) (d new : Draft) (found : Option Item) (item : Item) → old ≡ Some d → found ≡ Some item → IsDraft (grown (Some d.file) item) new
     → Drafted (add_item (so_far old) found) (Some new)

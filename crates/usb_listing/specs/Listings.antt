@@ -1,6 +1,7 @@
 -- Which texts are listings, and what is wrong with the others.
 use Rattle.std.specs.Prelude.{◌≡◌, ◌≢◌, ℕ, ◌+◌, List, [], ◌∷◌, ◌++◌, length, Bool, true, false, is_none, Option, Some, None}
 use Rattle.std.specs.List.{list_all}
+use Rattle.usb_fields.specs.Numbers.{number_in}
 use Rattle.usb_file_data.specs.declared.file.DescriptorFile.{DescriptorFile}
 use Rattle.usb_file_data.specs.File.{File, write_refusal}
 use Rattle.usb_listing.specs.Listing.{file_lines}
@@ -9,6 +10,7 @@ use Rattle.usb_listing.specs.Words.{first_word, word_text}
 use Rattle.usb_text.specs.Lines.{is_printable}
 use Rattle.usb_listing.specs.Says.{Item, Says}
 use Rattle.usb_listing.specs.declared.fault.ListWhy.{ListWhy}
+use Rattle.usb_listing.specs.contracts.fault.ListWhy.{the_type as list_whys}
 use Rattle.usb_listing.specs.declared.fault.ListWhy.TheVariants as whys
 use Rattle.usb_listing.specs.Order.{IsOneMore, IsOrdered, MayStand, has_over, items_of}
 
@@ -124,10 +126,4 @@ pub data ListingOrFault (text : List ℕ) : Type 0 where
 
 -- the number of what is wrong with a line
 abbrev pub why_number : ListWhy → ℕ
-why_number whys.Line = 1
-why_number whys.Word = 2
-why_number whys.Place = 3
-why_number whys.Field = 4
-why_number whys.TooLong = 5
-why_number whys.Missing = 6
-why_number whys.Memory = 7
+why_number why = number_in list_whys why

@@ -39,15 +39,7 @@ impl ListWhy {
     pub fn number(self) -> u8
         ensures { result ≡ why_number self }
     {
-        match self {
-            ListWhy::Line => 1,
-            ListWhy::Word => 2,
-            ListWhy::Place => 3,
-            ListWhy::Field => 4,
-            ListWhy::TooLong => 5,
-            ListWhy::Missing => 6,
-            ListWhy::Memory => 7,
-        }
+        self as u8 + 1
     }
 }
 

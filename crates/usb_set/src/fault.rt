@@ -46,18 +46,7 @@ impl SetWhy {
     pub fn number(self) -> u8
         ensures { result ≡ why_number self }
     {
-        match self {
-            SetWhy::HeaderLength => 1,
-            SetWhy::HeaderKind => 2,
-            SetWhy::Total => 3,
-            SetWhy::ItemLength => 4,
-            SetWhy::Over => 5,
-            SetWhy::Nested => 6,
-            SetWhy::ItemShort => 7,
-            SetWhy::Stray => 8,
-            SetWhy::Truncated => 9,
-            SetWhy::Memory => 10,
-        }
+        self as u8 + 1
     }
 
     /// The message, for people.
@@ -156,12 +145,7 @@ impl EncodeFault {
     pub fn number(self) -> u8
         ensures { result ≡ encode_number self }
     {
-        match self {
-            EncodeFault::Tail => 1,
-            EncodeFault::RawKind => 2,
-            EncodeFault::TooLong => 3,
-            EncodeFault::Memory => 4,
-        }
+        self as u8 + 1
     }
 
     /// The message, for people.

@@ -1,8 +1,9 @@
 -- A text on its way to a writer, of which a claim is made where the writer's bytes are known.
 use Rattle.std.specs.Prelude.{◌≡◌, ℕ, List, ◌∷◌, ◌++◌, Option}
 use Rattle.std.specs.Io.KnownBytes.{Appends}
+use Rattle.usb_fields.specs.Numbers.{number_in}
 use Rattle.usb_text.specs.declared.output.OutFault.{OutFault}
-use Rattle.usb_text.specs.declared.output.OutFault.TheVariants as outs
+use Rattle.usb_text.specs.contracts.output.OutFault.{the_type as out_faults}
 
 -- the bytes that a writer holds, where they are known
 abbrev pub Held : Type 0
@@ -25,5 +26,4 @@ pub record AppendsLess (old new : Held) (text : List ℕ) : Type 0 where
 
 -- the number of the fault that stopped it
 abbrev pub out_number : OutFault → ℕ
-out_number outs.Write = 1
-out_number outs.Memory = 2
+out_number fault = number_in out_faults fault

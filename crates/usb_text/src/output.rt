@@ -30,10 +30,7 @@ impl OutFault {
     pub fn number(self) -> u8
         ensures { result ≡ out_number self }
     {
-        match self {
-            OutFault::Write => 1,
-            OutFault::Memory => 2,
-        }
+        self as u8 + 1
     }
 }
 

@@ -12,14 +12,14 @@ use Rattle.usb_file_data.specs.declared.fault.FileWhy.TheVariants as files
 use Rattle.usb_text.specs.declared.output.OutFault.{OutFault}
 use Rattle.usb_text.specs.declared.output.OutFault.TheVariants as outs
 use Rattle.usb_text.specs.Output.{AppendsLess, Held}
-use Rattle.usb_text.proofs.Pages.{appends_more, appends_nothing, keeps_refl, less_is_front, stopped}
+use Rattle.usb_text.proofs.Pages.{appends_more, appends_nothing, less_is_front, stopped}
 use Rattle.usb_device.specs.Accepted.{Accepted, Refuses, refusal_of}
 use Rattle.usb_device.specs.declared.acceptance.DescriptionFault.{DescriptionFault}
 use Rattle.usb_device.specs.declared.acceptance.DescriptionFault.TheVariants as refusals
 use Rattle.usb_bus.specs.declared.enumeration.Run.{Run}
 use Rattle.usb_host.specs.declared.step.Trouble.{Trouble}
 use Rattle.usb_tool.specs.Enumerations.{Conditions, IsNotTaken, IsRun, IsTaken, RefusesToEnumerate, StopsShort, Tells, WritesResult, WritesResultFront, run_status, run_text, refused_line, success_line, trouble_line}
-use Rattle.usb_tool.specs.Faults.{fault_of_file, fault_of_output, file_fault_by_why}
+use Rattle.usb_tool.specs.Faults.{fault_of_output}
 use Rattle.usb_tool.specs.inside.Telling.{EndsWith, IsCutShort}
 use Rattle.usb_tool.specs.declared.fault.ToolFault.{ToolFault}
 use Rattle.usb_tool.specs.declared.fault.ToolFault.TheVariants as faults
@@ -60,15 +60,6 @@ pub no_dump_either : (r : Result DescriptorFile FileFault) (b : List ℕ) (with_
     → IfErr r (λ fault. fault.why ≢ files.Memory → IsNotTaken with_strings b fault)
 no_dump_either (Ok f) b with_strings is h = tt
 no_dump_either (Err e) b with_strings is h = λ other. subst (λ s. IsNotTaken s b e) (sym is) (refused_both b e.at e.why h other)
-
--- and nothing was written
-pub not_taken : (c : Conditions) (b : List ℕ) (held : Held) (e : FileFault) → (e.why ≢ files.Memory → IsNotTaken c.flags.with_strings b e)
-    → RefusesToEnumerate c b held held (fault_of_file e)
-not_taken c b held e h = by e.why refl
-  where
-    by : (why : FileWhy) → e.why ≡ why → RefusesToEnumerate c b held held (file_fault_by_why why e)
-    by files.Memory is = inl (keeps_refl held)
-    by why is = (h (λ memory. let same = sym is ∙ memory in cc), keeps_refl held)
 
 -- what is told of a file that no device can be made of
 pub refusal_told : (c : Conditions) (f : DescriptorFile) (b : List ℕ) (fault : DescriptionFault) → IsTaken c.flags.with_strings f b

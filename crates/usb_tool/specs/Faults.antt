@@ -6,6 +6,7 @@ use Rattle.usb_set.specs.declared.fault.SetFault.{SetFault}
 use Rattle.usb_set.specs.declared.fault.SetWhy.{SetWhy}
 use Rattle.usb_set.specs.declared.fault.SetWhy.TheVariants as whys
 use Rattle.usb_tool.specs.declared.fault.ToolFault.{ToolFault}
+use Rattle.usb_tool.specs.contracts.fault.ToolFault.{the_type as tool_faults}
 use Rattle.usb_tool.specs.declared.fault.ToolFault.TheVariants as faults
 use Rattle.usb_file_data.specs.FileFaults.{why_number}
 use Rattle.usb_file_data.specs.declared.fault.FileFault.{FileFault}
@@ -21,18 +22,11 @@ use Rattle.usb_text.specs.declared.output.OutFault.{OutFault}
 use Rattle.usb_text.specs.declared.output.OutFault.TheVariants as outs
 use Rattle.std.specs.declared.io.ErrorKind.{ErrorKind}
 use Rattle.std.specs.declared.io.ErrorKind.TheVariants as kinds
+use Rattle.usb_fields.specs.Numbers.{number_in}
 
 -- the number of a fault
 abbrev pub fault_number : ToolFault → ℕ
-fault_number faults.Read = 1
-fault_number faults.Write = 2
-fault_number faults.TooLarge = 3
-fault_number (faults.File fault) = 4
-fault_number (faults.List fault) = 5
-fault_number (faults.Set fault) = 6
-fault_number (faults.Trailing at) = 7
-fault_number faults.Memory = 8
-fault_number (faults.Hex line column) = 9
+fault_number fault = number_in tool_faults fault
 
 -- the line of a fault, without its line feed
 abbrev pub fault_line : ToolFault → List ℕ

@@ -1,14 +1,16 @@
 -- Numbers, messages and lines of the faults.
 use Rattle.std.specs.Prelude.{ℕ, List, codes}
+use Rattle.usb_fields.specs.Numbers.{number_in}
 use Rattle.usb_tool.specs.declared.settings.FatesFault.{FatesFault}
+use Rattle.usb_tool.specs.contracts.settings.FatesFault.{the_type as fates_faults}
 use Rattle.usb_tool.specs.declared.settings.FatesFault.TheVariants as letters
 use Rattle.usb_tool.specs.declared.settings.SettingsFault.{SettingsFault}
+use Rattle.usb_tool.specs.contracts.settings.SettingsFault.{the_type as settings_faults}
 use Rattle.usb_tool.specs.declared.settings.SettingsFault.TheVariants as faults
 
 -- the number of a fault of letters
 abbrev pub fates_fault_number : FatesFault → ℕ
-fates_fault_number letters.Letter = 1
-fates_fault_number letters.Memory = 2
+fates_fault_number fault = number_in fates_faults fault
 
 -- its message, for people
 abbrev pub fates_fault_message : FatesFault → List ℕ
@@ -17,10 +19,7 @@ fates_fault_message letters.Memory = codes "out of memory"
 
 -- the number of a fault of options
 abbrev pub settings_fault_number : SettingsFault → ℕ
-settings_fault_number faults.Number = 1
-settings_fault_number faults.Speed = 2
-settings_fault_number faults.Fates = 3
-settings_fault_number faults.Memory = 4
+settings_fault_number fault = number_in settings_faults fault
 
 -- its line on standard error, without its line feed
 abbrev pub settings_line : SettingsFault → List ℕ

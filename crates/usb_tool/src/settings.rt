@@ -91,10 +91,7 @@ impl FatesFault {
     pub fn number(self) -> u8
         ensures { result ≡ fates_fault_number self }
     {
-        match self {
-            FatesFault::Letter => 1,
-            FatesFault::Memory => 2,
-        }
+        self as u8 + 1
     }
 }
 
@@ -261,12 +258,7 @@ impl SettingsFault {
     pub fn number(self) -> u8
         ensures { result ≡ settings_fault_number self }
     {
-        match self {
-            SettingsFault::Number => 1,
-            SettingsFault::Speed => 2,
-            SettingsFault::Fates => 3,
-            SettingsFault::Memory => 4,
-        }
+        self as u8 + 1
     }
 
     /// The exit status of the program: 2 as for a line that is no command, and 3 out of memory.

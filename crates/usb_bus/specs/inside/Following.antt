@@ -9,7 +9,7 @@ use Rattle.usb_device.specs.Requests.{Outcome, Bytes}
 use Rattle.usb_device.specs.Step.{carried_out, is_set_address}
 use Rattle.usb_bus.specs.Beside.{CutsAlike}
 use Rattle.usb_bus.specs.Attempt.{reply_to}
-use Rattle.usb_host.specs.declared.place.Place.{Place}
+use Rattle.usb_host.specs.Place.{Place}
 use Rattle.usb_host.specs.Order.{asks, next}
 use Rattle.usb_bus.specs.inside.Script.{Exchange}
 

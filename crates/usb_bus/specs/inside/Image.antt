@@ -16,10 +16,8 @@ use Rattle.usb_host.specs.Transfer.{TransferView, taken}
 use Rattle.usb_device.specs.Step.{DeviceView}
 use Rattle.usb_bus.specs.Bus.{HostEnd, hears}
 use Rattle.usb_bus.specs.Attempt.{Phase, Running, Succeeded, Broken, advance}
-use Rattle.usb_host.specs.declared.place.Place.{Place}
-use Rattle.usb_host.specs.declared.place.Place.TheVariants.{First, Reported, Stopped}
-use Rattle.usb_host.specs.declared.place.Kept.{Kept}
-use Rattle.usb_host.specs.declared.place.Kept.TheVariants.{Bytes, Set}
+use Rattle.usb_host.specs.Place.{Place, First, Reported, Stopped}
+use Rattle.usb_host.specs.Keeping.{Kept, Bytes, Set}
 use Rattle.usb_host.specs.Order.{asks, stopped}
 use Rattle.usb_host.specs.Gathered.{reached}
 use Rattle.usb_host.specs.Steps.{HostPhase, Reading, Ended, Grows, LacksMemory, TakesHeard}

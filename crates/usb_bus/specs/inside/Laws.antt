@@ -19,7 +19,7 @@ use Rattle.usb_bus.specs.declared.fate.Fate.{Fate}
 use Rattle.usb_bus.specs.Bus.{losses, busies}
 use Rattle.usb_bus.specs.inside.Sound.{Follows}
 use Rattle.usb_bus.specs.Run.{fates_used}
-use Rattle.usb_host.specs.declared.place.Place.TheVariants.{First, Reported}
+use Rattle.usb_host.specs.Place.{First, Reported}
 use Rattle.usb_host.specs.Cost.{most}
 use Rattle.usb_host.specs.Gathered.{reached}
 use Rattle.usb_bus.specs.inside.Script.{replies_in, script}

@@ -9,8 +9,7 @@ use Rattle.usb_bus.specs.declared.enumeration.Run.{Run}
 use Rattle.usb_bus.specs.Enumerate.{Pair, Runs, new_pair, Moves, HasReadAll, HasCause}
 use Rattle.usb_bus.specs.Log.{count_before}
 use Rattle.usb_device.specs.declared.state.State.{State}
-use Rattle.usb_host.specs.declared.place.Place.{Place}
-use Rattle.usb_host.specs.declared.place.Place.TheVariants.{Reported, Stopped}
+use Rattle.usb_host.specs.Place.{Place, Reported, Stopped}
 use Rattle.usb_bus.specs.declared.conversation.Conversation.TheInside.{Inside}
 use Rattle.usb_bus.specs.Converse.{TalkView}
 use Rattle.usb_fields.specs.Packets.{Sent}

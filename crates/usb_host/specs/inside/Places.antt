@@ -3,10 +3,8 @@ use Rattle.usb_host.specs.declared.due.Due.{Due}
 use Rattle.usb_host.specs.declared.due.Due.TheVariants as due
 use Rattle.usb_host.specs.declared.draft.Draft.{Draft}
 use Rattle.usb_host.specs.declared.held.Held.{Held}
-use Rattle.usb_host.specs.declared.place.Kept.{Kept}
-use Rattle.usb_host.specs.declared.place.Kept.TheVariants as kept
-use Rattle.usb_host.specs.declared.place.Place.{Place}
-use Rattle.usb_host.specs.declared.place.Place.TheVariants.{First, Address, Device, Header, Set, Qualifier, Languages, Text, Configure, Reported, Stopped}
+use Rattle.usb_host.specs.Keeping as kept
+use Rattle.usb_host.specs.Place.{Place, First, Address, Device, Header, Set, Qualifier, Languages, Text, Configure, Reported, Stopped}
 use Rattle.std.specs.Prelude.{◌≡◌, ◌+◌, ◌≤◌, true, false, Bool, List, length, ℕ, Option, Some, None, Result, Ok, Err, ◌⊎◌}
 use Rattle.std.specs.declared.alloc.AllocError.{AllocError}
 use Rattle.usb_set.specs.declared.fault.SetFault.{SetFault}
@@ -18,7 +16,7 @@ use Rattle.usb_host.specs.Transfer.{Hearing, Brings, Completes}
 use Rattle.usb_host.specs.declared.request.Request.{Request}
 use Rattle.usb_host.specs.declared.step.Step.{Step}
 use Rattle.usb_host.specs.Order.{stopped}
-use Rattle.usb_host.specs.Keeping.{Keeps}
+use Rattle.usb_host.specs.Keeping.{Kept, Keeps}
 use Rattle.usb_host.specs.Steps.{blames_bus, LacksMemory, Grows}
 
 -- What contracts see of what is due, and of what a host holds beside it.

@@ -8,9 +8,9 @@ use Rattle.usb_host.specs.declared.transfer.TransferStage.{TransferStage}
 use Rattle.usb_host.specs.declared.transfer.TransferStage.TheVariants as stages
 use Rattle.usb_host.specs.Limits.{LimitView}
 use Rattle.usb_host.specs.Transfer.{TransferView, Hearing, Goes, Brings, Completes, Fails, Taken}
-use Rattle.usb_host.specs.declared.place.Place.{Place}
-use Rattle.usb_host.specs.declared.place.Kept.{Kept}
-use Rattle.usb_host.specs.declared.place.Kept.TheVariants as kept
+use Rattle.usb_host.specs.Place.{Place}
+use Rattle.usb_host.specs.Keeping.{Kept}
+use Rattle.usb_host.specs.Keeping as kept
 use Rattle.usb_host.specs.declared.current_read.Ending.{Ending}
 use Rattle.usb_host.specs.declared.current_read.Ending.TheVariants as endings
 use Rattle.usb_host.specs.declared.current_read.CurrentRead.{CurrentRead}

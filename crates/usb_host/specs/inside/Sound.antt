@@ -1,10 +1,9 @@
 -- What holds of a place after the bytes that count.
 use Rattle.std.specs.Prelude.{◌*◌, ◌<◌, ◌≤◌, length, slice_index, ◌≡◌, ℕ, List, [], Some, None}
 use Rattle.usb_fields.specs.Bytes.{AreBytes}
-use Rattle.usb_host.specs.declared.place.Place.{Place}
-use Rattle.usb_host.specs.declared.place.Place.TheVariants.{First, Address, Device, Header, Set, Qualifier, Languages, Text, Configure, Reported, Stopped}
-use Rattle.usb_host.specs.declared.place.Kept.{Kept}
-use Rattle.usb_host.specs.declared.place.Kept.TheVariants as kept
+use Rattle.usb_host.specs.Place.{Place, First, Address, Device, Header, Set, Qualifier, Languages, Text, Configure, Reported, Stopped}
+use Rattle.usb_host.specs.Keeping.{Kept}
+use Rattle.usb_host.specs.Keeping as kept
 use Rattle.usb_host.specs.Order.{sets_of, declared_sets}
 use Rattle.usb_host.specs.Steps.{HostPhase, ResetDue, Reading, Ended, HostView, new_host, reset, Takes}
 use Rattle.usb_set.specs.declared.tree.SetKind.{SetKind}

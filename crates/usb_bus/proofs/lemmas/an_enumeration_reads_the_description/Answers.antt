@@ -1,7 +1,7 @@
 use Rattle.std.proofs.Common.{[], refl, arith}
 use Rattle.usb_device.specs.Step.{new_device}
 use Rattle.usb_device.specs.Requests.{answer}
-use Rattle.usb_host.specs.declared.place.Place.TheVariants.{First, Reported}
+use Rattle.usb_host.specs.Place.{First, Reported}
 use Rattle.usb_bus.specs.inside.Script.{replies_in, script}
 use Rattle.usb_bus.specs.Enumerate.{configured_state}
 use Rattle.usb_bus.specs.inside.Image.{plan_of}

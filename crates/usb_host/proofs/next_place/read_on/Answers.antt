@@ -1,6 +1,6 @@
 use Rattle.std.proofs.Common.{subst}
 use Rattle.usb_host.specs.Order.{bytes_lead}
-use Rattle.usb_host.specs.declared.place.Place.TheVariants.{First, Device, Header}
+use Rattle.usb_host.specs.Place.{First, Device, Header}
 use Rattle.usb_host.specs.inside.Places.{LeadsTo}
 use Rattle.usb_host.proofs.next_place.read_on.Goals as goal
 

@@ -4,9 +4,9 @@ use Rattle.usb_host.specs.Transfer.{taken}
 use Rattle.usb_host.specs.inside.Places.{kept_of}
 use Rattle.usb_host.specs.inside.Reads.{kept_in, place_in}
 use Rattle.usb_host.proofs.TakeLemmas.{hears_brings, hears_steady, hears_goes, hears_completes, hears_fails}
-use Rattle.usb_host.proofs.current_read.Reading.hear.Goals as goal
+use Rattle.usb_host.proofs.current_read.CurrentRead.hear.Goals as goal
 
--- src/reading.rt: what is kept stays where no bytes came
+-- what is kept stays where no bytes came
 pub returns-in-Again-clause-heard : goal.returns-in-Again-clause-heard
 returns-in-Again-clause-heard c =
     (c.in-Again.ensures.after, hears_goes (taken c.args.self.now.transfer (reply_of c.args.answer)) (kept_in c.args.self.now) c.in-Again.ensures.heard)

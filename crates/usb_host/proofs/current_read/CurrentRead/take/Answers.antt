@@ -4,9 +4,9 @@ use Rattle.usb_host.specs.inside.Reads.{GoesOn, IsStanding, kept_in, place_in, s
 use Rattle.usb_host.specs.Steps.{TakesHeard}
 use Rattle.usb_host.specs.Transfer.{taken}
 use Rattle.usb_host.proofs.StandLemmas.{takes_on, takes_end}
-use Rattle.usb_host.proofs.current_read.Reading.take.Goals as goal
+use Rattle.usb_host.proofs.current_read.CurrentRead.take.Goals as goal
 
--- src/reading.rt: the read has ended
+-- the read has ended
 pub returns-in-Some-clause-takes : goal.returns-in-Some-clause-takes
 returns-in-Some-clause-takes c =
     (takes_end c.args.limits.now c.args.speed (place_in c.args.self.now) c.args.self.now.transfer c.hear.new.self.transfer (kept_in c.args.self.now)

@@ -1,7 +1,7 @@
 use Rattle.usb_host.specs.inside.Places.{place_of}
 use Rattle.usb_host.specs.inside.Reads.{kept_in, place_in}
 use Rattle.usb_host.proofs.TakeLemmas.{next_good}
-use Rattle.usb_host.proofs.current_read.Reading.go_on.Goals as goal
+use Rattle.usb_host.proofs.current_read.CurrentRead.go_on.Goals as goal
 
 -- src/current_read.rt: where a read leads to is good
 pub transfer_at-self-requires : goal.transfer_at-self-requires
