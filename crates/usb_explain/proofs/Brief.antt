@@ -17,7 +17,8 @@ use Rattle.usb_explain.specs.Findings.{found_at, role_findings}
 use Rattle.usb_explain.specs.Contexts.{context_of}
 use Rattle.usb_explain.specs.Laws.{BrokenLeavesOutFields, LeavesOutFields, Shown, WholeLeavesOutFields, context_at, fields_of, head_of, lines_of, rest_bytes, rest_head, with_fields, without_fields}
 use Rattle.usb_explain.specs.Standings.{start}
-use Rattle.usb_explain.specs.Subjects.{Subject, broken_subject, findings_in, subject_with}
+use Rattle.usb_file_data.specs.Findings.{findings_in_order}
+use Rattle.usb_explain.specs.Subjects.{Subject, broken_subject, subject_with}
 use Rattle.usb_explain.proofs.Spans.{broken_ends, broken_is, end_by, walk_shows, whole_is, with_look}
 
 -- a look with the lines of fields or without them
@@ -132,23 +133,23 @@ manner_of manner (inputs.Dump file) all = refl
 
 -- the explanation of an input with fields or without
 whole_looks : (brief : Bool) (manner : Manner) (input : Input) (b : List ℕ)
-    → (let subject = subject_with manner input (findings_in input) in
+    → (let subject = subject_with manner input (findings_in_order input) in
     let looks = with_look (brief_if brief subject.manner.look) subject in
     explanation (record manner { look = brief_if brief manner.look }) input b
-    ≡ first_line (input_name input) (length b) ++ walked (length b) looks (whole_end looks (length (findings_in input)) b) start b)
+    ≡ first_line (input_name input) (length b) ++ walked (length b) looks (whole_end looks (length (findings_in_order input)) b) start b)
 whole_looks brief manner input b =
-    ap (λ s. whole_text s (input_name input) (length (findings_in input)) b)
-    (subject_looks brief manner input (findings_in input)
-    ∙ ap (λ m. with_look (brief_if brief m.look) (subject_with manner input (findings_in input))) (sym (manner_of manner input (findings_in input))))
-    ∙ whole_is (with_look (brief_if brief (subject_with manner input (findings_in input)).manner.look) (subject_with manner input (findings_in input)))
-    (input_name input) (length (findings_in input)) b
+    ap (λ s. whole_text s (input_name input) (length (findings_in_order input)) b)
+    (subject_looks brief manner input (findings_in_order input)
+    ∙ ap (λ m. with_look (brief_if brief m.look) (subject_with manner input (findings_in_order input))) (sym (manner_of manner input (findings_in_order input))))
+    ∙ whole_is (with_look (brief_if brief (subject_with manner input (findings_in_order input)).manner.look) (subject_with manner input (findings_in_order input)))
+    (input_name input) (length (findings_in_order input)) b
 
 pub whole_leaves_out : WholeLeavesOutFields
 whole_leaves_out manner input b =
-    leaves_out (subject_with manner input (findings_in input)) b b (first_line (input_name input) (length b)) [] (last_line (length (findings_in input)))
+    leaves_out (subject_with manner input (findings_in_order input)) b b (first_line (input_name input) (length b)) [] (last_line (length (findings_in_order input)))
     (explanation (with_fields manner) input b) (explanation (without_fields manner) input b) (length b)
-    (whole_end (with_look (brief_if false (subject_with manner input (findings_in input)).manner.look) (subject_with manner input (findings_in input))) (length (findings_in input)) b)
-    (whole_end (with_look (brief_if true (subject_with manner input (findings_in input)).manner.look) (subject_with manner input (findings_in input))) (length (findings_in input)) b)
+    (whole_end (with_look (brief_if false (subject_with manner input (findings_in_order input)).manner.look) (subject_with manner input (findings_in_order input))) (length (findings_in_order input)) b)
+    (whole_end (with_look (brief_if true (subject_with manner input (findings_in_order input)).manner.look) (subject_with manner input (findings_in_order input))) (length (findings_in_order input)) b)
     (λ at. refl) (λ at. refl)
     (whole_looks false manner input b) (whole_looks true manner input b)
 

@@ -17,7 +17,8 @@ use Rattle.usb_explain.specs.Laws.{BrokenEachByteOnce, Cut, EachByteOnce, Follow
 use Rattle.usb_explain.specs.declared.finding_words.Told.{Told}
 use Rattle.usb_explain.specs.Roles.{next_role, role_of}
 use Rattle.usb_explain.specs.Standings.{start}
-use Rattle.usb_explain.specs.Subjects.{Subject, broken_subject, findings_in, subject_with}
+use Rattle.usb_file_data.specs.Findings.{findings_in_order}
+use Rattle.usb_explain.specs.Subjects.{Subject, broken_subject, subject_with}
 use Rattle.usb_explain.proofs.Standings.{entered_at, noted_at, start_at, told_entered, told_noted}
 use Rattle.usb_explain.proofs.Telling.{found_front}
 use Rattle.usb_explain.proofs.Walking.{walk_end, walk_next}
@@ -230,10 +231,10 @@ broken_is subject fault b = refl
 
 pub whole_once : WholeEachByteOnce
 whole_once manner input b =
-    let subject = subject_with manner input (findings_in input) in
-    once_by subject b b [] (first_line (input_name input) (length b)) [] (last_line (length (findings_in input))) (explanation manner input b) (length b)
-    (whole_end subject (length (findings_in input)) b) (sym (append-nil b)) (λ at. refl)
-    (whole_is subject (input_name input) (length (findings_in input)) b)
+    let subject = subject_with manner input (findings_in_order input) in
+    once_by subject b b [] (first_line (input_name input) (length b)) [] (last_line (length (findings_in_order input))) (explanation manner input b) (length b)
+    (whole_end subject (length (findings_in_order input)) b) (sym (append-nil b)) (λ at. refl)
+    (whole_is subject (input_name input) (length (findings_in_order input)) b)
 
 pub broken_once : BrokenEachByteOnce
 broken_once manner fault b =

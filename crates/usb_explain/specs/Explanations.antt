@@ -10,7 +10,8 @@ use Rattle.usb_explain.specs.Contexts.{context_of}
 use Rattle.usb_explain.specs.SetStart.{entered}
 use Rattle.usb_explain.specs.Standings.{passed, with_told, start}
 use Rattle.usb_explain.specs.Roles.{next_role}
-use Rattle.usb_explain.specs.Subjects.{Subject, broken_subject, findings_in, subject_with}
+use Rattle.usb_file_data.specs.Findings.{findings_in_order}
+use Rattle.usb_explain.specs.Subjects.{Subject, broken_subject, subject_with}
 use Rattle.std.specs.Fmt.{decimal}
 use Rattle.hex.specs.Hex.{encode_lower}
 use Rattle.usb_explain.specs.declared.manner.Look.{Look}
@@ -128,7 +129,7 @@ whole_text subject name findings b = first_line name (length b) ++ walked (lengt
 -- the explanation of an input, of which these are the bytes
 abbrev pub explanation : Manner → Input → List ℕ → List ℕ
 explanation manner input b =
-    whole_text (subject_with manner input (findings_in input)) (input_name input) (length (findings_in input)) b
+    whole_text (subject_with manner input (findings_in_order input)) (input_name input) (length (findings_in_order input)) b
 
 -- the explanation of bytes that are no input
 unfoldable pub broken_text : Subject → InputFault → List ℕ → List ℕ
@@ -151,7 +152,7 @@ StopsBetween subject b first old new = Keeps old new ⊎ EndsBetween subject b f
 
 -- of the explanation of an input
 abbrev pub StopsWhole : Manner → Input → List ℕ → Held → Held → Type 0
-StopsWhole manner input b = StopsBetween (subject_with manner input (findings_in input)) b (first_line (input_name input) (length b))
+StopsWhole manner input b = StopsBetween (subject_with manner input (findings_in_order input)) b (first_line (input_name input) (length b))
 
 -- and of that of bytes which are none
 abbrev pub StopsBroken : Manner → InputFault → List ℕ → Held → Held → Type 0

@@ -9,11 +9,10 @@ use Rattle.usb_file_data.specs.declared.file.Input.{Input}
 use Rattle.usb_file_data.specs.declared.fault.InputFault.{InputFault}
 use Rattle.usb_file_data.specs.Inputs.{InputRefused, IsInput}
 use Rattle.usb_file_data.specs.Likeness.{likeness_of}
-use Rattle.usb_file_data.specs.Findings.{input_findings}
+use Rattle.usb_file_data.specs.Findings.{by_rule, findings_in_order, input_findings}
 use Rattle.usb_file_data.specs.declared.finding.Finding.{Finding}
 use Rattle.usb_file_data.specs.declared.rule.Rule.{Rule}
 use Rattle.usb_file_data.specs.declared.rule.Rule.TheVariants as rules
-use Rattle.usb_file_data.specs.InOrder.{by_rule}
 use Rattle.usb_explain.specs.declared.finding_words.Told.{Told}
 use Rattle.usb_explain.specs.declared.context.Context.{Context}
 use Rattle.usb_explain.specs.Descriptors.{field_lines, fields, heading}
@@ -29,7 +28,7 @@ use Rattle.usb_explain.specs.Findings.{found_at, is_here, line_of, role_findings
 use Rattle.usb_explain.specs.Contexts.{context_of, depth_of}
 use Rattle.usb_explain.specs.Lines.{IsLine, IsLineIfAny, SayFields}
 use Rattle.usb_explain.specs.Uncovered.{most_uncovered}
-use Rattle.usb_explain.specs.Subjects.{Subject, broken_subject, findings_in, subject_with}
+use Rattle.usb_explain.specs.Subjects.{Subject, broken_subject, subject_with}
 use Rattle.usb_explain.specs.Trees.{OutlineEntry, counts_in, entry, outline}
 
 -- a descriptor of an explanation: its place, what it is there, its bytes, and those after it
@@ -109,7 +108,7 @@ pub record NothingLeft (subject : Subject) (bytes first last text : List ℕ) : 
 abbrev pub WholeEachByteOnce : Type 0
 WholeEachByteOnce =
     (manner : Manner) (input : Input) (b : List ℕ) →
-    EachByteOnce (subject_with manner input (findings_in input)) b b (first_line (input_name input) (length b)) [] (last_line (length (findings_in input)))
+    EachByteOnce (subject_with manner input (findings_in_order input)) b b (first_line (input_name input) (length b)) [] (last_line (length (findings_in_order input)))
     (explanation manner input b)
 
 -- so does that of bytes that are no input: its descriptors end at the place of the fault or before it
@@ -135,7 +134,7 @@ BrokenCoversUpToFault =
 abbrev pub WholeHasNoRest : Type 0
 WholeHasNoRest =
     (manner : Manner) (input : Input) (b : List ℕ) → IsInput input b →
-    NothingLeft (subject_with manner input (findings_in input)) b (first_line (input_name input) (length b)) (last_line (length (findings_in input)))
+    NothingLeft (subject_with manner input (findings_in_order input)) b (first_line (input_name input) (length b)) (last_line (length (findings_in_order input)))
     (explanation manner input b)
 
 -- under the heading of a descriptor are findings of its own alone, so that each of them has a line
@@ -155,7 +154,7 @@ pub record EachFindingOnce (subject : Subject) (bytes first : List ℕ) (finding
 abbrev pub WholeTellsFindings : Type 0
 WholeTellsFindings =
     (manner : Manner) (input : Input) (b : List ℕ) → IsInput input b →
-    EachFindingOnce (subject_with manner input (findings_in input)) b (first_line (input_name input) (length b)) (input_findings input)
+    EachFindingOnce (subject_with manner input (findings_in_order input)) b (first_line (input_name input) (length b)) (input_findings input)
     (explanation manner input b)
 
 -- what the lines of a rule's findings say at a descriptor, if one of its role can break it
@@ -174,7 +173,7 @@ pub record TellsCounts (subject : Subject) (input : Input) (bytes first text : L
 abbrev pub WholeTellsCounts : Type 0
 WholeTellsCounts =
     (manner : Manner) (input : Input) (b : List ℕ) → IsInput input b →
-    TellsCounts (subject_with manner input (findings_in input)) input b (first_line (input_name input) (length b)) (explanation manner input b)
+    TellsCounts (subject_with manner input (findings_in_order input)) input b (first_line (input_name input) (length b)) (explanation manner input b)
 
 -- a descriptor as it is shown
 abbrev pub entry_of : Shown → OutlineEntry
@@ -188,7 +187,7 @@ pub record ShowsTree (subject : Subject) (input : Input) (bytes first text : Lis
 abbrev pub WholeShowsTree : Type 0
 WholeShowsTree =
     (manner : Manner) (input : Input) (b : List ℕ) → IsInput input b →
-    ShowsTree (subject_with manner input (findings_in input)) input b (first_line (input_name input) (length b)) (explanation manner input b)
+    ShowsTree (subject_with manner input (findings_in_order input)) input b (first_line (input_name input) (length b)) (explanation manner input b)
 
 -- the same manner, with the lines of fields or without them
 abbrev pub with_fields : Manner → Manner
@@ -224,7 +223,7 @@ pub record LeavesOutFields (subject : Subject) (bytes first before_rest last one
 abbrev pub WholeLeavesOutFields : Type 0
 WholeLeavesOutFields =
     (manner : Manner) (input : Input) (b : List ℕ) →
-    LeavesOutFields (subject_with manner input (findings_in input)) b (first_line (input_name input) (length b)) [] (last_line (length (findings_in input)))
+    LeavesOutFields (subject_with manner input (findings_in_order input)) b (first_line (input_name input) (length b)) [] (last_line (length (findings_in_order input)))
     (explanation (with_fields manner) input b) (explanation (without_fields manner) input b)
 
 -- so is that of bytes that are no input
@@ -259,9 +258,9 @@ pub record InLines (subject : Subject) (front bytes first before_rest last text 
 abbrev pub WholeInLines : Type 0
 WholeInLines =
     (manner : Manner) (input : Input) (b : List ℕ) → manner.look.utf8 ≡ false → IsInput input b →
-    InLines (subject_with manner input (findings_in input)) b b (first_line (input_name input) (length b)) [] (last_line (length (findings_in input)))
+    InLines (subject_with manner input (findings_in_order input)) b b (first_line (input_name input) (length b)) [] (last_line (length (findings_in_order input)))
     (explanation manner input b)
-    × IsLine (last_line (length (findings_in input)))
+    × IsLine (last_line (length (findings_in_order input)))
 
 -- so is that of any bytes with any fault: before the rest are the line of the fault, and one line more or none
 abbrev pub BrokenInLines : Type 0
