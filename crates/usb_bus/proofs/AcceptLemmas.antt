@@ -1,5 +1,5 @@
 -- What is known of accepted descriptions.
-use Rattle.std.proofs.Common.{◌≡◌, ℕ, ◌*◌, ◌≤◌, ◌==◌, ◌||◌, not, Bool, true, false, List, [], ◌∷◌, ◌++◌, length, Option, Some, None, refl, arith, subst}
+use Rattle.std.proofs.Common.{◌≡◌, ℕ, ◌*◌, ◌≤◌, ◌==◌, ◌||◌, not, Bool, true, false, List, [], ◌∷◌, length, Option, Some, None, refl, arith, subst}
 use Rattle.std.specs.List.{list_any}
 use Rattle.std.proofs.lemmas.Bool.Decides.{nat_tests}
 use Rattle.usb_fields.specs.declared.packet.Speed.{Speed}
@@ -11,10 +11,8 @@ use Rattle.usb_file_data.specs.declared.file.DescriptorFile.{DescriptorFile}
 use Rattle.usb_file_data.specs.declared.file.Other.{Other}
 use Rattle.usb_file_data.specs.declared.file.Strings.{Strings}
 use Rattle.usb_file_data.specs.File.{has_no_layout, is_other_kind, has_wrong_count, has_wrong_kind, has_wrong_layout, is_other_miscounted, are_wrong_strings, is_long_string, has_long_string, named_indices, other_sets}
-use Rattle.usb_file_data.specs.declared.finding.Part.TheVariants as parts
-use Rattle.usb_file_data.specs.Findings.{findings, descriptors, values}
-use Rattle.usb_file_data.specs.Rules.{wrong_device}
-use Rattle.usb_file_data.specs.Places.{when, in_parts}
+use Rattle.usb_file_data.specs.Findings.{findings}
+use Rattle.usb_file_data.proofs.Sorting.{FirstIsRight, device_right, first_right}
 use Rattle.usb_device.specs.Accepted.{Accepted, has_wrong_sets, has_wrong_strings, repeats_language}
 use Rattle.usb_host.specs.Read.{packet_fits, may_have_second}
 use Rattle.usb_host.specs.Order.{first_value, other_declared}
@@ -26,18 +24,6 @@ or_left true b none = cc
 or_right : (a b : Bool) → (a || b) ≡ false → b ≡ false
 or_right false b none = none
 or_right true b none = cc
-
-no_left : {X : Type 0} (xs ys : List X) → xs ++ ys ≡ [] → xs ≡ []
-no_left [] ys none = refl
-no_left (x ∷ xs) ys none = cc
-
-no_right : {X : Type 0} (xs ys : List X) → xs ++ ys ≡ [] → ys ≡ []
-no_right [] ys none = none
-no_right (x ∷ xs) ys none = cc
-
-not_when : {X : Type 0} (holds : Bool) (x : X) → when holds x ≡ [] → holds ≡ false
-not_when true x none = cc
-not_when false x none = refl
 
 -- the sets: their counts, kinds and layouts
 pub count_is : (f : DescriptorFile) → has_wrong_sets f ≡ false → length f.sets ≡ f.device.configurations
@@ -79,20 +65,12 @@ other_sets_sound f right =
     (or_right (list_any (is_other_kind kinds.Configuration) f.sets) _ (or_right (has_wrong_count f) (has_wrong_kind f) (or_left _ _ right)))
     (or_right (list_any has_no_layout f.sets) _ (or_right (has_wrong_count f || has_wrong_kind f) (has_wrong_layout f) right))
 
--- the rules that an enumeration rests on: the packet size, and the first set's value
-device_fits : (f : DescriptorFile) → descriptors (wrong_device f.device) f ≡ [] → wrong_device f.device ≡ false
-device_fits f none = not_when (wrong_device f.device) _ (no_left _ _ none)
-
-first_some : (cs : List Configuration) → values parts.Main cs ≡ [] → (first_value cs == 0) ≡ false
-first_some [] none = cc
-first_some (c ∷ cs) none = grind (arith, nat_tests)
+-- the rule that an enumeration rests on: the first set's value
+first_some : (cs : List Configuration) → FirstIsRight cs → (first_value cs == 0) ≡ false
+first_some (c ∷ cs) right = or_left _ _ right
 
 pub value_some : (f : DescriptorFile) → findings f ≡ [] → (first_value f.sets == 0) ≡ false
-value_some f none =
-    first_some f.sets (no_left _ _ (no_right _ (in_parts values f) (no_left _ (descriptors (wrong_device f.device) f) (no_left _ _ (no_left _ _ none)))))
-
-pub device_right : (f : DescriptorFile) → findings f ≡ [] → wrong_device f.device ≡ false
-device_right f none = device_fits f (no_right _ (descriptors (wrong_device f.device) f) (no_left _ _ (no_left _ _ none)))
+value_some f none = first_some f.sets (first_right f none)
 
 pub packet_right : (f : DescriptorFile) (speed : Speed) → Accepted f speed → packet_fits speed f.device.packet ≡ true
 packet_right f Low a = grind (arith, nat_tests, a.speed)

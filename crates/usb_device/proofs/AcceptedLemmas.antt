@@ -1,42 +1,18 @@
 -- What is known of accepted descriptors.
-use Rattle.std.proofs.Common.{◌≡◌, ℕ, ◌*◌, ◌<◌, ◌==◌, Bool, true, false, not, ◌||◌, List, [], ◌∷◌, ◌++◌, length, slice_get, Option, Some, None, refl, arith}
+use Rattle.std.proofs.Common.{◌≡◌, ℕ, ◌*◌, ◌<◌, ◌==◌, Bool, true, false, not, ◌||◌, List, [], ◌∷◌, length, slice_get, Option, Some, None, refl, arith}
 use Rattle.std.proofs.lemmas.Bool.Decides.{nat_tests}
 use Rattle.usb_file_data.specs.declared.file.DescriptorFile.{DescriptorFile}
 use Rattle.usb_file_data.specs.declared.file.Strings.{Strings}
 use Rattle.usb_file_data.specs.File.{has_long_string, are_wrong_strings, named_indices}
-use Rattle.usb_file_data.specs.declared.finding.Finding.{Finding}
-use Rattle.usb_file_data.specs.Findings.{findings, descriptors}
-use Rattle.usb_file_data.specs.Rules.{wrong_device}
-use Rattle.usb_file_data.specs.Places.{when}
+use Rattle.usb_file_data.specs.Findings.{findings}
+use Rattle.usb_file_data.proofs.Sorting.{device_right}
 use Rattle.usb_device.specs.Accepted.{has_wrong_strings, repeats_language}
-
-no_left : {X : Type 0} (xs ys : List X) → xs ++ ys ≡ [] → xs ≡ []
-no_left [] ys none = refl
-no_left (x ∷ xs) ys none = cc
-
-no_right : {X : Type 0} (xs ys : List X) → xs ++ ys ≡ [] → ys ≡ []
-no_right [] ys none = none
-no_right (x ∷ xs) ys none = cc
-
-not_when : {X : Type 0} (holds : Bool) (x : X) → when holds x ≡ [] → holds ≡ false
-not_when true x none = cc
-not_when false x none = refl
-
--- where the rules on the device descriptor are not broken, packets have at least one byte
-packet_of : (f : DescriptorFile) → descriptors (wrong_device f.device) f ≡ [] → 0 < f.device.packet
-packet_of f none =
-    let device : wrong_device f.device ≡ false = not_when (wrong_device f.device) _ (no_left _ _ none) in
-    grind (arith, nat_tests)
-
--- those rules are among others
-packet_among : (before after more : List Finding) (f : DescriptorFile) → before ++ descriptors (wrong_device f.device) f ++ after ++ more ≡ [] → 0 < f.device.packet
-packet_among before after more f none =
-    let here = no_left (before ++ descriptors (wrong_device f.device) f) after (no_left (before ++ descriptors (wrong_device f.device) f ++ after) more none) in
-    packet_of f (no_right before (descriptors (wrong_device f.device) f) here)
 
 -- where no rule is broken, packets of endpoint zero have at least one byte
 pub packet_some : (f : DescriptorFile) → findings f ≡ [] → 0 < f.device.packet
-packet_some f none = packet_among _ _ _ f none
+packet_some f none =
+    let device = device_right f none in
+    grind (arith, nat_tests)
 
 or_left : (a b : Bool) → (a || b) ≡ false → a ≡ false
 or_left false b none = refl

@@ -1,5 +1,5 @@
 -- A reply of a device has at most 64 bytes: the packets of an accepted description have no more.
-use Rattle.std.proofs.Common.{◌≡◌, ℕ, zero, suc, ◌-◌, ◌≤◌, ◌==◌, nat_lt, Bool, true, false, List, [], ◌∷◌, ◌++◌, length, take, drop, if◌then◌else◌, refl, arith, sym, subst}
+use Rattle.std.proofs.Common.{◌≡◌, ℕ, zero, suc, ◌-◌, ◌≤◌, ◌==◌, nat_lt, Bool, true, false, List, [], ◌∷◌, length, take, drop, if◌then◌else◌, refl, arith, sym, subst}
 use Rattle.std.proofs.lemmas.Bool.Decides.{nat_tests}
 use Rattle.usb_fields.specs.declared.packet.Toggle.{Toggle}
 use Rattle.usb_fields.specs.declared.packet.Toggle.TheVariants.{Data0, Data1}
@@ -7,10 +7,8 @@ use Rattle.usb_fields.specs.declared.packet.Speed.{Speed}
 use Rattle.usb_fields.specs.declared.setup.Setup.{Setup}
 use Rattle.usb_fields.specs.Packets.{Token, SetupToken, InToken, OutToken, Sent, Reply, NoReply, packets, packets_within}
 use Rattle.usb_file_data.specs.declared.file.DescriptorFile.{DescriptorFile}
-use Rattle.usb_file_data.specs.declared.finding.Finding.{Finding}
-use Rattle.usb_file_data.specs.Findings.{descriptors, findings}
-use Rattle.usb_file_data.specs.Rules.{wrong_device}
-use Rattle.usb_file_data.specs.Places.{when}
+use Rattle.usb_file_data.specs.Findings.{findings}
+use Rattle.usb_file_data.proofs.Sorting.{device_right}
 use Rattle.usb_device.specs.Accepted.{Accepted}
 use Rattle.usb_device.specs.declared.state.State.{State}
 use Rattle.usb_device.specs.Requests.{Outcome, answer}
@@ -18,31 +16,11 @@ use Rattle.usb_device.specs.Step.{DeviceStage, Idle, Halted, Sending, StatusOut,
 use Rattle.usb_device.specs.View.{served_by}
 use Rattle.usb_device.specs.Transactions.{HasRoom}
 
-no_left : {X : Type 0} (xs ys : List X) → xs ++ ys ≡ [] → xs ≡ []
-no_left [] ys none = refl
-no_left (x ∷ xs) ys none = cc
-
-no_right : {X : Type 0} (xs ys : List X) → xs ++ ys ≡ [] → ys ≡ []
-no_right [] ys none = none
-no_right (x ∷ xs) ys none = cc
-
-not_when : {X : Type 0} (holds : Bool) (x : X) → when holds x ≡ [] → holds ≡ false
-not_when true x none = cc
-not_when false x none = refl
-
--- where the rules on the device descriptor are not broken, packets have at most 64 bytes
-packet_of : (f : DescriptorFile) → descriptors (wrong_device f.device) f ≡ [] → f.device.packet ≤ 64
-packet_of f none =
-    let device : wrong_device f.device ≡ false = not_when (wrong_device f.device) _ (no_left _ _ none) in
-    grind (arith, nat_tests)
-
-packet_among : (before after more : List Finding) (f : DescriptorFile) → before ++ descriptors (wrong_device f.device) f ++ after ++ more ≡ [] → f.device.packet ≤ 64
-packet_among before after more f none =
-    let here = no_left (before ++ descriptors (wrong_device f.device) f) after (no_left (before ++ descriptors (wrong_device f.device) f ++ after) more none) in
-    packet_of f (no_right before (descriptors (wrong_device f.device) f) here)
-
+-- where no rule is broken, packets have at most 64 bytes
 packet_fits : (f : DescriptorFile) → findings f ≡ [] → f.device.packet ≤ 64
-packet_fits f none = packet_among _ _ _ f none
+packet_fits f none =
+    let device = device_right f none in
+    grind (arith, nat_tests)
 
 -- each packet has at most so many bytes
 abbrev AreShort : ℕ → List (List ℕ) → Type 0

@@ -9,11 +9,10 @@ use Rattle.usb_file_data.specs.declared.file.Input.{Input}
 use Rattle.usb_file_data.specs.declared.fault.InputFault.{InputFault}
 use Rattle.usb_file_data.specs.Inputs.{InputRefused, IsInput}
 use Rattle.usb_file_data.specs.Likeness.{likeness_of}
-use Rattle.usb_file_data.specs.Findings.{input_findings}
+use Rattle.usb_file_data.specs.Findings.{by_rule, findings_in_order, input_findings}
 use Rattle.usb_file_data.specs.declared.finding.Finding.{Finding}
 use Rattle.usb_file_data.specs.declared.rule.Rule.{Rule}
 use Rattle.usb_file_data.specs.declared.rule.Rule.TheVariants as rules
-use Rattle.usb_file_data.specs.InOrder.{by_rule}
 use Rattle.usb_explain.specs.declared.finding_words.Told.{Told}
 use Rattle.usb_explain.specs.declared.context.Context.{Context}
 use Rattle.usb_explain.specs.Descriptors.{field_lines, fields, heading}
@@ -28,7 +27,7 @@ use Rattle.usb_explain.specs.Contexts.{context_of, depth_of}
 use Rattle.usb_explain.specs.Lines.{IsLine, IsLineIfAny, SayFields}
 use Rattle.usb_explain.specs.Outline.{Entry, bytes_of, outline_of}
 use Rattle.usb_explain.specs.Uncovered.{most_uncovered}
-use Rattle.usb_explain.specs.Subjects.{Subject, broken_subject, findings_in, subject_with}
+use Rattle.usb_explain.specs.Subjects.{Subject, broken_subject, subject_with}
 use Rattle.usb_explain.specs.Trees.{OutlineEntry, counts_in, entry, outline}
 
 -- what the words of a descriptor depend on
@@ -80,7 +79,7 @@ AllEachByteOnce = (subject : Subject) (b : List ℕ) → EachByteOnce subject b
 abbrev pub WholeHasNoRest : Type 0
 WholeHasNoRest =
     (manner : Manner) (input : Input) (b : List ℕ) → IsInput input b →
-    end_of (subject_with manner input (findings_in input)) b ≡ length b
+    end_of (subject_with manner input (findings_in_order input)) b ≡ length b
 
 -- of bytes that are no input, the descriptors before the place of the fault come up to it but for so many bytes
 abbrev pub BrokenCoversUpToFault : Type 0
@@ -104,7 +103,7 @@ pub record EachFindingOnce (subject : Subject) (input : Input) (b : List ℕ) : 
 abbrev pub WholeTellsFindings : Type 0
 WholeTellsFindings =
     (manner : Manner) (input : Input) (b : List ℕ) → IsInput input b →
-    EachFindingOnce (subject_with manner input (findings_in input)) input b
+    EachFindingOnce (subject_with manner input (findings_in_order input)) input b
 
 -- what the lines of a rule's findings say at a descriptor, if one of its role can break it
 abbrev pub told_there : Subject → Entry → Rule → List Told
@@ -118,7 +117,7 @@ counts_at subject d = told_there subject d rules.V1 ++ told_there subject d rule
 abbrev pub WholeTellsCounts : Type 0
 WholeTellsCounts =
     (manner : Manner) (input : Input) (b : List ℕ) → IsInput input b →
-    let subject = subject_with manner input (findings_in input) in
+    let subject = subject_with manner input (findings_in_order input) in
     flat_map (counts_at subject) (outline_of subject b) ≡ counts_in input
 
 -- a descriptor, by its role, its depth and its bytes
@@ -129,7 +128,7 @@ entry_of d = entry d.role (depth_of d.standing d.role) d.bytes
 abbrev pub WholeShowsTree : Type 0
 WholeShowsTree =
     (manner : Manner) (input : Input) (b : List ℕ) → IsInput input b →
-    map entry_of (outline_of (subject_with manner input (findings_in input)) b) ≡ outline input
+    map entry_of (outline_of (subject_with manner input (findings_in_order input)) b) ≡ outline input
 
 -- what is explained with the lines of fields, or in brief without them
 abbrev pub looking : Bool → Subject → Subject
@@ -161,10 +160,10 @@ RestIsLines subject at (x ∷ rest) = IsLine (rest_heading subject.manner.look a
 abbrev pub WholeInLines : Type 0
 WholeInLines =
     (manner : Manner) (input : Input) (b : List ℕ) → manner.look.utf8 ≡ false → IsInput input b →
-    let subject = subject_with manner input (findings_in input) in
+    let subject = subject_with manner input (findings_in_order input) in
     IsLine (first_line (input_name input) (length b))
     × AllByRecursion (BlockIsLines subject) (outline_of subject b)
-    × IsLine (last_line (length (findings_in input)))
+    × IsLine (last_line (length (findings_in_order input)))
 
 -- so it is of any bytes with any fault: before the rest are the line of the fault, and one line more or none
 abbrev pub BrokenInLines : Type 0

@@ -4,7 +4,6 @@ use Rattle.usb_file_data.specs.declared.file.Strings.{Strings}
 use Rattle.usb_file_data.specs.declared.file.Input.{Input}
 use Rattle.usb_file_data.specs.declared.file.Input.TheVariants as inputs
 use Rattle.usb_file_data.specs.declared.finding.Finding.{Finding}
-use Rattle.usb_file_data.specs.InOrder.{dump_findings_in_order, findings_in_order, set_findings_in_order}
 use Rattle.usb_explain.specs.declared.context.StringPlace.{StringPlace}
 use Rattle.usb_explain.specs.declared.string_names.Missing.TheVariants.{NotInInput, NotRead}
 use Rattle.usb_explain.specs.StringNames.{StringNames, names_of, no_names}
@@ -16,12 +15,6 @@ pub record Subject : Type 0 where
   pub is_dump : Bool
   pub names : StringNames
   pub found : List Finding
-
--- what breaks a rule in an input, in the order of its bytes
-abbrev pub findings_in : Input → List Finding
-findings_in (inputs.Set set) = set_findings_in_order set
-findings_in (inputs.File file) = findings_in_order file
-findings_in (inputs.Dump file) = dump_findings_in_order file
 
 -- an input of which these findings are known
 abbrev pub subject_with : Manner → Input → List Finding → Subject

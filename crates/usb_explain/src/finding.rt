@@ -1,14 +1,9 @@
-//! The findings of an input, and their lines.
+//! The lines of findings.
 ghost use Rattle.std.specs.Prelude.{◌≡◌, ◌++◌, OnOk};
 ghost use Rattle.usb_explain.specs.FindingLines.{caused, causes_words, counts_words, device_words, finding_line, has_more, packet_words, qualifier_words, reserved_words, told_words};
-ghost use Rattle.std.specs.Prelude.{◌≡◌, IfOk};
-ghost use Rattle.usb_explain.specs.Subjects.{findings_in};
 
 use crate::finding_words::{PacketFault, Told};
-use std::alloc::{AllocError, Global};
-use usb_file_data::{
-    Finding, Input, dump_findings_in_order, findings_in_order, set_findings_in_order,
-};
+use std::alloc::AllocError;
 use usb_text::{Text, put_count};
 
 /// Puts the line of a finding at a descriptor whose heading has this depth.
@@ -187,15 +182,4 @@ fn put_counts(
     text.put(owner)?;
     text.put(" has ")?;
     put_count(text, found, noun)
-}
-
-/// What breaks a rule in an input, in the order of its bytes.
-pub(crate) fn findings_in(alloc: Global, input: &Input) -> Result<Vec<Finding>, AllocError>
-    ensures { IfOk result (λ found. found.items ≡ findings_in input.now) }
-{
-    match input {
-        Input::Set(set) => set_findings_in_order(alloc, set),
-        Input::File(file) => findings_in_order(alloc, file),
-        Input::Dump(file) => dump_findings_in_order(alloc, file),
-    }
 }

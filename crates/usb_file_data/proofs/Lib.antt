@@ -11,6 +11,5 @@ pub mod Entering
 pub mod Owning
 pub mod Walking
 pub mod RuleNumbers
-pub mod SortedSets
 pub mod Sorting
 pub mod SetsAhead

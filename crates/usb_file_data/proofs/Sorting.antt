@@ -1,173 +1,41 @@
--- The findings in the order of the bytes, rule by rule.
-use Rattle.std.proofs.Common.{◌≡◌, ℕ, suc, ◌+◌, ◌<◌, ◌≤◌, ◌==◌, Bool, true, false, List, [], ◌∷◌, ◌++◌, refl, ap, sym, subst, ◌∙◌, length, map, take, get_or, arith, append_assoc, length-append, nat_lt, not}
-use Rattle.std.specs.Prelude.{Option, Some, None, is_some, fold, if◌then◌else◌}
+-- Findings sorted by rule.
+use Rattle.std.proofs.Common.{◌≡◌, ℕ, suc, ◌+◌, ◌<◌, ◌≤◌, ◌==◌, Bool, true, false, List, [], ◌∷◌, ◌++◌, refl, ap, sym, subst, ◌∙◌, length, map, take, get_or, drop, arith, append_assoc, length-append, nat_lt, not}
+use Rattle.std.specs.Prelude.{◌||◌, is_some, filter, fold, if◌then◌else◌}
 use Rattle.std.specs.List.{AllByRecursion, list_all}
 use Rattle.std.proofs.lemmas.List.{append-nil, get_or_default}
 use Rattle.std.proofs.lemmas.Bool.Decides.{nat_tests}
 use Rattle.std.proofs.lemmas.List.Elements.{filter-append}
+use Rattle.std.proofs.lemmas.Grind.{common_steps}
 use Rattle.usb_fields.specs.Marks.{marked}
 use Rattle.usb_set.specs.declared.tree.Configuration.{Configuration}
 use Rattle.usb_file_data.specs.declared.file.DescriptorFile.{DescriptorFile}
-use Rattle.usb_file_data.specs.declared.file.Other.{Other}
 use Rattle.usb_file_data.specs.declared.finding.Finding.{Finding}
 use Rattle.usb_file_data.specs.declared.finding.Part.{Part}
 use Rattle.usb_file_data.specs.declared.finding.Part.TheVariants as parts
 use Rattle.usb_file_data.specs.declared.rule.Rule.{Rule}
 use Rattle.usb_file_data.specs.declared.rule.Rule.TheVariants as rules
 use Rattle.usb_file_data.specs.Numbers.{rule_number, rule_numbered}
-use Rattle.usb_file_data.specs.Places.{at_each, finding, in_other, in_parts, in_sets, is_among, when}
-use Rattle.usb_file_data.specs.Findings.{addresses, associations, attributes, descriptors, endpoint_counts, findings_where, part_findings, interface_counts, missing_default_settings, number_gaps, of_qualifier, packet_sizes, repeated_addresses, repeated_settings, shared_addresses, values}
-use Rattle.usb_file_data.specs.InOrder.{by_rule, file_in_order, of_rule, other_in_order, part_in_order, set_in_order, without_sets}
-use Rattle.usb_file_data.specs.Rules.{wrong_qualifier, wrong_value}
+use Rattle.usb_file_data.specs.Places.{finding, is_among, when}
+use Rattle.usb_file_data.specs.Findings.{at_associations, at_configuration, by_rule, file_in_order, findings, of_rule, other_in_order, part_in_order, without_sets}
+use Rattle.usb_file_data.specs.Rules.{has_number_gap, wrong_attributes, wrong_device, wrong_interface_count, wrong_value}
 use Rattle.usb_file_data.proofs.RuleNumbers.{known, with_number}
 use Rattle.usb_file_data.proofs.Walking.{stands_more, take_more}
-use Rattle.usb_file_data.proofs.SortedSets.{none_of, each_none, of_each, of_three, of_four, pick, of_when, of_set, set_1, set_2, set_9, set_10, set_11, set_3, set_4, set_5, set_6, set_7, set_8, set_12, set_13}
 
--- ---- in a part
+-- a loop's next place
+pub fold_next : {A B : Type 0} (f : B → A → B) (xs : List A) (i : ℕ) (x : A) (old new whole : B) → i < length xs → x ≡ get_or xs i x
+    → fold f old (drop i xs) ≡ whole → new ≡ f old x → fold f new (drop (i + 1) xs) ≡ whole
+fold_next f xs i x old new whole below is whole_is new_is =
+    let here : drop i xs ≡ x ∷ drop (i + 1) xs = grind (arith, common_steps) in
+    ap (λ b. fold f b (drop (i + 1) xs)) new_is ∙ sym (ap (fold f old) here) ∙ whole_is
 
-of_part : (r : Rule) (found : Part → ℕ → Configuration → List Finding)
-    → ((part : Part) (before : List Configuration) (i : ℕ) (c : Configuration) → of_rule r (set_in_order part before i c) ≡ found part i c)
-    → (part : Part) (sets : List Configuration) → of_rule r (part_in_order part sets) ≡ in_sets found part sets
-of_part r found is part sets = of_each r (λ i c. set_in_order part (take i sets) i c) (found part) (λ i c. is part (take i sets) i c) 0 sets
+-- where no element has the key, none is left
+pub none_left : {A : Type 0} (here later : Bool) (x : A) (rest : List A) → (here || later) ≡ false → (later ≡ false → rest ≡ []) → (if here then x ∷ rest else rest) ≡ []
+none_left true later x rest h none = grind arith
+none_left false later x rest h none = none h
 
-part_1 : (part : Part) (sets : List Configuration) → of_rule rules.V1 (part_in_order part sets) ≡ in_sets interface_counts part sets
-part_1 = of_part rules.V1 interface_counts (λ part before i c. of_set rules.V1 (λ xs. refl) part before i c ∙ set_1 part before i c)
-
-part_2 : (part : Part) (sets : List Configuration) → of_rule rules.V2 (part_in_order part sets) ≡ in_sets number_gaps part sets
-part_2 = of_part rules.V2 number_gaps (λ part before i c. of_set rules.V2 (λ xs. refl) part before i c ∙ set_2 part before i c)
-
-part_3 : (part : Part) (sets : List Configuration) → of_rule rules.V3 (part_in_order part sets) ≡ in_sets repeated_settings part sets
-part_3 = of_part rules.V3 repeated_settings (λ part before i c. of_set rules.V3 (λ xs. refl) part before i c ∙ set_3 part before i c)
-
-part_4 : (part : Part) (sets : List Configuration) → of_rule rules.V4 (part_in_order part sets) ≡ in_sets missing_default_settings part sets
-part_4 = of_part rules.V4 missing_default_settings (λ part before i c. of_set rules.V4 (λ xs. refl) part before i c ∙ set_4 part before i c)
-
-part_5 : (part : Part) (sets : List Configuration) → of_rule rules.V5 (part_in_order part sets) ≡ in_sets endpoint_counts part sets
-part_5 = of_part rules.V5 endpoint_counts (λ part before i c. of_set rules.V5 (λ xs. refl) part before i c ∙ set_5 part before i c)
-
-part_6 : (part : Part) (sets : List Configuration) → of_rule rules.V6 (part_in_order part sets) ≡ in_sets addresses part sets
-part_6 = of_part rules.V6 addresses (λ part before i c. of_set rules.V6 (λ xs. refl) part before i c ∙ set_6 part before i c)
-
-part_7 : (part : Part) (sets : List Configuration) → of_rule rules.V7 (part_in_order part sets) ≡ in_sets repeated_addresses part sets
-part_7 = of_part rules.V7 repeated_addresses (λ part before i c. of_set rules.V7 (λ xs. refl) part before i c ∙ set_7 part before i c)
-
-part_8 : (part : Part) (sets : List Configuration) → of_rule rules.V8 (part_in_order part sets) ≡ in_sets shared_addresses part sets
-part_8 = of_part rules.V8 shared_addresses (λ part before i c. of_set rules.V8 (λ xs. refl) part before i c ∙ set_8 part before i c)
-
-part_9 : (part : Part) (sets : List Configuration) → of_rule rules.V9 (part_in_order part sets) ≡ in_sets attributes part sets
-part_9 = of_part rules.V9 attributes (λ part before i c. of_set rules.V9 (λ xs. refl) part before i c ∙ set_9 part before i c)
-
-part_10 : (part : Part) (sets : List Configuration) → of_rule rules.V10 (part_in_order part sets) ≡ at_each (λ i c. when (wrong_value (take i sets) c) (finding rules.V10 part i 0 0)) 0 sets
-part_10 part sets =
-    of_each rules.V10 (λ i c. set_in_order part (take i sets) i c) _ (λ i c. of_set rules.V10 (λ xs. refl) part (take i sets) i c ∙ set_10 part (take i sets) i c) 0 sets
-
-part_11 : (part : Part) (sets : List Configuration) → of_rule rules.V11 (part_in_order part sets) ≡ []
-part_11 part sets =
-    of_part rules.V11 (λ part i c. []) (λ part before i c. of_set rules.V11 (λ xs. refl) part before i c ∙ set_11 part before i c) part sets
-    ∙ each_none (λ i c. []) (λ i c. refl) 0 sets
-
-part_12 : (part : Part) (sets : List Configuration) → of_rule rules.V12 (part_in_order part sets) ≡ in_sets packet_sizes part sets
-part_12 = of_part rules.V12 packet_sizes (λ part before i c. of_set rules.V12 (λ xs. refl) part before i c ∙ set_12 part before i c)
-
-part_13 : (part : Part) (sets : List Configuration) → of_rule rules.V13 (part_in_order part sets) ≡ in_sets associations part sets
-part_13 = of_part rules.V13 associations set_13
-
--- ---- in a file
-
--- a rule of sets alone
-of_other : (r : Rule) (found : Part → List Configuration → List Finding) → ((xs : List Finding) → pick r rules.V10 xs ≡ []) → ((xs : List Finding) → pick r rules.V11 xs ≡ [])
-    → ((part : Part) (sets : List Configuration) → of_rule r (part_in_order part sets) ≡ found part sets)
-    → (other : Option Other) → of_rule r (other_in_order other) ≡ in_other found other
-of_other r found no_value no_descriptor is None = refl
-of_other r found no_value no_descriptor is (Some o) =
-    of_three r (without_sets parts.Other o.sets) _ _ [] [] _ (of_when r (length o.sets == 0) (finding rules.V10 parts.Other 0 0 0) ∙ no_value _)
-    (of_when r (wrong_qualifier o.qualifier) (finding rules.V11 parts.Other 0 0 0) ∙ no_descriptor _) (is parts.Other o.sets)
-
-of_file : (r : Rule) (found : Part → List Configuration → List Finding) → ((xs : List Finding) → pick r rules.V10 xs ≡ []) → ((xs : List Finding) → pick r rules.V11 xs ≡ [])
-    → ((part : Part) (sets : List Configuration) → of_rule r (part_in_order part sets) ≡ found part sets)
-    → (wrong : Bool) (f : DescriptorFile) → of_rule r (file_in_order wrong f) ≡ in_parts found f
-of_file r found no_value no_descriptor is wrong f =
-    of_four r (without_sets parts.Main f.sets) _ _ _ [] [] _ _ (of_when r (length f.sets == 0) (finding rules.V10 parts.Main 0 0 0) ∙ no_value _)
-    (of_when r wrong (finding rules.V11 parts.Device 0 0 0) ∙ no_descriptor _) (is parts.Main f.sets) (of_other r found no_value no_descriptor is f.other)
-
-values_are : (part : Part) (sets : List Configuration) → of_rule rules.V10 (without_sets part sets) ++ of_rule rules.V10 (part_in_order part sets) ≡ values part sets
-values_are part sets =
-    ap (λ l. l ++ of_rule rules.V10 (part_in_order part sets)) (of_when rules.V10 (length sets == 0) (finding rules.V10 part 0 0 0))
-    ∙ ap (λ l. without_sets part sets ++ l) (part_10 part sets)
-
-other_values : (other : Option Other) → of_rule rules.V10 (other_in_order other) ≡ in_other values other
-other_values None = refl
-other_values (Some o) =
-    of_three rules.V10 (without_sets parts.Other o.sets) _ _ _ [] _ refl (of_when rules.V10 (wrong_qualifier o.qualifier) (finding rules.V11 parts.Other 0 0 0)) refl
-    ∙ ap (λ l. l ++ of_rule rules.V10 (part_in_order parts.Other o.sets)) (append-nil _) ∙ values_are parts.Other o.sets
-
-file_values : (wrong : Bool) (f : DescriptorFile) → of_rule rules.V10 (file_in_order wrong f) ≡ in_parts values f
-file_values wrong f =
-    of_four rules.V10 (without_sets parts.Main f.sets) _ _ _ _ [] _ _ refl (of_when rules.V10 wrong (finding rules.V11 parts.Device 0 0 0)) refl (other_values f.other)
-    ∙ ap (λ l. l ++ of_rule rules.V10 (part_in_order parts.Main f.sets) ++ in_other values f.other) (append-nil _)
-    ∙ ap (λ l. l ++ in_other values f.other) (values_are parts.Main f.sets)
-
-other_descriptors : (other : Option Other) → of_rule rules.V11 (other_in_order other) ≡ of_qualifier other
-other_descriptors None = refl
-other_descriptors (Some o) =
-    of_three rules.V11 (without_sets parts.Other o.sets) _ _ [] _ [] (of_when rules.V11 (length o.sets == 0) (finding rules.V10 parts.Other 0 0 0))
-    (of_when rules.V11 (wrong_qualifier o.qualifier) (finding rules.V11 parts.Other 0 0 0)) (part_11 parts.Other o.sets)
-    ∙ append-nil _
-
-file_descriptors : (wrong : Bool) (f : DescriptorFile) → of_rule rules.V11 (file_in_order wrong f) ≡ descriptors wrong f
-file_descriptors wrong f =
-    of_four rules.V11 (without_sets parts.Main f.sets) _ _ _ [] _ [] _ (of_when rules.V11 (length f.sets == 0) (finding rules.V10 parts.Main 0 0 0))
-    (of_when rules.V11 wrong (finding rules.V11 parts.Device 0 0 0)) (part_11 parts.Main f.sets) (other_descriptors f.other)
-    ∙ ap (λ l. l ++ of_qualifier f.other) (append-nil _)
-
--- what is found in a file in the order of its bytes, rule by rule, are its findings
-pub sorted : (wrong : Bool) (f : DescriptorFile) → by_rule (file_in_order wrong f) ≡ findings_where wrong f
-sorted wrong f =
-    let r1 = of_file rules.V1 (in_sets interface_counts) (λ xs. refl) (λ xs. refl) part_1 wrong f in
-    let r2 = of_file rules.V2 (in_sets number_gaps) (λ xs. refl) (λ xs. refl) part_2 wrong f in
-    let r3 = of_file rules.V3 (in_sets repeated_settings) (λ xs. refl) (λ xs. refl) part_3 wrong f in
-    let r4 = of_file rules.V4 (in_sets missing_default_settings) (λ xs. refl) (λ xs. refl) part_4 wrong f in
-    let r5 = of_file rules.V5 (in_sets endpoint_counts) (λ xs. refl) (λ xs. refl) part_5 wrong f in
-    let r6 = of_file rules.V6 (in_sets addresses) (λ xs. refl) (λ xs. refl) part_6 wrong f in
-    let r7 = of_file rules.V7 (in_sets repeated_addresses) (λ xs. refl) (λ xs. refl) part_7 wrong f in
-    let r8 = of_file rules.V8 (in_sets shared_addresses) (λ xs. refl) (λ xs. refl) part_8 wrong f in
-    let r9 = of_file rules.V9 (in_sets attributes) (λ xs. refl) (λ xs. refl) part_9 wrong f in
-    let r10 = file_values wrong f in
-    let r11 = file_descriptors wrong f in
-    let r12 = of_file rules.V12 (in_sets packet_sizes) (λ xs. refl) (λ xs. refl) part_12 wrong f in
-    let r13 = of_file rules.V13 (in_sets associations) (λ xs. refl) (λ xs. refl) part_13 wrong f in
-    cc
-
--- what is found in a set alone
-pub sorted_set : (part : Part) (c : Configuration) → by_rule (part_in_order part (c ∷ [])) ≡ part_findings part (c ∷ [])
-sorted_set part c =
-    let sets = c ∷ [] in
-    let r1 = part_1 part sets in
-    let r2 = part_2 part sets in
-    let r3 = part_3 part sets in
-    let r4 = part_4 part sets in
-    let r5 = part_5 part sets in
-    let r6 = part_6 part sets in
-    let r7 = part_7 part sets in
-    let r8 = part_8 part sets in
-    let r9 = part_9 part sets in
-    let r10 = part_10 part sets in
-    let r11 = part_11 part sets in
-    let r12 = part_12 part sets in
-    let r13 = part_13 part sets in
-    let before =
-    in_sets interface_counts part sets
-    ++ in_sets number_gaps part sets
-    ++ in_sets repeated_settings part sets
-    ++ in_sets missing_default_settings part sets
-    ++ in_sets endpoint_counts part sets
-    ++ in_sets addresses part sets
-    ++ in_sets repeated_addresses part sets
-    ++ in_sets shared_addresses part sets
-    ++ in_sets attributes part sets
-    ++ values part sets in
-    let none = append-nil before in
-    cc
+pub none_of : {A : Type 0} (key : A → ℕ) (n : ℕ) (xs : List A) → is_among (map key xs) n ≡ false → filter (λ x. key x == n) xs ≡ []
+none_of key n [] h = refl
+none_of key n (x ∷ xs) h = none_left (key x == n) (is_among (map key xs) n) x (filter (λ x. key x == n) xs) h (none_of key n xs)
 
 -- ---- as many
 
@@ -297,3 +165,59 @@ in_order_next xs i n k x below is some up last ends same =
     ∙ number_after k f (take i xs) (omega (arith, some, up)) last is (λ m h. ends m (omega (arith, up, h)))
     (λ m h. ap (λ ys. is_among (map (λ g. g.rule) ys) m) (sym more) ∙ new m h)
     ∙ ap (λ ys. ys ++ f ∷ []) same ∙ sym more
+
+-- ---- where nothing is found
+
+no_left : {A : Type 0} (xs ys : List A) → xs ++ ys ≡ [] → xs ≡ []
+no_left [] ys none = refl
+no_left (x ∷ xs) ys none = cc
+
+no_right : {A : Type 0} (xs ys : List A) → xs ++ ys ≡ [] → ys ≡ []
+no_right [] ys none = none
+no_right (x ∷ xs) ys none = cc
+
+-- where no finding is of a rule, none in a part of the list is
+none_in_two : (r : Rule) (a b : List Finding) → of_rule r (a ++ b) ≡ [] → (of_rule r a ≡ []) × (of_rule r b ≡ [])
+none_in_two r a b none = let both = sym (filter-append _ a b) ∙ none in (no_left (of_rule r a) (of_rule r b) both, no_right (of_rule r a) (of_rule r b) both)
+
+none_in_four : (r : Rule) (a b c d : List Finding) → of_rule r (a ++ b ++ c ++ d) ≡ [] → (of_rule r a ≡ []) × (of_rule r b ≡ []) × (of_rule r c ≡ []) × (of_rule r d ≡ [])
+none_in_four r a b c d none =
+    let last = none_in_two r (a ++ b ++ c) d none in
+    let third = none_in_two r (a ++ b) c last.0 in
+    let first = none_in_two r a b third.0 in
+    (first.0, first.1, third.1, last.1)
+
+not_when : (r : Rule) (part : Part) (holds : Bool) → of_rule r (when holds (finding r part 0 0 0)) ≡ [] → length (of_rule r (finding r part 0 0 0 ∷ [])) ≡ 1 → holds ≡ false
+not_when r part true none one = cc
+not_when r part false none one = refl
+
+none_in_file : (r : Rule) (f : DescriptorFile) → of_rule r (file_in_order (wrong_device f.device) f) ≡ []
+    → (of_rule r (without_sets parts.Main f.sets) ≡ []) × (of_rule r (when (wrong_device f.device) (finding rules.V11 parts.Device 0 0 0)) ≡ [])
+    × (of_rule r (part_in_order parts.Main f.sets) ≡ []) × (of_rule r (other_in_order f.other) ≡ [])
+none_in_file r f = none_in_four r (without_sets parts.Main f.sets) (when (wrong_device f.device) (finding rules.V11 parts.Device 0 0 0)) (part_in_order parts.Main f.sets) (other_in_order f.other)
+
+-- a file that breaks no rule has a right device descriptor
+pub device_right : (f : DescriptorFile) → findings f ≡ [] → wrong_device f.device ≡ false
+device_right f none =
+    let all = none_in_file rules.V11 f (no_right _ _ (no_left _ _ (no_left _ _ none))) in
+    not_when rules.V11 parts.Device (wrong_device f.device) all.1 refl
+
+-- there is a first set, and SET_CONFIGURATION can select it
+abbrev pub FirstIsRight : List Configuration → Type 0
+FirstIsRight [] = ⊥
+FirstIsRight (c ∷ cs) = wrong_value [] c ≡ false
+
+first_of : (sets : List Configuration) → of_rule rules.V10 (without_sets parts.Main sets) ≡ [] → of_rule rules.V10 (part_in_order parts.Main sets) ≡ [] → FirstIsRight sets
+first_of [] none here = cc
+first_of (c ∷ cs) none here =
+    let at = at_configuration parts.Main [] 0 c in
+    let set = none_in_four rules.V10 at (at_associations parts.Main 0 c.settings 0 c.extras) _ _ here in
+    let value = none_in_four rules.V10 (when (wrong_interface_count c) (finding rules.V1 parts.Main 0 0 0)) (when (has_number_gap c) (finding rules.V2 parts.Main 0 0 0))
+    (when (wrong_attributes c) (finding rules.V9 parts.Main 0 0 0)) (when (wrong_value [] c) (finding rules.V10 parts.Main 0 0 0)) set.0 in
+    not_when rules.V10 parts.Main (wrong_value [] c) value.3 refl
+
+-- so has a file that breaks no rule
+pub first_right : (f : DescriptorFile) → findings f ≡ [] → FirstIsRight f.sets
+first_right f none =
+    let all = none_in_file rules.V10 f (no_right _ _ (no_left _ _ (no_left _ _ (no_left _ _ none)))) in
+    first_of f.sets all.0 all.2

@@ -13,7 +13,7 @@ use Rattle.usb_set.specs.declared.tree.Endpoint.{Endpoint}
 use Rattle.usb_set.specs.declared.tree.Setting.{Setting}
 use Rattle.usb_file_data.specs.declared.rule.Rule.TheVariants as rules
 use Rattle.usb_file_data.specs.Places.{at_each, at_each_counted, is_among, when}
-use Rattle.usb_file_data.specs.InOrder.{association_count, endpoint_associations, setting_associations}
+use Rattle.usb_file_data.specs.Findings.{association_count, endpoint_associations, setting_associations}
 use Rattle.usb_set.specs.declared.extra.Extra.{Extra}
 use Rattle.usb_set.specs.Owners.{association_in}
 use Rattle.usb_file_data.specs.declared.place.Place.{Place}
@@ -62,15 +62,7 @@ each_append f n (x ∷ xs) ys =
     ∙ ap (λ k. f n x ++ (at_each f (n + 1) xs ++ at_each f k ys)) (let e : n + 1 + length xs ≡ n + suc (length xs) = omega arith in e)
     ∙ sym (append_assoc (f n x) (at_each f (n + 1) xs) (at_each f (n + suc (length xs)) ys))
 
--- how many associations are left
-pub count_next : (xs : List Extra) (i n m total : ℕ) (x : Extra) → i < length xs → x ≡ get_or xs i x → n + association_count (drop i xs) ≡ total
-    → m ≡ n + length (association_in x) → m + association_count (drop (i + 1) xs) ≡ total
-count_next xs i n m total x below is total_is m_is =
-    let here : drop i xs ≡ x ∷ drop (i + 1) xs = grind (arith, common_steps) in
-    let sum : association_count (drop i xs) ≡ length (association_in x) + association_count (drop (i + 1) xs) =
-    ap association_count here ∙ length-append (association_in x) (flat_map association_in (drop (i + 1) xs)) in
-    omega (arith, sum, total_is, m_is)
-
+-- how many associations there are
 count_append : (xs ys : List Extra) → association_count (xs ++ ys) ≡ association_count xs + association_count ys
 count_append xs ys = ap length (flat_map-append association_in xs ys) ∙ length-append (flat_map association_in xs) (flat_map association_in ys)
 

@@ -1,10 +1,13 @@
--- All that breaks a rule in a file: rule by rule, and in each rule by part, set, setting and endpoint.
-use Rattle.std.specs.Prelude.{ℕ, List, [], ◌∷◌, ◌++◌, length, ◌==◌, Bool, Option, Some, None}
+-- All that breaks a rule: at each descriptor, in the order of the bytes, what it breaks; and the same sorted by rule.
+use Rattle.std.specs.Prelude.{ℕ, ◌+◌, List, [], ◌∷◌, ◌++◌, filter, fold, length, take, Bool, ◌==◌, Option, Some, None}
+use Rattle.std.specs.List.{flat_map}
+use Rattle.usb_set.specs.declared.extra.Extra.{Extra}
+use Rattle.usb_set.specs.declared.tree.Endpoint.{Endpoint}
 use Rattle.usb_set.specs.declared.tree.Setting.{Setting}
+use Rattle.usb_set.specs.declared.tree.Configuration.{Configuration}
 use Rattle.usb_set.specs.declared.tree.SetKind.{SetKind}
 use Rattle.usb_set.specs.declared.tree.SetKind.TheVariants as kinds
-use Rattle.usb_set.specs.declared.tree.Configuration.{Configuration}
-use Rattle.usb_set.specs.Owners.{associations_of}
+use Rattle.usb_set.specs.Owners.{association_in, setting_extras}
 use Rattle.usb_file_data.specs.declared.file.DescriptorFile.{DescriptorFile}
 use Rattle.usb_file_data.specs.declared.file.Other.{Other}
 use Rattle.usb_file_data.specs.declared.file.Input.{Input}
@@ -14,145 +17,125 @@ use Rattle.usb_file_data.specs.declared.finding.Part.TheVariants as parts
 use Rattle.usb_file_data.specs.declared.finding.Finding.{Finding}
 use Rattle.usb_file_data.specs.declared.rule.Rule.{Rule}
 use Rattle.usb_file_data.specs.declared.rule.Rule.TheVariants as rules
-use Rattle.usb_file_data.specs.Places.{when, finding, at_each, at_each_after, in_sets, in_parts}
-use Rattle.usb_file_data.specs.Rules.{wrong_interface_count, has_number_gap, repeats_setting, lacks_default_setting, wrong_endpoint_count, wrong_address, repeats_address, shares_address, wrong_attributes, wrong_value, wrong_device, wrong_dumped_device, wrong_qualifier, wrong_packet_size, binds_missing_interface}
+use Rattle.usb_file_data.specs.Numbers.{every_rule, rule_number}
+use Rattle.usb_file_data.specs.Places.{at_each, at_each_after, at_each_counted, finding, when}
+use Rattle.usb_file_data.specs.Rules.{binds_missing_interface, has_number_gap, lacks_default_setting, repeats_address, repeats_setting, shares_address, wrong_address, wrong_attributes, wrong_device, wrong_dumped_device, wrong_endpoint_count, wrong_interface_count, wrong_packet_size, wrong_qualifier, wrong_value}
 
--- a rule that a set breaks as a whole
-abbrev pub of_set : Rule → (Configuration → Bool) → Part → ℕ → Configuration → List Finding
-of_set rule breaks part i c = when (breaks c) (finding rule part i 0 0)
+-- at the first descriptor of a set, given the sets before it in its part
+abbrev pub at_configuration : Part → List Configuration → ℕ → Configuration → List Finding
+at_configuration part before i c =
+    when (wrong_interface_count c) (finding rules.V1 part i 0 0)
+    ++ when (has_number_gap c) (finding rules.V2 part i 0 0)
+    ++ when (wrong_attributes c) (finding rules.V9 part i 0 0)
+    ++ when (wrong_value before c) (finding rules.V10 part i 0 0)
 
--- a rule that each setting breaks by itself
-abbrev pub of_settings : Rule → (Setting → Bool) → Part → ℕ → Configuration → List Finding
-of_settings rule breaks part i c = at_each (λ j s. when (breaks s) (finding rule part i j 0)) 0 c.settings
+-- at the associations among these extras of a set, of which the first is the n-th of the set
+abbrev pub at_associations : Part → ℕ → List Setting → ℕ → List Extra → List Finding
+at_associations part i settings n extras =
+    at_each (λ k a. when (binds_missing_interface settings a) (finding rules.V13 part i k 0)) n (flat_map association_in extras)
 
--- a rule that each setting breaks by itself or with those before it
-abbrev pub of_settings_after : Rule → (List Setting → Setting → Bool) → Part → ℕ → Configuration → List Finding
-of_settings_after rule breaks part i c = at_each_after (λ before j s. when (breaks before s) (finding rule part i j 0)) c.settings
+-- at the interface descriptor of a setting, given those before it and all of the set
+abbrev pub at_interface : Part → ℕ → List Setting → ℕ → Setting → List Finding
+at_interface part i settings j s =
+    when (repeats_setting (take j settings) s) (finding rules.V3 part i j 0)
+    ++ when (lacks_default_setting settings (take j settings) s) (finding rules.V4 part i j 0)
+    ++ when (wrong_endpoint_count s) (finding rules.V5 part i j 0)
 
--- V1 in one set
-abbrev pub interface_counts : Part → ℕ → Configuration → List Finding
-interface_counts = of_set rules.V1 wrong_interface_count
+-- at the descriptor of an endpoint, given the settings before its own
+abbrev pub at_endpoint : Part → ℕ → List Setting → ℕ → Setting → ℕ → Endpoint → List Finding
+at_endpoint part i before j s k e =
+    when (wrong_address e.address) (finding rules.V6 part i j k)
+    ++ when (repeats_address (take k s.endpoints) e) (finding rules.V7 part i j k)
+    ++ when (shares_address before s e) (finding rules.V8 part i j k)
+    ++ when (wrong_packet_size e.max_packet) (finding rules.V12 part i j k)
 
--- V2 in one set
-abbrev pub number_gaps : Part → ℕ → Configuration → List Finding
-number_gaps = of_set rules.V2 has_number_gap
+-- how many associations there are among the extras
+abbrev pub association_count : List Extra → ℕ
+association_count extras = length (flat_map association_in extras)
 
--- V3 in one set, at each setting that came before
-abbrev pub repeated_settings : Part → ℕ → Configuration → List Finding
-repeated_settings = of_settings_after rules.V3 repeats_setting
+-- how many there are after an endpoint
+abbrev pub endpoint_associations : Endpoint → ℕ
+endpoint_associations e = association_count e.extras
 
--- V4 in one set, at the first setting of each interface number
-abbrev pub missing_default_settings : Part → ℕ → Configuration → List Finding
-missing_default_settings part i c = of_settings_after rules.V4 (lacks_default_setting c.settings) part i c
+-- how many there are in a setting
+abbrev pub setting_associations : Setting → ℕ
+setting_associations s = association_count (setting_extras s)
 
--- V5 in one set, at each setting
-abbrev pub endpoint_counts : Part → ℕ → Configuration → List Finding
-endpoint_counts = of_settings rules.V5 wrong_endpoint_count
+-- at an endpoint, and then at its extras, where so many associations of the set come before
+abbrev pub endpoint_in_order : Part → ℕ → List Setting → ℕ → Setting → ℕ → ℕ → Endpoint → List Finding
+endpoint_in_order part i settings j s k n e =
+    at_endpoint part i (take j settings) j s k e ++ at_associations part i settings n e.extras
 
--- V6 in one setting, at each endpoint
-abbrev pub addresses_in : Part → ℕ → ℕ → Setting → List Finding
-addresses_in part i j s = at_each (λ k e. when (wrong_address e.address) (finding rules.V6 part i j k)) 0 s.endpoints
+-- at the interface of a setting, then at its extras, and then at its endpoints
+abbrev pub setting_in_order : Part → ℕ → List Setting → ℕ → ℕ → Setting → List Finding
+setting_in_order part i settings j n s =
+    at_interface part i settings j s
+    ++ at_associations part i settings n s.extras
+    ++ at_each_counted endpoint_associations (endpoint_in_order part i settings j s) 0 (n + association_count s.extras) s.endpoints
 
--- V6 in one set
-abbrev pub addresses : Part → ℕ → Configuration → List Finding
-addresses part i c = at_each (addresses_in part i) 0 c.settings
+-- in a set: at its first descriptor, at its extras, and in its settings
+abbrev pub set_in_order : Part → List Configuration → ℕ → Configuration → List Finding
+set_in_order part before i c =
+    at_configuration part before i c
+    ++ at_associations part i c.settings 0 c.extras
+    ++ at_each_counted setting_associations (setting_in_order part i c.settings) 0 (association_count c.extras) c.settings
 
--- V7 in one setting, at each endpoint whose address came before
-abbrev pub repeated_in_setting : Part → ℕ → ℕ → Setting → List Finding
-repeated_in_setting part i j s = at_each_after (λ before k e. when (repeats_address before e) (finding rules.V7 part i j k)) s.endpoints
+-- in the sets of a part
+abbrev pub part_in_order : Part → List Configuration → List Finding
+part_in_order part sets = at_each_after (set_in_order part) sets
 
--- V7 in one set
-abbrev pub repeated_addresses : Part → ℕ → Configuration → List Finding
-repeated_addresses part i c = at_each (repeated_in_setting part i) 0 c.settings
+-- V10 of a part without a set, at the descriptor that announces none
+abbrev pub without_sets : Part → List Configuration → List Finding
+without_sets part sets = when (length sets == 0) (finding rules.V10 part 0 0 0)
 
--- V8 in one set, at each endpoint whose address an earlier setting of another interface has
-abbrev pub shared_addresses : Part → ℕ → Configuration → List Finding
-shared_addresses part i c =
-    at_each_after (λ before j s. at_each (λ k e. when (shares_address before s e) (finding rules.V8 part i j k)) 0 s.endpoints) c.settings
+-- at the qualifier, and in the sets after it
+abbrev pub other_in_order : Option Other → List Finding
+other_in_order None = []
+other_in_order (Some other) =
+    without_sets parts.Other other.sets
+    ++ when (wrong_qualifier other.qualifier) (finding rules.V11 parts.Other 0 0 0)
+    ++ part_in_order parts.Other other.sets
 
--- V9 in one set
-abbrev pub attributes : Part → ℕ → Configuration → List Finding
-attributes = of_set rules.V9 wrong_attributes
-
--- V12 in one setting, at each endpoint
-abbrev pub packet_sizes_in : Part → ℕ → ℕ → Setting → List Finding
-packet_sizes_in part i j s = at_each (λ k e. when (wrong_packet_size e.max_packet) (finding rules.V12 part i j k)) 0 s.endpoints
-
--- V12 in one set
-abbrev pub packet_sizes : Part → ℕ → Configuration → List Finding
-packet_sizes part i c = at_each (packet_sizes_in part i) 0 c.settings
-
--- V13 in one set: the place is the number of the association among all of the set, in the order of the bytes
-abbrev pub associations : Part → ℕ → Configuration → List Finding
-associations part i c = at_each (λ k a. when (binds_missing_interface c.settings a) (finding rules.V13 part i k 0)) 0 (associations_of c)
-
--- V10 in a part: a finding where it has no set, and one for each wrong value
-abbrev pub values : Part → List Configuration → List Finding
-values part sets =
-    when (length sets == 0) (finding rules.V10 part 0 0 0)
-    ++ at_each_after (λ before i c. when (wrong_value before c) (finding rules.V10 part i 0 0)) sets
-
--- V11 in the qualifier, where there is one
-abbrev pub of_qualifier : Option Other → List Finding
-of_qualifier None = []
-of_qualifier (Some other) = when (wrong_qualifier other.qualifier) (finding rules.V11 parts.Other 0 0 0)
-
--- V11 in a file: it is said whether the device descriptor breaks it
-abbrev pub descriptors : Bool → DescriptorFile → List Finding
-descriptors wrong f = when wrong (finding rules.V11 parts.Device 0 0 0) ++ of_qualifier f.other
-
--- all that is found in a file: first it is said whether the device descriptor breaks V11
-abbrev pub findings_where : Bool → DescriptorFile → List Finding
-findings_where wrong f =
-    in_parts (in_sets interface_counts) f
-    ++ in_parts (in_sets number_gaps) f
-    ++ in_parts (in_sets repeated_settings) f
-    ++ in_parts (in_sets missing_default_settings) f
-    ++ in_parts (in_sets endpoint_counts) f
-    ++ in_parts (in_sets addresses) f
-    ++ in_parts (in_sets repeated_addresses) f
-    ++ in_parts (in_sets shared_addresses) f
-    ++ in_parts (in_sets attributes) f
-    ++ in_parts values f
-    ++ descriptors wrong f
-    ++ in_parts (in_sets packet_sizes) f
-    ++ in_parts (in_sets associations) f
-
--- what `check` reports of a file
-abbrev pub findings : DescriptorFile → List Finding
-findings f = findings_where (wrong_device f.device) f
-
--- what it reports of a dump, whose device may be one of SuperSpeed
-abbrev pub dump_findings : DescriptorFile → List Finding
-dump_findings f = findings_where (wrong_dumped_device f.device) f
+-- at the device, in its sets, and in the other part: it is said whether the device descriptor breaks V11
+abbrev pub file_in_order : Bool → DescriptorFile → List Finding
+file_in_order wrong f =
+    without_sets parts.Main f.sets
+    ++ when wrong (finding rules.V11 parts.Device 0 0 0)
+    ++ part_in_order parts.Main f.sets
+    ++ other_in_order f.other
 
 -- the part that a set alone is of: `main` for a configuration, `other` for an other-speed configuration
 abbrev pub part_of_kind : SetKind → Part
 part_of_kind kinds.Configuration = parts.Main
 part_of_kind kinds.OtherSpeed = parts.Other
 
--- what is found in the sets of a part
-abbrev pub part_findings : Part → List Configuration → List Finding
-part_findings part sets =
-    in_sets interface_counts part sets
-    ++ in_sets number_gaps part sets
-    ++ in_sets repeated_settings part sets
-    ++ in_sets missing_default_settings part sets
-    ++ in_sets endpoint_counts part sets
-    ++ in_sets addresses part sets
-    ++ in_sets repeated_addresses part sets
-    ++ in_sets shared_addresses part sets
-    ++ in_sets attributes part sets
-    ++ values part sets
-    ++ in_sets packet_sizes part sets
-    ++ in_sets associations part sets
+-- what is found in an input, in the order of its bytes: in a set alone, which is the only one of its part, in a file, or
+-- in a dump, whose device may be one of SuperSpeed
+abbrev pub findings_in_order : Input → List Finding
+findings_in_order (inputs.Set set) = part_in_order (part_of_kind set.kind) (set ∷ [])
+findings_in_order (inputs.File file) = file_in_order (wrong_device file.device) file
+findings_in_order (inputs.Dump file) = file_in_order (wrong_dumped_device file.device) file
 
--- what `check` reports of a set alone: it is the only set of its part
-abbrev pub set_findings : Configuration → List Finding
-set_findings c = part_findings (part_of_kind c.kind) (c ∷ [])
+-- the findings of a rule
+abbrev pub of_rule : Rule → List Finding → List Finding
+of_rule r found = filter (λ f. f.rule == rule_number r) found
 
--- what breaks a rule in an input: in a set alone, in a file, or in a dump, whose device may be one of SuperSpeed
+-- findings sorted by rule: those of one rule stay in their order
+abbrev pub by_rule : List Finding → List Finding
+by_rule found = fold (λ out r. out ++ of_rule r found) [] every_rule
+
+-- what is reported of an input
 abbrev pub input_findings : Input → List Finding
-input_findings (inputs.Set set) = set_findings set
-input_findings (inputs.File file) = findings file
-input_findings (inputs.Dump file) = dump_findings file
+input_findings input = by_rule (findings_in_order input)
+
+-- what `check` reports of a file
+abbrev pub findings : DescriptorFile → List Finding
+findings f = input_findings (inputs.File f)
+
+-- what `check_dump` reports of a dump
+abbrev pub dump_findings : DescriptorFile → List Finding
+dump_findings f = input_findings (inputs.Dump f)
+
+-- what `check_set` reports of a set alone
+abbrev pub set_findings : Configuration → List Finding
+set_findings c = input_findings (inputs.Set c)

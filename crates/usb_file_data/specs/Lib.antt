@@ -5,7 +5,6 @@ pub mod FindingLine
 pub mod Places
 pub mod Rules
 pub mod Findings
-pub mod InOrder
 pub mod FileFaults
 pub mod Inputs
 pub mod Likeness

@@ -1,11 +1,7 @@
 -- Going over a file, and what is found where.
-use Rattle.std.specs.Prelude.{ℕ, ◌+◌, List, [], ◌∷◌, ◌++◌, take, Bool, ◌==◌, Option, Some, None, if◌then◌else◌}
+use Rattle.std.specs.Prelude.{ℕ, ◌+◌, List, [], ◌∷◌, ◌++◌, take, Bool, ◌==◌, if◌then◌else◌}
 use Rattle.std.specs.List.{list_any}
-use Rattle.usb_set.specs.declared.tree.Configuration.{Configuration}
-use Rattle.usb_file_data.specs.declared.file.DescriptorFile.{DescriptorFile}
-use Rattle.usb_file_data.specs.declared.file.Other.{Other}
 use Rattle.usb_file_data.specs.declared.finding.Part.{Part}
-use Rattle.usb_file_data.specs.declared.finding.Part.TheVariants as parts
 use Rattle.usb_file_data.specs.declared.finding.Finding.{Finding}
 use Rattle.usb_file_data.specs.declared.rule.Rule.{Rule}
 use Rattle.usb_file_data.specs.Numbers.{rule_number}
@@ -35,16 +31,3 @@ at_each_after f xs = at_each (λ i x. f (take i xs) i x) 0 xs
 abbrev pub at_each_counted : {A B : Type 0} → (A → ℕ) → (ℕ → ℕ → A → List B) → ℕ → ℕ → List A → List B
 at_each_counted size f place n [] = []
 at_each_counted size f place n (x ∷ xs) = f place n x ++ at_each_counted size f (place + 1) (n + size x) xs
-
--- what is found in each set of a part
-abbrev pub in_sets : (Part → ℕ → Configuration → List Finding) → Part → List Configuration → List Finding
-in_sets found part sets = at_each (found part) 0 sets
-
--- what is found in the other part, where the file has one
-abbrev pub in_other : (Part → List Configuration → List Finding) → Option Other → List Finding
-in_other found None = []
-in_other found (Some other) = found parts.Other other.sets
-
--- what is found in the sets of the main part, and then in those of the other
-abbrev pub in_parts : (Part → List Configuration → List Finding) → DescriptorFile → List Finding
-in_parts found f = found parts.Main f.sets ++ in_other found f.other

@@ -1,7 +1,6 @@
 //! All findings of a file, of a dump, and of a set alone.
-ghost use Rattle.std.specs.Prelude.{◌≡◌, ◌++◌, IfOk, OnOk};
-ghost use Rattle.usb_file_data.specs.Findings.{dump_findings, findings, input_findings, part_of_kind, set_findings};
-ghost use Rattle.usb_file_data.specs.InOrder.{dump_findings_in_order, file_in_order, findings_in_order, part_in_order, set_findings_in_order};
+ghost use Rattle.std.specs.Prelude.{◌≡◌, ◌++◌, ◌∷◌, [], IfOk, OnOk};
+ghost use Rattle.usb_file_data.specs.Findings.{dump_findings, file_in_order, findings, findings_in_order, input_findings, part_in_order, part_of_kind, set_findings};
 
 use crate::configuration::check_any_set;
 use crate::device::{check_device, check_qualifier, is_wrong_device, is_wrong_dumped_device};
@@ -30,7 +29,6 @@ pub use std::alloc::AllocError as NoMemory;
 /// # Errors
 ///
 /// Out of memory.
-#[tactic(auto, using(crate::proofs::Sorting::sorted))]
 pub fn check(alloc: Global, f: &DescriptorFile) -> Result<Vec<Finding>, NoMemory>
     ensures { IfOk result (λ v. v.items ≡ findings f.now) }
 {
@@ -49,7 +47,6 @@ pub fn check(alloc: Global, f: &DescriptorFile) -> Result<Vec<Finding>, NoMemory
 /// # Errors
 ///
 /// Out of memory.
-#[tactic(auto, using(crate::proofs::Sorting::sorted))]
 pub fn check_dump(alloc: Global, f: &DescriptorFile) -> Result<Vec<Finding>, NoMemory>
     ensures { IfOk result (λ v. v.items ≡ dump_findings f.now) }
 {
@@ -69,7 +66,6 @@ pub fn check_dump(alloc: Global, f: &DescriptorFile) -> Result<Vec<Finding>, NoM
 /// # Errors
 ///
 /// Out of memory.
-#[tactic(auto, using(crate::proofs::Sorting::sorted_set))]
 pub fn check_set(alloc: Global, c: &Configuration) -> Result<Vec<Finding>, NoMemory>
     ensures { IfOk result (λ v. v.items ≡ set_findings c.now) }
 {
@@ -91,17 +87,13 @@ pub fn check_set(alloc: Global, c: &Configuration) -> Result<Vec<Finding>, NoMem
 pub fn check_input(alloc: Global, input: &Input) -> Result<Vec<Finding>, NoMemory>
     ensures { IfOk result (λ findings. findings.items ≡ input_findings input.now) }
 {
-    match input {
-        Input::Set(set) => check_set(alloc, set),
-        Input::File(file) => check(alloc, file),
-        Input::Dump(file) => check_dump(alloc, file),
-    }
+    walk(alloc, input)?.by_rule(alloc)
 }
 
-/// What [`check`] finds in a file, in the order of its bytes: at each descriptor the rules that it breaks.
+/// What [`check_input`] finds, in the order of the bytes: at each descriptor the rules that it breaks.
 ///
 /// ```rust
-/// for finding in findings_in_order(rt.alloc(), &file)?.iter() {
+/// for finding in findings_in_order(rt.alloc(), &Input::File(file))?.iter() {
 ///     println!(rt; "{finding}")?;
 /// }
 /// ```
@@ -109,32 +101,10 @@ pub fn check_input(alloc: Global, input: &Input) -> Result<Vec<Finding>, NoMemor
 /// # Errors
 ///
 /// Out of memory.
-pub fn findings_in_order(alloc: Global, f: &DescriptorFile) -> Result<Vec<Finding>, NoMemory>
-    ensures { IfOk result (λ v. v.items ≡ findings_in_order f.now) }
+pub fn findings_in_order(alloc: Global, input: &Input) -> Result<Vec<Finding>, NoMemory>
+    ensures { IfOk result (λ v. v.items ≡ findings_in_order input.now) }
 {
-    Ok(walk_file(alloc, is_wrong_device(&f.device), f)?.in_order())
-}
-
-/// What [`check_dump`] finds in a dump, in the order of its bytes.
-///
-/// # Errors
-///
-/// Out of memory.
-pub fn dump_findings_in_order(alloc: Global, f: &DescriptorFile) -> Result<Vec<Finding>, NoMemory>
-    ensures { IfOk result (λ v. v.items ≡ dump_findings_in_order f.now) }
-{
-    Ok(walk_file(alloc, is_wrong_dumped_device(&f.device), f)?.in_order())
-}
-
-/// What [`check_set`] finds in a set alone, in the order of its bytes.
-///
-/// # Errors
-///
-/// Out of memory.
-pub fn set_findings_in_order(alloc: Global, c: &Configuration) -> Result<Vec<Finding>, NoMemory>
-    ensures { IfOk result (λ v. v.items ≡ set_findings_in_order c.now) }
-{
-    Ok(walk_set(alloc, c)?.in_order())
+    Ok(walk(alloc, input)?.in_order())
 }
 
 /// The part that a set alone is of.
@@ -147,9 +117,20 @@ fn part_of(kind: SetKind) -> Part
     }
 }
 
+/// Goes over an input.
+fn walk(alloc: Global, input: &Input) -> Result<Found, AllocError>
+    ensures { IfOk result (λ found. found ≡ findings_in_order input.now) }
+{
+    match input {
+        Input::Set(set) => walk_set(alloc, set),
+        Input::File(file) => walk_file(alloc, is_wrong_device(&file.device), file),
+        Input::Dump(file) => walk_file(alloc, is_wrong_dumped_device(&file.device), file),
+    }
+}
+
 /// Goes over a set alone.
 fn walk_set(alloc: Global, c: &Configuration) -> Result<Found, AllocError>
-    ensures { IfOk result (λ found. found ≡ set_findings_in_order c.now) }
+    ensures { IfOk result (λ found. found ≡ part_in_order (part_of_kind c.now.kind) (c.now ∷ [])) }
 {
     let mut found = Found::new(alloc);
     let mut known = Known::new(alloc);

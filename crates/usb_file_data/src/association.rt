@@ -1,7 +1,7 @@
 //! V13: an association binds interfaces that are there.
 ghost use Rattle.std.specs.Prelude.{◌≡◌, ◌+◌, ◌∷◌, ◌++◌, [], IfOk, OnOk, length};
 ghost use Rattle.usb_set.specs.Owners.{association_in};
-ghost use Rattle.usb_file_data.specs.InOrder.{association_count};
+ghost use Rattle.usb_file_data.specs.Findings.{association_count};
 ghost use Rattle.usb_file_data.specs.inside.Interfaces.{kept, misses_some};
 ghost use Rattle.usb_file_data.specs.inside.Walk.{in_extras};
 

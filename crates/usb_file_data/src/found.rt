@@ -1,7 +1,7 @@
 //! What a walk over a file finds.
 ghost use Rattle.std.specs.Prelude.{◌≡◌, ◌++◌, [], map, true, IfOk, OnOk};
 ghost use Rattle.usb_fields.specs.Marks.{is_marked};
-ghost use Rattle.usb_file_data.specs.InOrder.{by_rule};
+ghost use Rattle.usb_file_data.specs.Findings.{by_rule};
 ghost use Rattle.usb_file_data.specs.Places.{is_among};
 
 use crate::finding::Finding;
@@ -31,7 +31,7 @@ impl Model for Found {
 
 impl Found {
     ghost use Rattle.usb_file_data.specs.Places.{when};
-    ghost use Rattle.usb_file_data.specs.InOrder.{by_rule, of_rule};
+    ghost use Rattle.usb_file_data.specs.Findings.{by_rule, of_rule};
     ghost use Rattle.usb_file_data.specs.inside.Walk.{broken};
 
     /// Nothing yet.

@@ -11,9 +11,8 @@
 //!   `specs/Inputs.antt`), and [`Likeness`] is what they look like then (`specs/Likeness.antt`).
 //! - [`check`] reports all that breaks a rule of chapter 9, each [`Finding`] at its place: counts that do not match,
 //!   settings that occur twice, addresses that two interfaces claim. [`check_dump`] and [`check_set`] do so of what is
-//!   less than a file, and [`check_input`] of any of the three. What breaks each rule is `specs/Rules.antt`; what is
-//!   found, rule by rule, is `specs/Findings.antt`, and in the order of the bytes, as from [`findings_in_order`],
-//!   `specs/InOrder.antt`.
+//!   less than a file, and [`check_input`] of any of the three. What breaks each rule is `specs/Rules.antt`. What is found
+//!   at each descriptor, as from [`findings_in_order`], and that sorted by rule is `specs/Findings.antt`.
 //! - [`laws`] says how long a file can be, and that a copy of a file is that file.
 #![tactic(auto)]
 
@@ -38,10 +37,7 @@ mod set;
 mod string;
 mod string_marks;
 
-pub use all_findings::{
-    check, check_dump, check_input, check_set, dump_findings_in_order, findings_in_order,
-    set_findings_in_order,
-};
+pub use all_findings::{check, check_dump, check_input, check_set, findings_in_order};
 pub use fault::{FileFault, FileWhy, InputFault};
 pub use file::{DescriptorFile, Input, Other, Strings};
 pub use finding::{Finding, Part, findings_text};

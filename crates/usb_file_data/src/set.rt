@@ -1,7 +1,7 @@
 //! All rules that a set keeps or breaks by itself.
 ghost use Rattle.std.specs.Prelude.{◌≡◌, ◌+◌, ◌++◌, true, false, IfOk, OnOk};
 ghost use Rattle.usb_fields.specs.Marks.{is_marked, marked};
-ghost use Rattle.usb_file_data.specs.InOrder.{setting_associations};
+ghost use Rattle.usb_file_data.specs.Findings.{setting_associations};
 ghost use Rattle.usb_file_data.specs.inside.Addresses.{claimed, owned, kept as claims};
 ghost use Rattle.usb_file_data.specs.inside.Interfaces.{NoneBreaksV3OrV4, AreEntered, entered, kept as entries, compared_with};
 ghost use Rattle.usb_file_data.specs.inside.Walk.{in_configuration, in_endpoint, in_interface, in_set, in_setting};

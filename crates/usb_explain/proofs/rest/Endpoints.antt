@@ -6,7 +6,7 @@ use Rattle.std.proofs.lemmas.Option.{none-some}
 use Rattle.usb_file_data.specs.declared.finding.Finding.{Finding}
 use Rattle.usb_file_data.specs.declared.rule.Rule.{Rule}
 use Rattle.usb_file_data.specs.declared.rule.Rule.TheVariants as rules
-use Rattle.usb_file_data.specs.InOrder.{association_count, at_associations, at_endpoint, endpoint_associations, endpoint_in_order}
+use Rattle.usb_file_data.specs.Findings.{association_count, at_associations, at_endpoint, endpoint_associations, endpoint_in_order}
 use Rattle.usb_file_data.specs.Places.{at_each_counted, finding, when}
 use Rattle.usb_file_data.specs.Rules.{repeats_address, shares_address, wrong_address, wrong_packet_size}
 use Rattle.usb_set.specs.declared.tree.Endpoint.{Endpoint}

@@ -7,7 +7,7 @@ use Rattle.usb_file_data.specs.declared.finding.Finding.{Finding}
 use Rattle.usb_file_data.specs.declared.finding.Part.{Part}
 use Rattle.usb_file_data.specs.declared.rule.Rule.{Rule}
 use Rattle.usb_file_data.specs.declared.rule.Rule.TheVariants as rules
-use Rattle.usb_file_data.specs.InOrder.{association_count, at_associations}
+use Rattle.usb_file_data.specs.Findings.{association_count, at_associations}
 use Rattle.usb_file_data.specs.Places.{at_each, finding, when}
 use Rattle.usb_file_data.specs.Rules.{binds_missing_interface}
 use Rattle.usb_file_data.proofs.RuleNumbers.{numbered_rule}

@@ -13,11 +13,9 @@ use Rattle.usb_fields.specs.Units.{units_bytes}
 use Rattle.usb_file_data.specs.declared.finding.Finding.{Finding}
 use Rattle.usb_file_data.specs.declared.finding.Part.TheVariants as parts
 use Rattle.usb_file_data.specs.declared.rule.Rule.TheVariants as rules
-use Rattle.usb_file_data.specs.Findings.{part_of_kind, input_findings}
-use Rattle.usb_file_data.specs.InOrder.{by_rule, file_in_order, other_in_order, part_in_order, set_in_order, set_findings_in_order, without_sets}
+use Rattle.usb_file_data.specs.Findings.{by_rule, file_in_order, findings_in_order, other_in_order, part_in_order, part_of_kind, set_in_order, without_sets}
 use Rattle.usb_file_data.specs.Places.{finding, when}
 use Rattle.usb_file_data.specs.Rules.{wrong_device, wrong_dumped_device, wrong_qualifier}
-use Rattle.usb_file_data.proofs.Sorting.{sorted, sorted_set}
 use Rattle.usb_set.specs.declared.tree.Configuration.{Configuration}
 use Rattle.usb_set.specs.declared.tree.SetKind.{SetKind}
 use Rattle.usb_set.specs.declared.tree.SetKind.TheVariants as kinds
@@ -44,7 +42,7 @@ use Rattle.usb_explain.specs.Laws.{WholeHasNoRest, WholeShowsTree, WholeTellsCou
 use Rattle.usb_explain.specs.SetStart.{entered}
 use Rattle.usb_explain.specs.Standings.{noted, passed, with_told, start}
 use Rattle.usb_explain.specs.Roles.{outer_role, role_if, role_of, string_role}
-use Rattle.usb_explain.specs.Subjects.{Subject, findings_in, subject_with}
+use Rattle.usb_explain.specs.Subjects.{Subject, subject_with}
 use Rattle.usb_explain.proofs.Standings.{start_told}
 use Rattle.usb_explain.proofs.Spans.{Aim, adding}
 use Rattle.usb_explain.proofs.rest.Walks.{Ends, ShowsAll, Tells, all_tells, ends_here, nothing_left}
@@ -276,7 +274,7 @@ pub start_outside : start.left ≡ 0
 unfolding start
 start_outside = refl
 
-set_leaves : (subject : Subject) (c : Configuration) (b : List ℕ) → Layout c b → subject.found ≡ set_findings_in_order c → Ends (ShowsAll (inputs.Set c)) subject start b
+set_leaves : (subject : Subject) (c : Configuration) (b : List ℕ) → Layout c b → subject.found ≡ findings_in_order (inputs.Set c) → Ends (ShowsAll (inputs.Set c)) subject start b
 set_leaves subject c b layout found =
     let before = take 0 (c ∷ []) in
     let part = part_of_kind c.kind in
@@ -338,7 +336,7 @@ dump_leaves subject f wrong b dump found =
     (refl, ap (λ l. entry roles.Device 0 d ∷ l) (append-nil (flat_map set_entries f.sets)), append-nil (flat_map set_counts f.sets))))
     (rear_of_all subject (one ++ (two ++ [])) (found ∙ in_parts)))
 
-input_leaves : (subject : Subject) (input : Input) (b : List ℕ) → IsInput input b → subject.found ≡ findings_in input → Ends (ShowsAll input) subject start b
+input_leaves : (subject : Subject) (input : Input) (b : List ℕ) → IsInput input b → subject.found ≡ findings_in_order input → Ends (ShowsAll input) subject start b
 input_leaves subject (inputs.Set set) b is found = set_leaves subject set b is found
 input_leaves subject (inputs.File file) b is found = file_leaves subject file (wrong_device file.device) b is found
 input_leaves subject (inputs.Dump file) b is found = dump_leaves subject file (wrong_dumped_device file.device) b is found
@@ -348,22 +346,16 @@ found_is manner (inputs.Set set) all = refl
 found_is manner (inputs.File file) all = refl
 found_is manner (inputs.Dump file) all = refl
 
--- rule by rule they are what `check` finds
-sorts : (input : Input) → by_rule (findings_in input) ≡ input_findings input
-sorts (inputs.Set set) = sorted_set (part_of_kind set.kind) set
-sorts (inputs.File file) = sorted (wrong_device file.device) file
-sorts (inputs.Dump file) = sorted (wrong_dumped_device file.device) file
-
 pub whole_has_no_rest : WholeHasNoRest
 whole_has_no_rest manner input b is =
-    let all = findings_in input in
+    let all = findings_in_order input in
     nothing_left (subject_with manner input all) input b (input_leaves (subject_with manner input all) input b is (found_is manner input all))
 
-all_is_told : (manner : Manner) (input : Input) (b : List ℕ) → IsInput input b → Tells (subject_with manner input (findings_in input)) input b
+all_is_told : (manner : Manner) (input : Input) (b : List ℕ) → IsInput input b → Tells (subject_with manner input (findings_in_order input)) input b
 all_is_told manner input b is =
-    let all = findings_in input in
+    let all = findings_in_order input in
     let same : (subject_with manner input all).found ≡ all = found_is manner input all in
-    all_tells (subject_with manner input all) input b (ap (λ l. by_rule l) same ∙ sorts input) (input_leaves (subject_with manner input all) input b is same)
+    all_tells (subject_with manner input all) input b (ap (λ l. by_rule l) same) (input_leaves (subject_with manner input all) input b is same)
 
 pub whole_tells : WholeTellsFindings
 whole_tells manner input b is = (all_is_told manner input b is).tells

@@ -8,8 +8,7 @@ use Rattle.usb_file_data.specs.declared.finding.Finding.{Finding}
 use Rattle.usb_file_data.specs.declared.finding.Part.TheVariants as parts
 use Rattle.usb_file_data.specs.declared.rule.Rule.{Rule}
 use Rattle.usb_file_data.specs.declared.rule.Rule.TheVariants as rules
-use Rattle.usb_file_data.specs.Findings.{part_of_kind}
-use Rattle.usb_file_data.specs.InOrder.{association_count, at_associations, at_configuration, set_in_order, setting_associations, setting_in_order}
+use Rattle.usb_file_data.specs.Findings.{association_count, at_associations, at_configuration, part_of_kind, set_in_order, setting_associations, setting_in_order}
 use Rattle.usb_file_data.specs.Places.{at_each, at_each_counted, finding}
 use Rattle.usb_file_data.specs.Rules.{has_number_gap, interface_numbers, wrong_attributes, wrong_interface_count, wrong_value}
 use Rattle.usb_set.specs.declared.fault.EncodeFault.TheVariants as encoding

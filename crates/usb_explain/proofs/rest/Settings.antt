@@ -5,7 +5,7 @@ use Rattle.std.proofs.lemmas.Bool.{le-leb, or_parts}
 use Rattle.usb_file_data.specs.declared.finding.Finding.{Finding}
 use Rattle.usb_file_data.specs.declared.rule.Rule.{Rule}
 use Rattle.usb_file_data.specs.declared.rule.Rule.TheVariants as rules
-use Rattle.usb_file_data.specs.InOrder.{association_count, at_associations, at_interface, endpoint_associations, endpoint_in_order, setting_associations, setting_in_order}
+use Rattle.usb_file_data.specs.Findings.{association_count, at_associations, at_interface, endpoint_associations, endpoint_in_order, setting_associations, setting_in_order}
 use Rattle.usb_file_data.specs.Places.{at_each_counted, finding, when}
 use Rattle.usb_file_data.specs.Rules.{lacks_default_setting, repeats_setting, wrong_endpoint_count}
 use Rattle.usb_set.specs.declared.tree.Endpoint.{Endpoint}

@@ -12,10 +12,9 @@ use Rattle.usb_explain.specs.Standings.{start}
 use Rattle.usb_explain.specs.Subjects.{Subject}
 use Rattle.usb_explain.specs.Trees.{counts_in, outline}
 use Rattle.usb_file_data.specs.declared.file.Input.{Input}
-use Rattle.usb_file_data.specs.Findings.{input_findings}
+use Rattle.usb_file_data.specs.Findings.{by_rule, input_findings}
 use Rattle.usb_explain.proofs.Standings.{start_told}
 use Rattle.usb_file_data.specs.declared.finding.Finding.{Finding}
-use Rattle.usb_file_data.specs.InOrder.{by_rule}
 use Rattle.usb_file_data.specs.Numbers.{rule_numbered}
 use Rattle.usb_file_data.specs.declared.rule.Rule.{Rule}
 use Rattle.usb_file_data.proofs.Sorting.{HasRule, as_many}

@@ -14,7 +14,7 @@ use Rattle.usb_file_data.specs.declared.rule.Rule.{Rule}
 use Rattle.usb_file_data.specs.declared.rule.Rule.TheVariants as rules
 use Rattle.usb_file_data.specs.Places.{at_each, at_each_counted, finding, is_among, when}
 use Rattle.usb_file_data.specs.Rules.{address_of, has_elsewhere, has_number_gap, number_of, value_of, wrong_address, wrong_attributes, wrong_endpoint_count, wrong_interface_count, wrong_packet_size}
-use Rattle.usb_file_data.specs.InOrder.{association_count, endpoint_associations, setting_associations}
+use Rattle.usb_file_data.specs.Findings.{association_count, endpoint_associations, setting_associations}
 use Rattle.usb_file_data.specs.inside.Interfaces.{misses_some, has_alternate}
 
 -- The marked numbers in order.

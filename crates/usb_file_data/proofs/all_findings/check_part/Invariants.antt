@@ -2,7 +2,7 @@ use Rattle.std.proofs.Common.{◌≡◌, ◌++◌, drop, take, map}
 use Rattle.usb_fields.specs.Marks.{is_marked}
 use Rattle.usb_file_data.specs.Places.{at_each, is_among}
 use Rattle.usb_file_data.specs.Rules.{value_of}
-use Rattle.usb_file_data.specs.InOrder.{part_in_order}
+use Rattle.usb_file_data.specs.Findings.{part_in_order}
 use Rattle.usb_file_data.specs.inside.Walk.{set_at}
 use Rattle.usb_file_data.proofs.all_findings.check_part.Given as goal
 

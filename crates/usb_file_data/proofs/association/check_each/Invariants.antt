@@ -1,5 +1,5 @@
 use Rattle.std.proofs.Common.{◌≡◌, ◌++◌, ◌+◌, drop}
-use Rattle.usb_file_data.specs.InOrder.{association_count}
+use Rattle.usb_file_data.specs.Findings.{association_count}
 use Rattle.usb_file_data.specs.inside.Interfaces.{kept}
 use Rattle.usb_file_data.specs.inside.Walk.{in_extras}
 use Rattle.usb_file_data.proofs.association.check_each.Given as goal

@@ -1,5 +1,5 @@
 use Rattle.std.proofs.Common.{◌≡◌, ◌≤◌, take}
-use Rattle.usb_file_data.specs.InOrder.{by_rule}
+use Rattle.usb_file_data.specs.Findings.{by_rule}
 use Rattle.usb_file_data.proofs.Sorting.{EndsAt}
 use Rattle.usb_file_data.proofs.found.is_by_rule.Given as goal
 

@@ -2,7 +2,7 @@ use Rattle.std.proofs.Common.{◌≡◌, ◌<◌, ◌+◌, ◌++◌, ◌∙◌, 
 use Rattle.usb_fields.specs.Marks.{marked}
 use Rattle.usb_file_data.specs.Places.{at_each_counted, is_among}
 use Rattle.usb_file_data.specs.Rules.{number_of}
-use Rattle.usb_file_data.specs.InOrder.{association_count, endpoint_associations, setting_associations}
+use Rattle.usb_file_data.specs.Findings.{association_count, endpoint_associations, setting_associations}
 use Rattle.usb_file_data.specs.inside.Addresses.{owned, kept as claims}
 use Rattle.usb_file_data.specs.inside.Interfaces.{NoneBreaksV3OrV4, AreEntered, entered, pair_too, kept as entries, compared_with, has_alternate}
 use Rattle.usb_file_data.specs.inside.Walk.{endpoint_at, in_extras, in_setting, place, setting_at}

@@ -2,7 +2,7 @@ use Rattle.std.proofs.Common.{◌≡◌, ◌++◌, true, drop, take, map}
 use Rattle.usb_fields.specs.Marks.{is_marked}
 use Rattle.usb_file_data.specs.Places.{at_each_counted, is_among}
 use Rattle.usb_file_data.specs.Rules.{number_of}
-use Rattle.usb_file_data.specs.InOrder.{setting_associations}
+use Rattle.usb_file_data.specs.Findings.{setting_associations}
 use Rattle.usb_file_data.specs.inside.Addresses.{kept as claims}
 use Rattle.usb_file_data.specs.inside.Interfaces.{kept as entries, has_alternate}
 use Rattle.usb_file_data.specs.inside.Walk.{in_set, setting_at, shared_with}

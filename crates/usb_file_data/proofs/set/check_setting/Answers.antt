@@ -3,7 +3,7 @@ use Rattle.usb_fields.specs.Marks.{marked}
 use Rattle.usb_fields.proofs.Cells.{funext}
 use Rattle.usb_file_data.specs.Places.{at_each_counted, is_among}
 use Rattle.usb_file_data.specs.Rules.{address_of}
-use Rattle.usb_file_data.specs.InOrder.{association_count, endpoint_associations}
+use Rattle.usb_file_data.specs.Findings.{association_count, endpoint_associations}
 use Rattle.usb_file_data.specs.inside.Addresses.{owned, owned_at, kept as claims}
 use Rattle.usb_file_data.specs.inside.Interfaces.{kept as entries, compared_with}
 use Rattle.usb_file_data.specs.inside.Walk.{endpoint_at, in_endpoint, in_extras, in_interface, place}

@@ -2,7 +2,7 @@ use Rattle.std.proofs.Common.{◌≡◌, ◌++◌, ◌+◌, true, drop, take, ma
 use Rattle.std.specs.List.{flat_map}
 use Rattle.usb_file_data.specs.Places.{at_each_counted, is_among}
 use Rattle.usb_file_data.specs.Rules.{address_of}
-use Rattle.usb_file_data.specs.InOrder.{association_count, endpoint_associations, setting_associations}
+use Rattle.usb_file_data.specs.Findings.{association_count, endpoint_associations, setting_associations}
 use Rattle.usb_file_data.specs.inside.Addresses.{owned, kept as claims}
 use Rattle.usb_file_data.specs.inside.Interfaces.{entered, kept as entries, compared_with}
 use Rattle.usb_file_data.specs.inside.Walk.{endpoint_at, in_setting}

@@ -2,7 +2,7 @@ use Rattle.std.proofs.Common.{◌++◌, ◌∙◌, ap, sym}
 use Rattle.std.proofs.lemmas.List.{append-nil}
 use Rattle.usb_fields.specs.Marks.{is_marked}
 use Rattle.usb_file_data.specs.Numbers.{rule_number}
-use Rattle.usb_file_data.proofs.SortedSets.{none_of}
+use Rattle.usb_file_data.proofs.Sorting.{none_of}
 use Rattle.usb_file_data.proofs.found.Found.copy_of.Goals as goal
 
 pub returns-then-not-has : goal.returns-then-not-has

@@ -1,5 +1,5 @@
 use Rattle.std.proofs.Common.{◌≡◌, ◌++◌, drop}
-use Rattle.usb_file_data.specs.InOrder.{of_rule}
+use Rattle.usb_file_data.specs.Findings.{of_rule}
 use Rattle.usb_file_data.proofs.found.Found.copy_of.Given as goal
 
 abbrev pub invariant-loop-finding : goal.invariant-loop-finding

@@ -1,8 +1,8 @@
 use Rattle.std.proofs.Common.{◌++◌}
 use Rattle.std.proofs.lemmas.List.{get_or_default}
-use Rattle.usb_file_data.specs.InOrder.{of_rule}
+use Rattle.usb_file_data.specs.Findings.{of_rule}
 use Rattle.usb_file_data.specs.Numbers.{every_rule}
-use Rattle.usb_file_data.proofs.SortedSets.{fold_next}
+use Rattle.usb_file_data.proofs.Sorting.{fold_next}
 use Rattle.usb_file_data.proofs.found.Found.sorted.Goals as goal
 
 pub loop-rule-preserved : goal.loop-rule-preserved

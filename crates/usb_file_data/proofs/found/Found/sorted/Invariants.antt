@@ -1,6 +1,6 @@
 use Rattle.std.proofs.Common.{◌≡◌, ◌++◌, drop}
 use Rattle.std.specs.Prelude.{fold}
-use Rattle.usb_file_data.specs.InOrder.{by_rule, of_rule}
+use Rattle.usb_file_data.specs.Findings.{by_rule, of_rule}
 use Rattle.usb_file_data.specs.Numbers.{every_rule}
 use Rattle.usb_file_data.proofs.found.Found.sorted.Given as goal
 
