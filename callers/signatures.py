@@ -1,5 +1,5 @@
 #!/usr/bin/env python3
-"""signatures.py: compares what the library exports with what its callers declare: usb.h, the Rust block and ctypes.
+"""signatures.py: compares what the library exports with what its callers declare: nozzlegorse.h, the Rust block and ctypes.
 
 Of each function the result, and of each parameter the shape, in order; of each struct the fields' widths, in order. A slice is a
 pointer and a length, a Global is nothing, and a reference to a struct a pointer to it. ctypes knows no const, and the Rust
@@ -13,9 +13,9 @@ import sys
 
 HERE = os.path.dirname(os.path.abspath(__file__))
 SOURCE, HEADER, RUST, PYTHON = sys.argv[1:] or (
-    f"{HERE}/../crates", f"{HERE}/c/usb.h", f"{HERE}/rust/nozzlegorse.rs", f"{HERE}/python/nozzlegorse.py")
+    f"{HERE}/../crates", f"{HERE}/../include/nozzlegorse.h", f"{HERE}/rust/nozzlegorse.rs", f"{HERE}/python/nozzlegorse.py")
 WIDTHS = {"u8": "uint8_t", "u16": "uint16_t", "u32": "uint32_t", "u64": "uint64_t", "usize": "size_t", "bool": "bool"}
-HANDLES = ("struct usb_device", "struct usb_host", "struct usb_decoder")
+HANDLES = ("struct nzg_device", "struct nzg_host", "struct nzg_decoder")
 
 
 def text_of(name):
@@ -28,7 +28,7 @@ def parts(text):
 
 
 def struct(name):
-    return "struct usb_" + re.sub(r"(?<!^)(?=[A-Z])", "_", name.removeprefix("Usb")).lower()
+    return "struct nzg_" + re.sub(r"(?<!^)(?=[A-Z])", "_", name.removeprefix("Nzg")).lower()
 
 
 def field(kind):
@@ -70,10 +70,10 @@ def header():
     text = re.sub(r"/\*.*?\*/", "", text_of(HEADER), flags=re.S)
     text = re.sub(r"^\s*#.*$", "", text, flags=re.M)
     functions, structs = {}, {}
-    for result, name, parameters in re.findall(r"((?:struct )?\w+) (usb_\w+)\(([^)]*)\)\s*;", text):
+    for result, name, parameters in re.findall(r"((?:struct )?\w+) (nzg_\w+)\(([^)]*)\)\s*;", text):
         kinds = [re.sub(r"\s*\*\s*", " *", re.sub(r"\b\w+$", "", it)).strip() for it in parts(parameters)]
         functions[name] = (result, kinds)
-    for name, body in re.findall(r"struct (usb_(?!block)\w+) \{(.*?)\}", text, re.S):
+    for name, body in re.findall(r"struct (nzg_(?!block)\w+) \{(.*?)\}", text, re.S):
         structs[f"struct {name}"] = [shape for it in body.split(";") if it.strip() for shape in declared(it.split())]
     return functions, structs
 
@@ -88,7 +88,7 @@ def declared(words):
 def rust():
     text = text_of(RUST)
     functions, structs = {}, {}
-    for name, parameters, result in re.findall(r"^    fn (usb_\w+)\(([^)]*)\)(?: -> (\w+))?;", text, re.M):
+    for name, parameters, result in re.findall(r"^    fn (nzg_\w+)\(([^)]*)\)(?: -> (\w+))?;", text, re.M):
         kinds = [pointed(it.partition(":")[2].strip()) for it in parts(parameters)]
         functions[name] = (pointed(result) if result else "void", kinds)
     for name, body in re.findall(r"#\[repr\(C\)\]\s*(?:#\[derive\([^)]*\)\]\s*)?(?:pub )?struct (\w+) \{(.*?)\n\}", text, re.S):
@@ -127,7 +127,7 @@ def of_ctypes(node):
         return f"struct {found[1]} *"
     if found := re.fullmatch(r"c_(\w+) \* (\d+)", text):
         return f"{found[1]}_t[{found[2]}]"
-    if text.startswith("usb_"):
+    if text.startswith("nzg_"):
         return f"struct {text}"
     return {"None": "void", "c_bool": "bool", "c_size_t": "size_t", "c_void_p": "void *"}.get(text) or f"{text.removeprefix('c_')}_t"
 
@@ -138,7 +138,7 @@ def no_const(kind):
 
 def one_handle(kind):
     for name in HANDLES:
-        kind = kind.replace(f"{name} *", "struct usb_handle *")
+        kind = kind.replace(f"{name} *", "struct nzg_handle *")
     return kind
 
 
@@ -152,7 +152,7 @@ def compare(whose, ours, theirs, plain):
             bad += 1
             print(f"signatures: {whose}: {name}: source {wanted}, declared {functions.get(name)}")
     for name in sorted({*ours[1], *structs}):
-        if name == "struct usb_handle" or (plain is one_handle and name in HANDLES):
+        if name == "struct nzg_handle" or (plain is one_handle and name in HANDLES):
             continue
         if ours[1].get(name) != structs.get(name):
             bad += 1
@@ -164,5 +164,9 @@ exported = source()
 bad = compare("C", exported, header(), lambda kind: kind)
 bad += compare("Rust", exported, rust(), one_handle)
 bad += compare("Python", exported, python(), no_const)
+versions = {re.search(r'VERSION:? ?(?:&str = )?"([\d.]+)"', text_of(name))[1] for name in (HEADER, f"{HERE}/../crates/usb_tool/src/help.rt")}
+if len(versions) > 1:
+    bad += 1
+    print(f"signatures: more than one version: {versions}")
 print(f"signatures: {len(exported[0])} exports and {len(exported[1])} structs, {bad} different")
 sys.exit(bad > 0)

@@ -30,13 +30,13 @@ static const uint8_t file[] = {
 static uint8_t text[256];
 
 static int judge(void) {
-    struct usb_answer a = usb_check(file, sizeof file, false, text, sizeof text);
-    if (a.status != USB_DONE || a.length != 12) return 1;
-    struct usb_device device = {0};
-    if (usb_device_open(&device, file, sizeof file, USB_FULL).status != USB_DONE) return 2;
+    struct nzg_answer a = nzg_check(file, sizeof file, false, text, sizeof text);
+    if (a.status != NZG_DONE || a.length != 12) return 1;
+    struct nzg_device device = {0};
+    if (nzg_device_open(&device, file, sizeof file, NZG_FULL).status != NZG_DONE) return 2;
     long before = pool_calls;
-    if (!usb_device_reset(&device) || pool_calls != before) return 3;
-    usb_device_close(&device);
+    if (!nzg_device_reset(&device) || pool_calls != before) return 3;
+    nzg_device_close(&device);
     return pool_live ? 4 : 0;
 }
 

@@ -11,34 +11,34 @@ static uint8_t file[1 << 20], got[1 << 20];
 static long asked;
 
 /* One transaction under its fate. */
-static void exchange(struct usb_host *host, struct usb_device *device, const struct usb_transaction *due, char fate) {
-    struct usb_packet packet = {USB_SILENCE, 0, 0, {0}};
+static void exchange(struct nzg_host *host, struct nzg_device *device, const struct nzg_transaction *due, char fate) {
+    struct nzg_packet packet = {NZG_SILENCE, 0, 0, {0}};
     if (fate == 'd') {
-        usb_host_take(host, USB_SILENCE, 0, packet.data, 0);
+        nzg_host_take(host, NZG_SILENCE, 0, packet.data, 0);
         return;
     }
     long before = pool_calls;
-    usb_device_serve(device, due, file, 0, fate != 'n', &packet);
-    if (packet.reply == USB_DATA && fate != 'u' && fate != 'a') usb_device_acked(device);
+    nzg_device_serve(device, due, file, 0, fate != 'n', &packet);
+    if (packet.reply == NZG_DATA && fate != 'u' && fate != 'a') nzg_device_acked(device);
     asked += pool_calls - before;
     if (fate == 'u')
-        usb_host_take(host, USB_SILENCE, 0, packet.data, 0);
+        nzg_host_take(host, NZG_SILENCE, 0, packet.data, 0);
     else
-        usb_host_take(host, packet.reply, packet.toggle, packet.data, packet.length);
+        nzg_host_take(host, packet.reply, packet.toggle, packet.data, packet.length);
 }
 
 /* Both ends to the end; how many transactions there were. */
-static long run(struct usb_host *host, struct usb_device *device, const char *fates) {
+static long run(struct nzg_host *host, struct nzg_device *device, const char *fates) {
     size_t known = strlen(fates);
     long transactions = 0;
-    struct usb_transaction due;
+    struct nzg_transaction due;
     for (;;) {
-        switch (usb_host_next(host, &due)) {
-        case USB_RESET:
-            usb_device_reset(device);
-            usb_host_reset_done(host);
+        switch (nzg_host_next(host, &due)) {
+        case NZG_RESET:
+            nzg_device_reset(device);
+            nzg_host_reset_done(host);
             break;
-        case USB_SEND:
+        case NZG_SEND:
             exchange(host, device, &due, (size_t)transactions < known ? fates[transactions] : '.');
             transactions++;
             break;
@@ -49,7 +49,7 @@ static long run(struct usb_host *host, struct usb_device *device, const char *fa
 }
 
 /* The word that usbdesc has for a step. */
-static void print_step(const struct usb_trouble *t) {
+static void print_step(const struct nzg_trouble *t) {
     static const char *words[] = {"", "first", "address", "device", "header %u", "set %u", "qualifier", "other_header %u", "other_set %u", "languages", "", "configure"};
     if (t->step == 10)
         printf("text %04x %02x", t->language, t->index);
@@ -62,25 +62,25 @@ int main(int argc, char **argv) {
     long length = read_all(argv[1], file, sizeof file);
     if (length < 0) return 2;
     uint8_t speed = (uint8_t)atoi(argv[2]);
-    struct usb_device device = {0};
-    struct usb_host host = {0};
-    struct usb_answer a = usb_device_open(&device, file, (size_t)length, speed);
+    struct nzg_device device = {0};
+    struct nzg_host host = {0};
+    struct nzg_answer a = nzg_device_open(&device, file, (size_t)length, speed);
     if (a.status) {
         printf("no device: status %u number %u place %zu\n", a.status, a.number, a.place);
         return 3;
     }
-    a = usb_host_open(&host, 1, argc > 4 ? (uint16_t)atoi(argv[4]) : 16, argc > 5 ? (uint8_t)atoi(argv[5]) : 3, speed);
+    a = nzg_host_open(&host, 1, argc > 4 ? (uint16_t)atoi(argv[4]) : 16, argc > 5 ? (uint8_t)atoi(argv[5]) : 3, speed);
     if (a.status) return 4;
     long transactions = run(&host, &device, argv[3]);
-    struct usb_state state = {0};
-    struct usb_trouble trouble = {0};
-    usb_device_state(&device, &state);
-    uint8_t attempts = usb_host_attempts(&host);
-    a = usb_host_outcome(&host, &trouble, got, sizeof got);
-    usb_device_close(&device);
-    usb_host_close(&host);
+    struct nzg_state state = {0};
+    struct nzg_trouble trouble = {0};
+    nzg_device_state(&device, &state);
+    uint8_t attempts = nzg_host_attempts(&host);
+    a = nzg_host_outcome(&host, &trouble, got, sizeof got);
+    nzg_device_close(&device);
+    nzg_host_close(&host);
     if (asked || pool_live) return 5;
-    if (a.status == USB_TROUBLE) {
+    if (a.status == NZG_TROUBLE) {
         printf("trouble %u ", trouble.why);
         print_step(&trouble);
         printf(" attempts %u transactions %ld\n", attempts, transactions);

@@ -1,7 +1,7 @@
 /* What the programs beside it use of the C library, for a machine that has its headers or not. */
 #ifndef HOSTED_H
 #define HOSTED_H
-#include "usb.h"
+#include "nozzlegorse.h"
 
 typedef struct file_of_c FILE;
 FILE *fopen(const char *name, const char *mode);

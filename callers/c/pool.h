@@ -2,7 +2,7 @@
  * that includes this needs no other memory. */
 #ifndef POOL_H
 #define POOL_H
-#include "usb.h"
+#include "nozzlegorse.h"
 
 #ifndef POOL
 #define POOL (1 << 20)
@@ -32,20 +32,20 @@ static void split(struct piece *p, size_t length) {
     p->next = rest;
 }
 
-static struct usb_block take(struct piece *p) {
+static struct nzg_block take(struct piece *p) {
     p->used = 1;
     pool_live++;
     pool_held += p->length;
     if (pool_held > pool_peak) pool_peak = pool_held;
-    return (struct usb_block){true, (unsigned char *)(p + 1)};
+    return (struct nzg_block){true, (unsigned char *)(p + 1)};
 }
 
-struct usb_block rattle_alloc(size_t length, size_t align) {
+struct nzg_block rattle_alloc(size_t length, size_t align) {
     (void)align;
     pool_calls++;
     struct piece *p = &pool.first;
     if (!p->length) p->length = POOL - sizeof *p;
-    if (length > POOL || pool_allowed == 0) return (struct usb_block){false, &nothing};
+    if (length > POOL || pool_allowed == 0) return (struct nzg_block){false, &nothing};
     if (pool_allowed > 0) pool_allowed--;
     length = (length + 15) & ~(size_t)15;
     for (; p; p = p->next) {
@@ -54,7 +54,7 @@ struct usb_block rattle_alloc(size_t length, size_t align) {
         split(p, length);
         return take(p);
     }
-    return (struct usb_block){false, &nothing};
+    return (struct nzg_block){false, &nothing};
 }
 
 void rattle_dealloc(unsigned char *at) {
@@ -64,8 +64,8 @@ void rattle_dealloc(unsigned char *at) {
     pool_held -= p->length;
 }
 
-struct usb_block rattle_realloc(unsigned char *at, size_t kept, size_t length, size_t align) {
-    struct usb_block grown = rattle_alloc(length, align);
+struct nzg_block rattle_realloc(unsigned char *at, size_t kept, size_t length, size_t align) {
+    struct nzg_block grown = rattle_alloc(length, align);
     if (!grown.ok) return grown;
     for (size_t i = 0; i < kept && i < length; i++) grown.at[i] = at[i];
     rattle_dealloc(at);

@@ -1,4 +1,4 @@
-/* refused FILE..: each request for memory refused in turn, for each call on each FILE. A call answers USB_NO_MEMORY or what
+/* refused FILE..: each request for memory refused in turn, for each call on each FILE. A call answers NZG_NO_MEMORY or what
  * it does with all memory; no block is left; and a handle that was open is as it was, or closed, as the header says. Ends in
  * 0 where all of that holds. */
 #define POOL (1 << 22)
@@ -11,84 +11,84 @@ static long calls, refusals;
 
 enum { SHOW, CHECK, CHECK_ANY, EXPLAIN, BUILD, BUILD_COMMENTS, ENUMERATE, DEVICE, HOST, DECODER, KINDS };
 
-static struct usb_answer in_pieces(uint8_t *out) {
-    struct usb_decoder decoder = {0};
-    struct usb_answer answer = usb_decoder_open(&decoder);
-    for (size_t at = 0; answer.status <= USB_OPEN && at < length; at += 7)
-        answer = usb_decoder_feed(&decoder, bytes + at, length - at < 7 ? length - at : 7);
-    if (answer.status == USB_DONE || answer.status == USB_OPEN) answer = usb_decoder_list(&decoder, out, sizeof text);
-    usb_decoder_close(&decoder);
-    usb_decoder_close(&decoder);
+static struct nzg_answer in_pieces(uint8_t *out) {
+    struct nzg_decoder decoder = {0};
+    struct nzg_answer answer = nzg_decoder_open(&decoder);
+    for (size_t at = 0; answer.status <= NZG_OPEN && at < length; at += 7)
+        answer = nzg_decoder_feed(&decoder, bytes + at, length - at < 7 ? length - at : 7);
+    if (answer.status == NZG_DONE || answer.status == NZG_OPEN) answer = nzg_decoder_list(&decoder, out, sizeof text);
+    nzg_decoder_close(&decoder);
+    nzg_decoder_close(&decoder);
     return answer;
 }
 
 /* The file, read by a host of a device. */
-static struct usb_answer by_host(uint8_t *out) {
-    struct usb_device device = {0};
-    struct usb_host host = {0};
-    struct usb_transaction due;
-    struct usb_packet packet;
-    struct usb_trouble trouble;
-    struct usb_answer answer = usb_device_open(&device, bytes, length, USB_FULL);
-    if (answer.status == USB_DONE) answer = usb_host_open(&host, 1, 16, 3, USB_FULL);
-    uint8_t action = answer.status == USB_DONE ? usb_host_next(&host, &due) : USB_NONE;
-    for (; action < USB_ENDED; action = usb_host_next(&host, &due)) {
-        if (action == USB_RESET) {
-            usb_device_reset(&device);
-            usb_host_reset_done(&host);
+static struct nzg_answer by_host(uint8_t *out) {
+    struct nzg_device device = {0};
+    struct nzg_host host = {0};
+    struct nzg_transaction due;
+    struct nzg_packet packet;
+    struct nzg_trouble trouble;
+    struct nzg_answer answer = nzg_device_open(&device, bytes, length, NZG_FULL);
+    if (answer.status == NZG_DONE) answer = nzg_host_open(&host, 1, 16, 3, NZG_FULL);
+    uint8_t action = answer.status == NZG_DONE ? nzg_host_next(&host, &due) : NZG_NONE;
+    for (; action < NZG_ENDED; action = nzg_host_next(&host, &due)) {
+        if (action == NZG_RESET) {
+            nzg_device_reset(&device);
+            nzg_host_reset_done(&host);
             continue;
         }
-        usb_device_serve(&device, &due, bytes, 0, true, &packet);
-        if (packet.reply == USB_DATA) usb_device_acked(&device);
-        usb_host_take(&host, packet.reply, packet.toggle, packet.data, packet.length);
+        nzg_device_serve(&device, &due, bytes, 0, true, &packet);
+        if (packet.reply == NZG_DATA) nzg_device_acked(&device);
+        nzg_host_take(&host, packet.reply, packet.toggle, packet.data, packet.length);
     }
-    if (action == USB_ENDED) answer = usb_host_outcome(&host, &trouble, out, sizeof text);
-    usb_host_close(&host);
-    usb_device_close(&device);
+    if (action == NZG_ENDED) answer = nzg_host_outcome(&host, &trouble, out, sizeof text);
+    nzg_host_close(&host);
+    nzg_device_close(&device);
     return answer;
 }
 
-static struct usb_answer opened_twice(void) {
-    struct usb_device device = {0};
-    usb_device_open(&device, bytes, length, USB_FULL);
-    struct usb_answer answer = usb_device_open(&device, bytes, length, USB_FULL);
-    struct usb_state state;
+static struct nzg_answer opened_twice(void) {
+    struct nzg_device device = {0};
+    nzg_device_open(&device, bytes, length, NZG_FULL);
+    struct nzg_answer answer = nzg_device_open(&device, bytes, length, NZG_FULL);
+    struct nzg_state state;
     /* after any fault nothing is held */
-    if (answer.status != USB_DONE && usb_device_state(&device, &state)) answer.status = 99;
-    usb_device_close(&device);
+    if (answer.status != NZG_DONE && nzg_device_state(&device, &state)) answer.status = 99;
+    nzg_device_close(&device);
     return answer;
 }
 
-static struct usb_answer call(int kind, uint8_t *out) {
-    struct usb_outcome outcome;
+static struct nzg_answer call(int kind, uint8_t *out) {
+    struct nzg_outcome outcome;
     switch (kind) {
-    case SHOW: return usb_show(bytes, length, true, out, sizeof text);
-    case CHECK: return usb_check(bytes, length, false, out, sizeof text);
-    case CHECK_ANY: return usb_check(bytes, length, true, out, sizeof text);
-    case EXPLAIN: return usb_explain(bytes, length, USB_PLACES, 0, out, sizeof text);
-    case BUILD: return usb_build(bytes, length, false, out, sizeof text);
-    case BUILD_COMMENTS: return usb_build(bytes, length, true, out, sizeof text);
-    case ENUMERATE: return usb_enumerate(bytes, length, USB_FULL, 16, 3, (const uint8_t *)"....a", 5, &outcome, out, sizeof text);
+    case SHOW: return nzg_show(bytes, length, true, out, sizeof text);
+    case CHECK: return nzg_check(bytes, length, false, out, sizeof text);
+    case CHECK_ANY: return nzg_check(bytes, length, true, out, sizeof text);
+    case EXPLAIN: return nzg_explain(bytes, length, NZG_PLACES, 0, out, sizeof text);
+    case BUILD: return nzg_build(bytes, length, false, out, sizeof text);
+    case BUILD_COMMENTS: return nzg_build(bytes, length, true, out, sizeof text);
+    case ENUMERATE: return nzg_enumerate(bytes, length, NZG_FULL, 16, 3, (const uint8_t *)"....a", 5, &outcome, out, sizeof text);
     case DEVICE: return opened_twice();
     case HOST: return by_host(out);
     default: return in_pieces(out);
     }
 }
 
-static bool same(struct usb_answer a, struct usb_answer b) {
+static bool same(struct nzg_answer a, struct nzg_answer b) {
     return a.status == b.status && a.number == b.number && a.place == b.place && a.length == b.length;
 }
 
 /* Out of memory; of an enumeration the host's is trouble 7. */
-static bool is_refusal(struct usb_answer a) {
-    return a.status == USB_NO_MEMORY || (a.status == USB_TROUBLE && a.number == 7);
+static bool is_refusal(struct nzg_answer a) {
+    return a.status == NZG_NO_MEMORY || (a.status == NZG_TROUBLE && a.number == 7);
 }
 
 /* One call with the request of this number refused. True once it makes none of that number. */
-static int refuse(const char *name, int kind, struct usb_answer want, long place, bool *is_last) {
+static int refuse(const char *name, int kind, struct nzg_answer want, long place, bool *is_last) {
     memset(again, 0xa5, sizeof again);
     pool_allowed = place;
-    struct usb_answer got = call(kind, again);
+    struct nzg_answer got = call(kind, again);
     *is_last = pool_allowed > 0;
     pool_allowed = -1;
     calls++;
@@ -104,7 +104,7 @@ int main(int argc, char **argv) {
         if (read < 0) return 2;
         length = (size_t)read;
         for (int kind = 0; kind < KINDS; kind++) {
-            struct usb_answer want = call(kind, text);
+            struct nzg_answer want = call(kind, text);
             bool is_last = false;
             for (long place = 0; !is_last; place++)
                 if (refuse(argv[i], kind, want, place, &is_last)) return 1;

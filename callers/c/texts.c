@@ -2,33 +2,33 @@
  * dash behind them with `any`; build, so with `comments`; and explain as plain, brief, noplaces, high or utf8. Writes what it
  * makes, and behind it, on a line of its own, the status, the number and the place. Ends in 9 where a buffer that is too short
  * is written to. */
-#include "usb.h"
+#include "nozzlegorse.h"
 #include "hosted.h"
 
 static uint8_t bytes[1 << 21];
 static uint8_t text[1 << 23];
 
-static struct usb_answer call(const char *command, size_t length, size_t room) {
+static struct nzg_answer call(const char *command, size_t length, size_t room) {
     bool wide = command[strlen(command) - 1] == '-';
     switch (command[0] + command[1]) {
-    case 's' + 'h': return usb_show(bytes, length, wide, text, room);
-    case 'c' + 'h': return usb_check(bytes, length, wide, text, room);
-    case 'b' + 'r': return usb_explain(bytes, length, USB_BRIEF | USB_PLACES, 0, text, room);
-    case 'p' + 'l': return usb_explain(bytes, length, USB_PLACES, 0, text, room);
-    case 'n' + 'o': return usb_explain(bytes, length, 0, 0, text, room);
-    case 'h' + 'i': return usb_explain(bytes, length, USB_PLACES, USB_HIGH, text, room);
-    case 'u' + 't': return usb_explain(bytes, length, USB_PLACES | USB_UTF8, 0, text, room);
-    default: return usb_build(bytes, length, wide, text, room);
+    case 's' + 'h': return nzg_show(bytes, length, wide, text, room);
+    case 'c' + 'h': return nzg_check(bytes, length, wide, text, room);
+    case 'b' + 'r': return nzg_explain(bytes, length, NZG_BRIEF | NZG_PLACES, 0, text, room);
+    case 'p' + 'l': return nzg_explain(bytes, length, NZG_PLACES, 0, text, room);
+    case 'n' + 'o': return nzg_explain(bytes, length, 0, 0, text, room);
+    case 'h' + 'i': return nzg_explain(bytes, length, NZG_PLACES, NZG_HIGH, text, room);
+    case 'u' + 't': return nzg_explain(bytes, length, NZG_PLACES | NZG_UTF8, 0, text, room);
+    default: return nzg_build(bytes, length, wide, text, room);
     }
 }
 
 /* A buffer of no bytes and one that is short by a byte stay as they are, and the length is told. */
 static size_t wanted(const char *command, size_t length) {
-    struct usb_answer none = call(command, length, 0);
-    if (none.status != USB_NO_ROOM) return none.length;
+    struct nzg_answer none = call(command, length, 0);
+    if (none.status != NZG_NO_ROOM) return none.length;
     memset(text, 0xa5, none.length);
-    struct usb_answer less = call(command, length, none.length - 1);
-    if (less.status != USB_NO_ROOM || less.length != none.length) return (size_t)-1;
+    struct nzg_answer less = call(command, length, none.length - 1);
+    if (less.status != NZG_NO_ROOM || less.length != none.length) return (size_t)-1;
     for (size_t i = 0; i < none.length; i++)
         if (text[i] != 0xa5) return (size_t)-1;
     return none.length;
@@ -41,7 +41,7 @@ int main(int argc, char **argv) {
     size_t length = argc > 3 ? (size_t)atoi(argv[3]) : (size_t)read;
     size_t room = wanted(argv[1], length);
     if (room == (size_t)-1) return 9;
-    struct usb_answer a = call(argv[1], length, room);
+    struct nzg_answer a = call(argv[1], length, room);
     if (a.length != room) return 9;
     for (size_t i = 0; i < room; i++) printf("%c", text[i]);
     printf("\n%u %u %zu\n", a.status, a.number, a.place);

@@ -30,7 +30,7 @@ use Rattle.std.specs.contracts.impls.GlobalAllocator.TheImpl.{ghosts}
 use Rattle.std.proofs.GlobalToken.{dealloc_token-Testable}
 use Rattle.usb_c.specs.inside.OwningDecoder.{owned}
 use Rattle.usb_set.specs.contracts.decoder.Decoder as inner
-use Rattle.usb_c.specs.contracts.decoder_handle.UsbDecoder as handle
+use Rattle.usb_c.specs.contracts.decoder_handle.NzgDecoder as handle
 
 abbrev pub Good : Ty → Val → Type 0
 Good τ v = T (has_ty τ v) × WT v

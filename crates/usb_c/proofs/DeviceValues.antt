@@ -30,7 +30,7 @@ use Rattle.std.specs.contracts.impls.GlobalAllocator.TheImpl.{ghosts}
 use Rattle.std.proofs.GlobalToken.{dealloc_token-Testable}
 use Rattle.usb_c.specs.inside.OwningDevice.{owned}
 use Rattle.usb_device.specs.contracts.owned_device.OwnedDevice as inner
-use Rattle.usb_c.specs.contracts.device_handle.UsbDevice as handle
+use Rattle.usb_c.specs.contracts.device_handle.NzgDevice as handle
 
 abbrev pub Good : Ty → Val → Type 0
 Good τ v = T (has_ty τ v) × WT v

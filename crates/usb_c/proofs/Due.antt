@@ -7,7 +7,7 @@ use Rattle.usb_host.specs.declared.transfer.TransferStage.{TransferStage}
 use Rattle.usb_host.specs.declared.transfer.TransferStage.TheVariants as stages
 use Rattle.usb_host.specs.Transfer.{addressed, token_due}
 use Rattle.usb_host.specs.Steps.{HostPhase, HostView, ResetDue, Reading, Ended, Wanted, WantsNothing, WantsReset, WantsSent, sends, wanted}
-use Rattle.usb_device.specs.declared.transaction.UsbTransaction.{UsbTransaction}
+use Rattle.usb_device.specs.declared.transaction.NzgTransaction.{NzgTransaction}
 use Rattle.usb_c.specs.Hosts.{transaction_due}
 use Rattle.usb_device.specs.Transactions.{sent_told, transaction_of}
 
@@ -37,8 +37,8 @@ held_whole None = tt
 held_whole (Some v) = phase_whole v.phase
 
 -- what is told of a transaction that is due is the whole of it
-pub told_whole : (held : Option HostView) (old new : UsbTransaction) (sent : Sent) → new ≡ transaction_due (option_map (λ v. wanted v.phase) held) old
+pub told_whole : (held : Option HostView) (old new : NzgTransaction) (sent : Sent) → new ≡ transaction_due (option_map (λ v. wanted v.phase) held) old
     → option_map (λ v. wanted v.phase) held ≡ Some (WantsSent sent) → sent_told new [] ≡ Some sent
 told_whole held old new sent told is =
     let now : new ≡ transaction_of sent = subst (λ (w : Option Wanted). new ≡ transaction_due w old) is told in
-    subst (λ (t : UsbTransaction). sent_told t [] ≡ Some sent) (sym now) (subst IsWhole is (held_whole held))
+    subst (λ (t : NzgTransaction). sent_told t [] ≡ Some sent) (sym now) (subst IsWhole is (held_whole held))

@@ -30,7 +30,7 @@ use Rattle.std.specs.contracts.impls.GlobalAllocator.TheImpl.{ghosts}
 use Rattle.std.proofs.GlobalToken.{dealloc_token-Testable}
 use Rattle.usb_c.specs.inside.OwningHost.{owned}
 use Rattle.usb_host.specs.contracts.host.Host as inner
-use Rattle.usb_c.specs.contracts.host_handle.UsbHost as handle
+use Rattle.usb_c.specs.contracts.host_handle.NzgHost as handle
 
 abbrev pub Good : Ty → Val → Type 0
 Good τ v = T (has_ty τ v) × WT v

@@ -16,9 +16,9 @@ use Rattle.usb_device.specs.declared.state.State.{State}
 use Rattle.usb_device.specs.declared.beside.Unanswered.{Unanswered}
 use Rattle.usb_c.specs.declared.answer.Verdict.{Verdict}
 use Rattle.usb_c.specs.declared.answer.Verdict.TheVariants as verdicts
-use Rattle.usb_c.specs.declared.device.UsbState.{UsbState}
-use Rattle.usb_c.specs.declared.device.UsbSetup.{UsbSetup}
-use Rattle.usb_device.specs.declared.transaction.UsbPacket.{UsbPacket}
+use Rattle.usb_c.specs.declared.device.NzgState.{NzgState}
+use Rattle.usb_c.specs.declared.device.NzgSetup.{NzgSetup}
+use Rattle.usb_device.specs.declared.transaction.NzgPacket.{NzgPacket}
 use Rattle.usb_c.specs.Answers.{RefusesFile}
 use Rattle.usb_device.specs.Transactions.{packet_of}
 
@@ -42,7 +42,7 @@ DeviceOpens b None new verdict = (verdict ≡ verdicts.BadArgument 3) × (new �
 DeviceOpens b (Some speed) new verdict = DeviceOpensAt b speed new verdict
 
 -- a transaction that has a meaning, with a device that is held; else nothing changes
-abbrev pub Serves : Option View → Option Sent → Bool → UsbPacket → Option View → UsbPacket → Bool → Type 0
+abbrev pub Serves : Option View → Option Sent → Bool → NzgPacket → Option View → NzgPacket → Bool → Type 0
 Serves (Some v) (Some sent) ready old new packet done =
     let served = served_by v.description.file v.device sent ready in
     (done ≡ true) × (new ≡ Some (after v served.device)) × (packet ≡ packet_of served.reply old)
@@ -50,17 +50,17 @@ Serves (Some v) None ready old new packet done = (done ≡ false) × (new ≡ So
 Serves None sent ready old new packet done = (done ≡ false) × (new ≡ None) × (packet ≡ old)
 
 -- the state as numbers
-abbrev pub state_numbers : State → UsbState
+abbrev pub state_numbers : State → NzgState
 state_numbers s =
     record { halts = s.halts; address = s.address; selected = s.selected; wakeup = s.wakeup; alternates = s.alternates }
 
 -- that of the device that is held, or what stood there
-abbrev pub state_told : Option View → UsbState → UsbState
+abbrev pub state_told : Option View → NzgState → NzgState
 state_told None old = old
 state_told (Some v) old = state_numbers v.device.state
 
 -- the bytes of a request, if there is one, or what stood there
-abbrev pub setup_told : Option Setup → UsbSetup → UsbSetup
+abbrev pub setup_told : Option Setup → NzgSetup → NzgSetup
 setup_told None old = old
 setup_told (Some q) old = record { bytes = setup_bytes q }
 

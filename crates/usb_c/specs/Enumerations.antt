@@ -17,7 +17,7 @@ use Rattle.usb_bus.specs.Enumerate.{IsEnumeration}
 use Rattle.usb_bus.specs.declared.enumeration.Run.{Run}
 use Rattle.usb_c.specs.declared.answer.Verdict.{Verdict}
 use Rattle.usb_c.specs.declared.answer.Verdict.TheVariants as verdicts
-use Rattle.usb_c.specs.declared.enumeration.UsbOutcome.{UsbOutcome}
+use Rattle.usb_c.specs.declared.enumeration.NzgOutcome.{NzgOutcome}
 use Rattle.usb_c.specs.declared.outcome.StepNumbers.{StepNumbers}
 use Rattle.usb_c.specs.Answers.{Fills, RefusesFile}
 use Rattle.usb_c.specs.Hosts.{numbered, step_numbers}
@@ -41,7 +41,7 @@ trouble_numbers (Ok f) = numbered 0 0 0
 trouble_numbers (Err trouble) = step_numbers trouble.step
 
 -- what came of an enumeration, as numbers
-abbrev pub outcome_numbers : Run → UsbOutcome
+abbrev pub outcome_numbers : Run → NzgOutcome
 outcome_numbers run = record {
   transactions = run.transactions;
   attempts = run.attempts;
@@ -58,7 +58,7 @@ TellsRun (Ok f) old new verdict = Fills verdicts.Done (file_lines f) old new ver
 TellsRun (Err trouble) old new verdict = (verdict ≡ verdicts.Trouble trouble) × (new ≡ old)
 
 -- a device of the file that these bytes are was enumerated
-pub record TellsEnumeration (b : List ℕ) (speed : Speed) (limits : LimitView) (lost : List Fate) (outcome : UsbOutcome) (old new : List ℕ) (verdict : Verdict) : Type 0 where
+pub record TellsEnumeration (b : List ℕ) (speed : Speed) (limits : LimitView) (lost : List Fate) (outcome : NzgOutcome) (old new : List ℕ) (verdict : Verdict) : Type 0 where
   pub file : DescriptorFile
   pub layout : File file b
   pub accepted : Accepted file speed
@@ -74,7 +74,7 @@ RefusesRun b speed (verdicts.Description fault) = RefusesFile b speed fault
 RefusesRun b speed verdicts.NoMemory = Unit {0}
 RefusesRun b speed verdict = ⊥
 
-abbrev pub EnumeratesUnder : List ℕ → Speed → LimitView → List Fate → UsbOutcome → UsbOutcome → List ℕ → List ℕ → Verdict → Type 0
+abbrev pub EnumeratesUnder : List ℕ → Speed → LimitView → List Fate → NzgOutcome → NzgOutcome → List ℕ → List ℕ → Verdict → Type 0
 EnumeratesUnder b speed limits lost told outcome old new verdict =
     TellsEnumeration b speed limits lost outcome old new verdict
     ⊎ (RefusesRun b speed verdict × (outcome ≡ told) × (new ≡ old))
@@ -90,7 +90,7 @@ wrong_number None attempts letters = Some 3
 wrong_number (Some speed) attempts letters = wrong_limits (limit_fault 1 attempts) (list_all is_fate letters)
 
 -- a number that has no meaning is reported, and else the enumeration
-abbrev pub EnumeratesWith : Option ℕ → Option Speed → List ℕ → LimitView → List Fate → UsbOutcome → UsbOutcome → List ℕ → List ℕ → Verdict → Type 0
+abbrev pub EnumeratesWith : Option ℕ → Option Speed → List ℕ → LimitView → List Fate → NzgOutcome → NzgOutcome → List ℕ → List ℕ → Verdict → Type 0
 EnumeratesWith (Some wrong) speed b limits lost told outcome old new verdict =
     (verdict ≡ verdicts.BadArgument wrong) × (outcome ≡ told) × (new ≡ old)
 EnumeratesWith None (Some speed) b limits lost told outcome old new verdict =
@@ -98,7 +98,7 @@ EnumeratesWith None (Some speed) b limits lost told outcome old new verdict =
 EnumeratesWith None None b limits lost told outcome old new verdict = ⊥
 
 -- a device with these bytes and this speed is enumerated by a host that gives it address 1, under these limits and fates
-abbrev pub Enumerates : List ℕ → Option Speed → ℕ → ℕ → List ℕ → UsbOutcome → UsbOutcome → List ℕ → List ℕ → Verdict → Type 0
+abbrev pub Enumerates : List ℕ → Option Speed → ℕ → ℕ → List ℕ → NzgOutcome → NzgOutcome → List ℕ → List ℕ → Verdict → Type 0
 Enumerates b speed naks attempts letters told outcome old new verdict =
     EnumeratesWith (wrong_number speed attempts letters) speed b (record { address = 1; naks = naks; attempts = attempts })
     (map fate_told letters) told outcome old new verdict

@@ -10,14 +10,14 @@ use Rattle.usb_host.specs.declared.step.Trouble.{Trouble}
 use Rattle.usb_c.specs.declared.answer.Verdict.{Verdict}
 use Rattle.usb_c.specs.declared.answer.Verdict.TheVariants as verdicts
 use Rattle.usb_c.specs.declared.outcome.StepNumbers.{StepNumbers}
-use Rattle.usb_c.specs.declared.outcome.UsbTrouble.{UsbTrouble}
+use Rattle.usb_c.specs.declared.outcome.NzgTrouble.{NzgTrouble}
 use Rattle.usb_c.specs.Answers.{Fills}
 use Rattle.usb_fields.specs.Packets.{Reply}
 use Rattle.usb_fields.specs.declared.packet.Speed.{Speed}
 use Rattle.usb_host.specs.Limits.{limit_fault, limit_fault_number}
 use Rattle.usb_host.specs.declared.limits.LimitFault.{LimitFault}
 use Rattle.usb_host.specs.Steps.{HostView, Takes, Wanted, WantsNothing, WantsReset, WantsSent, new_host, outcome_of}
-use Rattle.usb_device.specs.declared.transaction.UsbTransaction.{UsbTransaction}
+use Rattle.usb_device.specs.declared.transaction.NzgTransaction.{NzgTransaction}
 use Rattle.usb_device.specs.Transactions.{transaction_of}
 
 -- The outcome of a host.
@@ -39,7 +39,7 @@ step_numbers steps.Languages = numbered 9 0 0
 step_numbers (steps.Text language index) = numbered 10 index language
 step_numbers steps.Configure = numbered 11 0 0
 
-abbrev pub trouble_numbers : Trouble → UsbTrouble
+abbrev pub trouble_numbers : Trouble → NzgTrouble
 trouble_numbers t =
     record { why = why_number t.why; step = (step_numbers t.step).step; index = (step_numbers t.step).index; language = (step_numbers t.step).language }
 
@@ -57,7 +57,7 @@ TellsFile f old new verdict =
     ⊎ ((verdict ≡ verdicts.NoMemory) × (new ≡ old)))
 
 -- the outcome: none yet, or the file, or the trouble. What isn't reported stays.
-abbrev pub EndsWith : Option (Result DescriptorFile Trouble) → UsbTrouble → UsbTrouble → List ℕ → List ℕ → Verdict → Type 0
+abbrev pub EndsWith : Option (Result DescriptorFile Trouble) → NzgTrouble → NzgTrouble → List ℕ → List ℕ → Verdict → Type 0
 EndsWith None told now old new verdict = (verdict ≡ verdicts.Open 0) × (now ≡ told) × (new ≡ old)
 EndsWith (Some (Ok f)) told now old new verdict = TellsFile f old new verdict × (now ≡ told)
 EndsWith (Some (Err trouble)) told now old new verdict =
@@ -87,7 +87,7 @@ action_number (Some WantsNothing) = 2
 action_number None = 3
 
 -- the transaction that is wanted, or what stood there
-abbrev pub transaction_due : Option Wanted → UsbTransaction → UsbTransaction
+abbrev pub transaction_due : Option Wanted → NzgTransaction → NzgTransaction
 transaction_due (Some WantsReset) old = old
 transaction_due (Some (WantsSent sent)) old = transaction_of sent
 transaction_due (Some WantsNothing) old = old
@@ -105,6 +105,6 @@ resets_of None = 0
 resets_of (Some v) = v.resets
 
 -- the outcome of the host that is held, if one is
-abbrev pub Ends : Option HostView → UsbTrouble → UsbTrouble → List ℕ → List ℕ → Verdict → Type 0
+abbrev pub Ends : Option HostView → NzgTrouble → NzgTrouble → List ℕ → List ℕ → Verdict → Type 0
 Ends None told now old new verdict = (verdict ≡ verdicts.Closed) × (now ≡ told) × (new ≡ old)
 Ends (Some v) told now old new verdict = EndsWith (outcome_of v.phase) told now old new verdict

@@ -8,7 +8,7 @@ ghost use Rattle.usb_c.specs.Texts.{Builds, Checks, Explains, Shows, manner_told
 ghost use Rattle.usb_device.specs.Transactions.{speed_told};
 
 use crate::answer::{Answer, Verdict};
-use crate::enumeration::{UsbOutcome, enumerate_bytes};
+use crate::enumeration::{NzgOutcome, enumerate_bytes};
 use crate::text::{build, check, explain_bytes, manner, show};
 use std::alloc::Global;
 use usb_file_data::InputFault;
@@ -51,7 +51,7 @@ pub(crate) fn fill_broken(fault: InputFault, text: &[u8], out: &mut [u8]) -> Ver
 /// Puts the listing of bytes into the buffer: a line for each descriptor. They are one set where the second byte is that of
 /// one, and else a descriptor file; with `any` a dump too.
 #[unsafe(no_mangle)]
-pub extern "C" fn usb_show(alloc: Global, bytes: &[u8], any: bool, text: &mut [u8]) -> Answer
+pub extern "C" fn nzg_show(alloc: Global, bytes: &[u8], any: bool, text: &mut [u8]) -> Answer
     ensures { AnswersOn (Shows any bytes.now text.old text.new) result }
 {
     show(alloc, bytes, any, text).answer()
@@ -59,7 +59,7 @@ pub extern "C" fn usb_show(alloc: Global, bytes: &[u8], any: bool, text: &mut [u
 
 /// Puts a line for each finding in a descriptor file into the buffer, or `no findings`; with `any` also in one set or a dump.
 #[unsafe(no_mangle)]
-pub extern "C" fn usb_check(alloc: Global, bytes: &[u8], any: bool, text: &mut [u8]) -> Answer
+pub extern "C" fn nzg_check(alloc: Global, bytes: &[u8], any: bool, text: &mut [u8]) -> Answer
     ensures { AnswersOn (Checks any bytes.now text.old text.new) result }
 {
     check(alloc, bytes, any, text).answer()
@@ -69,7 +69,7 @@ pub extern "C" fn usb_check(alloc: Global, bytes: &[u8], any: bool, text: &mut [
 /// the rest. Options: bit 0 leaves out the fields, bit 1 gives each heading its place, bit 2 writes characters beyond
 /// ASCII. A speed: 1 low, 2 full, 3 high, 4 super; any other says nothing of it.
 #[unsafe(no_mangle)]
-pub extern "C" fn usb_explain(
+pub extern "C" fn nzg_explain(
     alloc: Global,
     bytes: &[u8],
     options: u32,
@@ -84,7 +84,7 @@ pub extern "C" fn usb_explain(
 /// Puts the bytes of the file that a text lists into the buffer. With `comments` lines that are empty or begin with `#` are
 /// dropped, and so is a carriage return before a line feed.
 #[unsafe(no_mangle)]
-pub extern "C" fn usb_build(alloc: Global, text: &[u8], comments: bool, bytes: &mut [u8]) -> Answer
+pub extern "C" fn nzg_build(alloc: Global, text: &[u8], comments: bool, bytes: &mut [u8]) -> Answer
     ensures { AnswersOn (Builds comments text.now bytes.old bytes.new) result }
 {
     build(alloc, text, comments, bytes).answer()
@@ -93,14 +93,14 @@ pub extern "C" fn usb_build(alloc: Global, text: &[u8], comments: bool, bytes: &
 /// Enumerates a device with the descriptors of a file, and puts the listing of what was read into the buffer. A fate is
 /// one byte a transaction: `.` passes, `n` busy, `d` lost down, `u` lost up, `a` lost ACK.
 #[unsafe(no_mangle)]
-pub extern "C" fn usb_enumerate(
+pub extern "C" fn nzg_enumerate(
     alloc: Global,
     bytes: &[u8],
     speed: u8,
     naks: u16,
     attempts: u8,
     fates: &[u8],
-    outcome: &mut UsbOutcome,
+    outcome: &mut NzgOutcome,
     text: &mut [u8],
 ) -> Answer
     ensures { AnswersOn (Enumerates bytes.now (speed_told speed) naks attempts fates.now outcome.old outcome.new text.old text.new) result }

@@ -4,7 +4,7 @@ ghost use Rattle.usb_c.specs.Answers.{AnswersOn};
 ghost use Rattle.usb_c.specs.Decoders.{Feeds, Lists, OpensNew, told};
 
 use crate::answer::{Answer, Verdict, refused_set};
-use crate::decoder_handle::UsbDecoder;
+use crate::decoder_handle::NzgDecoder;
 use crate::text::fill_set;
 use std::alloc::Global;
 use std::mem::replace;
@@ -12,16 +12,16 @@ use usb_set::{Decoder, Progress, SetFault};
 
 /// Opens a decoder that has taken no byte. One that is held already is freed.
 #[unsafe(no_mangle)]
-pub extern "C" fn usb_decoder_open(alloc: Global, decoder: &mut UsbDecoder) -> Answer
+pub extern "C" fn nzg_decoder_open(alloc: Global, decoder: &mut NzgDecoder) -> Answer
     ensures { AnswersOn (OpensNew decoder.new.held) result }
 {
     match Box::new(alloc, Decoder::new(alloc)) {
         Ok(held) => {
-            *decoder = UsbDecoder::of(held);
+            *decoder = NzgDecoder::of(held);
             Verdict::Done(0).answer()
         }
         Err(_) => {
-            *decoder = UsbDecoder::empty(alloc);
+            *decoder = NzgDecoder::empty(alloc);
             Verdict::NoMemory.answer()
         }
     }
@@ -29,28 +29,28 @@ pub extern "C" fn usb_decoder_open(alloc: Global, decoder: &mut UsbDecoder) -> A
 
 /// Frees the decoder, if one is held.
 #[unsafe(no_mangle)]
-pub extern "C" fn usb_decoder_close(alloc: Global, decoder: &mut UsbDecoder)
+pub extern "C" fn nzg_decoder_close(alloc: Global, decoder: &mut NzgDecoder)
     ensures { decoder.new.held ≡ None }
 {
-    let _old = replace(decoder, UsbDecoder::empty(alloc));
+    let _old = replace(decoder, NzgDecoder::empty(alloc));
 }
 
 /// Feeds the next piece.
 #[unsafe(no_mangle)]
-pub extern "C" fn usb_decoder_feed(alloc: Global, decoder: &mut UsbDecoder, piece: &[u8]) -> Answer
+pub extern "C" fn nzg_decoder_feed(alloc: Global, decoder: &mut NzgDecoder, piece: &[u8]) -> Answer
     ensures { AnswersOn (Feeds decoder.old.held piece.now decoder.new.held) result }
 {
     feed(alloc, decoder, piece).answer()
 }
 
-fn feed(alloc: Global, decoder: &mut UsbDecoder, piece: &[u8]) -> Verdict
+fn feed(alloc: Global, decoder: &mut NzgDecoder, piece: &[u8]) -> Verdict
     ensures { Feeds decoder.old.held piece.now decoder.new.held result }
 {
-    let Some(mut held) = replace(decoder, UsbDecoder::empty(alloc)).into_box() else {
+    let Some(mut held) = replace(decoder, NzgDecoder::empty(alloc)).into_box() else {
         return Verdict::Closed;
     };
     let fed = held.feed(piece);
-    *decoder = UsbDecoder::of(held);
+    *decoder = NzgDecoder::of(held);
     tell(piece, fed)
 }
 
@@ -66,9 +66,9 @@ fn tell(piece: &[u8], fed: Result<Progress, SetFault>) -> Verdict
 
 /// Puts the listing of the set into the buffer, and frees the decoder.
 #[unsafe(no_mangle)]
-pub extern "C" fn usb_decoder_list(
+pub extern "C" fn nzg_decoder_list(
     alloc: Global,
-    decoder: &mut UsbDecoder,
+    decoder: &mut NzgDecoder,
     text: &mut [u8],
 ) -> Answer
     ensures held { decoder.new.held ≡ None }
@@ -77,11 +77,11 @@ pub extern "C" fn usb_decoder_list(
     list(alloc, decoder, text).answer()
 }
 
-fn list(alloc: Global, decoder: &mut UsbDecoder, out: &mut [u8]) -> Verdict
+fn list(alloc: Global, decoder: &mut NzgDecoder, out: &mut [u8]) -> Verdict
     ensures held { decoder.new.held ≡ None }
     ensures told { Lists decoder.old.held out.old out.new result }
 {
-    let Some(held) = replace(decoder, UsbDecoder::empty(alloc)).into_box() else {
+    let Some(held) = replace(decoder, NzgDecoder::empty(alloc)).into_box() else {
         return Verdict::Closed;
     };
     match Box::into_inner(held).finish() {

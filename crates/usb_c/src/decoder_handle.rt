@@ -12,32 +12,32 @@ use usb_set::Decoder;
 /// A decoder on the heap, or none, which is null. C sees a struct with one pointer in it, since a
 /// `Global` takes no bytes, and neither reads nor changes what it points to.
 #[repr(C)]
-pub struct UsbDecoder {
+pub struct NzgDecoder {
     at: *mut u8,
     alloc: Global,
     pub ghost held: { Option Decoding },
 }
 
-impl Model for UsbDecoder {
+impl Model for NzgDecoder {
     ghost also_owns = { λ h. owned h.alloc h.at h.held };
 }
 
-impl UsbDecoder {
+impl NzgDecoder {
     /// None.
-    pub(crate) fn empty(alloc: Global) -> UsbDecoder
+    pub(crate) fn empty(alloc: Global) -> NzgDecoder
         ensures { result.held ≡ None }
     {
-        UsbDecoder {
+        NzgDecoder {
             at: null_mut(),
             alloc,
         }
     }
 
     /// That of a box.
-    pub(crate) fn of(value: Box<Decoder>) -> UsbDecoder
+    pub(crate) fn of(value: Box<Decoder>) -> NzgDecoder
         ensures { result.held ≡ Some value.value }
     {
-        UsbDecoder::full(Loose::of(value))
+        NzgDecoder::full(Loose::of(value))
     }
 
     /// The box again, if there is one.
@@ -50,11 +50,11 @@ impl UsbDecoder {
         }
     }
 
-    fn full(loose: Loose<Decoder, Global>) -> UsbDecoder
+    fn full(loose: Loose<Decoder, Global>) -> NzgDecoder
         ensures { result.held ≡ Some loose.value }
     {
         let Loose { at, alloc } = loose;
-        UsbDecoder {
+        NzgDecoder {
             at: at as *mut u8,
             alloc,
         }
@@ -63,7 +63,7 @@ impl UsbDecoder {
     fn split(self) -> Option<Loose<Decoder, Global>>
         ensures { loosely_held result ≡ self.held }
     {
-        let UsbDecoder { at, alloc } = self;
+        let NzgDecoder { at, alloc } = self;
         if at.is_null() {
             None
         } else {
@@ -75,7 +75,7 @@ impl UsbDecoder {
     }
 }
 
-impl Drop for UsbDecoder {
+impl Drop for NzgDecoder {
     fn drop(self) {
         let _held = self.into_box();
     }

@@ -9,16 +9,16 @@ ghost use Rattle.usb_c.specs.Devices.{DeviceOpens, DeviceOpensAt, Serves, answer
 ghost use Rattle.usb_device.specs.Transactions.{sent_told, speed_told};
 
 use crate::answer::{Answer, Verdict, refused_description, refused_file};
-use crate::device_handle::UsbDevice;
+use crate::device_handle::NzgDevice;
 use std::alloc::Global;
 use std::mem::replace;
-use usb_device::{Description, OwnedDevice, State, UsbPacket, UsbTransaction, sent, speed_of};
+use usb_device::{Description, NzgPacket, NzgTransaction, OwnedDevice, State, sent, speed_of};
 use usb_fields::{Setup, Speed};
 use usb_file::read_file;
 
 /// What a device keeps from one request to the next (USB 2.0, 9.1.1).
 #[repr(C)]
-pub struct UsbState {
+pub struct NzgState {
     /// The halted endpoints: bit n for endpoint n OUT, bit 16 + n for endpoint n IN.
     pub halts: u32,
     /// The address that the device answers at, 0 to 127.
@@ -33,22 +33,22 @@ pub struct UsbState {
 
 /// The bytes of a request (USB 2.0, 9.3).
 #[repr(C)]
-pub struct UsbSetup {
+pub struct NzgSetup {
     /// bmRequestType, bRequest, wValue, wIndex and wLength.
     pub bytes: [u8; 8],
 }
 
 /// Makes a device of a descriptor file. One that is held already is freed.
 #[unsafe(no_mangle)]
-pub extern "C" fn usb_device_open(
+pub extern "C" fn nzg_device_open(
     alloc: Global,
-    device: &mut UsbDevice,
+    device: &mut NzgDevice,
     file: &[u8],
     speed: u8,
 ) -> Answer
     ensures { AnswersOn (DeviceOpens file.now (speed_told speed) device.new.held) result }
 {
-    *device = UsbDevice::empty(alloc);
+    *device = NzgDevice::empty(alloc);
     match speed_of(speed) {
         Some(speed) => open_at(alloc, device, file, speed).answer(),
         None => Verdict::BadArgument(3).answer(),
@@ -56,7 +56,7 @@ pub extern "C" fn usb_device_open(
 }
 
 #[tactic(auto, using(crate::proofs::Faults::no_file_opens, crate::proofs::Faults::no_description_opens))]
-fn open_at(alloc: Global, device: &mut UsbDevice, bytes: &[u8], speed: Speed) -> Verdict
+fn open_at(alloc: Global, device: &mut NzgDevice, bytes: &[u8], speed: Speed) -> Verdict
     requires { device.old.held ≡ None }
     ensures { DeviceOpensAt bytes.now speed device.new.held result }
 {
@@ -70,7 +70,7 @@ fn open_at(alloc: Global, device: &mut UsbDevice, bytes: &[u8], speed: Speed) ->
     };
     match Box::new(alloc, OwnedDevice::new(description)) {
         Ok(held) => {
-            *device = UsbDevice::of(held);
+            *device = NzgDevice::of(held);
             Verdict::Done(0)
         }
         Err(_) => Verdict::NoMemory,
@@ -79,90 +79,90 @@ fn open_at(alloc: Global, device: &mut UsbDevice, bytes: &[u8], speed: Speed) ->
 
 /// A bus reset. False where none is held.
 #[unsafe(no_mangle)]
-pub extern "C" fn usb_device_reset(alloc: Global, device: &mut UsbDevice) -> bool
+pub extern "C" fn nzg_device_reset(alloc: Global, device: &mut NzgDevice) -> bool
     ensures held { device.new.held ≡ option_map (λ v. after v new_device) device.old.held }
     ensures done { result ≡ is_some device.old.held }
 {
-    let Some(mut held) = replace(device, UsbDevice::empty(alloc)).into_box() else {
+    let Some(mut held) = replace(device, NzgDevice::empty(alloc)).into_box() else {
         return false;
     };
     held.reset();
-    *device = UsbDevice::of(held);
+    *device = NzgDevice::of(held);
     true
 }
 
 /// One transaction. False where none is held, or where the stage or the toggle has no meaning: the packet is then as
 /// it was.
 #[unsafe(no_mangle)]
-pub extern "C" fn usb_device_serve(
+pub extern "C" fn nzg_device_serve(
     alloc: Global,
-    device: &mut UsbDevice,
-    transaction: &UsbTransaction,
+    device: &mut NzgDevice,
+    transaction: &NzgTransaction,
     bytes: &[u8],
     ready: bool,
-    packet: &mut UsbPacket,
+    packet: &mut NzgPacket,
 ) -> bool
     ensures { Serves device.old.held (sent_told transaction.now bytes.now) ready packet.old device.new.held packet.new result }
 {
     let Some(transaction) = sent(transaction, bytes) else {
         return false;
     };
-    let Some(mut held) = replace(device, UsbDevice::empty(alloc)).into_box() else {
+    let Some(mut held) = replace(device, NzgDevice::empty(alloc)).into_box() else {
         return false;
     };
     held.serve(&transaction, ready, packet);
-    *device = UsbDevice::of(held);
+    *device = NzgDevice::of(held);
     true
 }
 
 /// The host's ACK of the data packet that was answered right before. False where none is held.
 #[unsafe(no_mangle)]
-pub extern "C" fn usb_device_acked(alloc: Global, device: &mut UsbDevice) -> bool
+pub extern "C" fn nzg_device_acked(alloc: Global, device: &mut NzgDevice) -> bool
     ensures held { device.new.held ≡ option_map (λ v. after v (acked_by v.description.file v.device)) device.old.held }
     ensures done { result ≡ is_some device.old.held }
 {
-    let Some(mut held) = replace(device, UsbDevice::empty(alloc)).into_box() else {
+    let Some(mut held) = replace(device, NzgDevice::empty(alloc)).into_box() else {
         return false;
     };
     held.acked();
-    *device = UsbDevice::of(held);
+    *device = NzgDevice::of(held);
     true
 }
 
 /// The request that is rejected, and of whose rejection the host doesn't know yet. False where there is none.
 #[unsafe(no_mangle)]
-pub extern "C" fn usb_device_refused(
+pub extern "C" fn nzg_device_refused(
     alloc: Global,
-    device: &mut UsbDevice,
-    setup: &mut UsbSetup,
+    device: &mut NzgDevice,
+    setup: &mut NzgSetup,
 ) -> bool
     ensures held { device.new.held ≡ device.old.held }
     ensures setup { setup.new ≡ setup_told (option_and_then (λ v. refused_in v.device.stage) device.old.held) setup.old }
     ensures found { result ≡ is_some (option_and_then (λ v. refused_in v.device.stage) device.old.held) }
 {
-    let Some(held) = replace(device, UsbDevice::empty(alloc)).into_box() else {
+    let Some(held) = replace(device, NzgDevice::empty(alloc)).into_box() else {
         return false;
     };
     let request = held.refused();
-    *device = UsbDevice::of(held);
+    *device = NzgDevice::of(held);
     tell_request(request, setup)
 }
 
 /// Answers that request by these bytes, cut to wLength.
 #[unsafe(no_mangle)]
-pub extern "C" fn usb_device_answer_with(
+pub extern "C" fn nzg_device_answer_with(
     alloc: Global,
-    device: &mut UsbDevice,
+    device: &mut NzgDevice,
     bytes: &[u8],
 ) -> Answer
     ensures held { device.new.held ≡ option_map (answered_for (Gives bytes.now)) device.old.held }
     ensures answer { result ≡ answer_of (answer_told (unfit_bytes room_size bytes.now) device.old.held) }
 {
-    let Some(mut held) = replace(device, UsbDevice::empty(alloc)).into_box() else {
+    let Some(mut held) = replace(device, NzgDevice::empty(alloc)).into_box() else {
         return Verdict::Closed.answer();
     };
     let taken = held.answer_with(bytes);
-    *device = UsbDevice::of(held);
+    *device = NzgDevice::of(held);
     match taken {
         Ok(()) => Verdict::Done(0).answer(),
         Err(why) => Verdict::Unanswered(why).answer(),
@@ -171,15 +171,15 @@ pub extern "C" fn usb_device_answer_with(
 
 /// Answers that request by the status stage of a request without data.
 #[unsafe(no_mangle)]
-pub extern "C" fn usb_device_accept(alloc: Global, device: &mut UsbDevice) -> Answer
+pub extern "C" fn nzg_device_accept(alloc: Global, device: &mut NzgDevice) -> Answer
     ensures held { device.new.held ≡ option_map (answered_for Does) device.old.held }
     ensures answer { result ≡ answer_of (answer_told unfit_status device.old.held) }
 {
-    let Some(mut held) = replace(device, UsbDevice::empty(alloc)).into_box() else {
+    let Some(mut held) = replace(device, NzgDevice::empty(alloc)).into_box() else {
         return Verdict::Closed.answer();
     };
     let taken = held.accept();
-    *device = UsbDevice::of(held);
+    *device = NzgDevice::of(held);
     match taken {
         Ok(()) => Verdict::Done(0).answer(),
         Err(why) => Verdict::Unanswered(why).answer(),
@@ -188,51 +188,51 @@ pub extern "C" fn usb_device_accept(alloc: Global, device: &mut UsbDevice) -> An
 
 /// The request that was carried out, in its status stage. False where there is none.
 #[unsafe(no_mangle)]
-pub extern "C" fn usb_device_carried_out(
+pub extern "C" fn nzg_device_carried_out(
     alloc: Global,
-    device: &mut UsbDevice,
-    setup: &mut UsbSetup,
+    device: &mut NzgDevice,
+    setup: &mut NzgSetup,
 ) -> bool
     ensures held { device.new.held ≡ device.old.held }
     ensures setup { setup.new ≡ setup_told (option_and_then (λ v. carried_out_in v.device.stage) device.old.held) setup.old }
     ensures found { result ≡ is_some (option_and_then (λ v. carried_out_in v.device.stage) device.old.held) }
 {
-    let Some(held) = replace(device, UsbDevice::empty(alloc)).into_box() else {
+    let Some(held) = replace(device, NzgDevice::empty(alloc)).into_box() else {
         return false;
     };
     let request = held.carried_out();
-    *device = UsbDevice::of(held);
+    *device = NzgDevice::of(held);
     tell_request(request, setup)
 }
 
 /// The state. False where none is held.
 #[unsafe(no_mangle)]
-pub extern "C" fn usb_device_state(
+pub extern "C" fn nzg_device_state(
     alloc: Global,
-    device: &mut UsbDevice,
-    state: &mut UsbState,
+    device: &mut NzgDevice,
+    state: &mut NzgState,
 ) -> bool
     ensures held { device.new.held ≡ device.old.held }
     ensures state { state.new ≡ state_told device.old.held state.old }
     ensures done { result ≡ is_some device.old.held }
 {
-    let Some(held) = replace(device, UsbDevice::empty(alloc)).into_box() else {
+    let Some(held) = replace(device, NzgDevice::empty(alloc)).into_box() else {
         return false;
     };
     tell_state(held.state(), state);
-    *device = UsbDevice::of(held);
+    *device = NzgDevice::of(held);
     true
 }
 
 /// Frees the device, if one is held.
 #[unsafe(no_mangle)]
-pub extern "C" fn usb_device_close(alloc: Global, device: &mut UsbDevice)
+pub extern "C" fn nzg_device_close(alloc: Global, device: &mut NzgDevice)
     ensures { device.new.held ≡ None }
 {
-    let _old = replace(device, UsbDevice::empty(alloc));
+    let _old = replace(device, NzgDevice::empty(alloc));
 }
 
-fn tell_request(request: Option<Setup>, setup: &mut UsbSetup) -> bool
+fn tell_request(request: Option<Setup>, setup: &mut NzgSetup) -> bool
     ensures setup { setup.new ≡ setup_told request setup.old }
     ensures found { result ≡ is_some request }
 {
@@ -245,7 +245,7 @@ fn tell_request(request: Option<Setup>, setup: &mut UsbSetup) -> bool
     }
 }
 
-fn tell_state(now: State, state: &mut UsbState)
+fn tell_state(now: State, state: &mut NzgState)
     ensures { state.new ≡ state_numbers now }
 {
     state.halts = now.halts;

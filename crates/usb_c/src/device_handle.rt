@@ -12,32 +12,32 @@ use usb_device::OwnedDevice;
 /// A device on the heap, or none, which is null. C sees a struct with one pointer in it, since a
 /// `Global` takes no bytes, and neither reads nor changes what it points to.
 #[repr(C)]
-pub struct UsbDevice {
+pub struct NzgDevice {
     at: *mut u8,
     alloc: Global,
     pub ghost held: { Option View },
 }
 
-impl Model for UsbDevice {
+impl Model for NzgDevice {
     ghost also_owns = { λ h. owned h.alloc h.at h.held };
 }
 
-impl UsbDevice {
+impl NzgDevice {
     /// None.
-    pub(crate) fn empty(alloc: Global) -> UsbDevice
+    pub(crate) fn empty(alloc: Global) -> NzgDevice
         ensures { result.held ≡ None }
     {
-        UsbDevice {
+        NzgDevice {
             at: null_mut(),
             alloc,
         }
     }
 
     /// That of a box.
-    pub(crate) fn of(value: Box<OwnedDevice>) -> UsbDevice
+    pub(crate) fn of(value: Box<OwnedDevice>) -> NzgDevice
         ensures { result.held ≡ Some value.value }
     {
-        UsbDevice::full(Loose::of(value))
+        NzgDevice::full(Loose::of(value))
     }
 
     /// The box again, if there is one.
@@ -50,11 +50,11 @@ impl UsbDevice {
         }
     }
 
-    fn full(loose: Loose<OwnedDevice, Global>) -> UsbDevice
+    fn full(loose: Loose<OwnedDevice, Global>) -> NzgDevice
         ensures { result.held ≡ Some loose.value }
     {
         let Loose { at, alloc } = loose;
-        UsbDevice {
+        NzgDevice {
             at: at as *mut u8,
             alloc,
         }
@@ -63,7 +63,7 @@ impl UsbDevice {
     fn split(self) -> Option<Loose<OwnedDevice, Global>>
         ensures { loosely_held result ≡ self.held }
     {
-        let UsbDevice { at, alloc } = self;
+        let NzgDevice { at, alloc } = self;
         if at.is_null() {
             None
         } else {
@@ -75,7 +75,7 @@ impl UsbDevice {
     }
 }
 
-impl Drop for UsbDevice {
+impl Drop for NzgDevice {
     fn drop(self) {
         let _held = self.into_box();
     }

@@ -21,7 +21,7 @@ use usb_listing::list;
 /// What came of an enumeration.
 #[repr(C)]
 #[derive(Drop)]
-pub struct UsbOutcome {
+pub struct NzgOutcome {
     /// How many transactions there were, in all attempts.
     pub transactions: u64,
     /// How many attempts were begun, each by a bus reset.
@@ -47,7 +47,7 @@ pub(crate) fn enumerate_bytes(
     naks: u16,
     attempts: u8,
     fates: &[u8],
-    outcome: &mut UsbOutcome,
+    outcome: &mut NzgOutcome,
     text: &mut [u8],
 ) -> Verdict
     ensures { Enumerates bytes.now (speed_told speed) naks attempts fates.now outcome.old outcome.new text.old text.new result }
@@ -72,7 +72,7 @@ fn enumerate_under(
     speed: Speed,
     limits: Limits,
     letters: &[u8],
-    outcome: &mut UsbOutcome,
+    outcome: &mut NzgOutcome,
     out: &mut [u8],
 ) -> Verdict
     ensures { EnumeratesUnder bytes.now speed limits (map fate_told letters.now) outcome.old outcome.new out.old out.new result }
@@ -92,7 +92,7 @@ fn enumerate_under(
     tell_run(alloc, &run, outcome, out)
 }
 
-fn tell_run(alloc: Global, run: &Run, outcome: &mut UsbOutcome, out: &mut [u8]) -> Verdict
+fn tell_run(alloc: Global, run: &Run, outcome: &mut NzgOutcome, out: &mut [u8]) -> Verdict
     ensures outcome { outcome.new ≡ outcome_numbers run.now }
     ensures verdict { TellsRun run.now.outcome out.old out.new result }
 {

@@ -8,19 +8,19 @@ ghost use Rattle.usb_c.specs.Hosts.{Ends, HostOpens, HostOpensAt, TakesOne, acti
 ghost use Rattle.usb_device.specs.Transactions.{reply_told, sent_told, speed_told};
 
 use crate::answer::{Answer, Verdict};
-use crate::host_handle::UsbHost;
-use crate::outcome::{UsbTrouble, tell_outcome};
+use crate::host_handle::NzgHost;
+use crate::outcome::{NzgTrouble, tell_outcome};
 use std::alloc::Global;
 use std::mem::replace;
-use usb_device::{UsbTransaction, answer_of, speed_of, told};
+use usb_device::{NzgTransaction, answer_of, speed_of, told};
 use usb_fields::Speed;
 use usb_host::{Action, Host, Limits};
 
 /// Opens a host that has done nothing. One that is held already is freed.
 #[unsafe(no_mangle)]
-pub extern "C" fn usb_host_open(
+pub extern "C" fn nzg_host_open(
     alloc: Global,
-    host: &mut UsbHost,
+    host: &mut NzgHost,
     address: u8,
     naks: u16,
     attempts: u8,
@@ -28,7 +28,7 @@ pub extern "C" fn usb_host_open(
 ) -> Answer
     ensures { AnswersOn (HostOpens address naks attempts (speed_told speed) host.new.held) result }
 {
-    *host = UsbHost::empty(alloc);
+    *host = NzgHost::empty(alloc);
     match speed_of(speed) {
         Some(speed) => open_at(alloc, host, address, naks, attempts, speed).answer(),
         None => Verdict::BadArgument(3).answer(),
@@ -37,7 +37,7 @@ pub extern "C" fn usb_host_open(
 
 fn open_at(
     alloc: Global,
-    host: &mut UsbHost,
+    host: &mut NzgHost,
     address: u8,
     naks: u16,
     attempts: u8,
@@ -52,7 +52,7 @@ fn open_at(
     };
     match Box::new(alloc, Host::new(alloc, limits, speed)) {
         Ok(held) => {
-            *host = UsbHost::of(held);
+            *host = NzgHost::of(held);
             Verdict::Done(0)
         }
         Err(_) => Verdict::NoMemory,
@@ -63,10 +63,10 @@ fn open_at(
 /// bytes. But for 1 the transaction is as it was.
 #[tactic(auto, using(crate::proofs::Due::told_whole))]
 #[unsafe(no_mangle)]
-pub extern "C" fn usb_host_next(
+pub extern "C" fn nzg_host_next(
     alloc: Global,
-    host: &mut UsbHost,
-    transaction: &mut UsbTransaction,
+    host: &mut NzgHost,
+    transaction: &mut NzgTransaction,
 ) -> u8
     ensures held { host.new.held ≡ host.old.held }
     ensures action { result ≡ action_number (option_map (λ v. wanted v.phase) host.old.held) }
@@ -74,11 +74,11 @@ pub extern "C" fn usb_host_next(
     // With no bytes what is reported is the whole transaction.
     ensures whole { (sent : Sent) → option_map (λ v. wanted v.phase) host.old.held ≡ Some (WantsSent sent) → sent_told transaction.new [] ≡ Some sent }
 {
-    let Some(held) = replace(host, UsbHost::empty(alloc)).into_box() else {
+    let Some(held) = replace(host, NzgHost::empty(alloc)).into_box() else {
         return 3;
     };
     let action = held.next();
-    *host = UsbHost::of(held);
+    *host = NzgHost::of(held);
     match action {
         Action::Reset => 0,
         Action::Send(due) => {
@@ -91,24 +91,24 @@ pub extern "C" fn usb_host_next(
 
 /// The bus was reset. False where none is held.
 #[unsafe(no_mangle)]
-pub extern "C" fn usb_host_reset_done(alloc: Global, host: &mut UsbHost) -> bool
+pub extern "C" fn nzg_host_reset_done(alloc: Global, host: &mut NzgHost) -> bool
     ensures held { host.new.held ≡ option_map reset host.old.held }
     ensures done { result ≡ is_some host.old.held }
 {
-    let Some(mut held) = replace(host, UsbHost::empty(alloc)).into_box() else {
+    let Some(mut held) = replace(host, NzgHost::empty(alloc)).into_box() else {
         return false;
     };
     held.reset_done();
-    *host = UsbHost::of(held);
+    *host = NzgHost::of(held);
     true
 }
 
 /// What the transaction brought. False where none is held, or where the reply or the toggle of a data packet has no
 /// meaning: nothing changes then.
 #[unsafe(no_mangle)]
-pub extern "C" fn usb_host_take(
+pub extern "C" fn nzg_host_take(
     alloc: Global,
-    host: &mut UsbHost,
+    host: &mut NzgHost,
     reply: u8,
     toggle: u8,
     bytes: &[u8],
@@ -118,51 +118,51 @@ pub extern "C" fn usb_host_take(
     let Some(answer) = answer_of(reply, toggle, bytes) else {
         return false;
     };
-    let Some(mut held) = replace(host, UsbHost::empty(alloc)).into_box() else {
+    let Some(mut held) = replace(host, NzgHost::empty(alloc)).into_box() else {
         return false;
     };
     held.take(answer);
-    *host = UsbHost::of(held);
+    *host = NzgHost::of(held);
     true
 }
 
 /// How often the bus was reset; 0 where none is held.
 #[unsafe(no_mangle)]
-pub extern "C" fn usb_host_attempts(alloc: Global, host: &mut UsbHost) -> u8
+pub extern "C" fn nzg_host_attempts(alloc: Global, host: &mut NzgHost) -> u8
     ensures held { host.new.held ≡ host.old.held }
     ensures attempts { result ≡ resets_of host.old.held }
 {
-    let Some(held) = replace(host, UsbHost::empty(alloc)).into_box() else {
+    let Some(held) = replace(host, NzgHost::empty(alloc)).into_box() else {
         return 0;
     };
     let attempts = held.attempts();
-    *host = UsbHost::of(held);
+    *host = NzgHost::of(held);
     attempts
 }
 
 /// The outcome: the bytes of the file that was read, or the trouble.
 #[unsafe(no_mangle)]
-pub extern "C" fn usb_host_outcome(
+pub extern "C" fn nzg_host_outcome(
     alloc: Global,
-    host: &mut UsbHost,
-    trouble: &mut UsbTrouble,
+    host: &mut NzgHost,
+    trouble: &mut NzgTrouble,
     file: &mut [u8],
 ) -> Answer
     ensures held { host.new.held ≡ host.old.held }
     ensures answer { AnswersOn (Ends host.old.held trouble.old trouble.new file.old file.new) result }
 {
-    let Some(held) = replace(host, UsbHost::empty(alloc)).into_box() else {
+    let Some(held) = replace(host, NzgHost::empty(alloc)).into_box() else {
         return Verdict::Closed.answer();
     };
     let verdict = tell_outcome(alloc, &held, trouble, file);
-    *host = UsbHost::of(held);
+    *host = NzgHost::of(held);
     verdict.answer()
 }
 
 /// Frees the host, if one is held.
 #[unsafe(no_mangle)]
-pub extern "C" fn usb_host_close(alloc: Global, host: &mut UsbHost)
+pub extern "C" fn nzg_host_close(alloc: Global, host: &mut NzgHost)
     ensures { host.new.held ≡ None }
 {
-    let _old = replace(host, UsbHost::empty(alloc));
+    let _old = replace(host, NzgHost::empty(alloc));
 }

@@ -12,32 +12,32 @@ use usb_host::Host;
 /// A host on the heap, or none, which is null. C sees a struct with one pointer in it, since a
 /// `Global` takes no bytes, and neither reads nor changes what it points to.
 #[repr(C)]
-pub struct UsbHost {
+pub struct NzgHost {
     at: *mut u8,
     alloc: Global,
     pub ghost held: { Option HostView },
 }
 
-impl Model for UsbHost {
+impl Model for NzgHost {
     ghost also_owns = { λ h. owned h.alloc h.at h.held };
 }
 
-impl UsbHost {
+impl NzgHost {
     /// None.
-    pub(crate) fn empty(alloc: Global) -> UsbHost
+    pub(crate) fn empty(alloc: Global) -> NzgHost
         ensures { result.held ≡ None }
     {
-        UsbHost {
+        NzgHost {
             at: null_mut(),
             alloc,
         }
     }
 
     /// That of a box.
-    pub(crate) fn of(value: Box<Host>) -> UsbHost
+    pub(crate) fn of(value: Box<Host>) -> NzgHost
         ensures { result.held ≡ Some value.value }
     {
-        UsbHost::full(Loose::of(value))
+        NzgHost::full(Loose::of(value))
     }
 
     /// The box again, if there is one.
@@ -50,11 +50,11 @@ impl UsbHost {
         }
     }
 
-    fn full(loose: Loose<Host, Global>) -> UsbHost
+    fn full(loose: Loose<Host, Global>) -> NzgHost
         ensures { result.held ≡ Some loose.value }
     {
         let Loose { at, alloc } = loose;
-        UsbHost {
+        NzgHost {
             at: at as *mut u8,
             alloc,
         }
@@ -63,7 +63,7 @@ impl UsbHost {
     fn split(self) -> Option<Loose<Host, Global>>
         ensures { loosely_held result ≡ self.held }
     {
-        let UsbHost { at, alloc } = self;
+        let NzgHost { at, alloc } = self;
         if at.is_null() {
             None
         } else {
@@ -75,7 +75,7 @@ impl UsbHost {
     }
 }
 
-impl Drop for UsbHost {
+impl Drop for NzgHost {
     fn drop(self) {
         let _held = self.into_box();
     }

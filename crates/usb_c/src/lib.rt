@@ -1,11 +1,11 @@
-//! Descriptors, devices and hosts of USB 2.0 for callers in C: `callers/c/usb.h` declares what this library exports.
+//! Descriptors, devices and hosts of USB 2.0 for callers in C: `include/nozzlegorse.h` declares what this library exports.
 //!
 //! A slice is a pointer and a length, lent for the call. No export has a `requires`: each takes any bytes, any numbers
 //! and any order of calls. A text or bytes go into the caller's buffer whole, or the buffer is left as it was:
 //! `specs/Texts.antt`, `specs/Enumerations.antt`.
 //!
-//! Each call comes to a `Verdict`, which is given as the numbers of an [`Answer`]. [`UsbTransaction`], [`UsbPacket`],
-//! [`UsbOutcome`] and [`UsbTrouble`] are transactions and outcomes as numbers.
+//! Each call comes to a `Verdict`, which is given as the numbers of an [`Answer`]. [`NzgTransaction`], [`NzgPacket`],
+//! [`NzgOutcome`] and [`NzgTrouble`] are transactions and outcomes as numbers.
 #![tactic(auto)]
 
 mod answer;
@@ -23,20 +23,20 @@ mod taken;
 mod text;
 
 pub use answer::Answer;
-pub use buffer::{usb_build, usb_check, usb_enumerate, usb_explain, usb_show};
-pub use decoder::{usb_decoder_close, usb_decoder_feed, usb_decoder_list, usb_decoder_open};
-pub use decoder_handle::UsbDecoder;
+pub use buffer::{nzg_build, nzg_check, nzg_enumerate, nzg_explain, nzg_show};
+pub use decoder::{nzg_decoder_close, nzg_decoder_feed, nzg_decoder_list, nzg_decoder_open};
+pub use decoder_handle::NzgDecoder;
 pub use device::{
-    UsbSetup, UsbState, usb_device_accept, usb_device_acked, usb_device_answer_with,
-    usb_device_carried_out, usb_device_close, usb_device_open, usb_device_refused,
-    usb_device_reset, usb_device_serve, usb_device_state,
+    NzgSetup, NzgState, nzg_device_accept, nzg_device_acked, nzg_device_answer_with,
+    nzg_device_carried_out, nzg_device_close, nzg_device_open, nzg_device_refused,
+    nzg_device_reset, nzg_device_serve, nzg_device_state,
 };
-pub use device_handle::UsbDevice;
-pub use enumeration::UsbOutcome;
+pub use device_handle::NzgDevice;
+pub use enumeration::NzgOutcome;
 pub use host::{
-    usb_host_attempts, usb_host_close, usb_host_next, usb_host_open, usb_host_outcome,
-    usb_host_reset_done, usb_host_take,
+    nzg_host_attempts, nzg_host_close, nzg_host_next, nzg_host_open, nzg_host_outcome,
+    nzg_host_reset_done, nzg_host_take,
 };
-pub use host_handle::UsbHost;
-pub use outcome::UsbTrouble;
-pub use usb_device::{UsbPacket, UsbTransaction};
+pub use host_handle::NzgHost;
+pub use outcome::NzgTrouble;
+pub use usb_device::{NzgPacket, NzgTransaction};

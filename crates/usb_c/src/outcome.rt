@@ -12,7 +12,7 @@ use usb_host::{Host, Step, Trouble};
 /// Why an enumeration ended without success.
 #[repr(C)]
 #[derive(Drop)]
-pub struct UsbTrouble {
+pub struct NzgTrouble {
     /// The reason, from 1 on.
     pub why: u8,
     /// The step, from 1 on.
@@ -27,7 +27,7 @@ pub struct UsbTrouble {
 pub(crate) fn tell_outcome(
     alloc: Global,
     host: &Host,
-    trouble: &mut UsbTrouble,
+    trouble: &mut NzgTrouble,
     out: &mut [u8],
 ) -> Verdict
     ensures { EndsWith (outcome_of host.now.phase) trouble.old trouble.new out.old out.new result }
@@ -93,11 +93,11 @@ pub(crate) fn step_numbers(step: Step) -> StepNumbers
     }
 }
 
-fn trouble_numbers(trouble: Trouble) -> UsbTrouble
+fn trouble_numbers(trouble: Trouble) -> NzgTrouble
     ensures { result ≡ trouble_numbers trouble }
 {
     let at = step_numbers(trouble.step);
-    UsbTrouble {
+    NzgTrouble {
         why: trouble.why.number(),
         step: at.step,
         index: at.index,

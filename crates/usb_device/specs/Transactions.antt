@@ -6,8 +6,8 @@ use Rattle.usb_fields.specs.declared.packet.Toggle.TheVariants.{Data0, Data1}
 use Rattle.usb_fields.specs.declared.packet.Speed.{Speed}
 use Rattle.usb_fields.specs.declared.packet.Speed.TheVariants as speeds
 use Rattle.usb_fields.specs.Packets.{Token, SetupToken, InToken, OutToken, Sent, Reply, AckReply, NakReply, StallReply, DataReply, NoReply}
-use Rattle.usb_device.specs.declared.transaction.UsbTransaction.{UsbTransaction}
-use Rattle.usb_device.specs.declared.transaction.UsbPacket.{UsbPacket}
+use Rattle.usb_device.specs.declared.transaction.NzgTransaction.{NzgTransaction}
+use Rattle.usb_device.specs.declared.transaction.NzgPacket.{NzgPacket}
 
 -- the toggle of a number, if it has a meaning
 abbrev pub toggle_told : ℕ → Option Toggle
@@ -23,7 +23,7 @@ speed_told number =
     if number == 1 then Some speeds.Low else if number == 2 then Some speeds.Full else if number == 3 then Some speeds.High else None
 
 -- the token that a stage says, whose OUT has this toggle and these bytes
-abbrev pub token_told : UsbTransaction → List ℕ → Option Token
+abbrev pub token_told : NzgTransaction → List ℕ → Option Token
 token_told t bytes =
     if t.stage == 0 then Some (SetupToken t.setup)
     else if t.stage == 1 then Some InToken
@@ -31,17 +31,17 @@ token_told t bytes =
     else None
 
 -- what a host sends by these numbers, where they have a meaning
-abbrev pub sent_told : UsbTransaction → List ℕ → Option Sent
+abbrev pub sent_told : NzgTransaction → List ℕ → Option Sent
 sent_told t bytes = option_map (λ token. record { address = t.address; token = token }) (token_told t bytes)
 
 -- the numbers of what a host sends, but for the bytes of OUT
-abbrev pub token_numbers : ℕ → Token → UsbTransaction
+abbrev pub token_numbers : ℕ → Token → NzgTransaction
 token_numbers address (SetupToken bytes) = record { address = address; stage = 0; toggle = 0; setup = bytes }
 token_numbers address InToken = record { address = address; stage = 1; toggle = 0; setup = replicate 8 0 }
 token_numbers address (OutToken toggle bytes) =
     record { address = address; stage = 2; toggle = toggle_number toggle; setup = replicate 8 0 }
 
-abbrev pub transaction_of : Sent → UsbTransaction
+abbrev pub transaction_of : Sent → NzgTransaction
 transaction_of sent = token_numbers sent.address sent.token
 
 -- a reply of at most 64 bytes
@@ -53,7 +53,7 @@ HasRoom (DataReply toggle bytes) = length bytes ≤ 64
 HasRoom NoReply = Unit {0}
 
 -- the packet of a reply, where another one stood: what stands after its bytes stays
-abbrev pub packet_of : Reply → UsbPacket → UsbPacket
+abbrev pub packet_of : Reply → NzgPacket → NzgPacket
 packet_of AckReply old = record old { reply = 0; toggle = 0; length = 0 }
 packet_of NakReply old = record old { reply = 1; toggle = 0; length = 0 }
 packet_of StallReply old = record old { reply = 2; toggle = 0; length = 0 }

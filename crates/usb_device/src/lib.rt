@@ -8,7 +8,7 @@
 //! and [`Device::stage`] its stage in a transfer. What a device rejects its owner may answer: [`Device::refused`].
 //!
 //! [`EndpointZero`] is what changes in a device, without the description; [`OwnedDevice`] owns its description, and so
-//! can be one handle of a program in another language, for which [`UsbTransaction`] and [`UsbPacket`] are what passes
+//! can be one handle of a program in another language, for which [`NzgTransaction`] and [`NzgPacket`] are what passes
 //! on the bus, in numbers and lent bytes.
 //!
 //! - Which descriptors make a device is `specs/Accepted.antt`, and where each is `specs/Descriptors.antt`.
@@ -43,4 +43,4 @@ pub use endpoint_zero::{EndpointZero, is_set_address};
 pub use owned_device::OwnedDevice;
 pub use stage::Stage as DeviceStage;
 pub use state::{DeviceState, State};
-pub use transaction::{UsbPacket, UsbTransaction, answer_of, sent, speed_of, told};
+pub use transaction::{NzgPacket, NzgTransaction, answer_of, sent, speed_of, told};

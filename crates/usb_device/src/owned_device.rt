@@ -10,7 +10,7 @@ use crate::beside::Unanswered;
 use crate::description::Description;
 use crate::endpoint_zero::EndpointZero;
 use crate::state::State;
-use crate::transaction::{UsbPacket, tell};
+use crate::transaction::{NzgPacket, tell};
 use std::marker::Model;
 use usb_fields::{Setup, Transaction};
 
@@ -52,7 +52,7 @@ impl OwnedDevice {
 
     /// One transaction, whose answer goes into the packet.
     #[tactic(auto, using(crate::proofs::Replies::reply_has_room))]
-    pub fn serve(&mut self, t: &Transaction<'_>, ready: bool, packet: &mut UsbPacket)
+    pub fn serve(&mut self, t: &Transaction<'_>, ready: bool, packet: &mut NzgPacket)
         ensures device { self.new ≡ after self.old (served_by self.old.description.file self.old.device (sent_of t.now) ready).device }
         ensures packet { packet.new ≡ packet_of (served_by self.old.description.file self.old.device (sent_of t.now) ready).reply packet.old }
     {

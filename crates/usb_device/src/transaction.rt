@@ -9,7 +9,7 @@ use usb_fields::{Answer, Speed, Stage, Toggle, Transaction};
 /// What a host sends.
 #[repr(C)]
 #[derive(Drop)]
-pub struct UsbTransaction {
+pub struct NzgTransaction {
     /// The address, 0 to 127.
     pub address: u8,
     /// 0 SETUP, 1 IN, 2 OUT.
@@ -22,7 +22,7 @@ pub struct UsbTransaction {
 
 /// What comes back.
 #[repr(C)]
-pub struct UsbPacket {
+pub struct NzgPacket {
     /// 0 ACK, 1 NAK, 2 STALL, 3 a data packet, 4 silence.
     pub reply: u8,
     /// Of a data packet: 0 DATA0, 1 DATA1. Of the others 0.
@@ -66,7 +66,7 @@ pub fn speed_of(number: u8) -> Option<Speed>
 }
 
 /// The transaction that these numbers are, whose OUT has these bytes. `None` where a stage or a toggle has no meaning.
-pub fn sent<'a>(told: &UsbTransaction, bytes: &'a [u8]) -> Option<Transaction<'a>>
+pub fn sent<'a>(told: &NzgTransaction, bytes: &'a [u8]) -> Option<Transaction<'a>>
     ensures { option_map sent_of result ≡ sent_told told.now bytes.now }
 {
     let stage = match told.stage {
@@ -85,24 +85,24 @@ pub fn sent<'a>(told: &UsbTransaction, bytes: &'a [u8]) -> Option<Transaction<'a
 }
 
 /// A transaction as numbers; of OUT without its bytes.
-pub fn told(transaction: &Transaction<'_>) -> UsbTransaction
+pub fn told(transaction: &Transaction<'_>) -> NzgTransaction
     ensures { result ≡ transaction_of (sent_of transaction.now) }
 {
     let address = transaction.address;
     match transaction.stage {
-        Stage::Setup(setup) => UsbTransaction {
+        Stage::Setup(setup) => NzgTransaction {
             address,
             stage: 0,
             toggle: 0,
             setup,
         },
-        Stage::In => UsbTransaction {
+        Stage::In => NzgTransaction {
             address,
             stage: 1,
             toggle: 0,
             setup: [0; 8],
         },
-        Stage::Out(toggle, _) => UsbTransaction {
+        Stage::Out(toggle, _) => NzgTransaction {
             address,
             stage: 2,
             toggle: toggle_number(toggle),
@@ -112,7 +112,7 @@ pub fn told(transaction: &Transaction<'_>) -> UsbTransaction
 }
 
 /// Writes an answer of at most 64 bytes as a packet.
-pub fn tell(answer: Answer<'_>, packet: &mut UsbPacket)
+pub fn tell(answer: Answer<'_>, packet: &mut NzgPacket)
     requires { HasRoom (reply_of answer) }
     ensures { packet.new ≡ packet_of (reply_of answer.entry) packet.old }
 {
@@ -125,7 +125,7 @@ pub fn tell(answer: Answer<'_>, packet: &mut UsbPacket)
     }
 }
 
-fn tell_handshake(reply: u8, packet: &mut UsbPacket)
+fn tell_handshake(reply: u8, packet: &mut NzgPacket)
     ensures { packet.new ≡ record packet.old { reply = reply; toggle = 0; length = 0 } }
 {
     packet.reply = reply;
@@ -133,7 +133,7 @@ fn tell_handshake(reply: u8, packet: &mut UsbPacket)
     packet.length = 0;
 }
 
-fn tell_data(toggle: Toggle, bytes: &[u8], packet: &mut UsbPacket)
+fn tell_data(toggle: Toggle, bytes: &[u8], packet: &mut NzgPacket)
     requires { length bytes.now ≤ 64 }
     ensures { packet.new ≡ record { reply = 3; toggle = toggle_number toggle; length = length bytes.now; bytes = bytes.now ++ drop (length bytes.now) packet.old.bytes } }
 {

@@ -1,0 +1,140 @@
+/* nozzlegorse.h: USB 2.0 descriptors, a device's end and a host's end of the control pipe, by a proved library.
+ *
+ * docs/callers.md tells who owns what, what each status says, and how a program without a C library links. In short:
+ *
+ *  - A pointer and its length are lent for the call. The pointer is never NULL, also where the length is 0; the length
+ *    is below 2^63; what is written overlaps nothing else that is passed. A pointer to a struct is not NULL.
+ *  - Apart from that a call takes any bytes, any numbers, in any order of calls.
+ *  - A text or bytes go into the caller's buffer whole, or the buffer is as it was: then the status is NZG_NO_ROOM, and
+ *    `length` is what is wanted. A room of 0 asks for it. No NUL is written after a text.
+ *  - A handle is a struct with one pointer, begun as {0}. `_open` puts something there and frees what was there; `_close`
+ *    frees it and leaves {0}, also where nothing is held. It is not copied, nor looked into, nor used by two calls at once,
+ *    and stays on its thread.
+ *  - There is no runtime, no global state, no thread and no file. memcpy, memmove and memset, and the three functions for
+ *    memory below, are all that the library calls. */
+#ifndef NOZZLEGORSE_H
+#define NOZZLEGORSE_H
+
+#include <stdbool.h>
+#include <stddef.h>
+#include <stdint.h>
+
+#ifdef __cplusplus
+extern "C" {
+#endif
+
+/* That of `usbdesc --version`. */
+#define NZG_VERSION "0.1.0"
+
+enum nzg_status {
+    NZG_DONE = 0,
+    NZG_OPEN = 1,              /* the bytes so far are a front of a set; the host has not ended */
+    NZG_SET_FAULT = 2,         /* number 1..9, at place */
+    NZG_FILE_FAULT = 3,        /* number 1..7, at place */
+    NZG_LIST_FAULT = 4,        /* number 1..6, in the line place, counted from 1 */
+    NZG_DESCRIPTION_FAULT = 5, /* number 1, 2, 3 or 5: no device of the speed has these descriptors */
+    NZG_TRAILING = 6,          /* the set ends at place, and the bytes go on */
+    NZG_NO_ROOM = 7,           /* length is wanted */
+    NZG_NO_MEMORY = 8,
+    NZG_CLOSED = 9,            /* the handle holds nothing */
+    NZG_BAD_ARGUMENT = 10,     /* number: 1 address, 2 attempts, 3 speed, 4 a fate */
+    NZG_TROUBLE = 11,          /* number 1..7: why an enumeration failed */
+    NZG_UNANSWERED = 12,       /* number 1..4: why the device doesn't take the answer to a request */
+    NZG_NO_BYTES = 13          /* number: why the file of a host has no bytes; a law of the library says it doesn't come */
+};
+
+struct nzg_answer {
+    uint32_t status; /* enum nzg_status */
+    uint32_t number;
+    size_t place;
+    size_t length; /* how many bytes were taken or written, or are wanted */
+};
+
+/* The three functions by which the library takes memory. A block is aligned as asked for, at most to 16. Where `ok` is
+ * false, `at` is any pointer but NULL, and the old block stays. */
+struct nzg_block { bool ok; unsigned char *at; };
+struct nzg_block rattle_alloc(size_t length, size_t align);
+struct nzg_block rattle_realloc(unsigned char *at, size_t kept, size_t length, size_t align);
+void rattle_dealloc(unsigned char *at);
+
+/* --- from a buffer into a buffer: what `usbdesc` writes -------------------------------------------------------- */
+
+enum nzg_options { NZG_BRIEF = 1, NZG_PLACES = 2, NZG_UTF8 = 4 }; /* with NZG_UTF8 the text is UTF-8, else ASCII */
+enum nzg_speed { NZG_LOW = 1, NZG_FULL = 2, NZG_HIGH = 3, NZG_SUPER = 4 }; /* 0: not known; 0 and super for explain alone */
+
+/* one set where the second byte is 2 or 7, and else a file; with `any` a dump too */
+struct nzg_answer nzg_show(const uint8_t *bytes, size_t len, bool any, uint8_t *text, size_t room);
+/* a line for each finding in a file, or `no findings`; with `any` in one set or a dump too */
+struct nzg_answer nzg_check(const uint8_t *bytes, size_t len, bool any, uint8_t *text, size_t room);
+/* one set, a file, a dump, and also broken bytes: then the status tells the fault, and the text stands as far as they go */
+struct nzg_answer nzg_explain(const uint8_t *bytes, size_t len, uint32_t options, uint8_t speed, uint8_t *text, size_t room);
+/* with `comments` lines that are empty or begin with # are dropped, and so is a carriage return before a line feed */
+struct nzg_answer nzg_build(const uint8_t *text, size_t len, bool comments, uint8_t *bytes, size_t room);
+
+/* step 1 first, 2 address, 3 device, 4 header, 5 set, 6 qualifier, 7 other header, 8 other set, 9 languages, 10 text,
+ * 11 configure; 0 after success */
+struct nzg_outcome { uint64_t transactions; uint8_t attempts, address, selected, step, index; uint16_t language; };
+/* fates: one letter a transaction, as for `usbdesc enumerate --fates`. The text is the listing of what was read. */
+struct nzg_answer nzg_enumerate(const uint8_t *bytes, size_t len, uint8_t speed, uint16_t naks, uint8_t attempts, const uint8_t *fates, size_t fates_len, struct nzg_outcome *outcome, uint8_t *text, size_t room);
+
+/* --- transactions ------------------------------------------------------------------------------------------------ */
+
+enum nzg_stage { NZG_SETUP = 0, NZG_IN = 1, NZG_OUT = 2 };
+struct nzg_transaction {
+    uint8_t address, stage, toggle; /* toggle: of OUT 0 DATA0, 1 DATA1 */
+    uint8_t setup[8];               /* of SETUP */
+};
+
+enum nzg_reply { NZG_ACK = 0, NZG_NAK = 1, NZG_STALL = 2, NZG_DATA = 3, NZG_SILENCE = 4 };
+struct nzg_packet { uint8_t reply, toggle, length, data[64]; };
+
+struct nzg_setup { uint8_t bytes[8]; };
+
+/* --- the device end: only _open asks for memory -------------------------------------------------------------------- */
+
+struct nzg_device { void *held; };
+struct nzg_state { uint32_t halts; uint8_t address, selected; bool wakeup; uint8_t alternates[256]; };
+
+struct nzg_answer nzg_device_open(struct nzg_device *device, const uint8_t *file, size_t len, uint8_t speed);
+bool nzg_device_reset(struct nzg_device *device);
+/* False where nothing is held, or where the stage or the toggle of OUT has no meaning: the packet is then as it was. */
+bool nzg_device_serve(struct nzg_device *device, const struct nzg_transaction *transaction, const uint8_t *data, size_t len, bool ready, struct nzg_packet *packet);
+bool nzg_device_acked(struct nzg_device *device);
+/* The request that is refused, before the host is told; an answer to it; and the request that was carried out. */
+bool nzg_device_refused(struct nzg_device *device, struct nzg_setup *setup);
+struct nzg_answer nzg_device_answer_with(struct nzg_device *device, const uint8_t *bytes, size_t len);
+struct nzg_answer nzg_device_accept(struct nzg_device *device);
+bool nzg_device_carried_out(struct nzg_device *device, struct nzg_setup *setup);
+bool nzg_device_state(struct nzg_device *device, struct nzg_state *state);
+void nzg_device_close(struct nzg_device *device);
+
+/* --- the host end: _open, _take and _outcome ask for memory ---------------------------------------------------------- */
+
+struct nzg_host { void *held; };
+enum nzg_action { NZG_RESET = 0, NZG_SEND = 1, NZG_ENDED = 2, NZG_NONE = 3 };
+struct nzg_trouble { uint8_t why, step, index; uint16_t language; };
+
+struct nzg_answer nzg_host_open(struct nzg_host *host, uint8_t address, uint16_t naks, uint8_t attempts, uint8_t speed);
+/* enum nzg_action. An OUT has no bytes. But for NZG_SEND the transaction is as it was. */
+uint8_t nzg_host_next(struct nzg_host *host, struct nzg_transaction *transaction);
+bool nzg_host_reset_done(struct nzg_host *host);
+/* False where nothing is held, or where the reply or the toggle of NZG_DATA has no meaning: nothing changes then. */
+bool nzg_host_take(struct nzg_host *host, uint8_t reply, uint8_t toggle, const uint8_t *data, size_t len);
+uint8_t nzg_host_attempts(struct nzg_host *host);
+struct nzg_answer nzg_host_outcome(struct nzg_host *host, struct nzg_trouble *trouble, uint8_t *file, size_t room);
+void nzg_host_close(struct nzg_host *host);
+
+/* --- a set in pieces -------------------------------------------------------------------------------------------------- */
+
+struct nzg_decoder { void *held; };
+
+struct nzg_answer nzg_decoder_open(struct nzg_decoder *decoder);
+struct nzg_answer nzg_decoder_feed(struct nzg_decoder *decoder, const uint8_t *piece, size_t len);
+/* also closes the decoder, whatever it answers */
+struct nzg_answer nzg_decoder_list(struct nzg_decoder *decoder, uint8_t *text, size_t room);
+void nzg_decoder_close(struct nzg_decoder *decoder);
+
+#ifdef __cplusplus
+}
+#endif
+#endif
