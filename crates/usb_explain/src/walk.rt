@@ -17,10 +17,7 @@ use crate::subject::Subject;
 use std::alloc::AllocError;
 use std::io::Write;
 use usb_fields::{after, prefix};
-use usb_text::{OutFault, Text, write_all};
-
-/// A text of so many bytes is passed on to the writer.
-const FULL: usize = 32 * 1024;
+use usb_text::{OutFault, Text};
 
 /// Writes the lines of the descriptors in these bytes, from the first on. Answers how many bytes they are.
 pub(crate) fn write_blocks<W: Write>(
@@ -40,7 +37,7 @@ pub(crate) fn write_blocks<W: Write>(
         standing.enter(role, subject, ahead);
         let d = prefix(ahead, length);
         let told = standing.put_block(text, subject, role, d, after(ahead, length))?;
-        pass_on(text, w)?;
+        text.pass_on(w)?;
         standing.tell(told);
         standing.pass(role, d);
         ahead = after(ahead, length);
@@ -75,18 +72,4 @@ impl Standing {
             _ => {}
         }
     }
-}
-
-/// Writes the text and empties it, where it is full. Only the writer can fail here.
-fn pass_on<W: Write>(text: &mut Text, w: &mut W) -> Result<(), OutFault>
-    ensures ok { OnOk result (Puts (W.contents w.old) (W.contents w.new) text.old text.new []) }
-    ensures err { OnErr result (AppendsLess (W.contents w.old) (W.contents w.new) text.old) }
-    ensures whole { OnOk result (Keeps (W.contents w.old) (W.contents w.new) ⊎ Appends (W.contents w.old) (W.contents w.new) text.old) }
-    ensures why { IfErr result (λ fault. fault ≡ OutFault.Write) }
-{
-    if text.as_bytes().len() >= FULL {
-        write_all(w, text.as_bytes())?;
-        text.clear();
-    }
-    Ok(())
 }

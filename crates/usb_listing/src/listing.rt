@@ -7,13 +7,13 @@ ghost use Rattle.usb_text.specs.inside.Pages.{Puts};
 ghost use Rattle.std.specs.Prelude.{◌++◌, OnErr, OnOk};
 ghost use Rattle.std.specs.List.{flat_map};
 
-use crate::page::Page;
+use crate::line::{ROOM, put_line};
 use crate::string_listing::list_strings;
 use std::alloc::{AllocError, Global};
 use std::io::Write;
 use usb_fields::{DEVICE_WIDTHS, DeviceDescriptor, QUALIFIER_WIDTHS, Qualifier};
 use usb_file_data::{DescriptorFile, Other};
-use usb_text::OutFault;
+use usb_text::{OutFault, Text, write_all};
 
 /// Writes exactly the listing of the file: a line for each descriptor, in the order of the file. A file that has
 /// no bytes is listed too, as what it says.
@@ -35,12 +35,12 @@ pub fn list<W: Write>(alloc: Global, f: &DescriptorFile, w: &mut W) -> Result<()
     ensures ok { OnOk result (Appends (W.contents w.old) (W.contents w.new) (file_lines f.now)) }
     ensures err { OnErr result (AppendsLess (W.contents w.old) (W.contents w.new) (file_lines f.now)) }
 {
-    let mut page = Page::new(alloc)?;
+    let mut page = Text::with_capacity(alloc, ROOM)?;
     list_file(&mut page, f, w)?;
-    page.finish(w)
+    write_all(w, page.as_bytes())
 }
 
-fn list_file<W: Write>(page: &mut Page, f: &DescriptorFile, w: &mut W) -> Result<(), OutFault>
+fn list_file<W: Write>(page: &mut Text, f: &DescriptorFile, w: &mut W) -> Result<(), OutFault>
     ensures ok { OnOk result (Puts (W.contents w.old) (W.contents w.new) page.old page.new (file_lines f.now)) }
     ensures err { OnErr result (AppendsLess (W.contents w.old) (W.contents w.new) (page.old ++ file_lines f.now)) }
 {
@@ -50,7 +50,7 @@ fn list_file<W: Write>(page: &mut Page, f: &DescriptorFile, w: &mut W) -> Result
     list_strings(page, &f.strings, w)
 }
 
-fn list_other<W: Write>(page: &mut Page, other: &Option<Other>, w: &mut W) -> Result<(), OutFault>
+fn list_other<W: Write>(page: &mut Text, other: &Option<Other>, w: &mut W) -> Result<(), OutFault>
     ensures ok { OnOk result (Puts (W.contents w.old) (W.contents w.new) page.old page.new (other_lines other.now)) }
     ensures err { OnErr result (AppendsLess (W.contents w.old) (W.contents w.new) (page.old ++ other_lines other.now)) }
 {
@@ -64,17 +64,17 @@ fn list_other<W: Write>(page: &mut Page, other: &Option<Other>, w: &mut W) -> Re
 }
 
 #[tactic(auto, unfolding(crate::specs::Listing::device_line))]
-fn put_device(page: &mut Page, d: &DeviceDescriptor) -> Result<(), AllocError>
+fn put_device(page: &mut Text, d: &DeviceDescriptor) -> Result<(), AllocError>
     ensures { OnOk result (page.new ≡ page.old ++ device_line d.now) }
 {
-    page.put_line("device", &DEVICE_WIDTHS, &d.to_bytes()[2..])
+    put_line(page, "device", &DEVICE_WIDTHS, &d.to_bytes()[2..])
 }
 
 #[tactic(auto, unfolding(crate::specs::Listing::qualifier_line))]
-fn put_qualifier(page: &mut Page, q: &Qualifier) -> Result<(), AllocError>
+fn put_qualifier(page: &mut Text, q: &Qualifier) -> Result<(), AllocError>
     ensures { OnOk result (page.new ≡ page.old ++ qualifier_line q.now) }
 {
-    page.put_line("qualifier", &QUALIFIER_WIDTHS, &q.to_bytes()[2..])
+    put_line(page, "qualifier", &QUALIFIER_WIDTHS, &q.to_bytes()[2..])
 }
 
 /// A value that is listed by lines of its own.
@@ -85,7 +85,7 @@ pub(crate) trait Listed {
     ghost lines: { Self → List ℕ };
 
     /// Puts its lines at the end of the page, which is passed on where it is full.
-    fn list<W: Write>(&self, page: &mut Page, w: &mut W) -> Result<(), OutFault>
+    fn list<W: Write>(&self, page: &mut Text, w: &mut W) -> Result<(), OutFault>
         ensures ok { OnOk result (Puts (W.contents w.old) (W.contents w.new) page.old page.new (lines self.now)) }
         ensures err { OnErr result (AppendsLess (W.contents w.old) (W.contents w.new) (page.old ++ lines self.now)) };
 }
@@ -93,7 +93,7 @@ pub(crate) trait Listed {
 /// Puts the lines of several values, one value after another. Most lists are empty, so no call is made for one.
 #[inline(always)]
 pub(crate) fn list_all<T: Listed, W: Write>(
-    page: &mut Page,
+    page: &mut Text,
     items: &[T],
     w: &mut W,
 ) -> Result<(), OutFault>

@@ -5,8 +5,8 @@ ghost use Rattle.usb_listing.specs.Listing.{configuration_line, endpoint_line, e
 ghost use Rattle.usb_text.specs.Output.{AppendsLess};
 ghost use Rattle.usb_text.specs.inside.Pages.{Puts};
 
+use crate::line::{ROOM, put_line_with_tail};
 use crate::listing::{Listed, list_all};
-use crate::page::Page;
 use crate::word::put_extra;
 use std::alloc::{AllocError, Global};
 use std::io::Write;
@@ -14,7 +14,7 @@ use usb_set::{
     CONFIGURATION_WIDTHS, Configuration, ENDPOINT_WIDTHS, Endpoint, Extra, INTERFACE_WIDTHS,
     SetKind, Setting,
 };
-use usb_text::OutFault;
+use usb_text::{OutFault, Text, write_all};
 
 /// Writes the listing of the set: a line for each descriptor, in the order of its bytes.
 ///
@@ -31,9 +31,9 @@ pub fn list_set<W: Write>(alloc: Global, c: &Configuration, w: &mut W) -> Result
     ensures ok { OnOk result (Appends (W.contents w.old) (W.contents w.new) (set_lines c.now)) }
     ensures err { OnErr result (AppendsLess (W.contents w.old) (W.contents w.new) (set_lines c.now)) }
 {
-    let mut page = Page::new(alloc)?;
+    let mut page = Text::with_capacity(alloc, ROOM)?;
     c.list(&mut page, w)?;
-    page.finish(w)
+    write_all(w, page.as_bytes())
 }
 
 impl Listed for Configuration {
@@ -41,14 +41,14 @@ impl Listed for Configuration {
 
     ghost lines = { set_lines };
 
-    fn list<W: Write>(&self, page: &mut Page, w: &mut W) -> Result<(), OutFault> {
+    fn list<W: Write>(&self, page: &mut Text, w: &mut W) -> Result<(), OutFault> {
         list_header(page, self, w)?;
         list_all(page, &self.extras, w)?;
         list_all(page, &self.settings, w)
     }
 }
 
-fn list_header<W: Write>(page: &mut Page, c: &Configuration, w: &mut W) -> Result<(), OutFault>
+fn list_header<W: Write>(page: &mut Text, c: &Configuration, w: &mut W) -> Result<(), OutFault>
     ensures ok { OnOk result (Puts (W.contents w.old) (W.contents w.new) page.old page.new (configuration_line c.now)) }
     ensures err { OnErr result (AppendsLess (W.contents w.old) (W.contents w.new) (page.old ++ configuration_line c.now)) }
 {
@@ -61,7 +61,7 @@ impl Listed for Setting {
 
     ghost lines = { setting_lines };
 
-    fn list<W: Write>(&self, page: &mut Page, w: &mut W) -> Result<(), OutFault> {
+    fn list<W: Write>(&self, page: &mut Text, w: &mut W) -> Result<(), OutFault> {
         put_interface(page, self)?;
         list_all(page, &self.extras, w)?;
         list_all(page, &self.endpoints, w)?;
@@ -74,7 +74,7 @@ impl Listed for Endpoint {
 
     ghost lines = { endpoint_lines };
 
-    fn list<W: Write>(&self, page: &mut Page, w: &mut W) -> Result<(), OutFault> {
+    fn list<W: Write>(&self, page: &mut Text, w: &mut W) -> Result<(), OutFault> {
         put_endpoint(page, self)?;
         list_all(page, &self.extras, w)?;
         page.pass_on(w)
@@ -86,18 +86,18 @@ impl Listed for Extra {
 
     ghost lines = { extra_line };
 
-    fn list<W: Write>(&self, page: &mut Page, w: &mut W) -> Result<(), OutFault> {
+    fn list<W: Write>(&self, page: &mut Text, w: &mut W) -> Result<(), OutFault> {
         put_extra(page, self)?;
         page.pass_on(w)
     }
 }
 
 #[tactic(auto, unfolding(crate::specs::Listing::configuration_line))]
-fn put_configuration(page: &mut Page, c: &Configuration) -> Result<(), AllocError>
+fn put_configuration(page: &mut Text, c: &Configuration) -> Result<(), AllocError>
     ensures { OnOk result (page.new ≡ page.old ++ configuration_line c.now) }
 {
     let word = set_word(c.kind);
-    page.put_line_with_tail(word, &CONFIGURATION_WIDTHS, &c.field_bytes(), &c.tail)
+    put_line_with_tail(page, word, &CONFIGURATION_WIDTHS, &c.field_bytes(), &c.tail)
 }
 
 fn set_word(kind: SetKind) -> &'static str
@@ -110,15 +110,27 @@ fn set_word(kind: SetKind) -> &'static str
 }
 
 #[tactic(auto, unfolding(crate::specs::Listing::interface_line))]
-fn put_interface(page: &mut Page, s: &Setting) -> Result<(), AllocError>
+fn put_interface(page: &mut Text, s: &Setting) -> Result<(), AllocError>
     ensures { OnOk result (page.new ≡ page.old ++ interface_line s.now) }
 {
-    page.put_line_with_tail("interface", &INTERFACE_WIDTHS, &s.field_bytes(), &s.tail)
+    put_line_with_tail(
+        page,
+        "interface",
+        &INTERFACE_WIDTHS,
+        &s.field_bytes(),
+        &s.tail,
+    )
 }
 
 #[tactic(auto, unfolding(crate::specs::Listing::endpoint_line))]
-fn put_endpoint(page: &mut Page, e: &Endpoint) -> Result<(), AllocError>
+fn put_endpoint(page: &mut Text, e: &Endpoint) -> Result<(), AllocError>
     ensures { OnOk result (page.new ≡ page.old ++ endpoint_line e.now) }
 {
-    page.put_line_with_tail("endpoint", &ENDPOINT_WIDTHS, &e.field_bytes(), &e.tail)
+    put_line_with_tail(
+        page,
+        "endpoint",
+        &ENDPOINT_WIDTHS,
+        &e.field_bytes(),
+        &e.tail,
+    )
 }

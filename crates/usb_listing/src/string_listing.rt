@@ -4,20 +4,20 @@ ghost use Rattle.std.specs.List.{flat_map};
 ghost use Rattle.usb_text.specs.Output.{AppendsLess};
 ghost use Rattle.usb_text.specs.inside.Pages.{Puts};
 ghost use Rattle.usb_listing.specs.Table.{written_field};
-ghost use Rattle.usb_text.specs.Characters.{two_bytes, written_unit};
+ghost use Rattle.usb_text.specs.Characters.{two_bytes};
 ghost use Rattle.usb_listing.specs.Listing.{languages_line, string_line, strings_lines};
 
+use crate::line::put_number;
 use crate::listing::{Listed, list_all};
-use crate::page::Page;
 use std::alloc::AllocError;
 use std::io::Write;
 use usb_file_data::Strings;
 use usb_set::Sequence;
-use usb_text::OutFault;
+use usb_text::{OutFault, Text, put_units};
 
 /// Puts the languages' line and those of the strings, if there are any.
 pub(crate) fn list_strings<W: Write>(
-    page: &mut Page,
+    page: &mut Text,
     strings: &Option<Strings>,
     w: &mut W,
 ) -> Result<(), OutFault>
@@ -38,42 +38,33 @@ impl Listed for Sequence<u16> {
 
     ghost lines = { string_line };
 
-    fn list<W: Write>(&self, page: &mut Page, w: &mut W) -> Result<(), OutFault> {
+    fn list<W: Write>(&self, page: &mut Text, w: &mut W) -> Result<(), OutFault> {
         put_string(page, &self)?;
         page.pass_on(w)
     }
 }
 
-fn put_string(page: &mut Page, units: &[u16]) -> Result<(), AllocError>
+fn put_string(page: &mut Text, units: &[u16]) -> Result<(), AllocError>
     ensures { OnOk result (page.new ≡ page.old ++ string_line units.now) }
 {
-    page.put_word("string \"")?;
-    put_units(page, units)?;
-    page.put_word("\"\n")
+    page.put("string \"")?;
+    put_units(page, false, units)?;
+    page.put("\"\n")
 }
 
-fn put_units(page: &mut Page, units: &[u16]) -> Result<(), AllocError>
-    ensures { OnOk result (page.new ≡ page.old ++ flat_map written_unit units.now) }
-{
-    for unit in units {
-        page.put_unit(*unit)?;
-    }
-    Ok(())
-}
-
-fn put_languages(page: &mut Page, languages: &[u16]) -> Result<(), AllocError>
+fn put_languages(page: &mut Text, languages: &[u16]) -> Result<(), AllocError>
     ensures { OnOk result (page.new ≡ page.old ++ languages_line languages.now) }
 {
-    page.put_word("languages")?;
+    page.put("languages")?;
     put_numbers(page, languages)?;
-    page.end_line()
+    page.put("\n")
 }
 
-fn put_numbers(page: &mut Page, numbers: &[u16]) -> Result<(), AllocError>
+fn put_numbers(page: &mut Text, numbers: &[u16]) -> Result<(), AllocError>
     ensures { OnOk result (page.new ≡ page.old ++ flat_map written_field (map two_bytes numbers.now)) }
 {
     for number in numbers {
-        page.put_number(*number)?;
+        put_number(page, *number)?;
     }
     Ok(())
 }

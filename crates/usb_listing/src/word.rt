@@ -8,11 +8,12 @@ ghost use Rattle.usb_listing.specs.Listing.{extra_line};
 ghost use Rattle.usb_listing.specs.Table.{extra_row};
 ghost use Rattle.usb_set.specs.declared.extra.Extra.TheVariants as extras;
 
-use crate::page::Page;
+use crate::line::put_line_with_tail;
 use memchr::memchr;
 use std::alloc::AllocError;
 use usb_fields::Width;
 use usb_set::{ASSOCIATION_WIDTHS, Association, Extra, Raw};
+use usb_text::Text;
 
 /// The first word of a line: which descriptor the line says.
 #[derive(Clone, Copy, Debug, PartialEq, Eq)]
@@ -175,22 +176,22 @@ impl ExtraWord {
 }
 
 #[tactic(auto, unfolding(crate::specs::Listing::extra_line))]
-fn put_raw(page: &mut Page, raw: &Raw) -> Result<(), AllocError>
+fn put_raw(page: &mut Text, raw: &Raw) -> Result<(), AllocError>
     ensures { OnOk result (page.new ≡ page.old ++ extra_line (extras.Raw raw.now)) }
 {
-    page.put_line_with_tail("raw", &RAW_WIDTHS, &[raw.kind], &raw.body)
+    put_line_with_tail(page, "raw", &RAW_WIDTHS, &[raw.kind], &raw.body)
 }
 
 #[tactic(auto, unfolding(crate::specs::Listing::extra_line))]
-fn put_association(page: &mut Page, a: &Association) -> Result<(), AllocError>
+fn put_association(page: &mut Text, a: &Association) -> Result<(), AllocError>
     ensures { OnOk result (page.new ≡ page.old ++ extra_line (extras.Association a.now)) }
 {
     let word = "association";
-    page.put_line_with_tail(word, &ASSOCIATION_WIDTHS, &a.field_bytes(), &a.tail)
+    put_line_with_tail(page, word, &ASSOCIATION_WIDTHS, &a.field_bytes(), &a.tail)
 }
 
 /// Puts the line of an extra at the end of the page.
-pub(crate) fn put_extra(page: &mut Page, extra: &Extra) -> Result<(), AllocError>
+pub(crate) fn put_extra(page: &mut Text, extra: &Extra) -> Result<(), AllocError>
     ensures { OnOk result (page.new ≡ page.old ++ extra_line extra.now) }
 {
     match extra {

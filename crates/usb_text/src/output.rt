@@ -1,9 +1,11 @@
 //! Writing bytes to a writer that may take a part of them at a time.
-ghost use Rattle.std.specs.Prelude.{◌≡◌, IfErr, OnErr, OnOk};
-ghost use Rattle.std.specs.Io.KnownBytes.{Appends};
+ghost use Rattle.std.specs.Prelude.{◌≡◌, ◌⊎◌, [], IfErr, OnErr, OnOk};
+ghost use Rattle.std.specs.Io.KnownBytes.{Appends, Keeps};
 ghost use Rattle.usb_text.specs.Output.{AppendsLess, out_number};
 ghost use Rattle.usb_text.specs.declared.output.OutFault.TheVariants.{Memory};
+ghost use Rattle.usb_text.specs.inside.Pages.{Puts};
 
+use crate::text::Text;
 use std::alloc::AllocError;
 use std::io::Write;
 use thiserror::Error;
@@ -65,4 +67,27 @@ pub fn write_all<W: Write>(w: &mut W, bytes: &[u8]) -> Result<(), OutFault>
         }
     }
     Ok(())
+}
+
+/// A text of so many bytes is passed on to the writer.
+const FULL: usize = 32 * 1024;
+
+impl Text {
+    /// Writes the text and empties it, where it has 32 KB or more. Its memory is kept for what is put next.
+    ///
+    /// # Errors
+    ///
+    /// `Write` where the writer failed.
+    pub fn pass_on<W: Write>(&mut self, w: &mut W) -> Result<(), OutFault>
+        ensures ok { OnOk result (Puts (W.contents w.old) (W.contents w.new) self.old self.new []) }
+        ensures err { OnErr result (AppendsLess (W.contents w.old) (W.contents w.new) self.old) }
+        ensures whole { OnOk result (Keeps (W.contents w.old) (W.contents w.new) ⊎ Appends (W.contents w.old) (W.contents w.new) self.old) }
+        ensures why { IfErr result (λ fault. fault ≡ OutFault.Write) }
+    {
+        if self.len() >= FULL {
+            write_all(w, self.as_bytes())?;
+            self.clear();
+        }
+        Ok(())
+    }
 }

@@ -1,5 +1,5 @@
 //! A text that grows at its end.
-ghost use Rattle.std.specs.Prelude.{◌≡◌, ◌≤◌, ◌+◌, ◌-◌, ◌*◌, ◌<◌, [], ◌∷◌, ◌++◌, drop, length, replicate, take, ◌==◌, IfSome, OnOk};
+ghost use Rattle.std.specs.Prelude.{◌≡◌, ◌≤◌, ◌+◌, ◌-◌, ◌*◌, ◌<◌, [], ◌∷◌, ◌++◌, drop, length, replicate, take, ◌==◌, IfOk, IfSome, OnOk};
 ghost use Rattle.std.specs.Fmt.{decimal};
 ghost use Rattle.usb_text.specs.Lines.{column, filling};
 ghost use Rattle.hex.specs.Hex.{encode_lower};
@@ -40,6 +40,19 @@ impl Text {
         Text {
             bytes: Vec::new(alloc),
         }
+    }
+
+    /// An empty text with room for so many bytes.
+    ///
+    /// # Errors
+    ///
+    /// Out of memory.
+    pub fn with_capacity(alloc: Global, room: usize) -> Result<Text, AllocError>
+        ensures { IfOk result (λ text. text ≡ []) }
+    {
+        Ok(Text {
+            bytes: Vec::with_capacity(alloc, room)?,
+        })
     }
 
     /// Its bytes.

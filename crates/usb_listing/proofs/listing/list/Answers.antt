@@ -7,7 +7,7 @@ use Rattle.usb_listing.proofs.listing.list.Goals as goal
 pub returns-clause-err : goal.returns-clause-err
 returns-clause-err g c =
     let listed = rw c.in_ok-page.ensures at c.in_ok-list_file.ensures.ok in
-    on_err_weaker c.finish.result (puts_whole_front _ _ _ _ _ listed) c.finish.ensures.err
+    on_err_weaker c.write_all.result (puts_whole_front _ _ _ _ _ listed) (rw c.as_bytes.ensures at c.write_all.ensures.err)
 
 pub returns-in_err-page-clause-err : goal.returns-in_err-page-clause-err
 returns-in_err-page-clause-err g c =

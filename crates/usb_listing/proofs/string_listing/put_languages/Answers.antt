@@ -10,7 +10,7 @@ use Rattle.usb_listing.proofs.string_listing.put_languages.Goals as goal
 pub returns : goal.returns
 unfolding languages_line
 returns c =
-    let word : c.put_word.new.self ≡ c.args.page.now ++ codes "languages" = c.in_ok-put_word.ensures in
-    let languages : c.put_numbers.new.page ≡ c.put_word.new.self ++ flat_map written_field (map two_bytes c.args.languages.now) = c.in_ok-put_numbers.ensures in
-    on_ok_weaker c.end_line.result (λ (ended : c.end_line.new.self ≡ c.put_numbers.new.page ++ codes "\n"). rw (ended, languages, word)
-    (row_line_put c.args.page.now (codes "languages") (map two_bytes c.args.languages.now))) c.end_line.ensures
+    let word : c.put.new.self ≡ c.args.page.now ++ codes "languages" = c.in_ok-put.ensures in
+    let languages : c.put_numbers.new.page ≡ c.put.new.self ++ flat_map written_field (map two_bytes c.args.languages.now) = c.in_ok-put_numbers.ensures in
+    on_ok_weaker c.put-2.result (λ (ended : c.put-2.new.self ≡ c.put_numbers.new.page ++ codes "\n"). rw (ended, languages, word)
+    (row_line_put c.args.page.now (codes "languages") (map two_bytes c.args.languages.now))) c.put-2.ensures
