@@ -22,8 +22,6 @@ FORMS = {
     "call_management": ("CallManagement", 1),
     "firmware_upgrade": ("FirmwareUpgrade", 1),
 }
-# The tables of class names, and the type of their codes, by how many codes a row has.
-CLASS_TABLES = {1: ("CLASSES", "u8"), 2: ("SUBCLASSES", "(u8, u8)"), 3: ("PROTOCOLS", "(u8, u8, u8)")}
 TERMINALS = {"01": "AUDIO_TERMINALS", "0e": "VIDEO_TERMINALS"}
 
 
@@ -51,15 +49,26 @@ def table(name, kind, rows, comment=None):
     yield "];\n"
 
 
-def class_tables():
-    rows = {count: [] for count in CLASS_TABLES}
+def classes():
+    """Each class: its code, its name, its subclasses and its protocols, as the macro class! takes them."""
+    rows = {}
     for line in lines_of("classes.txt"):
         codes, name = re.fullmatch(r"((?:[0-9a-f]{2} )+)(.*)", line).groups()
-        codes = [f"0x{code}" for code in codes.split()]
-        code = codes[0] if len(codes) == 1 else f"({', '.join(codes)})"
-        rows[len(codes)].append(f'({code}, "{name}")')
-    for count, (name, codes) in CLASS_TABLES.items():
-        yield from table(name, f"Named<{codes}>", rows[count])
+        class_, *codes = [f"0x{code}" for code in codes.split()]
+        if not codes:
+            rows[class_] = (name, [], [])
+        else:
+            rows[class_][len(codes)].append(f'{" ".join(codes)} "{name}"')
+    return rows
+
+
+def class_table(rows):
+    yield f"static CLASSES: [Class; {len(rows)}] = ["
+    for code, (name, *lists) in rows.items():
+        parts = [f'    class!({code} "{name}"', *(f"[{', '.join(names)}]" for names in lists)]
+        short = " ".join(parts) + "),"
+        yield short if len(short) <= 120 else "\n        ".join(parts) + "),"
+    yield "];"
 
 
 def terminal_tables():
@@ -102,24 +111,26 @@ def row_tables():
         yield from table(static_name(group, "rows"), "ClassDescriptor", [row_code(line) for line in lines], comment)
 
 
-def write_tables(path, lines):
+def write_part(path, lines, part=""):
     """Writes the part of a source anew that it marks."""
     path = os.path.join(HERE, path)
     with open(path, encoding="utf-8") as source:
         text = source.read()
-    made = re.compile(r"(\n// made by tables.py\n).*?(\n// end\n)", re.DOTALL)
-    text, count = made.subn(lambda found: found[1] + "\n".join(lines).rstrip("\n") + found[2], text)
+    made = re.compile(rf"(\n *// made by tables.py{part}\n).*?( *// end\n)", re.DOTALL)
+    text, count = made.subn(lambda found: found[1] + "\n".join(lines).rstrip("\n") + "\n" + found[2], text)
     if count != 1:
-        raise SystemExit(f"tables.py: {path}: {count} parts")
+        raise SystemExit(f"tables.py: {path}: {count} parts{part}")
     with open(path, "w", encoding="utf-8") as source:
         source.write(text)
 
 
 def main():
-    write_tables("src/class.rt", class_tables())
-    write_tables("src/terminal.rt", terminal_tables())
-    write_tables("src/bits.rt", bit_tables())
-    write_tables("src/rows.rt", row_tables())
+    rows = classes()
+    write_part("src/class.rt", (f"        {code} => {place}," for place, code in enumerate(rows)), ": places")
+    write_part("src/class.rt", class_table(rows), ": classes")
+    write_part("src/terminal.rt", terminal_tables())
+    write_part("src/bits.rt", bit_tables())
+    write_part("src/rows.rt", row_tables())
 
 
 if __name__ == "__main__":

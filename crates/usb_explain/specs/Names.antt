@@ -1,7 +1,7 @@
 -- Class codes, bits, types of terminals and GUIDs in words.
 use Rattle.std.specs.Prelude.{ℕ, List, [], ◌++◌, ◌==◌, Option, Some, None, codes, if◌then◌else◌, ◌/◌, ◌%◌, ◌^◌, Bool, ◌∷◌, slice_get, ◌+◌, ◌*◌, ◌&&◌, ◌||◌, drop, nat_eq, nat_le, take}
 use Rattle.usb_names.specs.Classes.{class_name, protocol_name, subclass_name}
-use Rattle.usb_names.specs.Named.{Named, name_where}
+use Rattle.usb_names.specs.Named.{Named, name_of}
 use Rattle.usb_text.specs.Numbers.{byte_code, meaning, word_code}
 use Rattle.std.specs.Fmt.{decimal}
 use Rattle.std.specs.List.{filter, flat_map, list_all}
@@ -86,7 +86,7 @@ bits_field names value =
 
 -- a type of two bytes, the low one first, and its name among these if it has one: `0x0101 (USB streaming)`
 unfoldable pub terminal_words : List (Named ℕ) → List ℕ → List ℕ
-terminal_words types (low ∷ high ∷ []) = let code = low + 256 * high in word_code code ++ named (name_where (λ its. its == code) types)
+terminal_words types (low ∷ high ∷ []) = let code = low + 256 * high in word_code code ++ named (name_of types code)
 terminal_words types value = encode_lower value
 
 -- GUIDs, of which those of formats of video may be named by four characters (UVC 1.5, Uncompressed Payload).

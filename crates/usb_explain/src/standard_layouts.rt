@@ -11,14 +11,13 @@ const AUDIO_CLASS: u8 = 1;
 
 /// The fields after bDescriptorType: name, form and width of each. What follows them is a tail.
 macro_rules! layout {
-    [$($name:literal $form:ident $width:literal),*] => {{
-        static LAYOUT: DescriptorLayout = DescriptorLayout {
+    [$($name:literal $form:ident $width:literal),*] => {
+        DescriptorLayout {
             fields: &[$(ClassField { name: $name, width: $width, form: Form::$form }),*],
             group: &[],
             rest: "tail",
-        };
-        &LAYOUT
-    }};
+        }
+    };
 }
 
 /// The device descriptor (USB 2.0, 9.6.1).

@@ -1,26 +1,38 @@
--- Names of class, subclass and protocol codes, as the tables of the code have them.
-use Rattle.std.specs.Prelude.{ℕ, List, Option, ◌==◌, ◌&&◌, map}
-use Rattle.usb_names.specs.declared.class.TheConstants.{CLASSES, SUBCLASSES, PROTOCOLS}
-use Rattle.usb_names.specs.Named.{Named, name_where, of_constant}
+-- Names of class, subclass and protocol codes: USB-IF's defined class codes, and for communications those of CDC 1.2
+-- (tables 4 and 5). The names are short ones of this project's own, and stand in src/class.rt.
+use Rattle.std.specs.Prelude.{ℕ, List, Option, ◌==◌, ◌&&◌, map, option_map, option_and_then, find}
+use Rattle.std.specs.Borrow.{Bor}
+use Rattle.usb_names.specs.declared.class.Class.{Class}
+use Rattle.usb_names.specs.declared.class.TheConstants.{CLASSES}
+use Rattle.usb_names.specs.Named.{Named, name_of, name_where, of_constant, row_of}
 
--- names of classes
-unfoldable pub classes : List (Named ℕ)
-classes = map of_constant CLASSES
+-- a class: its code and its name, the names of its subclasses, and those of its protocols by subclass and protocol
+abbrev pub ClassRow : Type 0
+ClassRow = Class (List ℕ) (List (Named ℕ)) (List (Named (ℕ × ℕ)))
+
+-- a row of the code
+abbrev pub class_of : Class (Bor (List ℕ)) (Bor (List (ℕ × Bor (List ℕ)))) (Bor (List ((ℕ × ℕ) × Bor (List ℕ)))) → ClassRow
+class_of row = record { code = row.code; name = row.name.now; subclasses = map row_of row.subclasses.now; protocols = map row_of row.protocols.now }
+
+-- a row of the constant
+abbrev of_row : Class (record { now : List ℕ }) (record { now : List (ℕ × record { now : List ℕ }) }) (record { now : List ((ℕ × ℕ) × record { now : List ℕ }) }) → ClassRow
+of_row row = record { code = row.code; name = row.name.now; subclasses = map of_constant row.subclasses.now; protocols = map of_constant row.protocols.now }
+
+-- all classes
+unfoldable pub classes : List ClassRow
+classes = map of_row CLASSES
+
+-- the row of a class
+abbrev pub class_row : ℕ → Option ClassRow
+class_row class = find (λ (row : ClassRow). row.code == class) classes
 
 abbrev pub class_name : ℕ → Option (List ℕ)
-class_name class = name_where (λ code. code == class) classes
-
--- names of subclasses, by class and subclass
-unfoldable pub subclasses : List (Named (ℕ × ℕ))
-subclasses = map of_constant SUBCLASSES
+class_name class = option_map (λ (row : ClassRow). row.name) (class_row class)
 
 abbrev pub subclass_name : ℕ → ℕ → Option (List ℕ)
-subclass_name class subclass = name_where (λ (codes : ℕ × ℕ). codes.0 == class && (codes.1 == subclass)) subclasses
-
--- names of protocols, by class, subclass and protocol
-unfoldable pub protocols : List (Named (ℕ × ℕ × ℕ))
-protocols = map of_constant PROTOCOLS
+subclass_name class subclass = option_and_then (λ (row : ClassRow). name_of row.subclasses subclass) (class_row class)
 
 abbrev pub protocol_name : ℕ → ℕ → ℕ → Option (List ℕ)
 protocol_name class subclass protocol =
-    name_where (λ (codes : ℕ × ℕ × ℕ). codes.0 == class && (codes.1 == subclass) && (codes.2 == protocol)) protocols
+    option_and_then (λ (row : ClassRow). name_where (λ (codes : ℕ × ℕ). codes.0 == subclass && (codes.1 == protocol)) row.protocols)
+    (class_row class)

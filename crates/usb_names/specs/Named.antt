@@ -1,5 +1,5 @@
 -- Tables of names.
-use Rattle.std.specs.Prelude.{ℕ, List, Option, option_map, Bool, find}
+use Rattle.std.specs.Prelude.{ℕ, List, Option, option_map, ◌==◌, Bool, find}
 use Rattle.std.specs.Borrow.{Bor}
 
 -- a row: a code, or several, and the name
@@ -9,6 +9,10 @@ Named Code = Code × List ℕ
 -- the name in the first row whose code passes the test
 abbrev pub name_where : {Code : Type 0} → (Code → Bool) → List (Named Code) → Option (List ℕ)
 name_where {Code} test rows = option_map (λ (row : Named Code). row.1) (find (λ (row : Named Code). test row.0) rows)
+
+-- the name of a number
+unfoldable pub name_of : List (Named ℕ) → ℕ → Option (List ℕ)
+name_of rows code = name_where (λ its. its == code) rows
 
 -- a row of the code
 abbrev pub row_of : {Code : Type 0} → Code × Bor (List ℕ) → Named Code

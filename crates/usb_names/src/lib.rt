@@ -1,4 +1,7 @@
 //! Names of class codes, and of the descriptors that classes define, their terminals and their bits.
+//!
+//! Each table stands once, as a static, and the definitions read it. So that they can, a struct that stands in a table
+//! holds no reference by itself: each of its texts and lists is of a type that is a parameter.
 #![tactic(auto)]
 
 mod bits;

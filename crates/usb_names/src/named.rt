@@ -14,10 +14,8 @@ pub(crate) fn name_in<Code: Copy + PartialEq>(
 ) -> Option<&'static str>
     ensures { option_map (λ name. name.now) result ≡ name_where (λ its. Code.eq its code) (map row_of rows.now) }
 {
-    match find_row(rows, code) {
-        Some(row) => Some(row.1),
-        None => None,
-    }
+    let row = find_row(rows, code)?;
+    Some(row.1)
 }
 
 /// The first row that has the code.

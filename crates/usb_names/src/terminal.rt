@@ -1,13 +1,14 @@
 //! Names of types of terminals.
-ghost use Rattle.std.specs.Prelude.{◌≡◌, ◌==◌, map, option_map};
-ghost use Rattle.usb_names.specs.Named.{name_where, row_of};
+ghost use Rattle.std.specs.Prelude.{◌≡◌, map, option_map};
+ghost use Rattle.usb_names.specs.Named.{name_of, row_of};
 ghost use Rattle.usb_names.specs.Terminals as tables;
 
 use crate::named::{Named, name_in};
 
 /// The name of a type of a terminal of audio, as wTerminalType has it.
+#[tactic(auto, unfolding(crate::specs::Named::name_of))]
 pub fn audio_terminal(code: u16) -> Option<&'static str>
-    ensures { option_map (λ name. name.now) result ≡ name_where (λ its. its == code) tables.audio_terminals }
+    ensures { option_map (λ name. name.now) result ≡ name_of tables.audio_terminals code }
 {
     name_in(audio_terminals(), code)
 }
@@ -20,8 +21,9 @@ fn audio_terminals() -> &'static [Named<u16>]
 }
 
 /// The name of a type of a terminal of video, as wTerminalType has it.
+#[tactic(auto, unfolding(crate::specs::Named::name_of))]
 pub fn video_terminal(code: u16) -> Option<&'static str>
-    ensures { option_map (λ name. name.now) result ≡ name_where (λ its. its == code) tables.video_terminals }
+    ensures { option_map (λ name. name.now) result ≡ name_of tables.video_terminals code }
 {
     name_in(video_terminals(), code)
 }

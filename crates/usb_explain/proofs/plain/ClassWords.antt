@@ -10,13 +10,13 @@ use Rattle.usb_fields.specs.Bytes.{AreBytes}
 use Rattle.usb_text.specs.Numbers.{byte_code, meaning, word_code}
 use Rattle.usb_explain.specs.Names.{named, bit_words, bits_field, bits_meaning, further_bits, is_set, name_or_number, after_characters, guid_words, has_characters, is_letter_or_digit, terminal_words}
 use Rattle.usb_names.specs.Bits.{abstract_control_bits, call_management_bits, firmware_upgrade_bits}
-use Rattle.usb_names.specs.Named.{Named, name_where}
+use Rattle.usb_names.specs.Named.{Named, name_of}
 use Rattle.usb_names.specs.Terminals.{audio_terminals, video_terminals}
 use Rattle.usb_explain.specs.Speeds.{digits_up_to_last, four_digits, fraction, frame_interval, milliseconds}
 use Rattle.usb_text.specs.Lines.{is_printable}
 use Rattle.usb_text.proofs.Printables.{Printable, encoded_printable}
 use Rattle.usb_explain.proofs.plain.Texts.{MaybePlain, both_plain, decimal_plain, parts, taken}
-use Rattle.usb_explain.proofs.plain.Names.{name_plain, has_plain_name, is_plain_name}
+use Rattle.usb_explain.proofs.plain.Names.{has_plain_name, is_plain_name, number_plain}
 use Rattle.usb_explain.proofs.plain.Words.{byte_code_plain, meaning_plain, named_plain, word_code_plain}
 
 -- ---- frame intervals
@@ -88,10 +88,9 @@ unfolding video_terminals
 all_video = refl
 
 type_plain : (types : List (Named ℕ)) → list_all has_plain_name types ≡ true → (code : ℕ) → code < 65536
-    → Printable (word_code code ++ named (name_where (λ its. its == code) types))
+    → Printable (word_code code ++ named (name_of types code))
 type_plain types h code lt =
-    let name = name_where (λ (its : ℕ). its == code) types in
-    both_plain (word_code code) (named name) (word_code_plain code lt) (named_plain name (name_plain (λ its. its == code) types h))
+    both_plain (word_code code) (named (name_of types code)) (word_code_plain code lt) (named_plain (name_of types code) (number_plain types code h))
 
 terminal_plain : (types : List (Named ℕ)) → list_all has_plain_name types ≡ true → (value : List ℕ) → AreBytes value
     → Printable (terminal_words types value)

@@ -14,7 +14,7 @@ use Rattle.usb_explain.specs.declared.role.Role.TheVariants.{Device, Qualifier, 
 use Rattle.usb_explain.specs.Sets.{device_words, ids_words, qualifier_words, version_words, association_words, binding_words, bound_words, configuration_words, function_words, interface_words, range_words, set_words, supply_words, language_words, languages_words, string_place_words, string_words}
 use Rattle.usb_explain.specs.Endpoints.{endpoint_words, interval_words}
 use Rattle.usb_explain.specs.Descriptors.{field_lines, fields, heading, heading_words}
-use Rattle.usb_explain.specs.Layouts.{association_layout, configuration_layout, device_layout, endpoint_layout, fields_of_endpoint, interface_layout, is_audio, qualifier_layout, with_tail}
+use Rattle.usb_explain.specs.Layouts.{association_layout, configuration_layout, device_layout, endpoint_layout, fields_of_endpoint, further_audio_fields, interface_layout, is_audio, qualifier_layout, with_tail}
 use Rattle.usb_explain.specs.Explanations.{more_words, rest_fields, rest_heading, rest_line}
 use Rattle.usb_text.specs.Characters.{units_in}
 use Rattle.usb_text.proofs.Printables.{Printable, encoded_printable}

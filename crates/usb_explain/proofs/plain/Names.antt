@@ -1,11 +1,11 @@
 -- The names of class codes, and the rows of class descriptors, are plain.
-use Rattle.std.proofs.Common.{◌≡◌, ℕ, ◌&&◌, Bool, true, false, if◌then◌else◌, List, [], ◌∷◌, Option, Some, None, option_map, find, refl}
+use Rattle.std.proofs.Common.{◌≡◌, ℕ, ◌&&◌, Bool, true, false, if◌then◌else◌, List, [], ◌∷◌, Option, Some, None, option_and_then, option_map, find, refl}
 use Rattle.std.specs.List.{list_all}
 use Rattle.std.proofs.lemmas.Bool.{and_parts}
 use Rattle.std.proofs.lemmas.List.Folds.{list_all-append}
 use Rattle.usb_names.specs.declared.codes.ClassCodes.{ClassCodes}
-use Rattle.usb_names.specs.Classes.{class_name, classes, protocol_name, protocols, subclass_name, subclasses}
-use Rattle.usb_names.specs.Named.{Named, name_where}
+use Rattle.usb_names.specs.Classes.{ClassRow, class_name, class_row, classes, protocol_name, subclass_name}
+use Rattle.usb_names.specs.Named.{Named, name_of, name_where}
 use Rattle.usb_names.specs.Rows.{application_rows, audio_rows, cdc_data_rows, class_rows, communications_rows, first_row, hid_rows, mass_storage_rows, other_rows, rows_behind, rows_of_class, smart_card_rows, standard_rows, video_rows}
 use Rattle.usb_names.specs.Shown.{Field, Row}
 use Rattle.usb_text.specs.Lines.{is_printable}
@@ -44,31 +44,52 @@ name_of_row : {Code : Type 0} (row : Option (Named Code)) → Passes has_plain_n
 name_of_row None h = tt
 name_of_row (Some row) h = h
 
-pub name_plain : {Code : Type 0} (test : Code → Bool) (rows : List (Named Code)) → list_all has_plain_name rows ≡ true → MaybePlain (name_where test rows)
+name_plain : {Code : Type 0} (test : Code → Bool) (rows : List (Named Code)) → list_all has_plain_name rows ≡ true → MaybePlain (name_where test rows)
 name_plain {Code} test rows h =
     let has_code = λ (row : Named Code). test row.0 in
     name_of_row (find has_code rows) (found_passes has_plain_name has_code rows h)
 
-all_classes : list_all has_plain_name classes ≡ true
+pub number_plain : (rows : List (Named ℕ)) (code : ℕ) → list_all has_plain_name rows ≡ true → MaybePlain (name_of rows code)
+unfolding name_of
+number_plain rows code h = name_plain _ rows h
+
+abbrev is_plain_class : ClassRow → Bool
+is_plain_class row = is_plain_name row.name && (list_all has_plain_name row.subclasses && list_all has_plain_name row.protocols)
+
+all_classes : list_all is_plain_class classes ≡ true
 unfolding classes
 all_classes = refl
 
-pub class_plain : (class : ℕ) → MaybePlain (class_name class)
-class_plain class = name_plain _ classes all_classes
+class_passes : (class : ℕ) → Passes is_plain_class (class_row class)
+class_passes class = found_passes is_plain_class _ classes all_classes
 
-all_subclasses : list_all has_plain_name subclasses ≡ true
-unfolding subclasses
-all_subclasses = refl
+name_of_class : (row : Option ClassRow) → Passes is_plain_class row → MaybePlain (option_map (λ (it : ClassRow). it.name) row)
+name_of_class None h = tt
+name_of_class (Some row) h = (and_parts (is_plain_name row.name) _ h).0
+
+pub class_plain : (class : ℕ) → MaybePlain (class_name class)
+class_plain class = name_of_class (class_row class) (class_passes class)
+
+lists_of_class : (row : ClassRow) → is_plain_class row ≡ true → (list_all has_plain_name row.subclasses ≡ true) × (list_all has_plain_name row.protocols ≡ true)
+lists_of_class row h =
+    let lists = list_all has_plain_name row.subclasses && list_all has_plain_name row.protocols in
+    and_parts (list_all has_plain_name row.subclasses) (list_all has_plain_name row.protocols) (and_parts (is_plain_name row.name) lists h).1
+
+subclass_of : (row : Option ClassRow) (subclass : ℕ) → Passes is_plain_class row
+    → MaybePlain (option_and_then (λ (it : ClassRow). name_of it.subclasses subclass) row)
+subclass_of None subclass h = tt
+subclass_of (Some row) subclass h = number_plain row.subclasses subclass (lists_of_class row h).0
 
 pub subclass_plain : (class subclass : ℕ) → MaybePlain (subclass_name class subclass)
-subclass_plain class subclass = name_plain _ subclasses all_subclasses
+subclass_plain class subclass = subclass_of (class_row class) subclass (class_passes class)
 
-all_protocols : list_all has_plain_name protocols ≡ true
-unfolding protocols
-all_protocols = refl
+protocol_of : (row : Option ClassRow) (test : ℕ × ℕ → Bool) → Passes is_plain_class row
+    → MaybePlain (option_and_then (λ (it : ClassRow). name_where test it.protocols) row)
+protocol_of None test h = tt
+protocol_of (Some row) test h = name_plain test row.protocols (lists_of_class row h).1
 
 pub protocol_plain : (class subclass protocol : ℕ) → MaybePlain (protocol_name class subclass protocol)
-protocol_plain class subclass protocol = name_plain _ protocols all_protocols
+protocol_plain class subclass protocol = protocol_of (class_row class) _ (class_passes class)
 
 -- rows of class descriptors: the name, and the names of the fields
 abbrev pub has_plain_field : Field → Bool
