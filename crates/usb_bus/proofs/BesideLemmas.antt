@@ -18,9 +18,10 @@ use Rattle.usb_bus.specs.Attempt.{reply_to}
 use Rattle.usb_host.specs.Read.{may_have_second}
 use Rattle.usb_device.specs.Beside.{Response, Gives, Does, Declines, asks_for_bytes, beside, is_open, kept_open, kept_to, otherwise, overflows}
 use Rattle.usb_bus.specs.Beside.{IsTable, HasBytes, IsBeside, IsOfBytes}
-use Rattle.usb_bus.proofs.ByteLemmas.{take_fit, when_fits}
+use Rattle.usb_bus.proofs.ByteLemmas.{when_fits}
 use Rattle.usb_bus.specs.inside.Following.{IsServed, Serves}
 use Rattle.usb_bus.specs.inside.Script.{Exchange, set_script, text_script, string_script, other_script, last_script, named_script, second_script, script}
+use Rattle.usb_fields.proofs.ByteParts.{bytes_front}
 
 -- what the script sees refused is open to no owner
 abbrev AreClosed : List Exchange → Type 0
@@ -79,7 +80,7 @@ module _ (address packet : ℕ) where
 module _ (room : ℕ) (s : State) (q : SetupPacket) where
   kept_bytes : (r : Response) → ((b : List ℕ) → r ≡ Gives b → AreBytes b) → HasBytes s → IsOfBytes (kept_open room s q r)
   kept_bytes (Gives b) fits state =
-      when_fits (asks_for_bytes q && not (overflows room q b)) (Bytes (take q.length b)) (λ e. take_fit q.length b (fits b refl))
+      when_fits (asks_for_bytes q && not (overflows room q b)) (Bytes (take q.length b)) (λ e. bytes_front q.length b (fits b refl))
   kept_bytes Does fits state = when_fits (q.length == 0) (Done s) (λ e. state)
   kept_bytes Declines fits state = tt
 

@@ -42,14 +42,10 @@ use Rattle.usb_host.specs.Steps.{HostView, new_host}
 use Rattle.usb_host.proofs.ReadLemmas.{byte_at}
 use Rattle.usb_bus.specs.Beside.{HasBytes, IsBeside, IsOfBytes}
 use Rattle.usb_bus.specs.Enumerate.{Pair, new_pair, RunsAt}
-use Rattle.usb_bus.proofs.DescribeLemmas.{before, behind}
+use Rattle.usb_fields.proofs.ByteParts.{bytes_front}
+use Rattle.usb_file_data.proofs.Lists.{bytes_before, bytes_behind}
 
 -- ---- parts of bytes
-
-pub take_fit : (n : ℕ) (b : List ℕ) → AreBytes b → AreBytes (take n b)
-take_fit zero b h = tt
-take_fit (suc n) [] h = tt
-take_fit (suc n) (x ∷ b) h = (h.0, take_fit n b h.1)
 
 drop_fit : {X : Type 0} (P : X → Type 0) (n : ℕ) (b : List X) → AllByRecursion P b → AllByRecursion P (drop n b)
 drop_fit P zero b h = h
@@ -75,7 +71,7 @@ packets_fit zero b size limit h = tt
 packets_fit (suc count) b size limit h =
     if_fit (limit == 0) [] _ tt
     (if_fit (nat_lt (length b) size) (b ∷ []) (take size b ∷ packets_within count (drop size b) size (limit - size)) (h, tt)
-    (take_fit size b h, packets_fit count (drop size b) size (limit - size) (drop_fit _ size b h)))
+    (bytes_front size b h, packets_fit count (drop size b) size (limit - size) (drop_fit _ size b h)))
 
 -- ---- descriptors
 
@@ -89,22 +85,22 @@ if_some false x y p q = q
 
 sets_fit : (sets : List Configuration) (i : ℕ) → AreBytes (sets_bytes sets) → SomeFit (set_at sets i)
 sets_fit [] i h = tt
-sets_fit (c ∷ sets) zero h = before (whole_set c) (sets_bytes sets) h
-sets_fit (c ∷ sets) (suc i) h = sets_fit sets i (behind (whole_set c) (sets_bytes sets) h)
+sets_fit (c ∷ sets) zero h = bytes_before (whole_set c) (sets_bytes sets) h
+sets_fit (c ∷ sets) (suc i) h = sets_fit sets i (bytes_behind (whole_set c) (sets_bytes sets) h)
 
 other_fit : (o : Option SecondSpeed) (i : ℕ) → AreBytes (other_bytes o) → SomeFit (other_set_at o i)
 other_fit None i h = tt
-other_fit (Some o) i h = sets_fit o.sets i (behind (qualifier_bytes o.qualifier) (sets_bytes o.sets) h)
+other_fit (Some o) i h = sets_fit o.sets i (bytes_behind (qualifier_bytes o.qualifier) (sets_bytes o.sets) h)
 
 qualifier_fit : (o : Option SecondSpeed) (i : ℕ) → AreBytes (other_bytes o) → SomeFit (qualifier_of o i)
 qualifier_fit None i h = tt
 qualifier_fit (Some o) i h =
-    if_some (i == 0) (Some (qualifier_bytes o.qualifier)) None (before (qualifier_bytes o.qualifier) (sets_bytes o.sets) h) tt
+    if_some (i == 0) (Some (qualifier_bytes o.qualifier)) None (bytes_before (qualifier_bytes o.qualifier) (sets_bytes o.sets) h) tt
 
 texts_fit : (texts : List (List ℕ)) (i : ℕ) → AreBytes (each_string_bytes texts) → SomeFit (option_map units_bytes (slice_get texts i))
 texts_fit [] i h = tt
-texts_fit (t ∷ texts) zero h = before (units_bytes t) (each_string_bytes texts) h
-texts_fit (t ∷ texts) (suc i) h = texts_fit texts i (behind (units_bytes t) (each_string_bytes texts) h)
+texts_fit (t ∷ texts) zero h = bytes_before (units_bytes t) (each_string_bytes texts) h
+texts_fit (t ∷ texts) (suc i) h = texts_fit texts i (bytes_behind (units_bytes t) (each_string_bytes texts) h)
 
 text_fit : (texts : List (List ℕ)) (place : Option ℕ) → AreBytes (each_string_bytes texts) →
     SomeFit (option_map units_bytes (option_and_then (slice_get texts) place))
@@ -114,8 +110,8 @@ text_fit texts (Some i) h = texts_fit texts i h
 string_fit : (s : Option Strings) (named : List ℕ) (i language : ℕ) → AreBytes (strings_bytes s) → SomeFit (string_at s named i language)
 string_fit None named i language h = tt
 string_fit (Some s) named i language h =
-    if_some (i == 0) (Some (units_bytes s.languages)) _ (before (units_bytes s.languages) (each_string_bytes s.texts) h)
-    (text_fit s.texts (string_place s named i language) (behind (units_bytes s.languages) (each_string_bytes s.texts) h))
+    if_some (i == 0) (Some (units_bytes s.languages)) _ (bytes_before (units_bytes s.languages) (each_string_bytes s.texts) h)
+    (text_fit s.texts (string_place s named i language) (bytes_behind (units_bytes s.languages) (each_string_bytes s.texts) h))
 
 descriptor_fit : (f : DescriptorFile) (kind i language : ℕ) → AreBytes (file_bytes f) → SomeFit (descriptor f kind i language)
 descriptor_fit f kind i language fits =
@@ -123,13 +119,13 @@ descriptor_fit f kind i language fits =
     let m = sets_bytes f.sets in
     let o = other_bytes f.other in
     let s = strings_bytes f.strings in
-    let three : AreBytes (d ++ m ++ o) = before (d ++ m ++ o) s fits in
-    let two : AreBytes (d ++ m) = before (d ++ m) o three in
-    if_some (kind == 1) _ _ (if_some (i == 0) (Some d) None (before d m two) tt)
-    (if_some (kind == 2) _ _ (sets_fit f.sets i (behind d m two))
-    (if_some (kind == 3) _ _ (string_fit f.strings (named_indices f) i language (behind (d ++ m ++ o) s fits))
-    (if_some (kind == 6) _ _ (qualifier_fit f.other i (behind (d ++ m) o three))
-    (if_some (kind == 7) _ None (other_fit f.other i (behind (d ++ m) o three)) tt))))
+    let three : AreBytes (d ++ m ++ o) = bytes_before (d ++ m ++ o) s fits in
+    let two : AreBytes (d ++ m) = bytes_before (d ++ m) o three in
+    if_some (kind == 1) _ _ (if_some (i == 0) (Some d) None (bytes_before d m two) tt)
+    (if_some (kind == 2) _ _ (sets_fit f.sets i (bytes_behind d m two))
+    (if_some (kind == 3) _ _ (string_fit f.strings (named_indices f) i language (bytes_behind (d ++ m ++ o) s fits))
+    (if_some (kind == 6) _ _ (qualifier_fit f.other i (bytes_behind (d ++ m) o three))
+    (if_some (kind == 7) _ None (other_fit f.other i (bytes_behind (d ++ m) o three)) tt))))
 
 -- ---- answers to requests
 
@@ -148,7 +144,7 @@ in_fits directions.Out b h = tt
 gives_fits : (s : State) (q : SetupPacket) (o : Option (List ℕ)) → HasBytes s → SomeFit o → IsOfBytes (gives s q o)
 gives_fits s q None state h = tt
 gives_fits s q (Some b) state h =
-    if_fits (q.length == 0) (Done s) _ state (in_fits (direction_of q.request_type) (take q.length b) (take_fit q.length b h))
+    if_fits (q.length == 0) (Done s) _ state (in_fits (direction_of q.request_type) (take q.length b) (bytes_front q.length b h))
 
 tells_fits : (q : SetupPacket) (b : List ℕ) → AreBytes b → IsOfBytes (tells q b)
 tells_fits q b h = when_fits (q.length == length b) _ (λ e. in_fits (direction_of q.request_type) b h)

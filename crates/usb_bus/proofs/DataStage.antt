@@ -2,8 +2,6 @@
 use Rattle.std.proofs.Common.{◌≡◌, ℕ, suc, ◌+◌, ◌-◌, ◌<◌, ◌≤◌, ◌⊎◌, Bool, true, false, List, [], ◌∷◌, ◌++◌, length, take, drop, refl, arith}
 use Rattle.std.proofs.lemmas.List.{append-nil}
 use Rattle.std.proofs.lemmas.Bool.Decides.{nat_tests}
-use Rattle.usb_fields.specs.declared.packet.Toggle.{Toggle}
-use Rattle.usb_fields.specs.declared.packet.Toggle.TheVariants.{Data0, Data1}
 use Rattle.usb_fields.specs.declared.setup.Setup.{Setup as SetupPacket}
 use Rattle.usb_fields.specs.Packets.{flipped, packets, joined, toggle_of, is_same_toggle}
 use Rattle.usb_host.specs.declared.transfer.TransferStage.TheVariants.{DataIn}
@@ -15,14 +13,6 @@ use Rattle.usb_bus.specs.declared.fate.Fate.TheVariants.{Pass, Busy, LostDown, L
 use Rattle.usb_bus.specs.Together.{IsReading}
 use Rattle.usb_bus.specs.inside.Sound.{Due}
 use Rattle.usb_bus.proofs.OtherStages.{both, Goal}
-
-pub is_same_toggle-same : (t : Toggle) → is_same_toggle t t ≡ true
-is_same_toggle-same Data0 = refl
-is_same_toggle-same Data1 = refl
-
-pub is_same_toggle-flipped : (t : Toggle) → is_same_toggle t (flipped t) ≡ false
-is_same_toggle-flipped Data0 = refl
-is_same_toggle-flipped Data1 = refl
 
 pub all_joins : (got p bytes : List ℕ) → got ++ (p ++ []) ≡ bytes → got ++ p ≡ bytes
 all_joins got p bytes e = simp append-nil at e

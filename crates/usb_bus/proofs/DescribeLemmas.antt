@@ -22,14 +22,7 @@ use Rattle.usb_bus.specs.inside.Described.{EachIsRead, TextsAreRead, OtherIsRead
 use Rattle.usb_bus.proofs.AcceptLemmas.{AreSound, AreStrings, sets_sound, other_sets_sound, strings_right}
 use Rattle.usb_bus.proofs.HeadLemmas.{length_is, headed_bytes}
 use Rattle.usb_file_data.proofs.WholeSets.{whole_length, no_some}
-
-pub before : (a b : List ℕ) → AreBytes (a ++ b) → AreBytes a
-before [] b h = tt
-before (x ∷ a) b h = (h.0, before a b h.1)
-
-pub behind : (a b : List ℕ) → AreBytes (a ++ b) → AreBytes b
-behind [] b h = h
-behind (x ∷ a) b h = behind a b h.1
+use Rattle.usb_file_data.proofs.Lists.{bytes_before, bytes_behind}
 
 whole_is : (c : Configuration) → whole_set c ≡ set_bytes c (set_length c)
 unfolding whole_set
@@ -50,7 +43,7 @@ laid_out c right fits =
 sets_read : (set_of : List ℕ → Option Configuration) → ReadsSets set_of → (kind : SetKind) (cs : List Configuration) → AreSound kind cs → AreBytes (sets_bytes cs) → EachIsRead set_of cs
 sets_read set_of exact kind [] sound fits = tt
 sets_read set_of exact kind (c ∷ cs) sound fits =
-    (exact.all (whole_set c) c (laid_out c sound.1 (before (whole_set c) (sets_bytes cs) fits)), sets_read set_of exact kind cs sound.2 (behind (whole_set c) (sets_bytes cs) fits))
+    (exact.all (whole_set c) c (laid_out c sound.1 (bytes_before (whole_set c) (sets_bytes cs) fits)), sets_read set_of exact kind cs sound.2 (bytes_behind (whole_set c) (sets_bytes cs) fits))
 
 value_is : (c : Configuration) → get_or (whole_set c) 5 0 ≡ c.value
 value_is c = (let h = headed_bytes c in ap (λ x. get_or x 5 0) h.1)
@@ -58,7 +51,7 @@ value_is c = (let h = headed_bytes c in ap (λ x. get_or x 5 0) h.1)
 value_fits : (cs : List Configuration) → AreBytes (sets_bytes cs) → first_value cs < 256
 value_fits [] fits = omega arith
 value_fits (c ∷ cs) fits =
-    (let small = byte_at (whole_set c) 5 (before (whole_set c) (sets_bytes cs) fits) in let same = value_is c in omega arith)
+    (let small = byte_at (whole_set c) 5 (bytes_before (whole_set c) (sets_bytes cs) fits) in let same = value_is c in omega arith)
 
 texts_read : (ts : List (List ℕ)) → list_any is_long_string ts ≡ false → TextsAreRead ts
 texts_read [] short = tt
@@ -77,12 +70,12 @@ other_read : (set_of : List ℕ → Option Configuration) → ReadsSets set_of �
 other_read set_of exact None sound fits = tt
 other_read set_of exact (Some o) sound fits = (
   qualifier_read o.qualifier,
-  sets_read set_of exact kinds.OtherSpeed o.sets sound (behind (qualifier_bytes o.qualifier) (sets_bytes o.sets) fits),
+  sets_read set_of exact kinds.OtherSpeed o.sets sound (bytes_behind (qualifier_bytes o.qualifier) (sets_bytes o.sets) fits),
 )
 
 other_fits : (o : Option Other) → AreBytes (other_bytes o) → other_declared o < 256
 other_fits None fits = omega arith
-other_fits (Some o) fits = byte_at (qualifier_bytes o.qualifier) 8 (before (qualifier_bytes o.qualifier) (sets_bytes o.sets) fits)
+other_fits (Some o) fits = byte_at (qualifier_bytes o.qualifier) 8 (bytes_before (qualifier_bytes o.qualifier) (sets_bytes o.sets) fits)
 
 strings_read : (named : List ℕ) (o : Option Strings) → ((s : Strings) → o ≡ Some s → AreStrings named s) → StringsAreRead o
 strings_read named None right = tt
@@ -98,11 +91,11 @@ described set_of speed f exact a fits =
     let m = sets_bytes f.sets in
     let o = other_bytes f.other in
     let s = strings_bytes f.strings in
-    let three : AreBytes (d ++ m ++ o) = before (d ++ m ++ o) s fits in
-    let two : AreBytes (d ++ m) = before (d ++ m) o three in
-    let one : AreBytes d = before d m two in
-    let main : AreBytes m = behind d m two in
-    let other : AreBytes o = behind (d ++ m) o three in
+    let three : AreBytes (d ++ m ++ o) = bytes_before (d ++ m ++ o) s fits in
+    let two : AreBytes (d ++ m) = bytes_before (d ++ m) o three in
+    let one : AreBytes d = bytes_before d m two in
+    let main : AreBytes m = bytes_behind d m two in
+    let other : AreBytes o = bytes_behind (d ++ m) o three in
     record {
       accepted = a;
       few = byte_at d 17 one;

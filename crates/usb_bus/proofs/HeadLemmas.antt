@@ -10,6 +10,7 @@ use Rattle.usb_set.proofs.Sets.{length-set_bytes}
 use Rattle.usb_file_data.specs.File.{whole_set, has_no_layout, is_other_kind}
 use Rattle.usb_file_data.proofs.WholeSets.{whole_length}
 use Rattle.usb_host.specs.Read.{total_said, total_in}
+use Rattle.usb_set.proofs.Items.{two_bytes}
 
 -- what a set that has bytes says in its first bytes
 pub record IsHeaded (kind : SetKind) (c : Configuration) : Type 0 where
@@ -31,9 +32,6 @@ length_is c = length-set_bytes c (set_length c) 0
 
 said : (kind count first kind_said total : ℕ) → count ≡ 9 → 9 ≤ first → kind_said ≡ kind → first ≤ total → total_said kind count first kind_said total ≡ Some total
 said kind count first kind_said total c f k t = grind (arith, nat_tests)
-
-two_bytes : (n : ℕ) → n % 256 + 256 * (n / 256) ≡ n
-two_bytes n = omega arith
 
 pub headed : (kind : SetKind) (c : Configuration) → is_other_kind kind c ≡ false → has_no_layout c ≡ false → IsHeaded kind c
 headed kind c kind_right layout_right =

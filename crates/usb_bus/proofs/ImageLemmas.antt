@@ -7,7 +7,6 @@ use Rattle.usb_fields.specs.declared.packet.Toggle.TheVariants.{Data0, Data1}
 use Rattle.usb_fields.specs.Packets.{is_same_toggle, Reply as Packet, NakReply, DataReply, NoReply}
 use Rattle.usb_set.specs.declared.fault.SetFault.{SetFault}
 use Rattle.usb_set.specs.declared.decoder.Progress.{Progress}
-use Rattle.usb_set.specs.Decoding.{Decoding}
 use Rattle.usb_host.specs.declared.why.Why.TheVariants.{NoAnswer, Busy, Stalled, TooLong, Unexpected, Malformed, Memory}
 use Rattle.usb_host.specs.declared.transfer.TransferStage.{TransferStage}
 use Rattle.usb_host.specs.declared.transfer.TransferStage.TheVariants.{Setup, DataIn, DataOut, StatusOut, StatusIn, Completed, Failed as TheFailed}
@@ -31,18 +30,7 @@ use Rattle.usb_bus.specs.inside.Image.{KeptFrom, IsInWork, IsTransfer, IsImage, 
 use Rattle.usb_bus.proofs.FollowLemmas.{walk_append}
 use Rattle.usb_bus.proofs.KeepLemmas.{SetLaws, feeds, same_set}
 use Rattle.usb_bus.proofs.OpenLemmas.{nothing_is_open}
-
-fits_kept : (place : Place) (b b' : List ℕ) → FitsPlace place (kept.Bytes b) → FitsPlace place (kept.Bytes b')
-fits_kept (Set kind f total) b b' h = h
-fits_kept place b b' h = tt
-
-fits_decoded : (place : Place) (d d' : Decoding) (o o' : Bool) → FitsPlace place (kept.Set d o) → FitsPlace place (kept.Set d' o')
-fits_decoded (Set kind f total) d d' o o' h = tt
-fits_decoded place d d' o o' h = h
-
-fits_nothing : (place : Place) → FitsPlace place (nothing_kept place)
-fits_nothing (Set kind f total) = tt
-fits_nothing place = tt
+use Rattle.usb_host.proofs.LowerLemmas.{fits_bytes, fits_set, fits_nothing}
 
 nothing_from : (place : Place) → KeptFrom [] (nothing_kept place)
 nothing_from (Set kind f total) = (refl, nothing_is_open, refl)
@@ -185,11 +173,11 @@ module _ (laws : SetLaws) (set_of : List ℕ → Option Configuration) (limits :
   keeps place got old new Completes result fits is e fine = (subst (λ w. FitsPlace place w) (sym e) fits, subst (λ w. KeptFrom got w) (sym e) is)
   keeps place got old new (Fails why) result fits is e fine = (subst (λ w. FitsPlace place w) (sym e) fits, subst (λ w. KeptFrom got w) (sym e) is)
   keeps place got (kept.Bytes bytes) (kept.Bytes new) (Brings piece) result fits is e fine =
-      (fits_kept place bytes new fits, e ∙ ap (λ b. b ++ piece) is)
+      (fits_bytes place bytes new fits, e ∙ ap (λ b. b ++ piece) is)
   keeps place got (kept.Bytes bytes) (kept.Set new now) (Brings piece) result fits is e fine = absurd (e)
   keeps place got (kept.Set d over) (kept.Bytes new) (Brings piece) result fits is e fine = absurd (e)
   keeps place got (kept.Set d over) (kept.Set new now) (Brings piece) result fits is e fine =
-      (fits_decoded place d new over now fits, elim (feeds laws got piece d new over now result is e.0 e.1) [ inl wants ↦ absurd (fine wants) | inr ok ↦ ok ])
+      (fits_set place d new over now fits, elim (feeds laws got piece d new over now result is e.0 e.1) [ inl wants ↦ absurd (fine wants) | inr ok ↦ ok ])
 
   pub stays : (replies : List Reply) (h : HostEnd) (d : DeviceView) (place : Place) (t : TransferView) (k : Kept) (packet : Packet) (new : HostPhase) →
       Image replies (Running h) (Reading place t k) → TakesHeard limits speed place k (taken t packet) new →

@@ -14,6 +14,7 @@ use Rattle.usb_set.specs.Faults.{Begins, Faulty, IsOpen}
 use Rattle.usb_host.specs.Keeping.{WantsMemory, is_over, set_kept}
 use Rattle.usb_host.proofs.CameLemmas.{begins_within, over_more, over_first}
 use Rattle.usb_bus.specs.inside.Image.{DecodedFrom, ReadsSets}
+use Rattle.usb_set.proofs.ReadBack.{begins_whole}
 
 -- what is used of the laws of sets
 pub record SetLaws : Type 0 where
@@ -44,9 +45,6 @@ module _ (laws : SetLaws) where
   feeds got piece (refused fault) new over now result h (r, e) at =
       inr (subst (λ d. DecodedFrom (got ++ piece) d now) (sym e) (laws.more_fault got piece fault.at fault.why h))
 
-  whole_begins : (b : List ℕ) (c : Configuration) → Layout c b → Begins b c (length b)
-  whole_begins b c layout = record { front = b; rest = []; parts = sym (append-nil b); layout = layout; ends = refl }
-
   module _ (set_of : List ℕ → Option Configuration) (exact : ReadsSets set_of) where
     none_read : (b : List ℕ) → ((c : Configuration) → Layout c b → ⊥) → set_of b ≡ None
     none_read b none = by_read (set_of b) refl
@@ -57,8 +55,8 @@ module _ (laws : SetLaws) where
 
     -- A set is said by the bytes that were read as by the decoder that was fed with them.
     pub same_set : (got : List ℕ) (d : Decoding) (over : Bool) → DecodedFrom got d over → set_of got ≡ set_kept d over
-    same_set got (gathers s) over h = none_read got (λ c layout. h.1.no_layout c (length got) (whole_begins got c layout))
-    same_set got (refused fault) over h = none_read got (λ c layout. laws.not_both got c (length got) fault.at fault.why (whole_begins got c layout) h)
+    same_set got (gathers s) over h = none_read got (λ c layout. h.1.no_layout c (length got) (begins_whole c got layout))
+    same_set got (refused fault) over h = none_read got (λ c layout. laws.not_both got c (length got) fault.at fault.why (begins_whole c got layout) h)
     same_set got (has c) false (n, begins, is) =
         let within = begins_within got c n begins in
         let all : n ≡ length got = grind (arith, nat_tests) in
@@ -70,4 +68,4 @@ module _ (laws : SetLaws) where
         exact.all got c (subst (λ x. Layout c x) (sym same) begins.layout)
     same_set got (has c) true (n, begins, is) =
         none_read got (λ d layout.
-        (let once = laws.begins c d got n (length got) begins (whole_begins got d layout) in let at = once.1 in grind (arith, nat_tests)))
+        (let once = laws.begins c d got n (length got) begins (begins_whole d got layout) in let at = once.1 in grind (arith, nat_tests)))

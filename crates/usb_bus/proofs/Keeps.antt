@@ -20,7 +20,8 @@ use Rattle.usb_bus.specs.Beside.{IsAnswering}
 use Rattle.usb_bus.proofs.Cutting.{alike_cut}
 use Rattle.usb_bus.proofs.Fronts.{drop_suc, front_more, is_within, is_last, none_left, cut_due, cut_joins}
 use Rattle.usb_bus.proofs.OtherStages.{both, both_at, Goal, status_out_all, data_out_all, data_in_halted, status_in_halted, setup_all, status_in}
-use Rattle.usb_bus.proofs.DataStage.{is_same_toggle-same, is_same_toggle-flipped, all_joins, reads, last, inner, behind}
+use Rattle.usb_bus.proofs.DataStage.{all_joins, reads, last, inner, behind}
+use Rattle.usb_fields.proofs.KeptLemmas.{same-itself, same-flipped}
 
 module _ (answer : State → SetupPacket → Outcome) (cut : ℕ) (s : State) (q : SetupPacket) (size naks : ℕ) where
   module _ (bytes : List ℕ) (e : answer s q ≡ Bytes bytes) (c : IsCut cut size q.length bytes) where
@@ -35,7 +36,7 @@ module _ (answer : State → SetupPacket → Outcome) (cut : ℕ) (s : State) (q
     level l b a fate k got strikes nak_count pending (p ∷ []) r o brought more at =
         last answer cut s q size naks l b a fate bytes k got strikes nak_count pending p e r o at (drop_suc k all p [] at) (is_last k all p at)
         (cut_due cut size q.length bytes c k got (p ∷ []) brought more at) (reads answer cut s q size naks bytes k k got e (inl refl) brought more)
-        (length-append got p) (all_joins got p bytes (cut_joins cut size q.length bytes c k got (p ∷ []) brought at)) (is_same_toggle-same (toggle_of k))
+        (length-append got p) (all_joins got p bytes (cut_joins cut size q.length bytes c k got (p ∷ []) brought at)) (same-itself (toggle_of k))
     level l b a fate k got strikes nak_count pending (p ∷ (second ∷ rest)) r o brought more at =
         let after = drop_suc k all p (second ∷ rest) at in
         let longer : got ++ p ≡ joined (take (suc k) all) = ap (λ x. x ++ p) brought ∙ sym (front_more k all p (second ∷ rest) at) in
@@ -44,7 +45,7 @@ module _ (answer : State → SetupPacket → Outcome) (cut : ℕ) (s : State) (q
         (cut_due cut size q.length bytes c k got (p ∷ (second ∷ rest)) brought more at) (reads answer cut s q size naks bytes k k got e (inl refl) brought more)
         (reads answer cut s q size naks bytes (suc k) (suc k) (got ++ p) e (inl refl) longer within)
         (reads answer cut s q size naks bytes k (suc k) (got ++ p) e (inr refl) longer within)
-        (length-append got p) (is_same_toggle-same (toggle_of k))
+        (length-append got p) (same-itself (toggle_of k))
 
     -- or one more
     one_more : (l b a : ℕ) (fate : Fate) (k : ℕ) (got : List ℕ) (strikes nak_count : ℕ) (pending : Bool) (left : List (List ℕ)) →
@@ -56,7 +57,7 @@ module _ (answer : State → SetupPacket → Outcome) (cut : ℕ) (s : State) (q
         let due = cut_due cut size q.length bytes c k (joined (take k all)) (p ∷ (second ∷ rest)) refl (omega arith) at in
         behind answer cut s q size naks l b a fate bytes k got strikes nak_count pending p second rest e r o (let whole = due.0 in omega arith) at
         (drop_suc k all p (second ∷ rest) at) (reads answer cut s q size naks bytes k (suc k) got e (inr refl) brought more)
-        (reads answer cut s q size naks bytes (suc k) (suc k) got e (inl refl) brought more) (is_same_toggle-flipped (toggle_of k))
+        (reads answer cut s q size naks bytes (suc k) (suc k) got e (inl refl) brought more) (same-flipped (toggle_of k))
 
     sending : (l b a : ℕ) (fate : Fate) (k kept : ℕ) (awaited : Toggle) (got : List ℕ) (strikes nak_count : ℕ) (pending : Bool) →
         (kept ≡ k) ⊎ (kept ≡ suc k) → nak_count ≤ b → strikes + (kept - k) ≤ l →

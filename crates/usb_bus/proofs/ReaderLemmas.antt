@@ -8,6 +8,7 @@ use Rattle.usb_set.specs.declared.fault.SetWhy.{SetWhy}
 use Rattle.usb_set.specs.Layout.{Layout}
 use Rattle.usb_set.specs.Faults.{Begins, Faulty, Judgement, is_set, is_faulty, is_open}
 use Rattle.usb_bus.specs.inside.Laws.{SetsAreRead}
+use Rattle.usb_set.proofs.ReadBack.{begins_whole}
 
 abbrev are_bytes : List ℕ → Bool
 are_bytes [] = true
@@ -57,16 +58,13 @@ module _ (begins_once : (c d : Configuration) (b : List ℕ) (m n : ℕ) → Beg
   if_right b true e c h = by_right b (judge b (bytes_are b e)) c h
   if_right b false e c h = absurd (cc)
 
-  whole : (b : List ℕ) (c : Configuration) → Layout c b → Begins b c (length b)
-  whole b c layout = record { front = b; rest = []; parts = sym (append-nil b); layout = layout; ends = refl }
-
   by_all : (b : List ℕ) (j : Judgement b) (c : Configuration) → Layout c b → set_by b j ≡ Some c
   by_all b (is_set d place begins) c layout =
-      let once = begins_once d c b place (length b) begins (whole b c layout) in
+      let once = begins_once d c b place (length b) begins (begins_whole c b layout) in
       let ends : (place == length b) ≡ true = (let e = once.1 in grind (arith, nat_tests)) in
       rw ends (ap Some once.0)
-  by_all b (is_faulty place why h) c layout = absurd (not_both b c (length b) place why (whole b c layout) h)
-  by_all b (is_open h) c layout = absurd (h.no_layout c (length b) (whole b c layout))
+  by_all b (is_faulty place why h) c layout = absurd (not_both b c (length b) place why (begins_whole c b layout) h)
+  by_all b (is_open h) c layout = absurd (h.no_layout c (length b) (begins_whole c b layout))
 
   if_all : (b : List ℕ) (t : Bool) (e : are_bytes b ≡ t) (c : Configuration) → Layout c b → set_if b t e ≡ Some c
   if_all b true e c layout = by_all b (judge b (bytes_are b e)) c layout

@@ -1,5 +1,5 @@
 -- A table and a responder beside it are a table.
-use Rattle.std.proofs.Common.{◌≡◌, ℕ, ◌<◌, ◌≤◌, ◌==◌, ◌&&◌, ◌%◌, ◌/◌, not, Bool, true, false, length, take, refl, arith, sym, subst, ◌∙◌, length-take}
+use Rattle.std.proofs.Common.{◌≡◌, ℕ, ◌<◌, ◌==◌, ◌&&◌, ◌%◌, ◌/◌, not, Bool, true, false, length, take, refl, arith, sym, subst, ◌∙◌, length-take}
 use Rattle.std.proofs.lemmas.Bool.Decides.{nat_tests}
 use Rattle.usb_fields.specs.declared.setup.Setup.{Setup}
 use Rattle.usb_fields.specs.declared.setup.Class.TheVariants as classes
@@ -7,15 +7,13 @@ use Rattle.usb_fields.specs.Setup.{class_of, direction_of}
 use Rattle.usb_fields.specs.declared.setup.Direction.{Direction}
 use Rattle.usb_fields.specs.declared.setup.Direction.TheVariants as directions
 use Rattle.usb_device.specs.declared.state.State.{State}
-use Rattle.usb_device.specs.Requests.{Outcome, Bytes, Done, Refused, when}
+use Rattle.usb_device.specs.Requests.{Outcome, Bytes, Done, Refused}
 use Rattle.usb_device.specs.Step.{is_set_address}
 use Rattle.usb_device.specs.Beside.{Response, Gives, Does, Declines, asks_for_bytes, beside, is_in, is_open, is_open_to, is_other_descriptor, kept_open, kept_to, otherwise, overflows}
 use Rattle.usb_bus.specs.Beside.{IsTable}
 use Rattle.usb_bus.specs.Laws.{RespondersKeepTables}
-
-first_true : (a b : Bool) → (a && b) ≡ true → a ≡ true
-first_true true b e = refl
-first_true false b e = e
+use Rattle.usb_host.proofs.PartLemmas.{left_of, right_of}
+use Rattle.usb_bus.proofs.TableLemmas.{Kept, when_kept}
 
 -- SET_ADDRESS is open to no responder
 set_address_closed : (q : Setup) → is_open q ≡ true → is_set_address q ≡ false
@@ -26,7 +24,7 @@ set_address_closed q may = by_type (q.request_type % 128 == 0) refl
     by_request true e standard =
         (let six : (q.request == 6) ≡ false = grind (arith, nat_tests) in
         let here : is_other_descriptor q ≡ true = subst (λ c. is_open_to c q ≡ true) standard may in
-        absurd (let z = sym (first_true (q.request == 6) _ here) ∙ six in cc))
+        absurd (let z = sym (left_of (q.request == 6) _ here) ∙ six in cc))
 
     by_type : (c : Bool) → (q.request_type % 128 == 0) ≡ c → is_set_address q ≡ false
     by_type false e = rw e refl
@@ -37,38 +35,23 @@ set_address_closed q may = by_type (q.request_type % 128 == 0) refl
         let standard : class_of q.request_type ≡ classes.Standard = rw kind refl in
         rw (e, by_request (q.request == 5) refl standard) refl)
 
--- what an answer keeps, by its kind
-abbrev Kept : State → Setup → Outcome → Type 0
-Kept s q (Bytes b) = (0 < q.length) × (direction_of q.request_type ≡ directions.In) × (length b ≤ q.length)
-Kept s q (Done t) =
-    (q.length ≡ 0) × (is_set_address q ≡ false → t.address ≡ s.address) × (is_set_address q ≡ true → (q.value < 128) × (t ≡ record s { address = q.value }))
-Kept s q Refused = Unit {0}
-
-when_kept : (s : State) (q : Setup) (c : Bool) (a : Outcome) → (c ≡ true → Kept s q a) → Kept s q (when c a)
-when_kept s q true a x = x refl
-when_kept s q false a x = tt
-
 -- a request that asks for bytes has a data stage, to the host
 some_asked : (q : Setup) → asks_for_bytes q ≡ true → 0 < q.length
 some_asked q e =
-    let some : not (q.length == 0) ≡ true = first_true (not (q.length == 0)) (is_in (direction_of q.request_type)) e in
+    let some : not (q.length == 0) ≡ true = left_of (not (q.length == 0)) (is_in (direction_of q.request_type)) e in
     grind (arith, nat_tests)
-
-second_true : (a b : Bool) → (a && b) ≡ true → b ≡ true
-second_true true b e = e
-second_true false b e = cc
 
 goes_in : (d : Direction) → is_in d ≡ true → d ≡ directions.In
 goes_in directions.In e = refl
 goes_in directions.Out e = cc
 
 in_asked : (q : Setup) → asks_for_bytes q ≡ true → direction_of q.request_type ≡ directions.In
-in_asked q e = goes_in (direction_of q.request_type) (second_true (not (q.length == 0)) (is_in (direction_of q.request_type)) e)
+in_asked q e = goes_in (direction_of q.request_type) (right_of (not (q.length == 0)) (is_in (direction_of q.request_type)) e)
 
 kept_open_kept : (room : ℕ) (s : State) (q : Setup) (r : Response) → is_open q ≡ true → Kept s q (kept_open room s q r)
 kept_open_kept room s q (Gives b) may =
     when_kept s q (asks_for_bytes q && not (overflows room q b)) (Bytes (take q.length b))
-    (λ e. (let asked = first_true (asks_for_bytes q) (not (overflows room q b)) e in
+    (λ e. (let asked = left_of (asks_for_bytes q) (not (overflows room q b)) e in
     (some_asked q asked, in_asked q asked, simp length-take (omega arith))))
 kept_open_kept room s q Does may =
     when_kept s q (q.length == 0) (Done s)

@@ -1,12 +1,11 @@
 -- A described device serves the script of its enumeration.
-use Rattle.std.proofs.Common.{◌≡◌, ℕ, zero, suc, ◌+◌, ◌*◌, ◌<◌, ◌≤◌, ◌==◌, Bool, true, false, if◌then◌else◌, nat_lt, List, [], ◌∷◌, length, take, drop, slice_get, refl, ap, sym, ◌∙◌, arith, subst, length-take, lit<}
+use Rattle.std.proofs.Common.{◌≡◌, ℕ, zero, suc, ◌+◌, ◌<◌, ◌≤◌, ◌==◌, Bool, true, false, if◌then◌else◌, nat_lt, List, [], ◌∷◌, length, take, drop, slice_get, refl, ap, sym, ◌∙◌, arith, subst, length-take, lit<}
 use Rattle.std.specs.Prelude.{Option, Some, None}
 use Rattle.std.specs.Option.{option_map}
-use Rattle.std.specs.List.{list_any, flat_map}
+use Rattle.std.specs.List.{list_any}
 use Rattle.std.proofs.lemmas.Bool.Decides.{nat_tests}
 use Rattle.std.proofs.lemmas.List.{take_all}
 use Rattle.std.proofs.lemmas.Nat.{div-mul-add, mod-mul-add}
-use Rattle.usb_fields.specs.Bytes.{little_endian}
 use Rattle.usb_fields.specs.declared.packet.Speed.{Speed}
 use Rattle.usb_fields.specs.Device.{device_bytes, qualifier_bytes}
 use Rattle.usb_fields.specs.Units.{units_bytes}
@@ -37,10 +36,7 @@ use Rattle.usb_bus.proofs.AcceptLemmas.{AreSound, AreStrings, count_is, other_co
 use Rattle.usb_bus.proofs.HeadLemmas.{headed}
 use Rattle.usb_bus.proofs.TextLemmas.{named_once, index_fits, string_found}
 use Rattle.usb_bus.proofs.CutLemmas.{first_cut}
-
-units_length : (u : List ℕ) → length (flat_map little_endian u) ≡ 2 * length u
-units_length [] = refl
-units_length (x ∷ u) = (let rest = units_length u in omega arith)
+use Rattle.usb_fields.proofs.UnitLemmas.{length-flat_map}
 
 at_drop : {X : Type 0} (i : ℕ) (all : List X) (c : X) (rest : List X) → drop i all ≡ c ∷ rest → slice_get all i ≡ Some c
 at_drop zero [] c rest e = cc
@@ -126,7 +122,7 @@ module _ (f : DescriptorFile) where
       reads_units : (i language : ℕ) (u : List ℕ) (more : List Exchange) → i < 256 → length u ≤ 126 → descriptor f 3 i language ≡ Some (units_bytes u) →
           D s more → D s (exchange s.address n (get_descriptor 3 i language 255) (replied.Bytes (units_bytes u)) ∷ more)
       reads_units i language u more small short here d =
-          let size = units_length u in
+          let size = length-flat_map u in
           reads s n 3 i language 255 (units_bytes u) (units_bytes u) more small here (lit< tt) (take_all 255 (units_bytes u) (omega arith))
           (pos, omega arith, refl) d
 

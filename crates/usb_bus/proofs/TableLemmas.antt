@@ -19,7 +19,7 @@ use Rattle.usb_device.specs.Step.{is_set_address}
 use Rattle.usb_bus.specs.Beside.{IsTable}
 
 -- what an answer keeps, by its kind
-abbrev Kept : State → Setup → Outcome → Type 0
+abbrev pub Kept : State → Setup → Outcome → Type 0
 Kept s q (Bytes b) = (0 < q.length) × (direction_of q.request_type ≡ directions.In) × (length b ≤ q.length)
 Kept s q (Done t) =
     (q.length ≡ 0) × (is_set_address q ≡ false → t.address ≡ s.address) × (is_set_address q ≡ true → (q.value < 128) × (t ≡ record s { address = q.value }))
@@ -29,7 +29,7 @@ if_kept : (s : State) (q : Setup) (c : Bool) (a b : Outcome) → (c ≡ true →
 if_kept s q true a b x y = x refl
 if_kept s q false a b x y = y refl
 
-when_kept : (s : State) (q : Setup) (c : Bool) (a : Outcome) → (c ≡ true → Kept s q a) → Kept s q (when c a)
+pub when_kept : (s : State) (q : Setup) (c : Bool) (a : Outcome) → (c ≡ true → Kept s q a) → Kept s q (when c a)
 when_kept s q true a x = x refl
 when_kept s q false a x = tt
 

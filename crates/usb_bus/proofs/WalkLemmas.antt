@@ -27,6 +27,7 @@ use Rattle.usb_bus.specs.inside.Described.{IsDescribed, EachIsRead, TextsAreRead
 use Rattle.usb_bus.specs.inside.Script.{Exchange, exchange, set_script, text_script, string_script, other_script, last_script, named_script, second_script, script}
 use Rattle.usb_bus.proofs.AcceptLemmas.{AreSound, AreStrings, count_is, other_count_is, sets_sound, other_sets_sound, value_some, packet_right, other_asked, strings_right, no_strings_right}
 use Rattle.usb_bus.proofs.HeadLemmas.{headed}
+use Rattle.usb_text.proofs.Printables.{both}
 
 -- by a test that is known
 if_true : (P : Place → Type 0) (b : Bool) (x y : Place) → b ≡ true → P x → P (if b then x else y)
@@ -41,11 +42,6 @@ not_first : (kind : SetKind) (cs : List Configuration) (c d : Configuration) →
 not_first kinds.Configuration [] c d = refl
 not_first kinds.Configuration (b ∷ cs) c d = refl
 not_first kinds.OtherSpeed cs c d = refl
-
-both : (a b : Bool) → a ≡ true → b ≡ true → (a && b) ≡ true
-both true true p q = refl
-both true false p q = cc
-both false b p q = cc
 
 is_same : (n : ℕ) → (n == n) ≡ true
 is_same n = grind (arith, nat_tests)

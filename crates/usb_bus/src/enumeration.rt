@@ -6,8 +6,8 @@ ghost use Rattle.usb_host.specs.Cost.{left_to_ask};
 ghost use Rattle.usb_host.specs.Steps.{WantsSent, wanted};
 ghost use Rattle.usb_bus.specs.Enumerate.{EndsWell, IsEnumeration, IsStep, NoneIsLeft, answered, both};
 
+use crate::exchange::exchange;
 use crate::fate::Fate;
-use crate::host_exchange::exchange;
 use crate::steps::{Nobody, Observer, run_with};
 use std::alloc::Global;
 use usb_device::{Description, Device, State};

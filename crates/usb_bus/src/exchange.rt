@@ -1,64 +1,100 @@
 //! One transaction, and one transfer, between two ends.
-ghost use Rattle.std.specs.Prelude.{◌≡◌, ◌<◌, ◌≤◌, ◌+◌, ◌^◌, [], OnOk, IfOk, IsSome, None, Some};
-ghost use Rattle.usb_fields.specs.Packets.{reply_of, sent_of};
-ghost use Rattle.usb_host.specs.Transfer.{taken, due, left};
+ghost use Rattle.std.specs.Prelude.{◌≡◌, ◌≤◌, ◌+◌, ◌<◌, ◌^◌, [], OnOk, IfOk, None};
+ghost use Rattle.usb_fields.specs.Packets.{sent_of};
+ghost use Rattle.usb_host.specs.Transfer.{due, left};
 ghost use Rattle.usb_host.specs.declared.transfer.TransferStage.TheVariants.{Setup};
 ghost use Rattle.usb_device.specs.Requests.{answer};
-ghost use Rattle.usb_bus.specs.Bus.{exchanged, with_heard};
+ghost use Rattle.usb_bus.specs.Bus.{carried};
+ghost use Rattle.usb_bus.specs.Enumerate.{answered};
 ghost use Rattle.usb_bus.specs.inside.Running.{failure_of, LeadsTo};
 
 use crate::fate::Fate;
+use crate::steps::Observer;
 use std::alloc::{AllocError, Global};
 use usb_device::Device;
 use usb_fields::{Answer, Transaction};
-use usb_host::{Heard, Transfer, Why};
+use usb_host::{Heard, Host, Transfer, Why};
 
-/// The host takes an answer, and keeps the bytes that are new. Answers why the transfer has failed, if it has.
-fn hear(
-    transfer: &mut Transfer,
-    a: Answer<'_>,
-    bytes: &mut Vec<u8>,
-) -> Result<Option<Why>, AllocError>
-    ensures transfer { transfer.new ≡ (taken transfer.old (reply_of a.entry)).transfer }
-    ensures request { transfer.new.request ≡ transfer.old.request }
-    ensures bytes { OnOk result (bytes.new.items ≡ with_heard bytes.old.items (taken transfer.old (reply_of a.entry)).heard) }
-    ensures failure { IfOk result (λ failure. failure ≡ failure_of transfer.new.stage) }
-    ensures fewer { IsSome (due transfer.old) → left transfer.new < left transfer.old }
-{
-    match transfer.take(a) {
-        Heard::Again | Heard::Complete => Ok(None),
-        Heard::Bytes(more) => {
-            bytes.extend_from_slice(more)?;
-            Ok(None)
+/// A host's end, which hears what a bus leaves of an answer, and changes a `W` by it.
+pub(crate) trait Hears<W> {
+    ghost use Rattle.usb_fields.specs.Packets.{Reply, reply_of};
+
+    /// What comes of it.
+    type Outcome;
+
+    /// What came of which answer makes this end and this `W` that, and comes to this.
+    ghost hears: { Reply → Reply → Self → W → Self → W → Self.Outcome → Type 0 };
+
+    fn hear(&mut self, came: Answer<'_>, answer: Answer<'_>, w: &mut W) -> Self::Outcome
+        ensures { hears (reply_of came.entry) (reply_of answer.entry) self.old w.old self.new w.new result };
+}
+
+/// The bytes that are new are kept. Comes to why the transfer has failed, if it has.
+impl Hears<Vec<u8>> for Transfer {
+    ghost use Rattle.std.specs.Prelude.{◌≡◌, ◌<◌, IfOk, IsSome, OnOk};
+    ghost use Rattle.usb_host.specs.Transfer.{due, left};
+    ghost use Rattle.usb_bus.specs.Bus.{hears};
+    ghost use Rattle.usb_bus.specs.inside.Running.{failure_of};
+
+    type Outcome = Result<Option<Why>, AllocError>;
+
+    ghost hears = { λ came _ old got new bytes result. OnOk result (record { transfer = new; got = bytes.items } ≡ hears (record { transfer = old; got = got.items }) came) × IfOk result (λ failure. failure ≡ failure_of new.stage) × (new.request ≡ old.request) × (IsSome (due old) → left new < left old) };
+
+    fn hear(
+        &mut self,
+        came: Answer<'_>,
+        _answer: Answer<'_>,
+        bytes: &mut Vec<u8>,
+    ) -> Result<Option<Why>, AllocError> {
+        match self.take(came) {
+            Heard::Again | Heard::Complete => Ok(None),
+            Heard::Bytes(more) => {
+                bytes.extend_from_slice(more)?;
+                Ok(None)
+            }
+            Heard::Failed(why) => Ok(Some(why)),
         }
-        Heard::Failed(why) => Ok(Some(why)),
     }
 }
 
-/// One transaction under a fate.
-fn exchange(
+/// The observer sees all of the answer, and the host then.
+impl<O: Observer> Hears<O> for Host {
+    ghost use Rattle.std.specs.Prelude.{◌≡◌, ◌<◌};
+    ghost use Rattle.usb_fields.specs.Packets.{Sent};
+    ghost use Rattle.usb_host.specs.Cost.{left_to_ask};
+    ghost use Rattle.usb_host.specs.Steps.{Takes, WantsSent, wanted};
+
+    type Outcome = ();
+
+    ghost hears = { λ came answer old from new to _. Takes old came new × ((sent : Sent) → wanted old.phase ≡ WantsSent sent → left_to_ask new < left_to_ask old) × O.sees from answer new to };
+
+    fn hear(&mut self, came: Answer<'_>, answer: Answer<'_>, observer: &mut O) {
+        self.take(came);
+        observer.answered(answer, self);
+    }
+}
+
+/// One transaction under a fate: the host hears what the bus leaves of the answer, which the device lends.
+pub(crate) fn exchange<W, H: Hears<W>>(
+    host: &mut H,
     device: &mut Device<'_>,
-    transfer: &mut Transfer,
     t: &Transaction<'_>,
     fate: Fate,
-    bytes: &mut Vec<u8>,
-) -> Result<Option<Why>, AllocError>
-    ensures ends { OnOk result (exchanged (answer device.old.description.file) device.old.description.file.device.packet (record { transfer = transfer.old; got = bytes.old.items }) device.old.device (Some (sent_of t.now)) fate ≡ record { host = record { transfer = transfer.new; got = bytes.new.items }; device = device.new.device }) }
-    ensures description { device.new.description ≡ device.old.description }
-    ensures request { OnOk result (transfer.new.request ≡ transfer.old.request) }
-    ensures failure { IfOk result (λ failure. failure ≡ failure_of transfer.new.stage) }
-    ensures fewer { IsSome (due transfer.old) → left transfer.new < left transfer.old }
+    w: &mut W,
+) -> H::Outcome
+    ensures heard { H.hears (carried (answer device.old.description.file) device.old.description.file.device.packet device.old.device (sent_of t.now) fate).reply (answered device.old.description.file device.old.device (sent_of t.now) fate) host.old w.old host.new w.new result }
+    ensures device { device.new ≡ record device.old { device = (carried (answer device.old.description.file) device.old.description.file.device.packet device.old.device (sent_of t.now) fate).device } }
 {
     let Some(ready) = fate.readiness() else {
-        return hear(transfer, Answer::Silence, bytes);
+        return host.hear(Answer::Silence, Answer::Silence, w);
     };
     let answer = device.serve(t, ready);
     let is_acked = fate.acknowledges(answer);
-    let failure = hear(transfer, fate.brought(answer), bytes)?;
+    let outcome = host.hear(fate.brought(answer), answer, w);
     if is_acked {
         device.acked();
     }
-    Ok(failure)
+    outcome
 }
 
 /// What came of a transfer.
@@ -94,7 +130,7 @@ pub(crate) fn transfer_over(
     let mut transactions = before;
     while let Some(t) = transfer.next() {
         let fate = Fate::at(fates, transactions);
-        failure = exchange(device, transfer, &t, fate, &mut bytes)?;
+        failure = exchange(transfer, device, &t, fate, &mut bytes)?;
         transactions += 1;
     }
     Ok(Ended {

@@ -28,7 +28,6 @@ mod ends;
 mod enumeration;
 mod exchange;
 mod fate;
-mod host_exchange;
 pub mod laws;
 mod lemmas;
 mod log;

@@ -1,10 +1,11 @@
 -- Byte strings in one buffer.
-use Rattle.std.proofs.Common.{◌≡◌, ℕ, zero, suc, ◌≤◌, List, [], ◌∷◌, ◌++◌, length, drop, take, map, refl, sym, arith}
+use Rattle.std.proofs.Common.{◌≡◌, ℕ, ◌≤◌, List, [], ◌∷◌, ◌++◌, length, drop, map, refl, sym, arith}
 use Rattle.std.specs.List.{AllByRecursion}
 use Rattle.std.proofs.lemmas.List.{take-append-le, drop-append-le, drop_at, take_all, length-drop}
 use Rattle.usb_fields.specs.Bytes.{AreBytes}
 use Rattle.usb_device.specs.declared.image.Span.{Span}
 use Rattle.usb_device.specs.inside.Images.{span_bytes, IsSpan}
+use Rattle.usb_fields.proofs.ByteParts.{bytes_front, bytes_back}
 
 -- a span of the bytes is one of more bytes
 span_bytes-append : (bytes more : List ℕ) (s : Span) → IsSpan bytes s → span_bytes (bytes ++ more) s ≡ span_bytes bytes s
@@ -24,17 +25,7 @@ pieces-push bytes more s [] start count within = rw (span_bytes-added bytes more
 pieces-push bytes more s (t ∷ spans) start count within =
     rw (span_bytes-append bytes more t within.0, pieces-push bytes more s spans start count within.1) refl
 
-take_fit : (n : ℕ) (bytes : List ℕ) → AreBytes bytes → AreBytes (take n bytes)
-take_fit zero bytes h = tt
-take_fit (suc n) [] h = tt
-take_fit (suc n) (b ∷ bytes) h = (h.0, take_fit n bytes h.1)
-
-drop_fit : (n : ℕ) (bytes : List ℕ) → AreBytes bytes → AreBytes (drop n bytes)
-drop_fit zero bytes h = h
-drop_fit (suc n) [] h = tt
-drop_fit (suc n) (b ∷ bytes) h = drop_fit n bytes h.1
-
 -- what is in a buffer of bytes are bytes
 pub pieces_fit : (bytes : List ℕ) (spans : List Span) → AreBytes bytes → AllByRecursion AreBytes (map (span_bytes bytes) spans)
 pieces_fit bytes [] h = tt
-pieces_fit bytes (s ∷ spans) h = (take_fit s.count (drop s.start bytes) (drop_fit s.start bytes h), pieces_fit bytes spans h)
+pieces_fit bytes (s ∷ spans) h = (bytes_front s.count (drop s.start bytes) (bytes_back s.start bytes h), pieces_fit bytes spans h)

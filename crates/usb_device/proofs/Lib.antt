@@ -5,5 +5,4 @@ pub mod ImageLemmas
 pub mod AcceptedLemmas
 pub mod FitLemmas
 pub mod RankLemmas
-pub mod Exits
 pub mod Replies

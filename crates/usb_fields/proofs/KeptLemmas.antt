@@ -4,11 +4,11 @@ use Rattle.usb_fields.specs.declared.packet.Toggle.{Toggle}
 use Rattle.usb_fields.specs.declared.packet.Toggle.TheVariants.{Data0, Data1}
 use Rattle.usb_fields.specs.Packets.{flipped, Toggled, kept, repeated, is_same_toggle}
 
-same-itself : (t : Toggle) → is_same_toggle t t ≡ true
+pub same-itself : (t : Toggle) → is_same_toggle t t ≡ true
 same-itself Data0 = refl
 same-itself Data1 = refl
 
-same-flipped : (t : Toggle) → is_same_toggle t (flipped t) ≡ false
+pub same-flipped : (t : Toggle) → is_same_toggle t (flipped t) ≡ false
 same-flipped Data0 = refl
 same-flipped Data1 = refl
 

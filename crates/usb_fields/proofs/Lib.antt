@@ -7,3 +7,4 @@ pub mod Cells
 pub mod FieldLemmas
 pub mod WordLemmas
 pub mod ByteParts
+pub mod Exits

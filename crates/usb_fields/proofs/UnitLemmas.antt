@@ -6,7 +6,7 @@ use Rattle.std.specs.List.{flat_map}
 use Rattle.usb_fields.specs.Bytes.{AreBytes, little_endian}
 use Rattle.usb_fields.specs.Units.{units_bytes, unit_fault}
 
-length-flat_map : (u : List ℕ) → length (flat_map little_endian u) ≡ 2 * length u
+pub length-flat_map : (u : List ℕ) → length (flat_map little_endian u) ≡ 2 * length u
 length-flat_map [] = refl
 length-flat_map (n ∷ u) = let rest = length-flat_map u in omega arith
 

@@ -2,6 +2,7 @@
 use Rattle.std.specs.Prelude.{ℕ, List, length, slice_index, ◌==◌, not, if◌then◌else◌, Option, Some, None, [], ◌∷◌, codes}
 use Rattle.usb_fields.specs.declared.fault.FieldFault.{FieldFault}
 use Rattle.usb_fields.specs.declared.fault.FieldFault.TheVariants as fields
+use Rattle.usb_fields.specs.Bytes.{little_endian_at}
 use Rattle.usb_fields.specs.Fields.{Field, byte, word, fields_bytes}
 use Rattle.usb_fields.specs.declared.device.DeviceDescriptor.{DeviceDescriptor}
 use Rattle.usb_fields.specs.declared.qualifier.Qualifier.{Qualifier}
@@ -38,6 +39,23 @@ device_fields =
 abbrev pub device_bytes : DeviceDescriptor → List ℕ
 device_bytes d = 18 ∷ 1 ∷ fields_bytes device_fields d
 
+-- the descriptor of these bytes: each field at its place
+abbrev pub device_of_bytes : List ℕ → DeviceDescriptor
+device_of_bytes b = record {
+  usb = little_endian_at b 2;
+  class = slice_index b 4;
+  subclass = slice_index b 5;
+  protocol = slice_index b 6;
+  packet = slice_index b 7;
+  vendor = little_endian_at b 8;
+  product = little_endian_at b 10;
+  release = little_endian_at b 12;
+  maker_text = slice_index b 14;
+  product_text = slice_index b 15;
+  serial_text = slice_index b 16;
+  configurations = slice_index b 17;
+}
+
 -- the first reason why these bytes are no device descriptor, if there is one
 abbrev pub device_fault : List ℕ → Option FieldFault
 device_fault b = field_fault 18 1 b
@@ -58,6 +76,18 @@ qualifier_fields =
 -- its bytes: bLength 10, bDescriptorType 6, and its fields
 abbrev pub qualifier_bytes : Qualifier → List ℕ
 qualifier_bytes q = 10 ∷ 6 ∷ fields_bytes qualifier_fields q
+
+-- the descriptor of these bytes: each field at its place
+abbrev pub qualifier_of_bytes : List ℕ → Qualifier
+qualifier_of_bytes b = record {
+  usb = little_endian_at b 2;
+  class = slice_index b 4;
+  subclass = slice_index b 5;
+  protocol = slice_index b 6;
+  packet = slice_index b 7;
+  configurations = slice_index b 8;
+  reserved = slice_index b 9;
+}
 
 -- the first reason why these bytes are no qualifier, if there is one
 abbrev pub qualifier_fault : List ℕ → Option FieldFault

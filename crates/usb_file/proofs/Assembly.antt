@@ -17,7 +17,7 @@ use Rattle.usb_file_data.specs.declared.file.Strings.{Strings}
 use Rattle.usb_file_data.specs.File.{named_indices, File, file_bytes, sets_bytes, other_bytes, each_string_bytes, is_other_kind, has_no_layout, are_wrong_strings}
 use Rattle.usb_file_data.specs.declared.fault.FileWhy.{FileWhy}
 use Rattle.usb_file_data.specs.declared.fault.FileWhy.TheVariants as files
-use Rattle.usb_file_data.specs.Front.{AllSets, IsPartStart, with_strings}
+use Rattle.usb_file_data.specs.Front.{IsPartStart, with_strings}
 use Rattle.usb_file_data.specs.FileFaults.{NextPart, a_set, a_qualifier, the_languages, a_string, the_end, begins_qualifier, IsNext, NoQualifierIsNext, EndIsNext, is_no_string, string_fault, fixed_fault, PartFaulty, FaultyPart}
 use Rattle.usb_file_data.specs.Inputs.{DeviceRefused}
 use Rattle.usb_file.specs.inside.Reading.{PartLaws, ReadSoFar, SetsRead, Behind, SetRefused, ReadsSets, SetsRefused, ReadsQualifier, ReadsOther, OtherRefused, no_qualifier, no_set, ReadsString, StringRefused, ReadsDueStrings, ReadsStrings, StringsRefused, ends_as_dump, no_languages, no_string}
@@ -29,6 +29,7 @@ use Rattle.usb_file.proofs.Next.{right_count, right_none, right_strings, not_non
 use Rattle.usb_file.proofs.Ends.{is_file, bytes_left, drop_all}
 use Rattle.usb_file.proofs.Complete.{no_device_fault}
 use Rattle.usb_file.proofs.Dumps.{dump_splits, end_apart, no_dump, qualifier_apart, set_apart, string_apart}
+use Rattle.usb_file.proofs.Paths.{all_again}
 
 -- a file by its parts
 abbrev made : DeviceDescriptor → List Configuration → Option Other → Option Strings → DescriptorFile
@@ -212,10 +213,6 @@ languages_read b f place u start sets named h =
     (h.holds.parts ∙ ap (λ x. units_bytes u ++ x) (drop_more place h.count b) ∙ ap (λ n. units_bytes u ++ drop n b) (sym h.at_is))
     (omega (arith, h.at_is, length-units_bytes u))
 
-again : (f : DescriptorFile) (s : Strings) (o : Option Other) → AllSets f o → AllSets (with_strings s f) o
-again f s None h = h
-again f s (Some o) h = h
-
 due_strings_read : (b : List ℕ) (f : DescriptorFile) (place : ℕ) (u : List ℕ) (start : ℕ) (texts : List (List ℕ)) (end : ℕ) → SetsRead b f place → 0 < length (named_indices f)
     → Behind place (ReadsString 4 (drop place b) u) start → ReadsDueStrings b start texts end → length texts ≤ length u * length (named_indices f)
     → ReadSoFar b (with_strings (record { languages = u; texts = texts }) f) end
@@ -226,7 +223,7 @@ due_strings_read b f place u start texts end sets named h reads few =
     let ends = h.holds.ends in
     let before = languages_read b f place u start sets named h in
     more_read b (with_strings bare f) (with_strings s f) start end (each_string_bytes texts) before
-    (grow_strings (with_strings bare f) s (each_string_bytes texts) before.splits.is_front (again f bare f.other sets.all)
+    (grow_strings (with_strings bare f) s (each_string_bytes texts) before.splits.is_front (all_again f bare f.other sets.all)
     (record { named = named; spoken = omega arith; few = few; short = or_from _ _ h.holds.short reads.short })
     (sym (ap (λ x. x ++ each_string_bytes texts) (append-nil (units_bytes u))))) reads.all.parts reads.all.ends
 
@@ -267,7 +264,7 @@ strings_read b f place (Some s) end sets reads =
     record {
       so_far = due_strings_read b f place s.languages reads.start s.texts end sets reads.named reads.languages reads.texts (omega (arith, reads.all));
       next = record {
-        counts = right_count (with_strings s f) (again f s f.other sets.all);
+        counts = right_count (with_strings s f) (all_again f s f.other sets.all);
         texts = right_strings (length (named_indices f)) s (record {
           follow = record { named = named; spoken = omega arith; few = omega (arith, reads.all); short = or_from _ _ reads.languages.holds.short reads.texts.short };
           whole = reads.all;

@@ -16,7 +16,7 @@ use Rattle.usb_file_data.specs.declared.fault.FileWhy.{FileWhy}
 use Rattle.usb_file_data.specs.declared.fault.FileWhy.TheVariants as files
 use Rattle.usb_file_data.specs.File.{named_indices, File, file_bytes, is_other_kind, are_wrong_strings}
 use Rattle.usb_fields.specs.Bytes.{AreBytes}
-use Rattle.usb_file_data.proofs.Lists.{bytes_before, bytes_behind}
+use Rattle.usb_file_data.proofs.Lists.{bytes_behind}
 use Rattle.usb_file.specs.inside.Reading.{PartLaws, next_string, next_part}
 use Rattle.usb_file_data.proofs.Fronts.{Grown, string_with, grow_main, grow_other, grow_qualifier, grow_languages, grow_string}
 use Rattle.usb_file.proofs.Due.{due_main, due_other, due_qualifier, due_strings}
@@ -28,6 +28,7 @@ use Rattle.usb_file.proofs.Unique.{PartIs, IsText, told_same, part_faults}
 use Rattle.usb_file.proofs.Paths.{two_fronts, stuck_by_fault, stuck_at_end, device_first, behind, begun}
 use Rattle.usb_file_data.specs.Front.{StringsFollow, IsInOrder, IsFront, Splits, AllSets, with_set, with_qualifier}
 use Rattle.usb_file_data.specs.FileFaults.{NextPart, a_set, a_qualifier, the_languages, a_string, the_end, begins_qualifier, is_no_string, string_fault, fixed_fault, EndIsNext, IsNext, PartFaulty, FaultyPart, FileFaulty, FileOrFault, is_file, is_faulty}
+use Rattle.usb_fields.proofs.ByteParts.{bytes_front}
 
 -- ---- the part that is due makes a prefix of a prefix
 
@@ -115,9 +116,6 @@ pub data PartOrFault (d : NextPart) (f : DescriptorFile) (r : List ℕ) : Type 0
   is_fault : (place : ℕ) (why : FileWhy) → PartFaulty d r place why → PartOrFault d f r
   is_end : d ≡ the_end → r ≡ [] → PartOrFault d f r
 
-front_bytes : (n : ℕ) (r : List ℕ) → AreBytes r → AreBytes (take n r)
-front_bytes n r h = bytes_before (take n r) (drop n r) (subst AreBytes (sym (take-append-drop n r)) h)
-
 set_or_fault : (kind : SetKind) (f : DescriptorFile) (r : List ℕ) → sets.Judgement r → PartOrFault (a_set kind) f r
 set_or_fault kind f r (sets.is_set c n begins) =
     elim (cases_Bool (is_other_kind kind c)) [
@@ -139,7 +137,7 @@ qualifier_or_fault laws f r fits =
         → fixed_fault 10 (is_some (qualifier_fault (take 10 r))) files.Qualifier r ≡ cond (is_some (qualifier_fault (take 10 r))) (Some (0, files.Qualifier)) None → PartOrFault a_qualifier f r
     cases (Some e) is long = is_fault 0 files.Qualifier (long ∙ cond-true (is_some (qualifier_fault (take 10 r))) _ _ (ap is_some is))
     cases None is long =
-        let q = laws.qualifier_written (take 10 r) (front_bytes 10 r fits) is in
+        let q = laws.qualifier_written (take 10 r) (bytes_front 10 r fits) is in
         is_part (with_qualifier q.0 f) (take 10 r) (drop 10 r) (record { qualifier = q.0; bytes = sym q.1; next = refl }) (sym (take-append-drop 10 r)) (omega (arith, ap length q.1))
 
 units_none : (m kind : ℕ) (rest : List ℕ) → m ≤ length rest → kind ≡ 3 → (suc (suc m) % 2 == 1) ≡ false → unit_fault (take (suc (suc m)) (suc (suc m) ∷ kind ∷ rest)) ≡ None
@@ -180,7 +178,7 @@ string_or_fault laws d least f r next_of two fits part fault =
         let lengths = or_parts (ltb (suc (suc m)) least) (suc (suc m) % 2 == 1) tests.0 in
         let r : List ℕ = suc (suc m) ∷ kind ∷ rest in
         let none = units_none m kind rest (omega arith) (eqb-true kind 3 (not-false (kind == 3) tests.1)) lengths.1 in
-        let u = laws.units_written (take (suc (suc m)) r) (front_bytes (suc (suc m)) r fits) none in
+        let u = laws.units_written (take (suc (suc m)) r) (bytes_front (suc (suc m)) r fits) none in
         let size : 2 + 2 * length u.0 ≡ suc (suc m) = omega (arith, length-units_bytes u.0, ap length u.2, length-take m rest) in
         let enough = ltb-false (suc (suc m)) least lengths.0 in
         is_part (next_of u.0) (take (suc (suc m)) r) (drop (suc (suc m)) r)
@@ -248,7 +246,7 @@ file_or_fault laws b fits =
         → fixed_fault 18 (is_some (device_fault (take 18 b))) files.Device b ≡ cond (is_some (device_fault (take 18 b))) (Some (0, files.Device)) None → FileOrFault b
     cases (Some e) is long = is_faulty 0 files.Device (inl (long ∙ cond-true (is_some (device_fault (take 18 b))) _ _ (ap is_some is)))
     cases None is long =
-        let d = laws.device_written (take 18 b) (front_bytes 18 b fits) is in
+        let d = laws.device_written (take 18 b) (bytes_front 18 b fits) is in
         from_front laws (length (drop 18 b)) b (begun d.0) (drop 18 b) (omega arith) fits (begun_splits b d.0 d.1)
 
 -- ---- a file is a prefix after which the end is due

@@ -15,7 +15,7 @@ use Rattle.usb_file_data.specs.declared.file.DescriptorFile.{DescriptorFile}
 use Rattle.usb_file_data.specs.declared.file.Other.{Other}
 use Rattle.usb_file_data.specs.declared.file.Strings.{Strings}
 use Rattle.usb_file_data.specs.File.{named_indices, file_bytes, other_bytes, sets_bytes, strings_bytes, whole_set}
-use Rattle.usb_file_data.specs.Front.{AllSets, IsInOrder, Splits}
+use Rattle.usb_file_data.specs.Front.{IsInOrder, Splits}
 use Rattle.usb_file_data.proofs.Lists.{bytes_before}
 use Rattle.usb_file_data.specs.declared.fault.FileWhy.{FileWhy}
 use Rattle.usb_file_data.specs.declared.fault.FileWhy.TheVariants as files
@@ -27,6 +27,7 @@ use Rattle.usb_file_data.specs.FileFaults.{FaultyPart, FileFaulty, IsNext, Langu
 use Rattle.usb_file_data.specs.Likeness.{DumpGoesOn, DumpsAreSeen, DumpsEndAtFaults, after_sets, file_likeness, goes_on_after_dump, is_bos, is_of_text, is_report, is_string}
 use Rattle.usb_file.proofs.Dumps.{is_dump}
 use Rattle.usb_file.proofs.Paths.{behind, device_first}
+use Rattle.usb_file_data.proofs.Longest.{set_count}
 
 -- ---- past sets
 
@@ -133,17 +134,13 @@ text_due the_end f (x ∷ rest) place next fault = absurd (no_text fault.1)
 
 -- ---- all sets of the device are there
 
-all_of : (f : DescriptorFile) (other : Option Other) → AllSets f other → length f.sets ≡ f.device.configurations
-all_of f None all = all
-all_of f (Some o) all = all.0
-
 all_before : (f : DescriptorFile) (other : Option Other) (strings : Option Strings) → IsInOrder f other strings → (strings ≡ None → ⊥) → length f.sets ≡ f.device.configurations
 all_before f other None order some = absurd (some refl)
 all_before f None (Some s) order some = order.0
 all_before f (Some o) (Some s) order some = order.0
 
 all_due : (f : DescriptorFile) (rest : List ℕ) → IsInOrder f f.other f.strings → LanguagesAreNext f rest ⊎ HasStrings f → length f.sets ≡ f.device.configurations
-all_due f rest order (inl next) = all_of f f.other next.all
+all_due f rest order (inl next) = set_count f f.other next.all
 all_due f rest order (inr some) = all_before f f.other f.strings order some
 
 -- ---- nothing else is before the fault

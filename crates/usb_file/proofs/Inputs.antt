@@ -7,10 +7,7 @@ use Rattle.usb_fields.specs.Bytes.{AreBytes}
 use Rattle.usb_set.specs.declared.fault.SetFault.{SetFault}
 use Rattle.usb_set.specs.declared.fault.SetWhy.TheVariants.{Truncated}
 use Rattle.usb_set.specs.declared.tree.Configuration.{Configuration}
-use Rattle.usb_set.specs.declared.tree.SetKind.{SetKind}
-use Rattle.usb_set.specs.declared.tree.SetKind.TheVariants as kinds
-use Rattle.usb_set.specs.Descriptors.{type_number}
-use Rattle.usb_set.specs.Faults.{Begins, is_set_type}
+use Rattle.usb_set.specs.Faults.{Begins}
 use Rattle.usb_set.specs.Faults as sets
 use Rattle.usb_set.specs.Layout.{Layout}
 use Rattle.usb_file_data.specs.declared.file.DescriptorFile.{DescriptorFile}
@@ -28,16 +25,13 @@ use Rattle.usb_file_data.specs.FileFaults.{FaultyPart, IsNext, LanguagesAreNext,
 use Rattle.usb_file.specs.inside.Reading.{PartLaws}
 use Rattle.usb_file.proofs.Complete.{file_or_fault, no_device_fault, not_both, one_fault, one_file}
 use Rattle.usb_file.proofs.Dumps.{dump_fault, dump_splits, end_apart, is_dump, no_dump, one_dump, qualifier_apart, set_apart, string_apart}
+use Rattle.usb_set.proofs.Layouts.{type_again}
 
 -- ---- what the second byte says
 
-set_type : (kind : SetKind) → is_set_type (type_number kind) ≡ true
-set_type kinds.Configuration = refl
-set_type kinds.OtherSpeed = refl
-
 -- that of a layout is the type of a set
 layout_is_set : (c : Configuration) (b : List ℕ) → Layout c b → is_one_set b ≡ true
-layout_is_set c b layout = ap is_one_set layout.bytes ∙ set_type c.kind
+layout_is_set c b layout = ap is_one_set layout.bytes ∙ type_again c.kind
 
 file_is_no_set : (f : DescriptorFile) (b : List ℕ) → File f b → is_one_set b ≡ false
 file_is_no_set f b file = ap is_one_set file.bytes

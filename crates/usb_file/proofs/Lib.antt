@@ -1,4 +1,3 @@
-pub mod Exits
 pub mod Between
 pub mod Due
 pub mod Next

@@ -140,7 +140,7 @@ steps_other (c ∷ ss) f o tail g s full room ks ls fits onward =
 
 -- ---- strings on the path
 
-all_again : (f : DescriptorFile) (x : Strings) (o : Option Other) → AllSets f o → AllSets (with_strings x f) o
+pub all_again : (f : DescriptorFile) (x : Strings) (o : Option Other) → AllSets f o → AllSets (with_strings x f) o
 all_again f x None h = h
 all_again f x (Some o) h = h
 

@@ -5,9 +5,10 @@ use Rattle.usb_set.specs.declared.tree.SetKind.{SetKind}
 use Rattle.usb_set.specs.declared.tree.Configuration.{Configuration}
 use Rattle.usb_file_data.specs.File.{whole_set, has_no_layout, is_other_kind}
 use Rattle.usb_file.specs.inside.Reading.{ReadsNextSet, ReadsSets}
-use Rattle.usb_file_data.proofs.Lists.{drop_front, drop_more, length-push, list_any-push}
+use Rattle.usb_file_data.proofs.Lists.{drop_front, drop_more, length-push}
 use Rattle.usb_file.proofs.Between.{reads_more}
 use Rattle.usb_file_data.proofs.WholeSets.{layout_is, layout_allowed}
+use Rattle.usb_set.proofs.Growth.{list_any-snoc}
 
 -- a part that is read from a place lies within the bytes
 within_all : (b p : List ℕ) (place end : ℕ) → place ≤ length b → drop place b ≡ p ++ drop end b → end ≡ place + length p → end ≤ length b
@@ -31,8 +32,8 @@ next_set kind b start old mid new end h next =
     ∙ ap (λ n. begins.front ++ drop n b) (sym next.reads.at_is) ∙ ap (λ p. p ++ drop end b) whole in
     let ends : end ≡ mid + length (whole_set c) = omega (arith, next.reads.at_is, begins.ends, ap length whole) in
     let all = reads_more whole_set b start old mid c end h.all parts ends (within_all b (whole_set c) mid end h.all.within parts ends) in
-    let kinds = list_any-push (is_other_kind kind) old c h.kinds next.reads.holds.kind_is in
-    let layouts = list_any-push has_no_layout old c h.layouts (layout_allowed c begins.front begins.layout) in
+    let kinds = list_any-snoc (is_other_kind kind) old c h.kinds next.reads.holds.kind_is in
+    let layouts = list_any-snoc has_no_layout old c h.layouts (layout_allowed c begins.front begins.layout) in
     rw next.grown (record { all = all; kinds = kinds; layouts = layouts })
 
 pub one_more : {A : Type 0} (old new : List A) (x : A) → new ≡ old ++ x ∷ [] → length new ≡ length old + 1

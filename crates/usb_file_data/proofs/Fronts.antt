@@ -13,9 +13,10 @@ use Rattle.usb_file_data.specs.declared.file.DescriptorFile.{DescriptorFile}
 use Rattle.usb_file_data.specs.declared.file.Other.{Other}
 use Rattle.usb_file_data.specs.declared.file.Strings.{Strings}
 use Rattle.usb_file_data.specs.File.{named_indices, other_sets, whole_set, sets_bytes, other_bytes, each_string_bytes, strings_bytes, file_bytes, is_other_kind, has_no_layout, is_long_string}
-use Rattle.usb_file_data.proofs.Lists.{flat_map-push, list_any-push, length-push, behind_main, behind_other, behind_all}
+use Rattle.usb_file_data.proofs.Lists.{flat_map-push, length-push, behind_main, behind_other, behind_all}
 use Rattle.usb_file_data.proofs.WholeSets.{layout_is, layout_allowed}
 use Rattle.usb_file_data.specs.Front.{StringsFollow, IsInOrder, IsFront, AllSets, other_with, with_set, with_qualifier, with_strings}
+use Rattle.usb_set.proofs.Growth.{list_any-snoc}
 
 -- with one more string
 abbrev pub string_with : List ℕ → Option Strings → Option Strings
@@ -39,8 +40,8 @@ grow_main f c p front no_other no_strings below layout kind_is =
     let more : sets_bytes (f.sets ++ c ∷ []) ≡ sets_bytes f.sets ++ p = flat_map-push whole_set f.sets c ∙ ap (λ x. sets_bytes f.sets ++ x) (sym (layout_is c p layout)) in
     record {
       is_front = record {
-        kinds = or_from _ _ (list_any-push (is_other_kind kinds.Configuration) f.sets c ks.0 kind_is) ks.1;
-        layouts = or_from _ _ (list_any-push has_no_layout f.sets c ls.0 (layout_allowed c p layout)) ls.1;
+        kinds = or_from _ _ (list_any-snoc (is_other_kind kinds.Configuration) f.sets c ks.0 kind_is) ks.1;
+        layouts = or_from _ _ (list_any-snoc has_no_layout f.sets c ls.0 (layout_allowed c p layout)) ls.1;
         order = subst (λ o. IsInOrder g o f.strings) (sym no_other) (subst (λ s. IsInOrder g None s) (sym no_strings) room);
       };
       bytes = behind_main (device_bytes f.device) (sets_bytes f.sets) (sets_bytes (f.sets ++ c ∷ [])) (other_bytes f.other) (strings_bytes f.strings) p more
@@ -60,10 +61,10 @@ grow_other f o c p front full is_other no_strings below layout kind_is =
     let room : length (o.sets ++ c ∷ []) ≤ o.qualifier.configurations = omega (arith, length-push o.sets c, below) in
     let kinds_of : list_any (is_other_kind kinds.OtherSpeed) (other_sets (other_with c f.other)) ≡ false =
     subst (λ x. list_any (is_other_kind kinds.OtherSpeed) (other_sets (other_with c x)) ≡ false) (sym is_other)
-    (list_any-push (is_other_kind kinds.OtherSpeed) o.sets c (subst (λ x. list_any (is_other_kind kinds.OtherSpeed) (other_sets x) ≡ false) is_other ks.1) kind_is) in
+    (list_any-snoc (is_other_kind kinds.OtherSpeed) o.sets c (subst (λ x. list_any (is_other_kind kinds.OtherSpeed) (other_sets x) ≡ false) is_other ks.1) kind_is) in
     let layouts_of : list_any has_no_layout (other_sets (other_with c f.other)) ≡ false =
     subst (λ x. list_any has_no_layout (other_sets (other_with c x)) ≡ false) (sym is_other)
-    (list_any-push has_no_layout o.sets c (subst (λ x. list_any has_no_layout (other_sets x) ≡ false) is_other ls.1) (layout_allowed c p layout)) in
+    (list_any-snoc has_no_layout o.sets c (subst (λ x. list_any has_no_layout (other_sets x) ≡ false) is_other ls.1) (layout_allowed c p layout)) in
     let more : other_bytes (other_with c f.other) ≡ other_bytes f.other ++ p =
     subst (λ x. other_bytes (other_with c x) ≡ other_bytes x ++ p) (sym is_other) (other_more o c p layout) in
     record {
@@ -128,6 +129,6 @@ grow_string f s u front all is_strings follow below short =
       named = follow.named;
       spoken = follow.spoken;
       few = omega (arith, length-push s.texts u, below);
-      short = or_from _ _ long.0 (list_any-push is_long_string s.texts u long.1 short);
+      short = or_from _ _ long.0 (list_any-snoc is_long_string s.texts u long.1 short);
     })
     (string_more s u ∙ sym (ap (λ x. strings_bytes x ++ units_bytes u) is_strings))

@@ -39,7 +39,7 @@ each_string_length (u ∷ us) h =
 filter_length : (p : ℕ → Bool) (xs : List ℕ) → length (filter p xs) ≤ length xs
 filter_length p xs = omega (arith, length-filter_both p (λ x. not (p x)) (λ x. refl) xs)
 
-named_length : (indices : List ℕ) → length (named_among indices) ≤ 255
+pub named_length : (indices : List ℕ) → length (named_among indices) ≤ 255
 unfolding named_among
 named_length indices =
     let most = filter_length (λ n. list_any (λ index. index == n) indices) (range_with_len 1 255) in
@@ -47,7 +47,7 @@ named_length indices =
 
 -- ---- counts
 
-set_count : (f : DescriptorFile) (o : Option Other) → AllSets f o → length f.sets ≡ f.device.configurations
+pub set_count : (f : DescriptorFile) (o : Option Other) → AllSets f o → length f.sets ≡ f.device.configurations
 set_count f None h = h
 set_count f (Some o) h = h.0
 

@@ -1,5 +1,5 @@
 -- A host that reports a file was given its bytes.
-use Rattle.std.proofs.Common.{◌≡◌, ℕ, ◌+◌, ◌||◌, ◌&&◌, ◌≤◌, ◌==◌, nat_lt, Bool, true, false, if◌then◌else◌, List, [], ◌∷◌, ◌++◌, length, inl, inr, refl, ap, sym, ◌∙◌, arith, subst, append_assoc, length-append}
+use Rattle.std.proofs.Common.{◌≡◌, ℕ, ◌+◌, ◌||◌, ◌&&◌, ◌≤◌, ◌==◌, nat_lt, Bool, true, false, if◌then◌else◌, List, [], ◌∷◌, ◌++◌, length, inl, inr, refl, ap, sym, ◌∙◌, arith, subst, length-append}
 use Rattle.std.specs.Prelude.{Option, Some, Result, Ok, Err}
 use Rattle.std.proofs.lemmas.Bool.Decides.{nat_tests}
 use Rattle.std.proofs.lemmas.List.{append-nil, nil_from_length}
@@ -34,9 +34,11 @@ use Rattle.usb_host.specs.Laws.{Asks, HostsReportWhatCame}
 use Rattle.usb_host.specs.inside.Reads.{IsGoing}
 use Rattle.usb_host.specs.inside.Sound.{FitsPlace, Holds}
 use Rattle.usb_host.proofs.AskingLemmas.{wants_reset, reset_is}
-use Rattle.usb_host.proofs.LowerLemmas.{HearsBytes, bytes_more, fits_bytes, fits_set, hears_bytes}
+use Rattle.usb_host.proofs.LowerLemmas.{HearsBytes, fits_bytes, fits_set, hears_bytes}
 use Rattle.usb_host.proofs.PartLemmas.{bytes_hold, refused_holds, set_holds}
 use Rattle.usb_host.proofs.TakeLemmas.{StageOf, heeds, going_on}
+use Rattle.usb_fields.proofs.ByteParts.{bytes_append}
+use Rattle.usb_set.proofs.Sound.{Begins-more}
 
 -- ---- what is kept of a read says the same as its bytes
 
@@ -55,10 +57,6 @@ over_more over n size more within e = grind (arith, nat_tests)
 pub over_first : (used size count more : ℕ) → count ≡ size → nat_lt used more ≡ nat_lt (count + used) (size + more)
 over_first used size count more e = grind (arith, nat_tests)
 
-begins_more : (b more : List ℕ) (c : Configuration) (n : ℕ) → Begins b c n → Begins (b ++ more) c n
-begins_more b more c n h =
-    record { front = h.front; rest = h.rest ++ more; parts = ap (λ x. x ++ more) h.parts ∙ append_assoc h.front h.rest more; layout = h.layout; ends = h.ends }
-
 fed : (read piece : List ℕ) (d e : Decoding) (over now : Bool) (result : Result Progress SetFault) → KeptFrom read (kept.Set d over) → Answers d piece result e →
     now ≡ is_over over result (length piece) → KeptFrom (read ++ piece) (kept.Set e now)
 fed read piece (gathers s) e over now (Ok More) (same, none) (open_, is) at =
@@ -74,7 +72,7 @@ fed read piece (has c) e over now result (n, begins, is) (r, new) at =
     let size = length-append read piece in
     let over_is : now ≡ nat_lt n (length (read ++ piece)) =
     at ∙ ap (λ x. is_over over x (length piece)) r ∙ over_more over n (length read) (length piece) (begins_within read c n begins) is ∙ ap (λ x. nat_lt n x) (sym size) in
-    subst (λ d. KeptFrom (read ++ piece) (kept.Set d now)) (sym new) (n, begins_more read piece c n begins, over_is)
+    subst (λ d. KeptFrom (read ++ piece) (kept.Set d now)) (sym new) (n, Begins-more read piece c n begins, over_is)
 fed read piece (refused fault) e over now result is (r, new) at = subst (λ d. KeptFrom (read ++ piece) (kept.Set d now)) (sym new) tt
 
 brought : (place : Place) (read piece : List ℕ) (old new : Kept) (result : Result Progress SetFault) → FitsPlace place old → KeptFrom read old →
@@ -157,8 +155,8 @@ part_fits place read fits = tt
 
 came_fits : (place : Place) (heard : Hearing) (came : Came) → HearsBytes heard → Fits came → Fits (came_by place heard came)
 came_fits place Goes came bytes fits = fits
-came_fits place (Brings piece) came bytes fits = (fits.0, bytes_more came.read piece fits.1 bytes)
-came_fits place Completes came bytes fits = (bytes_more came.whole (part_of place (replied.Bytes came.read)) fits.0 (part_fits place came.read fits.1), tt)
+came_fits place (Brings piece) came bytes fits = (fits.0, bytes_append came.read piece fits.1 bytes)
+came_fits place Completes came bytes fits = (bytes_append came.whole (part_of place (replied.Bytes came.read)) fits.0 (part_fits place came.read fits.1), tt)
 came_fits place (Fails why) came bytes fits = (fits.0, tt)
 
 -- ---- an answer

@@ -1,7 +1,6 @@
 -- What the reads of an attempt cost at most, whatever is replied.
-use Rattle.std.proofs.Common.{◌≡◌, ℕ, zero, suc, ◌+◌, ◌-◌, ◌*◌, ◌/◌, ◌<◌, ◌≤◌, ◌==◌, Bool, true, false, not, ◌&&◌, if◌then◌else◌, nat_lt, List, [], ◌∷◌, ◌++◌, length, take, filter, refl, ap, sym, ◌∙◌, arith, get_or, get_or-take, lit<, lit≤, length-append, slice_index}
+use Rattle.std.proofs.Common.{◌≡◌, ℕ, suc, ◌+◌, ◌-◌, ◌*◌, ◌/◌, ◌<◌, ◌≤◌, ◌==◌, Bool, true, false, not, ◌&&◌, if◌then◌else◌, nat_lt, List, [], ◌∷◌, ◌++◌, length, take, refl, ap, sym, ◌∙◌, arith, get_or, get_or-take, lit<, lit≤, length-append, slice_index}
 use Rattle.std.specs.Prelude.{Option, Some, None}
-use Rattle.std.specs.List.{range_with_len, list_any}
 use Rattle.std.proofs.lemmas.Bool.Decides.{nat_tests}
 use Rattle.std.proofs.lemmas.Nat.{le-div, div_below}
 use Rattle.std.proofs.Math.Nat.{div-mul-le_self, mul-le-mul_left}
@@ -17,7 +16,7 @@ use Rattle.usb_set.specs.Descriptors.{type_number}
 use Rattle.usb_file_data.specs.declared.file.DescriptorFile.{DescriptorFile}
 use Rattle.usb_file_data.specs.declared.file.Other.{Other}
 use Rattle.usb_file_data.specs.declared.file.Strings.{Strings}
-use Rattle.usb_file_data.specs.File.{named_among, named_indices, string_indices}
+use Rattle.usb_file_data.specs.File.{named_indices, string_indices}
 use Rattle.usb_file_data.specs.Front.{with_set, with_qualifier}
 use Rattle.usb_host.specs.declared.why.Why.TheVariants.{Malformed}
 use Rattle.usb_host.specs.Plan.{Plan, Begin, Success, GivesUp}
@@ -27,26 +26,15 @@ use Rattle.usb_host.specs.Order.{is_first_zero, sets_of, declared_sets, other_de
 use Rattle.usb_host.specs.Cost.{strings_cost, cost_after, cost, price}
 use Rattle.usb_host.specs.inside.Sound.{IsGood}
 use Rattle.usb_host.proofs.ReadLemmas.{same_is, byte_at, device_narrow, qualifier_narrow, units_written}
+use Rattle.usb_file_data.proofs.Longest.{named_length}
 
 at_least_8 : (speed : Speed) (p : ℕ) → packet_fits speed p ≡ true → 8 ≤ p
 at_least_8 Low p e = grind (arith, nat_tests)
 at_least_8 Full p e = grind (arith, nat_tests)
 at_least_8 High p e = grind (arith, nat_tests)
 
-by_length : (b : Bool) (i count : ℕ) (rest : List ℕ) → length rest ≤ count → length (if b then i ∷ rest else rest) ≤ suc count
-by_length true i count rest s = omega arith
-by_length false i count rest s = omega arith
-
-filtered_length : (p : ℕ → Bool) (a n : ℕ) → length (filter p (range_with_len a n)) ≤ n
-filtered_length p a zero = omega arith
-filtered_length p a (suc n) = by_length (p a) a n (filter p (range_with_len (a + 1) n)) (filtered_length p (a + 1) n)
-
-among_length : (xs : List ℕ) → length (named_among xs) ≤ 255
-unfolding named_among
-among_length xs = filtered_length (λ n. list_any (λ index. index == n) xs) 1 255
-
 pub named_few : (f : DescriptorFile) → length (named_indices f) ≤ 255
-named_few f = among_length (string_indices f)
+named_few f = named_length (string_indices f)
 
 pub few_texts : (x y : ℕ) → x ≤ 126 → y ≤ 255 → x * y ≤ 126 * 255
 few_texts x y p q = grind (arith, mul-le-mul_left x q, mul-le-mul_left 255 p)

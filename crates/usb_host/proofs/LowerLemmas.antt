@@ -1,5 +1,5 @@
 -- A host asks for fewer and fewer transactions.
-use Rattle.std.proofs.Common.{◌≡◌, ℕ, suc, ◌+◌, ◌-◌, ◌*◌, ◌/◌, ◌<◌, ◌≤◌, ◌==◌, Bool, true, false, ◌&&◌, if◌then◌else◌, nat_lt, List, [], ◌∷◌, ◌++◌, length, inl, inr, refl, ap, sym, ◌∙◌, arith, subst}
+use Rattle.std.proofs.Common.{◌≡◌, ℕ, suc, ◌+◌, ◌-◌, ◌*◌, ◌/◌, ◌<◌, ◌≤◌, ◌==◌, Bool, true, false, ◌&&◌, if◌then◌else◌, nat_lt, List, [], ◌∷◌, length, inl, inr, refl, ap, sym, ◌∙◌, arith, subst}
 use Rattle.std.specs.Prelude.{Result}
 use Rattle.std.proofs.Math.Nat.{mul-le-mul_right}
 use Rattle.usb_fields.specs.Bytes.{AreBytes}
@@ -24,6 +24,7 @@ use Rattle.usb_host.specs.Steps.{HostPhase, ResetDue, Reading, Ended, HostView, 
 use Rattle.usb_host.specs.Cost.{cost, price, most_in_attempt, left_in_attempt, left_to_ask, BringsBytes}
 use Rattle.usb_host.specs.inside.Sound.{IsGood, FitsPlace, KeepsBytes, IsSteady, AsksLess}
 use Rattle.usb_host.proofs.CostLemmas.{Fits, bytes_fall, done_falls, refused_falls, set_fits, Pays, pays, priced}
+use Rattle.usb_fields.proofs.ByteParts.{bytes_append}
 
 left_begun : (to packet naks : ℕ) (q : SetupPacket) → left (begun to packet naks q) ≤ (q.length / packet + 3) * (naks + 3)
 unfolding left
@@ -44,10 +45,6 @@ fits_nothing place = tt
 bytes_nothing : (place : Place) → KeepsBytes (nothing_kept place)
 bytes_nothing (Set kind f total) = tt
 bytes_nothing place = tt
-
-pub bytes_more : (a b : List ℕ) → AreBytes a → AreBytes b → AreBytes (a ++ b)
-bytes_more [] b p q = q
-bytes_more (x ∷ a) b p q = (p.0, bytes_more a b p.1 q)
 
 -- what a transfer brings are bytes where the packet had bytes
 abbrev pub HearsBytes : Hearing → Type 0
@@ -83,7 +80,7 @@ pub kept_steady : (place : Place) (old new : Kept) (heard : Hearing) (result : R
 kept_steady place old new Goes result fits bytes w e = (subst (λ x. FitsPlace place x) (sym e) fits, subst (λ x. KeepsBytes x) (sym e) bytes)
 kept_steady place old new Completes result fits bytes w e = (subst (λ x. FitsPlace place x) (sym e) fits, subst (λ x. KeepsBytes x) (sym e) bytes)
 kept_steady place old new (Fails why) result fits bytes w e = (subst (λ x. FitsPlace place x) (sym e) fits, subst (λ x. KeepsBytes x) (sym e) bytes)
-kept_steady place (kept.Bytes b) (kept.Bytes new) (Brings piece) result fits bytes w e = (fits_bytes place b new fits, subst (λ x. AreBytes x) (sym e) (bytes_more b piece bytes w))
+kept_steady place (kept.Bytes b) (kept.Bytes new) (Brings piece) result fits bytes w e = (fits_bytes place b new fits, subst (λ x. AreBytes x) (sym e) (bytes_append b piece bytes w))
 kept_steady place (kept.Bytes b) (kept.Set new now) (Brings piece) result fits bytes w e = absurd (e)
 kept_steady place (kept.Set d over) (kept.Bytes new) (Brings piece) result fits bytes w e = absurd (e)
 kept_steady place (kept.Set d over) (kept.Set new now) (Brings piece) result fits bytes w e = (fits_set place d new over now fits, tt)

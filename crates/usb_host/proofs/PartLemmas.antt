@@ -19,7 +19,6 @@ use Rattle.usb_file_data.specs.declared.file.Other.{Other}
 use Rattle.usb_file_data.specs.declared.file.Strings.{Strings}
 use Rattle.usb_file_data.specs.File.{File, has_wrong_count, is_other_miscounted, are_wrong_strings, has_long_string, is_other_kind, is_long_string, named_indices}
 use Rattle.usb_file_data.specs.Front.{AllSets, StringsFollow, other_with, with_set, with_qualifier, with_strings}
-use Rattle.usb_file_data.proofs.Lists.{list_any-push}
 use Rattle.usb_file_data.proofs.Fronts.{Grown, grow_main, grow_other, grow_qualifier, grow_languages, grow_string}
 use Rattle.usb_host.specs.declared.reply.Reply.{Reply}
 use Rattle.usb_host.specs.declared.reply.Reply.TheVariants.{Bytes, Done, Refused}
@@ -29,6 +28,7 @@ use Rattle.usb_host.specs.Order.{is_first_zero, sets_of, declared_sets, texts_du
 use Rattle.usb_host.specs.Gathered.{part_of, parts_of, reached}
 use Rattle.usb_host.specs.inside.Sound.{IsRead, MainDone, InSets, SetsDone, InStrings, Holds}
 use Rattle.usb_host.proofs.ReadLemmas.{device_written, qualifier_written, units_written}
+use Rattle.usb_set.proofs.Growth.{list_any-snoc}
 
 if_holds : (b : List ℕ) (t : Bool) (x y : Place) → (t ≡ true → Holds x b) → (t ≡ false → Holds y b) → Holds (if t then x else y) b
 if_holds b true x y p q = p refl
@@ -72,11 +72,11 @@ strings_right count s follow full =
 same_kind : (kind : SetKind) (c : Configuration) → (type_number c.kind == type_number kind) ≡ true → is_other_kind kind c ≡ false
 same_kind kind c e = ap not e
 
-left_of : (a b : Bool) → (a && b) ≡ true → a ≡ true
+pub left_of : (a b : Bool) → (a && b) ≡ true → a ≡ true
 left_of true b e = refl
 left_of false b e = cc
 
-right_of : (a b : Bool) → (a && b) ≡ true → b ≡ true
+pub right_of : (a b : Bool) → (a && b) ≡ true → b ≡ true
 right_of true b e = e
 right_of false b e = cc
 
@@ -250,7 +250,7 @@ text_holds place f s named b p (Some u) e h =
     long_more : has_long_string (Some s) ≡ false → is_long_string u ≡ false → has_long_string (Some (record s { texts = s.texts ++ u ∷ [] })) ≡ false
     long_more long short =
         let parts = or_parts (is_long_string s.languages) (list_any is_long_string s.texts) long in
-        or_from _ _ parts.0 (list_any-push is_long_string s.texts u parts.1 short)
+        or_from _ _ parts.0 (list_any-snoc is_long_string s.texts u parts.1 short)
 
 -- nothing more was read
 same : (place : Place) (b : List ℕ) → Holds place b → Holds place (b ++ [])

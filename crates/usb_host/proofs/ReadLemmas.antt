@@ -8,10 +8,12 @@ use Rattle.usb_fields.specs.declared.device.DeviceDescriptor.{DeviceDescriptor}
 use Rattle.usb_fields.specs.declared.qualifier.Qualifier.{Qualifier}
 use Rattle.usb_fields.specs.declared.fault.FieldFault.{FieldFault}
 use Rattle.usb_fields.specs.declared.fault.UnitFault.{UnitFault}
-use Rattle.usb_fields.specs.Device.{device_bytes, device_fault, field_fault, qualifier_bytes, qualifier_fault}
+use Rattle.usb_fields.specs.Device.{device_bytes, device_fault, field_fault, qualifier_bytes, qualifier_fault, device_of_bytes, qualifier_of_bytes}
 use Rattle.usb_fields.specs.declared.fault.UnitFault.TheVariants as units
 use Rattle.usb_fields.specs.Units.{units_bytes, unit_fault, ReadUnitsFails}
-use Rattle.usb_host.specs.Read.{same_bytes, if_written, device_fields, qualifier_fields, pairs, unit_fields, device_of, qualifier_of, units_of}
+use Rattle.usb_host.specs.Read.{same_bytes, if_written, pairs, unit_fields, device_of, qualifier_of, units_of}
+use Rattle.usb_fields.proofs.UnitLemmas.{unit_fault-units_bytes}
+use Rattle.usb_set.proofs.Items.{two_bytes}
 
 pub same_is : (xs ys : List ℕ) → same_bytes xs ys ≡ true → xs ≡ ys
 same_is [] [] e = refl
@@ -25,9 +27,6 @@ same_is (x ∷ xs) (y ∷ ys) e =
 pub same_self : (b : List ℕ) → same_bytes b b ≡ true
 same_self [] = refl
 same_self (x ∷ b) = (let rest = same_self b in grind (arith, nat_tests))
-
-two_bytes : (n : ℕ) → n % 256 + 256 * (n / 256) ≡ n
-two_bytes n = omega arith
 
 pub written : {X : Type 0} (write : X → List ℕ) (x y : X) (b : List ℕ) → if_written write x b ≡ Some y → (b ≡ write y) × (x ≡ y)
 written write x y b e = by_test (same_bytes (write x) b) refl e
@@ -43,10 +42,10 @@ writes write x y is =
     let same : same_bytes (write x) (write y) ≡ true = subst (λ z. same_bytes (write z) (write y) ≡ true) (sym is) (same_self (write y)) in
     rw same (ap Some is)
 
-device_back : (d : DeviceDescriptor) → device_fields (device_bytes d) ≡ d
+device_back : (d : DeviceDescriptor) → device_of_bytes (device_bytes d) ≡ d
 device_back d = rw (two_bytes d.usb, two_bytes d.vendor, two_bytes d.product, two_bytes d.release) refl
 
-qualifier_back : (q : Qualifier) → qualifier_fields (qualifier_bytes q) ≡ q
+qualifier_back : (q : Qualifier) → qualifier_of_bytes (qualifier_bytes q) ≡ q
 qualifier_back q = rw (two_bytes q.usb) refl
 
 pairs_back : (u : List ℕ) → pairs (flat_map little_endian u) ≡ u
@@ -55,10 +54,10 @@ pairs_back (n ∷ u) = rw (two_bytes n, pairs_back u) refl
 
 -- a descriptor is read back
 pub device_read : (d : DeviceDescriptor) → device_of (device_bytes d) ≡ Some d
-device_read d = writes device_bytes (device_fields (device_bytes d)) d (device_back d)
+device_read d = writes device_bytes (device_of_bytes (device_bytes d)) d (device_back d)
 
 pub qualifier_read : (q : Qualifier) → qualifier_of (qualifier_bytes q) ≡ Some q
-qualifier_read q = writes qualifier_bytes (qualifier_fields (qualifier_bytes q)) q (qualifier_back q)
+qualifier_read q = writes qualifier_bytes (qualifier_of_bytes (qualifier_bytes q)) q (qualifier_back q)
 
 pub units_read : (u : List ℕ) → length u ≤ 126 → units_of (units_bytes u) ≡ Some u
 units_read u few =
@@ -68,10 +67,10 @@ units_read u few =
 
 -- and what was read was written
 pub device_written : (b : List ℕ) (d : DeviceDescriptor) → device_of b ≡ Some d → b ≡ device_bytes d
-device_written b d e = (written device_bytes (device_fields b) d b e).0
+device_written b d e = (written device_bytes (device_of_bytes b) d b e).0
 
 pub qualifier_written : (b : List ℕ) (q : Qualifier) → qualifier_of b ≡ Some q → b ≡ qualifier_bytes q
-qualifier_written b q e = (written qualifier_bytes (qualifier_fields b) q b e).0
+qualifier_written b q e = (written qualifier_bytes (qualifier_of_bytes b) q b e).0
 
 pub units_written : (b u : List ℕ) → units_of b ≡ Some u → (b ≡ units_bytes u) × (length u ≤ 126)
 units_written b u e = by_test (nat_lt 126 (length (unit_fields b))) refl e
@@ -141,20 +140,13 @@ qualifier_not b fault e = by_read (qualifier_of b) refl
 pub units_are : (b u : List ℕ) → b ≡ units_bytes u → length u ≤ 126 → units_of b ≡ Some u
 units_are b u e few = subst (λ x. units_of x ≡ Some u) (sym e) (units_read u few)
 
-length-pairs : (u : List ℕ) → length (flat_map little_endian u) ≡ 2 * length u
-length-pairs [] = refl
-length-pairs (n ∷ u) = (let rest = length-pairs u in omega arith)
-
-no_fault : (u : List ℕ) → unit_fault (units_bytes u) ≡ None
-no_fault u = (let long = length-pairs u in grind (arith, nat_tests))
-
 pub units_not : (b : List ℕ) (fault : UnitFault) → unit_fault b ≡ Some fault → units_of b ≡ None
 units_not b fault e = by_read (units_of b) refl
   where
     by_read : (o : Option (List ℕ)) → units_of b ≡ o → units_of b ≡ None
     by_read None r = r
     by_read (Some u) r =
-        let none : unit_fault b ≡ None = subst (λ x. unit_fault x ≡ None) (sym (units_written b u r).0) (no_fault u) in
+        let none : unit_fault b ≡ None = subst (λ x. unit_fault x ≡ None) (sym (units_written b u r).0) (unit_fault-units_bytes u) in
         absurd (cc)
 
 pub units_refused : (b : List ℕ) (fault : UnitFault) → ReadUnitsFails b fault → (fault ≡ units.Memory → ⊥) → units_of b ≡ None

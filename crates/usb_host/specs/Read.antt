@@ -6,7 +6,7 @@ use Rattle.usb_fields.specs.declared.packet.Speed.{Speed}
 use Rattle.usb_fields.specs.declared.packet.Speed.TheVariants.{Low, Full, High}
 use Rattle.usb_fields.specs.declared.device.DeviceDescriptor.{DeviceDescriptor}
 use Rattle.usb_fields.specs.declared.qualifier.Qualifier.{Qualifier}
-use Rattle.usb_fields.specs.Device.{device_bytes, qualifier_bytes}
+use Rattle.usb_fields.specs.Device.{device_bytes, device_of_bytes, qualifier_bytes, qualifier_of_bytes}
 use Rattle.usb_fields.specs.Units.{units_bytes}
 
 -- The requests of an enumeration (USB 2.0, 9.4).
@@ -36,37 +36,6 @@ same_bytes (x ∷ xs) (y ∷ ys) = (x == y) && same_bytes xs ys
 abbrev pub if_written : {X : Type 0} → (X → List ℕ) → X → List ℕ → Option X
 if_written write x b = if same_bytes (write x) b then Some x else None
 
--- the fields of a device descriptor, each at its place (9.6.1)
-abbrev pub device_fields : List ℕ → DeviceDescriptor
-device_fields b =
-    record {
-      usb = little_endian_at b 2;
-      class = slice_index b 4;
-      subclass = slice_index b 5;
-      protocol = slice_index b 6;
-      packet = slice_index b 7;
-      vendor = little_endian_at b 8;
-      product = little_endian_at b 10;
-      release = little_endian_at b 12;
-      maker_text = slice_index b 14;
-      product_text = slice_index b 15;
-      serial_text = slice_index b 16;
-      configurations = slice_index b 17;
-    }
-
--- the fields of a qualifier, each at its place (9.6.2)
-abbrev pub qualifier_fields : List ℕ → Qualifier
-qualifier_fields b =
-    record {
-      usb = little_endian_at b 2;
-      class = slice_index b 4;
-      subclass = slice_index b 5;
-      protocol = slice_index b 6;
-      packet = slice_index b 7;
-      configurations = slice_index b 8;
-      reserved = slice_index b 9;
-    }
-
 -- numbers of two bytes each, the low byte first
 abbrev pub pairs : List ℕ → List ℕ
 pairs (low ∷ high ∷ b) = (low + 256 * high) ∷ pairs b
@@ -79,11 +48,11 @@ unit_fields _ = []
 
 -- the device descriptor that has these bytes, if there is one
 abbrev pub device_of : List ℕ → Option DeviceDescriptor
-device_of b = if_written device_bytes (device_fields b) b
+device_of b = if_written device_bytes (device_of_bytes b) b
 
 -- the qualifier that has these bytes, if there is one
 abbrev pub qualifier_of : List ℕ → Option Qualifier
-qualifier_of b = if_written qualifier_bytes (qualifier_fields b) b
+qualifier_of b = if_written qualifier_bytes (qualifier_of_bytes b) b
 
 -- the units, at most 126, whose string descriptor has these bytes, if there are any
 abbrev pub units_of : List ℕ → Option (List ℕ)

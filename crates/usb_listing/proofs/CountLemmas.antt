@@ -19,7 +19,6 @@ use Rattle.usb_file_data.specs.declared.file.DescriptorFile.{DescriptorFile}
 use Rattle.usb_file_data.specs.declared.file.Other.{Other}
 use Rattle.usb_file_data.specs.declared.file.Strings.{Strings}
 use Rattle.usb_file_data.specs.File.{named_indices, other_sets}
-use Rattle.usb_file_data.proofs.Lists.{list_any-push}
 use Rattle.usb_listing.specs.declared.draft.Draft.{Draft}
 use Rattle.usb_listing.specs.declared.word.Word.{Word}
 use Rattle.usb_listing.specs.declared.word.Word.TheVariants as words
@@ -30,9 +29,11 @@ use Rattle.usb_listing.specs.inside.Drafts.{Fits, Holds, IsDraft, IsFirst, Joins
 use Rattle.usb_listing.specs.inside.Growing.{descriptor_of, device_of, file_and, joined_to, last_of, length_of, may_follow, may_follow_sets, open_sets, qualifier_of, set_and, with_sets, with_string}
 use Rattle.usb_listing.specs.inside.Walking.{file_of}
 use Rattle.usb_listing.proofs.MoreLemmas.{device_read, device_written, joins_last, joins_word, more, no_string, place, qualifier_read, qualifier_written}
-use Rattle.usb_listing.proofs.PartLemmas.{any_parts, kind_of, last_push, made, opened, over_here, over_open, with_last-push}
+use Rattle.usb_listing.proofs.PartLemmas.{any_parts, kind_of, last_push, made, opened, over_here, over_open}
 use Rattle.usb_listing.proofs.SaysLemmas.{few_bytes}
 use Rattle.usb_listing.proofs.SetLemmas.{IsInner, begins, joined, later, set_word}
+use Rattle.usb_set.proofs.Growth.{list_any-snoc}
+use Rattle.usb_set.proofs.Items.{with_last-snoc}
 
 -- how many bytes the last set of a file has
 abbrev pub work_of : DescriptorFile → ℕ
@@ -65,7 +66,7 @@ first_counts d ss o b over is =
     let short : is_over (configuration_of b) ≡ false = le-ltb 65535 _ (omega (arith, count, few)) in (
       work_open d ss o (cs ++ configuration_of b ∷ []) ∙ ap length_of (last_push cs (configuration_of b)) ∙ count,
       over_open d ss o (cs ++ configuration_of b ∷ [])
-          ∙ none_over _ _ _ (sym (over_here d ss o) ∙ over) (λ all. list_any-push is_over cs (configuration_of b) all short)
+          ∙ none_over _ _ _ (sym (over_here d ss o) ∙ over) (λ all. list_any-snoc is_over cs (configuration_of b) all short)
           ∙ sym (le-ltb 65535 (length b) (omega (arith, few))),
       g.first,
     )
@@ -94,7 +95,7 @@ inner_counts d ss o w b h over is inner may =
     let raws = (any_parts has_typed_raw at.front at.set (subst (λ (xs : List Configuration). list_any has_typed_raw xs ≡ false) at.is p.1.raws)).1 in
     let count = (joined w b l at.set at.belongs raws).count in
     let old : work_of (made d ss o None) ≡ set_length at.set = ap length_of (ap last_of at.is ∙ last_push at.front at.set) in
-    let new_sets : with_last (set_and b) cs ≡ at.front ++ set_and b at.set ∷ [] = ap (with_last (set_and b)) at.is ∙ with_last-push (set_and b) at.front at.set in
+    let new_sets : with_last (set_and b) cs ≡ at.front ++ set_and b at.set ∷ [] = ap (with_last (set_and b)) at.is ∙ with_last-snoc (set_and b) at.front at.set in
     let new : file_and (fields w b) (made d ss o None) ≡ with_sets (at.front ++ set_and b at.set ∷ []) (made d ss o None) o =
     joins_word w inner b (made d ss o None) ∙ ap (λ (xs : List Configuration). with_sets xs (made d ss o None) o) new_sets in
     let none = sym (over_here d ss o) ∙ over in

@@ -14,15 +14,15 @@ use Rattle.usb_set.specs.Layout.{FieldsFit, set_length, has_typed_raw, later_des
 use Rattle.usb_set.specs.Faults.{is_interface, is_set_type}
 use Rattle.usb_set.specs.inside.Reading.{attach, configuration_of}
 use Rattle.usb_set.proofs.Adding.{one_less, one_tree}
-use Rattle.usb_set.proofs.Complete.{attached}
-use Rattle.usb_set.proofs.Growth.{attach-head, flat_map-snoc, has_setting-attach, later_descriptors-attach, typed-attach}
-use Rattle.usb_set.proofs.Items.{bare, items_again}
+use Rattle.usb_set.proofs.Complete.{attached-in_setting}
+use Rattle.usb_set.proofs.Growth.{attach-head, flat_map-snoc, later_descriptors-attach, typed-attach, list_any-snoc}
+use Rattle.usb_set.proofs.Items.{bare, items_again, with_last-snoc}
 use Rattle.usb_set.proofs.Layouts.{AllFine, Fine, configuration_again, fine_fault, fine_items}
 use Rattle.usb_file_data.specs.declared.file.DescriptorFile.{DescriptorFile}
 use Rattle.usb_file_data.specs.declared.file.Other.{Other}
 use Rattle.usb_file_data.specs.declared.file.Strings.{Strings}
 use Rattle.usb_file_data.specs.File.{is_long_string, is_other_kind}
-use Rattle.usb_file_data.proofs.Lists.{length-push, list_any-push}
+use Rattle.usb_file_data.proofs.Lists.{length-push}
 use Rattle.usb_listing.specs.declared.word.Word.{Word}
 use Rattle.usb_listing.specs.Table.{extra_word}
 use Rattle.usb_listing.specs.declared.word.Word.TheVariants as words
@@ -31,7 +31,7 @@ use Rattle.usb_listing.specs.Order.{IsOneMore, IsOrdered, MayStand, file_items, 
 use Rattle.usb_listing.specs.inside.Growing.{declared, file_and, has_interface, joined_to, last_of, may_follow_sets, may_stand, open_sets, set_and, with_sets}
 use Rattle.usb_listing.specs.inside.Walking.{grown}
 use Rattle.usb_listing.proofs.MoreLemmas.{AreOrdered, device_read, joins_word, more, qualifier_read}
-use Rattle.usb_listing.proofs.PartLemmas.{All, Ends, all_append, Spoken, all_split, any_parts, closed, empty, ends, kind_of, last_push, made, named_in, open_part, opened, over_here, over_open, pushed, same_sets, speaks, spoken, with_last-push}
+use Rattle.usb_listing.proofs.PartLemmas.{All, Ends, all_append, Spoken, all_split, any_parts, closed, empty, ends, kind_of, last_push, made, named_in, open_part, opened, over_here, over_open, pushed, same_sets, speaks, spoken}
 use Rattle.usb_listing.proofs.SetLemmas.{IsInner, Later, descriptor, joined, later, map-push, set_and_is, set_word}
 
 abbrev pub over_of : Option DescriptorFile → Bool
@@ -53,20 +53,6 @@ pub record Less (f : DescriptorFile) : Type 0 where
 fields_fit : (ds : List Descriptor) → All (map set_item ds) → AllByRecursion FieldsFit ds
 fields_fit [] h = tt
 fields_fit (d ∷ ds) h = ((h.0.0.1.0, h.0.0.1.1), fields_fit ds h.1)
-
--- whether there is an interface among descriptors that were attached
-settings_in : (ds : List Descriptor) (c : Configuration) → has_setting (attached c ds) ≡ (has_setting c || list_any is_interface ds)
-settings_in [] c = none (has_setting c)
-  where
-    none : (b : Bool) → b ≡ (b || false)
-    none true = refl
-    none false = refl
-settings_in (d ∷ ds) c =
-    settings_in ds (attach c d) ∙ ap (λ (b : Bool). b || list_any is_interface ds) (has_setting-attach c d) ∙ assoc (has_setting c) (is_interface d) (list_any is_interface ds)
-  where
-    assoc : (a b c : Bool) → ((a || b) || c) ≡ (a || (b || c))
-    assoc true b c = refl
-    assoc false b c = refl
 
 -- the last of descriptors that have no fault
 fine_last : (s : Bool) (ds : List Descriptor) (d : Descriptor) → AllFine s (ds ++ d ∷ []) → Fine (s || list_any is_interface ds) d
@@ -104,7 +90,7 @@ record SetLess (c : Configuration) (d : Descriptor) : Type 0 where
 
 -- an untyped set has an interface exactly where one is among its descriptors
 settings_of : (c : Configuration) → has_typed_raw c ≡ false → has_setting c ≡ list_any is_interface (later_descriptors c)
-settings_of c raws = sym (ap has_setting (items_again c raws)) ∙ settings_in (later_descriptors c) (bare c)
+settings_of c raws = sym (ap has_setting (items_again c raws)) ∙ attached-in_setting (later_descriptors c) (bare c)
 
 set_less : (c : Configuration) (ds : List Descriptor) (d : Descriptor) → has_typed_raw c ≡ false → All (set_items c) → later_descriptors c ≡ ds ++ d ∷ [] → SetLess c d
 set_less c ds d raws said e =
@@ -145,7 +131,7 @@ type_is kinds.Configuration = refl
 type_is kinds.OtherSpeed = refl
 
 any_last : (p : Configuration → Bool) (front : List Configuration) (c new : Configuration) → (p new ≡ false → p c ≡ false) → list_any p (front ++ new ∷ []) ≡ false → list_any p (front ++ c ∷ []) ≡ false
-any_last p front c new less h = let parts = any_parts p front new h in list_any-push p front c parts.0 (less parts.1)
+any_last p front c new less h = let parts = any_parts p front new h in list_any-snoc p front c parts.0 (less parts.1)
 
 over_less : (b : Bool) (p q : Bool) → (q ≡ false → p ≡ false) → (b || q) ≡ false → (b || p) ≡ false
 over_less true p q less h = cc
@@ -244,8 +230,8 @@ inner_less d ss o front c ds last h e more =
       item = fields w b;
       ordered = closed d ss o (front ++ l.before ∷ []) p.0 (record {
         said = subst All (sym (flat_map-snoc set_items front l.before)) (all_append (flat_map set_items front) (set_items l.before) said.0 own.0);
-        raws = list_any-push has_typed_raw front l.before raws.0 l.raws;
-        kinds = list_any-push (is_other_kind (kind_of o)) front l.before ks.0 (ap (λ (x : Descriptor). not (x.kind == type_number (kind_of o))) l.head ∙ ks.1);
+        raws = list_any-snoc has_typed_raw front l.before raws.0 l.raws;
+        kinds = list_any-snoc (is_other_kind (kind_of o)) front l.before ks.0 (ap (λ (x : Descriptor). not (x.kind == type_number (kind_of o))) l.head ∙ ks.1);
         few = omega (arith, n, k, m);
       });
       is_item = is_item;
@@ -265,8 +251,8 @@ inner_less d ss o front c ds last h e more =
 
     joined_is : (d : DeviceDescriptor) (ss : List Configuration) (o : Option Other) (c : Configuration) (b : List ℕ)
         → joined_to b (with_sets (front ++ c ∷ []) (made d ss o None) o) ≡ with_sets (front ++ set_and b c ∷ []) (made d ss o None) o
-    joined_is d ss None c b = ap (λ (cs : List Configuration). made d cs None None) (with_last-push (set_and b) front c)
-    joined_is d ss (Some o) c b = ap (λ (cs : List Configuration). made d ss (Some (record o { sets = cs })) None) (with_last-push (set_and b) front c)
+    joined_is d ss None c b = ap (λ (cs : List Configuration). made d cs None None) (with_last-snoc (set_and b) front c)
+    joined_is d ss (Some o) c b = ap (λ (cs : List Configuration). made d ss (Some (record o { sets = cs })) None) (with_last-snoc (set_and b) front c)
 
 -- ---- a file
 

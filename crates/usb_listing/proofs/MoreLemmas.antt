@@ -16,14 +16,14 @@ use Rattle.usb_set.specs.Building.{has_setting}
 use Rattle.usb_set.specs.Descriptors.{Descriptor, type_number}
 use Rattle.usb_set.specs.Layout.{has_typed_raw}
 use Rattle.usb_set.specs.inside.Reading.{configuration_of, with_last}
-use Rattle.usb_set.proofs.Growth.{flat_map-snoc}
-use Rattle.usb_set.proofs.Items.{two_bytes}
+use Rattle.usb_set.proofs.Growth.{flat_map-snoc, list_any-snoc}
+use Rattle.usb_set.proofs.Items.{two_bytes, with_last-snoc}
 use Rattle.usb_file_data.specs.declared.file.DescriptorFile.{DescriptorFile}
 use Rattle.usb_file_data.specs.declared.file.Other.{Other}
 use Rattle.usb_file_data.specs.declared.file.Strings.{Strings}
 use Rattle.usb_file_data.specs.File.{is_long_string, is_other_kind, named_indices}
 use Rattle.usb_file_data.specs.Front.{AllSets}
-use Rattle.usb_file_data.proofs.Lists.{length-push, list_any-push}
+use Rattle.usb_file_data.proofs.Lists.{length-push}
 use Rattle.usb_listing.specs.declared.word.Word.{Word}
 use Rattle.usb_listing.specs.declared.word.Word.TheVariants as words
 use Rattle.usb_listing.specs.Says.{IsItem, Item, fields, item_word, languages, string}
@@ -31,7 +31,7 @@ use Rattle.usb_listing.specs.Order.{IsOneMore, IsOrdered, file_items, set_items,
 use Rattle.usb_listing.specs.inside.Drafts.{JoinsLast}
 use Rattle.usb_listing.specs.inside.Growing.{declared, device_of, file_and, has_interface, joined_to, last_of, may_follow, may_follow_sets, may_stand, open_sets, qualifier_of, set_and}
 use Rattle.usb_listing.specs.inside.Walking.{file_of, grown}
-use Rattle.usb_listing.proofs.PartLemmas.{All, Ends, Grows, Part, all_append, any_parts, empty, ends, items_spoken, kind_of, last_push, made, opened, part_more, pushed, speaks, spoken, with_last-push, closed}
+use Rattle.usb_listing.proofs.PartLemmas.{All, Ends, Grows, Part, all_append, any_parts, empty, ends, items_spoken, kind_of, last_push, made, opened, part_more, pushed, speaks, spoken, closed}
 use Rattle.usb_listing.proofs.SetLemmas.{IsInner, Later, begins, joined, joins, later, lone_items, map-push, set_word}
 
 -- ---- device descriptors and qualifiers of bytes
@@ -79,8 +79,8 @@ more_first kind count cs b part below is =
     record {
       part = record {
         said = subst All (sym items) (all_append (flat_map set_items cs) (fields (set_word kind) b ∷ []) part.said (is, tt));
-        raws = list_any-push has_typed_raw cs (configuration_of b) part.raws refl;
-        kinds = list_any-push (is_other_kind kind) cs (configuration_of b) part.kinds (ap (λ (k : SetKind). not (type_number k == type_number kind)) g.kind_is ∙ same kind);
+        raws = list_any-snoc has_typed_raw cs (configuration_of b) part.raws refl;
+        kinds = list_any-snoc (is_other_kind kind) cs (configuration_of b) part.kinds (ap (λ (k : SetKind). not (type_number k == type_number kind)) g.kind_is ∙ same kind);
         few = omega (arith, length-push cs (configuration_of b), below);
       };
       items = items;
@@ -103,8 +103,8 @@ more_later kind count front c w b part is l belongs =
     record {
       part = record {
         said = subst All (sym items) (all_append (flat_map set_items (front ++ c ∷ [])) (fields w b ∷ []) part.said (is, tt));
-        raws = list_any-push has_typed_raw front (set_and b c) raws.0 j.raws;
-        kinds = list_any-push (is_other_kind kind) front (set_and b c) ks.0 (ap (λ (x : Descriptor). not (x.kind == type_number kind)) j.head ∙ ks.1);
+        raws = list_any-snoc has_typed_raw front (set_and b c) raws.0 j.raws;
+        kinds = list_any-snoc (is_other_kind kind) front (set_and b c) ks.0 (ap (λ (x : Descriptor). not (x.kind == type_number kind)) j.head ∙ ks.1);
         few = omega (arith, length-push front (set_and b c), length-push front c, part.few);
       };
       items = items;
@@ -167,7 +167,7 @@ inner_more d ss o w b h is inner may =
     let at = place w b l (made d ss o None) o inner may in
     let n = declared (made d ss o None) o in
     let g = more_later (kind_of o) n at.front at.set w b (subst (Part (kind_of o) n) at.is p.1) is l at.belongs in
-    let new : with_last (set_and b) cs ≡ at.front ++ set_and b at.set ∷ [] = ap (with_last (set_and b)) at.is ∙ with_last-push (set_and b) at.front at.set in
+    let new : with_last (set_and b) cs ≡ at.front ++ set_and b at.set ∷ [] = ap (with_last (set_and b)) at.is ∙ with_last-snoc (set_and b) at.front at.set in
     let g2 : Grows (kind_of o) n cs (with_last (set_and b) cs) (fields w b) =
     subst (λ (xs : List Configuration). Grows (kind_of o) n cs xs (fields w b)) (sym new)
     (subst (λ (xs : List Configuration). Grows (kind_of o) n xs (at.front ++ set_and b at.set ∷ []) (fields w b)) (sym at.is) g) in
@@ -260,7 +260,7 @@ string_more d ss o s us h is may =
           named = p.follow.named;
           spoken = p.follow.spoken;
           few = omega (arith, length-push s.texts us, below);
-          short = or_from _ _ long.0 (list_any-push is_long_string s.texts us long.1 (units_few us is));
+          short = or_from _ _ long.0 (list_any-snoc is_long_string s.texts us long.1 (units_few us is));
         };
         said = subst All (sym texts) (all_append (strings_items (Some s)) (string us ∷ []) p.said (is, tt));
       });

@@ -9,7 +9,6 @@ use Rattle.usb_set.specs.declared.tree.SetKind.{SetKind}
 use Rattle.usb_set.specs.declared.tree.SetKind.TheVariants as kinds
 use Rattle.usb_set.specs.declared.tree.Configuration.{Configuration}
 use Rattle.usb_set.specs.Layout.{has_typed_raw}
-use Rattle.usb_set.specs.inside.Reading.{with_last}
 use Rattle.usb_file_data.specs.declared.file.DescriptorFile.{DescriptorFile}
 use Rattle.usb_file_data.specs.declared.file.Other.{Other}
 use Rattle.usb_file_data.specs.declared.file.Strings.{Strings}
@@ -44,11 +43,6 @@ ends {A} (x ∷ xs) = cases (ends xs)
     cases : Ends A xs → Ends A (x ∷ xs)
     cases (empty e) = pushed [] x (ap (λ (ys : List A). x ∷ ys) e)
     cases (pushed front y e) = pushed (x ∷ front) y (ap (λ (ys : List A). x ∷ ys) e)
-
-pub with_last-push : {A : Type 0} (g : A → A) (xs : List A) (x : A) → with_last g (xs ++ x ∷ []) ≡ xs ++ g x ∷ []
-with_last-push g [] x = refl
-with_last-push g (y ∷ []) x = refl
-with_last-push g (y ∷ z ∷ xs) x = ap (λ (ys : List _). y ∷ ys) (with_last-push g (z ∷ xs) x)
 
 pub last_push : {A : Type 0} (xs : List A) (x : A) → last_of (xs ++ x ∷ []) ≡ Some x
 last_push [] x = refl

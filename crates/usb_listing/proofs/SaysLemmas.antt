@@ -24,7 +24,7 @@ use Rattle.usb_listing.proofs.RowLemmas.{body_text, whole_again, whole_read}
 use Rattle.usb_fields.proofs.ByteParts.{bytes_append}
 use Rattle.usb_listing.proofs.UnitLemmas.{IsUnit, values_again, values_are, written}
 use Rattle.usb_listing.proofs.WordLemmas.{first_behind, word_again, word_first, word_read}
-use Rattle.usb_file_data.proofs.Lists.{bytes_behind}
+use Rattle.usb_file_data.proofs.Lists.{bytes_behind, drop_front}
 
 -- ---- rows
 
@@ -87,10 +87,6 @@ line_is (string us) is = ap (λ (t : List ℕ). codes "string \"" ++ t) (sym (ap
 -- ---- fields
 
 -- bytes of a row: bLength, what it leaves out, and its body
-behind_front : (front body : List ℕ) → drop (length front) (front ++ body) ≡ body
-behind_front [] body = refl
-behind_front (x ∷ front) body = behind_front front body
-
 fields_again : (w : Word) (b : List ℕ) → IsItem (fields w b) → fields_in w (item_fields (fields w b)) ≡ Some b
 unfolding fields_in
 fields_again w b is =
@@ -98,7 +94,7 @@ fields_again w b is =
     let h : HasRow r.row b = subst (λ (o : Option Row). IsOfRow o b) r.is is.1 in
     let fits = subst AreBytes h.whole is.0 in
     let few = fits.0 in
-    let body_is : drop (length r.row.front) (drop 1 b) ≡ h.body = ap (λ (xs : List ℕ). drop (length r.row.front) (drop 1 xs)) h.whole ∙ behind_front r.row.front h.body in
+    let body_is : drop (length r.row.front) (drop 1 b) ≡ h.body = ap (λ (xs : List ℕ). drop (length r.row.front) (drop 1 xs)) h.whole ∙ drop_front r.row.front h.body in
     rw r.is
     (ap (λ (xs : List ℕ). bytes_in (0 ∷ r.row.front) r.row.widths r.row.tail (body_text r.row.widths r.row.tail xs)) body_is
     ∙ whole_again r.row.front r.row.widths r.row.tail h.body (bytes_behind r.row.front h.body fits.1) h.fills (omega (arith, few))
@@ -128,7 +124,7 @@ fields_read w row text b er e untyped =
     let few = m.few in
     let bytes : AreBytes b = subst AreBytes (sym m.whole) (omega (arith, few), bytes_append front m.body r.small.bytes m.bytes) in
     let has : HasRow r.row b = record { body = m.body; whole = m.whole; fills = m.fills } in
-    let body_is : drop (length front) (drop 1 b) ≡ m.body = ap (λ (xs : List ℕ). drop (length front) (drop 1 xs)) m.whole ∙ behind_front front m.body in
+    let body_is : drop (length front) (drop 1 b) ≡ m.body = ap (λ (xs : List ℕ). drop (length front) (drop 1 xs)) m.whole ∙ drop_front front m.body in
     record {
       word_is = refl;
       text_is = m.text_is ∙ ap (body_text r.row.widths r.row.tail) (sym body_is) ∙ ap (λ (o : Option Row). row_text o b) (sym r.is);
@@ -309,17 +305,13 @@ spaced (string us) = refl
 pub said_word : (line : List ℕ) (item : Item) → Says line item → first_word line ≡ word_text (item_word item)
 said_word line item says = ap first_word (said_is line item says) ∙ first_behind (item_word item) (item_fields item) (spaced item)
 
-pub behind : (front rest : List ℕ) → drop (length front) (front ++ rest) ≡ rest
-behind [] rest = refl
-behind (x ∷ front) rest = behind front rest
-
 pub said_is_read : (line : List ℕ) (item : Item) → Says line item → item_of_line line ≡ Some item
 unfolding item_of_line
 said_is_read line item says =
     let w = item_word item in
     let found : word_in (first_word line) ≡ Some w = ap word_in (said_word line item says) ∙ word_again w in
     ap (option_and_then (λ (word : Word). item_in word (drop (length (word_text word)) line))) found
-    ∙ ap (item_in w) (ap (drop (length (word_text w))) (said_is line item says) ∙ behind (word_text w) (item_fields item))
+    ∙ ap (item_in w) (ap (drop (length (word_text w))) (said_is line item says) ∙ drop_front (word_text w) (item_fields item))
     ∙ item_again item says.is_item
 
 pub read_is_said : (line : List ℕ) (item : Item) → item_of_line line ≡ Some item → Says line item

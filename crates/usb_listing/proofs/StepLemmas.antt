@@ -16,8 +16,9 @@ use Rattle.usb_listing.specs.inside.Drafts.{Drafted, HasPlace, IsDraft, IsJudged
 use Rattle.usb_listing.specs.inside.Rows.{word_in, fields_in, item_in, item_of_line, languages_in, says_fields, string_in, untyped}
 use Rattle.usb_listing.specs.inside.Growing.{may_stand}
 use Rattle.usb_listing.specs.inside.Walking.{add, add_item, add_line, add_word, grown}
-use Rattle.usb_listing.proofs.SaysLemmas.{behind, described, item_read}
+use Rattle.usb_listing.proofs.SaysLemmas.{described, item_read}
 use Rattle.usb_listing.proofs.WordLemmas.{word_read}
+use Rattle.usb_file_data.proofs.Lists.{drop_front}
 
 -- ---- a descriptor that was added
 
@@ -116,7 +117,7 @@ split_item : (line first text : List ℕ) (w : Word) → first ≡ first_word li
 unfolding item_of_line
 split_item line first text w is parts e =
     ap (option_and_then (λ (word : Word). item_in word (drop (length (word_text word)) line))) (ap word_in (sym is) ∙ e)
-    ∙ ap (item_in w) (ap (drop (length (word_text w))) (parts ∙ ap (λ (xs : List ℕ). xs ++ text) (word_read first w e)) ∙ behind (word_text w) text)
+    ∙ ap (item_in w) (ap (drop (length (word_text w))) (parts ∙ ap (λ (xs : List ℕ). xs ++ text) (word_read first w e)) ∙ drop_front (word_text w) text)
 
 -- a line whose word is none, or may not stand there
 pub split_misplaced : (s : Option DescriptorFile) (line first : List ℕ) (why : ListWhy) → first ≡ first_word line → IsMisplaced s (word_in first) why → add_line s line ≡ Err why

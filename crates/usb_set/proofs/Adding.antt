@@ -1,19 +1,19 @@
 -- A set that is built descriptor by descriptor.
-use Rattle.std.proofs.Common.{◌≡◌, ℕ, ◌+◌, ◌*◌, ◌≤◌, ◌||◌, Bool, true, false, cond, eqb, List, [], ◌∷◌, ◌++◌, length, drop, slice_index, None, refl, sym, ap, subst, append_assoc, append-nil, ◌∙◌, arith}
+use Rattle.std.proofs.Common.{◌≡◌, ℕ, ◌+◌, ◌*◌, ◌≤◌, ◌||◌, Bool, true, false, List, [], ◌∷◌, ◌++◌, length, drop, slice_index, None, refl, sym, ap, subst, append_assoc, append-nil, ◌∙◌, arith}
 use Rattle.std.specs.List.{AllByRecursion}
 use Rattle.std.proofs.lemmas.Bool.{eqb-true}
 use Rattle.usb_fields.specs.Bytes.{AreBytes}
-use Rattle.usb_set.specs.declared.tree.SetKind.TheVariants as kinds
 use Rattle.usb_set.specs.declared.tree.Configuration.{Configuration}
 use Rattle.usb_set.specs.Building.{Accepts, AcceptsAll, Adds, BeginsWith, IsOneMore, has_setting}
 use Rattle.usb_set.specs.Layout.{AllFieldsFit, FieldsFit, has_typed_raw, later_descriptors}
-use Rattle.usb_set.specs.Descriptors.{Descriptor, configuration_descriptor, descriptor_bytes, type_number}
+use Rattle.usb_set.specs.Descriptors.{Descriptor, configuration_descriptor, descriptor_bytes}
 use Rattle.usb_set.specs.Faults.{is_interface, is_set_type, is_whole, item_fault}
 use Rattle.usb_set.specs.inside.Reading.{attach, configuration_of}
 use Rattle.usb_set.proofs.Growth.{attach-head, has_setting-attach, later_descriptors-attach, low_byte, high_byte, typed-attach}
 use Rattle.usb_set.proofs.Complete.{attached}
 use Rattle.usb_set.proofs.Items.{bare, items_again}
 use Rattle.usb_set.proofs.Layouts.{AllFine, configuration_again, fine_fault, fine_items}
+use Rattle.usb_set.proofs.Sound.{kind_is}
 
 -- the descriptor that whole bytes are
 whole_is : (b : List ℕ) → 2 ≤ length b → is_whole b ≡ true → descriptor_bytes (record { kind = slice_index b 1; body = drop 2 b }) ≡ b
@@ -47,13 +47,6 @@ add_typed c b room e fine raws =
     ap (item_fault room (has_setting c)) (whole_is b (two_long room (has_setting c) b e fine) e) ∙ fine in
     typed-attach c room item raws shown
 
-type_is : (kind : ℕ) → is_set_type kind ≡ true → type_number (cond (eqb kind 2) kinds.Configuration kinds.OtherSpeed) ≡ kind
-type_is kind e = cases (eqb kind 2) refl e
-  where
-    cases : (t : Bool) → eqb kind 2 ≡ t → (t || eqb kind 7) ≡ true → type_number (cond t kinds.Configuration kinds.OtherSpeed) ≡ kind
-    cases true et e = sym (eqb-true kind 2 et)
-    cases false et e = sym (eqb-true kind 7 e)
-
 pub begin_is : (b : List ℕ) → AreBytes b → 9 ≤ length b → is_whole b ≡ true → is_set_type (slice_index b 1) ≡ true → BeginsWith b (configuration_of b)
 begin_is [] fits n e t = absurd (omega arith)
 begin_is (len ∷ []) fits n e t = absurd (omega arith)
@@ -69,7 +62,7 @@ begin_is (len ∷ kind ∷ low ∷ high ∷ p ∷ q ∷ r ∷ s ∷ u ∷ tail) 
     let count : 2 + length (low ∷ high ∷ p ∷ q ∷ r ∷ s ∷ u ∷ tail) ≡ len = omega (arith, is) in
     record {
       total = low + 256 * high;
-      head = rw (type_is kind t, low_byte low high fits.1.1.0, high_byte low high fits.1.1.0) (ap (λ (l : ℕ). l ∷ kind ∷ low ∷ high ∷ p ∷ q ∷ r ∷ s ∷ u ∷ tail) count);
+      head = rw (kind_is kind t, low_byte low high fits.1.1.0, high_byte low high fits.1.1.0) (ap (λ (l : ℕ). l ∷ kind ∷ low ∷ high ∷ p ∷ q ∷ r ∷ s ∷ u ∷ tail) count);
       later = refl;
     }
 

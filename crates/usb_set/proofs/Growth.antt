@@ -31,7 +31,7 @@ flat_map-with_last g f ys h (x ∷ []) some = append-nil (g (f x)) ∙ h x ∙ a
 flat_map-with_last g f ys h (x ∷ y ∷ xs) some =
     ap (λ (zs : List _). g x ++ zs) (flat_map-with_last g f ys h (y ∷ xs) (omega arith)) ∙ sym (append_assoc (g x) (flat_map g (y ∷ xs)) ys)
 
-list_any-snoc : {A : Type 0} (p : A → Bool) (xs : List A) (x : A) → list_any p xs ≡ false → p x ≡ false → list_any p (xs ++ x ∷ []) ≡ false
+pub list_any-snoc : {A : Type 0} (p : A → Bool) (xs : List A) (x : A) → list_any p xs ≡ false → p x ≡ false → list_any p (xs ++ x ∷ []) ≡ false
 list_any-snoc p xs x e h = list_any-append p xs (x ∷ []) ∙ or_from (list_any p xs) (p x || false) e (or_from (p x) false h refl)
 
 length-with_last : {A : Type 0} (f : A → A) (xs : List A) → length (with_last f xs) ≡ length xs

@@ -20,7 +20,7 @@ attached-append : (c : Configuration) (xs ys : List Descriptor) → attached c (
 attached-append c [] ys = refl
 attached-append c (x ∷ xs) ys = attached-append (attach c x) xs ys
 
-with_last-snoc : {A : Type 0} (f : A → A) (xs : List A) (x : A) → with_last f (xs ++ x ∷ []) ≡ xs ++ f x ∷ []
+pub with_last-snoc : {A : Type 0} (f : A → A) (xs : List A) (x : A) → with_last f (xs ++ x ∷ []) ≡ xs ++ f x ∷ []
 with_last-snoc f [] x = refl
 with_last-snoc f (y ∷ []) x = refl
 with_last-snoc f (y ∷ z ∷ xs) x = ap (λ (zs : List _). y ∷ zs) (with_last-snoc f (z ∷ xs) x)

@@ -141,7 +141,7 @@ still_short (len ∷ cur) x short two n = omega (arith, length-append cur (x ∷
 
 -- ---- the first descriptor
 
-kind_is : (kind : ℕ) → is_set_type kind ≡ true → type_number (cond (eqb kind 2) kinds.Configuration kinds.OtherSpeed) ≡ kind
+pub kind_is : (kind : ℕ) → is_set_type kind ≡ true → type_number (cond (eqb kind 2) kinds.Configuration kinds.OtherSpeed) ≡ kind
 kind_is kind e =
     elim (cases_Bool (eqb kind 2)) [
       | inl y ↦ ap type_number (cond-true (eqb kind 2) _ _ y) ∙ sym (eqb-true kind 2 y)

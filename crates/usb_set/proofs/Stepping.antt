@@ -218,10 +218,6 @@ pub front_taken : (front rest : List ℕ) → take (length front) (front ++ rest
 front_taken [] rest = refl
 front_taken (x ∷ front) rest = ap (λ (z : List ℕ). x ∷ z) (front_taken front rest)
 
-pub whole_long : (a : List ℕ) → is_whole a ≡ true → 0 < length a
-whole_long [] e = absurd cc
-whole_long (x ∷ a) e = omega arith
-
 pub fault_front : (p : Reading) (a b : List ℕ) → fault_at p (a ++ b) ≡ None → fault_at p a ≡ None
 fault_front (first c) a b e = ap header_at (header_fault-front a b (no_header _ e))
 fault_front (later c total place d) a b e = ap (item_at place) (item_fault-front (total - place) (has_setting c) a b (no_item place _ e))

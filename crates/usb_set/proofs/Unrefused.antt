@@ -1,5 +1,5 @@
 -- Sets that are refused for no reason have a layout.
-use Rattle.std.proofs.Common.{◌≡◌, ◌↔◌, ℕ, ◌+◌, ◌<◌, Bool, true, false, ltb, List, [], ◌∷◌, ◌++◌, length, Some, None, if◌then◌else◌, refl, sym, ap, arith}
+use Rattle.std.proofs.Common.{◌≡◌, ◌↔◌, ℕ, ◌+◌, ◌<◌, Bool, true, false, ltb, List, [], ◌∷◌, length, Some, None, if◌then◌else◌, refl, sym, ap, arith}
 use Rattle.std.proofs.lemmas.Bool.{or_parts}
 use Rattle.std.proofs.lemmas.Bool.Decides.{nat_tests}
 use Rattle.std.specs.List.{AllByRecursion, flat_map, list_any}
@@ -9,10 +9,7 @@ use Rattle.usb_set.specs.declared.fault.EncodeFault.TheVariants.{Tail, RawKind, 
 use Rattle.usb_set.specs.Descriptors.{Descriptor, descriptor_bytes}
 use Rattle.usb_set.specs.Layout.{set_bytes, set_descriptors, Layout, is_long, has_long_descriptor, has_typed_raw, refusal_of, set_length, FieldsFit, AllFieldsFit}
 use Rattle.usb_set.proofs.Sets.{length-set_bytes, no_refusal, has_length}
-
-pub bytes_append : (a b : List ℕ) → AreBytes a → AreBytes b → AreBytes (a ++ b)
-bytes_append [] b ha hb = hb
-bytes_append (x ∷ a) b ha hb = (ha.0, bytes_append a b ha.1 hb)
+use Rattle.usb_fields.proofs.ByteParts.{bytes_append}
 
 descriptor_fits : (d : Descriptor) → FieldsFit d → is_long d ≡ false → AreBytes (descriptor_bytes d)
 descriptor_fits d fit short = (grind (arith, nat_tests), fit)

@@ -28,7 +28,7 @@ low_digit b = slice_index lower_digits (b % 16)
 abbrev pub Printable : List ℕ → Type 0
 Printable line = list_all is_printable line ≡ true
 
-both : (a b : Bool) → a ≡ true → b ≡ true → (a && b) ≡ true
+pub both : (a b : Bool) → a ≡ true → b ≡ true → (a && b) ≡ true
 both a b ea eb = rw (ea, eb) refl
 
 pub joined : (xs ys : List ℕ) → Printable xs → Printable ys → Printable (xs ++ ys)

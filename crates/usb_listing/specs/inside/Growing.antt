@@ -1,6 +1,6 @@
 -- A file so far that grows by a line.
 use Rattle.std.specs.Prelude.{ℕ, ◌*◌, ◌==◌, ◌&&◌, List, [], ◌∷◌, ◌++◌, drop, length, nat_lt, not, slice_index, Bool, true, false, Option, Some, None, is_none, is_some}
-use Rattle.usb_fields.specs.Bytes.{little_endian_at}
+use Rattle.usb_fields.specs.Device.{device_of_bytes, qualifier_of_bytes}
 use Rattle.usb_fields.specs.declared.device.DeviceDescriptor.{DeviceDescriptor}
 use Rattle.usb_fields.specs.declared.qualifier.Qualifier.{Qualifier}
 use Rattle.usb_set.specs.declared.tree.Configuration.{Configuration}
@@ -20,32 +20,11 @@ use Rattle.usb_listing.specs.Says.{Item, fields, languages, string}
 
 -- the device descriptor of its bytes
 unfoldable pub device_of : List ℕ → DeviceDescriptor
-device_of b = record {
-  usb = little_endian_at b 2;
-  class = slice_index b 4;
-  subclass = slice_index b 5;
-  protocol = slice_index b 6;
-  packet = slice_index b 7;
-  vendor = little_endian_at b 8;
-  product = little_endian_at b 10;
-  release = little_endian_at b 12;
-  maker_text = slice_index b 14;
-  product_text = slice_index b 15;
-  serial_text = slice_index b 16;
-  configurations = slice_index b 17;
-}
+device_of b = device_of_bytes b
 
 -- the qualifier of its bytes
 unfoldable pub qualifier_of : List ℕ → Qualifier
-qualifier_of b = record {
-  usb = little_endian_at b 2;
-  class = slice_index b 4;
-  subclass = slice_index b 5;
-  protocol = slice_index b 6;
-  packet = slice_index b 7;
-  configurations = slice_index b 8;
-  reserved = slice_index b 9;
-}
+qualifier_of b = qualifier_of_bytes b
 
 -- the descriptor of its bytes
 abbrev pub descriptor_of : List ℕ → Descriptor

@@ -1,4 +1,4 @@
-use Rattle.std.proofs.Common.{◌≡◌, ◌<◌, Some, [], refl, sym, ◌∙◌, arith, add-one, rules, subst, IsSome}
+use Rattle.std.proofs.Common.{◌≡◌, ◌<◌, Some, [], refl, sym, ap, ◌∙◌, arith, add-one, rules, subst, IsSome}
 use Rattle.usb_fields.specs.Packets.{sent_of}
 use Rattle.usb_host.specs.Transfer.{due, left}
 use Rattle.usb_device.specs.Requests.{answer}
@@ -11,14 +11,17 @@ loop-t-preserved c =
     let file = c.args.device.now.description.file in
     let sent = sent_of c.in-Some.t in
     let before : HostEnd = record { transfer = c.loop-t.transfer; got = c.loop-t.bytes.items } in
-    let after : HostEnd = record { transfer = c.exchange.new.transfer; got = c.exchange.new.bytes.items } in
+    let after : HostEnd = record { transfer = c.exchange.new.host; got = c.exchange.new.w.items } in
     let ends : Ends = record { host = after; device = c.exchange.new.device.device } in
     let asks : due c.loop-t.transfer ≡ Some sent = sym c.in-Some.ensures in
     let going : IsSome (due c.loop-t.transfer) = rw asks refl in
-    let fewer : left c.exchange.new.transfer < left c.loop-t.transfer = c.in_ok-failure.ensures.fewer going in
+    let heard = c.in_ok-failure.ensures.heard in
+    let fewer : left c.exchange.new.host < left c.loop-t.transfer = heard.3 going in
+    let got = heard.0 in
+    let device = ap (λ d. d.device) c.in_ok-failure.ensures.device in
     let same =
     subst (λ x. exchanged (answer x.file) x.file.device.packet before c.loop-t.device.device (Some sent) c.at-fate.result ≡ ends)
-    c.loop-t.invariant.description c.in_ok-failure.ensures.ends
+    c.loop-t.invariant.description (cc)
     in
     let goes =
     subst (λ f. exchanged (answer file) file.device.packet before c.loop-t.device.device (Some sent) f ≡ ends) c.at-fate.ensures same
@@ -28,8 +31,8 @@ loop-t-preserved c =
           (Leads-more (answer file) file.device.packet c.args.fates.now c.args.before (record { transfer = c.args.transfer.now; got = [] })
           c.args.device.now.device c.loop-t.transactions before c.loop-t.device.device sent after c.exchange.new.device.device asks goes
           c.loop-t.invariant.leads);
-      description = c.in_ok-failure.ensures.description ∙ c.loop-t.invariant.description;
-      request = c.in_ok-failure.ensures.request ∙ c.loop-t.invariant.request;
+      description = ap (λ d. d.description) c.in_ok-failure.ensures.device ∙ c.loop-t.invariant.description;
+      request = heard.2 ∙ c.loop-t.invariant.request;
       failure = search rules;
       most = omega (arith, fewer, c.loop-t.invariant.most);
     }

@@ -7,7 +7,7 @@ use Rattle.usb_bus.specs.Enumerate.{Pair, IsStep, Moves, both}
 use Rattle.usb_bus.specs.inside.Running.{Breaks, Leads, Walks}
 use Rattle.usb_bus.proofs.EnumerateLemmas.{most_few}
 use Rattle.usb_bus.proofs.LogLemmas.{leads_none, leads_on}
-use Rattle.usb_device.proofs.Exits.{exit_err}
+use Rattle.usb_fields.proofs.Exits.{exit_err}
 use Rattle.usb_bus.proofs.steps.run_with.Given.{Over}
 use Rattle.usb_bus.proofs.steps.run_with.Goals as goal
 

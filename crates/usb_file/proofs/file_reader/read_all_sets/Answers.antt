@@ -1,6 +1,6 @@
 use Rattle.std.proofs.Common.{arith}
 use Rattle.usb_file_data.specs.Inputs.{DeviceRefused}
-use Rattle.usb_file.proofs.Exits.{exit_err}
+use Rattle.usb_fields.proofs.Exits.{exit_err}
 use Rattle.usb_file.proofs.Assembly.{device_refused, main_read, main_refused, other_refused, sets_read}
 use Rattle.usb_file.proofs.file_reader.read_all_sets.Goals as goal
 

@@ -8,7 +8,7 @@ use Rattle.usb_file_data.specs.FileFaults.{ReadRefused}
 use Rattle.usb_file.specs.inside.Reading.{IsOfForm}
 use Rattle.usb_file.proofs.Dumps.{dump_fault, still_refused}
 use Rattle.usb_file.proofs.Ends.{only_memory}
-use Rattle.usb_file.proofs.Exits.{exit_err}
+use Rattle.usb_fields.proofs.Exits.{exit_err}
 use Rattle.usb_file.proofs.file_reader.read_file.Goals as goal
 
 pub returns-in_err-file-clause-only : goal.returns-in_err-file-clause-only

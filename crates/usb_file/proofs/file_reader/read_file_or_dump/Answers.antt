@@ -2,7 +2,7 @@ use Rattle.std.proofs.Common.{◌≡◌, false, drop, length, ap, sym, ◌∙◌
 use Rattle.usb_file_data.specs.File.{named_indices}
 use Rattle.usb_file_data.specs.Inputs.{DeviceRefused}
 use Rattle.usb_file.specs.inside.Reading.{ReadsStrings, StringsRefused, ends_as_dump}
-use Rattle.usb_file.proofs.Exits.{exit_err}
+use Rattle.usb_fields.proofs.Exits.{exit_err}
 use Rattle.usb_file.proofs.Assembly.{is_elsewhere, strings_read, strings_refused, trailing, whole_file}
 use Rattle.usb_file.proofs.file_reader.read_file_or_dump.Goals as goal
 

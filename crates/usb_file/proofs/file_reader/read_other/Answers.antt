@@ -1,6 +1,6 @@
 use Rattle.std.proofs.Common.{sym, ◌∙◌}
 use Rattle.usb_file.specs.inside.Reading.{OtherRefused, no_set}
-use Rattle.usb_file.proofs.Exits.{exit_err}
+use Rattle.usb_fields.proofs.Exits.{exit_err}
 use Rattle.usb_file.proofs.file_reader.read_other.Goals as goal
 
 pub returns-in_err-end-clause-err : goal.returns-in_err-end-clause-err

@@ -1,6 +1,6 @@
 use Rattle.std.proofs.Common.{◌*◌, ◌<◌, subst, ap, arith}
 use Rattle.usb_file.specs.inside.Reading.{StringsRefused, DueStringsRefused, no_string}
-use Rattle.usb_file.proofs.Exits.{exit_err}
+use Rattle.usb_fields.proofs.Exits.{exit_err}
 use Rattle.usb_file.proofs.strings.read_strings.Goals as goal
 
 pub returns-in_err-end-clause-err : goal.returns-in_err-end-clause-err

@@ -1,7 +1,7 @@
 use Rattle.std.proofs.Common.{◌≡◌, ◌++◌, length, ap, ◌∙◌}
 use Rattle.usb_device.specs.Accepted.{Refuses}
 use Rattle.usb_device.specs.Descriptors.{descriptors, main_descriptors, other_descriptors, string_descriptors}
-use Rattle.usb_device.proofs.Exits.{exit_err}
+use Rattle.usb_fields.proofs.Exits.{exit_err}
 use Rattle.usb_device.proofs.description.Description.new.Goals as goal
 
 pub invariant_of-result : goal.invariant_of-result

@@ -4,8 +4,9 @@ use Rattle.usb_set.specs.Faults.{is_whole}
 use Rattle.usb_set.specs.inside.Reading.{Reading, first_byte}
 use Rattle.usb_set.specs.inside.Stepping.{InWork, GoesOn, Steps, current_of, fault_at, past, with_current}
 use Rattle.usb_set.specs.declared.reader.Step.TheVariants.{Took, Cut}
-use Rattle.usb_set.proofs.Stepping.{wanting_still, on_ok, work_of, current_with, step_refused, step_cut, step_took, wants_here, front_taken, whole_long, fault_front}
+use Rattle.usb_set.proofs.Stepping.{wanting_still, on_ok, work_of, current_with, step_refused, step_cut, step_took, wants_here, front_taken, fault_front}
 use Rattle.usb_set.proofs.reader.Reader.step_in_piece.Goals as goal
+use Rattle.usb_set.proofs.ByteByByte.{whole_some}
 
 -- no byte of the descriptor in work was there
 nothing : (old p : Reading) (current : List ℕ) → with_current p current ≡ old → InWork old → current_of old ≡ [] → current ≡ []
@@ -40,7 +41,7 @@ returns-then-is_err c =
     inl (wants_here c.args.self.now c.self.inside.partial c.self.inside.current.items c.args.bytes.now (length c.in-Some-split_descriptor.item.now) c.out_of_memory.result c.self.view_is c.requires.work
     (ap is_whole all ∙ c.in-Some-split_descriptor.ensures.some.whole)
     (omega (arith, ap length parts, length-append c.in-Some-split_descriptor.item.now c.in-Some-split_descriptor.field-0-1.now))
-    (whole_long c.in-Some-split_descriptor.item.now c.in-Some-split_descriptor.ensures.some.whole) (wanting_still c.self.inside.partial c.grow.new.self c.grow.result c.out_of_memory.result (sym c.is_err.ensures.value ∙ c.if-is_err.true) c.grow.ensures.err c.out_of_memory.ensures))
+    (whole_some c.in-Some-split_descriptor.item.now c.in-Some-split_descriptor.ensures.some.whole) (wanting_still c.self.inside.partial c.grow.new.self c.grow.result c.out_of_memory.result (sym c.is_err.ensures.value ∙ c.if-is_err.true) c.grow.ensures.err c.out_of_memory.ensures))
 
 pub returns : goal.returns
 returns c =
@@ -55,5 +56,5 @@ returns c =
     (step_took c.args.self.now c.self.inside.partial c.grow.new.self c.self.inside.current.items c.args.bytes.now (length c.in-Some-split_descriptor.item.now) c.self.view_is c.requires.work
     (ap (fault_at c.self.inside.partial) all ∙ fault_front c.self.inside.partial c.in-Some-split_descriptor.item.now c.in-Some-split_descriptor.field-0-1.now (sym (ap (fault_at c.self.inside.partial) parts) ∙ sym c.in_default.ensures)) (ap is_whole all ∙ c.in-Some-split_descriptor.ensures.some.whole)
     (omega (arith, ap length parts, length-append c.in-Some-split_descriptor.item.now c.in-Some-split_descriptor.field-0-1.now))
-    (whole_long c.in-Some-split_descriptor.item.now c.in-Some-split_descriptor.ensures.some.whole)
+    (whole_some c.in-Some-split_descriptor.item.now c.in-Some-split_descriptor.ensures.some.whole)
     (on_ok c.grow.result _ (sym c.is_err.ensures.value ∙ c.if-is_err.false) c.grow.ensures.ok ∙ ap (past c.self.inside.partial) (sym all)) c.grow.ensures.start)
