@@ -1,6 +1,7 @@
 pub mod Columns
 pub mod Decimals
 pub mod Printables
+pub mod LineWords
 pub mod Pages
 pub mod Items
 pub mod Apart
