@@ -34,17 +34,17 @@ line_counts utf8 (x ∷ xs) h =
     sum_by-cons (λ y. cond (is_line_feed y) 1 0) x xs ∙ rw (no_feed utf8 x p.0, line_counts utf8 xs p.1) refl
 
 -- lines, with bytes of a line put after them
-put_fits : (utf8 : Bool) (old more : List ℕ) → list_all (is_of_lines utf8) old ≡ true → list_all (is_of_line utf8) more ≡ true
+pub put_fits : (utf8 : Bool) (old more : List ℕ) → list_all (is_of_lines utf8) old ≡ true → list_all (is_of_line utf8) more ≡ true
     → list_all (is_of_lines utf8) (old ++ more) ≡ true
 put_fits utf8 old more h k = list_all-append (is_of_lines utf8) old more ∙ rw (h, line_fits utf8 more k) refl
 
-put_counts : (utf8 : Bool) (old more : List ℕ) → list_all (is_of_line utf8) more ≡ true
+pub put_counts : (utf8 : Bool) (old more : List ℕ) → list_all (is_of_line utf8) more ≡ true
     → count_by is_line_feed (old ++ more) ≡ count_by is_line_feed old
 put_counts utf8 old more k =
     sum_by-append (λ y. cond (is_line_feed y) 1 0) old more ∙ rw (line_counts utf8 more k, add-zero) refl
 
 -- words are of a line
-words_of_line : (utf8 : Bool) (xs : List ℕ) → is_words xs ≡ true → list_all (is_of_line utf8) xs ≡ true
+pub words_of_line : (utf8 : Bool) (xs : List ℕ) → is_words xs ≡ true → list_all (is_of_line utf8) xs ≡ true
 words_of_line utf8 [] h = refl
 words_of_line utf8 (x ∷ xs) h =
     let p = and_parts (is_printable x) (is_words xs) h in
@@ -117,4 +117,4 @@ unfolding release
 release_words n lt =
     joined (short_byte (n / 256) ++ codes ".") (encode_lower (n % 256 ∷ [])) (joined (short_byte (n / 256)) (codes ".") (short_words (n / 256) (omega arith)) refl) (pair_words (n % 256) (omega arith))
 
-pub ruleset numbers = (decimal_words, spaces_words, column_words, count_words, pair_words, byte_code_words, word_code_words, release_words)
+pub ruleset numbers = (decimal_words, spaces_words, column_words, count_words, pair_words, byte_code_words, word_code_words, release_words, encoded_printable)

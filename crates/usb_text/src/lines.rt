@@ -141,11 +141,13 @@ impl Page for Lines {
         put!(self.text, self.text.put_digits(bytes))
     }
 
+    #[tactic(auto, using(crate::proofs::UnitWords::units_fit, crate::proofs::UnitWords::units_count))]
     fn put_units(&mut self, units: &[u16]) -> Result<(), AllocError> {
         known_units(units);
         put!(self.text, put_units(&mut self.text, self.utf8, units))
     }
 
+    #[tactic(auto, using(crate::proofs::UnitWords::units_fit, crate::proofs::UnitWords::units_count, crate::proofs::UnitWords::units_of_bytes))]
     fn put_units_in(&mut self, bytes: &[u8]) -> Result<(), AllocError> {
         known_bytes(bytes);
         put!(self.text, put_units_in(&mut self.text, self.utf8, bytes))
