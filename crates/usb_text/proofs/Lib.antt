@@ -4,5 +4,6 @@ pub mod Printables
 pub mod LineWords
 pub mod UnitWords
 pub mod Pages
+pub mod WrittenLines
 pub mod Items
 pub mod Apart

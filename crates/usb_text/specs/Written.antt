@@ -55,3 +55,16 @@ pub record WritesLess (utf8 : Bool) (count : ℕ) (old new : Held) : Type 0 wher
   pub characters : list_all (is_of_lines utf8) front ≡ true
   pub fewer : count_by is_line_feed front < count
   pub written : Appends old new front
+
+-- the writer gained fewer lines, each of them whole
+pub record WritesFewer (utf8 : Bool) (count : ℕ) (old new : Held) : Type 0 where
+  pub gained : ℕ
+  pub fewer : gained < count
+  pub written : WritesLines utf8 gained old new
+
+-- So many lines were put after those there were, and the writer gained some of them; these are left.
+pub record PutsLines (old new : Held) (before after : Written) (count : ℕ) : Type 0 where
+  pub gained : ℕ
+  pub parts : before.ended + count ≡ gained + after.ended
+  pub same : after.utf8 ≡ before.utf8
+  pub written : WritesLines before.utf8 gained old new

@@ -1,15 +1,23 @@
 //! Lines that a line feed ends, and nothing else does.
+ghost use Rattle.std.specs.Prelude.{◌≡◌};
+ghost use Rattle.usb_text.specs.Written.{is_whole};
+ghost use Rattle.usb_text.specs.inside.Pages.{EndedLines};
 ghost use Rattle.usb_text.specs.inside.Units.{AreUnits};
 
 use crate::characters::{put_units, put_units_in};
 use crate::numbers::{
     begin_byte_meaning, begin_word_meaning, put_byte_code, put_count, put_release, put_word_code,
 };
+use crate::output::{OutFault, write_all};
 use crate::page::Page;
 use crate::text::Text;
 use std::alloc::{AllocError, Global};
+use std::io::Write;
 use std::marker::Model;
 use usb_fields::known_bytes;
+
+/// Lines of so many bytes are passed on to the writer.
+const FULL: usize = 32 * 1024;
 
 /// Lines.
 #[derive(Debug, Drop)]
@@ -31,8 +39,9 @@ impl Model for Lines {
 }
 
 impl Lines {
-    ghost use Rattle.std.specs.Prelude.{◌≡◌};
-    ghost use Rattle.usb_text.specs.Written.{no_lines};
+    ghost use Rattle.std.specs.Prelude.{◌≡◌, ◌≤◌, IfErr, IsTrue, OnErr, OnOk};
+    ghost use Rattle.std.specs.List.{list_all};
+    ghost use Rattle.usb_text.specs.Written.{PutsLines, WritesLess, WritesLines, is_of_lines, no_lines, written};
 
     /// No lines.
     pub fn new(alloc: Global, utf8: bool) -> Lines
@@ -42,6 +51,60 @@ impl Lines {
             text: Text::new(alloc),
             utf8,
         }
+    }
+    /// Their bytes, with those of a line that is begun.
+    pub fn as_bytes(&self) -> &[u8]
+        ensures characters { IsTrue (list_all (is_of_lines self.now.utf8) result.now) }
+        ensures ended { self.now ≡ written self.now.utf8 result.now }
+    {
+        self.text.as_bytes()
+    }
+
+    /// Their length in bytes.
+    pub fn len(&self) -> usize
+        ensures { self.now.ended ≤ result }
+    {
+        self.text.len()
+    }
+
+    /// Whether they have no bytes.
+    pub fn is_empty(&self) -> bool
+        ensures { IsTrue result → self.now ≡ no_lines self.now.utf8 }
+    {
+        self.text.is_empty()
+    }
+
+    /// Writes all and empties them, where they are many and no line is begun.
+    ///
+    /// # Errors
+    ///
+    /// `Write` where the writer failed.
+    #[tactic(auto, using(crate::proofs::WrittenLines::all_passed, crate::proofs::WrittenLines::not_passed, crate::proofs::WrittenLines::nothing_put))]
+    pub fn pass_on<W: Write>(&mut self, w: &mut W) -> Result<(), OutFault>
+        ensures ok { OnOk result (PutsLines (W.contents w.old) (W.contents w.new) self.old self.new 0) }
+        ensures err { OnErr result (WritesLess self.old.utf8 self.old.ended (W.contents w.old) (W.contents w.new)) }
+        ensures why { IfErr result (λ fault. fault ≡ OutFault.Write) }
+    {
+        if self.text.len() >= FULL && is_whole(self.text.as_bytes()) {
+            write_all(w, self.text.as_bytes())?;
+            self.text.clear();
+        }
+        Ok(())
+    }
+
+    /// Writes all lines that have ended.
+    ///
+    /// # Errors
+    ///
+    /// `Write` where the writer failed.
+    #[tactic(auto, using(crate::proofs::WrittenLines::ended_written, crate::proofs::WrittenLines::ended_less))]
+    pub fn finish<W: Write>(self, w: &mut W) -> Result<(), OutFault>
+        ensures ok { OnOk result (WritesLines self.utf8 self.ended (W.contents w.old) (W.contents w.new)) }
+        ensures err { OnErr result (WritesLess self.utf8 self.ended (W.contents w.old) (W.contents w.new)) }
+        ensures why { IfErr result (λ fault. fault ≡ OutFault.Write) }
+    {
+        write_all(w, ended_lines(self.text.as_bytes()))?;
+        Ok(())
     }
 }
 
@@ -157,6 +220,32 @@ impl Page for Lines {
     fn end_line(&mut self) -> Result<(), AllocError> {
         put!(self.text, self.text.put_character(b'\n'))
     }
+}
+
+/// Whether nothing is behind the last line feed.
+#[tactic(auto, using(crate::proofs::WrittenLines::whole_at))]
+fn is_whole(bytes: &[u8]) -> bool
+    ensures { result ≡ is_whole bytes.now }
+{
+    match bytes {
+        [] => true,
+        [.., last] => *last == b'\n',
+    }
+}
+
+/// The bytes up to the last line feed.
+#[tactic(auto, using(crate::proofs::WrittenLines::begun_whole))]
+fn ended_lines(bytes: &[u8]) -> &[u8]
+    ensures { EndedLines bytes.now result.now }
+{
+    let mut rest = bytes;
+    while let [front @ .., last] = rest {
+        if *last == b'\n' {
+            break;
+        }
+        rest = front;
+    }
+    rest
 }
 
 /// The elements of a slice of units have 16 bits: a fact for proofs. Does nothing when it runs.
