@@ -3,4 +3,6 @@ pub mod Lines
 pub mod Output
 pub mod Characters
 pub mod HexText
+pub mod Written
+pub mod Shown
 pub mod inside

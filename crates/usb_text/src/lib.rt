@@ -14,16 +14,22 @@ mod characters;
 mod column;
 mod hex_text;
 mod laws;
+mod lines;
 mod numbers;
 mod output;
+mod page;
 mod shown;
+#[cfg(test)]
+mod tests;
 mod text;
 
 pub use characters::{is_plain, put_units, put_units_in};
 pub use hex_text::{HexFault, parse};
 pub use laws::hexadecimal_text_is_no_descriptor;
+pub use lines::Lines;
 pub use numbers::{
     begin_byte_meaning, begin_word_meaning, put_byte_code, put_count, put_release, put_word_code,
 };
 pub use output::{OutFault, write_all};
+pub use page::Page;
 pub use text::Text;

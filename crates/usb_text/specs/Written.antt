@@ -1,0 +1,70 @@
+-- Lines: which bytes they have, how many have ended, and what a writer gained of them.
+use Rattle.std.specs.Prelude.{◌≡◌, ℕ, ◌+◌, ◌<◌, Bool, true, ◌||◌, ◌&&◌, nat_le, List, [], ◌∷◌, count_by}
+use Rattle.std.specs.List.{list_all}
+use Rattle.std.specs.Io.KnownBytes.{Appends}
+use Rattle.usb_text.specs.HexText.{is_line_feed}
+use Rattle.usb_text.specs.Lines.{is_printable}
+use Rattle.usb_text.specs.Output.{Held}
+
+-- words: printable characters of ASCII
+abbrev pub is_words : List ℕ → Bool
+is_words words = list_all is_printable words
+
+-- a byte of a line: such a character or, with characters beyond ASCII, a byte of one
+abbrev pub is_of_line : Bool → ℕ → Bool
+is_of_line utf8 x = is_printable x || (utf8 && nat_le 128 x)
+
+-- a byte of lines: one of a line, or the line feed that ends it
+abbrev pub is_of_lines : Bool → ℕ → Bool
+is_of_lines utf8 x = is_of_line utf8 x || is_line_feed x
+
+-- lines, with characters beyond ASCII or without, and how many of them have ended
+pub record Written : Type 0 where
+  pub utf8 : Bool
+  pub ended : ℕ
+
+-- the bytes of a text as lines
+abbrev pub written : Bool → List ℕ → Written
+written utf8 text = record { utf8 = utf8; ended = count_by is_line_feed text }
+
+-- no lines
+abbrev pub no_lines : Bool → Written
+no_lines utf8 = record { utf8 = utf8; ended = 0 }
+
+-- with one line more
+abbrev pub one_more : Written → Written
+one_more lines = record { utf8 = lines.utf8; ended = lines.ended + 1 }
+
+-- whether nothing is behind the last line feed of a text
+abbrev pub is_whole : List ℕ → Bool
+is_whole [] = true
+is_whole (x ∷ []) = is_line_feed x
+is_whole (x ∷ y ∷ rest) = is_whole (y ∷ rest)
+
+-- the writer gained so many lines
+pub record WritesLines (utf8 : Bool) (count : ℕ) (old new : Held) : Type 0 where
+  pub text : List ℕ
+  pub characters : list_all (is_of_lines utf8) text ≡ true
+  pub ended : count_by is_line_feed text ≡ count
+  pub whole : is_whole text ≡ true
+  pub written : Appends old new text
+
+-- the writer gained fewer lines, and maybe a part of the next
+pub record WritesLess (utf8 : Bool) (count : ℕ) (old new : Held) : Type 0 where
+  pub front : List ℕ
+  pub characters : list_all (is_of_lines utf8) front ≡ true
+  pub fewer : count_by is_line_feed front < count
+  pub written : Appends old new front
+
+-- the writer gained fewer lines, each of them whole
+pub record WritesFewer (utf8 : Bool) (count : ℕ) (old new : Held) : Type 0 where
+  pub gained : ℕ
+  pub fewer : gained < count
+  pub written : WritesLines utf8 gained old new
+
+-- So many lines were put after those there were, and the writer gained some of them; these are left.
+pub record PutsLines (old new : Held) (before after : Written) (count : ℕ) : Type 0 where
+  pub gained : ℕ
+  pub parts : before.ended + count ≡ gained + after.ended
+  pub same : after.utf8 ≡ before.utf8
+  pub written : WritesLines before.utf8 gained old new

@@ -1,0 +1,254 @@
+//! Lines that a line feed ends, and nothing else does.
+ghost use Rattle.std.specs.Prelude.{◌≡◌};
+ghost use Rattle.usb_text.specs.Written.{is_whole};
+ghost use Rattle.usb_text.specs.inside.Pages.{EndedLines};
+ghost use Rattle.usb_text.specs.inside.Units.{AreUnits};
+
+use crate::characters::{put_units, put_units_in};
+use crate::numbers::{
+    begin_byte_meaning, begin_word_meaning, put_byte_code, put_count, put_release, put_word_code,
+};
+use crate::output::{OutFault, write_all};
+use crate::page::Page;
+use crate::text::Text;
+use std::alloc::{AllocError, Global};
+use std::io::Write;
+use std::marker::Model;
+use usb_fields::known_bytes;
+
+/// Lines of so many bytes are passed on to the writer.
+const FULL: usize = 32 * 1024;
+
+/// Lines.
+#[derive(Debug, Drop)]
+pub struct Lines {
+    text: Text,
+    utf8: bool,
+}
+
+impl Model for Lines {
+    ghost use Rattle.std.specs.Prelude.{◌≡◌, true};
+    ghost use Rattle.std.specs.List.{list_all};
+    ghost use Rattle.usb_text.specs.Written.{Written, is_of_lines, written};
+
+    ghost Value = { Written };
+
+    ghost view = { λ l. written l.utf8 l.text };
+
+    ghost invariant = { λ l. list_all (is_of_lines l.utf8) l.text ≡ true };
+}
+
+impl Lines {
+    ghost use Rattle.std.specs.Prelude.{◌≡◌, ◌≤◌, IfErr, IsTrue, OnErr, OnOk};
+    ghost use Rattle.std.specs.List.{list_all};
+    ghost use Rattle.usb_text.specs.Written.{PutsLines, WritesLess, WritesLines, is_of_lines, no_lines, written};
+
+    /// No lines.
+    pub fn new(alloc: Global, utf8: bool) -> Lines
+        ensures { result ≡ no_lines utf8 }
+    {
+        Lines {
+            text: Text::new(alloc),
+            utf8,
+        }
+    }
+    /// Their bytes, with those of a line that is begun.
+    pub fn as_bytes(&self) -> &[u8]
+        ensures characters { IsTrue (list_all (is_of_lines self.now.utf8) result.now) }
+        ensures ended { self.now ≡ written self.now.utf8 result.now }
+    {
+        self.text.as_bytes()
+    }
+
+    /// Their length in bytes.
+    pub fn len(&self) -> usize
+        ensures { self.now.ended ≤ result }
+    {
+        self.text.len()
+    }
+
+    /// Whether they have no bytes.
+    pub fn is_empty(&self) -> bool
+        ensures { IsTrue result → self.now ≡ no_lines self.now.utf8 }
+    {
+        self.text.is_empty()
+    }
+
+    /// Writes all and empties them, where they are many and no line is begun.
+    ///
+    /// # Errors
+    ///
+    /// `Write` where the writer failed.
+    #[tactic(auto, using(crate::proofs::WrittenLines::all_passed, crate::proofs::WrittenLines::not_passed, crate::proofs::WrittenLines::nothing_put))]
+    pub fn pass_on<W: Write>(&mut self, w: &mut W) -> Result<(), OutFault>
+        ensures ok { OnOk result (PutsLines (W.contents w.old) (W.contents w.new) self.old self.new 0) }
+        ensures err { OnErr result (WritesLess self.old.utf8 self.old.ended (W.contents w.old) (W.contents w.new)) }
+        ensures why { IfErr result (λ fault. fault ≡ OutFault.Write) }
+    {
+        if self.text.len() >= FULL && is_whole(self.text.as_bytes()) {
+            write_all(w, self.text.as_bytes())?;
+            self.text.clear();
+        }
+        Ok(())
+    }
+
+    /// Writes all lines that have ended.
+    ///
+    /// # Errors
+    ///
+    /// `Write` where the writer failed.
+    #[tactic(auto, using(crate::proofs::WrittenLines::ended_written, crate::proofs::WrittenLines::ended_less))]
+    pub fn finish<W: Write>(self, w: &mut W) -> Result<(), OutFault>
+        ensures ok { OnOk result (WritesLines self.utf8 self.ended (W.contents w.old) (W.contents w.new)) }
+        ensures err { OnErr result (WritesLess self.utf8 self.ended (W.contents w.old) (W.contents w.new)) }
+        ensures why { IfErr result (λ fault. fault ≡ OutFault.Write) }
+    {
+        write_all(w, ended_lines(self.text.as_bytes()))?;
+        Ok(())
+    }
+}
+
+/// What came of putting something into a text, which is empty where memory was wanting.
+macro_rules! put {
+    ($text:expr, $put:expr) => {
+        match $put {
+            Ok(()) => Ok(()),
+            Err(e) => {
+                $text.clear();
+                Err(e)
+            }
+        }
+    };
+}
+
+#[tactic(auto, using(crate::proofs::LineWords::words_fit, crate::proofs::LineWords::words_count, crate::proofs::LineWords::numbers))]
+impl Page for Lines {
+    ghost use Rattle.usb_text.specs.Shown.{with_shown};
+    ghost use Rattle.usb_text.specs.Written.{Written};
+
+    ghost Seen = { Written };
+
+    ghost seen = { λ lines. lines };
+
+    ghost showing = { with_shown };
+
+    #[inline]
+    fn put(&mut self, words: &str) -> Result<(), AllocError> {
+        put!(self.text, self.text.put(words))
+    }
+
+    #[inline]
+    fn put_name(&mut self, name: &str) -> Result<(), AllocError> {
+        put!(self.text, self.text.put(name))
+    }
+
+    #[inline]
+    fn put_characters(&mut self, characters: &[u8]) -> Result<(), AllocError> {
+        put!(self.text, self.text.put_bytes(characters))
+    }
+
+    #[inline]
+    fn put_indent(&mut self, count: usize) -> Result<(), AllocError> {
+        put!(self.text, self.text.put_spaces(count))
+    }
+
+    #[inline(always)]
+    fn put_indented_column(
+        &mut self,
+        indent: usize,
+        words: &str,
+        width: usize,
+    ) -> Result<(), AllocError> {
+        put!(
+            self.text,
+            self.text.put_indented_column(indent, words, width)
+        )
+    }
+
+    #[inline]
+    fn put_decimal(&mut self, number: u64) -> Result<(), AllocError> {
+        put!(self.text, self.text.put_decimal(number))
+    }
+
+    fn put_count(&mut self, number: u64, noun: &str) -> Result<(), AllocError> {
+        put!(self.text, put_count(&mut self.text, number, noun))
+    }
+
+    #[inline]
+    fn put_pair(&mut self, byte: u8) -> Result<(), AllocError> {
+        put!(self.text, self.text.put_pair(byte))
+    }
+
+    fn put_byte_code(&mut self, code: u8) -> Result<(), AllocError> {
+        put!(self.text, put_byte_code(&mut self.text, code))
+    }
+
+    fn begin_byte_meaning(&mut self, code: u8) -> Result<(), AllocError> {
+        put!(self.text, begin_byte_meaning(&mut self.text, code))
+    }
+
+    fn put_word_code(&mut self, code: u16) -> Result<(), AllocError> {
+        put!(self.text, put_word_code(&mut self.text, code))
+    }
+
+    fn begin_word_meaning(&mut self, code: u16) -> Result<(), AllocError> {
+        put!(self.text, begin_word_meaning(&mut self.text, code))
+    }
+
+    fn put_release(&mut self, number: u16) -> Result<(), AllocError> {
+        put!(self.text, put_release(&mut self.text, number))
+    }
+
+    fn put_digits(&mut self, bytes: &[u8]) -> Result<(), AllocError> {
+        known_bytes(bytes);
+        put!(self.text, self.text.put_digits(bytes))
+    }
+
+    #[tactic(auto, using(crate::proofs::UnitWords::units_fit, crate::proofs::UnitWords::units_count))]
+    fn put_units(&mut self, units: &[u16]) -> Result<(), AllocError> {
+        known_units(units);
+        put!(self.text, put_units(&mut self.text, self.utf8, units))
+    }
+
+    #[tactic(auto, using(crate::proofs::UnitWords::units_fit, crate::proofs::UnitWords::units_count, crate::proofs::UnitWords::units_of_bytes))]
+    fn put_units_in(&mut self, bytes: &[u8]) -> Result<(), AllocError> {
+        known_bytes(bytes);
+        put!(self.text, put_units_in(&mut self.text, self.utf8, bytes))
+    }
+
+    #[inline]
+    fn end_line(&mut self) -> Result<(), AllocError> {
+        put!(self.text, self.text.put_character(b'\n'))
+    }
+}
+
+/// Whether nothing is behind the last line feed.
+#[tactic(auto, using(crate::proofs::WrittenLines::whole_at))]
+fn is_whole(bytes: &[u8]) -> bool
+    ensures { result ≡ is_whole bytes.now }
+{
+    match bytes {
+        [] => true,
+        [.., last] => *last == b'\n',
+    }
+}
+
+/// The bytes up to the last line feed.
+#[tactic(auto, using(crate::proofs::WrittenLines::begun_whole))]
+fn ended_lines(bytes: &[u8]) -> &[u8]
+    ensures { EndedLines bytes.now result.now }
+{
+    let mut rest = bytes;
+    while let [front @ .., last] = rest {
+        if *last == b'\n' {
+            break;
+        }
+        rest = front;
+    }
+    rest
+}
+
+/// The elements of a slice of units have 16 bits: a fact for proofs. Does nothing when it runs.
+fn known_units(units: &[u16])
+    ensures { AreUnits units.now }
+{}
