@@ -1,4 +1,4 @@
-use Rattle.std.proofs.Common.{[], false, refl}
+use Rattle.std.proofs.Common.{false, refl}
 use Rattle.usb_device.specs.Step.{new_device}
 use Rattle.usb_bus.specs.Series.{attempt_under}
 use Rattle.usb_bus.proofs.Attempts.{attempts_sound, sound_ends, sound_stays}

@@ -1,4 +1,4 @@
-use Rattle.std.proofs.Common.{◌≡◌, ◌-◌, ℕ, List, true, ap, ◌∙◌, arith, rules, subst, suc}
+use Rattle.std.proofs.Common.{◌≡◌, ℕ, List, true, ap, ◌∙◌, arith, rules, subst, suc}
 use Rattle.std.specs.Option.{is_some}
 use Rattle.std.specs.Io.KnownBytes.{Appends}
 use Rattle.usb_file_data.specs.declared.file.DescriptorFile.{DescriptorFile}
@@ -7,7 +7,7 @@ use Rattle.usb_bus.specs.Run.{fate_at}
 use Rattle.usb_text.specs.Output.{AppendsLess, Held}
 use Rattle.usb_text.proofs.Pages.{keeps_refl}
 use Rattle.usb_text.specs.declared.output.OutFault.{OutFault}
-use Rattle.usb_text.specs.declared.output.OutFault.TheVariants.{Memory, Write}
+use Rattle.usb_text.specs.declared.output.OutFault.TheVariants.{Memory}
 use Rattle.usb_device.proofs.Exits.{exit_err}
 use Rattle.usb_bus.specs.Enumerate.{Pair, Moves, both}
 use Rattle.usb_bus.specs.Log.{CutsOff, step_lines}
