@@ -1,4 +1,4 @@
-use Rattle.std.proofs.Common.{◌≡◌, ◌-◌, ℕ, List, true, ap, ◌∙◌, arith, rules, subst, suc}
+use Rattle.std.proofs.Common.{◌≡◌, ℕ, List, true, ap, ◌∙◌, arith, rules, subst, suc}
 use Rattle.std.specs.Option.{is_some}
 use Rattle.std.specs.Io.KnownBytes.{Appends}
 use Rattle.usb_file_data.specs.declared.file.DescriptorFile.{DescriptorFile}
