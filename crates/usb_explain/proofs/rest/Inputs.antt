@@ -13,7 +13,7 @@ use Rattle.usb_fields.specs.Units.{units_bytes}
 use Rattle.usb_file_data.specs.declared.finding.Finding.{Finding}
 use Rattle.usb_file_data.specs.declared.finding.Part.TheVariants as parts
 use Rattle.usb_file_data.specs.declared.rule.Rule.TheVariants as rules
-use Rattle.usb_file_data.specs.Findings.{by_rule, file_in_order, findings_in_order, input_findings, other_in_order, part_in_order, part_of_kind, set_in_order, without_sets}
+use Rattle.usb_file_data.specs.Findings.{by_rule, file_in_order, findings_in_order, other_in_order, part_in_order, part_of_kind, set_in_order, without_sets}
 use Rattle.usb_file_data.specs.Places.{finding, when}
 use Rattle.usb_file_data.specs.Rules.{wrong_device, wrong_dumped_device, wrong_qualifier}
 use Rattle.usb_set.specs.declared.tree.Configuration.{Configuration}
