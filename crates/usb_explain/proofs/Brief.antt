@@ -2,7 +2,7 @@
 use Rattle.std.proofs.Common.{◌≡◌, ℕ, List, [], ◌∷◌, ◌++◌, Bool, true, false, flat_map, length, drop, take, refl, sym, ap, ◌∙◌, append-nil}
 use Rattle.usb_file_data.specs.declared.file.Input.{Input}
 use Rattle.usb_file_data.specs.declared.file.Input.TheVariants as inputs
-use Rattle.usb_file_data.specs.declared.finding.Finding.{Finding}
+use Rattle.usb_file_data.specs.declared.cause.Found.{Found}
 use Rattle.usb_explain.specs.declared.context.Context.{Context}
 use Rattle.usb_explain.specs.declared.manner.Look.{Look}
 use Rattle.usb_explain.specs.Descriptors.{field_lines, fields, heading}
@@ -17,7 +17,7 @@ use Rattle.usb_explain.specs.Findings.{found_at, role_findings}
 use Rattle.usb_explain.specs.Contexts.{context_of}
 use Rattle.usb_explain.specs.Laws.{BrokenLeavesOutFields, LeavesOutFields, Shown, WholeLeavesOutFields, context_at, fields_of, head_of, lines_of, rest_bytes, rest_head, with_fields, without_fields}
 use Rattle.usb_explain.specs.Standings.{start}
-use Rattle.usb_file_data.specs.Findings.{findings_in_order}
+use Rattle.usb_file_data.specs.Findings.{found_in_order}
 use Rattle.usb_explain.specs.Subjects.{Subject, broken_subject, subject_with}
 use Rattle.usb_explain.proofs.Spans.{broken_ends, broken_is, end_by, walk_shows, whole_is, with_look}
 
@@ -46,20 +46,20 @@ unfolding context_of
 context_same look subject s role d = refl
 
 -- neither do findings
-findings_same : (look : Look) (subject : Subject) (s : Standing) (role : Role) (d behind : List ℕ) → role_findings (with_look look subject) s role d behind ≡ role_findings subject s role d behind
+findings_same : (look : Look) (subject : Subject) (s : Standing) (role : Role) → role_findings (with_look look subject) s role ≡ role_findings subject s role
 unfolding role_findings found_at
-findings_same look subject s role d behind = refl
+findings_same look subject s role = refl
 
 -- the lines of a descriptor are its heading, findings and remarks, and then its fields
 head_same : (brief : Bool) (subject : Subject) (d : Shown)
     → head_of (with_look (brief_if brief subject.manner.look) subject) d ≡ head_of subject d
 head_same brief subject d =
-    ap (λ context. heading (brief_if brief subject.manner.look) d.role context d.bytes d.standing.at ++ role_findings (with_look (brief_if brief subject.manner.look) subject) d.standing d.role d.bytes d.behind ++ remark_lines d.role context d.bytes (rest_of_set d.standing d.bytes d.behind))
+    ap (λ context. heading (brief_if brief subject.manner.look) d.role context d.bytes d.standing.at ++ role_findings (with_look (brief_if brief subject.manner.look) subject) d.standing d.role ++ remark_lines d.role context d.bytes (rest_of_set d.standing d.bytes d.behind))
     (context_same (brief_if brief subject.manner.look) subject d.standing d.role d.bytes)
-    ∙ ap (λ l. l ++ role_findings (with_look (brief_if brief subject.manner.look) subject) d.standing d.role d.bytes d.behind ++ remark_lines d.role (context_at subject d) d.bytes (rest_of_set d.standing d.bytes d.behind))
+    ∙ ap (λ l. l ++ role_findings (with_look (brief_if brief subject.manner.look) subject) d.standing d.role ++ remark_lines d.role (context_at subject d) d.bytes (rest_of_set d.standing d.bytes d.behind))
     (heading_same brief subject.manner.look d.role (context_at subject d) d.bytes d.standing.at)
     ∙ ap (λ l. heading subject.manner.look d.role (context_at subject d) d.bytes d.standing.at ++ l ++ remark_lines d.role (context_at subject d) d.bytes (rest_of_set d.standing d.bytes d.behind))
-    (findings_same (brief_if brief subject.manner.look) subject d.standing d.role d.bytes d.behind)
+    (findings_same (brief_if brief subject.manner.look) subject d.standing d.role)
 
 lines_are : (subject : Subject) (d : Shown)
     → lines_of subject d ≡ head_of subject d ++ fields subject.manner.look subject.names d.role (context_at subject d) d.bytes
@@ -120,36 +120,36 @@ leaves_out subject b front first before_rest last one other n one_end other_end 
     }
 
 -- what ends the explanation of an input, and that of bytes which are none
-subject_looks : (brief : Bool) (manner : Manner) (input : Input) (all : List Finding)
+subject_looks : (brief : Bool) (manner : Manner) (input : Input) (all : List Found)
     → subject_with (record manner { look = brief_if brief manner.look }) input all ≡ with_look (brief_if brief manner.look) (subject_with manner input all)
 subject_looks brief manner (inputs.Set set) all = refl
 subject_looks brief manner (inputs.File file) all = refl
 subject_looks brief manner (inputs.Dump file) all = refl
 
-manner_of : (manner : Manner) (input : Input) (all : List Finding) → (subject_with manner input all).manner ≡ manner
+manner_of : (manner : Manner) (input : Input) (all : List Found) → (subject_with manner input all).manner ≡ manner
 manner_of manner (inputs.Set set) all = refl
 manner_of manner (inputs.File file) all = refl
 manner_of manner (inputs.Dump file) all = refl
 
 -- the explanation of an input with fields or without
 whole_looks : (brief : Bool) (manner : Manner) (input : Input) (b : List ℕ)
-    → (let subject = subject_with manner input (findings_in_order input) in
+    → (let subject = subject_with manner input (found_in_order input) in
     let looks = with_look (brief_if brief subject.manner.look) subject in
     explanation (record manner { look = brief_if brief manner.look }) input b
-    ≡ first_line (input_name input) (length b) ++ walked (length b) looks (whole_end looks (length (findings_in_order input)) b) start b)
+    ≡ first_line (input_name input) (length b) ++ walked (length b) looks (whole_end looks (length (found_in_order input)) b) start b)
 whole_looks brief manner input b =
-    ap (λ s. whole_text s (input_name input) (length (findings_in_order input)) b)
-    (subject_looks brief manner input (findings_in_order input)
-    ∙ ap (λ m. with_look (brief_if brief m.look) (subject_with manner input (findings_in_order input))) (sym (manner_of manner input (findings_in_order input))))
-    ∙ whole_is (with_look (brief_if brief (subject_with manner input (findings_in_order input)).manner.look) (subject_with manner input (findings_in_order input)))
-    (input_name input) (length (findings_in_order input)) b
+    ap (λ s. whole_text s (input_name input) (length (found_in_order input)) b)
+    (subject_looks brief manner input (found_in_order input)
+    ∙ ap (λ m. with_look (brief_if brief m.look) (subject_with manner input (found_in_order input))) (sym (manner_of manner input (found_in_order input))))
+    ∙ whole_is (with_look (brief_if brief (subject_with manner input (found_in_order input)).manner.look) (subject_with manner input (found_in_order input)))
+    (input_name input) (length (found_in_order input)) b
 
 pub whole_leaves_out : WholeLeavesOutFields
 whole_leaves_out manner input b =
-    leaves_out (subject_with manner input (findings_in_order input)) b b (first_line (input_name input) (length b)) [] (last_line (length (findings_in_order input)))
+    leaves_out (subject_with manner input (found_in_order input)) b b (first_line (input_name input) (length b)) [] (last_line (length (found_in_order input)))
     (explanation (with_fields manner) input b) (explanation (without_fields manner) input b) (length b)
-    (whole_end (with_look (brief_if false (subject_with manner input (findings_in_order input)).manner.look) (subject_with manner input (findings_in_order input))) (length (findings_in_order input)) b)
-    (whole_end (with_look (brief_if true (subject_with manner input (findings_in_order input)).manner.look) (subject_with manner input (findings_in_order input))) (length (findings_in_order input)) b)
+    (whole_end (with_look (brief_if false (subject_with manner input (found_in_order input)).manner.look) (subject_with manner input (found_in_order input))) (length (found_in_order input)) b)
+    (whole_end (with_look (brief_if true (subject_with manner input (found_in_order input)).manner.look) (subject_with manner input (found_in_order input))) (length (found_in_order input)) b)
     (λ at. refl) (λ at. refl)
     (whole_looks false manner input b) (whole_looks true manner input b)
 

@@ -13,11 +13,10 @@ use Rattle.usb_explain.specs.declared.position.Standing.{Standing}
 use Rattle.usb_explain.specs.Explanations.{broken_end, broken_explanation, broken_name, broken_text, explanation, first_line, input_name, last_line, whole_end, whole_text, rest_lines, behind_next, block, here, next_block, told_next, walked}
 use Rattle.usb_explain.specs.Faults.{fault_lines, place_of_fault}
 use Rattle.usb_explain.specs.Findings.{found_at}
-use Rattle.usb_explain.specs.Laws.{BrokenEachByteOnce, Cut, EachByteOnce, Follow, Shown, Span, WholeEachByteOnce, counts_at, entry_of, findings_of, lines_of, rest_span, span_of}
-use Rattle.usb_explain.specs.declared.finding_words.Told.{Told}
+use Rattle.usb_explain.specs.Laws.{BrokenEachByteOnce, Cut, EachByteOnce, Follow, Shown, Span, WholeEachByteOnce, entry_of, findings_of, lines_of, rest_span, span_of}
 use Rattle.usb_explain.specs.Roles.{next_role, role_of}
 use Rattle.usb_explain.specs.Standings.{start}
-use Rattle.usb_file_data.specs.Findings.{findings_in_order}
+use Rattle.usb_file_data.specs.Findings.{found_in_order}
 use Rattle.usb_explain.specs.Subjects.{Subject, broken_subject, subject_with}
 use Rattle.usb_explain.proofs.Standings.{entered_at, noted_at, start_at, told_entered, told_noted}
 use Rattle.usb_explain.proofs.Telling.{found_front}
@@ -93,7 +92,7 @@ walk_more subject n s ahead next e w =
     let bounds = next_bounds s ahead next e in
     let taken : length (take next.1 ahead) ≡ next.1 = length-take-le next.1 ahead bounds.1 in
     let at_here : (here subject s ahead next).at ≡ s.at = entered_at next.0 subject.manner.speed ahead s in
-    let found = found_at subject (here subject s ahead next) next.0 (take next.1 ahead) (drop next.1 ahead) in
+    let found = found_at subject (here subject s ahead next) next.0 in
     let at_behind : (behind_next subject s ahead next).at ≡ s.at + length (take next.1 ahead) =
     ap (λ k. k + length (take next.1 ahead)) (noted_at next.0 (take next.1 ahead) (told_next subject s ahead next) ∙ at_here) in
     record {
@@ -108,7 +107,7 @@ walk_more subject n s ahead next e w =
       told = w.told;
       tells = append_assoc found (flat_map (findings_of subject) w.shown) (drop w.told subject.found)
           ∙ ap (λ l. found ++ l) (w.tells ∙ ap (λ k. drop k subject.found) (told_noted next.0 (take next.1 ahead) (told_next subject s ahead next)))
-          ∙ found_front subject (here subject s ahead next) next.0 (take next.1 ahead) (drop next.1 ahead)
+          ∙ found_front subject (here subject s ahead next) next.0
           ∙ ap (λ k. drop k subject.found) (told_entered next.0 subject.manner.speed ahead s);
     }
 
@@ -126,18 +125,18 @@ pub walk_shows : (subject : Subject) (n : ℕ) (s : Standing) (ahead : List ℕ)
 walk_shows subject zero s ahead = walk_none subject zero s ahead (λ look ending. walk_zero (with_look look subject) s ahead ending)
 walk_shows subject (suc n) s ahead = walk_by subject n s ahead (next_role s ahead) refl (walk_shows subject n)
 
--- what is said of a walk: of the bytes that are left, of the entries of its descriptors, and of their counts
+-- what is said of a walk: of the bytes that are left, and of the entries of its descriptors
 abbrev pub Aim : Type 1
-Aim = List ℕ → List OutlineEntry → List Told → Type 0
+Aim = List ℕ → List OutlineEntry → Type 0
 
--- the same of a walk behind descriptors of these entries and counts
-abbrev pub adding : Aim → List OutlineEntry → List Told → Aim
-adding E entries counts = λ rest c t. E rest (entries ++ c) (counts ++ t)
+-- the same of a walk behind descriptors of these entries
+abbrev pub adding : Aim → List OutlineEntry → Aim
+adding E entries = λ rest c. E rest (entries ++ c)
 
 -- a walk of which this holds, and which comes to the end of the findings
 pub record Ended (E : Aim) (subject : Subject) (n : ℕ) (s : Standing) (ahead : List ℕ) : Type 0 where
   pub walk : Walk subject n s ahead
-  pub aimed : E walk.rest (map entry_of walk.shown) (flat_map (counts_at subject) walk.shown)
+  pub aimed : E walk.rest (map entry_of walk.shown)
   pub all_told : drop walk.told subject.found ≡ []
 
 -- where no bytes are, no descriptor can stand
@@ -145,13 +144,13 @@ none_of_nothing : (s : Standing) → next_role s [] ≡ None
 unfolding next_role
 none_of_nothing s = refl
 
-pub ended_none : (E : Aim) (subject : Subject) (n : ℕ) (s : Standing) → drop s.told subject.found ≡ [] → E [] [] [] → Ended E subject n s []
+pub ended_none : (E : Aim) (subject : Subject) (n : ℕ) (s : Standing) → drop s.told subject.found ≡ [] → E [] [] → Ended E subject n s []
 unfolding walk_none
 ended_none E subject n s none aimed =
     record { walk = walk_none subject n s [] (λ look ending. walk_end n (with_look look subject) ending s [] (none_of_nothing s)); aimed = aimed; all_told = none }
 
 pub ended_more : (E : Aim) (subject : Subject) (n : ℕ) (s : Standing) (ahead : List ℕ) (next : Role × ℕ) → next_role s ahead ≡ Some next
-    → Ended (adding E (entry_of (shown_next subject s ahead next) ∷ []) (counts_at subject (shown_next subject s ahead next))) subject n (behind_next subject s ahead next) (drop next.1 ahead)
+    → Ended (adding E (entry_of (shown_next subject s ahead next) ∷ [])) subject n (behind_next subject s ahead next) (drop next.1 ahead)
     → Ended E subject (suc n) s ahead
 unfolding walk_more
 ended_more E subject n s ahead next e ended = record { walk = walk_more subject n s ahead next e ended.walk; aimed = ended.aimed; all_told = ended.all_told }
@@ -231,10 +230,10 @@ broken_is subject fault b = refl
 
 pub whole_once : WholeEachByteOnce
 whole_once manner input b =
-    let subject = subject_with manner input (findings_in_order input) in
-    once_by subject b b [] (first_line (input_name input) (length b)) [] (last_line (length (findings_in_order input))) (explanation manner input b) (length b)
-    (whole_end subject (length (findings_in_order input)) b) (sym (append-nil b)) (λ at. refl)
-    (whole_is subject (input_name input) (length (findings_in_order input)) b)
+    let subject = subject_with manner input (found_in_order input) in
+    once_by subject b b [] (first_line (input_name input) (length b)) [] (last_line (length (found_in_order input))) (explanation manner input b) (length b)
+    (whole_end subject (length (found_in_order input)) b) (sym (append-nil b)) (λ at. refl)
+    (whole_is subject (input_name input) (length (found_in_order input)) b)
 
 pub broken_once : BrokenEachByteOnce
 broken_once manner fault b =

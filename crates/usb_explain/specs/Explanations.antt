@@ -10,7 +10,7 @@ use Rattle.usb_explain.specs.Contexts.{context_of}
 use Rattle.usb_explain.specs.SetStart.{entered}
 use Rattle.usb_explain.specs.Standings.{passed, with_told, start}
 use Rattle.usb_explain.specs.Roles.{next_role}
-use Rattle.usb_file_data.specs.Findings.{findings_in_order}
+use Rattle.usb_file_data.specs.Findings.{found_in_order}
 use Rattle.usb_explain.specs.Subjects.{Subject, broken_subject, subject_with}
 use Rattle.std.specs.Fmt.{decimal}
 use Rattle.hex.specs.Hex.{encode_lower}
@@ -37,7 +37,7 @@ rest_of_set s d behind =
 unfoldable pub block : Subject → Standing → Role → List ℕ → List ℕ → List ℕ
 block subject s role d behind =
     heading subject.manner.look role (context_of subject s role d) d s.at
-    ++ role_findings subject s role d behind
+    ++ role_findings subject s role
     ++ remark_lines role (context_of subject s role d) d (rest_of_set s d behind)
     ++ fields subject.manner.look subject.names role (context_of subject s role d) d
 
@@ -49,13 +49,13 @@ here subject s ahead next = entered next.0 subject.manner.speed ahead s
 abbrev pub next_block : Subject → Standing → List ℕ → Role × ℕ → List ℕ
 next_block subject s ahead next = block subject (here subject s ahead next) next.0 (take next.1 ahead) (drop next.1 ahead)
 
--- the same with the findings of a descriptor reported, after which these bytes come
-abbrev pub telling : Subject → Role → List ℕ → List ℕ → Standing → Standing
-telling subject role d behind s = with_told (s.told + length (found_at subject s role d behind)) s
+-- the same with the findings of a descriptor reported
+abbrev pub telling : Subject → Role → Standing → Standing
+telling subject role s = with_told (s.told + length (found_at subject s role)) s
 
 -- the state when its findings are reported
 abbrev pub told_next : Subject → Standing → List ℕ → Role × ℕ → Standing
-told_next subject s ahead next = telling subject next.0 (take next.1 ahead) (drop next.1 ahead) (here subject s ahead next)
+told_next subject s ahead next = telling subject next.0 (here subject s ahead next)
 
 -- the state after that descriptor
 abbrev pub behind_next : Subject → Standing → List ℕ → Role × ℕ → Standing
@@ -129,7 +129,7 @@ whole_text subject name findings b = first_line name (length b) ++ walked (lengt
 -- the explanation of an input, of which these are the bytes
 abbrev pub explanation : Manner → Input → List ℕ → List ℕ
 explanation manner input b =
-    whole_text (subject_with manner input (findings_in_order input)) (input_name input) (length (findings_in_order input)) b
+    whole_text (subject_with manner input (found_in_order input)) (input_name input) (length (found_in_order input)) b
 
 -- the explanation of bytes that are no input
 unfoldable pub broken_text : Subject → InputFault → List ℕ → List ℕ
@@ -152,7 +152,7 @@ StopsBetween subject b first old new = Keeps old new ⊎ EndsBetween subject b f
 
 -- of the explanation of an input
 abbrev pub StopsWhole : Manner → Input → List ℕ → Held → Held → Type 0
-StopsWhole manner input b = StopsBetween (subject_with manner input (findings_in_order input)) b (first_line (input_name input) (length b))
+StopsWhole manner input b = StopsBetween (subject_with manner input (found_in_order input)) b (first_line (input_name input) (length b))
 
 -- and of that of bytes which are none
 abbrev pub StopsBroken : Manner → InputFault → List ℕ → Held → Held → Type 0

@@ -1,19 +1,15 @@
 -- What holds of each explanation: its headings have each byte once, and of an input no bytes are left for the rest. Each
--- finding is reported once, with the counts of its set, and the descriptors are those of the input's tree. A brief one leaves out
+-- finding is reported once, with its cause, and the descriptors are those of the input's tree. A brief one leaves out
 -- the fields alone, and each part of it is printable lines.
-use Rattle.std.specs.Prelude.{◌≡◌, ◌<◌, ◌≤◌, ℕ, true, false, ◌+◌, List, [], ◌∷◌, ◌++◌, length, map, take, drop, flat_map, slice_index, unwrap_or}
+use Rattle.std.specs.Prelude.{◌≡◌, ◌<◌, ◌≤◌, ℕ, true, false, ◌+◌, List, [], ◌∷◌, ◌++◌, length, map, take, drop, flat_map, slice_index}
 use Rattle.std.specs.List.{AllByRecursion}
-use Rattle.std.specs.Option.{option_map}
 use Rattle.usb_fields.specs.Bytes.{AreBytes}
 use Rattle.usb_file_data.specs.declared.file.Input.{Input}
 use Rattle.usb_file_data.specs.declared.fault.InputFault.{InputFault}
 use Rattle.usb_file_data.specs.Inputs.{InputRefused, IsInput}
 use Rattle.usb_file_data.specs.Likeness.{likeness_of}
-use Rattle.usb_file_data.specs.Findings.{by_rule, findings_in_order, input_findings}
-use Rattle.usb_file_data.specs.declared.finding.Finding.{Finding}
-use Rattle.usb_file_data.specs.declared.rule.Rule.{Rule}
-use Rattle.usb_file_data.specs.declared.rule.Rule.TheVariants as rules
-use Rattle.usb_explain.specs.declared.finding_words.Told.{Told}
+use Rattle.usb_file_data.specs.Findings.{found_in_order, input_findings}
+use Rattle.usb_file_data.specs.declared.cause.Found.{Found}
 use Rattle.usb_explain.specs.declared.context.Context.{Context}
 use Rattle.usb_explain.specs.Descriptors.{field_lines, fields, heading}
 use Rattle.usb_explain.specs.Explanations.{rest_fields, rest_heading, rest_line, rest_lines, broken_explanation, broken_name, explanation, first_line, input_name, last_line, rest_of_set}
@@ -24,12 +20,12 @@ use Rattle.usb_explain.specs.declared.manner.Manner.{Manner}
 use Rattle.usb_explain.specs.declared.role.Role.{Role}
 use Rattle.usb_explain.specs.declared.position.Standing.{Standing}
 use Rattle.usb_explain.specs.Faults.{fault_lines, fault_text, likeness_text, place_of_fault}
-use Rattle.usb_explain.specs.Findings.{found_at, is_here, line_of, role_findings, told_at}
+use Rattle.usb_explain.specs.Findings.{found_at, is_here, line_of, role_findings}
 use Rattle.usb_explain.specs.Contexts.{context_of, depth_of}
 use Rattle.usb_explain.specs.Lines.{IsLine, IsLineIfAny, SayFields}
 use Rattle.usb_explain.specs.Uncovered.{most_uncovered}
 use Rattle.usb_explain.specs.Subjects.{Subject, broken_subject, subject_with}
-use Rattle.usb_explain.specs.Trees.{OutlineEntry, counts_in, entry, outline}
+use Rattle.usb_explain.specs.Trees.{OutlineEntry, entry, outline}
 
 -- a descriptor of an explanation: its place, what it is there, its bytes, and those after it
 pub record Shown : Type 0 where
@@ -50,7 +46,7 @@ remarks_of subject d = remarks_on d.role (context_at subject d) d.bytes (rest_of
 abbrev pub head_of : Subject → Shown → List ℕ
 head_of subject d =
     heading subject.manner.look d.role (context_at subject d) d.bytes d.standing.at
-    ++ role_findings subject d.standing d.role d.bytes d.behind
+    ++ role_findings subject d.standing d.role
     ++ remark_lines d.role (context_at subject d) d.bytes (rest_of_set d.standing d.bytes d.behind)
 
 -- its lines: after those the lines of its fields, where they are shown
@@ -58,8 +54,8 @@ abbrev pub lines_of : Subject → Shown → List ℕ
 lines_of subject d = head_of subject d ++ fields subject.manner.look subject.names d.role (context_at subject d) d.bytes
 
 -- the findings that are reported under its heading: those of which each line of its findings is one
-abbrev pub findings_of : Subject → Shown → List Finding
-findings_of subject d = found_at subject d.standing d.role d.bytes d.behind
+abbrev pub findings_of : Subject → Shown → List Found
+findings_of subject d = found_at subject d.standing d.role
 
 -- a place and a length
 pub record Span : Type 0 where
@@ -108,7 +104,7 @@ pub record NothingLeft (subject : Subject) (bytes first last text : List ℕ) : 
 abbrev pub WholeEachByteOnce : Type 0
 WholeEachByteOnce =
     (manner : Manner) (input : Input) (b : List ℕ) →
-    EachByteOnce (subject_with manner input (findings_in_order input)) b b (first_line (input_name input) (length b)) [] (last_line (length (findings_in_order input)))
+    EachByteOnce (subject_with manner input (found_in_order input)) b b (first_line (input_name input) (length b)) [] (last_line (length (found_in_order input)))
     (explanation manner input b)
 
 -- so does that of bytes that are no input: its descriptors end at the place of the fault or before it
@@ -134,46 +130,27 @@ BrokenCoversUpToFault =
 abbrev pub WholeHasNoRest : Type 0
 WholeHasNoRest =
     (manner : Manner) (input : Input) (b : List ℕ) → IsInput input b →
-    NothingLeft (subject_with manner input (findings_in_order input)) b (first_line (input_name input) (length b)) (last_line (length (findings_in_order input)))
+    NothingLeft (subject_with manner input (found_in_order input)) b (first_line (input_name input) (length b)) (last_line (length (found_in_order input)))
     (explanation manner input b)
 
 -- under the heading of a descriptor are findings of its own alone, so that each of them has a line
 abbrev pub TellsItsOwn : Subject → Shown → Type 0
-TellsItsOwn subject d = AllByRecursion (λ f. is_here subject.is_dump d.standing d.role d.bytes d.behind f ≡ true) (findings_of subject d)
+TellsItsOwn subject d = AllByRecursion (λ f. is_here d.standing d.role f ≡ true) (findings_of subject d)
 
--- A text that reports each of these findings once, which are sorted rule by rule: those under the headings of its descriptors
--- are, in their order, all of them. The last line says how many they are.
-pub record EachFindingOnce (subject : Subject) (bytes first : List ℕ) (findings : List Finding) (text : List ℕ) : Type 0 where
+-- A text that reports once what is found in an input, each with the cause by which its rule was judged: what is under the
+-- headings of its descriptors is, in its order, all of it. The last line says how many findings there are.
+pub record EachFindingOnce (subject : Subject) (input : Input) (bytes first text : List ℕ) : Type 0 where
   pub shown : List Shown
-  pub lines : text ≡ first ++ (flat_map (lines_of subject) shown ++ last_line (length findings))
+  pub lines : text ≡ first ++ (flat_map (lines_of subject) shown ++ last_line (length (input_findings input)))
   pub cut : Cut bytes shown []
-  pub told : by_rule (flat_map (findings_of subject) shown) ≡ findings
+  pub told : flat_map (findings_of subject) shown ≡ found_in_order input
   pub own : AllByRecursion (TellsItsOwn subject) shown
 
 -- each explanation of an input reports once what `check` finds in it, each finding under the heading of its descriptor
 abbrev pub WholeTellsFindings : Type 0
 WholeTellsFindings =
     (manner : Manner) (input : Input) (b : List ℕ) → IsInput input b →
-    EachFindingOnce (subject_with manner input (findings_in_order input)) b (first_line (input_name input) (length b)) (input_findings input)
-    (explanation manner input b)
-
--- what the lines of a rule's findings say at a descriptor, if one of its role can break it
-abbrev pub told_there : Subject → Shown → Rule → List Told
-told_there subject d rule = unwrap_or (option_map (λ t. t ∷ []) (told_at subject.is_dump d.standing d.role d.bytes d.behind rule)) []
-
--- the counts in the lines of its findings: that of interfaces at a set, and that of endpoints at a setting
-abbrev pub counts_at : Subject → Shown → List Told
-counts_at subject d = told_there subject d rules.V1 ++ told_there subject d rules.V5
-
--- each explanation of an input reports its findings with the counts that its sets have
-pub record TellsCounts (subject : Subject) (input : Input) (bytes first text : List ℕ) : Type 0 where
-  pub tells : EachFindingOnce subject bytes first (input_findings input) text
-  pub counts : flat_map (counts_at subject) tells.shown ≡ counts_in input
-
-abbrev pub WholeTellsCounts : Type 0
-WholeTellsCounts =
-    (manner : Manner) (input : Input) (b : List ℕ) → IsInput input b →
-    TellsCounts (subject_with manner input (findings_in_order input)) input b (first_line (input_name input) (length b)) (explanation manner input b)
+    EachFindingOnce (subject_with manner input (found_in_order input)) input b (first_line (input_name input) (length b)) (explanation manner input b)
 
 -- a descriptor as it is shown
 abbrev pub entry_of : Shown → OutlineEntry
@@ -181,13 +158,13 @@ entry_of d = entry d.role (depth_of d.standing d.role) d.bytes
 
 -- each explanation of an input shows the descriptors of its tree, in their order and as deep as there
 pub record ShowsTree (subject : Subject) (input : Input) (bytes first text : List ℕ) : Type 0 where
-  pub tells : EachFindingOnce subject bytes first (input_findings input) text
+  pub tells : EachFindingOnce subject input bytes first text
   pub entries : map entry_of tells.shown ≡ outline input
 
 abbrev pub WholeShowsTree : Type 0
 WholeShowsTree =
     (manner : Manner) (input : Input) (b : List ℕ) → IsInput input b →
-    ShowsTree (subject_with manner input (findings_in_order input)) input b (first_line (input_name input) (length b)) (explanation manner input b)
+    ShowsTree (subject_with manner input (found_in_order input)) input b (first_line (input_name input) (length b)) (explanation manner input b)
 
 -- the same manner, with the lines of fields or without them
 abbrev pub with_fields : Manner → Manner
@@ -223,7 +200,7 @@ pub record LeavesOutFields (subject : Subject) (bytes first before_rest last one
 abbrev pub WholeLeavesOutFields : Type 0
 WholeLeavesOutFields =
     (manner : Manner) (input : Input) (b : List ℕ) →
-    LeavesOutFields (subject_with manner input (findings_in_order input)) b (first_line (input_name input) (length b)) [] (last_line (length (findings_in_order input)))
+    LeavesOutFields (subject_with manner input (found_in_order input)) b (first_line (input_name input) (length b)) [] (last_line (length (found_in_order input)))
     (explanation (with_fields manner) input b) (explanation (without_fields manner) input b)
 
 -- so is that of bytes that are no input
@@ -239,7 +216,7 @@ abbrev pub BlockIsLines : Subject → Shown → Type 0
 BlockIsLines subject d =
     IsLine (heading subject.manner.look d.role (context_at subject d) d.bytes d.standing.at)
     × SayFields (depth_of d.standing d.role) (fields subject.manner.look subject.names d.role (context_at subject d) d.bytes)
-    × AllByRecursion (λ f. IsLine (line_of subject.is_dump d.standing d.role d.bytes d.behind f)) (findings_of subject d)
+    × AllByRecursion (λ f. IsLine (line_of d.standing d.role f)) (findings_of subject d)
     × AllByRecursion (λ r. IsLine (remark_line (context_at subject d).depth r)) (remarks_of subject d)
 
 -- so it is of the rest, if bytes are left
@@ -258,9 +235,9 @@ pub record InLines (subject : Subject) (front bytes first before_rest last text 
 abbrev pub WholeInLines : Type 0
 WholeInLines =
     (manner : Manner) (input : Input) (b : List ℕ) → manner.look.utf8 ≡ false → IsInput input b →
-    InLines (subject_with manner input (findings_in_order input)) b b (first_line (input_name input) (length b)) [] (last_line (length (findings_in_order input)))
+    InLines (subject_with manner input (found_in_order input)) b b (first_line (input_name input) (length b)) [] (last_line (length (found_in_order input)))
     (explanation manner input b)
-    × IsLine (last_line (length (findings_in_order input)))
+    × IsLine (last_line (length (found_in_order input)))
 
 -- so is that of any bytes with any fault: before the rest are the line of the fault, and one line more or none
 abbrev pub BrokenInLines : Type 0

@@ -1,5 +1,5 @@
 //! What holds of each explanation. The functions of these laws do nothing: their contracts are the laws.
-ghost use Rattle.usb_explain.specs.Laws.{BrokenCoversUpToFault, BrokenEachByteOnce, BrokenInLines, BrokenLeavesOutFields, WholeEachByteOnce, WholeHasNoRest, WholeInLines, WholeLeavesOutFields, WholeShowsTree, WholeTellsCounts, WholeTellsFindings};
+ghost use Rattle.usb_explain.specs.Laws.{BrokenCoversUpToFault, BrokenEachByteOnce, BrokenInLines, BrokenLeavesOutFields, WholeEachByteOnce, WholeHasNoRest, WholeInLines, WholeLeavesOutFields, WholeShowsTree, WholeTellsFindings};
 ghost use Rattle.usb_explain.specs.Remarks.{FullOrHighIsOpen, LowOrFullIsOpen};
 
 /// Each byte once: the places and lengths in the headings follow each other from 0 to the number of bytes, and each heading
@@ -19,16 +19,11 @@ pub fn a_broken_input_is_explained_up_to_its_fault()
     ensures { BrokenCoversUpToFault }
 {}
 
-/// Each finding once: the findings under the headings are, in their order, just those that `check` reports of the input, each
-/// under the heading of the descriptor that breaks the rule. The last line says how many they are.
+/// Each finding once: the findings under the headings are, in the order of the bytes, just those that `check` reports of the
+/// input, each under the heading of the descriptor that breaks the rule. Each says the cause and the counts by which the rule was
+/// judged. The last line says how many they are.
 pub fn each_finding_is_told_once()
     ensures { WholeTellsFindings }
-{}
-
-/// Counts are those that are judged: where the line of a finding says how many interfaces a set has, or how many endpoints
-/// a setting has, it is the count by which rules V1 and V5 judge it.
-pub fn each_count_is_as_judged()
-    ensures { WholeTellsCounts }
 {}
 
 /// Each descriptor has its owner: the headings are those of the descriptors that were read, in their order. Each says what

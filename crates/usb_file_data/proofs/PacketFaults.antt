@@ -1,8 +1,7 @@
 -- A fault of bMaxPacketSize0 is there just where the rule is broken.
-use Rattle.std.proofs.Common.{◌≡◌, ℕ, ◌==◌, ◌||◌, nat_le, not, Bool, true, false, is_some, Option, Some, None, if◌then◌else◌, refl, ap, sym, arith}
+use Rattle.std.proofs.Common.{◌≡◌, ℕ, ◌==◌, ◌||◌, nat_le, not, Bool, true, false, is_some, Some, None, if◌then◌else◌, refl, ap, sym, arith}
 use Rattle.std.proofs.lemmas.Bool.Decides.{nat_tests}
 use Rattle.usb_fields.specs.declared.device.DeviceDescriptor.{DeviceDescriptor}
-use Rattle.usb_file_data.specs.declared.cause.PacketFault.{PacketFault}
 use Rattle.usb_file_data.specs.declared.cause.PacketFault.TheVariants as packets
 use Rattle.usb_file_data.specs.Causes.{device_packet_fault, packet_fault}
 use Rattle.usb_file_data.specs.Rules.{has_lone_subclass, wrong_device, wrong_dumped_device, wrong_packet}

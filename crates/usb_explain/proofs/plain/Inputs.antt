@@ -18,7 +18,7 @@ use Rattle.usb_explain.specs.declared.manner.Manner.{Manner}
 use Rattle.usb_explain.specs.Explanations.{broken_explanation, broken_name, explanation, first_line, input_name, last_line}
 use Rattle.usb_explain.specs.Faults.{fault_lines, place_of_fault}
 use Rattle.usb_explain.specs.Laws.{BrokenInLines, WholeInLines}
-use Rattle.usb_file_data.specs.Findings.{findings_in_order}
+use Rattle.usb_file_data.specs.Findings.{found_in_order}
 use Rattle.usb_explain.specs.Subjects.{broken_subject, subject_with}
 use Rattle.usb_explain.proofs.Spans.{broken_once, whole_once}
 use Rattle.usb_explain.proofs.plain.Texts.{AreWords, parts}
@@ -51,7 +51,7 @@ are_bytes (inputs.Set set) b is = is.fits
 are_bytes (inputs.File file) b is = is.fits
 are_bytes (inputs.Dump file) b is = is.fits
 
-subject_fits : (manner : Manner) (input : Input) (b : List ℕ) → manner.look.utf8 ≡ false → IsInput input b → SubjectFits (subject_with manner input (findings_in_order input))
+subject_fits : (manner : Manner) (input : Input) (b : List ℕ) → manner.look.utf8 ≡ false → IsInput input b → SubjectFits (subject_with manner input (found_in_order input))
 subject_fits manner (inputs.Set set) b ascii is = (ascii, record { strings = tt; ascii = refl })
 subject_fits manner (inputs.File file) b ascii is = (ascii, record { strings = file_strings_fit file (subst AreBytes is.bytes is.fits); ascii = ascii })
 subject_fits manner (inputs.Dump file) b ascii is = (ascii, record { strings = tt; ascii = refl })
@@ -63,11 +63,11 @@ name_plain (inputs.Dump file) = refl
 
 pub whole_in_lines : WholeInLines
 whole_in_lines manner input b ascii is =
-    let subject = subject_with manner input (findings_in_order input) in
-    let last = last_line (length (findings_in_order input)) in (
+    let subject = subject_with manner input (found_in_order input) in
+    let last = last_line (length (found_in_order input)) in (
       in_lines subject b b (first_line (input_name input) (length b)) [] last (explanation manner input b) (subject_fits manner input b ascii is)
           (are_bytes input b is) (are_bytes input b is) (whole_once manner input b) (first_is_line (input_name input) (length b) (name_plain input)),
-      last_is_line (length (findings_in_order input)),
+      last_is_line (length (found_in_order input)),
     )
 
 pub broken_in_lines : BrokenInLines
