@@ -41,7 +41,7 @@ entries_same brief subject (suc n) s ahead = entries_by brief subject n s ahead 
 abbrev head_of : Subject → Entry → List ℕ
 head_of subject d =
     heading subject.manner.look d.role (context_at subject d) d.bytes d.standing.at
-    ++ role_findings subject d.standing d.role d.bytes d.after
+    ++ role_findings subject d.standing d.role
     ++ remark_lines d.role (context_at subject d) d.bytes (rest_of_set d.standing d.bytes d.after)
 
 lines_are : (subject : Subject) (d : Entry) → lines_of subject d ≡ head_of subject d ++ fields subject.manner.look subject.names d.role (context_at subject d) d.bytes

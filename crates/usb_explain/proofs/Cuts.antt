@@ -1,10 +1,7 @@
 -- The descriptors of bytes, one by one.
-use Rattle.std.proofs.Common.{◌≡◌, ◌≤◌, ℕ, zero, suc, ◌+◌, ◌-◌, List, [], ◌∷◌, Bool, true, false, if◌then◌else◌, length, take, drop, Option, Some, None, unwrap_or, refl, sym, ap, ◌∙◌, arith, length-drop}
-use mir.Val.{bool_byte}
+use Rattle.std.proofs.Common.{◌≡◌, ◌≤◌, ℕ, zero, suc, ◌-◌, List, [], ◌∷◌, length, take, drop, Option, Some, None, unwrap_or, refl, sym, ap, ◌∙◌, arith, length-drop}
 use Rattle.std.specs.Option.{option_map}
 use Rattle.std.proofs.lemmas.Bool.Decides.{nat_tests}
-use Rattle.usb_explain.specs.Headers.{endpoints_before_interface}
-use Rattle.usb_explain.specs.Roles.{is_endpoint, is_interface}
 use Rattle.usb_explain.specs.Trees.{descriptor_length, descriptors, first_descriptors}
 
 -- a descriptor has two bytes at least, and no more than are there
@@ -40,16 +37,6 @@ enough zero g (x ∷ xs) p q = absurd (omega arith)
 enough (suc f) zero (x ∷ xs) p q = absurd (omega arith)
 enough (suc f) (suc g) (x ∷ xs) p q = enough_at f g (x ∷ xs) (descriptor_length (x ∷ xs)) refl p q (enough f g)
 
--- a test as a number is one at most
-pub test_at_most_one : (b : Bool) → bool_byte b ≤ 1
-test_at_most_one true = omega arith
-test_at_most_one false = omega arith
-
--- one more or not
-endpoint_or_not : (b : Bool) (m n : ℕ) → (if b then m + 1 else m) + n ≡ m + (n + bool_byte b)
-endpoint_or_not true m n = omega arith
-endpoint_or_not false m n = omega arith
-
 -- the first descriptor, and those behind it
 pub descriptors_step : (b : List ℕ) (n : ℕ) → descriptor_length b ≡ Some n → descriptors b ≡ take n b ∷ descriptors (drop n b)
 descriptors_step [] n e = absurd (cc)
@@ -64,8 +51,3 @@ descriptors_step (x ∷ xs) n e =
 pub descriptors_end : (b : List ℕ) → descriptor_length b ≡ None → descriptors b ≡ []
 descriptors_end [] e = refl
 descriptors_end (x ∷ xs) e = first_step (length xs) (x ∷ xs) None e
-
--- a descriptor that is no interface counts where it is an endpoint
-pub counted_endpoint : (ds more : List (List ℕ)) (d : List ℕ) (n k : ℕ) → ds ≡ d ∷ more → is_interface d ≡ false
-    → k ≡ bool_byte (is_endpoint d) → endpoints_before_interface ds + n ≡ endpoints_before_interface more + (n + k)
-counted_endpoint ds more d n k e other count = rw (e, other, count) (endpoint_or_not (is_endpoint d) (endpoints_before_interface more) n)

@@ -10,8 +10,7 @@ use Rattle.usb_explain.specs.declared.role.Role.{Role}
 use Rattle.usb_explain.specs.declared.position.Standing.{Standing}
 use Rattle.usb_explain.specs.Outline.{Entry, after_next, bytes_of, entry_next, first_entries, here, told_next}
 use Rattle.usb_explain.specs.Findings.{found_at}
-use Rattle.usb_explain.specs.Laws.{AllEachByteOnce, Cut, Follow, counts_at, end_of, entry_of, findings_of, span_of}
-use Rattle.usb_explain.specs.declared.finding_words.Told.{Told}
+use Rattle.usb_explain.specs.Laws.{AllEachByteOnce, Cut, Follow, end_of, entry_of, findings_of, span_of}
 use Rattle.usb_explain.specs.Roles.{next_role, role_of}
 use Rattle.usb_explain.specs.Standings.{start}
 use Rattle.usb_explain.specs.Subjects.{Subject}
@@ -81,7 +80,7 @@ walk_more subject n s ahead next e w =
     let bounds = next_bounds s ahead next e in
     let taken : length (take next.1 ahead) ≡ next.1 = length-take-le next.1 ahead bounds.1 in
     let at_here : (here subject s ahead next).at ≡ s.at = entered_at next.0 subject.manner.speed ahead s in
-    let found = found_at subject (here subject s ahead next) next.0 (take next.1 ahead) (drop next.1 ahead) in
+    let found = found_at subject (here subject s ahead next) next.0 in
     let at_after : (after_next subject s ahead next).at ≡ s.at + length (take next.1 ahead) =
     ap (λ k. k + length (take next.1 ahead)) (noted_at next.0 (take next.1 ahead) (told_next subject s ahead next) ∙ at_here) in
     record {
@@ -94,7 +93,7 @@ walk_more subject n s ahead next e w =
       told = w.told;
       tells = append_assoc found (flat_map (findings_of subject) w.shown) (drop w.told subject.found)
           ∙ ap (λ l. found ++ l) (w.tells ∙ ap (λ k. drop k subject.found) (told_noted next.0 (take next.1 ahead) (told_next subject s ahead next)))
-          ∙ found_front subject (here subject s ahead next) next.0 (take next.1 ahead) (drop next.1 ahead)
+          ∙ found_front subject (here subject s ahead next) next.0
           ∙ ap (λ k. drop k subject.found) (told_entered next.0 subject.manner.speed ahead s);
     }
 
@@ -112,18 +111,18 @@ pub walk_shows : (subject : Subject) (n : ℕ) (s : Standing) (ahead : List ℕ)
 walk_shows subject zero s ahead = walk_none subject zero s ahead (walk_zero subject s ahead)
 walk_shows subject (suc n) s ahead = walk_by subject n s ahead (next_role s ahead) refl (walk_shows subject n)
 
--- what is said of a walk: of the bytes that are left, of the entries of its descriptors, and of their counts
+-- what is said of a walk: of the bytes that are left, and of the entries of its descriptors
 abbrev pub Aim : Type 1
-Aim = List ℕ → List OutlineEntry → List Told → Type 0
+Aim = List ℕ → List OutlineEntry → Type 0
 
--- the same of a walk behind descriptors of these entries and counts
-abbrev pub adding : Aim → List OutlineEntry → List Told → Aim
-adding E entries counts = λ rest c t. E rest (entries ++ c) (counts ++ t)
+-- the same of a walk behind descriptors of these entries
+abbrev pub adding : Aim → List OutlineEntry → Aim
+adding E entries = λ rest c. E rest (entries ++ c)
 
 -- a walk of which this holds, and which comes to the end of the findings
 pub record Ended (E : Aim) (subject : Subject) (n : ℕ) (s : Standing) (ahead : List ℕ) : Type 0 where
   pub walk : Walk subject n s ahead
-  pub aimed : E walk.rest (map entry_of walk.shown) (flat_map (counts_at subject) walk.shown)
+  pub aimed : E walk.rest (map entry_of walk.shown)
   pub all_told : drop walk.told subject.found ≡ []
 
 -- where no bytes are, no descriptor can stand
@@ -131,13 +130,13 @@ none_of_nothing : (s : Standing) → next_role s [] ≡ None
 unfolding next_role
 none_of_nothing s = refl
 
-pub ended_none : (E : Aim) (subject : Subject) (n : ℕ) (s : Standing) → drop s.told subject.found ≡ [] → E [] [] [] → Ended E subject n s []
+pub ended_none : (E : Aim) (subject : Subject) (n : ℕ) (s : Standing) → drop s.told subject.found ≡ [] → E [] [] → Ended E subject n s []
 unfolding walk_none
 ended_none E subject n s none aimed =
     record { walk = walk_none subject n s [] (entries_none n subject s [] (none_of_nothing s)); aimed = aimed; all_told = none }
 
 pub ended_more : (E : Aim) (subject : Subject) (n : ℕ) (s : Standing) (ahead : List ℕ) (next : Role × ℕ) → next_role s ahead ≡ Some next
-    → Ended (adding E (entry_of (entry_next subject s ahead next) ∷ []) (counts_at subject (entry_next subject s ahead next))) subject n (after_next subject s ahead next) (drop next.1 ahead)
+    → Ended (adding E (entry_of (entry_next subject s ahead next) ∷ [])) subject n (after_next subject s ahead next) (drop next.1 ahead)
     → Ended E subject (suc n) s ahead
 unfolding walk_more
 ended_more E subject n s ahead next e ended = record { walk = walk_more subject n s ahead next e ended.walk; aimed = ended.aimed; all_told = ended.all_told }

@@ -37,10 +37,9 @@ heard_all all e hears =
 
 -- what was gathered of all descriptors is their survey
 pub gathered_all : (all : List (List ℕ)) (g : Gathering) → Gathers all g []
-    → ◌≡◌ {A = Survey} record { spoken = g.evidence; interfaces = g.interfaces.count; bindings = g.associations.bindings } (survey_of all)
+    → ◌≡◌ {A = Survey} record { spoken = g.evidence; bindings = g.associations.bindings } (survey_of all)
 unfolding survey_of
 gathered_all all g gathers =
     let evidence : g.evidence ≡ evidence_of all = heard_all all g.evidence gathers.evidence in
-    let count : g.interfaces.count ≡ _ = sym (zero-add g.interfaces.count) ∙ sym gathers.interfaces in
     let table : g.associations.bindings ≡ bindings all = whole_table all g.associations.bindings gathers.cells (λ n within. gathers.bindings n within ∙ or_none (bound_at g.associations.bindings n)) in
     cc

@@ -1,6 +1,5 @@
 pub mod Walks
 pub mod Steps
-pub mod Counts
 pub mod Seen
 pub mod Extras
 pub mod Endpoints

@@ -1,6 +1,6 @@
 -- The explanation of an input, and of bytes that are none: the lines of all descriptors.
 use Rattle.std.specs.Prelude.{ℕ, List, ◌+◌, ◌-◌, ◌++◌, length, take, drop, flat_map, nat_le, Option, Some, None, if◌then◌else◌, [], ◌∷◌, codes, nat_lt, ◌⊎◌, slice_index, is_some, ◌==◌, ◌||◌}
-use Rattle.usb_file_data.specs.Findings.{findings_in_order}
+use Rattle.usb_file_data.specs.Findings.{found_in_order}
 use Rattle.usb_explain.specs.Descriptors.{fields, heading}
 use Rattle.usb_explain.specs.declared.role.Role.{Role}
 use Rattle.usb_explain.specs.RemarkLines.{remark_lines}
@@ -9,6 +9,7 @@ use Rattle.usb_explain.specs.Findings.{role_findings}
 use Rattle.usb_explain.specs.Contexts.{context_of}
 use Rattle.usb_explain.specs.Standings.{start}
 use Rattle.usb_explain.specs.Outline.{Entry, bytes_of, first_entries}
+use Rattle.usb_file_data.specs.Findings.{found_in_order}
 use Rattle.usb_explain.specs.Subjects.{Subject, broken_subject, subject_with}
 use Rattle.std.specs.Fmt.{decimal}
 use Rattle.hex.specs.Hex.{encode_lower}
@@ -35,7 +36,7 @@ rest_of_set s d after =
 unfoldable pub block : Subject → Standing → Role → List ℕ → List ℕ → List ℕ
 block subject s role d after =
     heading subject.manner.look role (context_of subject s role d) d s.at
-    ++ role_findings subject s role d after
+    ++ role_findings subject s role
     ++ remark_lines role (context_of subject s role d) d (rest_of_set s d after)
     ++ fields subject.manner.look subject.names role (context_of subject s role d) d
 
@@ -107,7 +108,7 @@ whole_text subject name findings b = first_line name (length b) ++ walked (lengt
 -- the explanation of an input, of which these are the bytes
 abbrev pub explanation : Manner → Input → List ℕ → List ℕ
 explanation manner input b =
-    whole_text (subject_with manner input (findings_in_order input)) (input_name input) (length (findings_in_order input)) b
+    whole_text (subject_with manner input (found_in_order input)) (input_name input) (length (found_in_order input)) b
 
 -- the explanation of bytes that are no input
 unfoldable pub broken_text : Subject → InputFault → List ℕ → List ℕ
@@ -130,7 +131,7 @@ StopsBetween subject b first old new = Keeps old new ⊎ EndsBetween subject b f
 
 -- of the explanation of an input
 abbrev pub StopsWhole : Manner → Input → List ℕ → Held → Held → Type 0
-StopsWhole manner input b = StopsBetween (subject_with manner input (findings_in_order input)) b (first_line (input_name input) (length b))
+StopsWhole manner input b = StopsBetween (subject_with manner input (found_in_order input)) b (first_line (input_name input) (length b))
 
 -- and of that of bytes which are none
 abbrev pub StopsBroken : Manner → InputFault → List ℕ → Held → Held → Type 0

@@ -1,5 +1,5 @@
 -- Descriptors of classes, by their bytes, and what is remarked of a class header.
-use Rattle.std.specs.Prelude.{ℕ, ◌+◌, List, length, slice_index, Bool, not, nat_lt, ◌==◌, ◌&&◌, Option, Some, None, option_and_then, if◌then◌else◌, ◌++◌, drop, codes, [], ◌∷◌}
+use Rattle.std.specs.Prelude.{ℕ, ◌+◌, List, length, slice_index, Bool, not, nat_lt, ◌==◌, ◌&&◌, Option, Some, None, option_and_then, if◌then◌else◌, ◌++◌, drop, codes}
 use Rattle.std.specs.List.{sum_by, take_while}
 use Rattle.usb_fields.specs.Bytes.{little_endian_at}
 use Rattle.usb_names.specs.declared.codes.ClassCodes.{ClassCodes}
@@ -13,8 +13,6 @@ use Rattle.usb_explain.specs.declared.context.Context.{Context}
 use Rattle.usb_explain.specs.Layouts.{Layout, layout_lines}
 use Rattle.usb_explain.specs.Lines.{digits_line, field_line}
 use Rattle.usb_explain.specs.StringNames.{StringNames}
-use Rattle.usb_fields.specs.Marks.{marked}
-use Rattle.usb_explain.specs.Roles.{is_endpoint, is_interface}
 
 -- What is remarked of a class header: that its wTotalLength isn't the length of the class descriptors that it begins.
 
@@ -98,20 +96,3 @@ unfoldable pub raw_lines : Context → StringNames → List ℕ → List ℕ
 raw_lines context strings b =
     field_line context.depth (codes "bDescriptorType") (byte_code (slice_index b 1))
     ++ row_lines context strings (row_of_bytes context.interface b) b
-
--- How many interfaces a set has, and how many endpoints a setting.
-
--- the interfaces of distinct numbers, beyond those of numbers seen before
-abbrev pub interfaces_beyond : (ℕ → Bool) → List (List ℕ) → ℕ
-interfaces_beyond seen [] = 0
-interfaces_beyond seen (d ∷ ds) =
-    if is_interface d && not (seen (slice_index d 2)) then interfaces_beyond (marked seen (slice_index d 2)) ds + 1
-    else interfaces_beyond seen ds
-
--- the endpoints before the next interface
-abbrev pub endpoints_before_interface : List (List ℕ) → ℕ
-endpoints_before_interface [] = 0
-endpoints_before_interface (d ∷ ds) =
-    if is_interface d then 0
-    else if is_endpoint d then endpoints_before_interface ds + 1
-    else endpoints_before_interface ds

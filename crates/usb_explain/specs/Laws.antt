@@ -1,19 +1,15 @@
 -- What holds of the outline of an input, and so of its explanation: each byte is in one descriptor, and of an input no bytes
 -- are left. Each finding stands at its descriptor, with the counts of its set, and the descriptors are those of the input's
 -- tree. In an explanation in ASCII each part is printable lines.
-use Rattle.std.specs.Prelude.{Bool, ◌≡◌, ◌<◌, ◌≤◌, ℕ, true, false, ◌+◌, List, [], ◌∷◌, ◌++◌, length, map, take, drop, flat_map, slice_index, unwrap_or}
+use Rattle.std.specs.Prelude.{Bool, ◌≡◌, ◌<◌, ◌≤◌, ℕ, true, false, ◌+◌, List, [], ◌∷◌, ◌++◌, length, map, take, drop, flat_map, slice_index}
 use Rattle.std.specs.List.{AllByRecursion}
-use Rattle.std.specs.Option.{option_map}
 use Rattle.usb_fields.specs.Bytes.{AreBytes}
 use Rattle.usb_file_data.specs.declared.file.Input.{Input}
 use Rattle.usb_file_data.specs.declared.fault.InputFault.{InputFault}
 use Rattle.usb_file_data.specs.Inputs.{InputRefused, IsInput}
 use Rattle.usb_file_data.specs.Likeness.{likeness_of}
-use Rattle.usb_file_data.specs.Findings.{by_rule, findings_in_order, input_findings}
-use Rattle.usb_file_data.specs.declared.finding.Finding.{Finding}
-use Rattle.usb_file_data.specs.declared.rule.Rule.{Rule}
-use Rattle.usb_file_data.specs.declared.rule.Rule.TheVariants as rules
-use Rattle.usb_explain.specs.declared.finding_words.Told.{Told}
+use Rattle.usb_file_data.specs.Findings.{found_in_order, input_findings}
+use Rattle.usb_file_data.specs.declared.cause.Found.{Found}
 use Rattle.usb_explain.specs.declared.context.Context.{Context}
 use Rattle.usb_explain.specs.Descriptors.{field_lines, fields, heading}
 use Rattle.usb_explain.specs.Explanations.{lines_of, rest_fields, rest_heading, broken_name, first_line, input_name, last_line, rest_of_set}
@@ -22,13 +18,13 @@ use Rattle.usb_explain.specs.RemarkLines.{remark_line}
 use Rattle.usb_explain.specs.Remarks.{remarks_on}
 use Rattle.usb_explain.specs.declared.manner.Manner.{Manner}
 use Rattle.usb_explain.specs.Faults.{fault_text, likeness_text, place_of_fault}
-use Rattle.usb_explain.specs.Findings.{found_at, is_here, line_of, told_at}
+use Rattle.usb_explain.specs.Findings.{found_at, is_here, line_of}
 use Rattle.usb_explain.specs.Contexts.{context_of, depth_of}
 use Rattle.usb_explain.specs.Lines.{IsLine, IsLineIfAny, SayFields}
 use Rattle.usb_explain.specs.Outline.{Entry, bytes_of, outline_of}
 use Rattle.usb_explain.specs.Uncovered.{most_uncovered}
 use Rattle.usb_explain.specs.Subjects.{Subject, broken_subject, subject_with}
-use Rattle.usb_explain.specs.Trees.{OutlineEntry, counts_in, entry, outline}
+use Rattle.usb_explain.specs.Trees.{OutlineEntry, entry, outline}
 
 -- what the words of a descriptor depend on
 abbrev pub context_at : Subject → Entry → Context
@@ -39,8 +35,8 @@ abbrev pub remarks_of : Subject → Entry → List Remark
 remarks_of subject d = remarks_on d.role (context_at subject d) d.bytes (rest_of_set d.standing d.bytes d.after)
 
 -- the findings that stand at it
-abbrev pub findings_of : Subject → Entry → List Finding
-findings_of subject d = found_at subject d.standing d.role d.bytes d.after
+abbrev pub findings_of : Subject → Entry → List Found
+findings_of subject d = found_at subject d.standing d.role
 
 -- a place and a length
 pub record Span : Type 0 where
@@ -79,7 +75,7 @@ AllEachByteOnce = (subject : Subject) (b : List ℕ) → EachByteOnce subject b
 abbrev pub WholeHasNoRest : Type 0
 WholeHasNoRest =
     (manner : Manner) (input : Input) (b : List ℕ) → IsInput input b →
-    end_of (subject_with manner input (findings_in_order input)) b ≡ length b
+    end_of (subject_with manner input (found_in_order input)) b ≡ length b
 
 -- of bytes that are no input, the descriptors before the place of the fault come up to it but for so many bytes
 abbrev pub BrokenCoversUpToFault : Type 0
@@ -90,12 +86,12 @@ BrokenCoversUpToFault =
 
 -- what stands at a descriptor are findings of its own
 abbrev pub TellsItsOwn : Subject → Entry → Type 0
-TellsItsOwn subject d = AllByRecursion (λ f. is_here subject.is_dump d.standing d.role d.bytes d.after f ≡ true) (findings_of subject d)
+TellsItsOwn subject d = AllByRecursion (λ f. is_here d.standing d.role f ≡ true) (findings_of subject d)
 
--- Each finding once: those at the descriptors are, in their order, all that are made of the input. They are as many as are
--- counted.
+-- Each finding once, with the cause by which its rule was judged: what stands at the descriptors is, in its order, all that is
+-- found in the input. The findings that are counted are as many as those that are checked.
 pub record EachFindingOnce (subject : Subject) (input : Input) (b : List ℕ) : Type 0 where
-  pub told : by_rule (flat_map (findings_of subject) (outline_of subject b)) ≡ input_findings input
+  pub told : flat_map (findings_of subject) (outline_of subject b) ≡ found_in_order input
   pub own : AllByRecursion (TellsItsOwn subject) (outline_of subject b)
   pub count : length subject.found ≡ length (input_findings input)
 
@@ -103,22 +99,7 @@ pub record EachFindingOnce (subject : Subject) (input : Input) (b : List ℕ) : 
 abbrev pub WholeTellsFindings : Type 0
 WholeTellsFindings =
     (manner : Manner) (input : Input) (b : List ℕ) → IsInput input b →
-    EachFindingOnce (subject_with manner input (findings_in_order input)) input b
-
--- what the lines of a rule's findings say at a descriptor, if one of its role can break it
-abbrev pub told_there : Subject → Entry → Rule → List Told
-told_there subject d rule = unwrap_or (option_map (λ t. t ∷ []) (told_at subject.is_dump d.standing d.role d.bytes d.after rule)) []
-
--- the counts in the lines of its findings: that of interfaces at a set, and that of endpoints at a setting
-abbrev pub counts_at : Subject → Entry → List Told
-counts_at subject d = told_there subject d rules.V1 ++ told_there subject d rules.V5
-
--- the counts at the descriptors of an input are those that its sets have
-abbrev pub WholeTellsCounts : Type 0
-WholeTellsCounts =
-    (manner : Manner) (input : Input) (b : List ℕ) → IsInput input b →
-    let subject = subject_with manner input (findings_in_order input) in
-    flat_map (counts_at subject) (outline_of subject b) ≡ counts_in input
+    EachFindingOnce (subject_with manner input (found_in_order input)) input b
 
 -- a descriptor, by its role, its depth and its bytes
 abbrev pub entry_of : Entry → OutlineEntry
@@ -128,7 +109,7 @@ entry_of d = entry d.role (depth_of d.standing d.role) d.bytes
 abbrev pub WholeShowsTree : Type 0
 WholeShowsTree =
     (manner : Manner) (input : Input) (b : List ℕ) → IsInput input b →
-    map entry_of (outline_of (subject_with manner input (findings_in_order input)) b) ≡ outline input
+    map entry_of (outline_of (subject_with manner input (found_in_order input)) b) ≡ outline input
 
 -- what is explained with the lines of fields, or in brief without them
 abbrev pub looking : Bool → Subject → Subject
@@ -148,7 +129,7 @@ abbrev pub BlockIsLines : Subject → Entry → Type 0
 BlockIsLines subject d =
     IsLine (heading subject.manner.look d.role (context_at subject d) d.bytes d.standing.at)
     × SayFields (depth_of d.standing d.role) (fields subject.manner.look subject.names d.role (context_at subject d) d.bytes)
-    × AllByRecursion (λ f. IsLine (line_of subject.is_dump d.standing d.role d.bytes d.after f)) (findings_of subject d)
+    × AllByRecursion (λ f. IsLine (line_of d.standing d.role f)) (findings_of subject d)
     × AllByRecursion (λ r. IsLine (remark_line (context_at subject d).depth r)) (remarks_of subject d)
 
 -- so it is of the rest, if bytes are left
@@ -160,10 +141,10 @@ RestIsLines subject at (x ∷ rest) = IsLine (rest_heading subject.manner.look a
 abbrev pub WholeInLines : Type 0
 WholeInLines =
     (manner : Manner) (input : Input) (b : List ℕ) → manner.look.utf8 ≡ false → IsInput input b →
-    let subject = subject_with manner input (findings_in_order input) in
+    let subject = subject_with manner input (found_in_order input) in
     IsLine (first_line (input_name input) (length b))
     × AllByRecursion (BlockIsLines subject) (outline_of subject b)
-    × IsLine (last_line (length (findings_in_order input)))
+    × IsLine (last_line (length (found_in_order input)))
 
 -- so it is of any bytes with any fault: before the rest are the line of the fault, and one line more or none
 abbrev pub BrokenInLines : Type 0

@@ -25,13 +25,13 @@ abbrev pub entry_next : Subject → Standing → List ℕ → Role × ℕ → En
 entry_next subject s ahead next =
     record { standing = here subject s ahead next; role = next.0; bytes = take next.1 ahead; after = drop next.1 ahead }
 
--- the state with the findings of a descriptor reported, after which these bytes come
-abbrev pub telling : Subject → Role → List ℕ → List ℕ → Standing → Standing
-telling subject role d after s = with_told (s.told + length (found_at subject s role d after)) s
+-- the state with the findings of a descriptor reported
+abbrev pub telling : Subject → Role → Standing → Standing
+telling subject role s = with_told (s.told + length (found_at subject s role)) s
 
 -- the state when its findings are reported
 abbrev pub told_next : Subject → Standing → List ℕ → Role × ℕ → Standing
-told_next subject s ahead next = telling subject next.0 (take next.1 ahead) (drop next.1 ahead) (here subject s ahead next)
+told_next subject s ahead next = telling subject next.0 (here subject s ahead next)
 
 -- the state after that descriptor
 abbrev pub after_next : Subject → Standing → List ℕ → Role × ℕ → Standing

@@ -11,10 +11,8 @@ use Rattle.std.specs.Option.{option_or}
 use Rattle.usb_explain.specs.declared.speed.SetSpeed.{SetSpeed}
 use Rattle.usb_explain.specs.declared.speed.SetSpeed.TheVariants as speeds
 use Rattle.usb_explain.specs.declared.set_speed.Background.{Background}
-use Rattle.usb_fields.specs.Marks.{unmarked}
 use Rattle.usb_explain.specs.declared.survey.Survey.{Survey}
 use Rattle.usb_explain.specs.Bindings.{bindings}
-use Rattle.usb_explain.specs.Headers.{interfaces_beyond}
 
 -- What the descriptors of a set say of its speed (USB 2.0, 5.5 to 5.8 and 9.6.6; USB 3.2, 9.6.7).
 
@@ -145,6 +143,5 @@ speed_by background evidence = without_low (low_is_excluded background evidence)
 unfoldable pub survey_of : List (List ℕ) → Survey
 survey_of ds = record {
   spoken = evidence_of ds;
-  interfaces = interfaces_beyond unmarked ds;
   bindings = bindings ds;
 }

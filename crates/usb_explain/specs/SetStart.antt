@@ -59,7 +59,6 @@ set_by s running part survey = record {
   part = part;
   number = sets_of s part;
   speed = speed_by (background_by running s.device s.other_packet s.other_speed) survey.spoken;
-  interfaces = survey.interfaces;
   bindings = survey.bindings;
   associations = 0;
   settings = 0;

@@ -20,7 +20,6 @@ before_sets = record {
   part = Main;
   number = 0;
   speed = FullOrHigh;
-  interfaces = 0;
   bindings = replicate 256 None;
   associations = 0;
   settings = 0;

@@ -3,7 +3,7 @@ use Rattle.std.specs.Prelude.{ℕ, zero, ◌/◌, ◌%◌, List, [], slice_get, 
 use Rattle.usb_file_data.specs.declared.file.Strings.{Strings}
 use Rattle.usb_file_data.specs.declared.file.Input.{Input}
 use Rattle.usb_file_data.specs.declared.file.Input.TheVariants as inputs
-use Rattle.usb_file_data.specs.declared.finding.Finding.{Finding}
+use Rattle.usb_file_data.specs.declared.cause.Found.{Found}
 use Rattle.usb_explain.specs.declared.context.StringPlace.{StringPlace}
 use Rattle.usb_explain.specs.declared.string_names.Missing.TheVariants.{NotInInput, NotRead}
 use Rattle.usb_explain.specs.StringNames.{StringNames, names_of, no_names}
@@ -14,10 +14,10 @@ pub record Subject : Type 0 where
   pub manner : Manner
   pub is_dump : Bool
   pub names : StringNames
-  pub found : List Finding
+  pub found : List Found
 
 -- an input of which these findings are known
-abbrev pub subject_with : Manner → Input → List Finding → Subject
+abbrev pub subject_with : Manner → Input → List Found → Subject
 subject_with manner (inputs.Set set) all =
     record { manner = manner; is_dump = false; names = no_names NotInInput; found = all }
 subject_with manner (inputs.File file) all =

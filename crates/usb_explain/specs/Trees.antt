@@ -1,5 +1,4 @@
--- The outline of an input: the descriptors of its tree, each with its depth. And the interfaces and endpoints of its sets,
--- counted.
+-- The outline of an input: the descriptors of its tree, each with its depth.
 use Rattle.std.specs.Prelude.{ℕ, zero, suc, ◌+◌, List, [], ◌∷◌, length, take, drop, nat_lt, ◌||◌, Option, Some, None, unwrap_or, if◌then◌else◌, ◌++◌, map}
 use Rattle.std.specs.Option.{option_map}
 use Rattle.std.specs.List.{flat_map}
@@ -14,12 +13,8 @@ use Rattle.usb_set.specs.Descriptors.{configuration_descriptor, descriptor_bytes
 use Rattle.usb_set.specs.Layout.{set_length}
 use Rattle.usb_file_data.specs.declared.file.Other.{Other}
 use Rattle.usb_file_data.specs.declared.file.Strings.{Strings}
-use Rattle.usb_file_data.specs.File.{other_sets}
 use Rattle.usb_file_data.specs.declared.file.Input.{Input}
 use Rattle.usb_file_data.specs.declared.file.Input.TheVariants as inputs
-use Rattle.usb_file_data.specs.Rules.{interface_numbers}
-use Rattle.usb_explain.specs.declared.finding_words.Told.{Told}
-use Rattle.usb_explain.specs.declared.finding_words.Told.TheVariants as told
 use Rattle.usb_explain.specs.declared.role.Role.{Role}
 use Rattle.usb_explain.specs.declared.role.Role.TheVariants as roles
 
@@ -104,21 +99,3 @@ outline (inputs.Set set) = set_entries set
 outline (inputs.File file) =
     entry roles.Device 0 (device_bytes file.device) ∷ flat_map set_entries file.sets ++ other_entries file.other ++ string_entries file.strings
 outline (inputs.Dump file) = entry roles.Device 0 (device_bytes file.device) ∷ flat_map set_entries file.sets
-
--- how many endpoints a setting says and has, as rule V5 judges it
-abbrev pub setting_count : Setting → Told
-setting_count s = told.EndpointCount s.declared_endpoints (length s.endpoints)
-
--- how many interfaces a set says and has, of distinct numbers, as rule V1 judges it; and how many endpoints each setting
-abbrev pub set_counts : Configuration → List Told
-set_counts c = told.InterfaceCount c.declared_interfaces (length (interface_numbers c.settings)) ∷ map setting_count c.settings
-
--- the sets of an input, in the order of its bytes
-abbrev pub sets_in : Input → List Configuration
-sets_in (inputs.Set set) = set ∷ []
-sets_in (inputs.File file) = file.sets ++ other_sets file.other
-sets_in (inputs.Dump file) = file.sets
-
--- what they say and have
-abbrev pub counts_in : Input → List Told
-counts_in input = flat_map set_counts (sets_in input)

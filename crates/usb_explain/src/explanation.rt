@@ -13,7 +13,7 @@ use crate::walk::write_blocks;
 use std::alloc::{AllocError, Global};
 use std::io::Write;
 use usb_fields::{after, byte_at, descriptor_type, prefix};
-use usb_file_data::{Input, InputFault, findings_in_order, likeness_of};
+use usb_file_data::{Input, InputFault, found_in_order, likeness_of};
 use usb_text::{OutFault, Text, put_count, write_all};
 
 /// Writes the explanation of an input, of which these are the bytes.
@@ -38,9 +38,9 @@ pub fn explain<W: Write>(
     ensures err { OnErr result (AppendsLess (W.contents w.old) (W.contents w.new) (explanation manner input.now bytes.now)) }
     ensures memory { IfErr result (λ fault. fault ≡ OutFault.Memory → StopsWhole manner input.now bytes.now (W.contents w.old) (W.contents w.new)) }
 {
-    let findings = findings_in_order(alloc, input)?;
-    let subject = Subject::of(alloc, manner, input, &findings)?;
-    write_whole(alloc, bytes, &subject, input_name(input), findings.len(), w)
+    let found = found_in_order(alloc, input)?;
+    let subject = Subject::of(alloc, manner, input, &found)?;
+    write_whole(alloc, bytes, &subject, input_name(input), found.len(), w)
 }
 
 /// Writes the explanation of an input of this name, with so many findings.

@@ -1,15 +1,15 @@
 //! The lines of findings.
 ghost use Rattle.std.specs.Prelude.{◌≡◌, ◌++◌, OnOk};
-ghost use Rattle.usb_explain.specs.FindingLines.{caused, causes_words, counts_words, device_words, finding_line, has_more, packet_words, qualifier_words, reserved_words, told_words};
+ghost use Rattle.usb_explain.specs.FindingLines.{caused, causes_words, counts_words, device_words, finding_line, has_more, packet_words, qualifier_words, reserved_words, cause_words};
 
-use crate::finding_words::{PacketFault, Told};
 use std::alloc::AllocError;
+use usb_file_data::{Cause, PacketFault};
 use usb_text::{Text, put_count};
 
 /// Puts the line of a finding at a descriptor whose heading has this depth.
 ///
 /// ```rust
-/// put_finding(&mut text, 3, Told::RepeatedAddress)?;
+/// put_finding(&mut text, 3, Cause::RepeatedAddress)?;
 /// assert_eq!(rt; text.as_bytes(), b"        ! V7 this setting has this address already\n");
 /// ```
 ///
@@ -17,29 +17,29 @@ use usb_text::{Text, put_count};
 ///
 /// Out of memory.
 #[tactic(auto, unfolding(crate::specs::FindingLines::finding_line))]
-pub(crate) fn put_finding(text: &mut Text, depth: u8, told: Told) -> Result<(), AllocError>
-    ensures { OnOk result (text.new ≡ text.old ++ finding_line depth told) }
+pub(crate) fn put_finding(text: &mut Text, depth: u8, cause: Cause) -> Result<(), AllocError>
+    ensures { OnOk result (text.new ≡ text.old ++ finding_line depth cause) }
 {
     text.put_spaces(2 * usize::from(depth) + 2)?;
     text.put("! V")?;
-    text.put_decimal(u64::from(told.rule().number()))?;
+    text.put_decimal(u64::from(cause.rule().number()))?;
     text.put(" ")?;
-    put_told(text, told)?;
+    put_cause(text, cause)?;
     text.put("\n")
 }
 
-#[tactic(auto, unfolding(crate::specs::FindingLines::told_words))]
-fn put_told(text: &mut Text, told: Told) -> Result<(), AllocError>
-    ensures { OnOk result (text.new ≡ text.old ++ told_words told) }
+#[tactic(auto, unfolding(crate::specs::FindingLines::cause_words))]
+fn put_cause(text: &mut Text, cause: Cause) -> Result<(), AllocError>
+    ensures { OnOk result (text.new ≡ text.old ++ cause_words cause) }
 {
-    match told {
-        Told::InterfaceCount { declared, found } => {
+    match cause {
+        Cause::InterfaceCount { declared, found } => {
             put_counts(text, "bNumInterfaces", declared, "set", found, "interface")
         }
-        Told::NumberGap => text.put("the interfaces aren't numbered from 0 without a gap"),
-        Told::RepeatedSetting => text.put("this interface has this alternate setting already"),
-        Told::NoDefaultSetting => text.put("this interface has no alternate setting 0"),
-        Told::EndpointCount { declared, found } => {
+        Cause::NumberGap => text.put("the interfaces aren't numbered from 0 without a gap"),
+        Cause::RepeatedSetting => text.put("this interface has this alternate setting already"),
+        Cause::NoDefaultSetting => text.put("this interface has no alternate setting 0"),
+        Cause::EndpointCount { declared, found } => {
             put_counts(
                 text,
                 "bNumEndpoints",
@@ -49,7 +49,7 @@ fn put_told(text: &mut Text, told: Told) -> Result<(), AllocError>
                 "endpoint",
             )
         }
-        Told::Address {
+        Cause::Address {
             endpoint_zero,
             reserved,
         } => {
@@ -57,25 +57,25 @@ fn put_told(text: &mut Text, told: Told) -> Result<(), AllocError>
             let other = "bits 6 to 4 of the address aren't zero";
             put_causes(text, endpoint_zero, one, reserved, other)
         }
-        Told::RepeatedAddress => text.put("this setting has this address already"),
-        Told::SharedAddress => text.put("another interface of the set has this address"),
-        Told::Attributes { clear, reserved } => {
+        Cause::RepeatedAddress => text.put("this setting has this address already"),
+        Cause::SharedAddress => text.put("another interface of the set has this address"),
+        Cause::Attributes { clear, reserved } => {
             let one = "bit 7 of bmAttributes isn't one";
             let other = "bits 4 to 0 of bmAttributes aren't zero";
             put_causes(text, clear, one, reserved, other)
         }
-        Told::ZeroValue => text.put("bConfigurationValue is 0"),
-        Told::RepeatedValue => text.put("an earlier set has this bConfigurationValue"),
-        Told::NoConfiguration => text.put("there is no configuration"),
-        Told::Device { packet, subclass } => put_device_causes(text, packet, subclass),
-        Told::Qualifier {
+        Cause::ZeroValue => text.put("bConfigurationValue is 0"),
+        Cause::RepeatedValue => text.put("an earlier set has this bConfigurationValue"),
+        Cause::NoConfiguration => text.put("there is no configuration"),
+        Cause::Device { packet, subclass } => put_device_causes(text, packet, subclass),
+        Cause::Qualifier {
             packet,
             subclass,
             reserved,
         } => put_qualifier_causes(text, packet, subclass, reserved),
-        Told::PacketSize => text.put("bits 15 to 13 of wMaxPacketSize aren't zero"),
-        Told::NoInterface => text.put("it binds no interface"),
-        Told::MissingInterface => text.put("it binds an interface that the set hasn't"),
+        Cause::PacketSize => text.put("bits 15 to 13 of wMaxPacketSize aren't zero"),
+        Cause::NoInterface => text.put("it binds no interface"),
+        Cause::MissingInterface => text.put("it binds an interface that the set hasn't"),
     }
 }
 
@@ -170,7 +170,7 @@ fn put_counts(
     field: &str,
     declared: u8,
     owner: &str,
-    found: u64,
+    found: usize,
     noun: &str,
 ) -> Result<(), AllocError>
     ensures { OnOk result (text.new ≡ text.old ++ counts_words field.now declared owner.now found noun.now) }
@@ -181,5 +181,5 @@ fn put_counts(
     text.put(", and the ")?;
     text.put(owner)?;
     text.put(" has ")?;
-    put_count(text, found, noun)
+    put_count(text, found as u64, noun)
 }

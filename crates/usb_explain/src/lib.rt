@@ -28,7 +28,6 @@ mod endpoint;
 mod explanation;
 mod fault_line;
 mod finding;
-mod finding_words;
 mod form;
 mod header;
 mod interval;

@@ -75,12 +75,12 @@ impl Standing {
         behind: &[u8],
     ) -> Result<usize, AllocError>
         ensures lines { OnOk result (text.new ≡ text.old ++ block subject.now self.now role d.now behind.now) }
-        ensures told { IfOk result (λ told. told ≡ self.now.told + length (found_at subject.now self.now role d.now behind.now)) }
+        ensures told { IfOk result (λ told. told ≡ self.now.told + length (found_at subject.now self.now role)) }
     {
         let context = self.context(subject, role, d);
         let look = subject.manner().look;
         put_heading(text, look, role, &context, d, self.at)?;
-        let told = self.put_findings(text, subject, role, d, behind)?;
+        let told = self.put_findings(text, subject, role)?;
         put_remarks(text, role, &context, d, self.rest_of_set(d, behind))?;
         put_fields(text, look, subject.names(), role, &context, d)?;
         Ok(told)

@@ -53,8 +53,6 @@ pub(crate) struct SetStanding {
     pub(crate) number: usize,
     /// Its speed.
     pub(crate) speed: SetSpeed,
-    /// How many distinct interface numbers the whole set has.
-    pub(crate) interfaces: u64,
     /// Which association of the whole set binds each interface.
     pub(crate) bindings: Bindings,
     /// How many associations came.
@@ -108,7 +106,6 @@ impl Standing {
                 part: Part::Main,
                 number: 0,
                 speed: SetSpeed::FullOrHigh,
-                interfaces: 0,
                 bindings: Bindings::new(),
                 associations: 0,
                 settings: 0,

@@ -2,16 +2,12 @@
 ghost use Rattle.std.specs.Prelude.{◌≡◌, ◌++◌, codes, OnOk};
 ghost use Rattle.std.specs.Fmt.{decimal};
 ghost use Rattle.usb_explain.specs.Sets.{association_words, binding_words, bound_words, configuration_words, function_words, interface_words, range_words, set_words, supply_words};
-ghost use Rattle.usb_explain.specs.Trees.{descriptors};
-ghost use Rattle.usb_explain.specs.Headers.{endpoints_before_interface};
 
 use crate::names::put_function_class_words;
-use crate::rest_lines::descriptor_length;
-use crate::role::{is_endpoint, is_interface};
 use crate::speed::{SetSpeed, put_power, put_speed};
 use crate::value::source_words;
 use std::alloc::AllocError;
-use usb_fields::{after, byte_at, prefix};
+use usb_fields::byte_at;
 use usb_text::{Text, put_count};
 
 /// Puts the words of the heading of a set's first descriptor (USB 2.0, 9.6.3 and 9.6.4).
@@ -147,25 +143,4 @@ fn put_setting(text: &mut Text, interface: u8, alternate: u8) -> Result<(), Allo
     text.put_decimal(u64::from(interface))?;
     text.put(" alternate ")?;
     text.put_decimal(u64::from(alternate))
-}
-
-/// The count of endpoints before the next interface, where these are the bytes of a set after an interface.
-///
-/// ```rust
-/// assert_eq!(rt; endpoint_count(&[7, 5, 0x81, 2, 64, 0, 0, 9, 4, 1, 0, 0, 255, 0, 0, 0]), 1);
-/// ```
-pub(crate) fn endpoint_count(setting: &[u8]) -> u64
-    ensures { result ≡ endpoints_before_interface (descriptors setting.now) }
-{
-    let mut rest = setting;
-    let mut count = 0;
-    while let Some(length) = descriptor_length(rest) {
-        let d = prefix(rest, length);
-        if is_interface(d) {
-            return count;
-        }
-        count += u64::from(is_endpoint(d));
-        rest = after(rest, length);
-    }
-    count
 }

@@ -25,7 +25,6 @@ impl Standing {
             part,
             number: self.sets_of(part),
             speed: speed_by(background, survey.spoken),
-            interfaces: survey.interfaces,
             bindings: survey.bindings,
             associations: 0,
             settings: 0,

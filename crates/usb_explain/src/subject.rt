@@ -10,7 +10,7 @@ use crate::manner::Manner;
 use crate::string_names::{Missing, Names, string_place};
 use std::alloc::{AllocError, Global};
 use std::marker::Model;
-use usb_file_data::{DescriptorFile, Finding, Input};
+use usb_file_data::{DescriptorFile, Found, Input};
 
 /// What is explained, and what is known of the whole of it.
 #[derive(Drop)]
@@ -22,7 +22,7 @@ pub(crate) struct Subject<'i> {
     /// The strings that indices name.
     names: Names<'i>,
     /// What breaks a rule, in the order of the bytes.
-    found: &'i [Finding],
+    found: &'i [Found],
 }
 
 impl<'i> Model for Subject<'i> {
@@ -39,7 +39,7 @@ impl<'i> Subject<'i> {
         alloc: Global,
         manner: Manner,
         input: &'i Input,
-        found: &'i [Finding],
+        found: &'i [Found],
     ) -> Result<Subject<'i>, AllocError>
         ensures { IfOk result (λ subject. subject ≡ subject_with manner input.now found.now) }
     {
@@ -55,7 +55,7 @@ impl<'i> Subject<'i> {
         alloc: Global,
         manner: Manner,
         is_dump: bool,
-        found: &'i [Finding],
+        found: &'i [Found],
     ) -> Subject<'i>
         ensures { result ≡ record { manner = manner; is_dump = is_dump; names = no_names NotInInput; found = found.now } }
     {
@@ -71,7 +71,7 @@ impl<'i> Subject<'i> {
         alloc: Global,
         manner: Manner,
         file: &'i DescriptorFile,
-        found: &'i [Finding],
+        found: &'i [Found],
     ) -> Result<Subject<'i>, AllocError>
         ensures { IfOk result (λ subject. subject ≡ record { manner = manner; is_dump = false; names = names_of manner.look.utf8 file.now; found = found.now }) }
     {
@@ -114,7 +114,7 @@ impl<'i> Subject<'i> {
     }
 
     /// What breaks a rule, without the first so many findings.
-    pub(crate) fn found_from(&self, told: usize) -> &[Finding]
+    pub(crate) fn found_from(&self, told: usize) -> &[Found]
         ensures found { result.now ≡ drop told self.now.found }
         ensures room { length self.now.found < 2 ^ 63 }
     {

@@ -2,21 +2,19 @@
 ghost use Rattle.std.specs.Prelude.{◌≡◌, ◌<◌, ◌≤◌, ◌+◌, ◌^◌, ◌∷◌, [], ℕ, List, length};
 ghost use Rattle.usb_explain.specs.Trees.{descriptors};
 ghost use Rattle.usb_explain.specs.SetSpeeds.{survey_of};
-ghost use Rattle.usb_explain.specs.inside.Walking.{BindsOn, CountsOn, Gathers};
+ghost use Rattle.usb_explain.specs.inside.Walking.{BindsOn, Gathers};
 
 use crate::bindings::Bindings;
 use crate::rest_lines::descriptor_length;
-use crate::role::{is_association, is_interface};
+use crate::role::is_association;
 use crate::speed_evidence::Evidence;
-use usb_fields::{Marks, after, byte_at, prefix};
+use usb_fields::{after, byte_at, prefix};
 
 /// What is known of a set before its descriptors are gone over one by one.
 #[derive(Clone, Debug, Drop)]
 pub(crate) struct Survey {
     /// What its descriptors say of its speed.
     pub(crate) spoken: Evidence,
-    /// How many distinct interface numbers it has.
-    pub(crate) interfaces: u64,
     /// Which association binds each interface.
     pub(crate) bindings: Bindings,
 }
@@ -46,17 +44,8 @@ impl Survey {
 pub(crate) struct Gathering {
     /// What they said of the speed.
     evidence: Evidence,
-    /// The interfaces.
-    interfaces: Numbers,
     /// The associations.
     associations: Binders,
-}
-
-/// The distinct numbers of interfaces.
-#[derive(Drop)]
-struct Numbers {
-    marks: Marks,
-    count: u64,
 }
 
 /// The associations, and what they bind.
@@ -70,15 +59,10 @@ impl Gathering {
     /// Before the first descriptor.
     pub(crate) fn new() -> Gathering
         ensures all { (all : List (List ℕ)) → Gathers all result all }
-        ensures interfaces { result.interfaces.count ≡ 0 }
         ensures associations { result.associations.count ≡ 0 }
     {
         Gathering {
             evidence: Evidence::none(),
-            interfaces: Numbers {
-                marks: Marks::new(),
-                count: 0,
-            },
             associations: Binders {
                 bindings: Bindings::new(),
                 count: 0,
@@ -88,14 +72,11 @@ impl Gathering {
 
     /// Adds a descriptor.
     pub(crate) fn add(&mut self, d: &[u8])
-        requires interfaces { self.old.interfaces.count + 1 < 2 ^ 64 }
         requires associations { self.old.associations.count + 1 < 2 ^ 64 }
         ensures gathers { (all ds : List (List ℕ)) → Gathers all self.old (d.now ∷ ds) → Gathers all self.new ds }
-        ensures interfaces { self.new.interfaces.count ≤ self.old.interfaces.count + 1 }
         ensures associations { self.new.associations.count ≤ self.old.associations.count + 1 }
     {
         self.evidence.add(d);
-        self.interfaces.add(d);
         self.associations.add(d);
     }
 
@@ -105,23 +86,7 @@ impl Gathering {
     {
         Survey {
             spoken: self.evidence,
-            interfaces: self.interfaces.count,
             bindings: self.associations.bindings,
-        }
-    }
-}
-
-impl Numbers {
-    /// Adds a descriptor, which counts where it is an interface of a new number.
-    fn add(&mut self, d: &[u8])
-        requires { self.old.count + 1 < 2 ^ 64 }
-        ensures counts { (ds : List (List ℕ)) → CountsOn self.old self.new d.now ds }
-        ensures count { self.new.count ≤ self.old.count + 1 }
-    {
-        let number = byte_at(d, 2);
-        if is_interface(d) && !self.marks.has(number) {
-            self.marks.add(number);
-            self.count += 1;
         }
     }
 }

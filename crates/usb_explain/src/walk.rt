@@ -1,8 +1,6 @@
 //! The lines of all descriptors, one after another.
-ghost use Rattle.std.specs.Prelude.{◌≡◌, ◌≤◌, ◌++◌, ◌⊎◌, ℕ, List, [], length, IfErr, IfOk, IfSome, OnErr, OnOk};
-ghost use Rattle.std.specs.Io.KnownBytes.{Appends, Keeps};
+ghost use Rattle.std.specs.Prelude.{◌≡◌, ◌≤◌, ◌++◌, ℕ, List, length, IfErr, IfOk, IfSome, OnErr};
 ghost use Rattle.usb_text.specs.Output.{AppendsLess};
-ghost use Rattle.usb_text.specs.inside.Pages.{Puts};
 ghost use Rattle.usb_explain.specs.Explanations.{StopsBetween, walked};
 ghost use Rattle.usb_explain.specs.SetStart.{entered};
 ghost use Rattle.usb_explain.specs.Roles.{next_role};

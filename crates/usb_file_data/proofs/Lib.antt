@@ -11,5 +11,6 @@ pub mod Entering
 pub mod Owning
 pub mod Walking
 pub mod RuleNumbers
+pub mod PacketFaults
 pub mod Sorting
 pub mod SetsAhead

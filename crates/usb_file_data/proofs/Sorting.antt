@@ -2,13 +2,16 @@
 use Rattle.std.proofs.Common.{◌≡◌, ℕ, suc, ◌+◌, ◌<◌, ◌≤◌, ◌==◌, Bool, true, false, List, [], ◌∷◌, ◌++◌, refl, ap, sym, subst, ◌∙◌, length, map, take, get_or, drop, arith, append_assoc, length-append, nat_lt, not}
 use Rattle.std.specs.Prelude.{◌||◌, is_some, filter, fold, if◌then◌else◌}
 use Rattle.std.specs.List.{AllByRecursion, list_all}
-use Rattle.std.proofs.lemmas.List.{append-nil, get_or_default}
+use Rattle.std.proofs.lemmas.List.{append-nil, get_or_default, map-append}
 use Rattle.std.proofs.lemmas.Bool.Decides.{nat_tests}
 use Rattle.std.proofs.lemmas.List.Elements.{filter-append}
 use Rattle.std.proofs.lemmas.Grind.{common_steps}
 use Rattle.usb_fields.specs.Marks.{marked}
 use Rattle.usb_set.specs.declared.tree.Configuration.{Configuration}
 use Rattle.usb_file_data.specs.declared.file.DescriptorFile.{DescriptorFile}
+use Rattle.usb_file_data.specs.declared.cause.Cause.{Cause}
+use Rattle.usb_file_data.specs.declared.cause.Cause.TheVariants as causes
+use Rattle.usb_file_data.specs.declared.cause.Found.{Found}
 use Rattle.usb_file_data.specs.declared.finding.Finding.{Finding}
 use Rattle.usb_file_data.specs.declared.finding.Part.{Part}
 use Rattle.usb_file_data.specs.declared.finding.Part.TheVariants as parts
@@ -16,8 +19,9 @@ use Rattle.usb_file_data.specs.declared.rule.Rule.{Rule}
 use Rattle.usb_file_data.specs.declared.rule.Rule.TheVariants as rules
 use Rattle.usb_file_data.specs.Numbers.{rule_number, rule_numbered}
 use Rattle.usb_file_data.specs.Places.{finding, is_among, when}
-use Rattle.usb_file_data.specs.Findings.{at_associations, at_configuration, by_rule, file_in_order, findings, of_rule, other_in_order, part_in_order, without_sets}
-use Rattle.usb_file_data.specs.Rules.{has_number_gap, wrong_attributes, wrong_device, wrong_interface_count, wrong_value}
+use Rattle.usb_file_data.specs.Findings.{at_associations, at_configuration, at_device, by_rule, file_in_order, findings, of_rule, other_in_order, part_in_order, without_sets}
+use Rattle.usb_file_data.specs.Rules.{has_number_gap, interface_numbers, wrong_attributes, wrong_device, wrong_interface_count, wrong_value}
+use Rattle.usb_file_data.specs.Causes.{attributes_cause, device_cause, found, value_cause}
 use Rattle.usb_file_data.proofs.RuleNumbers.{known, with_number}
 use Rattle.usb_file_data.proofs.Walking.{stands_more, take_more}
 
@@ -176,45 +180,57 @@ no_right : {A : Type 0} (xs ys : List A) → xs ++ ys ≡ [] → ys ≡ []
 no_right [] ys none = none
 no_right (x ∷ xs) ys none = cc
 
--- where no finding is of a rule, none in a part of the list is
-none_in_two : (r : Rule) (a b : List Finding) → of_rule r (a ++ b) ≡ [] → (of_rule r a ≡ []) × (of_rule r b ≡ [])
-none_in_two r a b none = let both = sym (filter-append _ a b) ∙ none in (no_left (of_rule r a) (of_rule r b) both, no_right (of_rule r a) (of_rule r b) both)
+-- the findings of a rule, without their causes
+abbrev of_found : Rule → List Found → List Finding
+of_found r xs = of_rule r (map (λ f. f.finding) xs)
 
-none_in_four : (r : Rule) (a b c d : List Finding) → of_rule r (a ++ b ++ c ++ d) ≡ [] → (of_rule r a ≡ []) × (of_rule r b ≡ []) × (of_rule r c ≡ []) × (of_rule r d ≡ [])
+-- where no finding is of a rule, none in a part of the list is
+none_in_two : (r : Rule) (a b : List Found) → of_found r (a ++ b) ≡ [] → (of_found r a ≡ []) × (of_found r b ≡ [])
+none_in_two r a b none =
+    let both = sym (ap (of_rule r) (map-append (λ f. f.finding) a b) ∙ filter-append _ (map (λ f. f.finding) a) (map (λ f. f.finding) b)) ∙ none in
+    (no_left (of_found r a) (of_found r b) both, no_right (of_found r a) (of_found r b) both)
+
+none_in_four : (r : Rule) (a b c d : List Found) → of_found r (a ++ b ++ c ++ d) ≡ [] → (of_found r a ≡ []) × (of_found r b ≡ []) × (of_found r c ≡ []) × (of_found r d ≡ [])
 none_in_four r a b c d none =
     let last = none_in_two r (a ++ b ++ c) d none in
     let third = none_in_two r (a ++ b) c last.0 in
     let first = none_in_two r a b third.0 in
     (first.0, first.1, third.1, last.1)
 
-not_when : (r : Rule) (part : Part) (holds : Bool) → of_rule r (when holds (finding r part 0 0 0)) ≡ [] → length (of_rule r (finding r part 0 0 0 ∷ [])) ≡ 1 → holds ≡ false
-not_when r part true none one = cc
-not_when r part false none one = refl
+not_when : (r : Rule) (cause : Cause) (part : Part) (holds : Bool) → of_found r (when holds (found cause part 0 0 0)) ≡ [] → length (of_found r (found cause part 0 0 0 ∷ [])) ≡ 1 → holds ≡ false
+not_when r cause part true none one = cc
+not_when r cause part false none one = refl
 
-none_in_file : (r : Rule) (f : DescriptorFile) → of_rule r (file_in_order (wrong_device f.device) f) ≡ []
-    → (of_rule r (without_sets parts.Main f.sets) ≡ []) × (of_rule r (when (wrong_device f.device) (finding rules.V11 parts.Device 0 0 0)) ≡ [])
-    × (of_rule r (part_in_order parts.Main f.sets) ≡ []) × (of_rule r (other_in_order f.other) ≡ [])
-none_in_file r f = none_in_four r (without_sets parts.Main f.sets) (when (wrong_device f.device) (finding rules.V11 parts.Device 0 0 0)) (part_in_order parts.Main f.sets) (other_in_order f.other)
+none_in_file : (r : Rule) (f : DescriptorFile) → of_found r (file_in_order false f) ≡ []
+    → (of_found r (without_sets parts.Main f.sets) ≡ []) × (of_found r (at_device false f.device) ≡ [])
+    × (of_found r (part_in_order parts.Main f.sets) ≡ []) × (of_found r (other_in_order f.other) ≡ [])
+none_in_file r f = none_in_four r (without_sets parts.Main f.sets) (at_device false f.device) (part_in_order parts.Main f.sets) (other_in_order f.other)
 
 -- a file that breaks no rule has a right device descriptor
 pub device_right : (f : DescriptorFile) → findings f ≡ [] → wrong_device f.device ≡ false
 device_right f none =
     let all = none_in_file rules.V11 f (no_right _ _ (no_left _ _ (no_left _ _ none))) in
-    not_when rules.V11 parts.Device (wrong_device f.device) all.1 refl
+    not_when rules.V11 (device_cause false f.device) parts.Device (wrong_device f.device) all.1 refl
 
 -- there is a first set, and SET_CONFIGURATION can select it
 abbrev pub FirstIsRight : List Configuration → Type 0
 FirstIsRight [] = ⊥
 FirstIsRight (c ∷ cs) = wrong_value [] c ≡ false
 
-first_of : (sets : List Configuration) → of_rule rules.V10 (without_sets parts.Main sets) ≡ [] → of_rule rules.V10 (part_in_order parts.Main sets) ≡ [] → FirstIsRight sets
+-- V10 of a set, whatever is wrong with its value
+not_value : (is_zero holds : Bool) → of_found rules.V10 (when holds (found (if is_zero then causes.ZeroValue else causes.RepeatedValue) parts.Main 0 0 0)) ≡ [] → holds ≡ false
+not_value true holds none = not_when rules.V10 causes.ZeroValue parts.Main holds none refl
+not_value false holds none = not_when rules.V10 causes.RepeatedValue parts.Main holds none refl
+
+first_of : (sets : List Configuration) → of_found rules.V10 (without_sets parts.Main sets) ≡ [] → of_found rules.V10 (part_in_order parts.Main sets) ≡ [] → FirstIsRight sets
 first_of [] none here = cc
 first_of (c ∷ cs) none here =
     let at = at_configuration parts.Main [] 0 c in
     let set = none_in_four rules.V10 at (at_associations parts.Main 0 c.settings 0 c.extras) _ _ here in
-    let value = none_in_four rules.V10 (when (wrong_interface_count c) (finding rules.V1 parts.Main 0 0 0)) (when (has_number_gap c) (finding rules.V2 parts.Main 0 0 0))
-    (when (wrong_attributes c) (finding rules.V9 parts.Main 0 0 0)) (when (wrong_value [] c) (finding rules.V10 parts.Main 0 0 0)) set.0 in
-    not_when rules.V10 parts.Main (wrong_value [] c) value.3 refl
+    let value = none_in_four rules.V10 (when (wrong_interface_count c) (found (causes.InterfaceCount c.declared_interfaces (length (interface_numbers c.settings))) parts.Main 0 0 0))
+    (when (has_number_gap c) (found causes.NumberGap parts.Main 0 0 0)) (when (wrong_attributes c) (found (attributes_cause c.attributes) parts.Main 0 0 0))
+    (when (wrong_value [] c) (found (value_cause c.value) parts.Main 0 0 0)) set.0 in
+    not_value (c.value == 0) (wrong_value [] c) value.3
 
 -- so has a file that breaks no rule
 pub first_right : (f : DescriptorFile) → findings f ≡ [] → FirstIsRight f.sets

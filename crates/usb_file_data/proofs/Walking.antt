@@ -11,7 +11,7 @@ use Rattle.usb_fields.proofs.Cells.{funext}
 use Rattle.usb_set.specs.declared.extra.Association.{Association}
 use Rattle.usb_set.specs.declared.tree.Endpoint.{Endpoint}
 use Rattle.usb_set.specs.declared.tree.Setting.{Setting}
-use Rattle.usb_file_data.specs.declared.rule.Rule.TheVariants as rules
+use Rattle.usb_file_data.specs.declared.cause.Cause.TheVariants as causes
 use Rattle.usb_file_data.specs.Places.{at_each, at_each_counted, is_among, when}
 use Rattle.usb_file_data.specs.Findings.{association_count, endpoint_associations, setting_associations}
 use Rattle.usb_set.specs.declared.extra.Extra.{Extra}
@@ -240,7 +240,7 @@ interface_seen true at settings j s e below is numbers alternates keep =
 interface_seen false at settings j s e below is numbers alternates keep =
     let none = keep refl in
     let before = is_among (map number_of (take j settings)) s.number in
-    let count = when (wrong_endpoint_count s) (broken rules.V5 at) in
+    let count = when (wrong_endpoint_count s) (broken (causes.EndpointCount s.declared_endpoints (length s.endpoints)) at) in
     let v4 = neither before (has_alternate settings s.number 0) (none.defaults s.number (its_number settings j s below is)) in
-    ap (λ b. when b (broken rules.V3 at) ++ when (not true && not (has_alternate settings s.number 0)) (broken rules.V4 at) ++ count) (sym (none.repeated j below s is))
-    ∙ ap (λ b. when (has_alternate (take j settings) s.number s.alternate) (broken rules.V3 at) ++ when b (broken rules.V4 at) ++ count) (sym v4)
+    ap (λ b. when b (broken causes.RepeatedSetting at) ++ when (not true && not (has_alternate settings s.number 0)) (broken causes.NoDefaultSetting at) ++ count) (sym (none.repeated j below s is))
+    ∙ ap (λ b. when (has_alternate (take j settings) s.number s.alternate) (broken causes.RepeatedSetting at) ++ when b (broken causes.NoDefaultSetting at) ++ count) (sym v4)

@@ -1,6 +1,8 @@
 -- All that breaks a rule: at each descriptor, in the order of the bytes, what it breaks; and the same sorted by rule.
-use Rattle.std.specs.Prelude.{ℕ, ◌+◌, List, [], ◌∷◌, ◌++◌, filter, fold, length, take, Bool, ◌==◌, Option, Some, None}
+use Rattle.std.specs.Prelude.{ℕ, ◌+◌, List, [], ◌∷◌, ◌++◌, filter, fold, length, map, take, Bool, true, false, ◌==◌, Option, Some, None, if◌then◌else◌}
 use Rattle.std.specs.List.{flat_map}
+use Rattle.usb_fields.specs.declared.device.DeviceDescriptor.{DeviceDescriptor}
+use Rattle.usb_fields.specs.declared.qualifier.Qualifier.{Qualifier}
 use Rattle.usb_set.specs.declared.extra.Extra.{Extra}
 use Rattle.usb_set.specs.declared.tree.Endpoint.{Endpoint}
 use Rattle.usb_set.specs.declared.tree.Setting.{Setting}
@@ -12,42 +14,44 @@ use Rattle.usb_file_data.specs.declared.file.DescriptorFile.{DescriptorFile}
 use Rattle.usb_file_data.specs.declared.file.Other.{Other}
 use Rattle.usb_file_data.specs.declared.file.Input.{Input}
 use Rattle.usb_file_data.specs.declared.file.Input.TheVariants as inputs
+use Rattle.usb_file_data.specs.declared.cause.Cause.TheVariants as causes
+use Rattle.usb_file_data.specs.declared.cause.Found.{Found}
 use Rattle.usb_file_data.specs.declared.finding.Part.{Part}
 use Rattle.usb_file_data.specs.declared.finding.Part.TheVariants as parts
 use Rattle.usb_file_data.specs.declared.finding.Finding.{Finding}
 use Rattle.usb_file_data.specs.declared.rule.Rule.{Rule}
-use Rattle.usb_file_data.specs.declared.rule.Rule.TheVariants as rules
 use Rattle.usb_file_data.specs.Numbers.{every_rule, rule_number}
-use Rattle.usb_file_data.specs.Places.{at_each, at_each_after, at_each_counted, finding, when}
-use Rattle.usb_file_data.specs.Rules.{binds_missing_interface, has_number_gap, lacks_default_setting, repeats_address, repeats_setting, shares_address, wrong_address, wrong_attributes, wrong_device, wrong_dumped_device, wrong_endpoint_count, wrong_interface_count, wrong_packet_size, wrong_qualifier, wrong_value}
+use Rattle.usb_file_data.specs.Places.{at_each, at_each_after, at_each_counted, when}
+use Rattle.usb_file_data.specs.Causes.{address_cause, association_cause, attributes_cause, device_cause, found, qualifier_cause, value_cause}
+use Rattle.usb_file_data.specs.Rules.{binds_missing_interface, has_number_gap, interface_numbers, lacks_default_setting, repeats_address, repeats_setting, shares_address, wrong_address, wrong_attributes, wrong_device, wrong_dumped_device, wrong_endpoint_count, wrong_interface_count, wrong_packet_size, wrong_qualifier, wrong_value}
 
 -- at the first descriptor of a set, given the sets before it in its part
-abbrev pub at_configuration : Part → List Configuration → ℕ → Configuration → List Finding
+abbrev pub at_configuration : Part → List Configuration → ℕ → Configuration → List Found
 at_configuration part before i c =
-    when (wrong_interface_count c) (finding rules.V1 part i 0 0)
-    ++ when (has_number_gap c) (finding rules.V2 part i 0 0)
-    ++ when (wrong_attributes c) (finding rules.V9 part i 0 0)
-    ++ when (wrong_value before c) (finding rules.V10 part i 0 0)
+    when (wrong_interface_count c) (found (causes.InterfaceCount c.declared_interfaces (length (interface_numbers c.settings))) part i 0 0)
+    ++ when (has_number_gap c) (found causes.NumberGap part i 0 0)
+    ++ when (wrong_attributes c) (found (attributes_cause c.attributes) part i 0 0)
+    ++ when (wrong_value before c) (found (value_cause c.value) part i 0 0)
 
 -- at the associations among these extras of a set, of which the first is the n-th of the set
-abbrev pub at_associations : Part → ℕ → List Setting → ℕ → List Extra → List Finding
+abbrev pub at_associations : Part → ℕ → List Setting → ℕ → List Extra → List Found
 at_associations part i settings n extras =
-    at_each (λ k a. when (binds_missing_interface settings a) (finding rules.V13 part i k 0)) n (flat_map association_in extras)
+    at_each (λ k a. when (binds_missing_interface settings a) (found (association_cause a) part i k 0)) n (flat_map association_in extras)
 
 -- at the interface descriptor of a setting, given those before it and all of the set
-abbrev pub at_interface : Part → ℕ → List Setting → ℕ → Setting → List Finding
+abbrev pub at_interface : Part → ℕ → List Setting → ℕ → Setting → List Found
 at_interface part i settings j s =
-    when (repeats_setting (take j settings) s) (finding rules.V3 part i j 0)
-    ++ when (lacks_default_setting settings (take j settings) s) (finding rules.V4 part i j 0)
-    ++ when (wrong_endpoint_count s) (finding rules.V5 part i j 0)
+    when (repeats_setting (take j settings) s) (found causes.RepeatedSetting part i j 0)
+    ++ when (lacks_default_setting settings (take j settings) s) (found causes.NoDefaultSetting part i j 0)
+    ++ when (wrong_endpoint_count s) (found (causes.EndpointCount s.declared_endpoints (length s.endpoints)) part i j 0)
 
 -- at the descriptor of an endpoint, given the settings before its own
-abbrev pub at_endpoint : Part → ℕ → List Setting → ℕ → Setting → ℕ → Endpoint → List Finding
+abbrev pub at_endpoint : Part → ℕ → List Setting → ℕ → Setting → ℕ → Endpoint → List Found
 at_endpoint part i before j s k e =
-    when (wrong_address e.address) (finding rules.V6 part i j k)
-    ++ when (repeats_address (take k s.endpoints) e) (finding rules.V7 part i j k)
-    ++ when (shares_address before s e) (finding rules.V8 part i j k)
-    ++ when (wrong_packet_size e.max_packet) (finding rules.V12 part i j k)
+    when (wrong_address e.address) (found (address_cause e.address) part i j k)
+    ++ when (repeats_address (take k s.endpoints) e) (found causes.RepeatedAddress part i j k)
+    ++ when (shares_address before s e) (found causes.SharedAddress part i j k)
+    ++ when (wrong_packet_size e.max_packet) (found causes.PacketSize part i j k)
 
 -- how many associations there are among the extras
 abbrev pub association_count : List Extra → ℕ
@@ -62,45 +66,53 @@ abbrev pub setting_associations : Setting → ℕ
 setting_associations s = association_count (setting_extras s)
 
 -- at an endpoint, and then at its extras, where so many associations of the set come before
-abbrev pub endpoint_in_order : Part → ℕ → List Setting → ℕ → Setting → ℕ → ℕ → Endpoint → List Finding
+abbrev pub endpoint_in_order : Part → ℕ → List Setting → ℕ → Setting → ℕ → ℕ → Endpoint → List Found
 endpoint_in_order part i settings j s k n e =
     at_endpoint part i (take j settings) j s k e ++ at_associations part i settings n e.extras
 
 -- at the interface of a setting, then at its extras, and then at its endpoints
-abbrev pub setting_in_order : Part → ℕ → List Setting → ℕ → ℕ → Setting → List Finding
+abbrev pub setting_in_order : Part → ℕ → List Setting → ℕ → ℕ → Setting → List Found
 setting_in_order part i settings j n s =
     at_interface part i settings j s
     ++ at_associations part i settings n s.extras
     ++ at_each_counted endpoint_associations (endpoint_in_order part i settings j s) 0 (n + association_count s.extras) s.endpoints
 
 -- in a set: at its first descriptor, at its extras, and in its settings
-abbrev pub set_in_order : Part → List Configuration → ℕ → Configuration → List Finding
+abbrev pub set_in_order : Part → List Configuration → ℕ → Configuration → List Found
 set_in_order part before i c =
     at_configuration part before i c
     ++ at_associations part i c.settings 0 c.extras
     ++ at_each_counted setting_associations (setting_in_order part i c.settings) 0 (association_count c.extras) c.settings
 
 -- in the sets of a part
-abbrev pub part_in_order : Part → List Configuration → List Finding
+abbrev pub part_in_order : Part → List Configuration → List Found
 part_in_order part sets = at_each_after (set_in_order part) sets
 
 -- V10 of a part without a set, at the descriptor that announces none
-abbrev pub without_sets : Part → List Configuration → List Finding
-without_sets part sets = when (length sets == 0) (finding rules.V10 part 0 0 0)
+abbrev pub without_sets : Part → List Configuration → List Found
+without_sets part sets = when (length sets == 0) (found causes.NoConfiguration part 0 0 0)
+
+-- at the qualifier
+abbrev pub at_qualifier : Qualifier → List Found
+at_qualifier q = when (wrong_qualifier q) (found (qualifier_cause q) parts.Other 0 0 0)
 
 -- at the qualifier, and in the sets after it
-abbrev pub other_in_order : Option Other → List Finding
+abbrev pub other_in_order : Option Other → List Found
 other_in_order None = []
 other_in_order (Some other) =
     without_sets parts.Other other.sets
-    ++ when (wrong_qualifier other.qualifier) (finding rules.V11 parts.Other 0 0 0)
+    ++ at_qualifier other.qualifier
     ++ part_in_order parts.Other other.sets
 
--- at the device, in its sets, and in the other part: it is said whether the device descriptor breaks V11
-abbrev pub file_in_order : Bool → DescriptorFile → List Finding
-file_in_order wrong f =
+-- at the device descriptor, in a dump or in a file
+abbrev pub at_device : Bool → DeviceDescriptor → List Found
+at_device is_dump d = when (if is_dump then wrong_dumped_device d else wrong_device d) (found (device_cause is_dump d) parts.Device 0 0 0)
+
+-- at the device, in its sets, and in the other part
+abbrev pub file_in_order : Bool → DescriptorFile → List Found
+file_in_order is_dump f =
     without_sets parts.Main f.sets
-    ++ when wrong (finding rules.V11 parts.Device 0 0 0)
+    ++ at_device is_dump f.device
     ++ part_in_order parts.Main f.sets
     ++ other_in_order f.other
 
@@ -109,12 +121,16 @@ abbrev pub part_of_kind : SetKind → Part
 part_of_kind kinds.Configuration = parts.Main
 part_of_kind kinds.OtherSpeed = parts.Other
 
--- what is found in an input, in the order of its bytes: in a set alone, which is the only one of its part, in a file, or
+-- what is found in an input, in the order of its bytes, each with its cause: in a set alone, which is the only one of its part, in a file, or
 -- in a dump, whose device may be one of SuperSpeed
+abbrev pub found_in_order : Input → List Found
+found_in_order (inputs.Set set) = part_in_order (part_of_kind set.kind) (set ∷ [])
+found_in_order (inputs.File file) = file_in_order false file
+found_in_order (inputs.Dump file) = file_in_order true file
+
+-- the findings without their causes
 abbrev pub findings_in_order : Input → List Finding
-findings_in_order (inputs.Set set) = part_in_order (part_of_kind set.kind) (set ∷ [])
-findings_in_order (inputs.File file) = file_in_order (wrong_device file.device) file
-findings_in_order (inputs.Dump file) = file_in_order (wrong_dumped_device file.device) file
+findings_in_order input = map (λ f. f.finding) (found_in_order input)
 
 -- the findings of a rule
 abbrev pub of_rule : Rule → List Finding → List Finding

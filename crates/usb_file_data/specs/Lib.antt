@@ -4,6 +4,7 @@ pub mod Numbers
 pub mod FindingLine
 pub mod Places
 pub mod Rules
+pub mod Causes
 pub mod Findings
 pub mod FileFaults
 pub mod Inputs

@@ -1,13 +1,15 @@
 //! All findings of a file, of a dump, and of a set alone.
 ghost use Rattle.std.specs.Prelude.{◌≡◌, ◌++◌, ◌∷◌, [], IfOk, OnOk};
-ghost use Rattle.usb_file_data.specs.Findings.{dump_findings, file_in_order, findings, findings_in_order, input_findings, part_in_order, part_of_kind, set_findings};
+ghost use Rattle.usb_file_data.specs.Findings.{dump_findings, file_in_order, findings, found_in_order, input_findings, part_in_order, part_of_kind, set_findings};
 
+use crate::cause::Found;
 use crate::configuration::check_any_set;
-use crate::device::{check_device, check_qualifier, is_wrong_device, is_wrong_dumped_device};
+use crate::device::{check_device, check_qualifier};
 use crate::file::{DescriptorFile, Input};
 use crate::finding::{Finding, Part};
-use crate::found::Found;
+use crate::order::by_rule;
 use crate::place::Place;
+use crate::report::Report;
 use crate::set::{Known, check_set_at};
 use std::alloc::{AllocError, Global};
 use std::slice;
@@ -32,7 +34,7 @@ pub use std::alloc::AllocError as NoMemory;
 pub fn check(alloc: Global, f: &DescriptorFile) -> Result<Vec<Finding>, NoMemory>
     ensures { IfOk result (λ v. v.items ≡ findings f.now) }
 {
-    walk_file(alloc, is_wrong_device(&f.device), f)?.by_rule(alloc)
+    by_rule(alloc, walk_file(alloc, false, f)?.findings(alloc)?)
 }
 
 /// Everything in a dump that breaks a rule, in the order of [`check`]. From bcdUSB 0300 on it is of a SuperSpeed
@@ -50,7 +52,7 @@ pub fn check(alloc: Global, f: &DescriptorFile) -> Result<Vec<Finding>, NoMemory
 pub fn check_dump(alloc: Global, f: &DescriptorFile) -> Result<Vec<Finding>, NoMemory>
     ensures { IfOk result (λ v. v.items ≡ dump_findings f.now) }
 {
-    walk_file(alloc, is_wrong_dumped_device(&f.device), f)?.by_rule(alloc)
+    by_rule(alloc, walk_file(alloc, true, f)?.findings(alloc)?)
 }
 
 /// Everything in a set alone that breaks a rule, in the order of [`check`]: it is the only set of its part, the main one
@@ -69,7 +71,7 @@ pub fn check_dump(alloc: Global, f: &DescriptorFile) -> Result<Vec<Finding>, NoM
 pub fn check_set(alloc: Global, c: &Configuration) -> Result<Vec<Finding>, NoMemory>
     ensures { IfOk result (λ v. v.items ≡ set_findings c.now) }
 {
-    walk_set(alloc, c)?.by_rule(alloc)
+    by_rule(alloc, walk_set(alloc, c)?.findings(alloc)?)
 }
 
 /// Everything in an input that breaks a rule of chapter 9: [`check_set`] of a set, [`check`] of a file and
@@ -87,22 +89,22 @@ pub fn check_set(alloc: Global, c: &Configuration) -> Result<Vec<Finding>, NoMem
 pub fn check_input(alloc: Global, input: &Input) -> Result<Vec<Finding>, NoMemory>
     ensures { IfOk result (λ findings. findings.items ≡ input_findings input.now) }
 {
-    walk(alloc, input)?.by_rule(alloc)
+    by_rule(alloc, walk(alloc, input)?.findings(alloc)?)
 }
 
-/// What [`check_input`] finds, in the order of the bytes: at each descriptor the rules that it breaks.
+/// What [`check_input`] finds, in the order of the bytes: at each descriptor the rules that it breaks, and why.
 ///
 /// ```rust
-/// for finding in findings_in_order(rt.alloc(), &Input::File(file))?.iter() {
-///     println!(rt; "{finding}")?;
+/// for found in found_in_order(rt.alloc(), &Input::File(file))?.iter() {
+///     println!(rt; "{}: {:?}", found.finding, found.cause)?;
 /// }
 /// ```
 ///
 /// # Errors
 ///
 /// Out of memory.
-pub fn findings_in_order(alloc: Global, input: &Input) -> Result<Vec<Finding>, NoMemory>
-    ensures { IfOk result (λ v. v.items ≡ findings_in_order input.now) }
+pub fn found_in_order(alloc: Global, input: &Input) -> Result<Vec<Found>, NoMemory>
+    ensures { IfOk result (λ v. v.items ≡ found_in_order input.now) }
 {
     Ok(walk(alloc, input)?.in_order())
 }
@@ -118,48 +120,48 @@ fn part_of(kind: SetKind) -> Part
 }
 
 /// Goes over an input.
-fn walk(alloc: Global, input: &Input) -> Result<Found, AllocError>
-    ensures { IfOk result (λ found. found ≡ findings_in_order input.now) }
+fn walk(alloc: Global, input: &Input) -> Result<Report, AllocError>
+    ensures { IfOk result (λ found. found ≡ found_in_order input.now) }
 {
     match input {
         Input::Set(set) => walk_set(alloc, set),
-        Input::File(file) => walk_file(alloc, is_wrong_device(&file.device), file),
-        Input::Dump(file) => walk_file(alloc, is_wrong_dumped_device(&file.device), file),
+        Input::File(file) => walk_file(alloc, false, file),
+        Input::Dump(file) => walk_file(alloc, true, file),
     }
 }
 
 /// Goes over a set alone.
-fn walk_set(alloc: Global, c: &Configuration) -> Result<Found, AllocError>
+fn walk_set(alloc: Global, c: &Configuration) -> Result<Report, AllocError>
     ensures { IfOk result (λ found. found ≡ part_in_order (part_of_kind c.now.kind) (c.now ∷ [])) }
 {
-    let mut found = Found::new(alloc);
+    let mut found = Report::new(alloc);
     let mut known = Known::new(alloc);
     check_part(&mut found, &mut known, part_of(c.kind), slice::from_ref(c))?;
     Ok(found)
 }
 
-/// Goes over a file, where it is known whether the device descriptor breaks V11.
-fn walk_file(alloc: Global, wrong: bool, f: &DescriptorFile) -> Result<Found, AllocError>
-    ensures { IfOk result (λ found. found ≡ file_in_order wrong f.now) }
+/// Goes over a file or a dump.
+fn walk_file(alloc: Global, is_dump: bool, f: &DescriptorFile) -> Result<Report, AllocError>
+    ensures { IfOk result (λ found. found ≡ file_in_order is_dump f.now) }
 {
-    let mut found = Found::new(alloc);
+    let mut found = Report::new(alloc);
     let mut known = Known::new(alloc);
-    check_parts(&mut found, &mut known, wrong, f)?;
+    check_parts(&mut found, &mut known, is_dump, f)?;
     Ok(found)
 }
 
 /// The device descriptor, the main part and the other part.
 #[tactic(auto, using(crate::proofs::Walking::append_again))]
 fn check_parts(
-    found: &mut Found,
+    found: &mut Report,
     known: &mut Known,
-    wrong: bool,
+    is_dump: bool,
     f: &DescriptorFile,
 ) -> Result<(), AllocError>
-    ensures { OnOk result (found.new ≡ found.old ++ file_in_order wrong f.now) }
+    ensures { OnOk result (found.new ≡ found.old ++ file_in_order is_dump f.now) }
 {
     check_any_set(found, Place::of(Part::Main, 0), &f.sets)?;
-    check_device(found, wrong)?;
+    check_device(found, is_dump, &f.device)?;
     check_part(found, known, Part::Main, &f.sets)?;
     if let Some(other) = &f.other {
         check_any_set(found, Place::of(Part::Other, 0), &other.sets)?;
@@ -171,7 +173,7 @@ fn check_parts(
 
 /// The sets of a part.
 fn check_part(
-    found: &mut Found,
+    found: &mut Report,
     known: &mut Known,
     part: Part,
     sets: &[Configuration],

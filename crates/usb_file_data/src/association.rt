@@ -1,14 +1,15 @@
 //! V13: an association binds interfaces that are there.
 ghost use Rattle.std.specs.Prelude.{◌≡◌, ◌+◌, ◌∷◌, ◌++◌, [], IfOk, OnOk, length};
 ghost use Rattle.usb_set.specs.Owners.{association_in};
+ghost use Rattle.usb_file_data.specs.Causes.{association_cause};
 ghost use Rattle.usb_file_data.specs.Findings.{association_count};
 ghost use Rattle.usb_file_data.specs.inside.Interfaces.{kept, misses_some};
 ghost use Rattle.usb_file_data.specs.inside.Walk.{in_extras};
 
-use crate::found::Found;
+use crate::cause::Cause;
 use crate::interfaces::Interfaces;
 use crate::place::Place;
-use crate::rule::Rule;
+use crate::report::Report;
 use std::alloc::AllocError;
 use usb_set::{Association, Extra, Sequence};
 
@@ -17,7 +18,7 @@ use usb_set::{Association, Extra, Sequence};
 /// Most descriptors own no extras, and for them nothing is called.
 #[inline(always)]
 pub(crate) fn check_extras(
-    found: &mut Found,
+    found: &mut Report,
     interfaces: &Interfaces,
     place: &Place,
     number: usize,
@@ -34,7 +35,7 @@ pub(crate) fn check_extras(
 
 /// The same, extra by extra.
 fn check_each(
-    found: &mut Found,
+    found: &mut Report,
     interfaces: &Interfaces,
     place: Place,
     number: usize,
@@ -52,7 +53,7 @@ fn check_each(
 
 /// Of an extra, if it is an association.
 fn check_extra(
-    found: &mut Found,
+    found: &mut Report,
     interfaces: &Interfaces,
     place: Place,
     number: usize,
@@ -64,11 +65,22 @@ fn check_extra(
     match extra {
         Extra::Association(a) => {
             let misses = binds_missing_interface(interfaces, a);
-            found.report(Rule::V13, misses, place.at_setting(number))?;
+            found.report(association_cause(a), misses, place.at_setting(number))?;
             // No memory holds so many associations that this is refused.
             number.checked_add(1).ok_or(AllocError)
         }
         _ => Ok(number),
+    }
+}
+
+/// Why it is wrong, where it is.
+fn association_cause(a: &Association) -> Cause
+    ensures { result ≡ association_cause a.now }
+{
+    if a.count == 0 {
+        Cause::NoInterface
+    } else {
+        Cause::MissingInterface
     }
 }
 

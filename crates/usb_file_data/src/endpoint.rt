@@ -1,15 +1,16 @@
 //! V5 to V8 and V12: endpoints, of one setting and of a whole set.
-ghost use Rattle.std.specs.Prelude.{◌≡◌, ◌++◌, OnOk};
-ghost use Rattle.usb_file_data.specs.declared.rule.Rule.TheVariants as rules;
+ghost use Rattle.std.specs.Prelude.{◌≡◌, ◌++◌, length, OnOk};
+ghost use Rattle.usb_file_data.specs.Causes.{address_cause};
+ghost use Rattle.usb_file_data.specs.declared.cause.Cause.TheVariants as causes;
 ghost use Rattle.usb_file_data.specs.Places.{when};
 ghost use Rattle.usb_file_data.specs.inside.Walk.{broken};
 ghost use Rattle.usb_file_data.specs.Rules.{wrong_address, wrong_packet_size};
 ghost use Rattle.usb_file_data.specs.Rules.{wrong_endpoint_count};
 
 use crate::addresses::Claimed;
-use crate::found::Found;
+use crate::cause::Cause;
 use crate::place::Place;
-use crate::rule::Rule;
+use crate::report::Report;
 use std::alloc::AllocError;
 use usb_set::{Endpoint, Setting};
 
@@ -22,50 +23,64 @@ const RESERVED: u8 = 0x70;
 /// Bits 15 to 13 of wMaxPacketSize, which are always zero.
 const RESERVED_SIZE: u16 = 0xe000;
 
-pub(crate) fn check_address(found: &mut Found, place: Place, e: &Endpoint) -> Result<(), AllocError>
-    ensures { OnOk result (found.new ≡ found.old ++ when (wrong_address e.now.address) (broken rules.V6 place)) }
-{
-    let wrong = e.address & NUMBER == 0 || e.address & RESERVED != 0;
-    found.report(Rule::V6, wrong, place)
-}
-
-pub(crate) fn check_packet_size(
-    found: &mut Found,
+pub(crate) fn check_address(
+    found: &mut Report,
     place: Place,
     e: &Endpoint,
 ) -> Result<(), AllocError>
-    ensures { OnOk result (found.new ≡ found.old ++ when (wrong_packet_size e.now.max_packet) (broken rules.V12 place)) }
+    ensures { OnOk result (found.new ≡ found.old ++ when (wrong_address e.now.address) (broken (address_cause e.now.address) place)) }
 {
-    found.report(Rule::V12, e.max_packet & RESERVED_SIZE != 0, place)
+    let endpoint_zero = e.address & NUMBER == 0;
+    let reserved = e.address & RESERVED != 0;
+    let cause = Cause::Address {
+        endpoint_zero,
+        reserved,
+    };
+    found.report(cause, endpoint_zero || reserved, place)
+}
+
+pub(crate) fn check_packet_size(
+    found: &mut Report,
+    place: Place,
+    e: &Endpoint,
+) -> Result<(), AllocError>
+    ensures { OnOk result (found.new ≡ found.old ++ when (wrong_packet_size e.now.max_packet) (broken causes.PacketSize place)) }
+{
+    found.report(Cause::PacketSize, e.max_packet & RESERVED_SIZE != 0, place)
 }
 
 pub(crate) fn check_endpoint_count(
-    found: &mut Found,
+    found: &mut Report,
     place: Place,
     s: &Setting,
 ) -> Result<(), AllocError>
-    ensures { OnOk result (found.new ≡ found.old ++ when (wrong_endpoint_count s.now) (broken rules.V5 place)) }
+    ensures { OnOk result (found.new ≡ found.old ++ when (wrong_endpoint_count s.now) (broken (causes.EndpointCount s.now.declared_endpoints (length s.now.endpoints)) place)) }
 {
-    let declared = usize::from(s.declared_endpoints);
-    found.report(Rule::V5, declared != s.endpoints.len(), place)
+    let declared = s.declared_endpoints;
+    let count = s.endpoints.len();
+    let cause = Cause::EndpointCount {
+        declared,
+        found: count,
+    };
+    found.report(cause, usize::from(declared) != count, place)
 }
 
 pub(crate) fn check_repeated_address(
-    found: &mut Found,
+    found: &mut Report,
     claimed: Claimed,
     place: Place,
 ) -> Result<(), AllocError>
-    ensures { OnOk result (found.new ≡ found.old ++ when claimed.here (broken rules.V7 place)) }
+    ensures { OnOk result (found.new ≡ found.old ++ when claimed.here (broken causes.RepeatedAddress place)) }
 {
-    found.report(Rule::V7, claimed.here, place)
+    found.report(Cause::RepeatedAddress, claimed.here, place)
 }
 
 pub(crate) fn check_shared_address(
-    found: &mut Found,
+    found: &mut Report,
     claimed: Claimed,
     place: Place,
 ) -> Result<(), AllocError>
-    ensures { OnOk result (found.new ≡ found.old ++ when claimed.elsewhere (broken rules.V8 place)) }
+    ensures { OnOk result (found.new ≡ found.old ++ when claimed.elsewhere (broken causes.SharedAddress place)) }
 {
-    found.report(Rule::V8, claimed.elsewhere, place)
+    found.report(Cause::SharedAddress, claimed.elsewhere, place)
 }

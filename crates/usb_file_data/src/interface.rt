@@ -1,45 +1,50 @@
 //! V1 to V4: interface numbers and alternate settings.
-ghost use Rattle.std.specs.Prelude.{◌≡◌, ◌++◌, OnOk};
-ghost use Rattle.usb_file_data.specs.declared.rule.Rule.TheVariants as rules;
+ghost use Rattle.std.specs.Prelude.{◌≡◌, ◌++◌, length, OnOk};
+ghost use Rattle.usb_file_data.specs.declared.cause.Cause.TheVariants as causes;
 ghost use Rattle.usb_file_data.specs.Places.{when};
 ghost use Rattle.usb_file_data.specs.inside.Walk.{broken};
-ghost use Rattle.usb_file_data.specs.Rules.{has_number_gap, wrong_interface_count};
+ghost use Rattle.usb_file_data.specs.Rules.{has_number_gap, interface_numbers, wrong_interface_count};
 ghost use Rattle.usb_file_data.specs.inside.Interfaces.{AreEntered, kept};
 ghost use Rattle.std.specs.Prelude.{◌≡◌, ◌&&◌, not};
 ghost use Rattle.usb_file_data.specs.inside.Interfaces.{kept};
 ghost use Rattle.usb_file_data.specs.inside.Interfaces.{entered, kept};
 
-use crate::found::Found;
+use crate::cause::Cause;
 use crate::interfaces::Interfaces;
 use crate::place::Place;
-use crate::rule::Rule;
+use crate::report::Report;
 use std::alloc::AllocError;
 use usb_set::{Configuration, Setting};
 
 pub(crate) fn check_interface_count(
-    found: &mut Found,
+    found: &mut Report,
     interfaces: &Interfaces,
     place: Place,
     c: &Configuration,
 ) -> Result<(), AllocError>
     requires { AreEntered c.now.settings (kept interfaces.now) }
-    ensures { OnOk result (found.new ≡ found.old ++ when (wrong_interface_count c.now) (broken rules.V1 place)) }
+    ensures { OnOk result (found.new ≡ found.old ++ when (wrong_interface_count c.now) (broken (causes.InterfaceCount c.now.declared_interfaces (length (interface_numbers c.now.settings))) place)) }
 {
-    let declared = usize::from(c.declared_interfaces);
-    found.report(Rule::V1, declared != interfaces.list().len(), place)
+    let declared = c.declared_interfaces;
+    let count = interfaces.list().len();
+    let cause = Cause::InterfaceCount {
+        declared,
+        found: count,
+    };
+    found.report(cause, usize::from(declared) != count, place)
 }
 
 pub(crate) fn check_number_gap(
-    found: &mut Found,
+    found: &mut Report,
     interfaces: &Interfaces,
     place: Place,
     c: &Configuration,
 ) -> Result<(), AllocError>
     requires { AreEntered c.now.settings (kept interfaces.now) }
-    ensures { OnOk result (found.new ≡ found.old ++ when (has_number_gap c.now) (broken rules.V2 place)) }
+    ensures { OnOk result (found.new ≡ found.old ++ when (has_number_gap c.now) (broken causes.NumberGap place)) }
 {
     found.report(
-        Rule::V2,
+        Cause::NumberGap,
         interfaces.next_absent(0) < interfaces.list().len(),
         place,
     )
@@ -55,14 +60,14 @@ pub(crate) fn lacks_default_setting(whole: &Interfaces, before: &Interfaces, s: 
 
 /// Enters the setting among those before it.
 pub(crate) fn check_repeated_setting(
-    found: &mut Found,
+    found: &mut Report,
     interfaces: &mut Interfaces,
     place: Place,
     s: &Setting,
 ) -> Result<(), AllocError>
-    ensures reported { OnOk result (found.new ≡ found.old ++ when ((kept interfaces.old).alternates s.now.number s.now.alternate) (broken rules.V3 place)) }
+    ensures reported { OnOk result (found.new ≡ found.old ++ when ((kept interfaces.old).alternates s.now.number s.now.alternate) (broken causes.RepeatedSetting place)) }
     ensures entered { OnOk result (kept interfaces.new ≡ entered place.setting s.now (kept interfaces.old)) }
 {
     let again = interfaces.add(place.setting, s)?;
-    found.report(Rule::V3, again, place)
+    found.report(Cause::RepeatedSetting, again, place)
 }

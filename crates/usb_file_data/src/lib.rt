@@ -12,32 +12,35 @@
 //! - [`check`] reports all that breaks a rule of chapter 9, each [`Finding`] at its place: counts that do not match,
 //!   settings that occur twice, addresses that two interfaces claim. [`check_dump`] and [`check_set`] do so of what is
 //!   less than a file, and [`check_input`] of any of the three. What breaks each rule is `specs/Rules.antt`. What is found
-//!   at each descriptor, as from [`findings_in_order`], and that sorted by rule is `specs/Findings.antt`.
+//!   at each descriptor, as from [`found_in_order`] with its [`Cause`], and that sorted by rule is `specs/Findings.antt`.
 //! - [`laws`] says how long a file can be, and that a copy of a file is that file.
 #![tactic(auto)]
 
 mod addresses;
 mod all_findings;
 mod association;
+mod cause;
 mod configuration;
 mod device;
 mod endpoint;
 mod fault;
 mod file;
 mod finding;
-mod found;
 mod interface;
 mod interfaces;
 pub mod laws;
 mod likeness;
+mod order;
 mod place;
 mod refusal;
+mod report;
 mod rule;
 mod set;
 mod string;
 mod string_marks;
 
-pub use all_findings::{check, check_dump, check_input, check_set, findings_in_order};
+pub use all_findings::{check, check_dump, check_input, check_set, found_in_order};
+pub use cause::{Cause, Found, PacketFault};
 pub use fault::{FileFault, FileWhy, InputFault};
 pub use file::{DescriptorFile, Input, Other, Strings};
 pub use finding::{Finding, Part, findings_text};

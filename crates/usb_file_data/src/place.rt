@@ -1,8 +1,8 @@
 //! Where in a file a rule is looked at.
 ghost use Rattle.std.specs.Prelude.{◌≡◌};
 
+use crate::cause::{Cause, Found};
 use crate::finding::{Finding, Part};
-use crate::rule::Rule;
 
 /// A set of a part, or a setting of it, or an endpoint of that, all counted from 0. Numbers that do not
 /// apply are 0.
@@ -47,16 +47,17 @@ impl Place {
         Place { endpoint, ..self }
     }
 
-    /// The finding that the rule is broken here.
-    pub(crate) fn breaks(self, rule: Rule) -> Finding
-        ensures { result ≡ broken rule self }
+    /// What is found here where a rule is broken by the cause.
+    pub(crate) fn found(self, cause: Cause) -> Found
+        ensures { result ≡ broken cause self }
     {
-        Finding {
-            rule: rule.number(),
+        let finding = Finding {
+            rule: cause.rule().number(),
             part: self.part,
             set: self.set,
             setting: self.setting,
             endpoint: self.endpoint,
-        }
+        };
+        Found { finding, cause }
     }
 }

@@ -8,18 +8,18 @@ ghost use Rattle.usb_file_data.specs.inside.Walk.{in_configuration, in_endpoint,
 
 use crate::addresses::Addresses;
 use crate::association::check_extras;
+use crate::cause::Cause;
 use crate::configuration::{check_attributes, check_value};
 use crate::endpoint::{
     check_address, check_endpoint_count, check_packet_size, check_repeated_address,
     check_shared_address,
 };
-use crate::found::Found;
 use crate::interface::{
     check_interface_count, check_number_gap, check_repeated_setting, lacks_default_setting,
 };
 use crate::interfaces::Interfaces;
 use crate::place::Place;
-use crate::rule::Rule;
+use crate::report::Report;
 use std::alloc::{AllocError, Global};
 use usb_fields::Marks;
 use usb_set::{Configuration, Endpoint, Setting};
@@ -53,7 +53,7 @@ struct Earlier {
 
 /// Of a set at its place, among the values of those before it in its part.
 pub(crate) fn check_set_at(
-    found: &mut Found,
+    found: &mut Report,
     known: &mut Known,
     values: &mut Marks,
     place: Place,
@@ -99,7 +99,7 @@ fn enter_all(interfaces: &mut Interfaces, settings: &[Setting]) -> Result<bool, 
 
 /// Of the first descriptor of a set.
 fn check_configuration(
-    found: &mut Found,
+    found: &mut Report,
     whole: &Interfaces,
     values: &mut Marks,
     place: Place,
@@ -117,7 +117,7 @@ fn check_configuration(
 
 /// Of a setting, before which the set has so many associations. Answers how many it has before the next one.
 fn check_setting(
-    found: &mut Found,
+    found: &mut Report,
     whole: &Interfaces,
     earlier: &mut Earlier,
     may_break: bool,
@@ -147,7 +147,7 @@ fn check_setting(
 
 /// Of an interface descriptor, in a set of which a setting may break V3 or V4, or none does.
 fn check_interface(
-    found: &mut Found,
+    found: &mut Report,
     whole: &Interfaces,
     interfaces: &mut Interfaces,
     may_break: bool,
@@ -162,13 +162,13 @@ fn check_interface(
     }
     let lacks = lacks_default_setting(whole, interfaces, s);
     check_repeated_setting(found, interfaces, place, s)?;
-    found.report(Rule::V4, lacks, place)?;
+    found.report(Cause::NoDefaultSetting, lacks, place)?;
     check_endpoint_count(found, place, s)
 }
 
 /// Of the descriptor of an endpoint.
 fn check_endpoint(
-    found: &mut Found,
+    found: &mut Report,
     addresses: &mut Addresses,
     place: Place,
     e: &Endpoint,

@@ -1,5 +1,5 @@
 -- What a writer gained of lines.
-use Rattle.std.proofs.Common.{◌≡◌, ℕ, suc, ◌+◌, ◌-◌, ◌<◌, ◌≤◌, ◌==◌, length, slice_index, Bool, true, false, cond, count_by, List, [], ◌∷◌, ◌++◌, refl, sym, ap, subst, ◌∙◌, append-nil, append_assoc, arith}
+use Rattle.std.proofs.Common.{◌≡◌, ℕ, suc, ◌+◌, ◌-◌, ◌<◌, ◌≤◌, ◌==◌, length, slice_index, Bool, true, cond, count_by, List, [], ◌∷◌, ◌++◌, refl, sym, ap, subst, ◌∙◌, append-nil, arith}
 use Rattle.std.specs.Io.KnownBytes.{Appends}
 use Rattle.std.specs.List.{list_all}
 use Rattle.std.proofs.lemmas.Bool.{and_parts}
@@ -105,11 +105,11 @@ ended_less utf8 a b text lines h e w =
       front = w.front;
       characters = front_fits utf8 w.front (w.missing ∷ w.rest) (ap (list_all (is_of_lines utf8)) (sym is) ∙ ended_fit utf8 text lines e h);
       fewer = (
-        let some = whole_counts w.missing w.rest (whole_behind w.front w.missing w.rest (ap is_whole (sym is) ∙ e.whole)) in
-        let count = ended_count text lines e in
-        let parts = ap feeds is ∙ feeds_joined w.front (w.missing ∷ w.rest) in
-        omega (arith, some, count, parts)
-      );
+          let some = whole_counts w.missing w.rest (whole_behind w.front w.missing w.rest (ap is_whole (sym is) ∙ e.whole)) in
+          let count = ended_count text lines e in
+          let parts = ap feeds is ∙ feeds_joined w.front (w.missing ∷ w.rest) in
+          omega (arith, some, count, parts)
+          );
       written = w.written;
     }
 

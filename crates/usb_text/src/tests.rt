@@ -1,5 +1,5 @@
 //! Lines that are put, as others put them.
-ghost use Rattle.std.specs.Prelude.{◌≡◌, ◌+◌, ◌*◌, OnOk, length};
+ghost use Rattle.std.specs.Prelude.{◌≡◌, ◌*◌, OnOk, length};
 ghost use Rattle.usb_text.specs.Shown.{Bytes, End, Indent, Number};
 
 use crate::lines::Lines;
@@ -8,16 +8,15 @@ use std::alloc::AllocError;
 use std::test::Fail;
 
 /// Puts one line, with three numbers at most.
-fn put_entry<P: Page>(
-    page: &mut P,
-    depth: u8,
-    address: u8,
-    bytes: &[u8],
-) -> Result<(), AllocError>
+fn put_entry<P: Page>(page: &mut P, depth: u8, address: u8, bytes: &[u8]) -> Result<(), AllocError>
     ensures { OnOk result (P.seen page.new ≡ P.showing End (P.showing (Bytes bytes.now) (P.showing (Number (length bytes.now)) (P.showing (Number address) (P.showing (Indent (2 * depth)) (P.seen page.old)))))) }
 {
     page.put_indent(2 * usize::from(depth))?;
-    page.put(if address < 128 { "endpoint OUT " } else { "endpoint IN " })?;
+    page.put(if address < 128 {
+        "endpoint OUT "
+    } else {
+        "endpoint IN "
+    })?;
     page.put_byte_code(address)?;
     page.put(", ")?;
     page.put_count(bytes.len() as u64, "byte")?;

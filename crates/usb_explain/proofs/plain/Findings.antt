@@ -1,9 +1,7 @@
 -- Each finding is told in a line, and so is a fault.
-use Rattle.std.proofs.Common.{◌≡◌, ℕ, ◌+◌, ◌*◌, ◌&&◌, Bool, true, false, List, [], ◌∷◌, ◌++◌, Option, Some, None, is_some, unwrap_or, codes, refl, inl, inr, ◌==◌}
+use Rattle.std.proofs.Common.{ℕ, ◌+◌, ◌*◌, ◌&&◌, Bool, true, false, List, [], ◌∷◌, ◌++◌, Option, Some, None, codes, refl, inl, inr, ◌==◌}
 use Rattle.std.specs.Fmt.{decimal}
 use Rattle.std.specs.List.{AllByRecursion}
-use Rattle.std.specs.Option.{option_map}
-use Rattle.std.proofs.lemmas.Bool.{false≢true}
 use Rattle.usb_set.specs.declared.fault.SetWhy.{SetWhy}
 use Rattle.usb_set.specs.declared.fault.SetWhy.TheVariants as whys
 use Rattle.usb_set.specs.Numbers.{why_message as set_message, why_number as set_why_number}
@@ -14,18 +12,19 @@ use Rattle.usb_file_data.specs.declared.fault.InputFault.TheVariants as faults
 use Rattle.usb_file_data.specs.declared.likeness.Likeness.{Likeness}
 use Rattle.usb_file_data.specs.declared.likeness.Likeness.TheVariants as likes
 use Rattle.usb_file_data.specs.FileFaults.{why_number}
-use Rattle.usb_file_data.specs.declared.finding.Finding.{Finding}
+use Rattle.usb_file_data.specs.declared.cause.Found.{Found}
+use Rattle.usb_file_data.specs.Causes.{rule_of}
 use Rattle.usb_file_data.specs.Numbers.{rule_number}
 use Rattle.usb_explain.specs.Lines.{spaces, IsLine, IsLineIfAny}
-use Rattle.usb_explain.specs.declared.finding_words.PacketFault.{PacketFault}
-use Rattle.usb_explain.specs.declared.finding_words.PacketFault.TheVariants as packets
-use Rattle.usb_explain.specs.declared.finding_words.Told.{Told}
-use Rattle.usb_explain.specs.declared.finding_words.Told.TheVariants as told
-use Rattle.usb_explain.specs.FindingLines.{caused, causes_words, counts_words, device_words, finding_line, has_more, packet_words, qualifier_words, reserved_words, rule_of, told_words}
+use Rattle.usb_file_data.specs.declared.cause.PacketFault.{PacketFault}
+use Rattle.usb_file_data.specs.declared.cause.PacketFault.TheVariants as packets
+use Rattle.usb_file_data.specs.declared.cause.Cause.{Cause}
+use Rattle.usb_file_data.specs.declared.cause.Cause.TheVariants as causes
+use Rattle.usb_explain.specs.FindingLines.{caused, causes_words, counts_words, device_words, finding_line, has_more, packet_words, qualifier_words, reserved_words, cause_words}
 use Rattle.usb_explain.specs.declared.role.Role.{Role}
 use Rattle.usb_explain.specs.declared.position.Standing.{Standing}
 use Rattle.usb_explain.specs.Faults.{fault_text, fault_words, file_message, following_words, likeness_text, likeness_words, numbered, trailing_words}
-use Rattle.usb_explain.specs.Findings.{is_here, line_of, told_of}
+use Rattle.usb_explain.specs.Findings.{line_of}
 use Rattle.usb_explain.specs.Contexts.{depth_of}
 use Rattle.usb_text.proofs.Printables.{Printable}
 use Rattle.usb_explain.proofs.plain.Texts.{both_plain, decimal_plain, either_plain, ended, parts, spaces_plain}
@@ -71,44 +70,38 @@ qualifier_plain packet subclass reserved =
     both_plain (device_words packet subclass) (reserved_words (has_more packet subclass reserved) reserved) (device_plain packet subclass)
     (reserved_plain (has_more packet subclass reserved) reserved)
 
-words_plain : (what : Told) → Printable (told_words what)
-unfolding told_words
-words_plain (told.InterfaceCount declared found) = counts_plain (codes "bNumInterfaces") declared (codes "set") found (codes "interface") refl refl refl
-words_plain told.NumberGap = refl
-words_plain told.RepeatedSetting = refl
-words_plain told.NoDefaultSetting = refl
-words_plain (told.EndpointCount declared found) = counts_plain (codes "bNumEndpoints") declared (codes "setting") found (codes "endpoint") refl refl refl
-words_plain (told.Address endpoint_zero reserved) =
+words_plain : (what : Cause) → Printable (cause_words what)
+unfolding cause_words
+words_plain (causes.InterfaceCount declared found) = counts_plain (codes "bNumInterfaces") declared (codes "set") found (codes "interface") refl refl refl
+words_plain causes.NumberGap = refl
+words_plain causes.RepeatedSetting = refl
+words_plain causes.NoDefaultSetting = refl
+words_plain (causes.EndpointCount declared found) = counts_plain (codes "bNumEndpoints") declared (codes "setting") found (codes "endpoint") refl refl refl
+words_plain (causes.Address endpoint_zero reserved) =
     causes_plain endpoint_zero (codes "the address names endpoint 0") reserved (codes "bits 6 to 4 of the address aren't zero") refl refl
-words_plain told.RepeatedAddress = refl
-words_plain told.SharedAddress = refl
-words_plain (told.Attributes clear reserved) =
+words_plain causes.RepeatedAddress = refl
+words_plain causes.SharedAddress = refl
+words_plain (causes.Attributes clear reserved) =
     causes_plain clear (codes "bit 7 of bmAttributes isn't one") reserved (codes "bits 4 to 0 of bmAttributes aren't zero") refl refl
-words_plain told.ZeroValue = refl
-words_plain told.RepeatedValue = refl
-words_plain told.NoConfiguration = refl
-words_plain (told.Device packet subclass) = device_plain packet subclass
-words_plain (told.Qualifier packet subclass reserved) = qualifier_plain packet subclass reserved
-words_plain told.PacketSize = refl
-words_plain told.NoInterface = refl
-words_plain told.MissingInterface = refl
+words_plain causes.ZeroValue = refl
+words_plain causes.RepeatedValue = refl
+words_plain causes.NoConfiguration = refl
+words_plain (causes.Device packet subclass) = device_plain packet subclass
+words_plain (causes.Qualifier packet subclass reserved) = qualifier_plain packet subclass reserved
+words_plain causes.PacketSize = refl
+words_plain causes.NoInterface = refl
+words_plain causes.MissingInterface = refl
 
-finding_is_line : (depth : ℕ) (what : Told) → IsLine (finding_line depth what)
+finding_is_line : (depth : ℕ) (what : Cause) → IsLine (finding_line depth what)
 unfolding finding_line
 finding_is_line depth what =
-    ended (spaces (2 * depth + 2) ++ codes "! V" ++ decimal (rule_number (rule_of what)) ++ codes " " ++ told_words what)
+    ended (spaces (2 * depth + 2) ++ codes "! V" ++ decimal (rule_number (rule_of what)) ++ codes " " ++ cause_words what)
     (simp (parts, spaces_plain, decimal_plain, words_plain what) refl)
 
-told_is_line : (depth : ℕ) (what : Option Told) → is_some what ≡ true → IsLine (unwrap_or (option_map (finding_line depth) what) [])
-told_is_line depth None e = absurd (false≢true e)
-told_is_line depth (Some what) e = finding_is_line depth what
-
--- those that are of a descriptor have a line each
-pub each_told : (is_dump : Bool) (s : Standing) (role : Role) (d behind : List ℕ) (found : List Finding)
-    → AllByRecursion (λ f. is_here is_dump s role d behind f ≡ true) found → AllByRecursion (λ f. IsLine (line_of is_dump s role d behind f)) found
-each_told is_dump s role d behind [] own = tt
-each_told is_dump s role d behind (f ∷ found) own =
-    (told_is_line (depth_of s role) (told_of is_dump s role d behind f) own.0, each_told is_dump s role d behind found own.1)
+-- those of a descriptor have a line each
+pub each_told : (s : Standing) (role : Role) (found : List Found) → AllByRecursion (λ f. IsLine (line_of s role f)) found
+each_told s role [] = tt
+each_told s role (f ∷ found) = (finding_is_line (depth_of s role) f.cause, each_told s role found)
 
 -- ---- faults
 

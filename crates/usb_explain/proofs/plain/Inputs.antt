@@ -14,7 +14,7 @@ use Rattle.usb_file_data.specs.Inputs.{IsInput}
 use Rattle.usb_file_data.specs.Likeness.{likeness_of}
 use Rattle.usb_text.proofs.Printables.{Printable}
 use Rattle.usb_fields.proofs.ByteParts.{bytes_back, bytes_front}
-use Rattle.usb_file_data.specs.Findings.{findings_in_order}
+use Rattle.usb_file_data.specs.Findings.{found_in_order}
 use Rattle.usb_explain.specs.declared.manner.Manner.{Manner}
 use Rattle.usb_explain.specs.Explanations.{broken_name, input_name}
 use Rattle.usb_explain.specs.Outline.{outline_of}
@@ -52,7 +52,7 @@ are_bytes (inputs.Set set) b is = is.fits
 are_bytes (inputs.File file) b is = is.fits
 are_bytes (inputs.Dump file) b is = is.fits
 
-subject_fits : (manner : Manner) (input : Input) (b : List ℕ) → manner.look.utf8 ≡ false → IsInput input b → SubjectFits (subject_with manner input (findings_in_order input))
+subject_fits : (manner : Manner) (input : Input) (b : List ℕ) → manner.look.utf8 ≡ false → IsInput input b → SubjectFits (subject_with manner input (found_in_order input))
 subject_fits manner (inputs.Set set) b ascii is = (ascii, record { strings = tt; ascii = refl })
 subject_fits manner (inputs.File file) b ascii is = (ascii, record { strings = file_strings_fit file (subst AreBytes is.bytes is.fits); ascii = ascii })
 subject_fits manner (inputs.Dump file) b ascii is = (ascii, record { strings = tt; ascii = refl })
@@ -64,10 +64,10 @@ name_plain (inputs.Dump file) = refl
 
 pub whole_in_lines : WholeInLines
 whole_in_lines manner input b ascii is =
-    let subject = subject_with manner input (findings_in_order input) in (
+    let subject = subject_with manner input (found_in_order input) in (
       first_is_line (input_name input) (length b) (name_plain input),
       blocks_are_lines subject (outline_of subject b) b (drop (end_of subject b) b) (subject_fits manner input b ascii is) (once_by subject b).cut (are_bytes input b is),
-      last_is_line (length (findings_in_order input)),
+      last_is_line (length (found_in_order input)),
     )
 
 pub broken_in_lines : BrokenInLines

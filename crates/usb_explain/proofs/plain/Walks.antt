@@ -16,7 +16,6 @@ use Rattle.usb_explain.specs.Laws.{BlockIsLines, Cut, RestIsLines, context_at, f
 use Rattle.usb_explain.specs.Outline.{Entry}
 use Rattle.usb_explain.specs.Lines.{IsLine, SayFields}
 use Rattle.usb_explain.specs.Subjects.{Subject, place_among, place_by}
-use Rattle.usb_explain.proofs.rest.Walks.{tells_own}
 use Rattle.usb_explain.proofs.plain.Texts.{AreWords, IsWord, either_line, ended, parts}
 use Rattle.usb_explain.proofs.plain.Words.{count_plain}
 use Rattle.usb_explain.proofs.plain.Fields.{AreFit, AreNamesFit, MaybeFit}
@@ -76,7 +75,7 @@ blocks_are_lines subject (d ∷ ds) b rest fit cut h =
       (
         heading_of_role subject.manner.look d.role (context_at subject d) d.bytes d.standing.at fit.0 (context_fits subject d.standing d.role d.bytes fit) bytes,
         fields_say_here subject d fit bytes,
-        each_told subject.is_dump d.standing d.role d.bytes d.after (findings_of subject d) (tells_own subject d),
+        each_told d.standing d.role (findings_of subject d),
         each_remarked (context_at subject d).depth (remarks_of subject d),
       ),
       blocks_are_lines subject ds d.after rest fit cut.2 (bytes_behind d.bytes d.after parts),

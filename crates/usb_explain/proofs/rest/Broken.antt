@@ -54,7 +54,7 @@ FewFrom k subject o ahead = (s : Standing) → out (seen s) ≡ o → Ends (few 
 device_few : (k : ℕ) (subject : Subject) (d : DeviceDescriptor) (behind : List ℕ) → FewFrom k subject (outside true false 0 0) behind → Ends (few k) subject start (device_bytes d ++ behind)
 device_few k subject d behind onward =
     let b = device_bytes d in
-    goes_on (few k) subject start b behind roles.Device _ _ (length_is 18 1 (fields_bytes device_fields d) behind refl) (device_role d) refl refl
+    goes_on (few k) subject start b behind roles.Device _ (length_is 18 1 (fields_bytes device_fields d) behind refl) (device_role d) refl
     (onward (behind_one subject start roles.Device b behind) (device_after b (b ++ behind) subject _))
 
 sets_few : (k : ℕ) (subject : Subject) (kind : SetKind) (sets : List Configuration) (i : ℕ) (o : Out) (behind : List ℕ) → TellsNothing subject → o.left ≡ 0
@@ -69,8 +69,8 @@ qualifier_few : (k : ℕ) (subject : Subject) (q : Qualifier) (m : ℕ) (behind 
 unfolding noted
 qualifier_few k subject q m behind onward s e =
     let d = qualifier_bytes q in
-    goes_on (few k) subject s d behind roles.Qualifier _ _ (length_is 10 6 (fields_bytes qualifier_fields q) behind refl)
-    (outer_at s d (ap (λ (o : Out). o.left) e) ∙ qualifier_role s q (ap (λ (o : Out). o.known) e)) refl refl
+    goes_on (few k) subject s d behind roles.Qualifier _ (length_is 10 6 (fields_bytes qualifier_fields q) behind refl)
+    (outer_at s d (ap (λ (o : Out). o.left) e) ∙ qualifier_role s q (ap (λ (o : Out). o.known) e)) refl
     (onward (behind_one subject s roles.Qualifier d behind) (nothing_less (outside true false m 0) s (length d) refl e))
 
 other_few : (k : ℕ) (subject : Subject) (m : ℕ) (other : Option Other) (behind : List ℕ) → TellsNothing subject

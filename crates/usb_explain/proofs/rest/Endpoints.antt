@@ -3,9 +3,10 @@ use Rattle.std.proofs.Common.{◌≡◌, ◌≤◌, ℕ, ◌+◌, ◌-◌, ◌&&
 use Rattle.std.specs.List.{list_any}
 use Rattle.std.proofs.lemmas.Bool.{le-leb, or_parts}
 use Rattle.std.proofs.lemmas.Option.{none-some}
-use Rattle.usb_file_data.specs.declared.finding.Finding.{Finding}
-use Rattle.usb_file_data.specs.declared.rule.Rule.{Rule}
-use Rattle.usb_file_data.specs.declared.rule.Rule.TheVariants as rules
+use Rattle.usb_file_data.specs.declared.cause.Found.{Found}
+use Rattle.usb_file_data.specs.declared.cause.Cause.{Cause}
+use Rattle.usb_file_data.specs.declared.cause.Cause.TheVariants as causes
+use Rattle.usb_file_data.specs.Causes.{address_cause, found, rule_of}
 use Rattle.usb_file_data.specs.Findings.{association_count, at_associations, at_endpoint, endpoint_associations, endpoint_in_order}
 use Rattle.usb_file_data.specs.Places.{at_each_counted, finding, when}
 use Rattle.usb_file_data.specs.Rules.{repeats_address, shares_address, wrong_address, wrong_packet_size}
@@ -19,27 +20,26 @@ use Rattle.usb_explain.specs.declared.position.Owner.TheVariants as owners
 use Rattle.usb_explain.specs.declared.position.SetStanding.{SetStanding}
 use Rattle.usb_explain.specs.declared.position.SettingStanding.{SettingStanding}
 use Rattle.usb_explain.specs.declared.position.Standing.{Standing}
-use Rattle.usb_explain.specs.Findings.{endpoint_told, finding_at, in_setting, is_here, is_same_place, told_at}
+use Rattle.usb_explain.specs.Findings.{can_break, endpoint_can, finding_at, in_setting, is_here, is_same}
 use Rattle.usb_explain.specs.Contexts.{depth_of}
 use Rattle.usb_explain.specs.Standings.{noted, with_endpoint}
 use Rattle.usb_explain.specs.Roles.{inner_role, typed_role}
 use Rattle.usb_explain.specs.Subjects.{Subject}
 use Rattle.usb_explain.specs.Trees.{endpoint_entries, entry}
 use Rattle.usb_explain.proofs.Spans.{Aim, adding}
-use Rattle.usb_explain.proofs.rest.Steps.{inner_at, length_is}
-use Rattle.usb_explain.proofs.rest.Counts.{four_parts}
+use Rattle.usb_explain.proofs.rest.Steps.{four_parts, inner_at, length_is}
 use Rattle.usb_explain.proofs.rest.Seen.{AllHere, Goes, Seen, Step, goes_as, goes_twice, here_both, here_when, numbers_of, seen}
 use Rattle.usb_explain.proofs.rest.Extras.{count_append, extras_go, here_is, less, same_place, same_taken, seen_goes, taken}
 
 -- ---- the setting that an endpoint is in
 
-in_setting_is : (set : SetStanding) (rule : Rule) (o : Option SettingStanding) (j k : ℕ) → numbers_of o ≡ Some (j, k)
-    → in_setting set rule o ≡ finding rule set.part set.number j k
-in_setting_is set rule None j k e = absurd (none-some (j, k) e)
-in_setting_is set rule (Some setting) j k e =
+in_setting_is : (set : SetStanding) (cause : Cause) (o : Option SettingStanding) (j k : ℕ) → numbers_of o ≡ Some (j, k)
+    → in_setting set cause o ≡ finding (rule_of cause) set.part set.number j k
+in_setting_is set cause None j k e = absurd (none-some (j, k) e)
+in_setting_is set cause (Some setting) j k e =
     let one : setting.number ≡ j = ap (λ (o : Option (ℕ × ℕ)). (unwrap_or o (0, 0)).0) e in
     let two : setting.endpoints ≡ k = ap (λ (o : Option (ℕ × ℕ)). (unwrap_or o (0, 0)).1) e in
-    ap (λ n. finding rule set.part set.number n setting.endpoints) one ∙ ap (λ n. finding rule set.part set.number j n) two
+    ap (λ n. finding (rule_of cause) set.part set.number n setting.endpoints) one ∙ ap (λ n. finding (rule_of cause) set.part set.number j n) two
 
 some_setting : (o : Option SettingStanding) (j k : ℕ) → numbers_of o ≡ Some (j, k) → is_some o ≡ true
 some_setting None j k e = absurd (none-some (j, k) e)
@@ -49,13 +49,13 @@ next_endpoint : (o : Option SettingStanding) (j k : ℕ) → numbers_of o ≡ So
 next_endpoint None j k e = absurd (none-some (j, k) e)
 next_endpoint (Some setting) j k e = ap (λ (o : Option (ℕ × ℕ)). Some ((unwrap_or o (0, 0)).0, (unwrap_or o (0, 0)).1 + 1)) e
 
-here_endpoint : (is_dump : Bool) (s : Standing) (d behind : List ℕ) (rule : Rule) (j k : ℕ) → numbers_of s.set.setting ≡ Some (j, k)
-    → is_some (endpoint_told d rule) ≡ true → is_here is_dump s roles.Endpoint d behind (finding rule s.set.part s.set.number j k) ≡ true
-unfolding finding_at told_at
-here_endpoint is_dump s d behind rule j k e h =
-    here_is is_dump s roles.Endpoint d behind rule s.set.part s.set.number j k
-    (ap (λ g. is_same_place (finding rule s.set.part s.set.number j k) g) (in_setting_is s.set rule s.set.setting j k e)
-    ∙ same_place rule s.set.part s.set.number j k) h
+here_endpoint : (s : Standing) (cause : Cause) (j k : ℕ) → numbers_of s.set.setting ≡ Some (j, k) → endpoint_can cause ≡ true
+    → is_here s roles.Endpoint (found cause s.set.part s.set.number j k) ≡ true
+unfolding finding_at can_break
+here_endpoint s cause j k e h =
+    here_is s roles.Endpoint cause s.set.part s.set.number j k
+    (ap (λ g. is_same (finding (rule_of cause) s.set.part s.set.number j k) g) (in_setting_is s.set cause s.set.setting j k e)
+    ∙ same_place (rule_of cause) s.set.part s.set.number j k) h
 
 -- ---- its descriptor
 
@@ -77,7 +77,7 @@ abbrev owned : Seen → Seen
 owned v = record v { owner = owners.Endpoint }
 
 -- findings of four rules, and of three
-pub here_four : (here : Finding → Bool) (a b c d : Bool) (f g h i : Finding) → here f ≡ true → here g ≡ true → here h ≡ true → here i ≡ true
+pub here_four : (here : Found → Bool) (a b c d : Bool) (f g h i : Found) → here f ≡ true → here g ≡ true → here h ≡ true → here i ≡ true
     → AllHere here (when a f ++ when b g ++ when c h ++ when d i)
 here_four here a b c d f g h i one two three four =
     here_both here (when a f ++ when b g ++ when c h) (when d i)
@@ -87,38 +87,37 @@ here_four here a b c d f g h i one two three four =
 endpoint_step : (subject : Subject) (before : List Setting) (j : ℕ) (t : Setting) (k : ℕ) (e : Endpoint) (behind : List ℕ) (s : Standing)
     → (numbers_of s.set.setting ≡ Some (j, k)) × (length (descriptor_bytes (endpoint_descriptor e)) ≤ s.left)
     → Step subject s roles.Endpoint (descriptor_bytes (endpoint_descriptor e)) behind (at_endpoint s.set.part s.set.number before j t k e)
-    (at_setting j (k + 1) (owned (less (length (descriptor_bytes (endpoint_descriptor e))) (seen s)))) 3 []
-unfolding noted depth_of told_at
+    (at_setting j (k + 1) (owned (less (length (descriptor_bytes (endpoint_descriptor e))) (seen s)))) 3
+unfolding noted depth_of
 endpoint_step subject before j t k e behind s p =
     let d = descriptor_bytes (endpoint_descriptor e) in
-    let here = λ (rule : Rule). here_endpoint subject.is_dump s d behind rule j k p.0 in
-    let f = λ (rule : Rule). finding rule s.set.part s.set.number j k in
+    let here = λ (cause : Cause). here_endpoint s cause j k p.0 in
+    let f = λ (cause : Cause). found cause s.set.part s.set.number j k in
     record {
       is = inner_at s d s.left refl (omega arith) p.1 ∙ endpoint_role s e (some_setting s.set.setting j k p.0);
-      own = here_four (is_here subject.is_dump s roles.Endpoint d behind) (wrong_address e.address) (repeats_address (take k t.endpoints) e) (shares_address before t e) (wrong_packet_size e.max_packet)
-          (f rules.V6) (f rules.V7) (f rules.V8) (f rules.V12) (here rules.V6 refl) (here rules.V7 refl) (here rules.V8 refl) (here rules.V12 refl);
+      own = here_four (is_here s roles.Endpoint) (wrong_address e.address) (repeats_address (take k t.endpoints) e) (shares_address before t e) (wrong_packet_size e.max_packet)
+          (f (address_cause e.address)) (f causes.RepeatedAddress) (f causes.SharedAddress) (f causes.PacketSize) (here (address_cause e.address) refl) (here causes.RepeatedAddress refl) (here causes.SharedAddress refl) (here causes.PacketSize refl);
       after = λ told. ap (λ o. record (owned (less (length d) (seen s))) { setting = o }) (next_endpoint s.set.setting j k p.0);
       deep = refl;
-      counted = refl;
     }
 
-endpoint_goes : (E : Aim) (subject : Subject) (before : List Setting) (j : ℕ) (t : Setting) (k : ℕ) (e : Endpoint) (v : Seen) (behind : List ℕ) (later : List Finding)
+endpoint_goes : (E : Aim) (subject : Subject) (before : List Setting) (j : ℕ) (t : Setting) (k : ℕ) (e : Endpoint) (v : Seen) (behind : List ℕ) (later : List Found)
     → length (descriptor_bytes (endpoint_descriptor e)) ≤ v.left
-    → Goes (adding E (entry roles.Endpoint 3 (descriptor_bytes (endpoint_descriptor e)) ∷ []) []) subject
+    → Goes (adding E (entry roles.Endpoint 3 (descriptor_bytes (endpoint_descriptor e)) ∷ [])) subject
     (at_setting j (k + 1) (owned (less (length (descriptor_bytes (endpoint_descriptor e))) v))) later behind
     → Goes E subject (at_setting j k v) (at_endpoint v.part v.number before j t k e ++ later) (descriptor_bytes (endpoint_descriptor e) ++ behind)
 endpoint_goes E subject before j t k e v behind later room onward =
     let item = endpoint_descriptor e in
     let d = descriptor_bytes item in
     seen_goes E subject (at_setting j k v) (λ v. (v.setting ≡ Some (j, k)) × (length d ≤ v.left)) roles.Endpoint d behind (λ v. at_endpoint v.part v.number before j t k e)
-    (λ v. at_setting j (k + 1) (owned (less (length d) v))) later (λ v. 3) [] (length_is (2 + length item.body) item.kind item.body behind refl)
+    (λ v. at_setting j (k + 1) (owned (less (length d) v))) later (λ v. 3) (length_is (2 + length item.body) item.kind item.body behind refl)
     (λ s p. endpoint_step subject before j t k e behind s p) (refl, room) onward
 
 -- ---- endpoints one after another, each with its extras
 
-pub endpoints_go : (E : Aim) (subject : Subject) (settings : List Setting) (j : ℕ) (t : Setting) (es : List Endpoint) (k : ℕ) (v : Seen) (behind : List ℕ) (later : List Finding)
+pub endpoints_go : (E : Aim) (subject : Subject) (settings : List Setting) (j : ℕ) (t : Setting) (es : List Endpoint) (k : ℕ) (v : Seen) (behind : List ℕ) (later : List Found)
     → list_any is_endpoint_typed es ≡ false → length (flat_map endpoint_bytes es) ≤ v.left
-    → ((o : Option (ℕ × ℕ)) (w : Owner) → Goes (adding E (flat_map endpoint_entries es) []) subject
+    → ((o : Option (ℕ × ℕ)) (w : Owner) → Goes (adding E (flat_map endpoint_entries es)) subject
     (record (taken (length (flat_map endpoint_bytes es)) (association_count (flat_map (λ e. e.extras) es)) v) { setting = o; owner = w }) later behind)
     → Goes E subject (at_setting j k v) (at_each_counted endpoint_associations (endpoint_in_order v.part v.number settings j t) k v.associations es ++ later)
     (flat_map endpoint_bytes es ++ behind)
@@ -137,15 +136,15 @@ endpoints_go E subject settings j t (e ∷ es) k v behind later typed room onwar
     let rest = at_each_counted endpoint_associations (endpoint_in_order v.part v.number settings j t) (k + 1) (v.associations + n) es in
     let sum : length ((d ++ x) ++ more) ≡ (length d + length x) + length more = length-append (d ++ x) more ∙ ap (λ n. n + length more) (length-append d x) in
     let count = count_append e.extras (flat_map (λ (e : Endpoint). e.extras) es) in
-    let said : Aim = adding E (entry roles.Endpoint 3 d ∷ []) [] in
-    let all : Aim = adding E (endpoint_entries e) [] in
+    let said : Aim = adding E (entry roles.Endpoint 3 d ∷ []) in
+    let all : Aim = adding E (endpoint_entries e) in
     goes_as E subject (at_setting j k v) (((one ++ two) ++ rest) ++ later) (one ++ (two ++ (rest ++ later))) (((d ++ x) ++ more) ++ behind) (d ++ (x ++ (more ++ behind)))
     (four_parts one two rest later) (four_parts d x more behind)
     (endpoint_goes E subject (take j settings) j t k e v (x ++ (more ++ behind)) (two ++ (rest ++ later)) (omega (arith, room, sum))
     (extras_go said subject settings e.extras (at_setting j (k + 1) u) (more ++ behind) (rest ++ later) each.0 (omega (arith, room, sum))
     (λ q. endpoints_go all subject settings j t es (k + 1) (record (taken (length x) n u) { owner = q }) behind later each.1 (omega (arith, room, sum))
-    (λ o w. subst (λ v. Goes (adding all (flat_map endpoint_entries es) []) subject (record v { setting = o; owner = w }) later behind)
+    (λ o w. subst (λ v. Goes (adding all (flat_map endpoint_entries es)) subject (record v { setting = o; owner = w }) later behind)
     (sym (same_taken v (((v.left - length d) - length x) - length more) ((v.associations + n) + m) (length ((d ++ x) ++ more)) (association_count (e.extras ++ flat_map (λ (e : Endpoint). e.extras) es))
     (omega (arith, sum)) (omega (arith, count))))
     (goes_twice E subject (record (taken (length ((d ++ x) ++ more)) (association_count (e.extras ++ flat_map (λ (e : Endpoint). e.extras) es)) v) { setting = o; owner = w })
-    later behind (endpoint_entries e) (flat_map endpoint_entries es) [] [] (onward o w))))))
+    later behind (endpoint_entries e) (flat_map endpoint_entries es) (onward o w))))))

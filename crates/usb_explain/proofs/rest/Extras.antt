@@ -1,16 +1,18 @@
 -- A walk goes through the extras of a set, and tells their findings.
-use Rattle.std.proofs.Common.{◌≡◌, ◌≤◌, ℕ, ◌+◌, ◌-◌, Bool, true, false, List, [], ◌∷◌, ◌++◌, flat_map, if◌then◌else◌, length, Some, None, is_some, option_and_then, refl, sym, ap, subst, ◌∙◌, arith, append_assoc, length-append}
+use Rattle.std.proofs.Common.{◌≡◌, ◌≤◌, ℕ, ◌+◌, ◌-◌, Bool, true, false, List, [], ◌∷◌, ◌++◌, flat_map, if◌then◌else◌, length, Some, ◌==◌, refl, sym, ap, subst, ◌∙◌, arith, append_assoc, length-append}
 use Rattle.std.specs.List.{list_any}
 use Rattle.std.proofs.lemmas.Bool.{le-leb, eq-eqb, ne_eqb, or_parts}
 use Rattle.std.proofs.lemmas.List.Concat.{flat_map-append}
-use Rattle.usb_file_data.specs.declared.finding.Finding.{Finding}
+use Rattle.usb_file_data.specs.declared.cause.Found.{Found}
 use Rattle.usb_file_data.specs.declared.finding.Part.{Part}
 use Rattle.usb_file_data.specs.declared.rule.Rule.{Rule}
-use Rattle.usb_file_data.specs.declared.rule.Rule.TheVariants as rules
+use Rattle.usb_file_data.specs.declared.cause.Cause.{Cause}
+use Rattle.usb_file_data.specs.declared.cause.Cause.TheVariants as causes
+use Rattle.usb_file_data.specs.Causes.{association_cause, found, rule_of}
+use Rattle.usb_file_data.specs.Numbers.{rule_number}
 use Rattle.usb_file_data.specs.Findings.{association_count, at_associations}
 use Rattle.usb_file_data.specs.Places.{at_each, finding, when}
 use Rattle.usb_file_data.specs.Rules.{binds_missing_interface}
-use Rattle.usb_file_data.proofs.RuleNumbers.{numbered_rule}
 use Rattle.usb_file_data.proofs.Walking.{each_append}
 use Rattle.usb_set.specs.declared.extra.Association.{Association}
 use Rattle.usb_set.specs.declared.extra.Extra.{Extra}
@@ -28,8 +30,7 @@ use Rattle.usb_explain.specs.declared.role.Role.TheVariants as roles
 use Rattle.usb_explain.specs.declared.position.Owner.{Owner}
 use Rattle.usb_explain.specs.declared.position.Owner.TheVariants as owners
 use Rattle.usb_explain.specs.declared.position.Standing.{Standing}
-use Rattle.usb_explain.specs.declared.finding_words.Told.{Told}
-use Rattle.usb_explain.specs.Findings.{finding_at, is_here, is_same_place, part_number, told_at, told_by, told_of}
+use Rattle.usb_explain.specs.Findings.{association_can, can_break, finding_at, is_here, is_same, part_number}
 use Rattle.usb_explain.specs.Contexts.{below, depth_of}
 use Rattle.usb_explain.specs.Standings.{noted}
 use Rattle.usb_explain.specs.Roles.{inner_role, typed_role}
@@ -41,33 +42,33 @@ use Rattle.usb_explain.proofs.rest.Seen.{Goes, Seen, Step, goes_as, here_both, h
 -- ---- a descriptor by what is seen before it
 
 -- where this holds of what is seen
-pub seen_goes : (E : Aim) (subject : Subject) (v : Seen) (P : Seen → Type 0) (role : Role) (d behind : List ℕ) (mine : Seen → List Finding) (w : Seen → Seen) (later : List Finding)
-    (depth : Seen → ℕ) (counts : List Told)
-    → descriptor_length (d ++ behind) ≡ Some (length d) → ((s : Standing) → P (seen s) → Step subject s role d behind (mine (seen s)) (w (seen s)) (depth (seen s)) counts)
-    → P v → Goes (adding E (entry role (depth v) d ∷ []) counts) subject (w v) later behind → Goes E subject v (mine v ++ later) (d ++ behind)
-seen_goes E subject v P role d behind mine w later depth counts e step holds onward =
-    one_goes E subject v (w v) role d behind (mine v) later (depth v) counts e
-    (λ s is. subst (λ v. Step subject s role d behind (mine v) (w v) (depth v) counts) is (step s (subst P (sym is) holds))) onward
+pub seen_goes : (E : Aim) (subject : Subject) (v : Seen) (P : Seen → Type 0) (role : Role) (d behind : List ℕ) (mine : Seen → List Found) (w : Seen → Seen) (later : List Found)
+    (depth : Seen → ℕ)
+    → descriptor_length (d ++ behind) ≡ Some (length d) → ((s : Standing) → P (seen s) → Step subject s role d behind (mine (seen s)) (w (seen s)) (depth (seen s)))
+    → P v → Goes (adding E (entry role (depth v) d ∷ [])) subject (w v) later behind → Goes E subject v (mine v ++ later) (d ++ behind)
+seen_goes E subject v P role d behind mine w later depth e step holds onward =
+    one_goes E subject v (w v) role d behind (mine v) later (depth v) e
+    (λ s is. subst (λ v. Step subject s role d behind (mine v) (w v) (depth v)) is (step s (subst P (sym is) holds))) onward
 
 -- ---- whose a finding is
 
-pub here_is : (is_dump : Bool) (s : Standing) (role : Role) (d behind : List ℕ) (rule : Rule) (part : Part) (i j k : ℕ)
-    → is_same_place (finding rule part i j k) (finding_at s role rule) ≡ true → is_some (told_at is_dump s role d behind rule) ≡ true
-    → is_here is_dump s role d behind (finding rule part i j k) ≡ true
-unfolding told_of
-here_is is_dump s role d behind rule part i j k same told =
-    ap (λ o. is_some (option_and_then (told_by is_dump s role d behind (finding rule part i j k)) o)) (numbered_rule rule)
-    ∙ ap (λ b. is_some (if b then told_at is_dump s role d behind rule else None)) same ∙ told
+pub here_is : (s : Standing) (role : Role) (cause : Cause) (part : Part) (i j k : ℕ)
+    → is_same (finding (rule_of cause) part i j k) (finding_at s role cause) ≡ true → can_break role cause ≡ true → is_here s role (found cause part i j k) ≡ true
+unfolding is_here
+here_is s role cause part i j k same can = rw (same, can) refl
 
-pub same_place : (rule : Rule) (p : Part) (i j k : ℕ) → is_same_place (finding rule p i j k) (finding rule p i j k) ≡ true
-same_place rule p i j k = rw (eq-eqb (part_number p) (part_number p) refl, eq-eqb i i refl, eq-eqb j j refl, eq-eqb k k refl) refl
+pub same_place : (rule : Rule) (p : Part) (i j k : ℕ) → is_same (finding rule p i j k) (finding rule p i j k) ≡ true
+same_place rule p i j k = rw (eq-eqb (rule_number rule) (rule_number rule) refl, eq-eqb (part_number p) (part_number p) refl, eq-eqb i i refl, eq-eqb j j refl, eq-eqb k k refl) refl
 
-here_association : (is_dump : Bool) (s : Standing) (d behind : List ℕ)
-    → is_here is_dump s roles.Association d behind (finding rules.V13 s.set.part s.set.number s.set.associations 0) ≡ true
-unfolding finding_at told_at
-here_association is_dump s d behind =
-    here_is is_dump s roles.Association d behind rules.V13 s.set.part s.set.number s.set.associations 0
-    (same_place rules.V13 s.set.part s.set.number s.set.associations 0) refl
+association_breaks : (none : Bool) → association_can (if none then causes.NoInterface else causes.MissingInterface) ≡ true
+association_breaks true = refl
+association_breaks false = refl
+
+here_association : (s : Standing) (a : Association) → is_here s roles.Association (found (association_cause a) s.set.part s.set.number s.set.associations 0) ≡ true
+unfolding finding_at can_break
+here_association s a =
+    here_is s roles.Association (association_cause a) s.set.part s.set.number s.set.associations 0
+    (same_place (rule_of (association_cause a)) s.set.part s.set.number s.set.associations 0) (association_breaks (a.count == 0))
 
 -- ---- what is left
 
@@ -111,13 +112,13 @@ association_role : (s : Standing) (a : Association) → inner_role s (descriptor
 unfolding inner_role
 association_role s a = ap (λ b. Some (typed_role b roles.Association)) (le-leb 8 (length (descriptor_bytes (association_descriptor a))) (omega arith))
 
-abbrev extra_findings : Part → ℕ → List Setting → ℕ → Extra → List Finding
-extra_findings part i settings n x = at_each (λ k a. when (binds_missing_interface settings a) (finding rules.V13 part i k 0)) n (association_in x)
+abbrev extra_findings : Part → ℕ → List Setting → ℕ → Extra → List Found
+extra_findings part i settings n x = at_each (λ k a. when (binds_missing_interface settings a) (found (association_cause a) part i k 0)) n (association_in x)
 
 extra_step : (subject : Subject) (settings : List Setting) (x : Extra) (behind : List ℕ) (s : Standing) → is_typed_raw x ≡ false → length (extra_bytes x) ≤ s.left
     → Step subject s (extra_role x) (extra_bytes x) behind (extra_findings s.set.part s.set.number settings s.set.associations x)
-    (after_extra x (seen s)) (extra_depth (below s.set.owner) x) []
-unfolding noted depth_of told_at
+    (after_extra x (seen s)) (extra_depth (below s.set.owner) x)
+unfolding noted depth_of
 extra_step subject settings (extras.Raw r) behind s e room =
     let same : s.set.associations ≡ s.set.associations + 0 = omega arith in
     record {
@@ -125,28 +126,26 @@ extra_step subject settings (extras.Raw r) behind s e room =
       own = tt;
       after = λ told. same_taken (seen s) (s.left - length (extra_bytes (extras.Raw r))) s.set.associations (length (extra_bytes (extras.Raw r))) 0 refl same;
       deep = refl;
-      counted = refl;
     }
 extra_step subject settings (extras.Association a) behind s e room =
     let d = extra_bytes (extras.Association a) in
-    let f = finding rules.V13 s.set.part s.set.number s.set.associations 0 in
-    let here = is_here subject.is_dump s roles.Association d behind in
+    let f = found (association_cause a) s.set.part s.set.number s.set.associations 0 in
+    let here = is_here s roles.Association in
     record {
       is = inner_at s d s.left refl (omega arith) room ∙ association_role s a;
-      own = here_both here (when (binds_missing_interface settings a) f) [] (here_when here (binds_missing_interface settings a) f (λ h. here_association subject.is_dump s d behind)) tt;
+      own = here_both here (when (binds_missing_interface settings a) f) [] (here_when here (binds_missing_interface settings a) f (λ h. here_association s a)) tt;
       after = λ told. refl;
       deep = refl;
-      counted = refl;
     }
 
-extra_goes : (E : Aim) (subject : Subject) (settings : List Setting) (x : Extra) (v : Seen) (behind : List ℕ) (later : List Finding) → is_typed_raw x ≡ false
+extra_goes : (E : Aim) (subject : Subject) (settings : List Setting) (x : Extra) (v : Seen) (behind : List ℕ) (later : List Found) → is_typed_raw x ≡ false
     → length (extra_bytes x) ≤ v.left
-    → Goes (adding E (entry (extra_role x) (extra_depth (below v.owner) x) (extra_bytes x) ∷ []) []) subject (after_extra x v) later behind
+    → Goes (adding E (entry (extra_role x) (extra_depth (below v.owner) x) (extra_bytes x) ∷ [])) subject (after_extra x v) later behind
     → Goes E subject v (extra_findings v.part v.number settings v.associations x ++ later) (extra_bytes x ++ behind)
 extra_goes E subject settings x v behind later e room onward =
     let item = extra_descriptor x in
     seen_goes E subject v (λ v. length (extra_bytes x) ≤ v.left) (extra_role x) (extra_bytes x) behind (λ v. extra_findings v.part v.number settings v.associations x)
-    (after_extra x) later (λ v. extra_depth (below v.owner) x) [] (length_is (2 + length item.body) item.kind item.body behind refl)
+    (after_extra x) later (λ v. extra_depth (below v.owner) x) (length_is (2 + length item.body) item.kind item.body behind refl)
     (λ s p. extra_step subject settings x behind s e p) room onward
 
 -- ---- extras one after another
@@ -154,9 +153,9 @@ extra_goes E subject settings x v behind later e room onward =
 pub count_append : (xs ys : List Extra) → association_count (xs ++ ys) ≡ association_count xs + association_count ys
 count_append xs ys = ap (λ (l : List Association). length l) (flat_map-append association_in xs ys) ∙ length-append (flat_map association_in xs) (flat_map association_in ys)
 
-pub extras_go : (E : Aim) (subject : Subject) (settings : List Setting) (xs : List Extra) (v : Seen) (behind : List ℕ) (later : List Finding) → list_any is_typed_raw xs ≡ false
+pub extras_go : (E : Aim) (subject : Subject) (settings : List Setting) (xs : List Extra) (v : Seen) (behind : List ℕ) (later : List Found) → list_any is_typed_raw xs ≡ false
     → length (flat_map extra_bytes xs) ≤ v.left
-    → ((o : Owner) → Goes (adding E (extra_entries (below v.owner) xs) []) subject (record (taken (length (flat_map extra_bytes xs)) (association_count xs) v) { owner = o }) later behind)
+    → ((o : Owner) → Goes (adding E (extra_entries (below v.owner) xs)) subject (record (taken (length (flat_map extra_bytes xs)) (association_count xs) v) { owner = o }) later behind)
     → Goes E subject v (at_associations v.part v.number settings v.associations xs ++ later) (flat_map extra_bytes xs ++ behind)
 extras_go E subject settings [] v behind later e room onward =
     subst (λ w. Goes E subject w later behind) (sym (same_taken v v.left v.associations 0 0 (omega arith) (omega arith))) (onward v.owner)
@@ -170,12 +169,12 @@ extras_go E subject settings (x ∷ xs) v behind later e room onward =
     let sum : length (d ++ more) ≡ length d + length more = length-append d more in
     let count : association_count (x ∷ xs) ≡ n + association_count xs = length-append (association_in x) (flat_map association_in xs) in
     let depth = extra_depth (below v.owner) x in
-    let said : Aim = adding E (entry (extra_role x) depth d ∷ []) [] in
+    let said : Aim = adding E (entry (extra_role x) depth d ∷ []) in
     goes_as E subject v (at_associations v.part v.number settings v.associations (x ∷ xs) ++ later) (one ++ (rest ++ later)) ((d ++ more) ++ behind) (d ++ (more ++ behind))
-    (ap (λ l. l ++ later) (each_append (λ k a. when (binds_missing_interface settings a) (finding rules.V13 v.part v.number k 0)) v.associations (association_in x) (flat_map association_in xs))
+    (ap (λ l. l ++ later) (each_append (λ k a. when (binds_missing_interface settings a) (found (association_cause a) v.part v.number k 0)) v.associations (association_in x) (flat_map association_in xs))
     ∙ append_assoc one rest later) (append_assoc d more behind)
     (extra_goes E subject settings x v (more ++ behind) (rest ++ later) each.0 (omega (arith, room, sum))
     (extras_go said subject settings xs (after_extra x v) behind later each.1 (omega (arith, room, sum))
-    (λ o. subst (λ k. Goes (adding said (extra_entries k xs) []) subject (record (taken (length more) (association_count xs) (after_extra x v)) { owner = o }) later behind) (sym (below_after x v.owner))
-    (subst (λ (w : Seen). Goes (adding said (extra_entries depth xs) []) subject (record w { owner = o }) later behind)
+    (λ o. subst (λ k. Goes (adding said (extra_entries k xs)) subject (record (taken (length more) (association_count xs) (after_extra x v)) { owner = o }) later behind) (sym (below_after x v.owner))
+    (subst (λ (w : Seen). Goes (adding said (extra_entries depth xs)) subject (record w { owner = o }) later behind)
     (sym (same_taken v ((v.left - length d) - length more) ((v.associations + n) + association_count xs) (length (d ++ more)) (association_count (x ∷ xs)) (omega (arith, sum)) (omega (arith, count)))) (onward o)))))

@@ -5,7 +5,7 @@ use Rattle.std.proofs.lemmas.Bool.{cond-false, eq-eqb, eqb-true}
 use Rattle.std.proofs.lemmas.Bool.Decides.{nat_tests}
 use Rattle.std.proofs.lemmas.Option.{none-some}
 use Rattle.usb_fields.specs.Bytes.{AreBytes}
-use Rattle.usb_file_data.specs.declared.finding.Finding.{Finding}
+use Rattle.usb_file_data.specs.declared.cause.Found.{Found}
 use Rattle.usb_set.specs.declared.fault.SetWhy.{SetWhy}
 use Rattle.usb_set.specs.declared.fault.SetWhy.TheVariants as whys
 use Rattle.usb_set.specs.declared.tree.SetKind.{SetKind}
@@ -37,13 +37,13 @@ use Rattle.usb_explain.proofs.rest.Steps.{behind_one, goes_on, inner_at, length_
 
 -- no more bytes are left than so many
 abbrev pub few : ℕ → Aim
-few k = λ rest entries counts. length rest ≤ k
+few k = λ rest entries. length rest ≤ k
 
 -- nothing is told of bytes that are no input
 abbrev pub TellsNothing : Subject → Type 0
 TellsNothing subject = subject.found ≡ []
 
-pub rear_of_none : (subject : Subject) (s : Standing) (found : List Finding) → TellsNothing subject → Rear subject s found
+pub rear_of_none : (subject : Subject) (s : Standing) (found : List Found) → TellsNothing subject → Rear subject s found
 rear_of_none subject s found none = (length found, ap (λ l. drop s.told l) none ∙ drop-nil s.told ∙ sym (drop-length found))
 
 -- ---- few bytes
@@ -145,7 +145,7 @@ item_goes k subject room in_setting item behind fine onward s left =
     let len = 2 + length item.body in
     let one = inner s len item.kind item.body (not_nested room in_setting len item.kind item.body fine) in
     let within : length d ≤ room = item_within room in_setting d fine (eq-eqb (length (item.kind ∷ item.body) + 1) len (omega arith)) in
-    goes_on (few k) subject s d behind one.role _ _ (length_is len item.kind item.body behind refl) (inner_at s d room left (omega arith) within ∙ one.is) refl refl
+    goes_on (few k) subject s d behind one.role _ (length_is len item.kind item.body behind refl) (inner_at s d room left (omega arith) within ∙ one.is) refl
     (onward (behind_one subject s one.role d behind)
     (left_behind one.role one.stays subject.manner.speed d (d ++ behind) s _ ∙ ap (λ k. k - length d) left))
 
@@ -216,8 +216,8 @@ begun_goes : (k : ℕ) (subject : Subject) (kind : SetKind) (body behind : List 
 begun_goes k subject kind body behind s outside least most onward =
     let len = 2 + length body in
     let d : List ℕ = len ∷ type_number kind ∷ body in
-    goes_on (few k) subject s d behind roles.Configuration _ _ (length_is len (type_number kind) body behind refl)
-    (outer_at s d outside ∙ set_role s kind len body least most) refl refl
+    goes_on (few k) subject s d behind roles.Configuration _ (length_is len (type_number kind) body behind refl)
+    (outer_at s d outside ∙ set_role s kind len body least most) refl
     (onward (behind_one subject s roles.Configuration d behind)
     (ap (λ (v : Seen). v.left) (set_after kind subject.manner.speed len body behind s _) ∙ ap (λ n. n - length d) (total_before len (type_number kind) body behind least)))
 

@@ -1,15 +1,15 @@
 -- A walk goes through whole sets, and tells their findings.
-use Rattle.std.proofs.Common.{◌≡◌, ◌≤◌, ℕ, ◌+◌, ◌-◌, ◌==◌, ◌&&◌, Bool, true, false, List, [], ◌∷◌, ◌++◌, flat_map, length, map, take, not, Option, Some, None, is_some, unwrap_or, refl, sym, ap, subst, ◌∙◌, arith, append_assoc, length-append}
+use Rattle.std.proofs.Common.{◌≡◌, ◌≤◌, ℕ, ◌+◌, ◌-◌, ◌==◌, ◌&&◌, Bool, true, false, if◌then◌else◌, List, [], ◌∷◌, ◌++◌, flat_map, length, take, not, Option, Some, None, refl, sym, ap, subst, ◌∙◌, arith, append_assoc, length-append}
 use Rattle.std.specs.List.{list_any}
-use Rattle.std.specs.Option.{option_map}
 use Rattle.std.proofs.lemmas.Bool.{cond-true, le-leb, eq-eqb, or_parts}
 use Rattle.usb_fields.specs.Bytes.{little_endian_at}
-use Rattle.usb_file_data.specs.declared.finding.Finding.{Finding}
+use Rattle.usb_file_data.specs.declared.cause.Found.{Found}
 use Rattle.usb_file_data.specs.declared.finding.Part.TheVariants as parts
-use Rattle.usb_file_data.specs.declared.rule.Rule.{Rule}
-use Rattle.usb_file_data.specs.declared.rule.Rule.TheVariants as rules
+use Rattle.usb_file_data.specs.declared.cause.Cause.{Cause}
+use Rattle.usb_file_data.specs.declared.cause.Cause.TheVariants as causes
+use Rattle.usb_file_data.specs.Causes.{attributes_cause, found, rule_of, value_cause}
 use Rattle.usb_file_data.specs.Findings.{association_count, at_associations, at_configuration, part_of_kind, set_in_order, setting_associations, setting_in_order}
-use Rattle.usb_file_data.specs.Places.{at_each, at_each_counted, finding}
+use Rattle.usb_file_data.specs.Places.{at_each, at_each_counted}
 use Rattle.usb_file_data.specs.Rules.{has_number_gap, interface_numbers, wrong_attributes, wrong_interface_count, wrong_value}
 use Rattle.usb_set.specs.declared.fault.EncodeFault.TheVariants as encoding
 use Rattle.usb_set.specs.declared.tree.Configuration.{Configuration}
@@ -24,24 +24,19 @@ use Rattle.usb_set.proofs.Trees.{set_bytes_is, typed_parts}
 use Rattle.usb_file_data.specs.File.{has_no_layout, is_other_kind, sets_bytes, whole_set}
 use Rattle.usb_file_data.proofs.WholeSets.{no_some}
 use Rattle.usb_explain.specs.declared.speed.SetSpeed.{SetSpeed}
-use Rattle.usb_explain.specs.SetSpeeds.{survey_of}
-use Rattle.usb_explain.specs.declared.finding_words.Told.{Told}
-use Rattle.usb_explain.specs.declared.finding_words.Told.TheVariants as told
 use Rattle.usb_explain.specs.declared.role.Role.{Role}
 use Rattle.usb_explain.specs.declared.role.Role.TheVariants as roles
 use Rattle.usb_explain.specs.declared.position.Owner.TheVariants as owners
-use Rattle.usb_explain.specs.declared.position.SetStanding.{SetStanding}
 use Rattle.usb_explain.specs.declared.position.Standing.{Standing}
-use Rattle.usb_explain.specs.Findings.{finding_at, is_here, set_told, told_at}
+use Rattle.usb_explain.specs.Findings.{can_break, finding_at, is_here, set_can}
 use Rattle.usb_explain.specs.Contexts.{depth_of}
 use Rattle.usb_explain.specs.SetStart.{entered, opened}
 use Rattle.usb_explain.specs.Standings.{noted, passed, with_told}
 use Rattle.usb_explain.specs.Roles.{outer_role, role_if, role_of}
 use Rattle.usb_explain.specs.Subjects.{Subject}
-use Rattle.usb_explain.specs.Trees.{entry, extra_entries, set_counts, set_entries, set_entries_by, setting_count, setting_entries}
+use Rattle.usb_explain.specs.Trees.{entry, extra_entries, set_entries, set_entries_by, setting_entries}
 use Rattle.usb_explain.proofs.Spans.{Aim, adding}
-use Rattle.usb_explain.proofs.rest.Steps.{length_is}
-use Rattle.usb_explain.proofs.rest.Counts.{four_parts, interfaces_are}
+use Rattle.usb_explain.proofs.rest.Steps.{four_parts, length_is}
 use Rattle.usb_explain.proofs.rest.Seen.{Goes, Seen, Step, goes_as, goes_for, goes_twice, seen}
 use Rattle.usb_explain.proofs.rest.Extras.{extras_go, here_is, same_place, seen_goes, taken}
 use Rattle.usb_explain.proofs.rest.Endpoints.{here_four}
@@ -94,17 +89,18 @@ unfolding noted opened
 set_after kinds.Configuration running len body behind s told = refl
 set_after kinds.OtherSpeed running len body behind s told = refl
 
-here_set : (kind : SetKind) (is_dump : Bool) (running : Option SetSpeed) (s : Standing) (len : ℕ) (body behind : List ℕ) (rule : Rule)
-    → ((set : SetStanding) → is_some (set_told set (len ∷ type_number kind ∷ body) rule) ≡ true)
+here_set : (kind : SetKind) (running : Option SetSpeed) (s : Standing) (len : ℕ) (body behind : List ℕ) (cause : Cause) → set_can cause ≡ true
     → (let d : List ℕ = len ∷ type_number kind ∷ body in
-    is_here is_dump (entered roles.Configuration running (d ++ behind) s) roles.Configuration d behind (finding rule (part_of_kind kind) (count_in kind (out (seen s))) 0 0) ≡ true)
-unfolding opened finding_at told_at
-here_set kinds.Configuration is_dump running s len body behind rule h =
-    here_is is_dump (opened running (len ∷ 2 ∷ body ++ behind) s) roles.Configuration (len ∷ 2 ∷ body) behind rule parts.Main s.main_sets 0 0
-    (same_place rule parts.Main s.main_sets 0 0) (h (opened running (len ∷ 2 ∷ body ++ behind) s).set)
-here_set kinds.OtherSpeed is_dump running s len body behind rule h =
-    here_is is_dump (opened running (len ∷ 7 ∷ body ++ behind) s) roles.Configuration (len ∷ 7 ∷ body) behind rule parts.Other s.other_sets 0 0
-    (same_place rule parts.Other s.other_sets 0 0) (h (opened running (len ∷ 7 ∷ body ++ behind) s).set)
+    is_here (entered roles.Configuration running (d ++ behind) s) roles.Configuration (found cause (part_of_kind kind) (count_in kind (out (seen s))) 0 0) ≡ true)
+unfolding opened finding_at can_break
+here_set kinds.Configuration running s len body behind cause h =
+    here_is (opened running (len ∷ 2 ∷ body ++ behind) s) roles.Configuration cause parts.Main s.main_sets 0 0 (same_place (rule_of cause) parts.Main s.main_sets 0 0) h
+here_set kinds.OtherSpeed running s len body behind cause h =
+    here_is (opened running (len ∷ 7 ∷ body ++ behind) s) roles.Configuration cause parts.Other s.other_sets 0 0 (same_place (rule_of cause) parts.Other s.other_sets 0 0) h
+
+value_breaks : (is_zero : Bool) → set_can (if is_zero then causes.ZeroValue else causes.RepeatedValue) ≡ true
+value_breaks true = refl
+value_breaks false = refl
 
 -- either type of its first descriptor begins a set
 pub set_role : (s : Standing) (kind : SetKind) (len : ℕ) (body : List ℕ) → 9 ≤ length (len ∷ type_number kind ∷ body)
@@ -131,55 +127,48 @@ whole_sum c total whole =
     let y = flat_map setting_bytes c.settings in
     sym (length-append (d ++ x) y ∙ ap (λ n. n + length y) (length-append d x)) ∙ whole.length_is
 
-first_counted : (running : Option SetSpeed) (s : Standing) (c : Configuration) (total : ℕ) (behind : List ℕ) → IsWhole c total
-    → (let d : List ℕ = descriptor_bytes (configuration_descriptor c total) in
-    set_told (opened running (d ++ behind_first c behind) s).set d rules.V1 ≡ Some (told.InterfaceCount c.declared_interfaces (length (interface_numbers c.settings))))
-unfolding opened survey_of
-first_counted running s c total behind whole =
-    ap (λ n. Some (told.InterfaceCount c.declared_interfaces n)) (interfaces_are c total (little_endian_at (descriptor_bytes (configuration_descriptor c total)) 2) behind whole.raws (two_bytes total) whole.length_is)
-
 configuration_step : (subject : Subject) (before : List Configuration) (c : Configuration) (total : ℕ) (behind : List ℕ) (s : Standing) → IsWhole c total → s.left ≡ 0
     → Step subject s roles.Configuration (descriptor_bytes (configuration_descriptor c total)) (behind_first c behind) (at_configuration (part_of_kind c.kind) before (count_in c.kind (out (seen s))) c)
     (begun c.kind (total - length (descriptor_bytes (configuration_descriptor c total))) (seen s))
-    1 (told.InterfaceCount c.declared_interfaces (length (interface_numbers c.settings)) ∷ [])
-unfolding depth_of told_at
+    1
+unfolding depth_of
 configuration_step subject before c total behind s whole outside =
     let body : List ℕ = (configuration_descriptor c total).body in
     let d : List ℕ = descriptor_bytes (configuration_descriptor c total) in
     let after_it = behind_first c behind in
-    let f = λ (rule : Rule). finding rule (part_of_kind c.kind) (count_in c.kind (out (seen s))) 0 0 in
-    let here = here_set c.kind subject.is_dump subject.manner.speed s (2 + length body) body after_it in
+    let f = λ (cause : Cause). found cause (part_of_kind c.kind) (count_in c.kind (out (seen s))) 0 0 in
+    let here = here_set c.kind subject.manner.speed s (2 + length body) body after_it in
+    let count = causes.InterfaceCount c.declared_interfaces (length (interface_numbers c.settings)) in
     let sum = whole_sum c total whole in
     let room : length d ≤ total = omega (arith, sum) in
     record {
       is = outer_at s d outside ∙ set_role s c.kind (2 + length body) body (omega arith) (omega (arith, two_bytes total, room));
-      own = here_four (is_here subject.is_dump (entered roles.Configuration subject.manner.speed (d ++ after_it) s) roles.Configuration d after_it)
+      own = here_four (is_here (entered roles.Configuration subject.manner.speed (d ++ after_it) s) roles.Configuration)
           (wrong_interface_count c) (has_number_gap c) (wrong_attributes c) (wrong_value before c)
-          (f rules.V1) (f rules.V2) (f rules.V9) (f rules.V10) (here rules.V1 (λ set. refl)) (here rules.V2 (λ set. refl)) (here rules.V9 (λ set. refl)) (here rules.V10 (λ set. refl));
+          (f count) (f causes.NumberGap) (f (attributes_cause c.attributes)) (f (value_cause c.value)) (here count refl) (here causes.NumberGap refl) (here (attributes_cause c.attributes) refl) (here (value_cause c.value) (value_breaks (c.value == 0)));
       after = λ n. set_after c.kind subject.manner.speed (2 + length body) body after_it s n ∙ ap (λ n. begun c.kind (n - length d) (seen s)) (two_bytes total);
       deep = refl;
-      counted = ap (λ (o : Option Told). unwrap_or (option_map (λ t. t ∷ []) o) [] ++ []) (first_counted subject.manner.speed s c total behind whole);
     }
 
-configuration_goes : (E : Aim) (subject : Subject) (before : List Configuration) (c : Configuration) (total : ℕ) (v : Seen) (behind : List ℕ) (later : List Finding)
+configuration_goes : (E : Aim) (subject : Subject) (before : List Configuration) (c : Configuration) (total : ℕ) (v : Seen) (behind : List ℕ) (later : List Found)
     → IsWhole c total → v.left ≡ 0
-    → Goes (adding E (entry roles.Configuration 1 (descriptor_bytes (configuration_descriptor c total)) ∷ []) (told.InterfaceCount c.declared_interfaces (length (interface_numbers c.settings)) ∷ [])) subject
+    → Goes (adding E (entry roles.Configuration 1 (descriptor_bytes (configuration_descriptor c total)) ∷ [])) subject
     (begun c.kind (total - length (descriptor_bytes (configuration_descriptor c total))) v) later (behind_first c behind)
     → Goes E subject v (at_configuration (part_of_kind c.kind) before (count_in c.kind (out v)) c ++ later) (descriptor_bytes (configuration_descriptor c total) ++ behind_first c behind)
 configuration_goes E subject before c total v behind later whole outside onward =
     let item = configuration_descriptor c total in
     let d = descriptor_bytes item in
     seen_goes E subject v (λ v. v.left ≡ 0) roles.Configuration d (behind_first c behind) (λ v. at_configuration (part_of_kind c.kind) before (count_in c.kind (out v)) c)
-    (begun c.kind (total - length d)) later (λ v. 1) (told.InterfaceCount c.declared_interfaces (length (interface_numbers c.settings)) ∷ [])
+    (begun c.kind (total - length d)) later (λ v. 1)
     (length_is (2 + length item.body) item.kind item.body (behind_first c behind) refl)
     (λ s p. configuration_step subject before c total behind s whole p) outside onward
 
 -- ---- sets
 
 -- A set whose wTotalLength is the count of its bytes. Behind its first descriptor so many bytes are left as the others have.
-pub set_goes : (E : Aim) (subject : Subject) (c : Configuration) (before : List Configuration) (total : ℕ) (v : Seen) (behind : List ℕ) (later : List Finding)
+pub set_goes : (E : Aim) (subject : Subject) (c : Configuration) (before : List Configuration) (total : ℕ) (v : Seen) (behind : List ℕ) (later : List Found)
     → has_typed_raw c ≡ false → length (set_bytes c total) ≡ total → v.left ≡ 0
-    → ((w : Seen) → out w ≡ with_count c.kind (count_in c.kind (out v) + 1) (out v) → Goes (adding E (set_entries_by c total) (set_counts c)) subject w later behind)
+    → ((w : Seen) → out w ≡ with_count c.kind (count_in c.kind (out v) + 1) (out v) → Goes (adding E (set_entries_by c total)) subject w later behind)
     → Goes E subject v (set_in_order (part_of_kind c.kind) before (count_in c.kind (out v)) c ++ later) (set_bytes c total ++ behind)
 set_goes E subject c before total v behind later raws all_bytes outside onward =
     let d : List ℕ = descriptor_bytes (configuration_descriptor c total) in
@@ -198,20 +187,19 @@ set_goes E subject c before total v behind later raws all_bytes outside onward =
     let sum = whole_sum c total whole in
     let none : n ≡ 0 + n = omega arith in
     let left : (total - length d) - length x ≡ length y = omega (arith, sum) in
-    let counts = told.InterfaceCount c.declared_interfaces (length (interface_numbers c.settings)) in
-    let said : Aim = adding E (entry roles.Configuration 1 d ∷ []) (counts ∷ []) in
-    let with_extras : Aim = adding said (extra_entries 2 c.extras) [] in
+    let said : Aim = adding E (entry roles.Configuration 1 d ∷ []) in
+    let with_extras : Aim = adding said (extra_entries 2 c.extras) in
     goes_as E subject v (((one ++ two) ++ three n) ++ later) (one ++ (two ++ (three (0 + n) ++ later))) (set_bytes c total ++ behind) (d ++ (x ++ (y ++ behind)))
     (four_parts one two (three n) later ∙ ap (λ k. one ++ (two ++ (three k ++ later))) none) (ap (λ l. l ++ behind) is ∙ four_parts d x y behind)
     (configuration_goes E subject before c total v behind (two ++ (three (0 + n) ++ later)) whole outside
     (extras_go said subject c.settings c.extras first (y ++ behind) (three (0 + n) ++ later) typed.0 (omega (arith, sum))
     (λ q. settings_go with_extras subject c.settings c.settings (record (taken (length x) n first) { owner = q }) behind later typed.1 left
-    (λ w e. goes_for (adding E (set_entries_by c total) (set_counts c)) (adding with_extras (flat_map setting_entries c.settings) (map setting_count c.settings)) subject w later behind
-    (λ r l a h. subst (λ k. E r (entry roles.Configuration 1 d ∷ k) (set_counts c ++ a)) (append_assoc (extra_entries 2 c.extras) (flat_map setting_entries c.settings) l) h)
+    (λ w e. goes_for (adding E (set_entries_by c total)) (adding with_extras (flat_map setting_entries c.settings)) subject w later behind
+    (λ r l h. subst (λ k. E r (entry roles.Configuration 1 d ∷ k)) (append_assoc (extra_entries 2 c.extras) (flat_map setting_entries c.settings) l) h)
     (onward w (e ∙ begun_out c.kind 0 (total - length d) v ∙ ap (λ k. with_count c.kind (i + 1) (out_at k v)) (sym outside)))))))
 
 -- from each standing of which this is seen
-abbrev pub GoesOut : Aim → Subject → Out → List Finding → List ℕ → Type 0
+abbrev pub GoesOut : Aim → Subject → Out → List Found → List ℕ → Type 0
 GoesOut E subject o later ahead = (v : Seen) → out v ≡ o → Goes E subject v later ahead
 
 with_twice : (kind : SetKind) (m n : ℕ) (o : Out) → with_count kind m (with_count kind n o) ≡ with_count kind m o
@@ -233,9 +221,9 @@ same_kind kinds.OtherSpeed kinds.Configuration e = cc
 same_kind kinds.OtherSpeed kinds.OtherSpeed e = refl
 
 -- a set against which no reason stands has no raw descriptor of a type that a set reads
-whole_set_goes : (E : Aim) (subject : Subject) (kind : SetKind) (c : Configuration) (before : List Configuration) (i : ℕ) (o : Out) (v : Seen) (behind : List ℕ) (later : List Finding)
+whole_set_goes : (E : Aim) (subject : Subject) (kind : SetKind) (c : Configuration) (before : List Configuration) (i : ℕ) (o : Out) (v : Seen) (behind : List ℕ) (later : List Found)
     → c.kind ≡ kind → o.left ≡ 0 → has_no_layout c ≡ false → out v ≡ with_count kind i o
-    → GoesOut (adding E (set_entries c) (set_counts c)) subject (with_count kind (i + 1) o) later behind
+    → GoesOut (adding E (set_entries c)) subject (with_count kind (i + 1) o) later behind
     → Goes E subject v (set_in_order (part_of_kind kind) before i c ++ later) (whole_set c ++ behind)
 unfolding whole_set
 whole_set_goes E subject kind c before i o v behind later same outside allowed is onward =
@@ -251,8 +239,8 @@ whole_set_goes E subject kind c before i o v behind later same outside allowed i
     ∙ with_twice kind (i + 1) i o)))
 
 -- sets one after another
-pub sets_go : (E : Aim) (subject : Subject) (kind : SetKind) (all sets : List Configuration) (i : ℕ) (o : Out) (behind : List ℕ) (later : List Finding) → o.left ≡ 0
-    → list_any has_no_layout sets ≡ false → list_any (is_other_kind kind) sets ≡ false → ((n : ℕ) → GoesOut (adding E (flat_map set_entries sets) (flat_map set_counts sets)) subject (with_count kind n o) later behind)
+pub sets_go : (E : Aim) (subject : Subject) (kind : SetKind) (all sets : List Configuration) (i : ℕ) (o : Out) (behind : List ℕ) (later : List Found) → o.left ≡ 0
+    → list_any has_no_layout sets ≡ false → list_any (is_other_kind kind) sets ≡ false → ((n : ℕ) → GoesOut (adding E (flat_map set_entries sets)) subject (with_count kind n o) later behind)
     → GoesOut E subject (with_count kind i o) (at_each (λ i c. set_in_order (part_of_kind kind) (take i all) i c) i sets ++ later) (sets_bytes sets ++ behind)
 sets_go E subject kind all [] i o behind later outside allowed right onward v is = onward i v is
 sets_go E subject kind all (c ∷ sets) i o behind later outside allowed right onward v is =
@@ -263,5 +251,5 @@ sets_go E subject kind all (c ∷ sets) i o behind later outside allowed right o
     goes_as E subject v ((one ++ rest) ++ later) (one ++ (rest ++ later)) ((whole_set c ++ sets_bytes sets) ++ behind) (whole_set c ++ (sets_bytes sets ++ behind))
     (append_assoc one rest later) (append_assoc (whole_set c) (sets_bytes sets) behind)
     (whole_set_goes E subject kind c (take i all) i o v (sets_bytes sets ++ behind) (rest ++ later) (same_kind kind c.kind same.0) outside each.0 is
-    (sets_go (adding E (set_entries c) (set_counts c)) subject kind all sets (i + 1) o behind later outside each.1 same.1
-    (λ n w at. goes_twice E subject w later behind (set_entries c) (flat_map set_entries sets) (set_counts c) (flat_map set_counts sets) (onward n w at))))
+    (sets_go (adding E (set_entries c)) subject kind all sets (i + 1) o behind later outside each.1 same.1
+    (λ n w at. goes_twice E subject w later behind (set_entries c) (flat_map set_entries sets) (onward n w at))))

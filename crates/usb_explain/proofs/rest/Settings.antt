@@ -1,12 +1,13 @@
 -- A walk goes through the settings of a set, and tells their findings.
-use Rattle.std.proofs.Common.{◌≡◌, ℕ, ◌+◌, ◌-◌, Bool, true, false, List, [], ◌∷◌, ◌++◌, flat_map, length, map, take, Some, is_some, refl, ap, subst, ◌∙◌, arith, append_assoc, length-append}
+use Rattle.std.proofs.Common.{◌≡◌, ℕ, ◌+◌, ◌-◌, Bool, true, false, List, [], ◌∷◌, ◌++◌, flat_map, length, take, Some, refl, ap, subst, ◌∙◌, arith, append_assoc, length-append}
 use Rattle.std.specs.List.{list_any}
 use Rattle.std.proofs.lemmas.Bool.{le-leb, or_parts}
-use Rattle.usb_file_data.specs.declared.finding.Finding.{Finding}
-use Rattle.usb_file_data.specs.declared.rule.Rule.{Rule}
-use Rattle.usb_file_data.specs.declared.rule.Rule.TheVariants as rules
+use Rattle.usb_file_data.specs.declared.cause.Found.{Found}
+use Rattle.usb_file_data.specs.declared.cause.Cause.{Cause}
+use Rattle.usb_file_data.specs.declared.cause.Cause.TheVariants as causes
+use Rattle.usb_file_data.specs.Causes.{found, rule_of}
 use Rattle.usb_file_data.specs.Findings.{association_count, at_associations, at_interface, endpoint_associations, endpoint_in_order, setting_associations, setting_in_order}
-use Rattle.usb_file_data.specs.Places.{at_each_counted, finding, when}
+use Rattle.usb_file_data.specs.Places.{at_each_counted, when}
 use Rattle.usb_file_data.specs.Rules.{lacks_default_setting, repeats_setting, wrong_endpoint_count}
 use Rattle.usb_set.specs.declared.tree.Endpoint.{Endpoint}
 use Rattle.usb_set.specs.declared.tree.Setting.{Setting}
@@ -14,29 +15,25 @@ use Rattle.usb_set.specs.Descriptors.{descriptor_bytes, interface_descriptor}
 use Rattle.usb_set.specs.inside.Trees.{endpoint_bytes, extra_bytes, is_setting_typed, setting_bytes}
 use Rattle.usb_set.proofs.Trees.{setting_typed_parts}
 use Rattle.usb_explain.specs.declared.role.Role.TheVariants as roles
-use Rattle.usb_explain.specs.declared.finding_words.Told.TheVariants as told
 use Rattle.usb_explain.specs.declared.position.Owner.TheVariants as owners
 use Rattle.usb_explain.specs.declared.position.Standing.{Standing}
-use Rattle.usb_explain.specs.Findings.{finding_at, interface_told, is_here, told_at}
+use Rattle.usb_explain.specs.Findings.{can_break, finding_at, interface_can, is_here}
 use Rattle.usb_explain.specs.Contexts.{depth_of}
 use Rattle.usb_explain.specs.Standings.{noted}
 use Rattle.usb_explain.specs.Roles.{inner_role, typed_role}
 use Rattle.usb_explain.specs.Subjects.{Subject}
-use Rattle.usb_explain.specs.Trees.{OutlineEntry, endpoint_entries, entry, extra_entries, setting_count, setting_entries}
+use Rattle.usb_explain.specs.Trees.{OutlineEntry, endpoint_entries, entry, extra_entries, setting_entries}
 use Rattle.usb_explain.proofs.Spans.{Aim, adding}
-use Rattle.usb_explain.proofs.rest.Steps.{inner_at, length_is}
-use Rattle.usb_explain.proofs.rest.Counts.{endpoints_are, four_parts}
+use Rattle.usb_explain.proofs.rest.Steps.{four_parts, inner_at, length_is}
 use Rattle.usb_explain.proofs.rest.Seen.{AllHere, Goes, Seen, Step, goes_as, goes_for, here_both, here_when, seen}
 use Rattle.usb_explain.proofs.rest.Extras.{count_append, extras_go, here_is, same_place, seen_goes, taken}
 use Rattle.usb_explain.proofs.rest.Endpoints.{endpoints_go}
 
 -- ---- an interface
 
-here_interface : (is_dump : Bool) (s : Standing) (d behind : List ℕ) (rule : Rule) → ((b : List ℕ) → is_some (interface_told d b rule) ≡ true)
-    → is_here is_dump s roles.Interface d behind (finding rule s.set.part s.set.number s.set.settings 0) ≡ true
-unfolding finding_at told_at
-here_interface is_dump s d behind rule h =
-    here_is is_dump s roles.Interface d behind rule s.set.part s.set.number s.set.settings 0 (same_place rule s.set.part s.set.number s.set.settings 0) (h (take (s.left - length d) behind))
+here_interface : (s : Standing) (cause : Cause) → interface_can cause ≡ true → is_here s roles.Interface (found cause s.set.part s.set.number s.set.settings 0) ≡ true
+unfolding finding_at can_break
+here_interface s cause h = here_is s roles.Interface cause s.set.part s.set.number s.set.settings 0 (same_place (rule_of cause) s.set.part s.set.number s.set.settings 0) h
 
 interface_role : (s : Standing) (t : Setting) → inner_role s (descriptor_bytes (interface_descriptor t)) ≡ Some roles.Interface
 unfolding inner_role
@@ -46,7 +43,7 @@ interface_role s t = ap (λ b. Some (typed_role b roles.Interface)) (le-leb 9 (l
 abbrev begun_setting : ℕ → Seen → Seen
 begun_setting n v = record v { left = v.left - n; settings = v.settings + 1; setting = Some (v.settings, 0); owner = owners.Interface }
 
-here_three : (here : Finding → Bool) (a b c : Bool) (f g h : Finding) → here f ≡ true → here g ≡ true → here h ≡ true → AllHere here (when a f ++ when b g ++ when c h)
+here_three : (here : Found → Bool) (a b c : Bool) (f g h : Found) → here f ≡ true → here g ≡ true → here h ≡ true → AllHere here (when a f ++ when b g ++ when c h)
 here_three here a b c f g h one two three =
     here_both here (when a f ++ when b g) (when c h)
     (here_both here (when a f) (when b g) (here_when here a f (λ _. one)) (here_when here b g (λ _. two))) (here_when here c h (λ _. three))
@@ -67,37 +64,37 @@ setting_sum t ts =
     length-append ((d ++ x) ++ y) more ∙ ap (λ n. n + length more) (length-append (d ++ x) y ∙ ap (λ n. n + length y) (length-append d x)) in
     omega (arith, sum)
 
-interface_step : (subject : Subject) (all : List Setting) (t : Setting) (ts : List Setting) (behind : List ℕ) (s : Standing) → is_setting_typed t ≡ false
+interface_step : (subject : Subject) (all : List Setting) (t : Setting) (ts : List Setting) (behind : List ℕ) (s : Standing)
     → s.left ≡ length (flat_map setting_bytes (t ∷ ts))
     → Step subject s roles.Interface (descriptor_bytes (interface_descriptor t)) (behind_interface t ts behind) (at_interface s.set.part s.set.number all s.set.settings t)
-    (begun_setting (length (descriptor_bytes (interface_descriptor t))) (seen s)) 2 (setting_count t ∷ [])
-unfolding noted depth_of told_at
-interface_step subject all t ts behind s typed left =
+    (begun_setting (length (descriptor_bytes (interface_descriptor t))) (seen s)) 2
+unfolding noted depth_of
+interface_step subject all t ts behind s left =
     let d = descriptor_bytes (interface_descriptor t) in
     let j = s.set.settings in
-    let f = λ (rule : Rule). finding rule s.set.part s.set.number j 0 in
-    let here = here_interface subject.is_dump s d (behind_interface t ts behind) in
+    let f = λ (cause : Cause). found cause s.set.part s.set.number j 0 in
+    let here = here_interface s in
+    let count = causes.EndpointCount t.declared_endpoints (length t.endpoints) in
     let sum = setting_sum t ts in
     record {
       is = inner_at s d s.left refl (omega arith) (omega (arith, left, sum)) ∙ interface_role s t;
-      own = here_three (is_here subject.is_dump s roles.Interface d (behind_interface t ts behind)) (repeats_setting (take j all) t) (lacks_default_setting all (take j all) t) (wrong_endpoint_count t)
-          (f rules.V3) (f rules.V4) (f rules.V5) (here rules.V3 (λ b. refl)) (here rules.V4 (λ b. refl)) (here rules.V5 (λ b. refl));
+      own = here_three (is_here s roles.Interface) (repeats_setting (take j all) t) (lacks_default_setting all (take j all) t) (wrong_endpoint_count t)
+          (f causes.RepeatedSetting) (f causes.NoDefaultSetting) (f count) (here causes.RepeatedSetting refl) (here causes.NoDefaultSetting refl) (here count refl);
       after = λ n. refl;
       deep = refl;
-      counted = ap (λ n. told.EndpointCount t.declared_endpoints n ∷ []) (endpoints_are t ts (s.left - length d) behind typed (omega (arith, left, sum)));
     }
 
-interface_goes : (E : Aim) (subject : Subject) (all : List Setting) (t : Setting) (ts : List Setting) (v : Seen) (behind : List ℕ) (later : List Finding)
-    → is_setting_typed t ≡ false → v.left ≡ length (flat_map setting_bytes (t ∷ ts))
-    → Goes (adding E (entry roles.Interface 2 (descriptor_bytes (interface_descriptor t)) ∷ []) (setting_count t ∷ [])) subject
+interface_goes : (E : Aim) (subject : Subject) (all : List Setting) (t : Setting) (ts : List Setting) (v : Seen) (behind : List ℕ) (later : List Found)
+    → v.left ≡ length (flat_map setting_bytes (t ∷ ts))
+    → Goes (adding E (entry roles.Interface 2 (descriptor_bytes (interface_descriptor t)) ∷ [])) subject
     (begun_setting (length (descriptor_bytes (interface_descriptor t))) v) later (behind_interface t ts behind)
     → Goes E subject v (at_interface v.part v.number all v.settings t ++ later) (descriptor_bytes (interface_descriptor t) ++ behind_interface t ts behind)
-interface_goes E subject all t ts v behind later typed left onward =
+interface_goes E subject all t ts v behind later left onward =
     let item = interface_descriptor t in
     let d = descriptor_bytes item in
     seen_goes E subject v (λ v. v.left ≡ length (flat_map setting_bytes (t ∷ ts))) roles.Interface d (behind_interface t ts behind)
-    (λ v. at_interface v.part v.number all v.settings t) (begun_setting (length d)) later (λ v. 2) (setting_count t ∷ [])
-    (length_is (2 + length item.body) item.kind item.body (behind_interface t ts behind) refl) (λ s p. interface_step subject all t ts behind s typed p) left onward
+    (λ v. at_interface v.part v.number all v.settings t) (begun_setting (length d)) later (λ v. 2)
+    (length_is (2 + length item.body) item.kind item.body (behind_interface t ts behind) refl) (λ s p. interface_step subject all t ts behind s p) left onward
 
 -- ---- settings one after another, each with its extras and its endpoints
 
@@ -129,9 +126,9 @@ setting_joined t ts c =
     append_assoc (setting_entries t) (flat_map setting_entries ts) c
     ∙ ap (λ l. one ∷ l) (append_assoc x y (flat_map setting_entries ts ++ c))
 
-pub settings_go : (E : Aim) (subject : Subject) (all : List Setting) (ts : List Setting) (v : Seen) (behind : List ℕ) (later : List Finding)
+pub settings_go : (E : Aim) (subject : Subject) (all : List Setting) (ts : List Setting) (v : Seen) (behind : List ℕ) (later : List Found)
     → list_any is_setting_typed ts ≡ false → v.left ≡ length (flat_map setting_bytes ts)
-    → ((w : Seen) → out w ≡ out_at 0 v → Goes (adding E (flat_map setting_entries ts) (map setting_count ts)) subject w later behind)
+    → ((w : Seen) → out w ≡ out_at 0 v → Goes (adding E (flat_map setting_entries ts)) subject w later behind)
     → Goes E subject v (at_each_counted setting_associations (setting_in_order v.part v.number all) v.settings v.associations ts ++ later) (flat_map setting_bytes ts ++ behind)
 settings_go E subject all [] v behind later typed none onward = onward v (ap (λ n. out_at n v) none)
 settings_go E subject all (t ∷ ts) v behind later typed whole onward =
@@ -155,16 +152,16 @@ settings_go E subject all (t ∷ ts) v behind later typed whole onward =
     let sum = setting_sum t ts in
     let count : v.associations + setting_associations t ≡ (v.associations + n) + m = omega (arith, count_append t.extras inner) in
     let left : ((v.left - length d) - length x) - length y ≡ length more = omega (arith, whole, sum) in
-    let said : Aim = adding E (entry roles.Interface 2 d ∷ []) (setting_count t ∷ []) in
-    let with_extras : Aim = adding said (extra_entries 3 t.extras) [] in
-    let with_endpoints : Aim = adding with_extras (flat_map endpoint_entries t.endpoints) [] in
+    let said : Aim = adding E (entry roles.Interface 2 d ∷ []) in
+    let with_extras : Aim = adding said (extra_entries 3 t.extras) in
+    let with_endpoints : Aim = adding with_extras (flat_map endpoint_entries t.endpoints) in
     goes_as E subject v ((((one ++ two) ++ three) ++ rest) ++ later) (one ++ (two ++ (three ++ (rest ++ later))))
     ((((d ++ x) ++ y) ++ more) ++ behind) (d ++ (x ++ (y ++ (more ++ behind)))) (five_parts one two three rest later) (five_parts d x y more behind)
-    (interface_goes E subject all t ts v behind (two ++ (three ++ (rest ++ later))) each.0 whole
+    (interface_goes E subject all t ts v behind (two ++ (three ++ (rest ++ later))) whole
     (extras_go said subject all t.extras begun (y ++ (more ++ behind)) (three ++ (rest ++ later)) parts.0 (omega (arith, whole, sum))
     (λ q. endpoints_go with_extras subject all j t t.endpoints 0 (record passed { owner = q }) (more ++ behind) (rest ++ later) parts.1 (omega (arith, whole, sum))
     (λ o w. let u : Seen = record (taken (length y) m passed) { setting = o; owner = w } in
     goes_as with_endpoints subject u (rest ++ later) (four ((v.associations + n) + m) ++ later) (more ++ behind) (more ++ behind) (ap (λ k. four k ++ later) count) refl
     (settings_go with_endpoints subject all ts u behind later each.1 left
-    (λ w e. goes_for (adding E (flat_map setting_entries (t ∷ ts)) (map setting_count (t ∷ ts))) (adding with_endpoints (flat_map setting_entries ts) (map setting_count ts)) subject w later behind
-    (λ r c a h. subst (λ l. E r l (map setting_count (t ∷ ts) ++ a)) (setting_joined t ts c) h) (onward w e)))))))
+    (λ w e. goes_for (adding E (flat_map setting_entries (t ∷ ts))) (adding with_endpoints (flat_map setting_entries ts)) subject w later behind
+    (λ r c h. subst (λ l. E r l) (setting_joined t ts c) h) (onward w e)))))))

@@ -1,5 +1,5 @@
 -- How a walk goes on behind a descriptor.
-use Rattle.std.proofs.Common.{◌≡◌, ◌≤◌, ◌<◌, ℕ, ◌+◌, ◌==◌, ◌||◌, List, [], ◌∷◌, ◌++◌, if◌then◌else◌, length, take, drop, nat_le, nat_lt, Some, None, option_and_then, sym, ap, subst, ◌∙◌, arith, length-append}
+use Rattle.std.proofs.Common.{◌≡◌, ◌≤◌, ◌<◌, ℕ, ◌+◌, ◌==◌, ◌||◌, List, [], ◌∷◌, ◌++◌, if◌then◌else◌, length, take, drop, nat_le, nat_lt, Some, None, option_and_then, sym, ap, subst, ◌∙◌, arith, append_assoc, length-append}
 use Rattle.std.specs.Option.{option_map}
 use Rattle.std.proofs.lemmas.Bool.{cond-false, cond-true, le-leb, ne_eqb}
 use Rattle.std.proofs.lemmas.Bool.Decides.{nat_tests}
@@ -7,9 +7,8 @@ use Rattle.std.proofs.Math.Seq.{drop-append_seam, take-append_seam}
 use Rattle.usb_explain.specs.Trees.{descriptor_length, entry}
 use Rattle.usb_explain.specs.declared.role.Role.{Role}
 use Rattle.usb_explain.specs.declared.position.Standing.{Standing}
-use Rattle.usb_explain.specs.declared.finding_words.Told.{Told}
 use Rattle.usb_explain.specs.Contexts.{depth_of}
-use Rattle.usb_explain.specs.Laws.{counts_at, entry_of}
+use Rattle.usb_explain.specs.Laws.{entry_of}
 use Rattle.usb_explain.specs.SetStart.{entered}
 use Rattle.usb_explain.specs.Standings.{passed}
 use Rattle.usb_explain.specs.Roles.{inner_role, next_role, role_of}
@@ -17,6 +16,9 @@ use Rattle.usb_explain.specs.Subjects.{Subject}
 use Rattle.usb_explain.specs.Outline.{Entry, telling}
 use Rattle.usb_explain.proofs.Spans.{Aim, adding}
 use Rattle.usb_explain.proofs.rest.Walks.{Ends, ends_behind}
+
+pub four_parts : {A : Type 0} (a b c d : List A) → ((a ++ b) ++ c) ++ d ≡ a ++ (b ++ (c ++ d))
+four_parts a b c d = append_assoc (a ++ b) c d ∙ append_assoc a b (c ++ d)
 
 -- ---- one descriptor
 
@@ -42,17 +44,17 @@ next_at s d behind role e is =
 
 -- where it stands behind a descriptor of this role
 abbrev pub behind_one : Subject → Standing → Role → List ℕ → List ℕ → Standing
-behind_one subject s role d behind = passed role d (telling subject role d behind (entered role subject.manner.speed (d ++ behind) s))
+behind_one subject s role d behind = passed role d (telling subject role (entered role subject.manner.speed (d ++ behind) s))
 
 -- a descriptor of this role where it is shown
 abbrev pub shown_at : Subject → Standing → Role → List ℕ → List ℕ → List ℕ → Entry
 shown_at subject s role ahead d behind = record { standing = entered role subject.manner.speed ahead s; role = role; bytes = d; after = behind }
 
--- behind it a walk ends so, where it has this entry and these counts
+-- behind it a walk ends so, where it has this entry
 abbrev EndsBehind : Aim → Subject → Standing → Role → List ℕ → List ℕ → List ℕ → Type 0
 EndsBehind E subject s role ahead d behind =
-    Ends (adding E (entry_of (shown_at subject s role ahead d behind) ∷ []) (counts_at subject (shown_at subject s role ahead d behind))) subject
-    (passed role d (telling subject role d behind (entered role subject.manner.speed ahead s))) behind
+    Ends (adding E (entry_of (shown_at subject s role ahead d behind) ∷ [])) subject
+    (passed role d (telling subject role (entered role subject.manner.speed ahead s))) behind
 
 ends_on : (E : Aim) (subject : Subject) (s : Standing) (d behind : List ℕ) (role : Role) → descriptor_length (d ++ behind) ≡ Some (length d)
     → role_of s d ≡ Some role → EndsBehind E subject s role (d ++ behind) d behind → Ends E subject s (d ++ behind)
@@ -61,17 +63,14 @@ ends_on E subject s d behind role e is onward =
     (subst (λ l. EndsBehind E subject s role (d ++ behind) l (drop (length d) (d ++ behind))) (sym (take-append_seam d behind))
     (subst (λ l. EndsBehind E subject s role (d ++ behind) d l) (sym (drop-append_seam d behind)) onward))
 
--- behind a descriptor of this role and depth, which has these counts, the walk goes on
-pub goes_on : (E : Aim) (subject : Subject) (s : Standing) (d behind : List ℕ) (role : Role) (depth : ℕ) (counts : List Told)
+-- behind a descriptor of this role and depth the walk goes on
+pub goes_on : (E : Aim) (subject : Subject) (s : Standing) (d behind : List ℕ) (role : Role) (depth : ℕ)
     → descriptor_length (d ++ behind) ≡ Some (length d) → role_of s d ≡ Some role → depth_of (entered role subject.manner.speed (d ++ behind) s) role ≡ depth
-    → counts_at subject (shown_at subject s role (d ++ behind) d behind) ≡ counts
-    → Ends (adding E (entry role depth d ∷ []) counts) subject (behind_one subject s role d behind) behind
+    → Ends (adding E (entry role depth d ∷ [])) subject (behind_one subject s role d behind) behind
     → Ends E subject s (d ++ behind)
-goes_on E subject s d behind role depth counts e is deep counted onward =
-    let one = shown_at subject s role (d ++ behind) d behind in
+goes_on E subject s d behind role depth e is deep onward =
     ends_on E subject s d behind role e is
-    (subst (λ n. Ends (adding E (entry role n d ∷ []) (counts_at subject one)) subject (behind_one subject s role d behind) behind) (sym deep)
-    (subst (λ l. Ends (adding E (entry role depth d ∷ []) l) subject (behind_one subject s role d behind) behind) (sym counted) onward))
+    (subst (λ n. Ends (adding E (entry role n d ∷ [])) subject (behind_one subject s role d behind) behind) (sym deep) onward)
 
 -- where so much of a set is left, a descriptor that has room stands in the set
 pub inner_at : (s : Standing) (d : List ℕ) (n : ℕ) → s.left ≡ n → 0 < length d → length d ≤ n → role_of s d ≡ inner_role s d

@@ -4,11 +4,8 @@ use Rattle.std.specs.List.{list_any}
 use Rattle.usb_explain.specs.SetSpeeds.{excludes_low, hints_low_or_full, is_companion, proves_full, proves_high}
 use Rattle.usb_explain.specs.declared.speed_evidence.Evidence.{Evidence}
 use Rattle.std.specs.Option.{option_or}
-use Rattle.usb_fields.specs.Marks.{is_marked, unmarked}
 use Rattle.usb_explain.specs.Bindings.{binding, bound_at}
-use Rattle.usb_explain.specs.Headers.{interfaces_beyond}
 use Rattle.usb_explain.specs.declared.survey.Gathering.{Gathering}
-use Rattle.usb_explain.specs.declared.survey.Numbers.{Numbers}
 use Rattle.usb_explain.specs.declared.survey.Binders.{Binders}
 use Rattle.usb_names.specs.Shown.{field_of}
 use Rattle.usb_explain.specs.declared.layout.DescriptorLayout.{DescriptorLayout}
@@ -35,14 +32,6 @@ pub record Hears (all : List (List ℕ)) (e : Evidence) (ds : List (List ℕ)) :
 
 -- What is gathered of a set, descriptor by descriptor.
 
--- how many distinct numbers there are with those of these descriptors
-abbrev pub counted : Numbers → List (List ℕ) → ℕ
-counted numbers ds = interfaces_beyond (is_marked numbers.marks) ds + numbers.count
-
--- a descriptor was counted that came before others
-abbrev pub CountsOn : Numbers → Numbers → List ℕ → List (List ℕ) → Type 0
-CountsOn old new d ds = counted old (d ∷ ds) ≡ counted new ds
-
 -- the association that binds a number, with these descriptors
 abbrev pub bound_with : Binders → ℕ → List (List ℕ) → Option ℕ
 bound_with binders n ds = option_or (bound_at binders.bindings n) (binding n binders.count ds)
@@ -55,7 +44,6 @@ BindsOn old new n d ds = bound_with old n (d ∷ ds) ≡ bound_with new n ds
 pub record Gathers (all : List (List ℕ)) (g : Gathering) (ds : List (List ℕ)) : Type 0 where
   pub cells : length g.associations.bindings ≡ 256
   pub evidence : Hears all g.evidence ds
-  pub interfaces : interfaces_beyond unmarked all ≡ counted g.interfaces ds
   pub bindings : (n : ℕ) → n < 256 → binding n 0 all ≡ bound_with g.associations n ds
 
 -- A layout of the code.

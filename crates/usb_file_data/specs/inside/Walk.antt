@@ -1,5 +1,5 @@
 -- What a walk over a set finds, by what it keeps of the descriptors before.
-use Rattle.std.specs.Prelude.{ℕ, List, Bool, filter, ◌++◌, map, ◌+◌, take, not, ◌==◌, ◌&&◌, ◌||◌}
+use Rattle.std.specs.Prelude.{ℕ, List, Bool, filter, ◌++◌, map, ◌+◌, take, length, not, ◌==◌, ◌&&◌, ◌||◌}
 use Rattle.std.specs.List.{range_with_len, flat_map, list_any}
 use Rattle.usb_set.specs.declared.extra.Extra.{Extra}
 use Rattle.usb_set.specs.declared.tree.Endpoint.{Endpoint}
@@ -8,12 +8,13 @@ use Rattle.usb_set.specs.Owners.{association_in}
 use Rattle.usb_file_data.specs.File.{association_string_index}
 use Rattle.usb_set.specs.declared.tree.Configuration.{Configuration}
 use Rattle.usb_file_data.specs.declared.finding.Part.{Part}
-use Rattle.usb_file_data.specs.declared.finding.Finding.{Finding}
+use Rattle.usb_file_data.specs.declared.cause.Cause.{Cause}
+use Rattle.usb_file_data.specs.declared.cause.Cause.TheVariants as causes
+use Rattle.usb_file_data.specs.declared.cause.Found.{Found}
 use Rattle.usb_file_data.specs.declared.place.Place.{Place}
-use Rattle.usb_file_data.specs.declared.rule.Rule.{Rule}
-use Rattle.usb_file_data.specs.declared.rule.Rule.TheVariants as rules
-use Rattle.usb_file_data.specs.Places.{at_each, at_each_counted, finding, is_among, when}
-use Rattle.usb_file_data.specs.Rules.{address_of, has_elsewhere, has_number_gap, number_of, value_of, wrong_address, wrong_attributes, wrong_endpoint_count, wrong_interface_count, wrong_packet_size}
+use Rattle.usb_file_data.specs.Places.{at_each, at_each_counted, is_among, when}
+use Rattle.usb_file_data.specs.Causes.{address_cause, association_cause, attributes_cause, found, value_cause}
+use Rattle.usb_file_data.specs.Rules.{address_of, has_elsewhere, has_number_gap, interface_numbers, number_of, value_of, wrong_address, wrong_attributes, wrong_endpoint_count, wrong_interface_count, wrong_packet_size}
 use Rattle.usb_file_data.specs.Findings.{association_count, endpoint_associations, setting_associations}
 use Rattle.usb_file_data.specs.inside.Interfaces.{misses_some, has_alternate}
 
@@ -41,68 +42,68 @@ setting_extra_indices s = flat_map extra_indices s.extras ++ flat_map endpoint_e
 abbrev pub place : Part → ℕ → ℕ → ℕ → Place
 place part set setting endpoint = record { part = part; set = set; setting = setting; endpoint = endpoint }
 
--- the finding that a rule is broken at a place
-abbrev pub broken : Rule → Place → Finding
-broken rule at = finding rule at.part at.set at.setting at.endpoint
+-- what is found where a rule is broken at a place by a cause
+abbrev pub broken : Cause → Place → Found
+broken cause at = found cause at.part at.set at.setting at.endpoint
 
 -- whether a setting of the list has the address under another number than this
 abbrev pub shared_with : List Setting → ℕ → ℕ → Bool
 shared_with settings address number = list_any (has_elsewhere number address) settings
 
 -- V13 at associations of a set, by the interface numbers that it has
-abbrev pub in_extras : Place → (ℕ → Bool) → ℕ → List Extra → List Finding
-in_extras at stands n extras = at_each (λ k a. when (misses_some stands a) (finding rules.V13 at.part at.set k 0)) n (flat_map association_in extras)
+abbrev pub in_extras : Place → (ℕ → Bool) → ℕ → List Extra → List Found
+in_extras at stands n extras = at_each (λ k a. when (misses_some stands a) (found (association_cause a) at.part at.set k 0)) n (flat_map association_in extras)
 
 -- at an endpoint, given those before in its setting, and which addresses other interfaces have
-abbrev pub in_endpoint : Place → (ℕ → Bool) → (ℕ → Bool) → Endpoint → List Finding
+abbrev pub in_endpoint : Place → (ℕ → Bool) → (ℕ → Bool) → Endpoint → List Found
 in_endpoint at here elsewhere e =
-    when (wrong_address e.address) (broken rules.V6 at)
-    ++ when (here e.address) (broken rules.V7 at)
-    ++ when (elsewhere e.address) (broken rules.V8 at)
-    ++ when (wrong_packet_size e.max_packet) (broken rules.V12 at)
+    when (wrong_address e.address) (broken (address_cause e.address) at)
+    ++ when (here e.address) (broken causes.RepeatedAddress at)
+    ++ when (elsewhere e.address) (broken causes.SharedAddress at)
+    ++ when (wrong_packet_size e.max_packet) (broken causes.PacketSize at)
 
 -- at an endpoint of a setting and its extras, by its place and how many associations come before
-abbrev pub endpoint_at : Place → (ℕ → Bool) → (ℕ → ℕ → Bool) → Setting → ℕ → ℕ → Endpoint → List Finding
+abbrev pub endpoint_at : Place → (ℕ → Bool) → (ℕ → ℕ → Bool) → Setting → ℕ → ℕ → Endpoint → List Found
 endpoint_at at stands elsewhere s k n e =
     in_endpoint (place at.part at.set at.setting k) (is_among (map address_of (take k s.endpoints))) (λ b. elsewhere b s.number) e
     ++ in_extras at stands n e.extras
 
 -- at an interface, given whether the whole set has an alternate, which numbers and alternates come before
-abbrev pub in_interface : Place → (ℕ → ℕ → Bool) → (ℕ → Bool) → (ℕ → ℕ → Bool) → Setting → List Finding
+abbrev pub in_interface : Place → (ℕ → ℕ → Bool) → (ℕ → Bool) → (ℕ → ℕ → Bool) → Setting → List Found
 in_interface at whole numbers alternates s =
-    when (alternates s.number s.alternate) (broken rules.V3 at)
-    ++ when (not (numbers s.number) && not (whole s.number 0)) (broken rules.V4 at)
-    ++ when (wrong_endpoint_count s) (broken rules.V5 at)
+    when (alternates s.number s.alternate) (broken causes.RepeatedSetting at)
+    ++ when (not (numbers s.number) && not (whole s.number 0)) (broken causes.NoDefaultSetting at)
+    ++ when (wrong_endpoint_count s) (broken (causes.EndpointCount s.declared_endpoints (length s.endpoints)) at)
 
 -- in a setting, by what the whole set has, what comes before it, which addresses other interfaces have, and how many
 -- associations come before
-abbrev pub in_setting : Place → (ℕ → Bool) → (ℕ → ℕ → Bool) → (ℕ → Bool) → (ℕ → ℕ → Bool) → (ℕ → ℕ → Bool) → ℕ → Setting → List Finding
+abbrev pub in_setting : Place → (ℕ → Bool) → (ℕ → ℕ → Bool) → (ℕ → Bool) → (ℕ → ℕ → Bool) → (ℕ → ℕ → Bool) → ℕ → Setting → List Found
 in_setting at stands whole numbers alternates elsewhere n s =
     in_interface at whole numbers alternates s
     ++ in_extras at stands n s.extras
     ++ at_each_counted endpoint_associations (endpoint_at at stands elsewhere s) 0 (n + association_count s.extras) s.endpoints
 
 -- at a setting of a set, by its place and how many associations come before
-abbrev pub setting_at : Place → List Setting → ℕ → ℕ → Setting → List Finding
+abbrev pub setting_at : Place → List Setting → ℕ → ℕ → Setting → List Found
 setting_at at settings j n s =
     in_setting (place at.part at.set j 0) (is_among (map number_of settings)) (has_alternate settings)
     (is_among (map number_of (take j settings))) (has_alternate (take j settings)) (shared_with (take j settings)) n s
 
 -- at the first descriptor of a set, by the values of those before it in its part
-abbrev pub in_configuration : Place → (ℕ → Bool) → Configuration → List Finding
+abbrev pub in_configuration : Place → (ℕ → Bool) → Configuration → List Found
 in_configuration at values c =
-    when (wrong_interface_count c) (broken rules.V1 at)
-    ++ when (has_number_gap c) (broken rules.V2 at)
-    ++ when (wrong_attributes c) (broken rules.V9 at)
-    ++ when ((c.value == 0) || values c.value) (broken rules.V10 at)
+    when (wrong_interface_count c) (broken (causes.InterfaceCount c.declared_interfaces (length (interface_numbers c.settings))) at)
+    ++ when (has_number_gap c) (broken causes.NumberGap at)
+    ++ when (wrong_attributes c) (broken (attributes_cause c.attributes) at)
+    ++ when ((c.value == 0) || values c.value) (broken (value_cause c.value) at)
 
 -- in a set
-abbrev pub in_set : Place → (ℕ → Bool) → Configuration → List Finding
+abbrev pub in_set : Place → (ℕ → Bool) → Configuration → List Found
 in_set at values c =
     in_configuration at values c
     ++ in_extras at (is_among (map number_of c.settings)) 0 c.extras
     ++ at_each_counted setting_associations (setting_at at c.settings) 0 (association_count c.extras) c.settings
 
 -- in a set of a part, by its place
-abbrev pub set_at : Part → List Configuration → ℕ → Configuration → List Finding
+abbrev pub set_at : Part → List Configuration → ℕ → Configuration → List Found
 set_at part sets i c = in_set (place part i 0 0) (is_among (map value_of (take i sets))) c

@@ -3,8 +3,7 @@ use Rattle.usb_explain.proofs.survey.Gathering.add.Goals as goal
 
 pub returns-clause-gathers : goal.returns-clause-gathers
 returns-clause-gathers c all ds gathers = record {
-  cells = c.add-3.ensures.cells gathers.cells;
+  cells = c.add-2.ensures.cells gathers.cells;
   evidence = c.add.ensures all ds gathers.evidence;
-  interfaces = gathers.interfaces ∙ c.add-2.ensures.counts ds;
-  bindings = λ n within. gathers.bindings n within ∙ c.add-3.ensures.binds n within ds;
+  bindings = λ n within. gathers.bindings n within ∙ c.add-2.ensures.binds n within ds;
 }

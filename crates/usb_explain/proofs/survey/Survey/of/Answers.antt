@@ -7,7 +7,6 @@ use Rattle.usb_explain.proofs.survey.Survey.of.Goals as goal
 pub loop-length-init : goal.loop-length-init
 loop-length-init c = record {
   gathers = c.new-gathered.ensures.all (descriptors c.args.set.now);
-  interfaces = omega (arith, c.new-gathered.ensures.interfaces);
   associations = omega (arith, c.new-gathered.ensures.associations);
 }
 
@@ -22,6 +21,5 @@ loop-length-preserved c =
     rw (c.prefix.ensures, c.after-rest.ensures) (rw step at c.loop-length.invariant.gathers) in
     record {
       gathers = c.add.ensures.gathers (descriptors c.args.set.now) (descriptors c.after-rest.result.now) before;
-      interfaces = rw c.after-rest.ensures (omega (arith, c.add.ensures.interfaces, left, c.in-Some.ensures.least, c.in-Some.ensures.most, c.loop-length.invariant.interfaces));
       associations = rw c.after-rest.ensures (omega (arith, c.add.ensures.associations, left, c.in-Some.ensures.least, c.in-Some.ensures.most, c.loop-length.invariant.associations));
     }

@@ -6,7 +6,6 @@ use Rattle.usb_explain.proofs.survey.Survey.of.Given as goal
 abbrev pub invariant-loop-length : goal.invariant-loop-length
 invariant-loop-length l = record {
   gathers : Gathers (descriptors l.set) l.gathered (descriptors l.rest);
-  interfaces : l.gathered.interfaces.count + length l.rest ≤ length l.set;
   associations : l.gathered.associations.count + length l.rest ≤ length l.set;
 }
 

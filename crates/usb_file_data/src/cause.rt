@@ -1,12 +1,13 @@
-//! What a finding says.
+//! Why a rule is broken, and what is found: the finding and its cause.
 ghost use Rattle.std.specs.Prelude.{◌≡◌};
-ghost use Rattle.usb_explain.specs.FindingLines.{rule_of};
+ghost use Rattle.usb_file_data.specs.Causes.{rule_of};
 
-use usb_file_data::Rule;
+use crate::finding::Finding;
+use crate::rule::Rule;
 
 /// What is wrong with bMaxPacketSize0 (USB 2.0, 9.6.1; USB 3.2, 9.6.1).
 #[derive(Clone, Copy, Debug, PartialEq, Eq, Hash)]
-pub(crate) enum PacketFault {
+pub enum PacketFault {
     /// It is none of the sizes of USB 2.0.
     NotInTable,
     /// It isn't the exponent that SuperSpeed has.
@@ -15,15 +16,23 @@ pub(crate) enum PacketFault {
     Nine,
 }
 
-/// What a finding says, with the numbers and causes in its words.
+/// Why a rule is broken: of several reasons those that hold, and the numbers that were compared.
+///
+/// ```rust
+/// for found in &found_in_order(rt.alloc(), &Input::File(file))? {
+///     if let Cause::EndpointCount { declared, found } = found.cause {
+///         println!(rt; "{declared} endpoints are announced, and {found} are there")?;
+///     }
+/// }
+/// ```
 #[derive(Clone, Copy, Debug, PartialEq, Eq, Hash)]
-pub(crate) enum Told {
+pub enum Cause {
     /// V1 of a set.
     InterfaceCount {
         /// bNumInterfaces.
         declared: u8,
         /// How many distinct interface numbers the set has.
-        found: u64,
+        found: usize,
     },
     /// V2 of a set.
     NumberGap,
@@ -36,7 +45,7 @@ pub(crate) enum Told {
         /// bNumEndpoints.
         declared: u8,
         /// How many endpoints the setting has.
-        found: u64,
+        found: usize,
     },
     /// V6 of an endpoint.
     Address {
@@ -86,29 +95,38 @@ pub(crate) enum Told {
     MissingInterface,
 }
 
-impl Told {
+impl Cause {
     /// The rule that is broken.
-    pub(crate) fn rule(self) -> Rule
+    pub fn rule(self) -> Rule
         ensures { result ≡ rule_of self }
     {
         match self {
-            Told::InterfaceCount { .. } => Rule::V1,
-            Told::NumberGap => Rule::V2,
-            Told::RepeatedSetting => Rule::V3,
-            Told::NoDefaultSetting => Rule::V4,
-            Told::EndpointCount { .. } => Rule::V5,
-            Told::Address { .. } => Rule::V6,
-            Told::RepeatedAddress => Rule::V7,
-            Told::SharedAddress => Rule::V8,
-            Told::Attributes { .. } => Rule::V9,
-            Told::ZeroValue => Rule::V10,
-            Told::RepeatedValue => Rule::V10,
-            Told::NoConfiguration => Rule::V10,
-            Told::Device { .. } => Rule::V11,
-            Told::Qualifier { .. } => Rule::V11,
-            Told::PacketSize => Rule::V12,
-            Told::NoInterface => Rule::V13,
-            Told::MissingInterface => Rule::V13,
+            Cause::InterfaceCount { .. } => Rule::V1,
+            Cause::NumberGap => Rule::V2,
+            Cause::RepeatedSetting => Rule::V3,
+            Cause::NoDefaultSetting => Rule::V4,
+            Cause::EndpointCount { .. } => Rule::V5,
+            Cause::Address { .. } => Rule::V6,
+            Cause::RepeatedAddress => Rule::V7,
+            Cause::SharedAddress => Rule::V8,
+            Cause::Attributes { .. } => Rule::V9,
+            Cause::ZeroValue => Rule::V10,
+            Cause::RepeatedValue => Rule::V10,
+            Cause::NoConfiguration => Rule::V10,
+            Cause::Device { .. } => Rule::V11,
+            Cause::Qualifier { .. } => Rule::V11,
+            Cause::PacketSize => Rule::V12,
+            Cause::NoInterface => Rule::V13,
+            Cause::MissingInterface => Rule::V13,
         }
     }
+}
+
+/// A broken rule at its place, and why it is broken.
+#[derive(Clone, Copy, Debug, PartialEq, Eq, Hash)]
+pub struct Found {
+    /// The rule and its place.
+    pub finding: Finding,
+    /// Why the rule is broken there.
+    pub cause: Cause,
 }

@@ -1,7 +1,7 @@
 use Rattle.std.proofs.Common.{◌≡◌, ◌≤◌, take}
 use Rattle.usb_file_data.specs.Findings.{by_rule}
 use Rattle.usb_file_data.proofs.Sorting.{EndsAt}
-use Rattle.usb_file_data.proofs.found.is_by_rule.Given as goal
+use Rattle.usb_file_data.proofs.order.is_by_rule.Given as goal
 
 abbrev pub invariant-loop-finding : goal.invariant-loop-finding
 invariant-loop-finding l = record {

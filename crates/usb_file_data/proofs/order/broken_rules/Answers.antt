@@ -1,6 +1,6 @@
 use Rattle.std.proofs.Common.{refl}
 use Rattle.usb_file_data.proofs.Walking.{stands_next}
-use Rattle.usb_file_data.proofs.found.broken_rules.Goals as goal
+use Rattle.usb_file_data.proofs.order.broken_rules.Goals as goal
 
 pub loop-finding-preserved : goal.loop-finding-preserved
 loop-finding-preserved c =

@@ -1,6 +1,6 @@
 use Rattle.std.proofs.Common.{arith, refl}
 use Rattle.usb_file_data.proofs.Sorting.{ends_next, in_order_next}
-use Rattle.usb_file_data.proofs.found.is_by_rule.Goals as goal
+use Rattle.usb_file_data.proofs.order.is_by_rule.Goals as goal
 
 pub loop-finding-preserved : goal.loop-finding-preserved
 loop-finding-preserved c =
