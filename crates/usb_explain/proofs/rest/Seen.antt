@@ -95,7 +95,7 @@ pub rear_behind : (subject : Subject) (s : Standing) (role : Role) (d behind : L
     → AllHere (is_here (entered role subject.manner.speed (d ++ behind) s) role) mine
     → Rear subject s (mine ++ later) → Rear subject (behind_one subject s role d behind) later
 unfolding found_at
-rear_behind subject s behind mine later all rear =
+rear_behind subject s role d behind mine later all rear =
     let begun = entered role subject.manner.speed (d ++ behind) s in
     let here = is_here begun role in
     let left = drop begun.told subject.found in
