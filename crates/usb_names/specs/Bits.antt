@@ -1,4 +1,4 @@
--- What the bits of fields are called, from bit 0 on, as the tables of the code have them.
+-- What the bits of fields are called, from bit 0 on. The names are those of src/bits.rt.
 use Rattle.std.specs.Prelude.{ℕ, List, map}
 use Rattle.usb_names.specs.declared.bits.TheConstants.{ABSTRACT_CONTROL_BITS, CALL_MANAGEMENT_BITS, FIRMWARE_UPGRADE_BITS}
 

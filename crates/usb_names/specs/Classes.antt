@@ -1,5 +1,5 @@
--- Names of class, subclass and protocol codes, as the table of the code has them: USB-IF's defined class codes, and for
--- communications those of CDC 1.2 (tables 4 and 5). The names are short ones of this project's own.
+-- Names of class, subclass and protocol codes: USB-IF's defined class codes, and for communications those of CDC 1.2
+-- (tables 4 and 5). The names are short ones of this project's own, and stand in src/class.rt.
 use Rattle.std.specs.Prelude.{ℕ, List, Option, ◌==◌, ◌&&◌, map, option_map, option_and_then, find}
 use Rattle.std.specs.Borrow.{Bor}
 use Rattle.usb_names.specs.declared.class.Class.{Class}

@@ -1,5 +1,5 @@
--- Descriptors of classes by name, and their fields, as the tables of the code have them. They stand in a set after the
--- interface or the endpoint whose class defines them.
+-- Descriptors of classes by name, and their fields. They stand in a set after the interface or the endpoint whose class
+-- defines them. The rows are those of src/rows.rt.
 use Rattle.std.specs.Prelude.{ℕ, List, [], ◌++◌, Option, Some, None, option_map, ◌==◌, if◌then◌else◌, ◌&&◌, slice_get, Bool, true, false, map}
 use Rattle.std.specs.List.{find}
 use Rattle.usb_names.specs.declared.codes.ClassCodes.{ClassCodes}

@@ -1,5 +1,5 @@
--- Types of terminals by wTerminalType, as the tables of the code have them: of audio (USB Audio, Terminal Types 1.0, 2.1
--- to 2.7) and of video (UVC 1.5, B).
+-- Types of terminals by wTerminalType: of audio (USB Audio, Terminal Types 1.0, 2.1 to 2.7) and of video (UVC 1.5, B).
+-- The names are those of src/terminal.rt.
 use Rattle.std.specs.Prelude.{ℕ, List, map}
 use Rattle.usb_names.specs.declared.terminal.TheConstants.{AUDIO_TERMINALS, VIDEO_TERMINALS}
 use Rattle.usb_names.specs.Named.{Named, of_constant}
