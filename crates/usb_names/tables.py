@@ -2,7 +2,8 @@
 """Writes the tables of class names, of types of terminals, of names of bits and of class descriptors, which the
 definitions read, from the files that are read as they are by crates/examples/explaining.py: classes.txt, terminals.txt,
 bits.txt and descriptors.txt of the examples. In each source the part between the lines `made by tables.py` and `end` is
-written anew; all else is left. The gate compares what is written (.ci/readings).
+written anew; all else is left: a new group of bits or rows gets its function and its definition by hand. The gate
+compares what is written (.ci/readings).
 """
 
 import os

@@ -4,7 +4,7 @@ use Rattle.std.specs.Prelude.{ℕ, List, Option, ◌==◌, ◌&&◌, map, option
 use Rattle.std.specs.Borrow.{Bor}
 use Rattle.usb_names.specs.declared.class.Class.{Class}
 use Rattle.usb_names.specs.declared.class.TheConstants.{CLASSES}
-use Rattle.usb_names.specs.Named.{Named, name_of, name_where, of_constant, row_of}
+use Rattle.usb_names.specs.Named.{Named, Ref, name_of, name_where, of_constant, row_of}
 
 -- a class: its code and its name, the names of its subclasses, and those of its protocols by subclass and protocol
 abbrev pub ClassRow : Type 0
@@ -14,8 +14,8 @@ ClassRow = Class (List ℕ) (List (Named ℕ)) (List (Named (ℕ × ℕ)))
 abbrev pub class_of : Class (Bor (List ℕ)) (Bor (List (ℕ × Bor (List ℕ)))) (Bor (List ((ℕ × ℕ) × Bor (List ℕ)))) → ClassRow
 class_of row = record { code = row.code; name = row.name.now; subclasses = map row_of row.subclasses.now; protocols = map row_of row.protocols.now }
 
--- a row of the constant
-abbrev of_row : Class (record { now : List ℕ }) (record { now : List (ℕ × record { now : List ℕ }) }) (record { now : List ((ℕ × ℕ) × record { now : List ℕ }) }) → ClassRow
+-- a row of its constant
+abbrev of_row : Class (Ref (List ℕ)) (Ref (List (ℕ × Ref (List ℕ)))) (Ref (List ((ℕ × ℕ) × Ref (List ℕ)))) → ClassRow
 of_row row = record { code = row.code; name = row.name.now; subclasses = map of_constant row.subclasses.now; protocols = map of_constant row.protocols.now }
 
 -- all classes

@@ -18,6 +18,10 @@ name_of rows code = name_where (λ its. its == code) rows
 abbrev pub row_of : {Code : Type 0} → Code × Bor (List ℕ) → Named Code
 row_of row = (row.0, row.1.now)
 
+-- what a reference is in a constant
+abbrev pub Ref : Type 0 → Type 0
+Ref Value = record { now : Value }
+
 -- a row of a constant of the code
-abbrev pub of_constant : {Code : Type 0} → Code × record { now : List ℕ } → Named Code
+abbrev pub of_constant : {Code : Type 0} → Code × Ref (List ℕ) → Named Code
 of_constant row = (row.0, row.1.now)

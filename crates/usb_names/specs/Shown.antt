@@ -3,6 +3,7 @@ use Rattle.std.specs.Prelude.{ℕ, List, map}
 use Rattle.std.specs.Borrow.{Bor}
 use Rattle.usb_names.specs.declared.field.ClassField.{ClassField}
 use Rattle.usb_names.specs.declared.row.ClassDescriptor.{ClassDescriptor}
+use Rattle.usb_names.specs.Named.{Ref}
 
 -- a field
 abbrev pub Field : Type 0
@@ -33,9 +34,9 @@ row_with name fields r = record {
 abbrev pub row_of : ClassDescriptor (Bor (List ℕ)) (Bor (List (ClassField (Bor (List ℕ))))) → Row
 row_of = row_with (λ name. name.now) (λ fields. map field_of fields.now)
 
--- a field and a row of a constant of the code
-abbrev pub field_of_constant : ClassField (record { now : List ℕ }) → Field
+-- a field and a row of its constants
+abbrev pub field_of_constant : ClassField (Ref (List ℕ)) → Field
 field_of_constant f = record { name = f.name.now; width = f.width; form = f.form }
 
-abbrev pub of_constant : ClassDescriptor (record { now : List ℕ }) (record { now : List (ClassField (record { now : List ℕ })) }) → Row
+abbrev pub of_constant : ClassDescriptor (Ref (List ℕ)) (Ref (List (ClassField (Ref (List ℕ))))) → Row
 of_constant = row_with (λ name. name.now) (λ fields. map field_of_constant fields.now)

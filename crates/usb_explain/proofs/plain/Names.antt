@@ -75,21 +75,18 @@ lists_of_class row h =
     let lists = list_all has_plain_name row.subclasses && list_all has_plain_name row.protocols in
     and_parts (list_all has_plain_name row.subclasses) (list_all has_plain_name row.protocols) (and_parts (is_plain_name row.name) lists h).1
 
-subclass_of : (row : Option ClassRow) (subclass : ℕ) → Passes is_plain_class row
-    → MaybePlain (option_and_then (λ (it : ClassRow). name_of it.subclasses subclass) row)
-subclass_of None subclass h = tt
-subclass_of (Some row) subclass h = number_plain row.subclasses subclass (lists_of_class row h).0
+of_class : (f : ClassRow → Option (List ℕ)) → ((row : ClassRow) → is_plain_class row ≡ true → MaybePlain (f row)) → (row : Option ClassRow)
+    → Passes is_plain_class row → MaybePlain (option_and_then f row)
+of_class f each None h = tt
+of_class f each (Some row) h = each row h
 
 pub subclass_plain : (class subclass : ℕ) → MaybePlain (subclass_name class subclass)
-subclass_plain class subclass = subclass_of (class_row class) subclass (class_passes class)
-
-protocol_of : (row : Option ClassRow) (test : ℕ × ℕ → Bool) → Passes is_plain_class row
-    → MaybePlain (option_and_then (λ (it : ClassRow). name_where test it.protocols) row)
-protocol_of None test h = tt
-protocol_of (Some row) test h = name_plain test row.protocols (lists_of_class row h).1
+subclass_plain class subclass =
+    of_class _ (λ row h. number_plain row.subclasses subclass (lists_of_class row h).0) (class_row class) (class_passes class)
 
 pub protocol_plain : (class subclass protocol : ℕ) → MaybePlain (protocol_name class subclass protocol)
-protocol_plain class subclass protocol = protocol_of (class_row class) _ (class_passes class)
+protocol_plain class subclass protocol =
+    of_class _ (λ row h. name_plain _ row.protocols (lists_of_class row h).1) (class_row class) (class_passes class)
 
 -- rows of class descriptors: the name, and the names of the fields
 abbrev pub has_plain_field : Field → Bool
@@ -120,56 +117,17 @@ found_row : (row : Option Row) → Passes is_plain_row row → MaybePlainRow row
 found_row None h = tt
 found_row (Some row) h = plain_row row h
 
-all_standard : list_all is_plain_row standard_rows ≡ true
-unfolding standard_rows
-all_standard = refl
-
-all_audio : list_all is_plain_row audio_rows ≡ true
-unfolding audio_rows
-all_audio = refl
-
-all_communications : list_all is_plain_row communications_rows ≡ true
-unfolding communications_rows
-all_communications = refl
-
-all_hid : list_all is_plain_row hid_rows ≡ true
-unfolding hid_rows
-all_hid = refl
-
-all_mass_storage : list_all is_plain_row mass_storage_rows ≡ true
-unfolding mass_storage_rows
-all_mass_storage = refl
-
-all_cdc_data : list_all is_plain_row cdc_data_rows ≡ true
-unfolding cdc_data_rows
-all_cdc_data = refl
-
-all_smart_card : list_all is_plain_row smart_card_rows ≡ true
-unfolding smart_card_rows
-all_smart_card = refl
-
-all_video : list_all is_plain_row video_rows ≡ true
-unfolding video_rows
-all_video = refl
-
-all_application : list_all is_plain_row application_rows ≡ true
-unfolding application_rows
-all_application = refl
-
-all_other : list_all is_plain_row other_rows ≡ true
-unfolding other_rows
-all_other = refl
-
 all_of_class : (class : ℕ) → list_all is_plain_row (class_rows class) ≡ true
-all_of_class class =
-    simp (either_all is_plain_row, same, all_audio, all_communications, all_hid, all_mass_storage, all_cdc_data, all_smart_card, all_video, all_application) refl
+unfolding application_rows audio_rows cdc_data_rows communications_rows hid_rows mass_storage_rows smart_card_rows video_rows
+all_of_class class = simp (either_all is_plain_row, same) refl
 
 all_of_interface : (interface : Option ClassCodes) → list_all is_plain_row (rows_of_class interface) ≡ true
 all_of_interface None = refl
 all_of_interface (Some codes) = all_of_class codes.class
 
 all_behind : (interface : Option ClassCodes) → list_all is_plain_row (rows_behind interface) ≡ true
-all_behind interface = simp (list_all-append is_plain_row, all_standard, all_of_interface interface, all_other) refl
+unfolding standard_rows other_rows
+all_behind interface = simp (list_all-append is_plain_row, all_of_interface interface) refl
 
 pub row_plain : (interface : Option ClassCodes) (type : ℕ) (body : List ℕ) → MaybePlainRow (first_row (rows_behind interface) interface type body)
 row_plain interface type body =
