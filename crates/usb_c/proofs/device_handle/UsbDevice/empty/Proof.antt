@@ -20,7 +20,10 @@ use denote.Triple.Walked.{Stays, stay_dropped, walk_of, Goes-dropped}
 use Rattle.std.specs.Prelude.{Option, None}
 use Rattle.std.proofs.alloc.Global.TheLaws as heap_laws
 use Rattle.std.proofs.raw_atomic.Walks.{proved_at, leaves}
-use Rattle.usb_c.proofs.DeviceValues.{Good, both, one, empty_good, Hd, Z, empty_in}
+use Rattle.usb_c.proofs.LooseValues.{both}
+use Rattle.std.proofs.cell.Inside.{Good, one}
+use Rattle.usb_c.proofs.HandleValues.{Z}
+use Rattle.usb_c.proofs.DeviceValues.{empty_good, Hd, empty_in}
 use Rattle.usb_device.specs.View.{View}
 use Rattle.usb_c.specs.contracts.device_handle.UsbDevice.empty.{ended, clauses}
 use Rattle.usb_c.specs.contracts.device_handle.UsbDevice.empty.Key.{name as #self}

@@ -20,7 +20,10 @@ use denote.Triple.Walked.{Stays, stay_dropped, walk_of, Goes-dropped}
 use Rattle.std.specs.Prelude.{Option, None}
 use Rattle.std.proofs.alloc.Global.TheLaws as heap_laws
 use Rattle.std.proofs.raw_atomic.Walks.{proved_at, leaves}
-use Rattle.usb_c.proofs.HostValues.{Good, both, one, empty_good, Hd, Z, empty_in}
+use Rattle.usb_c.proofs.LooseValues.{both}
+use Rattle.std.proofs.cell.Inside.{Good, one}
+use Rattle.usb_c.proofs.HandleValues.{Z}
+use Rattle.usb_c.proofs.HostValues.{empty_good, Hd, empty_in}
 use Rattle.usb_host.specs.Steps.{HostView}
 use Rattle.usb_c.specs.contracts.host_handle.UsbHost.empty.{ended, clauses}
 use Rattle.usb_c.specs.contracts.host_handle.UsbHost.empty.Key.{name as #self}

@@ -20,8 +20,9 @@ use Rattle.std.specs.Prelude.{Option, Some}
 use Rattle.std.specs.contracts.impls.GlobalAllocator.TheImpl.{ghosts}
 use Rattle.std.proofs.alloc.Global.TheLaws as heap_laws
 use Rattle.std.proofs.raw_atomic.Walks.{proved_at, leaves}
-use Rattle.usb_c.proofs.LooseValues.{Loose, loose_good, loose_out}
-use Rattle.usb_c.proofs.HostValues.{both, pair_good, R, Z, full_in}
+use Rattle.usb_c.proofs.LooseValues.{Loose, loose_good, loose_out, both}
+use Rattle.usb_c.proofs.HandleValues.{Z}
+use Rattle.usb_c.proofs.HostValues.{pair_good, R, full_in}
 use Rattle.usb_host.specs.Steps.{HostView}
 use Rattle.usb_c.specs.contracts.host_handle.UsbHost.full.{ended, clauses}
 use Rattle.usb_c.specs.contracts.host_handle.UsbHost.full.Key.{name as #self}
