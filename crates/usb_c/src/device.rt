@@ -71,7 +71,13 @@ fn open_at(alloc: Global, device: &mut UsbDevice, bytes: &[u8], speed: Speed) ->
         Err(fault) => return refused_description(fault),
     };
     let endpoint_zero = EndpointZero::new(&description);
-    match Box::new(alloc, OwnedDevice { description, endpoint_zero }) {
+    match Box::new(
+        alloc,
+        OwnedDevice {
+            description,
+            endpoint_zero,
+        },
+    ) {
         Ok(held) => {
             *device = UsbDevice::of(held);
             Verdict::Done(0)
