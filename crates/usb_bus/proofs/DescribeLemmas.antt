@@ -1,5 +1,5 @@
 -- Accepted descriptions are read.
-use Rattle.std.proofs.Common.{◌≡◌, ℕ, ◌<◌, ◌≤◌, false, List, [], ◌∷◌, ◌++◌, length, Option, Some, None, refl, ap, sym, ◌∙◌, arith, get_or}
+use Rattle.std.proofs.Common.{◌≡◌, ℕ, ◌<◌, ◌≤◌, false, List, [], ◌∷◌, ◌++◌, length, Option, Some, None, refl, ap, arith, get_or}
 use Rattle.std.specs.List.{list_any}
 use Rattle.std.proofs.lemmas.Bool.Decides.{nat_tests}
 use Rattle.usb_fields.specs.Bytes.{AreBytes}
@@ -8,42 +8,24 @@ use Rattle.usb_fields.specs.Device.{device_bytes, qualifier_bytes}
 use Rattle.usb_set.specs.declared.tree.SetKind.{SetKind}
 use Rattle.usb_set.specs.declared.tree.SetKind.TheVariants as kinds
 use Rattle.usb_set.specs.declared.tree.Configuration.{Configuration}
-use Rattle.usb_set.specs.Layout.{Layout, set_bytes, has_long_descriptor, has_typed_raw, set_length}
-use Rattle.usb_set.specs.declared.fault.EncodeFault.TheVariants as encoding
 use Rattle.usb_file_data.specs.declared.file.DescriptorFile.{DescriptorFile}
 use Rattle.usb_file_data.specs.declared.file.Other.{Other}
 use Rattle.usb_file_data.specs.declared.file.Strings.{Strings}
-use Rattle.usb_file_data.specs.File.{named_indices, other_sets, whole_set, has_no_layout, sets_bytes, other_bytes, strings_bytes, file_bytes, is_long_string}
+use Rattle.usb_file_data.specs.File.{named_indices, other_sets, whole_set, sets_bytes, other_bytes, strings_bytes, file_bytes, is_long_string}
 use Rattle.usb_device.specs.Accepted.{Accepted}
 use Rattle.usb_host.specs.Order.{first_value, other_declared}
 use Rattle.usb_host.proofs.ReadLemmas.{byte_at, qualifier_read, units_read}
 use Rattle.usb_bus.specs.inside.Image.{ReadsSets}
 use Rattle.usb_bus.specs.inside.Described.{EachIsRead, TextsAreRead, OtherIsRead, StringsAreRead, IsDescribed}
 use Rattle.usb_bus.proofs.AcceptLemmas.{AreSound, AreStrings, sets_sound, other_sets_sound, strings_right}
-use Rattle.usb_bus.proofs.HeadLemmas.{length_is, headed_bytes}
-use Rattle.usb_file_data.proofs.WholeSets.{whole_length, no_some}
+use Rattle.usb_bus.proofs.HeadLemmas.{headed_bytes}
+use Rattle.usb_file_data.proofs.WholeSets.{set_layout}
 use Rattle.usb_file_data.proofs.Lists.{bytes_before, bytes_behind}
-
-whole_is : (c : Configuration) → whole_set c ≡ set_bytes c (set_length c)
-unfolding whole_set
-whole_is c = refl
-
-laid_out : (c : Configuration) → has_no_layout c ≡ false → AreBytes (whole_set c) → Layout c (whole_set c)
-laid_out c right fits =
-    let long = no_some (has_long_descriptor c) encoding.Tail _ right in
-    let typed = no_some (has_typed_raw c) encoding.RawKind _ long.1 in
-    record {
-      bytes = whole_is c ∙ ap (set_bytes c) (sym (length_is c));
-      fits = fits;
-      within_255 = long.0;
-      raws_are_raw = typed.0;
-      short = whole_length c right;
-    }
 
 sets_read : (set_of : List ℕ → Option Configuration) → ReadsSets set_of → (kind : SetKind) (cs : List Configuration) → AreSound kind cs → AreBytes (sets_bytes cs) → EachIsRead set_of cs
 sets_read set_of exact kind [] sound fits = tt
 sets_read set_of exact kind (c ∷ cs) sound fits =
-    (exact.all (whole_set c) c (laid_out c sound.1 (bytes_before (whole_set c) (sets_bytes cs) fits)), sets_read set_of exact kind cs sound.2 (bytes_behind (whole_set c) (sets_bytes cs) fits))
+    (exact.all (whole_set c) c (set_layout c sound.1 (bytes_before (whole_set c) (sets_bytes cs) fits)), sets_read set_of exact kind cs sound.2 (bytes_behind (whole_set c) (sets_bytes cs) fits))
 
 value_is : (c : Configuration) → get_or (whole_set c) 5 0 ≡ c.value
 value_is c = (let h = headed_bytes c in ap (λ x. get_or x 5 0) h.1)

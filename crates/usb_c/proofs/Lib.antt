@@ -2,6 +2,7 @@ mod DecoderValues
 mod DeviceValues
 mod Due
 mod Faults
+mod HandleValues
 mod HostValues
 mod InputFaults
 mod LooseValues

@@ -16,7 +16,7 @@ use Rattle.usb_explain.specs.declared.speed.SetSpeed.{SetSpeed}
 use Rattle.usb_explain.specs.declared.speed.SetSpeed.TheVariants as speeds
 use Rattle.usb_file_data.specs.declared.file.DescriptorFile.{DescriptorFile}
 use Rattle.usb_file_data.specs.Findings.{input_findings}
-use Rattle.usb_listing.specs.Listing.{file_lines, set_lines}
+use Rattle.usb_listing.specs.Listing.{input_lines}
 use Rattle.usb_file_data.specs.FindingLine.{check_text}
 use Rattle.usb_c.specs.declared.answer.Verdict.{Verdict}
 use Rattle.usb_c.specs.declared.answer.Verdict.TheVariants as verdicts
@@ -58,12 +58,6 @@ kept_text false text = text
 abbrev pub BuildFaulty : Bool → List ℕ → ℕ → ListWhy → Type 0
 BuildFaulty true text line why = CommentedFaulty text line why
 BuildFaulty false text line why = ListFaulty text line why
-
--- the lines of an input: a dump has those of its device and its sets
-abbrev pub input_lines : Input → List ℕ
-input_lines (inputs.Set set) = set_lines set
-input_lines (inputs.File file) = file_lines file
-input_lines (inputs.Dump file) = file_lines file
 
 -- the bytes show this fault, or out of memory
 abbrev pub Refuses : (List ℕ → InputFault → Type 0) → List ℕ → Verdict → Type 0

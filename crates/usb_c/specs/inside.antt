@@ -1,5 +1,3 @@
-pub mod OwningDecoder
-pub mod OwningDevice
-pub mod OwningHost
 pub mod Refusals
 pub mod Taking
+pub mod Owning

@@ -1,6 +1,7 @@
 //! A decoder that C holds by a pointer.
 ghost use Rattle.std.specs.Prelude.{◌≡◌, Option, Some, None};
-ghost use Rattle.usb_c.specs.inside.OwningDecoder.{held_by, loosely_held, owned};
+ghost use Rattle.usb_c.specs.inside.Owning.{held_by, loosely_held, owned};
+ghost use Rattle.usb_set.specs.contracts.decoder.Decoder.{the_row};
 ghost use Rattle.usb_set.specs.Decoding.{Decoding};
 
 use crate::loose::Loose;
@@ -19,7 +20,7 @@ pub struct NzgDecoder {
 }
 
 impl Model for NzgDecoder {
-    ghost also_owns = { λ h. owned h.alloc h.at h.held };
+    ghost also_owns = { λ h. owned the_row h.alloc h.at h.held };
 }
 
 impl NzgDecoder {

@@ -12,7 +12,9 @@ use crate::answer::{Answer, Verdict, refused_description, refused_file};
 use crate::device_handle::NzgDevice;
 use std::alloc::Global;
 use std::mem::replace;
-use usb_device::{Description, NzgPacket, NzgTransaction, OwnedDevice, State, sent, speed_of};
+use usb_device::{
+    Description, EndpointZero, NzgPacket, NzgTransaction, OwnedDevice, State, sent, speed_of,
+};
 use usb_fields::{Setup, Speed};
 use usb_file::read_file;
 
@@ -68,7 +70,14 @@ fn open_at(alloc: Global, device: &mut NzgDevice, bytes: &[u8], speed: Speed) ->
         Ok(description) => description,
         Err(fault) => return refused_description(fault),
     };
-    match Box::new(alloc, OwnedDevice::new(description)) {
+    let endpoint_zero = EndpointZero::new(&description);
+    match Box::new(
+        alloc,
+        OwnedDevice {
+            description,
+            endpoint_zero,
+        },
+    ) {
         Ok(held) => {
             *device = NzgDevice::of(held);
             Verdict::Done(0)
@@ -86,7 +95,8 @@ pub extern "C" fn nzg_device_reset(alloc: Global, device: &mut NzgDevice) -> boo
     let Some(mut held) = replace(device, NzgDevice::empty(alloc)).into_box() else {
         return false;
     };
-    held.reset();
+    let owned: &mut OwnedDevice = &mut held;
+    owned.endpoint_zero = EndpointZero::new(&owned.description);
     *device = NzgDevice::of(held);
     true
 }
@@ -124,7 +134,8 @@ pub extern "C" fn nzg_device_acked(alloc: Global, device: &mut NzgDevice) -> boo
     let Some(mut held) = replace(device, NzgDevice::empty(alloc)).into_box() else {
         return false;
     };
-    held.acked();
+    let owned: &mut OwnedDevice = &mut held;
+    owned.endpoint_zero.acked(&owned.description);
     *device = NzgDevice::of(held);
     true
 }
@@ -143,7 +154,7 @@ pub extern "C" fn nzg_device_refused(
     let Some(held) = replace(device, NzgDevice::empty(alloc)).into_box() else {
         return false;
     };
-    let request = held.refused();
+    let request = held.endpoint_zero.refused();
     *device = NzgDevice::of(held);
     tell_request(request, setup)
 }
@@ -161,7 +172,8 @@ pub extern "C" fn nzg_device_answer_with(
     let Some(mut held) = replace(device, NzgDevice::empty(alloc)).into_box() else {
         return Verdict::Closed.answer();
     };
-    let taken = held.answer_with(bytes);
+    let owned: &mut OwnedDevice = &mut held;
+    let taken = owned.endpoint_zero.answer_with(&owned.description, bytes);
     *device = NzgDevice::of(held);
     match taken {
         Ok(()) => Verdict::Done(0).answer(),
@@ -178,7 +190,8 @@ pub extern "C" fn nzg_device_accept(alloc: Global, device: &mut NzgDevice) -> An
     let Some(mut held) = replace(device, NzgDevice::empty(alloc)).into_box() else {
         return Verdict::Closed.answer();
     };
-    let taken = held.accept();
+    let owned: &mut OwnedDevice = &mut held;
+    let taken = owned.endpoint_zero.accept(&owned.description);
     *device = NzgDevice::of(held);
     match taken {
         Ok(()) => Verdict::Done(0).answer(),
@@ -200,7 +213,7 @@ pub extern "C" fn nzg_device_carried_out(
     let Some(held) = replace(device, NzgDevice::empty(alloc)).into_box() else {
         return false;
     };
-    let request = held.carried_out();
+    let request = held.endpoint_zero.carried_out();
     *device = NzgDevice::of(held);
     tell_request(request, setup)
 }
@@ -219,7 +232,7 @@ pub extern "C" fn nzg_device_state(
     let Some(held) = replace(device, NzgDevice::empty(alloc)).into_box() else {
         return false;
     };
-    tell_state(held.state(), state);
+    tell_state(held.endpoint_zero.state(), state);
     *device = NzgDevice::of(held);
     true
 }

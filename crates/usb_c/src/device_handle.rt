@@ -1,6 +1,7 @@
 //! A device that C holds by a pointer.
 ghost use Rattle.std.specs.Prelude.{◌≡◌, Option, Some, None};
-ghost use Rattle.usb_c.specs.inside.OwningDevice.{held_by, loosely_held, owned};
+ghost use Rattle.usb_c.specs.inside.Owning.{held_by, loosely_held, owned};
+ghost use Rattle.usb_device.specs.contracts.owned_device.OwnedDevice.{the_row};
 ghost use Rattle.usb_device.specs.View.{View};
 
 use crate::loose::Loose;
@@ -19,7 +20,7 @@ pub struct NzgDevice {
 }
 
 impl Model for NzgDevice {
-    ghost also_owns = { λ h. owned h.alloc h.at h.held };
+    ghost also_owns = { λ h. owned the_row h.alloc h.at h.held };
 }
 
 impl NzgDevice {

@@ -3,12 +3,12 @@ ghost use Rattle.std.specs.Prelude.{◌≡◌, List, ℕ, IfOk};
 ghost use Rattle.usb_explain.specs.Explanations.{explanation};
 ghost use Rattle.usb_file_data.specs.Findings.{input_findings};
 ghost use Rattle.usb_file_data.specs.File.{File};
-ghost use Rattle.usb_listing.specs.Listing.{set_lines};
+ghost use Rattle.usb_listing.specs.Listing.{set_lines, input_lines};
 ghost use Rattle.usb_file_data.specs.FindingLine.{check_text};
 ghost use Rattle.usb_c.specs.Answers.{Fills};
 ghost use Rattle.usb_c.specs.Hosts.{PutsFile};
 ghost use Rattle.usb_c.specs.inside.Refusals.{ExplainsFault};
-ghost use Rattle.usb_c.specs.Texts.{Builds, Checks, Explains, Shows, input_lines, manner_told, running_speed_told};
+ghost use Rattle.usb_c.specs.Texts.{Builds, Checks, Explains, Shows, manner_told, running_speed_told};
 ghost use Rattle.usb_c.specs.declared.answer.Verdict.TheVariants as verdicts;
 
 use crate::answer::{Verdict, refused_input, refused_list, wants_memory};
@@ -18,7 +18,7 @@ use std::alloc::{AllocError, Global};
 use usb_explain::{Look, Manner, SetSpeed, explain, explain_broken};
 use usb_file::{DescriptorFile, Input, WriteFault, read_input, write_file};
 use usb_file_data::{InputFault, check_input, findings_text};
-use usb_listing::{list, list_set};
+use usb_listing::{list_input, list_set};
 use usb_set::Configuration;
 use usb_text::OutFault;
 
@@ -57,10 +57,7 @@ fn lines_of_input(alloc: Global, input: &Input) -> Result<Vec<u8>, OutFault>
     ensures { IfOk result (λ text. text.items ≡ input_lines input.now) }
 {
     let mut text = Vec::new(alloc);
-    match input {
-        Input::Set(set) => list_set(alloc, set, &mut text)?,
-        Input::File(file) | Input::Dump(file) => list(alloc, file, &mut text)?,
-    }
+    list_input(alloc, input, &mut text)?;
     Ok(text)
 }
 

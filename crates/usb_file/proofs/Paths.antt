@@ -2,16 +2,12 @@
 use Rattle.std.proofs.Common.{◌≡◌, ℕ, zero, suc, ltb, ◌+◌, ◌*◌, ◌<◌, ◌≤◌, false, ◌==◌, List, [], ◌∷◌, ◌++◌, length, Option, Some, None, refl, ap, sym, subst, ◌∙◌, arith, append_assoc}
 use Rattle.std.specs.List.{list_any}
 use Rattle.std.proofs.lemmas.List.{append-nil}
-use Rattle.std.proofs.lemmas.Bool.{ltb-false, lt-ltb, ne_eqb, or_parts, cond-true, cond-false}
+use Rattle.std.proofs.lemmas.Bool.{lt-ltb, ne_eqb, or_parts, cond-true, cond-false}
 use Rattle.usb_fields.specs.declared.device.DeviceDescriptor.{DeviceDescriptor}
 use Rattle.usb_fields.specs.Device.{device_bytes, qualifier_bytes}
 use Rattle.usb_fields.specs.Units.{units_bytes}
 use Rattle.usb_set.specs.declared.tree.SetKind.TheVariants as kinds
 use Rattle.usb_set.specs.declared.tree.Configuration.{Configuration}
-use Rattle.usb_set.specs.declared.fault.EncodeFault.TheVariants as encoding
-use Rattle.usb_set.specs.Layout.{Layout, set_bytes, has_long_descriptor, has_typed_raw, set_length}
-use Rattle.usb_set.specs.inside.Trees.{HasLength}
-use Rattle.usb_set.proofs.Sets.{layout_of}
 use Rattle.usb_file_data.specs.declared.file.DescriptorFile.{DescriptorFile}
 use Rattle.usb_file_data.specs.declared.file.Other.{Other}
 use Rattle.usb_file_data.specs.declared.file.Strings.{Strings}
@@ -20,7 +16,7 @@ use Rattle.usb_file_data.specs.File.{named_indices, other_sets, whole_set, sets_
 use Rattle.usb_fields.specs.Bytes.{AreBytes}
 use Rattle.usb_file_data.proofs.Lists.{bytes_before, bytes_behind, length-push}
 use Rattle.usb_file.specs.inside.Reading.{PartLaws, next_string, next_part}
-use Rattle.usb_file_data.proofs.WholeSets.{no_some}
+use Rattle.usb_file_data.proofs.WholeSets.{set_layout}
 use Rattle.usb_file.proofs.Due.{due_main, due_other, due_qualifier, due_strings}
 use Rattle.usb_file.proofs.Unique.{PartIs, IsSet, one_part, part_or_fault, append_same}
 use Rattle.usb_file_data.specs.Front.{StringsFollow, IsInOrder, IsFront, Splits, AllSets, with_set, with_strings}
@@ -75,21 +71,6 @@ meet laws (suc n) (suc m) f r g s h t x y i j =
     meet laws n m x.next x.left g s h t x.onward onward i j
 
 -- ---- sets on the path
-
--- bytes of a set that has bytes
-set_layout : (c : Configuration) → has_no_layout c ≡ false → AreBytes (whole_set c) → Layout c (whole_set c)
-unfolding whole_set
-set_layout c h fits =
-    let long = no_some (has_long_descriptor c) encoding.Tail _ h in
-    let typed = no_some (has_typed_raw c) encoding.RawKind _ long.1 in
-    let total = no_some (ltb 65535 (set_length c)) encoding.TooLong None typed.1 in
-    let has : HasLength c (set_length c) = record {
-      within_255 = long.0;
-      raws_are_raw = typed.0;
-      is_length = refl;
-      short = let few = ltb-false 65535 (set_length c) total.0 in omega (arith, few);
-    } in
-    layout_of c (set_bytes c (set_length c)) (set_length c) has refl fits
 
 steps_main : (ss : List Configuration) (f : DescriptorFile) (tail : List ℕ) (g : DescriptorFile) (s : List ℕ) → f.other ≡ None → f.strings ≡ None
     → length f.sets + length ss ≤ f.device.configurations → list_any (is_other_kind kinds.Configuration) ss ≡ false → list_any has_no_layout ss ≡ false

@@ -15,6 +15,8 @@ use Rattle.usb_set.specs.Descriptors.{configuration_descriptor, endpoint_descrip
 use Rattle.usb_fields.specs.declared.device.DeviceDescriptor.{DeviceDescriptor}
 use Rattle.usb_fields.specs.declared.qualifier.Qualifier.{Qualifier}
 use Rattle.usb_file_data.specs.declared.file.DescriptorFile.{DescriptorFile}
+use Rattle.usb_file_data.specs.declared.file.Input.{Input}
+use Rattle.usb_file_data.specs.declared.file.Input.TheVariants as inputs
 use Rattle.usb_file_data.specs.declared.file.Other.{Other}
 use Rattle.usb_fields.specs.Device.{device_bytes, qualifier_bytes}
 
@@ -90,3 +92,9 @@ other_lines (Some other) = qualifier_line other.qualifier ++ flat_map set_lines 
 -- the lines of a whole file
 abbrev pub file_lines : DescriptorFile → List ℕ
 file_lines f = device_line f.device ++ flat_map set_lines f.sets ++ other_lines f.other ++ strings_lines f.strings
+
+-- the lines of an input: a dump has those of its device and its sets
+abbrev pub input_lines : Input → List ℕ
+input_lines (inputs.Set set) = set_lines set
+input_lines (inputs.File file) = file_lines file
+input_lines (inputs.Dump file) = file_lines file

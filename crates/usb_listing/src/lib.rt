@@ -28,5 +28,5 @@ mod word;
 pub use assembly::{assemble, assemble_commented};
 pub use fault::{ListFault, ListWhy};
 pub use laws::LISTING_LIMIT;
-pub use listing::list;
+pub use listing::{list, list_input};
 pub use set_listing::list_set;

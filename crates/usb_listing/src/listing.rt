@@ -1,18 +1,19 @@
 //! The listing of a descriptor file, a line for each descriptor.
 ghost use Rattle.std.specs.Prelude.{◌≡◌, ◌++◌, OnErr, OnOk};
 ghost use Rattle.std.specs.Io.KnownBytes.{Appends};
-ghost use Rattle.usb_listing.specs.Listing.{device_line, file_lines, other_lines, qualifier_line};
+ghost use Rattle.usb_listing.specs.Listing.{device_line, file_lines, input_lines, other_lines, qualifier_line};
 ghost use Rattle.usb_text.specs.Output.{AppendsLess};
 ghost use Rattle.usb_text.specs.inside.Pages.{Puts};
 ghost use Rattle.std.specs.Prelude.{◌++◌, OnErr, OnOk};
 ghost use Rattle.std.specs.List.{flat_map};
 
 use crate::line::{ROOM, put_line};
+use crate::set_listing::list_set;
 use crate::string_listing::list_strings;
 use std::alloc::{AllocError, Global};
 use std::io::Write;
 use usb_fields::{DEVICE_WIDTHS, DeviceDescriptor, QUALIFIER_WIDTHS, Qualifier};
-use usb_file_data::{DescriptorFile, Other};
+use usb_file_data::{DescriptorFile, Input, Other};
 use usb_text::{OutFault, Text, write_all};
 
 /// Writes exactly the listing of the file: a line for each descriptor, in the order of the file. A file that has
@@ -38,6 +39,21 @@ pub fn list<W: Write>(alloc: Global, f: &DescriptorFile, w: &mut W) -> Result<()
     let mut page = Text::with_capacity(alloc, ROOM)?;
     list_file(&mut page, f, w)?;
     write_all(w, page.as_bytes())
+}
+
+/// Writes the listing of an input: of a dump that of its device and its sets.
+///
+/// # Errors
+///
+/// Those of [`list`].
+pub fn list_input<W: Write>(alloc: Global, input: &Input, w: &mut W) -> Result<(), OutFault>
+    ensures ok { OnOk result (Appends (W.contents w.old) (W.contents w.new) (input_lines input.now)) }
+    ensures err { OnErr result (AppendsLess (W.contents w.old) (W.contents w.new) (input_lines input.now)) }
+{
+    match input {
+        Input::Set(set) => list_set(alloc, set, w),
+        Input::File(file) | Input::Dump(file) => list(alloc, file, w),
+    }
 }
 
 fn list_file<W: Write>(page: &mut Text, f: &DescriptorFile, w: &mut W) -> Result<(), OutFault>

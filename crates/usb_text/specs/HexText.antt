@@ -27,6 +27,7 @@ is_gap c = (c == 9) || (c == 10) || (c == 13) || (c == 32) || (c == 44)
 abbrev pub is_mark : ℕ → ℕ → Bool
 is_mark a b = ((a == 48) || (a == 92)) && (b == 120)
 
+-- a byte of its high and its low four bits
 abbrev pub joined : Option ℕ → Option ℕ → Option ℕ
 joined (Some high) (Some low) = Some (high * 16 + low)
 joined (Some high) None = None

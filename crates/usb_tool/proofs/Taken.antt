@@ -22,7 +22,7 @@ use Rattle.usb_listing.specs.declared.fault.ListWhy.TheVariants as lists
 use Rattle.usb_listing.specs.declared.laws.TheConstants.{LISTING_LIMIT}
 use Rattle.usb_text.specs.Output.{Held}
 use Rattle.usb_text.proofs.Pages.{keeps_refl}
-use Rattle.usb_tool.specs.Commands.{Listing, RefusesListing, TellsBytes, TellsFindings, check_status, TellsListing, input_lines}
+use Rattle.usb_tool.specs.Commands.{Listing, RefusesListing, TellsBytes, TellsFindings, check_status, TellsListing}
 use Rattle.usb_tool.specs.Endings.{AppendsNone, Extent, Fails, Refusal, Refuses, Telling, Told, Left, ReadsAll}
 use Rattle.usb_tool.specs.Faults.{fault_of_file, fault_of_input, fault_of_list, file_fault_by_why, list_fault_by_why}
 use Rattle.usb_tool.specs.Inputs.{Faulty, Form, RefusesInput}
@@ -32,6 +32,7 @@ use Rattle.usb_tool.specs.declared.fault.ToolFault.{ToolFault}
 use Rattle.usb_tool.specs.declared.fault.ToolFault.TheVariants as faults
 use Rattle.usb_tool.proofs.Reading.{when_err}
 use Rattle.usb_tool.proofs.Refusals.{IsTold, as_told, cut_short, is_told}
+use Rattle.usb_listing.specs.Listing.{input_lines}
 
 none_shown : (shows : Faulty) (b : List ℕ) (e : InputFault) → shows b e → IsNone shows b (as_told e)
 none_shown shows b (inputs.Set fault) h = h

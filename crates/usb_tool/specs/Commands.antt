@@ -4,7 +4,7 @@ use Rattle.std.specs.Io.KnownBytes.{Keeps}
 use Rattle.usb_file_data.specs.declared.file.DescriptorFile.{DescriptorFile}
 use Rattle.usb_file_data.specs.File.{File}
 use Rattle.usb_listing.specs.declared.laws.TheConstants.{LISTING_LIMIT}
-use Rattle.usb_listing.specs.Listing.{file_lines, set_lines}
+use Rattle.usb_listing.specs.Listing.{file_lines, input_lines}
 use Rattle.usb_text.specs.Output.{Held, AppendsLess}
 use Rattle.usb_listing.specs.Comments.{uncommented, CommentedFaulty}
 use Rattle.usb_listing.specs.Listings.{ListFaulty}
@@ -19,7 +19,6 @@ use Rattle.usb_file_data.specs.declared.laws.TheConstants.{FILE_LIMIT}
 use Rattle.usb_file_data.specs.FindingLine.{check_text}
 use Rattle.usb_file_data.specs.declared.finding.Finding.{Finding}
 use Rattle.usb_tool.specs.Inputs.{Faulty, FileShows, Form, IsFile, RefusesInput, IsSetOrFile, SetOrFileShows}
-use Rattle.usb_file_data.specs.declared.file.Input.TheVariants as inputs
 
 -- What `build` makes of its input.
 
@@ -102,12 +101,6 @@ abbrev pub CheckAnyFails : Left → Left → Held → Held → ToolFault → Typ
 CheckAnyFails = Fails FILE_LIMIT (RefusesToCheck IsInput InputFaulty)
 
 -- What `show` tells of its input.
-
--- the lines of an input: a dump has those of its device and its sets
-abbrev pub input_lines : Input → List ℕ
-input_lines (inputs.Set set) = set_lines set
-input_lines (inputs.File file) = file_lines file
-input_lines (inputs.Dump file) = file_lines file
 
 -- the text is the listing of what the bytes are taken for
 pub record IsListingOf (is : Form) (b text : List ℕ) : Type 0 where

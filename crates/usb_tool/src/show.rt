@@ -1,9 +1,8 @@
 //! The command `show`.
-ghost use Rattle.std.specs.Prelude.{IfErr, IfOk, OnErr, OnOk};
-ghost use Rattle.usb_tool.specs.Commands.{ShowAnyFails, ShowFails, Shown, ShownAny, input_lines};
+ghost use Rattle.std.specs.Prelude.{IfErr, IfOk};
+ghost use Rattle.usb_tool.specs.Commands.{ShowAnyFails, ShowFails, Shown, ShownAny};
 ghost use Rattle.usb_tool.specs.inside.Telling.{EndsWith, IsCutShort};
-ghost use Rattle.usb_text.specs.Output.{AppendsLess};
-ghost use Rattle.std.specs.Io.KnownBytes.{Appends};
+ghost use Rattle.usb_listing.specs.Listing.{input_lines};
 
 use crate::fault::ToolFault;
 use crate::input::{take_any, take_set_or_file};
@@ -11,8 +10,7 @@ use crate::output::finish;
 use std::alloc::Global;
 use std::io::{Read, Write};
 use usb_file::Input;
-use usb_listing::{list, list_set};
-use usb_text::OutFault;
+use usb_listing::list_input;
 
 /// Reads the input to its end, and writes its listing: a line for each descriptor, in the order of the
 /// input. The input is one configuration set where its second byte is 2 or 7, the type of a
@@ -68,18 +66,7 @@ fn show_input<W: Write>(alloc: Global, input: &Input, w: &mut W) -> Result<u8, T
     ensures ok { IfOk result (EndsWith (input_lines input.now) 0 (W.contents w.old) (W.contents w.new)) }
     ensures err { IfErr result (IsCutShort (input_lines input.now) (W.contents w.old) (W.contents w.new)) }
 {
-    put_lines(alloc, input, w)?;
+    list_input(alloc, input, w)?;
     finish(w)?;
     Ok(0)
-}
-
-/// Writes the lines of an input.
-fn put_lines<W: Write>(alloc: Global, input: &Input, w: &mut W) -> Result<(), OutFault>
-    ensures ok { OnOk result (Appends (W.contents w.old) (W.contents w.new) (input_lines input.now)) }
-    ensures err { OnErr result (AppendsLess (W.contents w.old) (W.contents w.new) (input_lines input.now)) }
-{
-    match input {
-        Input::Set(set) => list_set(alloc, set, w),
-        Input::File(file) | Input::Dump(file) => list(alloc, file, w),
-    }
 }

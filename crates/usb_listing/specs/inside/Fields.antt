@@ -7,6 +7,7 @@ use Rattle.usb_fields.specs.Fields.{size_of}
 use Rattle.usb_text.specs.Characters.{is_plain}
 use Rattle.usb_listing.specs.declared.row.Written.{Written}
 use Rattle.usb_listing.specs.declared.row.Written.TheVariants as forms
+use Rattle.usb_text.specs.HexText.{joined}
 
 -- Lower-case hexadecimal digits, read.
 
@@ -16,12 +17,6 @@ digit_value c =
     if nat_le 48 c && nat_le c 57 then Some (c - 48)
     else if nat_le 97 c && nat_le c 102 then Some (c - 87)
     else None
-
--- a byte of its high and its low four bits
-abbrev pub joined : Option ℕ → Option ℕ → Option ℕ
-joined (Some high) (Some low) = Some (high * 16 + low)
-joined (Some high) None = None
-joined None low = None
 
 -- the byte of two digits
 abbrev pub pair_value : ℕ → ℕ → Option ℕ

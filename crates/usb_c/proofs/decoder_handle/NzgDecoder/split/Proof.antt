@@ -26,8 +26,9 @@ use Rattle.std.proofs.cell.Inside.{Good}
 use Rattle.std.proofs.option.Made.{Some-of, none_of}
 use Rattle.std.proofs.ResultValues.{and_tt}
 use Rattle.std.proofs.raw_atomic.Walks.{proved_at, leaves}
-use Rattle.usb_c.proofs.LooseValues.{Loose, loose_good, loose_in}
-use Rattle.usb_c.proofs.DecoderValues.{both, pair_good, empty_good, Hd, R, Z, either_owned, handle_out}
+use Rattle.usb_c.proofs.LooseValues.{Loose, loose_good, loose_in, both}
+use Rattle.usb_c.proofs.HandleValues.{Z, either_owned, pair_good, empty_good, handle_out}
+use Rattle.usb_c.proofs.DecoderValues.{Hd, R, name}
 use Rattle.usb_c.specs.contracts.decoder_handle.NzgDecoder.split.{ended, clauses}
 use Rattle.usb_c.specs.contracts.decoder_handle.NzgDecoder.split.Key.{name as #self}
 use Rattle.usb_c.proofs.decoder_handle.NzgDecoder.split.Statement.{statement}
@@ -47,10 +48,10 @@ split_spec 𝓤 𝓛 𝓜 𝓡 wired =
     let κs = z.0.0 in let qs = z.0.1 in let v = z.0.3.0 in let a = v.alloc in let Post : Val → SProp 𝓤 = (walk_of 𝓛 ended hs c).post z in let Run : List Val → SProp 𝓤 = λ ws. WpFn 𝓤 H 𝓣.C 𝓣.Λ fn ws Post in
     let Out : RattleType = type_at ended.signature.result κs in
     qed 𝓛 ((raw (alive 𝓛 ended.signature κs qs) ⊛ ‵ (owns (types_at ended.signature.params κs) z.0.3 z.0.4)) ∷ raw ((c κs z.0.3).requires z.1) ∷ []) ∵
-    split ! $ move ! (1 ∷ []) $ fsplit ! $ handle_out ! v z.0.4.0 (λ h ws fits. move ! (1 ∷ 0 ∷ []) $ either_owned ! a v.at v.held
+    split ! $ move ! (1 ∷ []) $ fsplit ! $ handle_out R name ! v.alloc v.at v.held z.0.4.0 (λ h ws fits. move ! (1 ∷ 0 ∷ []) $ either_owned R ! a v.at v.held
     (λ e none. let w : Val = both vnull h in let ws' : z.0.4.0 ≡ w ∷ [] = subst (λ (p : Ptr). z.0.4.0 ≡ both (ptr_val p) h ∷ []) e ws in
     suffices ! (Run (w ∷ [])) (subst (λ (us : List Val). ent 𝓤 (Run (w ∷ [])) (Run us)) (sym (λ i. ws' i ++ [])) (id⊢ 𝓤 (Run (w ∷ [])))) $
-    enter ! 𝓣.C 𝓣.Λ fn (w ∷ []) Post $ alloc_all ! (λ l. pass_all ! refl (empty_good h fits, tt) $ let Ev = env fn.locals l in
+    enter ! 𝓣.C 𝓣.Λ fn (w ∷ []) Post $ alloc_all ! (λ l. pass_all ! refl (empty_good name h fits, tt) $ let Ev = env fn.locals l in
     sets ! (of_opd ! (get_in ! (fld ! refl (stop !)) (sub ! 0 refl (whole !)))) refl (tt, record { fits = lit< tt }) $ sets ! (of_opd ! (get_in ! (fld ! refl (stop !)) (sub ! 1 refl (whole !)))) refl fits $
     sets ! (bin ! (get ! refl) (lit ! tt) tt) refl (tt, tt) $ first ! $ branches ! (get ! refl)
     (λ _. sets_last ! (agg ! (and_then ! (lit ! tt) (no_more !))) refl (tt, (record { fits = lit< tt }, tt)) $ exec ! 𝓣.C 𝓣.Λ Ev (after 4 fn.body) (at_ret Ev Post) $ sets ! (of_opd ! (get ! refl)) refl (tt, (record { fits = lit< tt }, tt)) $
@@ -61,7 +62,7 @@ split_spec 𝓤 𝓛 𝓜 𝓡 wired =
     let typed = loose_good R Z LZ ghosts b o h fits in let v₁ : Val = live 1 (vcons w vnil) in let d : L.Denot = record { at = block_ptr b o; alloc = a; value = x } in
     let good : Good (layout Out) v₁ = (and_tt _ typed.0, (record { fits = lit< tt }, (typed.1, tt))) in
     suffices ! (Run (w ∷ [])) (subst (λ (us : List Val). ent 𝓤 (Run (w ∷ [])) (Run us)) (sym (λ i. ws' i ++ [])) (id⊢ 𝓤 (Run (w ∷ [])))) $
-    enter ! 𝓣.C 𝓣.Λ fn (w ∷ []) Post $ alloc_all ! (λ l. pass_all ! refl (pair_good b o h fits, tt) $ let Ev = env fn.locals l in
+    enter ! 𝓣.C 𝓣.Λ fn (w ∷ []) Post $ alloc_all ! (λ l. pass_all ! refl (pair_good name b o h fits, tt) $ let Ev = env fn.locals l in
     sets ! (of_opd ! (get_in ! (fld ! refl (stop !)) (sub ! 0 refl (whole !)))) refl (tt, tt) $ sets ! (of_opd ! (get_in ! (fld ! refl (stop !)) (sub ! 1 refl (whole !)))) refl fits $
     sets ! (bin ! (get ! refl) (lit ! tt) (tests_null (block_ptr b o) may)) refl (tt, tt) $ first ! $ branches ! (get ! refl) (λ wrong. absurd wrong) (λ _.
     sets ! (of_opd ! (get ! refl)) refl (tt, tt) $ sets ! (agg ! (and_then ! (get ! refl) (and_then ! (get ! refl) (no_more !)))) refl typed $

@@ -20,8 +20,9 @@ use Rattle.std.specs.Prelude.{Option, Some}
 use Rattle.std.specs.contracts.impls.GlobalAllocator.TheImpl.{ghosts}
 use Rattle.std.proofs.alloc.Global.TheLaws as heap_laws
 use Rattle.std.proofs.raw_atomic.Walks.{proved_at, leaves}
-use Rattle.usb_c.proofs.LooseValues.{Loose, loose_good, loose_out}
-use Rattle.usb_c.proofs.HostValues.{both, pair_good, R, Z, full_in}
+use Rattle.usb_c.proofs.LooseValues.{Loose, loose_good, loose_out, both}
+use Rattle.usb_c.proofs.HandleValues.{Z, pair_good, full_in}
+use Rattle.usb_c.proofs.HostValues.{R, name}
 use Rattle.usb_host.specs.Steps.{HostView}
 use Rattle.usb_c.specs.contracts.host_handle.NzgHost.full.{ended, clauses}
 use Rattle.usb_c.specs.contracts.host_handle.NzgHost.full.Key.{name as #self}
@@ -47,6 +48,6 @@ full_spec 𝓤 𝓛 𝓜 𝓡 wired =
     enter ! 𝓣.C 𝓣.Λ fn (w ∷ []) Post $ alloc_all ! (λ l. pass_all ! refl (loose_good R Z heap_laws.the_row_laws ghosts b o h fits, tt) $
     sets ! (of_opd ! (get_in ! (fld ! refl (stop !)) (sub ! 0 refl (whole !)))) refl (tt, tt) $ sets ! (of_opd ! (get_in ! (fld ! refl (stop !)) (sub ! 1 refl (whole !)))) refl fits $
     sets ! (of_opd ! (get ! refl)) refl (tt, tt) $
-    sets ! (agg ! (and_then ! (get ! refl) (and_then ! (get ! refl) (no_more !)))) refl (pair_good b o h fits) $ full_in ! b o h a v.value $
+    sets ! (agg ! (and_then ! (get ! refl) (and_then ! (get ! refl) (no_more !)))) refl (pair_good name b o h fits) $ full_in R name ! b o h a v.value $
     let Told : Type 0 = the_value v.value ≡ the_value v.value in use0 𝓛 (raw (fact 𝓤 Told)) (fact_i 𝓤 Told (emp 𝓤) refl) $ nothing ! $ nothing ! $ fjoin ! $
     returns ! (look_at ! 0 refl) $ free_all ! refl $ keep ! (4 ∷ 0 ∷ 2 ∷ 1 ∷ []) $ by ! (leaves 𝓛 ended hs c z w (record { at = block_ptr b o; alloc = a; held = Some v.value }) (tt, tt) (tt, tt)))))
