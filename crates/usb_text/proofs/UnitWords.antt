@@ -45,10 +45,10 @@ encoded c h =
     let two : OfLine (further (c / 64) ∷ further c ∷ []) = further_beyond (c / 64) (further c ∷ []) last in
     let three : OfLine (further (c / 4096) ∷ further (c / 64) ∷ further c ∷ []) = further_beyond (c / 4096) (further (c / 64) ∷ further c ∷ []) two in
     chosen (nat_lt c 128) (c ∷ []) _ (one_beyond c [] h refl)
-        (chosen (nat_lt c 2048) ((192 + c / 64) ∷ further c ∷ []) _ (one_beyond (192 + c / 64) (further c ∷ []) (omega arith) last)
-            (chosen (nat_lt c 65536) ((224 + c / 4096) ∷ further (c / 64) ∷ further c ∷ []) ((240 + c / 262144) ∷ further (c / 4096) ∷ further (c / 64) ∷ further c ∷ [])
-                (one_beyond (224 + c / 4096) (further (c / 64) ∷ further c ∷ []) (omega arith) two)
-                (one_beyond (240 + c / 262144) (further (c / 4096) ∷ further (c / 64) ∷ further c ∷ []) (omega arith) three)))
+    (chosen (nat_lt c 2048) ((192 + c / 64) ∷ further c ∷ []) _ (one_beyond (192 + c / 64) (further c ∷ []) (omega arith) last)
+    (chosen (nat_lt c 65536) ((224 + c / 4096) ∷ further (c / 64) ∷ further c ∷ []) ((240 + c / 262144) ∷ further (c / 4096) ∷ further (c / 64) ∷ further c ∷ [])
+    (one_beyond (224 + c / 4096) (further (c / 64) ∷ further c ∷ []) (omega arith) two)
+    (one_beyond (240 + c / 262144) (further (c / 4096) ∷ further (c / 64) ∷ further c ∷ []) (omega arith) three)))
 
 above_ascii : (code : ℕ) → is_shown code ≡ true → 128 ≤ code
 unfolding is_shown
@@ -79,8 +79,8 @@ shown_of_line [] h = refl
 shown_of_line (unit ∷ []) h = one_of_line unit h.0
 shown_of_line (unit ∷ next ∷ rest) h =
     chosen (is_high_surrogate unit && is_low_surrogate next) _ _
-        (of_line_joined (pair_words unit next) (shown_words rest) (character (surrogate_pair_char unit next) (unit ∷ next ∷ []) (h.0, (h.1.0, tt))) (shown_of_line rest h.1.1))
-        (of_line_joined (one_words unit) (shown_words (next ∷ rest)) (one_of_line unit h.0) (shown_of_line (next ∷ rest) h.1))
+    (of_line_joined (pair_words unit next) (shown_words rest) (character (surrogate_pair_char unit next) (unit ∷ next ∷ []) (h.0, (h.1.0, tt))) (shown_of_line rest h.1.1))
+    (of_line_joined (one_words unit) (shown_words (next ∷ rest)) (one_of_line unit h.0) (shown_of_line (next ∷ rest) h.1))
 
 pub units_of_line : (utf8 : Bool) (units : List ℕ) → AreUnits units → list_all (is_of_line utf8) (units_words utf8 units) ≡ true
 units_of_line true units h = shown_of_line units h
