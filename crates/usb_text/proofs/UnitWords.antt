@@ -1,5 +1,5 @@
 -- Units of strings in lines.
-use Rattle.std.proofs.Common.{◌≡◌, ℕ, ◌+◌, ◌*◌, ◌/◌, ◌%◌, ◌<◌, ◌≤◌, ◌&&◌, nat_le, nat_lt, not, Bool, true, false, cond, count_by, List, [], ◌∷◌, ◌++◌, refl, ◌∙◌, arith}
+use Rattle.std.proofs.Common.{◌≡◌, ℕ, ◌+◌, ◌/◌, ◌%◌, ◌<◌, ◌≤◌, ◌&&◌, nat_le, nat_lt, not, Bool, true, false, cond, count_by, List, [], ◌∷◌, ◌++◌, refl, ◌∙◌, arith}
 use Rattle.std.specs.Char.{encode_utf8}
 use Rattle.std.specs.Char.Utf16.{is_high_surrogate, is_low_surrogate, surrogate_pair_char}
 use Rattle.std.specs.List.{flat_map, list_all, list_any}

@@ -1,5 +1,4 @@
-use Rattle.std.proofs.Common.{◌≡◌, ℕ, ◌++◌, List, length, count_by}
-use Rattle.usb_text.specs.HexText.{is_line_feed}
+use Rattle.std.proofs.Common.{length}
 use Rattle.usb_text.proofs.WrittenLines.{BegunBehind}
 use Rattle.usb_text.proofs.lines.ended_lines.Given as goal
 

@@ -1,5 +1,4 @@
-use Rattle.std.proofs.Common.{◌≡◌, rules}
-use Rattle.usb_text.specs.Written.{PutsLines, more_lines}
+use Rattle.std.proofs.Common.{rules}
 use Rattle.usb_text.proofs.Pages.{on_err}
 use Rattle.usb_text.proofs.WrittenLines.{fewer_is_less, nothing_put, puts_broken, puts_fewer, puts_finished, puts_lines, puts_passed}
 use Rattle.usb_text.proofs.tests.write_entries.Goals as goal
