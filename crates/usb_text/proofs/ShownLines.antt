@@ -3,10 +3,10 @@ use Rattle.std.proofs.Common.{◌≡◌, ℕ, ◌+◌, List, [], ◌∷◌, ◌+
 use Rattle.usb_text.specs.Shown.{Shown, Number, Bytes, Units, Name, Indent, End, ends, showing_all, with_shown}
 use Rattle.usb_text.specs.Written.{Written, more_lines}
 
-pub showing_all-append : {S : Type 0} (showing : Shown → S → S) (xs ys : List Shown) (seen : S)
+pub showing_joined : {S : Type 0} (showing : Shown → S → S) (xs ys : List Shown) (seen : S)
     → showing_all showing (xs ++ ys) seen ≡ showing_all showing ys (showing_all showing xs seen)
-showing_all-append showing [] ys seen = refl
-showing_all-append showing (x ∷ xs) ys seen = showing_all-append showing xs ys (showing x seen)
+showing_joined showing [] ys seen = refl
+showing_joined showing (x ∷ xs) ys seen = showing_joined showing xs ys (showing x seen)
 
 -- lines, with as many more as ended
 pub shown_lines : (shown : List Shown) (lines : Written) → showing_all with_shown shown lines ≡ more_lines (ends shown) lines
