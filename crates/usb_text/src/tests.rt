@@ -110,3 +110,35 @@ fn writes_lines(rt: HostRuntime) -> Result<(), Fail> {
     );
     Ok(())
 }
+
+#[test]
+fn puts_units(rt: HostRuntime) -> Result<(), Fail> {
+    for utf8 in [false, true] {
+        let mut lines = Lines::new(rt.alloc(), utf8);
+        lines.put_units(&[0x43, 0xe9, 0x0a])?;
+        lines.put_units_in(&[0x3d, 0xd8, 0x4c, 0xdf, 0x2e, 0x20])?;
+        let expected = if utf8 {
+            b"C\xc3\xa9\\000a\xf0\x9f\x9d\x8c\\202e".as_slice()
+        } else {
+            b"C\\00e9\\000a\\d83d\\df4c\\202e".as_slice()
+        };
+        assert_eq!(rt; lines.as_bytes(), expected);
+    }
+    Ok(())
+}
+
+#[test]
+fn passes_on_whole_lines(rt: HostRuntime) -> Result<(), Fail> {
+    let mut lines = Lines::new(rt.alloc(), false);
+    let mut written = Vec::new(rt.alloc());
+    lines.put_indent(32 * 1024)?;
+    lines.pass_on(&mut written)?;
+    assert_eq!(rt; written.len(), 0);
+    lines.end_line()?;
+    lines.pass_on(&mut written)?;
+    assert!(rt; lines.is_empty());
+    lines.put("begun")?;
+    lines.finish(&mut written)?;
+    assert_eq!(rt; written.len(), 32 * 1024 + 1);
+    Ok(())
+}
