@@ -5,5 +5,6 @@ pub mod LineWords
 pub mod UnitWords
 pub mod Pages
 pub mod WrittenLines
+pub mod ShownLines
 pub mod Items
 pub mod Apart

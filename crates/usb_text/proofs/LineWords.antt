@@ -1,5 +1,5 @@
 -- What may be put into lines, and what they are then.
-use Rattle.std.proofs.Common.{◌≡◌, ℕ, zero, suc, ◌+◌, ◌-◌, ◌/◌, ◌%◌, ◌<◌, ◌==◌, nat_lt, max, Bool, true, false, cond, if◌then◌else◌, codes, count_by, decimal, length, List, [], ◌∷◌, ◌++◌, replicate, refl, ◌∙◌, add-zero, arith}
+use Rattle.std.proofs.Common.{◌≡◌, ℕ, zero, suc, ◌-◌, ◌/◌, ◌%◌, ◌<◌, ◌==◌, nat_lt, max, Bool, true, false, cond, if◌then◌else◌, codes, count_by, decimal, length, List, [], ◌∷◌, ◌++◌, replicate, refl, ◌∙◌, add-zero, arith}
 use Rattle.hex.specs.Hex.{encode_lower, encode_with}
 use Rattle.std.specs.Fmt.{digit_glyph, digits, digits_onto}
 use Rattle.std.specs.List.{list_all}

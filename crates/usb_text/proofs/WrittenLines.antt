@@ -7,7 +7,7 @@ use Rattle.std.proofs.lemmas.List.Folds.{list_all-append}
 use Rattle.std.proofs.lemmas.List.Sums.{sum_by-append, sum_by-cons}
 use Rattle.usb_text.specs.HexText.{is_line_feed}
 use Rattle.usb_text.specs.Output.{AppendsLess, Held}
-use Rattle.usb_text.specs.Written.{PutsLines, WritesFewer, WritesLess, WritesLines, Written, is_of_lines, is_whole, written}
+use Rattle.usb_text.specs.Written.{PutsLines, WritesFewer, WritesLess, WritesLines, Written, is_of_lines, is_whole, more_lines, written}
 use Rattle.usb_text.specs.inside.Pages.{EndedLines}
 use Rattle.usb_text.proofs.Pages.{appends_more, appends_nothing, keeps_refl}
 
@@ -143,31 +143,39 @@ not_passed utf8 a b text h whole w = ended_less utf8 a b text text h (all_ended 
 same_lines : (utf8 other : Bool) (count : ℕ) (a b : Held) → other ≡ utf8 → WritesLines other count a b → WritesLines utf8 count a b
 same_lines utf8 other count a b e p = subst (λ (u : Bool). WritesLines u count a b) e p
 
-pub puts_lines : (a b : Held) (p q r : Written) (n k : ℕ) → PutsLines a b p q n → r.utf8 ≡ q.utf8 → r.ended ≡ q.ended + k → PutsLines a b p r (n + k)
-puts_lines a b p q r n k put same more = record {
+pub puts_lines : {a b : Held} {p q r : Written} {n : ℕ} (k : ℕ) → PutsLines a b p q n → r ≡ more_lines k q → PutsLines a b p r (n + k)
+puts_lines {q = q} k put more = record {
   gained = put.gained;
-  parts = (let parts = put.parts in omega (arith, parts, more));
-  same = same ∙ put.same;
+  parts = (let parts = put.parts in let ended = ap (λ (w : Written). w.ended) more in omega (arith, parts, ended));
+  same = ap (λ (w : Written). w.utf8) more ∙ put.same;
   written = put.written;
 }
 
-pub puts_more : (a b c : Held) (p q r : Written) (m n : ℕ) → PutsLines a b p q m → PutsLines b c q r n → PutsLines a c p r (m + n)
-puts_more a b c p q r m n put more = record {
+pub puts_more : {a b c : Held} {p q r : Written} {m n : ℕ} → PutsLines a b p q m → PutsLines b c q r n → PutsLines a c p r (m + n)
+puts_more {a} {b} {c} {p} {q} put more = record {
   gained = put.gained + more.gained;
   parts = (let before = put.parts in let after = more.parts in omega (arith, before, after));
   same = more.same ∙ put.same;
   written = lines_more p.utf8 put.gained more.gained a b c put.written (same_lines p.utf8 q.utf8 more.gained b c put.same more.written);
 }
 
-pub puts_finished : (a b c : Held) (p q : Written) (n : ℕ) → PutsLines a b p q n → WritesLines q.utf8 q.ended b c → WritesLines p.utf8 (p.ended + n) a c
-puts_finished a b c p q n put rest =
-    let parts : p.ended + n ≡ put.gained + q.ended = put.parts in
-    rw parts (lines_more p.utf8 put.gained q.ended a b c put.written (same_lines p.utf8 q.utf8 q.ended b c put.same rest))
+-- lines put, and passed on then
+pub puts_passed : {a b c : Held} {p q r s : Written} {n : ℕ} (k : ℕ) → PutsLines a b p q n → r ≡ more_lines k q → PutsLines b c r s 0 → PutsLines a c p s (n + k)
+puts_passed {a} {b} {c} {p} {q} {r} {s} {n} k put more passed =
+    let count : n + k + 0 ≡ n + k = omega arith in subst (λ (m : ℕ). PutsLines a c p s m) count (puts_more (puts_lines k put more) passed)
 
-pub puts_broken : (a b c : Held) (p q : Written) (n : ℕ) → PutsLines a b p q n → WritesLess q.utf8 q.ended b c → WritesLess p.utf8 (p.ended + n) a c
-puts_broken a b c p q n put less =
-    let parts : p.ended + n ≡ put.gained + q.ended = put.parts in
-    rw parts (less_after p.utf8 put.gained q.ended a b c put.written (subst (λ (u : Bool). WritesLess u q.ended b c) put.same less))
+pub puts_finished : {a b c : Held} {p q : Written} {n : ℕ} (count : ℕ) → PutsLines a b p q n → WritesLines q.utf8 q.ended b c → p.ended + n ≡ count → WritesLines p.utf8 count a c
+puts_finished {a} {b} {c} {p} {q} count put rest is =
+    let all : put.gained + q.ended ≡ count = (let parts = put.parts in omega (arith, parts, is)) in
+    subst (λ (n : ℕ). WritesLines p.utf8 n a c) all (lines_more p.utf8 put.gained q.ended a b c put.written (same_lines p.utf8 q.utf8 q.ended b c put.same rest))
 
-pub puts_fewer : (a b : Held) (p q : Written) (n count : ℕ) → PutsLines a b p q n → p.ended + n < count → WritesFewer p.utf8 count a b
-puts_fewer a b p q n count put few = record { gained = put.gained; fewer = (let parts = put.parts in omega (arith, parts, few)); written = put.written }
+-- a writer that failed then, of so many lines or more
+pub puts_broken : {a b c : Held} {p q : Written} {n : ℕ} (count : ℕ) → PutsLines a b p q n → WritesLess q.utf8 q.ended b c → p.ended + n ≤ count → WritesLess p.utf8 count a c
+puts_broken {a} {b} {c} {p} {q} count put less most =
+    let parts = put.parts in
+    less_more p.utf8 (put.gained + q.ended) count a c (omega (arith, parts, most))
+    (less_after p.utf8 put.gained q.ended a b c put.written (subst (λ (u : Bool). WritesLess u q.ended b c) put.same less))
+
+-- what the writer gained, where more lines were to come
+pub puts_fewer : {a b : Held} {p q : Written} {n : ℕ} (count : ℕ) → PutsLines a b p q n → p.ended + n < count → WritesFewer p.utf8 count a b
+puts_fewer count put few = record { gained = put.gained; fewer = (let parts = put.parts in omega (arith, parts, few)); written = put.written }

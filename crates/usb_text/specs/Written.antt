@@ -31,9 +31,9 @@ written utf8 text = record { utf8 = utf8; ended = count_by is_line_feed text }
 abbrev pub no_lines : Bool → Written
 no_lines utf8 = record { utf8 = utf8; ended = 0 }
 
--- with one line more
-abbrev pub one_more : Written → Written
-one_more lines = record { utf8 = lines.utf8; ended = lines.ended + 1 }
+-- with so many lines more
+abbrev pub more_lines : ℕ → Written → Written
+more_lines count lines = record { utf8 = lines.utf8; ended = lines.ended + count }
 
 -- whether nothing is behind the last line feed of a text
 abbrev pub is_whole : List ℕ → Bool

@@ -3,6 +3,8 @@
 //! - [`Text`] grows at its end and is written into columns (`specs/Lines.antt`); each function `put_*` puts exactly the
 //!   text that a definition says: numbers `specs/Numbers.antt`, UTF-16 units of a string `specs/Characters.antt`,
 //!   escaped as a listing has them or with the characters beyond ASCII that are shown.
+//! - [`Lines`] are a text of which is promised that each line is one, and how many there are (`specs/Written.antt`). Those
+//!   who put them see a [`Page`], of which is promised what its lines show, and in which order (`specs/Shown.antt`).
 //! - [`write_all`] writes bytes to a writer that may take a part of them at a time; [`OutFault`] is why it failed
 //!   (`specs/Output.antt`).
 //! - [`parse`] gives the bytes of a hexadecimal text as people copy it, digits alone or with marks and commas, or in

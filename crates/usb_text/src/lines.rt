@@ -19,7 +19,18 @@ use usb_fields::known_bytes;
 /// Lines of so many bytes are passed on to the writer.
 const FULL: usize = 32 * 1024;
 
-/// Lines.
+/// Lines of printable ASCII and, with `utf8`, characters beyond it. A line feed ends a line, and nothing else does. In a
+/// contract they are how many lines have ended; [`Page`] says what they show. Out of memory, those that no writer has
+/// yet are gone.
+///
+/// ```rust
+/// let mut lines = Lines::new(alloc, false);
+/// lines.put("endpoint ")?;
+/// lines.put_byte_code(0x81)?;
+/// lines.end_line()?;
+/// assert_eq!(rt; lines.as_bytes(), b"endpoint 0x81\n");
+/// lines.finish(&mut rt.stdout())?;
+/// ```
 #[derive(Debug, Drop)]
 pub struct Lines {
     text: Text,
@@ -39,7 +50,7 @@ impl Model for Lines {
 }
 
 impl Lines {
-    ghost use Rattle.std.specs.Prelude.{◌≡◌, ◌≤◌, IfErr, IsTrue, OnErr, OnOk};
+    ghost use Rattle.std.specs.Prelude.{◌≡◌, ◌≤◌, ◌⊎◌, IfErr, IsTrue, OnErr, OnOk};
     ghost use Rattle.std.specs.List.{list_all};
     ghost use Rattle.usb_text.specs.Written.{PutsLines, WritesLess, WritesLines, is_of_lines, no_lines, written};
 
@@ -52,6 +63,7 @@ impl Lines {
             utf8,
         }
     }
+
     /// Their bytes, with those of a line that is begun.
     pub fn as_bytes(&self) -> &[u8]
         ensures characters { IsTrue (list_all (is_of_lines self.now.utf8) result.now) }
@@ -74,14 +86,15 @@ impl Lines {
         self.text.is_empty()
     }
 
-    /// Writes all and empties them, where they are many and no line is begun.
+    /// Writes all lines and empties them, where they have 32 KB or more and none is begun.
     ///
     /// # Errors
     ///
-    /// `Write` where the writer failed.
+    /// `Write` where the writer failed. It has not all of the lines then.
     #[tactic(auto, using(crate::proofs::WrittenLines::all_passed, crate::proofs::WrittenLines::not_passed, crate::proofs::WrittenLines::nothing_put))]
     pub fn pass_on<W: Write>(&mut self, w: &mut W) -> Result<(), OutFault>
         ensures ok { OnOk result (PutsLines (W.contents w.old) (W.contents w.new) self.old self.new 0) }
+        ensures whole { OnOk result ((self.new ≡ self.old) ⊎ (self.new ≡ no_lines self.old.utf8)) }
         ensures err { OnErr result (WritesLess self.old.utf8 self.old.ended (W.contents w.old) (W.contents w.new)) }
         ensures why { IfErr result (λ fault. fault ≡ OutFault.Write) }
     {
@@ -96,7 +109,7 @@ impl Lines {
     ///
     /// # Errors
     ///
-    /// `Write` where the writer failed.
+    /// `Write` where the writer failed. It has not all of the lines then.
     #[tactic(auto, using(crate::proofs::WrittenLines::ended_written, crate::proofs::WrittenLines::ended_less))]
     pub fn finish<W: Write>(self, w: &mut W) -> Result<(), OutFault>
         ensures ok { OnOk result (WritesLines self.utf8 self.ended (W.contents w.old) (W.contents w.new)) }
@@ -170,6 +183,7 @@ impl Page for Lines {
         put!(self.text, self.text.put_decimal(number))
     }
 
+    #[inline]
     fn put_count(&mut self, number: u64, noun: &str) -> Result<(), AllocError> {
         put!(self.text, put_count(&mut self.text, number, noun))
     }
@@ -179,37 +193,45 @@ impl Page for Lines {
         put!(self.text, self.text.put_pair(byte))
     }
 
+    #[inline]
     fn put_byte_code(&mut self, code: u8) -> Result<(), AllocError> {
         put!(self.text, put_byte_code(&mut self.text, code))
     }
 
+    #[inline]
     fn begin_byte_meaning(&mut self, code: u8) -> Result<(), AllocError> {
         put!(self.text, begin_byte_meaning(&mut self.text, code))
     }
 
+    #[inline]
     fn put_word_code(&mut self, code: u16) -> Result<(), AllocError> {
         put!(self.text, put_word_code(&mut self.text, code))
     }
 
+    #[inline]
     fn begin_word_meaning(&mut self, code: u16) -> Result<(), AllocError> {
         put!(self.text, begin_word_meaning(&mut self.text, code))
     }
 
+    #[inline]
     fn put_release(&mut self, number: u16) -> Result<(), AllocError> {
         put!(self.text, put_release(&mut self.text, number))
     }
 
+    #[inline]
     fn put_digits(&mut self, bytes: &[u8]) -> Result<(), AllocError> {
         known_bytes(bytes);
         put!(self.text, self.text.put_digits(bytes))
     }
 
+    #[inline]
     #[tactic(auto, using(crate::proofs::UnitWords::units_fit, crate::proofs::UnitWords::units_count))]
     fn put_units(&mut self, units: &[u16]) -> Result<(), AllocError> {
         known_units(units);
         put!(self.text, put_units(&mut self.text, self.utf8, units))
     }
 
+    #[inline]
     #[tactic(auto, using(crate::proofs::UnitWords::units_fit, crate::proofs::UnitWords::units_count, crate::proofs::UnitWords::units_of_bytes))]
     fn put_units_in(&mut self, bytes: &[u8]) -> Result<(), AllocError> {
         known_bytes(bytes);

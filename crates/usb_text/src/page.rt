@@ -6,9 +6,9 @@ use std::alloc::AllocError;
 ///
 /// ```rust
 /// fn put_length<P: Page>(page: &mut P, depth: usize, length: u8) -> Result<(), AllocError>
-///     ensures { OnOk result (P.seen page.new ≡ P.showing End (P.showing (Number length) (P.showing (Indent (2 * depth)) (P.seen page.old)))) }
+///     ensures { OnOk result (P.seen page.new ≡ showing_all P.showing (Indent depth ∷ Number length ∷ End ∷ []) (P.seen page.old)) }
 /// {
-///     page.put_indent(2 * depth)?;
+///     page.put_indent(depth)?;
 ///     page.put("of ")?;
 ///     page.put_count(u64::from(length), "byte")?;
 ///     page.end_line()
