@@ -67,6 +67,7 @@ other_sets_sound f right =
 
 -- the rule that an enumeration rests on: the first set's value
 first_some : (cs : List Configuration) → FirstIsRight cs → (first_value cs == 0) ≡ false
+first_some [] right = elim right [ ]
 first_some (c ∷ cs) right = or_left _ _ right
 
 pub value_some : (f : DescriptorFile) → findings f ≡ [] → (first_value f.sets == 0) ≡ false
