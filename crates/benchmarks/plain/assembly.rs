@@ -42,68 +42,65 @@ fn number(text: &[u8]) -> Option<(u16, &[u8])> {
     Some((u16::from_be_bytes([pair(*a, *b)?, pair(*c, *d)?]), rest))
 }
 
-/// A descriptor whose bytes are read of a line's fields.
-struct Bytes {
-    bytes: [u8; 255],
-    len: usize,
+/// Reads fields of these widths, in bytes, to a place of the buffer; answers the next place, and the rest of the text.
+#[inline(always)]
+fn fields<'a>(buffer: &mut [u8; 255], start: usize, widths: &[u8], text: &'a [u8]) -> Option<(usize, &'a [u8])> {
+    let (mut at, mut rest) = (start, text);
+    for width in widths {
+        if *width == 1 {
+            let Some(([b' ', high, low], after)) = rest.split_first_chunk() else {
+                return None;
+            };
+            buffer[at] = pair(*high, *low)?;
+            rest = after;
+        } else {
+            let (value, after) = number(rest.strip_prefix(b" ")?)?;
+            buffer[at..at + 2].copy_from_slice(&value.to_le_bytes());
+            rest = after;
+        }
+        at += usize::from(*width);
+    }
+    Some((at, rest))
 }
 
-impl Bytes {
-    fn new(head: &[u8]) -> Bytes {
-        let mut bytes = [0; 255];
-        bytes[..head.len()].copy_from_slice(head);
-        Bytes { bytes, len: head.len() }
+/// Reads a tail to a place of the buffer, and answers where it ends.
+fn tail(buffer: &mut [u8; 255], at: usize, text: &[u8]) -> Option<usize> {
+    let digits = text.strip_prefix(b" ")?;
+    if digits == b"-" {
+        return Some(at);
     }
+    let end = at + digits.len() / 2;
+    let room = buffer.get_mut(at..end)?;
+    if digits.is_empty() || digits.len() % 2 == 1 {
+        return None;
+    }
+    let mut bits = 0;
+    for (place, digits) in room.iter_mut().zip(digits.chunks_exact(2)) {
+        let value = VALUES[usize::from(digits[0])] * 16 + VALUES[usize::from(digits[1])];
+        bits |= value;
+        *place = value as u8;
+    }
+    (bits < 256).then_some(end)
+}
 
-    /// Reads fields of these widths, in bytes.
-    fn fields<'a>(&mut self, widths: &[u8], text: &'a [u8]) -> Option<&'a [u8]> {
-        let mut rest = text;
-        for width in widths {
-            let digits = rest.strip_prefix(b" ")?;
-            if *width == 1 {
-                let ([high, low], after) = digits.split_first_chunk()?;
-                self.bytes[self.len] = pair(*high, *low)?;
-                rest = after;
-            } else {
-                let (value, after) = number(digits)?;
-                self.bytes[self.len..self.len + 2].copy_from_slice(&value.to_le_bytes());
-                rest = after;
-            }
-            self.len += usize::from(*width);
-        }
-        Some(rest)
-    }
-
-    fn tail(&mut self, text: &[u8]) -> Option<()> {
-        let digits = text.strip_prefix(b" ")?;
-        if digits == b"-" {
-            return Some(());
-        }
-        let room = self.bytes.get_mut(self.len..self.len + digits.len() / 2)?;
-        if digits.is_empty() || digits.len() % 2 == 1 {
-            return None;
-        }
-        let mut bits = 0;
-        for (place, digits) in room.iter_mut().zip(digits.chunks_exact(2)) {
-            let value = VALUES[usize::from(digits[0])] * 16 + VALUES[usize::from(digits[1])];
-            bits |= value;
-            *place = value as u8;
-        }
-        self.len += digits.len() / 2;
-        (bits < 256).then_some(())
-    }
-
-    fn read(head: &[u8], widths: &[u8], has_tail: bool, text: &[u8]) -> Result<Bytes, ListWhy> {
-        let mut bytes = Bytes::new(head);
-        let rest = bytes.fields(widths, text).ok_or(ListWhy::Field)?;
-        if has_tail {
-            bytes.tail(rest).ok_or(ListWhy::Field)?;
-        } else if !rest.is_empty() {
-            return Err(ListWhy::Field);
-        }
-        bytes.bytes[0] = bytes.len as u8;
-        Ok(bytes)
-    }
+/// Reads the bytes of a descriptor that begins with these, whose fields have these widths.
+#[inline(always)]
+fn descriptor<'b, const N: usize>(
+    buffer: &'b mut [u8; 255],
+    head: [u8; N],
+    widths: &[u8],
+    has_tail: bool,
+    text: &[u8],
+) -> Result<&'b [u8], ListWhy> {
+    buffer[..N].copy_from_slice(&head);
+    let (at, rest) = fields(buffer, N, widths, text).ok_or(ListWhy::Field)?;
+    let end = match rest {
+        [] if !has_tail => at,
+        _ if has_tail => tail(buffer, at, rest).ok_or(ListWhy::Field)?,
+        _ => return Err(ListWhy::Field),
+    };
+    buffer[0] = end as u8;
+    Ok(&buffer[..end])
 }
 
 fn languages(text: &[u8]) -> Option<Vec<u16>> {
@@ -142,9 +139,10 @@ fn string(text: &[u8]) -> Option<Vec<u16>> {
     Some(units)
 }
 
-/// A file so far: the bytes of the set in work, and how many strings there will be.
+/// A file so far: the bytes of the set in work, how many strings there will be, and room for a descriptor.
 struct Draft {
     file: DescriptorFile,
+    buffer: [u8; 255],
     work: usize,
     strings: usize,
 }
@@ -152,14 +150,7 @@ struct Draft {
 impl Draft {
     fn new(device: Device) -> Draft {
         let file = DescriptorFile { device, sets: Vec::new(), other: None, strings: None };
-        Draft { file, work: 0, strings: 0 }
-    }
-
-    fn sets(&mut self) -> &mut Vec<Configuration> {
-        match &mut self.file.other {
-            None => &mut self.file.sets,
-            Some(other) => &mut other.sets,
-        }
+        Draft { file, buffer: [0; 255], work: 0, strings: 0 }
     }
 
     fn declared(&self) -> usize {
@@ -175,38 +166,43 @@ impl Draft {
     }
 
     /// Adds a set, if the word for it is allowed: after the qualifier or not.
-    fn begin_set(&mut self, is_other: bool, head: u8, text: &[u8]) -> Result<(), ListWhy> {
+    fn begin_set(&mut self, is_other: bool, kind: u8, text: &[u8]) -> Result<(), ListWhy> {
         if self.file.other.is_some() != is_other || self.has_all_sets() || self.file.strings.is_some() {
             return Err(ListWhy::Place);
         }
-        let bytes = Bytes::read(&[0, head, 0, 0], &[1; 5], true, text)?;
-        self.work = bytes.len;
-        self.sets().push(Configuration::new(&bytes.bytes[..bytes.len]));
+        let bytes = descriptor(&mut self.buffer, [0, kind, 0, 0], &[1; 5], true, text)?;
+        self.work = bytes.len();
+        let sets = match &mut self.file.other {
+            None => &mut self.file.sets,
+            Some(other) => &mut other.sets,
+        };
+        sets.extend(Configuration::new(bytes));
         Ok(())
     }
 
-    /// Adds a descriptor of this type and widths to the last set.
-    fn add(&mut self, kind: Option<u8>, widths: &[u8], text: &[u8]) -> Result<(), ListWhy> {
-        let has_strings = self.file.strings.is_some();
-        let work = self.work;
-        let Some(last) = self.sets().last_mut() else {
-            return Err(ListWhy::Place);
+    /// Adds a descriptor that begins with these bytes and has fields of these widths to the last set.
+    #[inline(always)]
+    fn add<const N: usize>(&mut self, head: [u8; N], widths: &[u8], text: &[u8]) -> Result<(), ListWhy> {
+        let sets = match &mut self.file.other {
+            None => &mut self.file.sets,
+            Some(other) => &mut other.sets,
         };
-        if has_strings || kind == Some(set::ENDPOINT) && last.settings.is_empty() {
+        let set = match sets.last_mut() {
+            Some(set) if self.file.strings.is_none() => set,
+            _ => return Err(ListWhy::Place),
+        };
+        if head.get(1) == Some(&set::ENDPOINT) && set.settings.is_empty() {
             return Err(ListWhy::Place);
         }
-        let bytes = match kind {
-            Some(kind) => Bytes::read(&[0, kind], widths, true, text)?,
-            None => Bytes::read(&[0], widths, true, text)?,
-        };
-        if kind.is_none() && is_typed(bytes.bytes[1]) {
+        let bytes = descriptor(&mut self.buffer, head, widths, true, text)?;
+        if N == 1 && is_typed(bytes[1]) {
             return Err(ListWhy::Field);
         }
-        if work + bytes.len > 65_535 {
+        if self.work + bytes.len() > 65_535 {
             return Err(ListWhy::TooLong);
         }
-        last.add(&bytes.bytes[..bytes.len]);
-        self.work += bytes.len;
+        self.work += bytes.len();
+        set.add(bytes);
         Ok(())
     }
 
@@ -214,14 +210,15 @@ impl Draft {
         if self.file.other.is_some() || !self.has_all_sets() || self.file.strings.is_some() {
             return Err(ListWhy::Place);
         }
-        let bytes = Bytes::read(&[0, set::QUALIFIER], &[2, 1, 1, 1, 1, 1, 1], false, text)?;
-        let qualifier = Qualifier::read(&bytes.bytes[..bytes.len]).ok_or(ListWhy::Field)?;
+        let widths = [2, 1, 1, 1, 1, 1, 1];
+        let bytes = descriptor(&mut self.buffer, [0, set::QUALIFIER], &widths, false, text)?;
+        let qualifier = Qualifier::read(bytes).ok_or(ListWhy::Field)?;
         self.file.other = Some(Other { qualifier, sets: Vec::new() });
         Ok(())
     }
 
     fn add_languages(&mut self, text: &[u8]) -> Result<(), ListWhy> {
-        let named = named(&self.file).len();
+        let named = named(&self.file).count();
         if self.file.strings.is_some() || !self.has_all_sets() || named == 0 {
             return Err(ListWhy::Place);
         }
@@ -245,10 +242,10 @@ impl Draft {
         match word {
             b"configuration" => self.begin_set(false, set::CONFIGURATION, text),
             b"other_speed" => self.begin_set(true, set::OTHER_SPEED, text),
-            b"interface" => self.add(Some(set::INTERFACE), &[1; 7], text),
-            b"endpoint" => self.add(Some(set::ENDPOINT), &[1, 1, 2, 1], text),
-            b"association" => self.add(Some(set::ASSOCIATION), &[1; 6], text),
-            b"raw" => self.add(None, &[1], text),
+            b"interface" => self.add([0, set::INTERFACE], &[1; 7], text),
+            b"endpoint" => self.add([0, set::ENDPOINT], &[1, 1, 2, 1], text),
+            b"association" => self.add([0, set::ASSOCIATION], &[1; 6], text),
+            b"raw" => self.add([0], &[1], text),
             b"string" => self.add_string(text),
             b"qualifier" => self.add_qualifier(text),
             b"languages" => self.add_languages(text),
@@ -259,7 +256,7 @@ impl Draft {
 
     fn finish(self) -> Option<DescriptorFile> {
         let has_strings = match &self.file.strings {
-            None => named(&self.file).is_empty(),
+            None => named(&self.file).count() == 0,
             Some(strings) => strings.texts.len() == self.strings,
         };
         (self.has_all_sets() && has_strings).then_some(self.file)
@@ -282,8 +279,9 @@ fn begin(word: &[u8], text: &[u8]) -> Result<Draft, ListWhy> {
         return Err(if WORDS.contains(&word) { ListWhy::Place } else { ListWhy::Word });
     }
     let widths = [2, 1, 1, 1, 1, 2, 2, 2, 1, 1, 1, 1];
-    let bytes = Bytes::read(&[0, 1], &widths, false, text)?;
-    Device::read(&bytes.bytes[..bytes.len]).map(Draft::new).ok_or(ListWhy::Field)
+    let mut buffer = [0; 255];
+    let bytes = descriptor(&mut buffer, [0, 1], &widths, false, text)?;
+    Device::read(bytes).map(Draft::new).ok_or(ListWhy::Field)
 }
 
 /// The end of a line's first word.

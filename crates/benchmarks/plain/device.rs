@@ -2,7 +2,7 @@
 
 use crate::file::{DescriptorFile, has_declared_sets, has_named_strings, named, put_units};
 use crate::rules::{Finding, check};
-use crate::set::{CONFIGURATION, OTHER_SPEED, QUALIFIER, STRING, Setting, encode_onto};
+use crate::set::{CONFIGURATION, Configuration, OTHER_SPEED, QUALIFIER, STRING, Setting, encode_onto};
 use std::ops::Range;
 
 #[derive(Clone, Copy, PartialEq, Eq)]
@@ -53,7 +53,7 @@ impl Description {
         let mut image = Image::default();
         let others = add_sets(&mut image, &file).ok_or(DescriptionFault::Unwritable)?;
         let strings = image.places.len();
-        let named = named(&file);
+        let named = named(&file).to_vec();
         if let Some(first) = check(&file).first() {
             return Err(DescriptionFault::Finding(*first));
         }
@@ -89,6 +89,7 @@ impl Description {
         &self.image.bytes
     }
 
+    #[inline(always)]
     pub fn find(&self, kind: u8, index: u8, language: u16) -> Option<usize> {
         let number = usize::from(index);
         match (kind, &self.file.other, &self.file.strings) {
@@ -105,10 +106,6 @@ impl Description {
             }
             _ => None,
         }
-    }
-
-    fn settings(&self, value: u8) -> &[Setting] {
-        self.file.sets.iter().find(|set| set.value == value).map_or(&[], |set| &set.settings)
     }
 }
 
@@ -231,76 +228,129 @@ fn halt_bit(endpoint: u8) -> u32 {
     1 << (endpoint & 15 | endpoint >> 3 & 16)
 }
 
-/// A standard request by the device's table, or none where it is rejected.
-fn decide(d: &Description, state: &State, q: Setup) -> Option<Decision> {
-    let recipient = q.request_type & 0x1f;
-    let has_address = state.address != 0;
-    let is_configured = has_address && state.selected != 0;
-    let index = u8::try_from(q.index);
-    let settings = || d.settings(state.selected);
-    let has_interface = || settings().iter().any(|it| index == Ok(it.number));
-    let is_chosen = |it: &Setting| state.alternates[usize::from(it.number)] == it.alternate;
-    let endpoint = || {
-        let mut chosen = settings().iter().filter(|it| is_chosen(it)).flat_map(|it| &it.endpoints);
-        chosen.find(|it| index == Ok(it.address)).map(|it| it.address)
-    };
-    let is_endpoint_zero = matches!(q.index, 0 | 0x80);
-    let byte = |value| (q.is_in() && q.length == 1).then_some(Decision::Byte(value));
-    let status = |value| (q.is_in() && q.length == 2).then_some(Decision::Status(value));
-    let done = |change| (q.length == 0).then_some(Decision::Done(change));
-    if q.request_type & 0x60 != 0 {
-        return None;
+/// A standard request, its device and its state: a function for each row of the device's table, which answers none where
+/// the request is rejected.
+struct Request<'r> {
+    description: &'r Description,
+    state: &'r State,
+    setup: Setup,
+}
+
+impl<'r> Request<'r> {
+    #[inline(always)]
+    fn decide(&self) -> Option<Decision> {
+        let q = self.setup;
+        match (q.request_type & 0x7f, q.request) {
+            (0, 6) => self.get_descriptor(),
+            (0..=2, 0) if q.value == 0 => self.get_status(),
+            (0 | 2, 1 | 3) => self.change_feature(q.request == 3),
+            (0, 5) => self.set_address(),
+            (0, 8) if self.has_address() && q.value == 0 && q.index == 0 => self.byte(self.state.selected),
+            (0, 9) => self.set_configuration(),
+            (1, 10) if self.has_interface() && q.value == 0 => self.byte(self.state.alternates[usize::from(q.index)]),
+            (1, 11) if self.is_configured() => self.set_interface(),
+            _ => None,
+        }
     }
-    match (q.request, recipient) {
-        (0, 0) if has_address && q.value == 0 && q.index == 0 => {
-            let sets = &d.file.sets;
-            let shown = sets.iter().find(|set| !is_configured || set.value == state.selected);
-            let attributes = shown.map_or(0, |set| set.attributes);
-            status(attributes >> 6 & 1 | u8::from(state.wakeup) << 1)
+
+    #[inline(always)]
+    fn get_descriptor(&self) -> Option<Decision> {
+        let [number, kind] = self.setup.value.to_le_bytes();
+        let place = self.description.find(kind, number, self.setup.index)?;
+        match self.setup.length {
+            0 => Some(Decision::Done(Change::Nothing)),
+            _ => self.setup.is_in().then_some(Decision::Descriptor(place)),
         }
-        (0, 1) if is_configured && q.value == 0 && has_interface() => status(0),
-        (0, 2) if is_endpoint_zero && has_address && q.value == 0 => status(0),
-        (0, 2) if is_configured && !is_endpoint_zero && q.value == 0 => {
-            endpoint().and_then(|it| status(u8::from(state.halts & halt_bit(it) != 0)))
-        }
-        (1 | 3, 0) if has_address && q.value == 1 && q.index == 0 => {
-            let can_wake = d.file.sets.iter().any(|set| set.attributes & 0x20 != 0);
-            if can_wake { done(Change::Wakeup(q.request == 3)) } else { None }
-        }
-        (1 | 3, 2) if is_configured && q.value == 0 && !is_endpoint_zero => {
-            let bit = halt_bit(endpoint()?);
-            let on = q.request == 3;
-            done(Change::Halts(if on { state.halts | bit } else { state.halts & !bit }))
-        }
-        (5, 0) if !is_configured && q.value < 128 && q.index == 0 => {
-            done(Change::Address(q.value as u8))
-        }
-        (6, 0) => {
-            let [number, kind] = q.value.to_le_bytes();
-            let place = d.find(kind, number, q.index)?;
-            match q.length {
-                0 => Some(Decision::Done(Change::Nothing)),
-                _ => q.is_in().then_some(Decision::Descriptor(place)),
+    }
+
+    fn get_status(&self) -> Option<Decision> {
+        let first = match self.setup.request_type & 0x7f {
+            0 if self.has_address() && self.setup.index == 0 => {
+                let is_shown = |set: &&Configuration| !self.is_configured() || set.value == self.state.selected;
+                let attributes = self.description.file.sets.iter().find(is_shown).map_or(0, |set| set.attributes);
+                attributes >> 6 & 1 | u8::from(self.state.wakeup) << 1
             }
+            1 if self.has_interface() => 0,
+            2 if self.has_address() && self.is_endpoint_zero() => 0,
+            2 => u8::from(self.state.halts & halt_bit(self.endpoint()?) != 0),
+            _ => return None,
+        };
+        (self.setup.is_in() && self.setup.length == 2).then_some(Decision::Status(first))
+    }
+
+    fn change_feature(&self, on: bool) -> Option<Decision> {
+        let q = self.setup;
+        if q.request_type & 0x7f == 0 {
+            let can_wake = self.description.file.sets.iter().any(|set| set.attributes & 0x20 != 0);
+            let is_wakeup = self.has_address() && q.value == 1 && q.index == 0 && can_wake;
+            return if is_wakeup { self.done(Change::Wakeup(on)) } else { None };
         }
-        (8, 0) if has_address && q.value == 0 && q.index == 0 => byte(state.selected),
-        (9, 0) if has_address && q.index == 0 => {
-            let value = u8::try_from(q.value).ok()?;
-            let is_there = value == 0 || d.file.sets.iter().any(|set| set.value == value);
-            if is_there { done(Change::Configuration(value)) } else { None }
+        if q.value != 0 {
+            return None;
         }
-        (10, 1) if is_configured && q.value == 0 && has_interface() => {
-            byte(state.alternates[usize::from(q.index)])
+        let (halts, bit) = (self.state.halts, halt_bit(self.endpoint()?));
+        self.done(Change::Halts(if on { halts | bit } else { halts & !bit }))
+    }
+
+    fn set_address(&self) -> Option<Decision> {
+        let q = self.setup;
+        let is_allowed = !self.is_configured() && q.value < 128 && q.index == 0;
+        if is_allowed { self.done(Change::Address(q.value as u8)) } else { None }
+    }
+
+    fn set_configuration(&self) -> Option<Decision> {
+        let value = u8::try_from(self.setup.value).ok()?;
+        let is_there = value == 0 || self.description.file.sets.iter().any(|set| set.value == value);
+        let is_allowed = self.has_address() && self.setup.index == 0 && is_there;
+        if is_allowed { self.done(Change::Configuration(value)) } else { None }
+    }
+
+    fn set_interface(&self) -> Option<Decision> {
+        let (number, alternate) = (u8::try_from(self.setup.index).ok()?, u8::try_from(self.setup.value).ok()?);
+        let of_number = self.settings().iter().filter(|it| it.number == number);
+        of_number.clone().find(|it| it.alternate == alternate)?;
+        let endpoints = of_number.flat_map(|it| &it.endpoints);
+        let halts = endpoints.fold(self.state.halts, |halts, it| halts & !halt_bit(it.address));
+        self.done(Change::Alternate(number, alternate, halts))
+    }
+
+    fn has_address(&self) -> bool {
+        self.state.address != 0
+    }
+
+    fn is_configured(&self) -> bool {
+        self.has_address() && self.state.selected != 0
+    }
+
+    fn settings(&self) -> &'r [Setting] {
+        let mut sets = self.description.file.sets.iter();
+        sets.find(|set| set.value == self.state.selected).map_or(&[], |set| &set.settings)
+    }
+
+    fn has_interface(&self) -> bool {
+        self.is_configured() && self.settings().iter().any(|it| u16::from(it.number) == self.setup.index)
+    }
+
+    fn is_endpoint_zero(&self) -> bool {
+        matches!(self.setup.index, 0 | 0x80)
+    }
+
+    /// The address of an endpoint other than zero in a selected setting, if the request names one.
+    fn endpoint(&self) -> Option<u8> {
+        if !self.is_configured() || self.is_endpoint_zero() {
+            return None;
         }
-        (11, 1) if is_configured => {
-            let (number, alternate) = (index.ok()?, u8::try_from(q.value).ok()?);
-            let mut of_number = settings().iter().filter(|it| it.number == number);
-            of_number.clone().find(|it| it.alternate == alternate)?;
-            let endpoints = of_number.by_ref().flat_map(|it| &it.endpoints);
-            let halts = endpoints.fold(state.halts, |halts, it| halts & !halt_bit(it.address));
-            done(Change::Alternate(number, alternate, halts))
-        }
-        _ => None,
+        let is_chosen = |it: &&Setting| self.state.alternates[usize::from(it.number)] == it.alternate;
+        let mut endpoints = self.settings().iter().filter(is_chosen).flat_map(|it| &it.endpoints);
+        endpoints.find(|it| u16::from(it.address) == self.setup.index).map(|it| it.address)
+    }
+
+    fn done(&self, change: Change) -> Option<Decision> {
+        (self.setup.length == 0).then_some(Decision::Done(change))
+    }
+
+    fn byte(&self, value: u8) -> Option<Decision> {
+        (self.setup.is_in() && self.setup.length == 1).then_some(Decision::Byte(value))
     }
 }
 
@@ -326,8 +376,8 @@ pub struct Device<'d> {
     description: &'d Description,
     state: State,
     stage: Stage,
-    /// What is sent: the place of a descriptor, or none for the kept bytes.
-    source: Option<usize>,
+    /// The descriptor that is sent, or none for the kept bytes.
+    source: Option<&'d [u8]>,
     kept: [u8; ROOM],
     count: usize,
     limit: usize,
@@ -362,7 +412,7 @@ impl<'d> Device<'d> {
         *self = Device::new(self.description);
     }
 
-    #[inline]
+    #[inline(always)]
     pub fn serve(&mut self, t: &Transaction, is_ready: bool) -> Answer<'_> {
         self.is_pending = false;
         if t.address != self.state.address {
@@ -379,18 +429,24 @@ impl<'d> Device<'d> {
         }
     }
 
+    #[inline(never)]
     fn begin(&mut self, q: Setup) {
-        match decide(self.description, &self.state, q) {
+        match self.decide(q) {
             Some(Decision::Descriptor(place)) => {
-                let count = self.description.bytes(place).len().min(usize::from(q.length));
-                self.source = Some(place);
-                self.begin_sending(count, usize::from(q.length));
+                let bytes = self.description.bytes(place);
+                self.source = Some(bytes);
+                self.begin_sending(bytes.len().min(usize::from(q.length)), usize::from(q.length));
             }
             Some(Decision::Byte(byte)) => self.keep(&[byte], 1),
             Some(Decision::Status(first)) => self.keep(&[first, 0], 2),
             Some(Decision::Done(_)) => self.wait(Stage::StatusIn, q),
             None => self.wait(Stage::Halted, q),
         }
+    }
+
+    #[inline(always)]
+    fn decide(&self, setup: Setup) -> Option<Decision> {
+        Request { description: self.description, state: &self.state, setup }.decide()
     }
 
     fn wait(&mut self, stage: Stage, q: Setup) {
@@ -408,14 +464,12 @@ impl<'d> Device<'d> {
         self.begin_sending(bytes.len(), limit);
     }
 
+    #[inline(always)]
     fn send(&mut self) -> Answer<'_> {
         match self.stage {
             Stage::Sending => {
                 self.is_pending = true;
-                let bytes = match self.source {
-                    Some(place) => self.description.bytes(place),
-                    None => &self.kept,
-                };
+                let bytes = self.source.unwrap_or(&self.kept);
                 let end = self.count.min(self.offset + self.description.packet());
                 Answer::Data(self.is_data1, &bytes[self.offset..end])
             }
@@ -430,6 +484,7 @@ impl<'d> Device<'d> {
         }
     }
 
+    #[inline(always)]
     fn receive(&mut self, is_data1: bool, bytes: &[u8]) -> Answer<'_> {
         match self.stage {
             Stage::Sending | Stage::StatusOut | Stage::Over if !is_data1 => Answer::Ack,
@@ -450,8 +505,9 @@ impl<'d> Device<'d> {
         self.request.request_type & 0x7f == 0 && self.request.request == 5
     }
 
+    #[inline(never)]
     fn carry_out(&mut self) {
-        let Some(Decision::Done(change)) = decide(self.description, &self.state, self.request) else {
+        let Some(Decision::Done(change)) = self.decide(self.request) else {
             return;
         };
         let state = &mut self.state;
@@ -471,7 +527,7 @@ impl<'d> Device<'d> {
     }
 
     /// The host has acknowledged what was sent last.
-    #[inline]
+    #[inline(always)]
     pub fn acked(&mut self) {
         if !std::mem::take(&mut self.is_pending) {
             return;

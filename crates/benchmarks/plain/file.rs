@@ -1,5 +1,6 @@
 //! Descriptor files: a device descriptor, its sets, those of another speed, and strings.
 
+use crate::numbers::Numbers;
 use crate::set::{CONFIGURATION, Configuration, Extra, OTHER_SPEED, QUALIFIER, STRING, SetFault, SetWhy};
 use crate::set::{encode_onto, read_set};
 
@@ -132,18 +133,18 @@ pub fn put_units(out: &mut Vec<u8>, units: &[u16]) -> Option<()> {
     Some(())
 }
 
-fn mark_set(marks: &mut [bool; 256], set: &Configuration) {
-    marks[usize::from(set.text)] = true;
-    let associations = |marks: &mut [bool; 256], extras: &[Extra]| {
+fn mark_set(marks: &mut Numbers, set: &Configuration) {
+    fn associations(marks: &mut Numbers, extras: &[Extra]) {
         for extra in extras {
             if let Extra::Association(it) = extra {
-                marks[usize::from(it.fields[5])] = true;
+                marks.add(it.fields[5]);
             }
         }
-    };
+    }
+    marks.add(set.text);
     associations(marks, &set.extras);
     for setting in &set.settings {
-        marks[usize::from(setting.text)] = true;
+        marks.add(setting.text);
         associations(marks, &setting.extras);
         for endpoint in &setting.endpoints {
             associations(marks, &endpoint.extras);
@@ -151,17 +152,20 @@ fn mark_set(marks: &mut [bool; 256], set: &Configuration) {
     }
 }
 
-/// The indices of strings that a file names, ascending.
-pub fn named(file: &DescriptorFile) -> Vec<u8> {
-    let mut marks = [false; 256];
+/// The indices of strings that a file names.
+pub fn named(file: &DescriptorFile) -> Numbers {
+    let mut marks = Numbers::default();
     for text in file.device.texts {
-        marks[usize::from(text)] = true;
+        marks.add(text);
     }
-    let others = file.other.iter().flat_map(|other| &other.sets);
-    for set in file.sets.iter().chain(others) {
+    for set in &file.sets {
         mark_set(&mut marks, set);
     }
-    (1..=255).filter(|index| marks[usize::from(*index)]).collect()
+    for set in file.other.iter().flat_map(|other| &other.sets) {
+        mark_set(&mut marks, set);
+    }
+    marks.remove(0);
+    marks
 }
 
 /// Takes a file apart from its start on.
@@ -253,7 +257,7 @@ pub fn read_file(bytes: &[u8]) -> Result<DescriptorFile, FileFault> {
     let sets = reader.sets(CONFIGURATION, device.configurations)?;
     let other = reader.other()?;
     let mut file = DescriptorFile { device, sets, other, strings: None };
-    file.strings = reader.strings(named(&file).len())?;
+    file.strings = reader.strings(named(&file).count())?;
     if reader.at < bytes.len() {
         return fault(reader.at, FileWhy::Trailing);
     }
@@ -284,7 +288,7 @@ pub fn has_named_strings(strings: &Option<Strings>, named: usize) -> bool {
 
 /// The bytes of a file, or none where it has none.
 pub fn write_file(file: &DescriptorFile) -> Option<Vec<u8>> {
-    if !has_declared_sets(file) || !has_named_strings(&file.strings, named(file).len()) {
+    if !has_declared_sets(file) || !has_named_strings(&file.strings, named(file).count()) {
         return None;
     }
     let mut out = file.device.bytes().to_vec();

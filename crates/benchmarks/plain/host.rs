@@ -59,7 +59,7 @@ impl Transfer {
         }
     }
 
-    #[inline]
+    #[inline(always)]
     pub fn next(&self) -> Option<Transaction<'static>> {
         let token = match self.stage {
             Stage::Setup => Token::Setup(self.request.bytes()),
@@ -70,39 +70,57 @@ impl Transfer {
         Some(Transaction { address: self.address, token })
     }
 
-    #[inline]
+    #[inline(always)]
     pub fn take<'a>(&mut self, answer: Answer<'a>) -> Heard<'a> {
-        match (self.stage, answer) {
-            (Stage::Completed, _) => Heard::Complete,
-            (Stage::Failed(why), _) => Heard::Failed(why),
-            (Stage::Setup, Answer::Ack) => {
-                let is_in = self.request.is_in();
-                self.progress(match self.request.length {
-                    0 => Stage::StatusIn,
-                    _ if is_in => Stage::DataIn,
-                    _ => Stage::DataOut,
-                });
-                Heard::Again
-            }
-            (_, Answer::Silence) => self.strike(),
-            (Stage::Setup, _) => self.fail(Why::Unexpected),
-            (_, Answer::Nak) if self.nak_count < self.naks => {
-                self.nak_count += 1;
-                Heard::Again
-            }
-            (_, Answer::Nak) => self.fail(Why::Busy),
-            (_, Answer::Stall) => self.fail(Why::Stalled),
-            (Stage::DataIn, Answer::Data(is_data1, bytes)) => self.take_data(is_data1, bytes),
-            (Stage::StatusIn, Answer::Data(_, bytes)) if !bytes.is_empty() => self.fail(Why::TooLong),
-            (Stage::StatusIn, Answer::Data(false, _)) => self.strike(),
-            (Stage::StatusIn, Answer::Data(true, _)) | (Stage::StatusOut, Answer::Ack) => {
-                self.progress(Stage::Completed);
-                Heard::Complete
-            }
-            _ => self.fail(Why::Unexpected),
+        match self.stage {
+            Stage::Completed => Heard::Complete,
+            Stage::Failed(why) => Heard::Failed(why),
+            Stage::Setup => match answer {
+                Answer::Ack if self.request.length == 0 => self.go_on(Stage::StatusIn),
+                Answer::Ack if self.request.is_in() => self.go_on(Stage::DataIn),
+                Answer::Ack => self.go_on(Stage::DataOut),
+                Answer::Silence => self.strike(),
+                _ => self.fail(Why::Unexpected),
+            },
+            Stage::DataIn => match answer {
+                Answer::Data(is_data1, bytes) => self.take_data(is_data1, bytes),
+                Answer::Ack => self.fail(Why::Unexpected),
+                _ => self.take_other(answer),
+            },
+            Stage::DataOut => match answer {
+                Answer::Data(..) | Answer::Ack => self.fail(Why::Unexpected),
+                _ => self.take_other(answer),
+            },
+            Stage::StatusOut => match answer {
+                Answer::Ack => self.complete(),
+                Answer::Data(..) => self.fail(Why::Unexpected),
+                _ => self.take_other(answer),
+            },
+            Stage::StatusIn => match answer {
+                Answer::Data(_, [_, ..]) => self.fail(Why::TooLong),
+                Answer::Data(true, []) => self.complete(),
+                Answer::Data(false, []) => self.strike(),
+                Answer::Ack => self.fail(Why::Unexpected),
+                _ => self.take_other(answer),
+            },
         }
     }
 
+    /// NAK, STALL or silence after the SETUP.
+    #[inline(always)]
+    fn take_other(&mut self, answer: Answer<'_>) -> Heard<'static> {
+        match answer {
+            Answer::Nak if self.nak_count < self.naks => {
+                self.nak_count += 1;
+                Heard::Again
+            }
+            Answer::Nak => self.fail(Why::Busy),
+            Answer::Stall => self.fail(Why::Stalled),
+            _ => self.strike(),
+        }
+    }
+
+    #[inline(always)]
     fn take_data<'a>(&mut self, is_data1: bool, bytes: &'a [u8]) -> Heard<'a> {
         let packet = usize::from(self.packet);
         if bytes.len() > packet {
@@ -117,12 +135,18 @@ impl Transfer {
         self.kept += bytes.len() as u16;
         self.is_data1 = !self.is_data1;
         let is_last = bytes.len() < packet || self.kept == self.request.length;
-        self.progress(if is_last { Stage::StatusOut } else { Stage::DataIn });
+        self.go_on(if is_last { Stage::StatusOut } else { Stage::DataIn });
         Heard::Bytes(bytes)
     }
 
-    fn progress(&mut self, stage: Stage) {
+    fn go_on(&mut self, stage: Stage) -> Heard<'static> {
         (self.stage, self.strikes, self.nak_count) = (stage, 0, 0);
+        Heard::Again
+    }
+
+    fn complete(&mut self) -> Heard<'static> {
+        self.go_on(Stage::Completed);
+        Heard::Complete
     }
 
     fn strike(&mut self) -> Heard<'static> {
@@ -209,7 +233,7 @@ impl Host {
         }
     }
 
-    #[inline]
+    #[inline(always)]
     pub fn next(&self) -> Action {
         if self.reset_due {
             return Action::Reset;
@@ -240,7 +264,7 @@ impl Host {
         }
     }
 
-    #[inline]
+    #[inline(always)]
     pub fn take(&mut self, answer: Answer<'_>) {
         if self.reset_due || self.outcome.is_some() {
             return;
@@ -248,18 +272,23 @@ impl Host {
         match self.transfer.take(answer) {
             Heard::Again => {}
             Heard::Bytes(bytes) => self.keep(bytes),
-            Heard::Complete => {
-                let next = self.read();
-                self.go_on(next);
-            }
-            Heard::Failed(Why::Stalled) if self.step == Step::Qualifier => {
-                let next = self.after_speeds();
-                self.go_on(Ok(next));
-            }
-            Heard::Failed(why) => self.go_on(Err(why)),
+            Heard::Complete => self.end(None),
+            Heard::Failed(why) => self.end(Some(why)),
         }
     }
 
+    /// Goes on after a transfer that has ended, perhaps by a failure.
+    #[inline(never)]
+    fn end(&mut self, failure: Option<Why>) {
+        let next = match failure {
+            None => self.read(),
+            Some(Why::Stalled) if self.step == Step::Qualifier => Ok(self.after_speeds()),
+            Some(why) => Err(why),
+        };
+        self.go_on(next);
+    }
+
+    #[inline(always)]
     fn keep(&mut self, bytes: &[u8]) {
         if let Step::Set { .. } = self.step {
             if let Ok(Progress::Done { used }) = self.decoder.feed(bytes) {
@@ -345,7 +374,7 @@ impl Host {
     }
 
     fn after_speeds(&mut self) -> Option<Step> {
-        self.named = self.file.as_ref().map_or(Vec::new(), named);
+        self.named = self.file.as_ref().map_or(Vec::new(), |file| named(file).to_vec());
         Some(if self.named.is_empty() { Step::Configure } else { Step::Languages })
     }
 

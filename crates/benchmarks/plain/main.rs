@@ -12,6 +12,7 @@ mod file;
 mod hexadecimal;
 mod host;
 mod listing;
+mod numbers;
 mod rules;
 mod set;
 mod works;
@@ -105,8 +106,8 @@ fn describe(input: &[u8]) -> Written {
 }
 
 fn hexadecimal(input: &[u8]) -> Written {
-    let bytes = hexadecimal::read(input)
-        .map_err(|it| format!("hexadecimal fault line {} column {}", it.line, it.column))?;
+    let bytes =
+        hexadecimal::read(input).map_err(|it| format!("hexadecimal fault line {} column {}", it.line, it.column))?;
     Ok((bytes, 0))
 }
 

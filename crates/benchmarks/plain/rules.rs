@@ -1,6 +1,7 @@
 //! The rules of chapter 9: all findings of a file, in order.
 
 use crate::file::DescriptorFile;
+use crate::numbers::Numbers;
 use crate::set::{Configuration, Extra};
 
 #[derive(Clone, Copy, Debug, PartialEq, Eq, PartialOrd, Ord)]
@@ -21,45 +22,9 @@ pub struct Finding {
     pub endpoint: u16,
 }
 
-/// Numbers up to 255.
-#[derive(Clone, Copy, Default)]
-struct Numbers([u64; 4]);
-
-impl Numbers {
-    /// Adds a number, and answers whether it was new.
-    fn add(&mut self, number: u8) -> bool {
-        let (word, bit) = (usize::from(number / 64), 1 << (number % 64));
-        let is_new = self.0[word] & bit == 0;
-        self.0[word] |= bit;
-        is_new
-    }
-
-    fn has(&self, number: u8) -> bool {
-        self.0[usize::from(number / 64)] >> (number % 64) & 1 == 1
-    }
-
-    fn count(&self) -> u32 {
-        self.0.iter().map(|word| word.count_ones()).sum()
-    }
-
-    /// Whether all numbers from the first to one before the end are there.
-    fn has_all(&self, first: usize, end: usize) -> bool {
-        end <= 256
-            && (first / 64..end.div_ceil(64)).all(|word| {
-                let (from, to) = (first.max(64 * word) % 64, end.min(64 * word + 64) - 64 * word);
-                let mask = u64::MAX << from & u64::MAX >> (64 - to);
-                self.0[word] & mask == mask
-            })
-    }
-}
-
-/// Which interface claims an endpoint address.
-#[derive(Clone, Copy, PartialEq, Eq)]
-enum Claim {
-    None,
-    One(u8),
-    Several,
-}
+/// An endpoint address that no interface claims, or several; else it has the number of the one that does.
+const UNCLAIMED: u16 = 0x100;
+const SEVERAL: u16 = 0x101;
 
 fn is_wrong_packet(packet: u8) -> bool {
     !matches!(packet, 8 | 16 | 32 | 64)
@@ -95,8 +60,8 @@ impl Check {
             }
         }
         let count = numbers.count();
-        self.tell_if(u32::from(set.declared_interfaces) != count, 1, 0, 0);
-        self.tell_if(!numbers.has_all(0, count as usize), 2, 0, 0);
+        self.tell_if(usize::from(set.declared_interfaces) != count, 1, 0, 0);
+        self.tell_if(!numbers.has_all(0, count), 2, 0, 0);
         let mut seen = Numbers::default();
         for (place, setting) in set.settings.iter().enumerate() {
             let is_first = seen.add(setting.number);
@@ -107,8 +72,8 @@ impl Check {
     }
 
     /// V3: a table of the alternate settings of each interface, where there are several settings.
-    fn settings(&mut self, set: &Configuration, interfaces: u32) {
-        if set.settings.len() == interfaces as usize {
+    fn settings(&mut self, set: &Configuration, interfaces: usize) {
+        if set.settings.len() == interfaces {
             return;
         }
         let mut tables = [u8::MAX; 256];
@@ -126,7 +91,7 @@ impl Check {
 
     /// V5 to V8 and V12.
     fn endpoints(&mut self, set: &Configuration) {
-        let mut claims = [Claim::None; 256];
+        let mut claims = [UNCLAIMED; 256];
         for (place, setting) in set.settings.iter().enumerate() {
             let count = setting.endpoints.len();
             self.tell_if(usize::from(setting.declared_endpoints) != count, 5, place, 0);
@@ -137,13 +102,11 @@ impl Check {
                 self.tell_if(is_wrong, 6, place, number);
                 self.tell_if(!addresses.add(address), 7, place, number);
                 let claim = &mut claims[usize::from(address)];
-                match *claim {
-                    Claim::One(interface) if interface == setting.number => {}
-                    Claim::None => *claim = Claim::One(setting.number),
-                    Claim::One(_) | Claim::Several => {
-                        *claim = Claim::Several;
-                        self.tell(8, place, number);
-                    }
+                if *claim == UNCLAIMED {
+                    *claim = u16::from(setting.number);
+                } else if *claim != u16::from(setting.number) {
+                    *claim = SEVERAL;
+                    self.tell(8, place, number);
                 }
                 self.tell_if(endpoint.max_packet & 0xe000 != 0, 12, place, number);
             }

@@ -77,56 +77,60 @@ pub enum Progress {
 }
 
 impl Configuration {
-    pub fn new(header: &[u8]) -> Configuration {
-        Configuration {
-            kind: header[1],
-            declared_interfaces: header[4],
-            value: header[5],
-            text: header[6],
-            attributes: header[7],
-            power: header[8],
-            tail: header[9..].to_vec(),
+    /// The set of a first descriptor, which has no fault.
+    pub fn new(header: &[u8]) -> Option<Configuration> {
+        let [_, kind, _, _, declared_interfaces, value, text, attributes, power, tail @ ..] = header else {
+            return None;
+        };
+        Some(Configuration {
+            kind: *kind,
+            declared_interfaces: *declared_interfaces,
+            value: *value,
+            text: *text,
+            attributes: *attributes,
+            power: *power,
+            tail: tail.to_vec(),
             extras: Vec::new(),
             settings: Vec::new(),
-        }
+        })
     }
 
     /// Adds a whole descriptor that has no fault.
     pub fn add(&mut self, item: &[u8]) {
-        match item[1] {
-            INTERFACE => self.settings.push(Setting {
-                number: item[2],
-                alternate: item[3],
-                declared_endpoints: item[4],
-                class: [item[5], item[6], item[7]],
-                text: item[8],
-                tail: item[9..].to_vec(),
-                extras: Vec::new(),
-                endpoints: Vec::new(),
-            }),
-            ENDPOINT => {
+        match *item {
+            [_, INTERFACE, number, alternate, endpoints, class, subclass, protocol, text, ref tail @ ..] => {
+                self.settings.push(Setting {
+                    number,
+                    alternate,
+                    declared_endpoints: endpoints,
+                    class: [class, subclass, protocol],
+                    text,
+                    tail: tail.to_vec(),
+                    extras: Vec::new(),
+                    endpoints: Vec::new(),
+                });
+            }
+            [_, ENDPOINT, address, attributes, low, high, interval, ref tail @ ..] => {
                 if let Some(setting) = self.settings.last_mut() {
                     setting.endpoints.push(Endpoint {
-                        address: item[2],
-                        attributes: item[3],
-                        max_packet: u16::from_le_bytes([item[4], item[5]]),
-                        interval: item[6],
-                        tail: item[7..].to_vec(),
+                        address,
+                        attributes,
+                        max_packet: u16::from_le_bytes([low, high]),
+                        interval,
+                        tail: tail.to_vec(),
                         extras: Vec::new(),
                     });
                 }
             }
-            kind => {
-                let extra = if kind == ASSOCIATION {
-                    Extra::Association(Association {
-                        fields: [item[2], item[3], item[4], item[5], item[6], item[7]],
-                        tail: item[8..].to_vec(),
-                    })
-                } else {
-                    Extra::Raw { kind, body: item[2..].to_vec() }
-                };
+            [_, ASSOCIATION, a, b, c, d, e, f, ref tail @ ..] => {
+                let association = Association { fields: [a, b, c, d, e, f], tail: tail.to_vec() };
+                self.last_extras().push(Extra::Association(association));
+            }
+            [_, kind, ref body @ ..] => {
+                let extra = Extra::Raw { kind, body: body.to_vec() };
                 self.last_extras().push(extra);
             }
+            _ => {}
         }
     }
 
@@ -162,9 +166,10 @@ impl Configuration {
 
     /// Each list of extras, in the order of the bytes.
     pub fn extras(&self) -> impl Iterator<Item = &Extra> {
-        let of_settings = self.settings.iter().flat_map(|setting| {
-            setting.extras.iter().chain(setting.endpoints.iter().flat_map(|it| &it.extras))
-        });
+        let of_settings = self
+            .settings
+            .iter()
+            .flat_map(|setting| setting.extras.iter().chain(setting.endpoints.iter().flat_map(|it| &it.extras)));
         self.extras.iter().chain(of_settings)
     }
 }
@@ -195,22 +200,22 @@ impl Partial {
         self.tree.is_some() && self.place == self.total
     }
 
+    #[inline(always)]
     fn look(&self, bytes: &[u8]) -> Result<(), SetFault> {
         let fault = match &self.tree {
             None => fault_in_header(bytes),
-            Some(tree) => tree
-                .fault_in(self.total - self.place, bytes)
-                .map(|why| SetFault { at: self.place, why }),
+            Some(tree) => tree.fault_in(self.total - self.place, bytes).map(|why| SetFault { at: self.place, why }),
         };
         fault.map_or(Ok(()), Err)
     }
 
+    #[inline(always)]
     fn add(&mut self, item: &[u8]) {
         match &mut self.tree {
             Some(tree) => tree.add(item),
             None => {
                 self.total = usize::from(u16::from_le_bytes([item[2], item[3]]));
-                self.tree = Some(Configuration::new(item));
+                self.tree = Configuration::new(item);
             }
         }
         self.place += item.len();
@@ -226,14 +231,10 @@ pub struct Decoder {
 
 impl Decoder {
     pub fn new() -> Decoder {
-        Decoder {
-            partial: Partial { tree: None, total: 0, place: 0 },
-            fault: None,
-            held: 0,
-            buffer: [0; 255],
-        }
+        Decoder { partial: Partial { tree: None, total: 0, place: 0 }, fault: None, held: 0, buffer: [0; 255] }
     }
 
+    #[inline(always)]
     pub fn feed(&mut self, piece: &[u8]) -> Result<Progress, SetFault> {
         if let Some(fault) = self.fault {
             return Err(fault);
@@ -254,8 +255,12 @@ impl Decoder {
         result
     }
 
+    #[inline(always)]
     fn hold(&mut self, bytes: &[u8]) {
-        self.buffer[self.held..self.held + bytes.len()].copy_from_slice(bytes);
+        match bytes {
+            [byte] => self.buffer[self.held] = *byte,
+            _ => self.buffer[self.held..self.held + bytes.len()].copy_from_slice(bytes),
+        }
         self.held += bytes.len();
     }
 

@@ -140,13 +140,12 @@ fn describe_set(set: &[u8], packet: u8) -> Result<Description> {
 
 fn find_last(input: &[u8], rounds: u32) -> Result<usize> {
     let file = read_file(input).map_err(told)?;
-    let index = *file::named(&file).last().ok_or("no string")?;
+    let index = *file::named(&file).to_vec().last().ok_or("no string")?;
     let strings = file.strings.as_ref().ok_or("no string")?;
     let language = *strings.languages.last().ok_or("no language")?;
     let description = Description::new(file, Speed::Full).map_err(told)?;
     again(rounds, || {
-        black_box(description.find(3, index, black_box(language)))
-            .map_or(0, |place| description.bytes(place).len())
+        black_box(description.find(3, index, black_box(language))).map_or(0, |place| description.bytes(place).len())
     })
 }
 
@@ -241,8 +240,7 @@ fn lead(host: &mut Host, answer: Answer) -> u64 {
     step(host, answer).rotate_left(1)
 }
 
-const DEVICE: [u8; 18] =
-    [0x12, 1, 0x10, 1, 0, 0, 0, 8, 0x34, 0x12, 0x78, 0x56, 0, 1, 0, 0, 0, 1];
+const DEVICE: [u8; 18] = [0x12, 1, 0x10, 1, 0, 0, 0, 8, 0x34, 0x12, 0x78, 0x56, 0, 1, 0, 0, 0, 1];
 
 fn packets(host: &mut Host, bytes: &[u8], transact: fn(&mut Host, Answer) -> u64) {
     let mut is_data1 = true;
