@@ -1,0 +1,67 @@
+"""Counting: instructions of a round by callgrind, of the proved program and of plain Rust."""
+
+import functools
+import os
+import re
+import subprocess
+import sys
+import tempfile
+
+FOLDER = "crates/benchmarks"
+PROVED, PROGRAM = f"{FOLDER}/out/benchmarks", "crates/usbdesc/out/usbdesc"
+# As the proved program is built: one module for all, and for the same processor.
+FLAGS = ["--edition", "2024", "-O", "-C", "codegen-units=1", "-C", "target-cpu=x86-64-v2"]
+
+
+def build(room):
+    """Builds plain Rust, and answers the program."""
+    program = os.path.join(room, "plain")
+    subprocess.run(["rustc", *FLAGS, "--crate-name", "plain", "-o", program, f"{FOLDER}/plain/main.rs"], check=True)
+    return program
+
+
+class Counter:
+    """Counts by these two programs; inputs are made once, and so is each count."""
+
+    def __init__(self, plain, room):
+        self.programs, self.plain, self.room = [PROVED, plain], plain, room
+        self.round_of = functools.cache(self.round_of)
+
+    @functools.cache
+    def made(self, source):
+        """The path of an input. The listing of one that is written comes by plain Rust, which `--same` compares."""
+        if not source.startswith("!"):
+            return source
+        first, *further = source[1:].split("|")
+        name, *words = first.split()
+        data = subprocess.run([sys.executable, f"{FOLDER}/{name}", *words], capture_output=True, check=True).stdout
+        for command in further:
+            data = subprocess.run([self.plain, command], input=data, capture_output=True, check=True).stdout
+        with tempfile.NamedTemporaryFile(dir=self.room, delete=False) as target:
+            target.write(data)
+        return target.name
+
+    def count(self, program, rounds, work, path, inside):
+        """How many bytes or transactions the work says, and the instructions of the whole run or inside of a function."""
+        line = ["valgrind", "--tool=callgrind", "--callgrind-out-file=/dev/null"]
+        line += [f"--toggle-collect={inside}"] if inside else []
+        with open(path, "rb") as source:
+            ran = subprocess.run([*line, program, str(rounds), work], stdin=source, capture_output=True, text=True, check=False)
+        said = re.search(r": (\d+) bytes, ", ran.stdout)
+        counted = re.search(r"Collected : (\d+)", ran.stderr)
+        if ran.returncode or not said or not counted or counted[1] == "0":
+            sys.exit(f"benchmarks: {program} {rounds} {work} < {path}: {ran.stdout}{ran.stderr[-600:]}")
+        return int(said[1]), int(counted[1])
+
+    def round_of(self, number, count):
+        """What the work says, and the instructions of a round: of the proved program (0) or plain Rust (1)."""
+        program, path = self.programs[number], self.made(count.input)
+        inside = count.inside and count.inside[number]
+        _, few = self.count(program, count.few, count.work, path, inside)
+        said, many = self.count(program, count.many, count.work, path, inside)
+        return said, (many - few) / (count.many - count.few)
+
+    def cell(self, number, cell):
+        rounds = [(factor, *self.round_of(number, count)) for factor, count in cell.terms]
+        total = sum(factor * instructions for factor, _, instructions in rounds)
+        return total / (cell.parts or rounds[0][1])

@@ -1,0 +1,59 @@
+"""Whether plain Rust gives the same texts and bytes: the runs of `.ci/rows` that it takes, and what it reads and writes."""
+
+import os
+
+from playing import calls, examples
+from playing.row import Fault, rows_of
+from playing.run import Run, play
+
+# The words that it takes, as the program does.
+COMMANDS = [["show"], ["check"], ["build"], ["enumerate"], *(["enumerate", "--speed", it] for it in ("low", "full", "high"))]
+OWN = [["decode"], ["describe"], ["hexadecimal"]]
+
+
+def wanted_runs():
+    """What the rows and the examples ask of the program: a name, and a run."""
+    for kind, name in examples.lines_of_list():
+        if kind == "rows":
+            for row in rows_of(name, examples.bytes_of(name).decode()):
+                if row.call in calls.CALLS:
+                    yield from ((row.name, run) for run in calls.runs_of_row(row))
+        else:
+            yield from ((name.split()[0], run) for run in examples.KINDS[kind](name))
+
+
+def other_runs():
+    """What it does besides, of inputs that are a set, a file or digits: they come out as they went in."""
+    for kind, name in examples.lines_of_list():
+        if kind in ("set", "file"):
+            data = examples.bytes_of(name, ".bin" if kind == "set" else ".file")
+            yield name, Run(["decode"], data, 0, data)
+            yield name, Run(["hexadecimal"], data.hex().encode(), 0, data)
+            accepted = kind == "file" and b"full success" in examples.bytes_of(name, ".enumerate")
+            if accepted:
+                yield name, Run(["describe"], data, 0, data)
+    # The same device as three dumps of hexadecimal digits, and its bytes.
+    keyboard = examples.bytes_of("hexadecimal/keyboard.array")
+    data = bytes(int(word, 16) for word in keyboard.decode().replace(",", " ").split())
+    for form in ("array", "hexdump", "wireshark", "xxd"):
+        yield f"hexadecimal/keyboard.{form}", Run(["hexadecimal"], examples.bytes_of("hexadecimal/keyboard", f".{form}"), 0, data)
+
+
+def differences(program, root):
+    """How many runs there were, and the lines of those that differ."""
+    program = os.path.abspath(program)
+    os.chdir(os.path.join(root, "crates/examples/data"))
+    count, told = 0, []
+    try:
+        for name, run in [*wanted_runs(), *other_runs()]:
+            taken = run.words in COMMANDS or run.words[:1] in OWN
+            if taken and run.read is None:
+                count += 1
+                lines = play(program, run)
+                if lines:
+                    told += [f"{name}: {' '.join(run.words)}, {len(run.data)} bytes", *(f"  {line}" for line in lines)]
+    except (Fault, OSError, ValueError) as fault:
+        told.append(f"{fault or type(fault).__name__}")
+    finally:
+        os.chdir(root)
+    return count, told

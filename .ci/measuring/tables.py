@@ -1,0 +1,153 @@
+"""What is measured: tables of cells, each of the proved program and of the same work in plain Rust, and bounds of ratios."""
+
+from typing import NamedTuple
+
+EXAMPLES = "crates/examples/data"
+LONGEST = "crates/benchmarks/sets/longest.bin"
+HID = f"{EXAMPLES}/sets/hid-one-endpoint.bin"
+WEBCAM = f"{EXAMPLES}/sets/linux-gadget-webcam.bin"
+AUDIO = f"{EXAMPLES}/sets/ugreen-15765a.bin"
+KEYBOARD = f"{EXAMPLES}/hexadecimal/keyboard"
+EVERYTHING = "crates/examples/data/files/with-everything"
+CAMERA = "crates/examples/data/files/gadget-webcam"
+
+# Where a run counts, without the loop: the host's transactions.
+TRANSFER = ("benchmarks::host::transact", "*works*transact_transfer*")
+HOST = ("benchmarks::enumerating::transact", "*works*transact_host*")
+
+
+class Count(NamedTuple):
+    """A round of a work on an input: the difference of a run of many rounds and one of few. An input that begins with an
+    exclamation mark is written by the commands after it, of crates/benchmarks."""
+
+    work: str
+    input: str
+    few: int
+    many: int
+    inside: tuple = None
+
+
+class Cell(NamedTuple):
+    """Sums of rounds, each times a number, for each of so many parts; of none, for each byte that the work says."""
+
+    terms: list
+    parts: int
+    bound: float
+
+
+class Table(NamedTuple):
+    name: str
+    corner: str
+    columns: list
+    rows: list  # of a title and its cells
+
+
+def a_byte(work, source, few, many, bound=1.3):
+    return Cell([(1, Count(work, source, few, many))], None, bound)
+
+
+def made(kind, *more):
+    return "!" + "|".join([f"descriptors.py {kind} 20", *more])
+
+
+def shape(kind, count):
+    return f"!shapes.py {kind} {count}"
+
+
+SETS = [
+    ("34 bytes", HID, 100, 1100),
+    ("webcam, 586", WEBCAM, 100, 1100),
+    ("audio, 314", AUDIO, 100, 1100),
+    ("65,535 bytes", LONGEST, 20, 40),
+]
+SET_WORKS = [
+    ("decode, one piece", "decode-whole"),
+    ("decode, pieces of 64 bytes", "decode-pieces"),
+    ("decode, byte by byte", "decode-bytes"),
+    ("encode", "encode"),
+    ("list", "list"),
+]
+FILES = [
+    ("raw descriptors of 255 bytes", "raws"),
+    ("raw descriptors of 2 bytes", "short-raws"),
+    ("alternate settings", "settings"),
+    ("thirty endpoints a setting", "endpoints"),
+    ("associations", "associations"),
+    ("strings of 126 units", "strings"),
+    ("strings of one unit", "short-strings"),
+]
+
+
+def of_file(path, few, many, listing, bound):
+    works = [a_byte(work, path, few, many) for work in ("write-given", "describe", "list-given")]
+    return [*works, a_byte("assemble", listing, few, many, bound)]
+
+
+def files():
+    yield "with everything", of_file(f"{EVERYTHING}.file", 100, 600, f"{EVERYTHING}.txt", 1.15)
+    yield "webcam", of_file(f"{CAMERA}.file", 100, 600, f"{CAMERA}.txt", 1.15)
+    for title, kind in FILES:
+        yield title, of_file(made(kind), 2, 4, made(kind, "show"), 1.5)
+
+
+def checks():
+    for title, path in (("with everything", EVERYTHING), ("webcam", CAMERA)):
+        yield title, [a_byte("check-file", f"{path}.file", 100, 1100, 1.2)]
+    yield "every rule broken", [a_byte("check-file", f"{EXAMPLES}/files/every-rule-broken.file", 100, 1100)]
+    yield "alternate settings", [a_byte("check-file", made("settings"), 2, 4)]
+    yield "thirty endpoints a setting", [a_byte("check-file", made("endpoints"), 2, 4)]
+    yield "associations of one interface", [a_byte("check-file", made("associations"), 2, 4)]
+    yield "associations of all 255 interfaces", [a_byte("check-file", made("bindings"), 2, 4)]
+    yield "a set of 7,280 settings", [a_byte("check-sets", shape("interfaces", 7280), 20, 40)]
+    yield "9,330 findings", [a_byte("check-sets", shape("endpoints", 9359), 20, 40)]
+    yield "17,354 findings", [a_byte("check-sets", shape("bytes", 9359), 20, 40)]
+
+
+def a_round(terms, parts=1, bound=1.3):
+    return [Cell(terms, parts, bound)]
+
+
+def transactions():
+    def device(work):
+        return Count(work, LONGEST, 2, 102)
+
+    def transfer(work):
+        return Count(work, HID, 100, 1000, TRANSFER)
+
+    def host(work, source=HID, few=100, many=1000):
+        return Count(work, source, few, many, HOST)
+
+    setup, one = device("setup"), device("one-packet")
+    yield "device: SETUP, GET_DESCRIPTOR of a set", a_round([(1, setup)])
+    yield "IN and ACK, first", a_round([(1, one), (-1, setup)])
+    yield "IN and ACK, further", a_round([(1, device("ten-packets")), (-1, one)], 9)
+    yield "IN with NAK", a_round([(1, device("nak"))])
+    yield "OUT of the status stage", a_round([(1, device("status")), (-1, one)])
+    yield "a read that an owner answers", a_round([(1, device("answered"))])
+    data = transfer("host-data")
+    yield "`Transfer`: SETUP", a_round([(1, transfer("host-setup"))])
+    yield "IN, 64 bytes", a_round([(1, transfer("host-packets"))])
+    yield "IN with NAK", a_round([(1, transfer("host-naks"))])
+    yield "OUT of the status stage", a_round([(1, transfer("host-status")), (-1, data)])
+    yield "host, packets of 8: SETUP", a_round([(1, host("enumeration-setup"))])
+    yield "IN with NAK", a_round([(1, host("enumeration-naks"))])
+    yield "IN of the longest set", a_round([(1, host("enumeration-packets", LONGEST, 2, 12))], 8192)
+    yield "IN of the webcam's set", a_round([(1, host("enumeration-packets", WEBCAM, 10, 110))], 74)
+    yield "status stage of a header", a_round([(1, host("enumeration-header"))])
+
+
+def enumerations():
+    yield "with everything", [a_byte("enumerate", f"{EVERYTHING}.file", 100, 1100)]
+    yield "webcam", [a_byte("enumerate", f"{CAMERA}.file", 100, 1100, 1.2)]
+    yield "20 longest sets of raw descriptors", [a_byte("enumerate", made("raws"), 1, 3, 1.15)]
+    yield "20 such sets of settings", [a_byte("enumerate", made("settings"), 1, 3)]
+
+
+def tables():
+    columns = [title for title, *_ in SETS]
+    rows = [(title, [a_byte(work, *source) for _, *source in SETS]) for title, work in SET_WORKS]
+    yield Table("sets", "Work", columns, rows)
+    yield Table("files", "File", ["`write_file`", "`describe`", "`list`", "`assemble`"], list(files()))
+    yield Table("checks", "File", ["`check`"], list(checks()))
+    yield Table("transactions", "Transaction", ["Instructions"], list(transactions()))
+    yield Table("enumerations", "Whole enumeration", ["Each transaction"], list(enumerations()))

@@ -1,0 +1,353 @@
+//! The works that are measured, by the names that they have in the proved program.
+
+use crate::assembly::assemble;
+use crate::bus::enumerate;
+use crate::device::{Answer, Description, Device, Setup, Speed, Token, Transaction};
+use crate::file::{self, DescriptorFile, Qualifier, read_file, write_file};
+use crate::hexadecimal;
+use crate::host::{Action, Heard, Host, Limits, Transfer};
+use crate::listing::{list, list_set};
+use crate::rules::check;
+use crate::set::{CONFIGURATION, Configuration, Decoder, OTHER_SPEED, SetFault, encode, read_set};
+use std::hint::black_box;
+
+type Result<T> = std::result::Result<T, String>;
+
+fn told<E: std::fmt::Debug>(fault: E) -> String {
+    format!("{fault:?}")
+}
+
+/// Does a work so many times over, and answers how many bytes it is of.
+pub fn run(name: &str, input: &[u8], copies: u32, rounds: u32) -> Result<usize> {
+    match name {
+        "decode-whole" => decode(input, input.len(), rounds),
+        "decode-pieces" => decode(input, 64, rounds),
+        "decode-bytes" => decode(input, 1, rounds),
+        "encode" => {
+            let set = decoded(input, input.len()).map_err(told)?;
+            again(rounds, || black_box(encode(&set)).map_or(0, |it| it.len()))
+        }
+        "list" => {
+            let set = decoded(input, input.len()).map_err(told)?;
+            again(rounds, || {
+                let mut text = Vec::new();
+                list_set(&set, &mut text);
+                black_box(text);
+                input.len()
+            })
+        }
+        "read-file" => {
+            let bytes = write_file(&file_of(input, copies)?).ok_or("no file")?;
+            again(rounds, || black_box(read_file(&bytes)).map_or(0, |_| bytes.len()))
+        }
+        "write-file" => write(&file_of(input, copies)?, rounds),
+        "write-given" => write(&read_file(input).map_err(told)?, rounds),
+        "list-given" => {
+            let file = read_file(input).map_err(told)?;
+            again(rounds, || {
+                let mut text = Vec::new();
+                list(&file, &mut text);
+                black_box(text).len()
+            })
+        }
+        "describe" => again(rounds, || {
+            let description = read_file(input).map(|file| Description::new(file, Speed::Full));
+            black_box(description.is_ok_and(|it| it.is_ok()));
+            input.len()
+        }),
+        "find-last" => find_last(input, rounds),
+        "check-sets" => {
+            let file = file_of(input, copies)?;
+            check_again(&file, rounds)?;
+            Ok(write_file(&file).map_or(0, |bytes| bytes.len()))
+        }
+        "check-file" => {
+            check_again(&read_file(input).map_err(told)?, rounds)?;
+            Ok(input.len())
+        }
+        "assemble" => again(rounds, || black_box(assemble(input)).map_or(0, |_| input.len())),
+        "hexadecimal" => again(rounds, || black_box(hexadecimal::read(input)).map_or(0, |_| input.len())),
+        "enumerate" => enumerate_again(input, rounds),
+        "host-setup" => drive_again(input, 1, rounds),
+        "host-data" => drive_again(input, 2, rounds),
+        "host-status" => drive_again(input, 3, rounds),
+        "host-packets" => take_again(input, rounds, Some(&[0; 64])),
+        "host-naks" => take_again(input, rounds, None),
+        "enumeration-header" => again(rounds, || host_once(input, 1)),
+        "enumeration-setup" => again(rounds, || host_once(input, 2)),
+        "enumeration-packets" => again(rounds, || host_once(input, 3)),
+        "enumeration-naks" => host_naks(input, rounds),
+        "setup" => transfer_again(input, 0, false, rounds),
+        "one-packet" => transfer_again(input, 1, false, rounds),
+        "ten-packets" => transfer_again(input, 10, false, rounds),
+        "status" => transfer_again(input, 1, true, rounds),
+        "nak" => refuse_again(input, rounds),
+        "answered" => answer_again(input, rounds),
+        _ => Err(format!("no work is named {name}")),
+    }
+}
+
+fn again(rounds: u32, mut work: impl FnMut() -> usize) -> Result<usize> {
+    Ok((0..rounds).fold(0, |_, _| work()))
+}
+
+/// The set, decoded from pieces of this length.
+pub fn decoded(bytes: &[u8], length: usize) -> std::result::Result<Configuration, SetFault> {
+    let mut decoder = Decoder::new();
+    for piece in bytes.chunks(length.max(1)) {
+        decoder.feed(piece)?;
+    }
+    decoder.finish()
+}
+
+fn decode(bytes: &[u8], length: usize, rounds: u32) -> Result<usize> {
+    for _ in 0..rounds {
+        black_box(decoded(bytes, length).map_err(told)?);
+    }
+    Ok(bytes.len())
+}
+
+fn write(file: &DescriptorFile, rounds: u32) -> Result<usize> {
+    again(rounds, || black_box(write_file(file)).map_or(0, |bytes| bytes.len()))
+}
+
+fn check_again(file: &DescriptorFile, rounds: u32) -> Result<usize> {
+    again(rounds, || black_box(check(file)).len())
+}
+
+/// A file with so many copies of the set: up to 255 at one speed, and the others at the other.
+fn file_of(set: &[u8], copies: u32) -> Result<DescriptorFile> {
+    let copies_of = |count: u32, kind: u8| {
+        let copy = |_| read_set(set).map(|(it, _)| Configuration { kind, ..it });
+        (0..count.min(255)).map(copy).collect::<std::result::Result<Vec<_>, _>>().map_err(told)
+    };
+    let (usb, class, packet) = (0x0200, [0; 3], 64);
+    let sets = copies_of(copies, CONFIGURATION)?;
+    let others = copies_of(copies.saturating_sub(255), OTHER_SPEED)?;
+    let configurations = sets.len() as u8;
+    let device = file::Device { usb, class, packet, numbers: [0; 3], texts: [0; 3], configurations };
+    let configurations = others.len() as u8;
+    let qualifier = Qualifier { usb, class, packet, configurations, reserved: 0 };
+    let other = (!others.is_empty()).then_some(file::Other { qualifier, sets: others });
+    Ok(DescriptorFile { device, sets, other, strings: None })
+}
+
+fn describe_set(set: &[u8], packet: u8) -> Result<Description> {
+    let mut file = file_of(set, 1)?;
+    file.device.packet = packet;
+    Description::new(file, Speed::Full).map_err(told)
+}
+
+fn find_last(input: &[u8], rounds: u32) -> Result<usize> {
+    let file = read_file(input).map_err(told)?;
+    let index = *file::named(&file).to_vec().last().ok_or("no string")?;
+    let strings = file.strings.as_ref().ok_or("no string")?;
+    let language = *strings.languages.last().ok_or("no language")?;
+    let description = Description::new(file, Speed::Full).map_err(told)?;
+    again(rounds, || {
+        black_box(description.find(3, index, black_box(language))).map_or(0, |place| description.bytes(place).len())
+    })
+}
+
+/// Answers how many transactions an enumeration has.
+fn enumerate_again(input: &[u8], rounds: u32) -> Result<usize> {
+    let file = read_file(input).map_err(told)?;
+    let description = Description::new(file, Speed::Full).map_err(told)?;
+    let limits = Limits { address: 1, naks: 16, attempts: 3 };
+    let mut count = 0;
+    for _ in 0..rounds {
+        let run = enumerate(&description, limits, Speed::Full);
+        if !matches!(&run.outcome, Some(Ok(_))) {
+            return Err("the enumeration fails".into());
+        }
+        count = run.transactions as usize;
+        black_box(run.outcome);
+    }
+    Ok(count)
+}
+
+/// GET_DESCRIPTOR of the first configuration set.
+const GET_SET: [u8; 8] = [0x80, 6, 0, 2, 0, 0, 0xff, 0xff];
+
+fn sum_of(transaction: &Transaction) -> u64 {
+    match transaction.token {
+        Token::Setup(bytes) => u64::from_le_bytes(bytes),
+        Token::In => u64::from(transaction.address),
+        Token::Out(_, bytes) => bytes.len() as u64,
+    }
+}
+
+/// One transaction at the host's end, which is counted.
+#[inline(never)]
+fn transact_transfer(transfer: &mut Transfer, answer: Answer) -> u64 {
+    let sent = transfer.next().map_or(0, |it| sum_of(&it));
+    match transfer.take(answer) {
+        Heard::Again => sent,
+        Heard::Bytes(bytes) => sent ^ bytes.len() as u64,
+        Heard::Complete => !sent,
+        Heard::Failed(_) => 0,
+    }
+}
+
+fn transfer_of(set: &[u8]) -> Transfer {
+    let mut request = Setup::read(GET_SET);
+    request.index = (set.len() % 0x1_0000) as u16;
+    Transfer::new(1, 64, u16::MAX, request)
+}
+
+/// A transfer: its SETUP, then perhaps an empty data packet, and then perhaps its status stage.
+fn drive_again(set: &[u8], transactions: u8, rounds: u32) -> Result<usize> {
+    let answers = [Answer::Ack, Answer::Data(true, &[]), Answer::Ack];
+    again(rounds, || {
+        let mut transfer = transfer_of(set);
+        for answer in &answers[..usize::from(transactions)] {
+            black_box(transact_transfer(&mut transfer, *answer));
+        }
+        set.len()
+    })
+}
+
+/// One transfer with so many packets or NAKs.
+fn take_again(set: &[u8], rounds: u32, packet: Option<&[u8]>) -> Result<usize> {
+    let (mut transfer, mut is_data1) = (transfer_of(set), true);
+    black_box(transact_transfer(&mut transfer, Answer::Ack));
+    again(rounds, || {
+        let answer = packet.map_or(Answer::Nak, |bytes| Answer::Data(is_data1, bytes));
+        black_box(transact_transfer(&mut transfer, answer));
+        is_data1 = !is_data1;
+        set.len()
+    })
+}
+
+fn step(host: &mut Host, answer: Answer) -> u64 {
+    let sent = match host.next() {
+        Action::Send(transaction) => sum_of(&transaction),
+        Action::Reset | Action::Ended => 0,
+    };
+    host.take(answer);
+    sent
+}
+
+/// One transaction of an enumerating host, which is counted.
+#[inline(never)]
+fn transact_host(host: &mut Host, answer: Answer) -> u64 {
+    step(host, answer)
+}
+
+/// One that isn't.
+#[inline(never)]
+fn lead(host: &mut Host, answer: Answer) -> u64 {
+    step(host, answer).rotate_left(1)
+}
+
+const DEVICE: [u8; 18] = [0x12, 1, 0x10, 1, 0, 0, 0, 8, 0x34, 0x12, 0x78, 0x56, 0, 1, 0, 0, 0, 1];
+
+fn packets(host: &mut Host, bytes: &[u8], transact: fn(&mut Host, Answer) -> u64) {
+    let mut is_data1 = true;
+    for packet in bytes.chunks(8) {
+        black_box(transact(host, Answer::Data(is_data1, packet)));
+        is_data1 = !is_data1;
+    }
+}
+
+/// A host to which the status stage is due that ends the read of the set's header.
+fn host_at_header(set: &[u8]) -> Host {
+    let limits = Limits { address: 1, naks: u16::MAX, attempts: 1 };
+    let mut host = Host::new(limits, Speed::Full);
+    host.reset_done();
+    for bytes in [&DEVICE[..8], &[], &DEVICE, &set[..9]] {
+        lead(&mut host, Answer::Ack);
+        if bytes.is_empty() {
+            lead(&mut host, Answer::Data(true, &[]));
+            continue;
+        }
+        packets(&mut host, bytes, lead);
+        if bytes.len() != 9 {
+            lead(&mut host, Answer::Ack);
+        }
+    }
+    host
+}
+
+/// Counts the status stage of a header, the SETUP of the set, or its packets.
+fn host_once(set: &[u8], counted: u8) -> usize {
+    let mut host = host_at_header(set);
+    let by = |number| if counted == number { transact_host } else { lead };
+    black_box(by(1)(&mut host, Answer::Ack));
+    if counted > 1 {
+        black_box(by(2)(&mut host, Answer::Ack));
+    }
+    if counted > 2 {
+        packets(&mut host, set, transact_host);
+    }
+    usize::from(matches!(host.next(), Action::Send(_))) * set.len()
+}
+
+fn host_naks(set: &[u8], rounds: u32) -> Result<usize> {
+    let mut host = host_at_header(set);
+    lead(&mut host, Answer::Ack);
+    lead(&mut host, Answer::Ack);
+    again(rounds, || {
+        black_box(transact_host(&mut host, Answer::Nak));
+        set.len()
+    })
+}
+
+const IN: Transaction = Transaction { address: 0, token: Token::In };
+const STATUS: Transaction = Transaction { address: 0, token: Token::Out(true, &[]) };
+
+#[inline(never)]
+fn sent(device: &mut Device, transaction: &Transaction, is_ready: bool) -> usize {
+    match device.serve(transaction, is_ready) {
+        Answer::Data(_, bytes) => bytes.len(),
+        _ => 0,
+    }
+}
+
+fn read_packets(device: &mut Device, packets: u32) -> usize {
+    let mut count = 0;
+    for _ in 0..packets {
+        count += sent(device, &IN, true);
+        device.acked();
+    }
+    count
+}
+
+/// A read of the set: its SETUP, so many packets, and perhaps the status stage.
+fn transfer_again(set: &[u8], packets: u32, has_status: bool, rounds: u32) -> Result<usize> {
+    let description = describe_set(set, 64)?;
+    let mut device = Device::new(&description);
+    let setup = Transaction { address: 0, token: Token::Setup(GET_SET) };
+    again(rounds, || {
+        let mut count = sent(&mut device, &setup, true) + read_packets(&mut device, packets);
+        if has_status {
+            count += sent(&mut device, &STATUS, true);
+        }
+        count
+    })
+}
+
+fn refuse_again(set: &[u8], rounds: u32) -> Result<usize> {
+    let description = describe_set(set, 64)?;
+    let mut device = Device::new(&description);
+    again(rounds, || sent(&mut device, &IN, false))
+}
+
+#[inline(never)]
+fn respond(device: &mut Device) {
+    if device.refused().is_some() {
+        let _ = black_box(device.answer_with(&[0x5a; 63]));
+    }
+}
+
+/// A read that the device rejects and its owner answers, in packets of 8 bytes.
+fn answer_again(set: &[u8], rounds: u32) -> Result<usize> {
+    let description = describe_set(set, 8)?;
+    let mut device = Device::new(&description);
+    let read = Transaction { address: 0, token: Token::Setup([0xc0, 1, 0, 0, 0, 0, 63, 0]) };
+    again(rounds, || {
+        sent(&mut device, &read, true);
+        respond(&mut device);
+        read_packets(&mut device, 8) + sent(&mut device, &STATUS, true)
+    })
+}
