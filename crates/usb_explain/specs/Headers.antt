@@ -1,5 +1,5 @@
 -- Descriptors of classes, by their bytes, and what is remarked of a class header.
-use Rattle.std.specs.Prelude.{ℕ, ◌+◌, List, length, slice_index, Bool, not, nat_lt, ◌==◌, ◌&&◌, Option, Some, None, option_and_then, if◌then◌else◌, ◌++◌, drop, codes, [], ◌∷◌}
+use Rattle.std.specs.Prelude.{ℕ, ◌+◌, List, length, slice_index, Bool, not, nat_lt, ◌==◌, ◌&&◌, Option, Some, None, option_and_then, if◌then◌else◌, ◌++◌, drop, codes}
 use Rattle.std.specs.List.{sum_by, take_while}
 use Rattle.usb_fields.specs.Bytes.{little_endian_at}
 use Rattle.usb_names.specs.declared.codes.ClassCodes.{ClassCodes}

@@ -2,8 +2,7 @@
 use Rattle.std.proofs.Common.{◌≡◌, ◌<◌, ℕ, ◌+◌, ◌-◌, ◌*◌, ◌%◌, ◌==◌, Bool, true, false, if◌then◌else◌, List, [], ◌∷◌, ◌++◌, length, map, take, drop, Option, Some, None, is_some, refl, sym, ap, subst, ◌∙◌, arith, append_assoc, append-nil}
 use Rattle.std.specs.List.{flat_map, list_any}
 use Rattle.std.proofs.Math.Seq.{drop-nil}
-use Rattle.std.proofs.lemmas.List.Concat.{flat_map-append}
-use Rattle.std.proofs.lemmas.Bool.{eq-eqb, eqb-true, le-leb, not-false, or_parts}
+use Rattle.std.proofs.lemmas.Bool.{eq-eqb, le-leb, or_parts}
 use Rattle.usb_fields.specs.Bytes.{little_endian}
 use Rattle.usb_fields.specs.Fields.{fields_bytes}
 use Rattle.usb_fields.specs.declared.device.DeviceDescriptor.{DeviceDescriptor}
@@ -16,7 +15,7 @@ use Rattle.usb_file_data.specs.declared.rule.Rule.TheVariants as rules
 use Rattle.usb_file_data.specs.declared.cause.Cause.TheVariants as causes
 use Rattle.usb_file_data.specs.Causes.{device_cause, found, qualifier_cause}
 use Rattle.usb_file_data.specs.Findings.{at_device, at_qualifier, file_in_order, found_in_order, other_in_order, part_in_order, part_of_kind, set_in_order, without_sets}
-use Rattle.usb_file_data.specs.Places.{finding, when}
+use Rattle.usb_file_data.specs.Places.{when}
 use Rattle.usb_file_data.specs.Rules.{wrong_device, wrong_dumped_device, wrong_qualifier}
 use Rattle.usb_set.specs.declared.tree.Configuration.{Configuration}
 use Rattle.usb_set.specs.declared.tree.SetKind.{SetKind}
@@ -26,7 +25,7 @@ use Rattle.usb_set.proofs.Sets.{length-set_bytes}
 use Rattle.usb_file_data.specs.declared.file.DescriptorFile.{DescriptorFile}
 use Rattle.usb_file_data.specs.declared.file.Other.{Other}
 use Rattle.usb_file_data.specs.declared.file.Strings.{Strings}
-use Rattle.usb_file_data.specs.File.{File, are_wrong_strings, each_string_bytes, file_bytes, has_no_layout, is_other_kind, is_other_miscounted, other_bytes, sets_bytes, strings_bytes, named_indices, other_sets}
+use Rattle.usb_file_data.specs.File.{File, are_wrong_strings, each_string_bytes, file_bytes, has_no_layout, is_other_kind, other_bytes, sets_bytes, strings_bytes, named_indices, other_sets}
 use Rattle.usb_file_data.specs.declared.file.Input.{Input}
 use Rattle.usb_file_data.specs.declared.file.Input.TheVariants as inputs
 use Rattle.usb_file_data.specs.Inputs.{Dump, IsInput}

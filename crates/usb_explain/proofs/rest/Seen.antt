@@ -1,5 +1,5 @@
 -- What of a standing says which descriptors can come next and which findings they have, and how a walk goes on behind one.
-use Rattle.std.proofs.Common.{◌≡◌, ℕ, zero, suc, ◌+◌, Bool, true, false, List, [], ◌∷◌, ◌++◌, append_assoc, flat_map, length, map, drop, Option, Some, None, is_some, refl, sym, ap, subst, ◌∙◌}
+use Rattle.std.proofs.Common.{◌≡◌, ℕ, zero, suc, ◌+◌, Bool, true, false, List, [], ◌∷◌, ◌++◌, append_assoc, length, map, drop, Option, Some, None, is_some, refl, sym, ap, subst, ◌∙◌}
 use Rattle.std.specs.List.{take_while}
 use Rattle.std.proofs.lemmas.Bool.{cond-true}
 use Rattle.std.proofs.lemmas.List.{drop-drop}
@@ -95,7 +95,7 @@ pub rear_behind : (subject : Subject) (s : Standing) (role : Role) (d behind : L
     → AllHere (is_here (entered role subject.manner.speed (d ++ behind) s) role) mine
     → Rear subject s (mine ++ later) → Rear subject (behind_one subject s role d behind) later
 unfolding found_at
-rear_behind subject s behind mine later all rear =
+rear_behind subject s role d behind mine later all rear =
     let begun = entered role subject.manner.speed (d ++ behind) s in
     let here = is_here begun role in
     let left = drop begun.told subject.found in

@@ -56,7 +56,7 @@ loop-role-preserved g c =
     rw (sym c.prefix-d.ensures, sym c.after.ensures, sym c.enter.ensures) c.in_ok-told.ensures.lines in
     let onward = walks_next c.args.subject.now c.args.bytes.now c.loop-role.standing c.loop-role.ahead.now _ _ _ c.args.text.now c.loop-role.text c.put_block.new.text c.pass_on.new.text (c.in-Some.role, c.in-Some.length)
     c.loop-role.invariant found c.in-Some.ensures.least c.in-Some.ensures.most put c.in_ok-pass_on.ensures.ok c.in_ok-pass_on.ensures.whole in
-    rw (c.after-ahead.ensures, c.pass.ensures, c.tell.ensures, c.in_ok-told.ensures.told, c.after.ensures, c.enter.ensures, c.prefix-d.ensures) onward
+    rw (c.after-ahead.ensures, c.pass.ensures, c.tell.ensures, c.in_ok-told.ensures.told, c.enter.ensures, c.prefix-d.ensures) onward
 
 pub returns-clause-ok : goal.returns-clause-ok
 returns-clause-ok g c = walks_end c.args.subject.now c.args.bytes.now c.loop-role.standing c.loop-role.ahead.now _ _ c.args.text.now c.loop-role.text c.loop-role.invariant (sym c.next_role.ensures.next ∙ c.in_default.is)
