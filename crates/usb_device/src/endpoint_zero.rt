@@ -14,11 +14,9 @@ use crate::stage::{DataStage, Decision, Reaction, Source, Stage};
 use crate::state::State;
 use usb_fields::{Answer, Direction, Setup, Stage as Token, Toggle, Transaction, request};
 
-/// What changes in a device: its state, its stage in a transfer, and whether its last answer waits for an
-/// ACK. [`Device`](crate::Device) is a pair of a description and this.
-///
-/// It borrows nothing, and so it can be kept beside its description where a `Device` can't, as in one handle of
-/// a program in another language. Its calls are given the description, always the one that it was made for.
+/// What changes in a device: its state, its stage in a transfer, and whether its last answer waits for an ACK. It borrows
+/// nothing, so it can be kept beside its description where a [`Device`](crate::Device) can't: its calls are given the
+/// description, always the one that it was made for.
 ///
 /// ```rust
 /// // SET_ADDRESS 5.
@@ -39,8 +37,7 @@ pub struct EndpointZero {
     data_stage: DataStage,
     /// In the stages `Halted` and `StatusIn`: the request.
     request: Setup,
-    /// In the stage `Halted`: whether the host knows of the rejection. In `StatusIn`: whether the request was carried
-    /// out, SET_ADDRESS excepted.
+    /// In `Halted`: the host knows of the rejection. In `StatusIn`: the request was carried out, SET_ADDRESS excepted.
     settled: bool,
     pending: bool,
 }
