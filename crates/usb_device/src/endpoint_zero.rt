@@ -28,12 +28,11 @@ use usb_fields::{Answer, Direction, Setup, Stage as Token, Toggle, Transaction, 
 /// endpoint_zero.acked(&description);
 /// assert_eq!(rt; endpoint_zero.state().address, 5);
 /// ```
-// What a stage needs stands beside it and not in it, so that a step writes only what it changes.
 #[derive(Clone, Copy, Debug, PartialEq, Eq, Hash)]
 pub struct EndpointZero {
     state: State,
     stage: Stage,
-    /// In the stage `Sending`: the data stage.
+    /// In the stage `Sending`: the data stage, beside the stage so that a step writes only what it changes.
     data_stage: DataStage,
     /// In the stages `Halted` and `StatusIn`: the request.
     request: Setup,
