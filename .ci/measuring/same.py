@@ -11,6 +11,13 @@ COMMANDS = [["show"], ["check"], ["build"], ["enumerate"], *(["enumerate", "--sp
 OWN = [["decode"], ["describe"], ["hexadecimal"]]
 
 
+def is_taken(run):
+    """Whether plain Rust takes a run: it explains whole inputs alone, and no text that has their digits."""
+    is_whole = run.status == 0 and run.output and not run.output.startswith(b"hexadecimal text")
+    is_explained = run.words == ["explain"] and is_whole
+    return run.read is None and (is_explained or run.words in COMMANDS or run.words[:1] in OWN)
+
+
 def wanted_runs():
     """What the rows and the examples ask of the program: a name, and a run."""
     for kind, name in examples.lines_of_list():
@@ -46,8 +53,7 @@ def differences(program, root):
     count, told = 0, []
     try:
         for name, run in [*wanted_runs(), *other_runs()]:
-            taken = run.words in COMMANDS or run.words[:1] in OWN
-            if taken and run.read is None:
+            if is_taken(run):
                 count += 1
                 lines = play(program, run)
                 if lines:

@@ -143,6 +143,25 @@ def enumerations():
     yield "20 such sets of settings", [a_byte("enumerate", made("settings"), 1, 3)]
 
 
+def explanations():
+    def explained(path, few=100, many=600, bound=1.3):
+        return [a_byte("explain", path, few, many, bound)]
+
+    yield "keyboard, a dump", explained(f"{EXAMPLES}/dumps/matias-keyboard.descriptors")
+    yield "webcam, a dump", explained(f"{EXAMPLES}/dumps/sunplus-camera.descriptors")
+    yield "with everything", explained(f"{EVERYTHING}.file")
+    yield "webcam, a file", explained(f"{CAMERA}.file")
+    yield "a set of 34 bytes", explained(HID)
+    yield "the longest set, of raw descriptors", explained(LONGEST, 5, 10)
+    yield "a set of 7,280 settings", explained(shape("interfaces", 7280), 2, 4)
+    yield "9,330 findings", explained(shape("endpoints", 9359), 2, 4)
+
+
+def hexadecimal():
+    for form in ("array", "hexdump", "wireshark", "xxd"):
+        yield f"keyboard, {form}", [a_byte("hexadecimal", f"{KEYBOARD}.{form}", 100, 1100)]
+
+
 def tables():
     columns = [title for title, *_ in SETS]
     rows = [(title, [a_byte(work, *source) for _, *source in SETS]) for title, work in SET_WORKS]
@@ -151,3 +170,5 @@ def tables():
     yield Table("checks", "File", ["`check`"], list(checks()))
     yield Table("transactions", "Transaction", ["Instructions"], list(transactions()))
     yield Table("enumerations", "Whole enumeration", ["Each transaction"], list(enumerations()))
+    yield Table("explanations", "Input", ["`explain`"], list(explanations()))
+    yield Table("hexadecimal", "Text", ["`parse`"], list(hexadecimal()))

@@ -18,6 +18,8 @@ def key(table, row, column):
 def numbers():
     """The two numbers of each cell by its key."""
     found = {}
+    if not os.path.exists(NUMBERS):
+        return found
     for line in sources.text_of(NUMBERS).splitlines():
         name, _, values = line.partition(": ")
         if values and not line.startswith("#"):

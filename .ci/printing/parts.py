@@ -4,7 +4,7 @@ import glob
 import os
 import re
 
-from . import definitions, drawing, files, promises, sources
+from . import definitions, drawing, files, measured, promises, sources
 
 PART = re.compile(r"(<!-- printed: (\w+)([^>]*?) -->\n)(.*?)(<!-- end -->)", flags=re.S)
 
@@ -64,6 +64,7 @@ KINDS = {
     "output": of_output,
     "counts": of_counts,
     "crates": drawing.printed,
+    "measured": measured.printed,
 }
 
 

@@ -1,5 +1,6 @@
 //! Descriptor files: a device descriptor, its sets, those of another speed, and strings.
 
+use crate::explain::Input;
 use crate::numbers::Numbers;
 use crate::set::{CONFIGURATION, Configuration, Extra, OTHER_SPEED, QUALIFIER, STRING, SetFault, SetWhy};
 use crate::set::{encode_onto, read_set};
@@ -249,7 +250,8 @@ impl<'a> Reader<'a> {
     }
 }
 
-pub fn read_file(bytes: &[u8]) -> Result<DescriptorFile, FileFault> {
+/// The file or the dump that bytes are; a dump ends where the languages are due.
+pub fn read_input(bytes: &[u8]) -> Result<Input, FileFault> {
     let mut reader = Reader { bytes, at: 0 };
     let Some(device) = Device::read(reader.take(18)?) else {
         return fault(0, FileWhy::Device);
@@ -257,11 +259,22 @@ pub fn read_file(bytes: &[u8]) -> Result<DescriptorFile, FileFault> {
     let sets = reader.sets(CONFIGURATION, device.configurations)?;
     let other = reader.other()?;
     let mut file = DescriptorFile { device, sets, other, strings: None };
-    file.strings = reader.strings(named(&file).count())?;
+    let count = named(&file).count();
+    if count > 0 && file.other.is_none() && reader.rest().is_empty() {
+        return Ok(Input::Dump(file));
+    }
+    file.strings = reader.strings(count)?;
     if reader.at < bytes.len() {
         return fault(reader.at, FileWhy::Trailing);
     }
-    Ok(file)
+    Ok(Input::File(file))
+}
+
+pub fn read_file(bytes: &[u8]) -> Result<DescriptorFile, FileFault> {
+    match read_input(bytes)? {
+        Input::File(file) => Ok(file),
+        _ => fault(bytes.len(), FileWhy::Truncated),
+    }
 }
 
 /// Whether the sets are as many as declared, and of the kind of their part.

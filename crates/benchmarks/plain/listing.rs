@@ -119,6 +119,11 @@ pub fn is_plain(unit: u16) -> bool {
 
 fn list_string(units: &[u16], out: &mut Vec<u8>) {
     out.extend_from_slice(b"string \"");
+    list_units(units, out);
+    out.extend_from_slice(b"\"\n");
+}
+
+pub fn list_units(units: &[u16], out: &mut Vec<u8>) {
     for unit in units {
         if is_plain(*unit) {
             out.push(*unit as u8);
@@ -128,7 +133,6 @@ fn list_string(units: &[u16], out: &mut Vec<u8>) {
             out.extend_from_slice(&[b'\\', a, b, c, d]);
         }
     }
-    out.extend_from_slice(b"\"\n");
 }
 
 pub fn list(file: &DescriptorFile, out: &mut Vec<u8>) {

@@ -2,19 +2,23 @@
 //! `.ci/benchmarks`. Out of memory it ends, as plain Rust does.
 //!
 //! The words are the count of rounds, the name of a work, and perhaps of how many copies of a set it is; or one of
-//! `show`, `check`, `build`, `enumerate`, `enumerate --speed SPEED`, `decode`, `describe` and `hexadecimal`, which write
+//! `show`, `check`, `build`, `explain`, `enumerate`, `enumerate --speed SPEED`, `decode`, `describe` and `hexadecimal`, which write
 //! what comes of it. The input is standard input.
 
 mod assembly;
 mod bus;
 mod device;
+mod explain;
 mod file;
 mod hexadecimal;
 mod host;
 mod listing;
+mod names;
 mod numbers;
 mod rules;
 mod set;
+mod speed;
+mod text;
 mod works;
 
 use std::fmt::Write as _;
@@ -105,6 +109,11 @@ fn describe(input: &[u8]) -> Written {
     Ok((description.all_bytes().to_vec(), 0))
 }
 
+/// Of a whole set, file or dump.
+fn explain(input: &[u8]) -> Written {
+    Ok((explain::explain(input, &works::read_input(input)?), 0))
+}
+
 fn hexadecimal(input: &[u8]) -> Written {
     let bytes =
         hexadecimal::read(input).map_err(|it| format!("hexadecimal fault line {} column {}", it.line, it.column))?;
@@ -122,6 +131,7 @@ fn write(words: &[&str], input: &[u8]) -> Written {
         ["show"] => show(input),
         ["check"] => check(input),
         ["build"] => build(input),
+        ["explain"] => explain(input),
         ["enumerate", "--speed", "low"] => enumerate(device::Speed::Low, input),
         ["enumerate"] | ["enumerate", "--speed", "full"] => enumerate(device::Speed::Full, input),
         ["enumerate", "--speed", "high"] => enumerate(device::Speed::High, input),
@@ -140,7 +150,7 @@ const LONGEST: [usize; 2] = [41_584_152, 268_435_456];
 fn main() -> io::Result<ExitCode> {
     let words: Vec<String> = std::env::args().skip(1).collect();
     let words: Vec<&str> = words.iter().map(String::as_str).collect();
-    let is_of_file = matches!(words[..], ["show" | "check" | "enumerate", ..]);
+    let is_of_file = matches!(words[..], ["show" | "check" | "explain" | "enumerate", ..]);
     let limit = LONGEST[usize::from(!is_of_file)];
     let mut input = Vec::new();
     io::stdin().lock().take(limit as u64 + 1).read_to_end(&mut input)?;

@@ -1,8 +1,9 @@
 //! The rules of chapter 9: all findings of a file, in order.
 
+use crate::explain::Input;
 use crate::file::DescriptorFile;
 use crate::numbers::Numbers;
-use crate::set::{Configuration, Extra};
+use crate::set::{CONFIGURATION, Configuration, Extra};
 
 #[derive(Clone, Copy, Debug, PartialEq, Eq, PartialOrd, Ord)]
 #[repr(u8)]
@@ -143,20 +144,45 @@ impl Check {
     }
 }
 
-pub fn check(file: &DescriptorFile) -> Vec<Finding> {
-    let by_rule = [const { Vec::new() }; 13];
-    let mut check = Check { by_rule, part: Part::Device, set: 0 };
-    let has_lone_subclass = |class: &[u8; 3]| class[0] == 0 && class[1] != 0;
-    let device = &file.device;
-    let is_wrong = is_wrong_packet(device.packet) || has_lone_subclass(&device.class);
-    check.tell_if(is_wrong, 11, 0, 0);
-    check.sets(Part::Main, &file.sets);
-    if let Some(other) = &file.other {
-        let it = &other.qualifier;
-        let is_wrong = is_wrong_packet(it.packet) || has_lone_subclass(&it.class) || it.reserved != 0;
-        (check.part, check.set) = (Part::Other, 0);
-        check.tell_if(is_wrong, 11, 0, 0);
-        check.sets(Part::Other, &other.sets);
+fn has_lone_subclass(class: [u8; 3]) -> bool {
+    class[0] == 0 && class[1] != 0
+}
+
+impl Check {
+    fn new() -> Check {
+        Check { by_rule: [const { Vec::new() }; 13], part: Part::Device, set: 0 }
     }
+
+    fn file(&mut self, file: &DescriptorFile, is_wrong_packet0: bool) {
+        self.tell_if(is_wrong_packet0 || has_lone_subclass(file.device.class), 11, 0, 0);
+        self.sets(Part::Main, &file.sets);
+        if let Some(other) = &file.other {
+            let it = &other.qualifier;
+            let is_wrong = is_wrong_packet(it.packet) || has_lone_subclass(it.class) || it.reserved != 0;
+            (self.part, self.set) = (Part::Other, 0);
+            self.tell_if(is_wrong, 11, 0, 0);
+            self.sets(Part::Other, &other.sets);
+        }
+    }
+}
+
+/// The findings of each rule, of an input that may be a set alone or a dump.
+pub fn check_by_rule(input: &Input) -> [Vec<Finding>; 13] {
+    let mut check = Check::new();
+    match input {
+        Input::File(file) => check.file(file, is_wrong_packet(file.device.packet)),
+        Input::Dump(file) if file.device.usb >= 0x0300 => check.file(file, file.device.packet != 9),
+        Input::Dump(file) => check.file(file, is_wrong_packet(file.device.packet)),
+        Input::Set(set) => {
+            let part = if set.kind == CONFIGURATION { Part::Main } else { Part::Other };
+            check.sets(part, std::slice::from_ref(set));
+        }
+    }
+    check.by_rule
+}
+
+pub fn check(file: &DescriptorFile) -> Vec<Finding> {
+    let mut check = Check::new();
+    check.file(file, is_wrong_packet(file.device.packet));
     check.by_rule.concat()
 }

@@ -3,6 +3,7 @@
 use crate::assembly::assemble;
 use crate::bus::enumerate;
 use crate::device::{Answer, Description, Device, Setup, Speed, Token, Transaction};
+use crate::explain::{Input, explain};
 use crate::file::{self, DescriptorFile, Qualifier, read_file, write_file};
 use crate::hexadecimal;
 use crate::host::{Action, Heard, Host, Limits, Transfer};
@@ -66,6 +67,13 @@ pub fn run(name: &str, input: &[u8], copies: u32, rounds: u32) -> Result<usize> 
             Ok(input.len())
         }
         "assemble" => again(rounds, || black_box(assemble(input)).map_or(0, |_| input.len())),
+        "explain" => {
+            let whole = read_input(input)?;
+            again(rounds, || {
+                black_box(explain(input, &whole));
+                input.len()
+            })
+        }
         "hexadecimal" => again(rounds, || black_box(hexadecimal::read(input)).map_or(0, |_| input.len())),
         "enumerate" => enumerate_again(input, rounds),
         "host-setup" => drive_again(input, 1, rounds),
@@ -85,6 +93,15 @@ pub fn run(name: &str, input: &[u8], copies: u32, rounds: u32) -> Result<usize> 
         "answered" => answer_again(input, rounds),
         _ => Err(format!("no work is named {name}")),
     }
+}
+
+/// The set, file or dump that bytes are.
+pub fn read_input(input: &[u8]) -> Result<Input> {
+    if !matches!(input, [_, CONFIGURATION | OTHER_SPEED, ..]) {
+        return file::read_input(input).map_err(told);
+    }
+    let (set, used) = read_set(input).map_err(told)?;
+    if used < input.len() { Err("trailing bytes".into()) } else { Ok(Input::Set(set)) }
 }
 
 fn again(rounds: u32, mut work: impl FnMut() -> usize) -> Result<usize> {

@@ -1,0 +1,885 @@
+//! Explanations: in words what the descriptors of a whole input mean, with findings, remarks and fields.
+
+use crate::file::{DescriptorFile, named};
+use crate::names::{Field, Form, Row, bit_names, class_name, row_of, terminal_name};
+use crate::rules::{Finding, Part, check_by_rule};
+use crate::set::{ASSOCIATION, CONFIGURATION, Configuration, ENDPOINT, INTERFACE, OTHER_SPEED};
+use crate::speed::{Known, Speed, cut, right_intervals, right_sizes, speed_of};
+use crate::text::Text;
+
+pub enum Input {
+    Set(Configuration),
+    File(DescriptorFile),
+    Dump(DescriptorFile),
+}
+
+const TRANSFERS: [&str; 4] = ["control", "isochronous", "bulk", "interrupt"];
+
+fn word(bytes: &[u8], at: usize) -> u16 {
+    u16::from_le_bytes([bytes[at], bytes[at + 1]])
+}
+
+fn put_class_name(text: &mut Text, class: u8) {
+    match class_name(&[class]) {
+        Some(name) => text.put(name),
+        None => {
+            text.put("class ");
+            text.byte(class);
+        }
+    }
+}
+
+fn put_class(text: &mut Text, codes: &[u8]) {
+    put_class_name(text, codes[0]);
+    for count in 2..=3 {
+        if let Some(name) = class_name(&codes[..count]) {
+            text.put(" / ");
+            text.put(name);
+        }
+    }
+}
+
+/// The same of an interface or a function, of which class 00 is reserved.
+fn put_function_class(text: &mut Text, codes: &[u8]) {
+    if codes[0] == 0 {
+        text.put("reserved class");
+    } else {
+        put_class(text, codes);
+    }
+}
+
+fn put_end(text: &mut Text, address: u8, attributes: u8) {
+    text.put("EP ");
+    text.number(usize::from(address & 15));
+    if attributes & 3 != 0 {
+        text.put(if address & 0x80 != 0 { " IN" } else { " OUT" });
+    }
+}
+
+fn put_attributes(text: &mut Text, attributes: u8) {
+    text.put(TRANSFERS[usize::from(attributes & 3)]);
+    if attributes & 3 == 1 {
+        let kinds = [", no synchronization", ", asynchronous", ", adaptive", ", synchronous"];
+        let usages = [", data", ", feedback", ", implicit feedback data", ", reserved usage"];
+        text.put(kinds[usize::from(attributes >> 2 & 3)]);
+        text.put(usages[usize::from(attributes >> 4 & 3)]);
+    }
+}
+
+fn put_size(text: &mut Text, attributes: u8, size: u16, speed: Speed) {
+    let (bytes, more) = (usize::from(size & 0x7ff), usize::from(size >> 11 & 3));
+    let is_periodic = attributes & 1 == 1 && speed == Speed::High;
+    if is_periodic && (more == 1 || more == 2) {
+        text.number(more + 1);
+        text.put(" x ");
+        text.count(bytes, "byte");
+        text.put(" a microframe");
+        return;
+    }
+    text.count(bytes, "byte");
+    if is_periodic && more == 3 {
+        text.put(", reserved multiple");
+    }
+}
+
+fn put_power_of_two(text: &mut Text, interval: u8, unit: usize) {
+    if !(1..=16).contains(&interval) {
+        return text.put("out of range");
+    }
+    let time = unit << (interval - 1);
+    text.number(if time < 1000 { time } else { time / 1000 });
+    text.put(if time < 1000 { " us" } else { " ms" });
+}
+
+/// The interval of a periodic endpoint.
+fn put_interval(text: &mut Text, attributes: u8, interval: u8, speed: Speed) {
+    if speed != Speed::High && speed != Speed::Super {
+        match (attributes & 3, interval) {
+            (1, _) => put_power_of_two(text, interval, 1000),
+            (_, 0) => text.put("out of range"),
+            _ => {
+                text.number(usize::from(interval));
+                text.put(" ms");
+            }
+        }
+        if speed != Speed::FullOrHigh {
+            return;
+        }
+        text.put("; at high speed ");
+    }
+    put_power_of_two(text, interval, 125);
+}
+
+fn put_milliseconds(text: &mut Text, units: u32) {
+    text.number((units / 10_000) as usize);
+    let mut parts = units % 10_000;
+    if parts != 0 {
+        let mut digits = 4;
+        while parts % 10 == 0 {
+            parts /= 10;
+            digits -= 1;
+        }
+        text.put(".");
+        text.put(&"000"[..digits - parts.ilog10() as usize - 1]);
+        text.number(parts as usize);
+    }
+    text.put(" ms");
+}
+
+/// Puts the causes that hold.
+fn put_causes(text: &mut Text, causes: &[(bool, &str)]) {
+    for (number, (_, words)) in causes.iter().filter(|(holds, _)| *holds).enumerate() {
+        text.put(if number > 0 { ", and " } else { "" });
+        text.put(words);
+    }
+}
+
+fn packet_cause(packet: u8, is_super: bool, is_dump: bool) -> (bool, &'static str) {
+    match packet {
+        _ if is_super && is_dump => (packet != 9, "bMaxPacketSize0 isn't 9"),
+        9 if is_super => (true, "bMaxPacketSize0 is 9, as SuperSpeed has it; USB 2.0 has 8, 16, 32 or 64"),
+        _ => (!matches!(packet, 8 | 16 | 32 | 64), "bMaxPacketSize0 isn't 8, 16, 32 or 64"),
+    }
+}
+
+fn subclass_cause(codes: &[u8]) -> (bool, &'static str) {
+    (codes[0] == 0 && codes[1] != 0, "there is a subclass without a class")
+}
+
+/// Where the header of an interface's class descriptors has wTotalLength.
+fn total_length_at(codes: [u8; 3]) -> Option<usize> {
+    match codes {
+        [1, 1, 0x30] => None,
+        [1, 1, 0x20] => Some(6),
+        [1 | 14, 1, _] => Some(5),
+        _ => None,
+    }
+}
+
+/// A place in a set, and what of the set is needed there.
+#[derive(Clone, Copy)]
+struct Place<'a> {
+    part: Part,
+    set: usize,
+    setting: usize,
+    endpoint: usize,
+    speed: Speed,
+    codes: Option<[u8; 3]>,
+    /// The associations of the set, and its descriptors after this one.
+    associations: &'a [&'a [u8]],
+    later: &'a [u8],
+}
+
+struct Explainer<'a> {
+    bytes: &'a [u8],
+    is_dump: bool,
+    text: Text,
+    found: [Vec<Finding>; 13],
+    told: [usize; 13],
+    /// The strings of the first language by their indices.
+    names: Vec<Option<&'a [u16]>>,
+    device: Option<&'a [u8]>,
+    qualifier: Option<&'a [u8]>,
+    has_other: bool,
+    other: Option<Speed>,
+    sets: [usize; 2],
+}
+
+impl<'a> Explainer<'a> {
+    fn heading(&mut self, depth: usize) -> &mut Text {
+        self.text.spaces(2 * depth);
+        &mut self.text
+    }
+
+    fn end_heading(&mut self, at: usize, len: usize) {
+        self.text.put(" @");
+        self.text.number(at);
+        self.text.put("+");
+        self.text.number(len);
+        self.text.end();
+    }
+
+    /// Begins the line of a finding at this place, if there is one.
+    fn finds(&mut self, depth: usize, rule: usize, place: (Part, usize, usize, usize)) -> bool {
+        let Some(next) = self.found[rule - 1].get(self.told[rule - 1]) else {
+            return false;
+        };
+        let its = (next.part, usize::from(next.set), usize::from(next.setting), usize::from(next.endpoint));
+        if its != place {
+            return false;
+        }
+        self.told[rule - 1] += 1;
+        self.text.spaces(2 * depth + 2);
+        self.text.put("! V");
+        self.text.number(rule);
+        self.text.put(" ");
+        true
+    }
+
+    fn finding(&mut self, depth: usize, rule: usize, place: (Part, usize, usize, usize), words: &str) {
+        if self.finds(depth, rule, place) {
+            self.text.put(words);
+            self.text.end();
+        }
+    }
+
+    fn remark(&mut self, depth: usize) -> &mut Text {
+        self.text.spaces(2 * depth + 2);
+        self.text.put("? ");
+        &mut self.text
+    }
+
+    fn field(&mut self, depth: usize, name: &str) -> &mut Text {
+        let (start, mut line) = (2 * depth + 4, [b' '; 80]);
+        let end = start + name.len().max(22) + 1;
+        line[start..start + name.len()].copy_from_slice(name.as_bytes());
+        self.text.0.extend_from_slice(&line[..end]);
+        &mut self.text
+    }
+
+    fn number_field(&mut self, depth: usize, name: &str, number: u8) {
+        self.field(depth, name).number(usize::from(number));
+        self.text.end();
+    }
+
+    fn index_field(&mut self, depth: usize, name: &str, index: u8) {
+        self.field(depth, name);
+        self.put_index(index);
+        self.text.end();
+    }
+
+    fn put_index(&mut self, index: u8) {
+        self.text.number(usize::from(index));
+        match self.names.get(usize::from(index)) {
+            _ if index == 0 => self.text.put(" (none)"),
+            Some(Some(units)) => {
+                self.text.put(" ");
+                self.text.quoted(units);
+            }
+            _ => self.text.put(" (not in the input)"),
+        }
+    }
+
+    fn release_field(&mut self, depth: usize, name: &str, number: u16) {
+        self.field(depth, name).coded_release(number);
+        self.text.end();
+    }
+
+    fn tail_field(&mut self, depth: usize, tail: &[u8]) {
+        if !tail.is_empty() {
+            self.field(depth, "tail").hex(tail);
+            self.text.end();
+        }
+    }
+
+    fn class_fields(&mut self, depth: usize, names: [&str; 3], codes: &[u8], is_device: bool) {
+        for (place, name) in names.into_iter().enumerate() {
+            let is_reserved = place == 0 && codes[0] == 0 && !is_device;
+            let meaning = if is_reserved { Some("reserved class") } else { class_name(&codes[..=place]) };
+            let text = self.field(depth, name);
+            text.byte(codes[place]);
+            text.meaning(meaning);
+            text.end();
+        }
+    }
+
+    fn of_device(&mut self, item: &'a [u8]) {
+        self.device = Some(item);
+        let (usb, codes, packet) = (word(item, 2), &item[4..7], item[7]);
+        let text = self.heading(0);
+        text.put("device ");
+        text.hex(&[item[9], item[8]]);
+        text.put(":");
+        text.hex(&[item[11], item[10]]);
+        text.put(", USB ");
+        text.release(usb);
+        text.put(", ");
+        put_class(text, codes);
+        self.end_heading(0, 18);
+        if item[17] == 0 {
+            self.finding(0, 10, (Part::Main, 0, 0, 0), "there is no configuration");
+        }
+        if self.finds(0, 11, (Part::Device, 0, 0, 0)) {
+            let causes = [packet_cause(packet, usb >= 0x0300, self.is_dump), subclass_cause(codes)];
+            put_causes(&mut self.text, &causes);
+            self.text.end();
+        }
+        self.release_field(0, "bcdUSB", usb);
+        self.class_fields(0, ["bDeviceClass", "bDeviceSubClass", "bDeviceProtocol"], codes, true);
+        let text = self.field(0, "bMaxPacketSize0");
+        text.number(usize::from(packet));
+        if usb >= 0x0300 {
+            text.put(if packet <= 15 { " (" } else { " (out of range" });
+            if packet <= 15 {
+                text.count(1 << packet, "byte");
+            }
+            text.put(")");
+        }
+        text.end();
+        for (name, at) in [("idVendor", 8), ("idProduct", 10)] {
+            self.field(0, name).word(word(item, at));
+            self.text.end();
+        }
+        self.release_field(0, "bcdDevice", word(item, 12));
+        for (name, at) in [("iManufacturer", 14), ("iProduct", 15), ("iSerialNumber", 16)] {
+            self.index_field(0, name, item[at]);
+        }
+        self.number_field(0, "bNumConfigurations", item[17]);
+    }
+
+    fn of_qualifier(&mut self, item: &'a [u8], at: usize) {
+        self.qualifier = Some(item);
+        let (usb, codes) = (word(item, 2), &item[4..7]);
+        let text = self.heading(0);
+        text.put("qualifier of the other speed, USB ");
+        text.release(usb);
+        text.put(", ");
+        put_class(text, codes);
+        self.end_heading(at, 10);
+        if item[8] == 0 {
+            self.finding(0, 10, (Part::Other, 0, 0, 0), "there is no configuration");
+        }
+        if self.finds(0, 11, (Part::Other, 0, 0, 0)) {
+            let reserved = (item[9] != 0, "bReserved isn't 0");
+            put_causes(&mut self.text, &[packet_cause(item[7], false, false), subclass_cause(codes), reserved]);
+            self.text.end();
+        }
+        self.release_field(0, "bcdUSB", usb);
+        self.class_fields(0, ["bDeviceClass", "bDeviceSubClass", "bDeviceProtocol"], codes, true);
+        self.number_field(0, "bMaxPacketSize0", item[7]);
+        self.number_field(0, "bNumConfigurations", item[8]);
+        self.field(0, "bReserved").byte(item[9]);
+        self.text.end();
+    }
+
+    /// The speed that a set has.
+    fn set_speed(&self, set: &[u8]) -> Speed {
+        let none = Known { speed: None, packet: None, has_other: false, other: None };
+        let known = match (self.device, self.qualifier) {
+            (None, _) => none,
+            (_, Some(qualifier)) => Known { packet: Some(qualifier[7]), has_other: true, ..none },
+            (Some(device), None) => {
+                let speed = match word(device, 2) {
+                    0x0300.. => Some(Speed::Super),
+                    0..0x0200 => Some(Speed::LowOrFull),
+                    _ if device[4] == 9 && matches!(device[6], 1 | 2) => Some(Speed::High),
+                    _ => None,
+                };
+                Known { speed, packet: Some(device[7]), has_other: self.has_other, other: self.other }
+            }
+        };
+        speed_of(set, known)
+    }
+
+    fn of_set(&mut self, set: &'a [u8], at: usize) {
+        let is_main = set[1] == CONFIGURATION;
+        let part = if is_main { Part::Main } else { Part::Other };
+        let number = self.sets[usize::from(!is_main)];
+        self.sets[usize::from(!is_main)] += 1;
+        let speed = self.set_speed(set);
+        let bindings: Vec<&[u8]> = cut(set).map(|it| it.1).filter(|it| it[1] == ASSOCIATION).collect();
+        let associations = bindings.as_slice();
+        let mut place =
+            Place { part, set: number, setting: 0, endpoint: 0, speed, codes: None, associations, later: set };
+        let (mut owner, mut settings, mut associations) = (1, 0, 0);
+        for (start, item) in cut(set) {
+            place.later = &set[start + item.len()..];
+            match item[1] {
+                CONFIGURATION | OTHER_SPEED => self.of_configuration(item, at, place),
+                INTERFACE => {
+                    (owner, place.setting, place.endpoint) = (2, settings, 0);
+                    (settings, place.codes) = (settings + 1, Some([item[5], item[6], item[7]]));
+                    self.of_interface(item, at + start, place);
+                }
+                ENDPOINT => {
+                    owner = 3;
+                    self.of_endpoint(item, at + start, place);
+                    place.endpoint += 1;
+                }
+                ASSOCIATION => {
+                    owner = 1;
+                    self.of_association(item, at + start, (part, number, associations, 0));
+                    associations += 1;
+                }
+                _ => self.of_raw(item, at + start, owner + 1, place),
+            }
+        }
+    }
+
+    fn of_configuration(&mut self, item: &[u8], at: usize, place: Place) {
+        let is_main = place.part == Part::Main;
+        let (attributes, current) = (item[7], usize::from(item[8]) * if place.speed == Speed::Super { 8 } else { 2 });
+        let power = if attributes & 0x40 != 0 { "self-powered" } else { "bus-powered" };
+        let text = self.heading(1);
+        text.put(if is_main { "configuration " } else { "other-speed configuration " });
+        text.number(usize::from(item[5]));
+        text.put(", ");
+        text.put(place.speed.words());
+        text.put(", ");
+        text.count(usize::from(item[4]), "interface");
+        text.put(", ");
+        text.put(power);
+        text.put(", ");
+        text.number(current);
+        text.put(" mA");
+        self.end_heading(at, item.len());
+        let its = (place.part, place.set, 0, 0);
+        if self.finds(1, 1, its) {
+            let mut numbers = crate::numbers::Numbers::default();
+            cut(place.later).filter(|(_, it)| it[1] == INTERFACE).for_each(|(_, it)| _ = numbers.add(it[2]));
+            self.text.put("bNumInterfaces is ");
+            self.text.number(usize::from(item[4]));
+            self.text.put(", and the set has ");
+            self.text.count(numbers.count(), "interface");
+            self.text.end();
+        }
+        self.finding(1, 2, its, "the interfaces aren't numbered from 0 without a gap");
+        if self.finds(1, 9, its) {
+            let clear = (attributes & 0x80 == 0, "bit 7 of bmAttributes isn't one");
+            put_causes(&mut self.text, &[clear, (attributes & 0x1f != 0, "bits 4 to 0 of bmAttributes aren't zero")]);
+            self.text.end();
+        }
+        let is_zero = item[5] == 0;
+        let words = if is_zero { "bConfigurationValue is 0" } else { "an earlier set has this bConfigurationValue" };
+        self.finding(1, 10, its, words);
+        self.field(1, "wTotalLength").number(usize::from(word(item, 2)));
+        self.text.end();
+        self.number_field(1, "bNumInterfaces", item[4]);
+        self.number_field(1, "bConfigurationValue", item[5]);
+        self.index_field(1, "iConfiguration", item[6]);
+        let text = self.field(1, "bmAttributes");
+        text.byte(attributes);
+        text.put(" (");
+        text.put(power);
+        text.put(if attributes & 0x20 != 0 { ", remote wakeup)" } else { ")" });
+        text.end();
+        let text = self.field(1, "bMaxPower");
+        text.number(usize::from(item[8]));
+        text.put(" (");
+        text.number(current);
+        text.put(" mA)");
+        text.end();
+        self.tail_field(1, &item[9..]);
+    }
+
+    fn of_association(&mut self, item: &[u8], at: usize, place: (Part, usize, usize, usize)) {
+        let (first, count, codes) = (usize::from(item[2]), usize::from(item[3]), &item[4..7]);
+        let text = self.heading(2);
+        text.put("association ");
+        text.number(place.2);
+        text.put(if count == 0 { " of no interface" } else { " of interface" });
+        if count > 0 {
+            text.put(if count > 1 { "s " } else { " " });
+            text.number(first);
+        }
+        if count > 1 {
+            text.put(" to ");
+            text.number(first + count - 1);
+        }
+        text.put(", ");
+        put_function_class(text, codes);
+        self.end_heading(at, item.len());
+        let binds = count > 0;
+        let words = if binds { "it binds an interface that the set hasn't" } else { "it binds no interface" };
+        self.finding(2, 13, place, words);
+        self.class_remark(codes[0]);
+        self.number_field(2, "bFirstInterface", item[2]);
+        self.number_field(2, "bInterfaceCount", item[3]);
+        self.class_fields(2, ["bFunctionClass", "bFunctionSubClass", "bFunctionProtocol"], codes, false);
+        self.index_field(2, "iFunction", item[7]);
+        self.tail_field(2, &item[8..]);
+    }
+
+    fn class_remark(&mut self, class: u8) {
+        if class == 0 {
+            self.remark(2).put("class 0x00 is reserved for future use\n");
+        }
+    }
+
+    fn of_interface(&mut self, item: &[u8], at: usize, place: Place) {
+        let (number, codes) = (item[2], &item[5..8]);
+        let text = self.heading(2);
+        text.put("interface ");
+        text.number(usize::from(number));
+        text.put(" alternate ");
+        text.number(usize::from(item[3]));
+        let binds = |it: &[u8]| number >= it[2] && u16::from(number) < u16::from(it[2]) + u16::from(it[3]);
+        if let Some(bound) = place.associations.iter().position(|it| binds(it)) {
+            text.put(" of association ");
+            text.number(bound);
+        }
+        text.put(", ");
+        put_function_class(text, codes);
+        text.put(", ");
+        text.count(usize::from(item[4]), "endpoint");
+        self.end_heading(at, item.len());
+        let its = (place.part, place.set, place.setting, 0);
+        self.finding(2, 3, its, "this interface has this alternate setting already");
+        self.finding(2, 4, its, "this interface has no alternate setting 0");
+        if self.finds(2, 5, its) {
+            let own = cut(place.later).take_while(|(_, it)| it[1] != INTERFACE);
+            self.text.put("bNumEndpoints is ");
+            self.text.number(usize::from(item[4]));
+            self.text.put(", and the setting has ");
+            self.text.count(own.filter(|(_, it)| it[1] == ENDPOINT).count(), "endpoint");
+            self.text.end();
+        }
+        self.class_remark(codes[0]);
+        self.number_field(2, "bInterfaceNumber", number);
+        self.number_field(2, "bAlternateSetting", item[3]);
+        self.number_field(2, "bNumEndpoints", item[4]);
+        self.class_fields(2, ["bInterfaceClass", "bInterfaceSubClass", "bInterfaceProtocol"], codes, false);
+        self.index_field(2, "iInterface", item[8]);
+        self.tail_field(2, &item[9..]);
+    }
+
+    fn of_endpoint(&mut self, item: &[u8], at: usize, place: Place) {
+        let (address, attributes, size, interval) = (item[2], item[3], word(item, 4), item[6]);
+        let (speed, is_periodic) = (place.speed, attributes & 1 == 1);
+        let text = self.heading(3);
+        text.put("endpoint ");
+        text.byte(address);
+        text.put(" (");
+        put_end(text, address, attributes);
+        text.put("), ");
+        put_attributes(text, attributes);
+        text.put(", ");
+        put_size(text, attributes, size, speed);
+        if is_periodic {
+            text.put(", ");
+            put_interval(text, attributes, interval, speed);
+        }
+        self.end_heading(at, item.len());
+        let its = (place.part, place.set, place.setting, place.endpoint);
+        if self.finds(3, 6, its) {
+            let zero = (address & 0x0f == 0, "the address names endpoint 0");
+            put_causes(&mut self.text, &[zero, (address & 0x70 != 0, "bits 6 to 4 of the address aren't zero")]);
+            self.text.end();
+        }
+        self.finding(3, 7, its, "this setting has this address already");
+        self.finding(3, 8, its, "another interface of the set has this address");
+        self.finding(3, 12, its, "bits 15 to 13 of wMaxPacketSize aren't zero");
+        self.endpoint_remarks(attributes, size, interval, speed);
+        let text = self.field(3, "bEndpointAddress");
+        text.byte(address);
+        text.put(" (");
+        put_end(text, address, attributes);
+        text.put(")\n");
+        let text = self.field(3, "bmAttributes");
+        text.byte(attributes);
+        text.put(" (");
+        put_attributes(text, attributes);
+        text.put(")\n");
+        let text = self.field(3, "wMaxPacketSize");
+        text.word(size);
+        text.put(" (");
+        put_size(text, attributes, size, speed);
+        text.put(")\n");
+        let text = self.field(3, "bInterval");
+        text.number(usize::from(interval));
+        if is_periodic {
+            text.put(" (");
+            put_interval(text, attributes, interval, speed);
+            text.put(")");
+        }
+        text.end();
+        match &item[7..] {
+            [refresh, synch] if place.codes.is_some_and(|it| it[0] == 1) => {
+                self.number_field(3, "bRefresh", *refresh);
+                self.field(3, "bSynchAddress").byte(*synch);
+                self.text.end();
+            }
+            tail => self.tail_field(3, tail),
+        }
+    }
+
+    fn endpoint_remarks(&mut self, attributes: u8, size: u16, interval: u8, speed: Speed) {
+        let kind = attributes & 3;
+        let name = TRANSFERS[usize::from(kind)];
+        let article = if kind & 1 == 1 { "an " } else { "a " };
+        if let Some((first, last)) = right_intervals(kind, interval, speed) {
+            let text = self.remark(3);
+            text.put(article);
+            text.put(name);
+            text.put(" interval is ");
+            text.number(usize::from(first));
+            text.put(" to ");
+            text.number(usize::from(last));
+            text.put(" at ");
+            text.put(speed.words());
+            text.end();
+        }
+        match right_sizes(kind, size & 0x7ff, speed).as_deref() {
+            None => {}
+            Some([]) => {
+                let text = self.remark(3);
+                text.put(speed.words());
+                text.put(" has no ");
+                text.put(name);
+                text.put(" endpoints\n");
+            }
+            Some(sizes @ [.., last]) => {
+                let text = self.remark(3);
+                text.put(article);
+                text.put(name);
+                text.put(if sizes[0] == 0 { " packet is at most " } else { " packet is " });
+                let others = if sizes[0] == 0 { &[] } else { &sizes[..sizes.len() - 1] };
+                for (place, other) in others.iter().enumerate() {
+                    text.put(if place > 0 { ", " } else { "" });
+                    text.number(usize::from(*other));
+                }
+                text.put(if others.is_empty() { "" } else { " or " });
+                text.number(usize::from(*last));
+                text.put(" bytes at ");
+                text.put(speed.words());
+                text.end();
+            }
+        }
+        let more = size >> 11 & 3;
+        let is_multiple = speed.may_be_high() && kind & 1 == 1;
+        if is_multiple && more == 3 {
+            self.remark(3).put("3 in bits 12 to 11 of wMaxPacketSize is reserved\n");
+        } else if !is_multiple && more != 0 {
+            self.remark(3).put("bits 12 to 11 of wMaxPacketSize are reserved here\n");
+        }
+        let reserved = if kind == 3 && speed == Speed::Super { 0x2c } else { 0x3c };
+        if kind == 1 && attributes & 0x30 == 0x30 {
+            self.remark(3).put("usage 3 is reserved\n");
+        } else if kind != 1 && attributes & reserved != 0 {
+            self.remark(3).put("bits 5 to 2 of bmAttributes are reserved here\n");
+        } else if attributes & 0xc0 != 0 {
+            self.remark(3).put("bits 7 to 6 of bmAttributes are reserved\n");
+        }
+    }
+
+    fn of_raw(&mut self, item: &[u8], at: usize, depth: usize, place: Place) {
+        let row = row_of(item, place.codes);
+        match row {
+            Some(row) => self.heading(depth).put(row.name),
+            None => {
+                let text = self.heading(depth);
+                text.put("descriptor of type ");
+                text.byte(item[1]);
+            }
+        }
+        self.end_heading(at, item.len());
+        if let (Some(codes), [_, 0x24, 0x01, ..]) = (place.codes, item) {
+            self.header_remark(item, depth, codes, place.later);
+        }
+        self.field(depth, "bDescriptorType").byte(item[1]);
+        self.text.end();
+        self.raw_fields(&item[2..], depth, row);
+    }
+
+    fn header_remark(&mut self, item: &[u8], depth: usize, codes: [u8; 3], later: &[u8]) {
+        let Some(at) = total_length_at(codes).filter(|at| at + 2 <= item.len()) else {
+            return;
+        };
+        let own = cut(later).take_while(|(_, it)| it[1] == 0x24);
+        let found = item.len() + own.map(|(_, it)| it.len()).sum::<usize>();
+        let total = usize::from(word(item, at));
+        if total != found {
+            let text = self.remark(depth);
+            text.put("wTotalLength is ");
+            text.number(total);
+            text.put(", and the class descriptors have ");
+            text.count(found, "byte");
+            text.end();
+        }
+    }
+
+    fn raw_fields(&mut self, body: &[u8], depth: usize, row: Option<&'static Row>) {
+        let mut rest = body;
+        if let Some(row) = row {
+            let all_there = row.fields.iter().all(|field| {
+                let Some((value, more)) = rest.split_at_checked(field.size) else {
+                    return false;
+                };
+                self.raw_field(depth, field, value);
+                rest = more;
+                true
+            });
+            let size: usize = row.group.iter().map(|field| field.size).sum();
+            while all_there && size > 0 && size <= rest.len() {
+                for field in &row.group {
+                    let (value, more) = rest.split_at(field.size);
+                    self.raw_field(depth, field, value);
+                    rest = more;
+                }
+            }
+        }
+        if !rest.is_empty() {
+            self.field(depth, "bytes").hex(rest);
+            self.text.end();
+        }
+    }
+
+    fn raw_field(&mut self, depth: usize, field: &Field, value: &[u8]) {
+        self.field(depth, field.name);
+        let mut bytes = [0; 4];
+        let count = value.len().min(4);
+        bytes[..count].copy_from_slice(&value[..count]);
+        let number = u32::from_le_bytes(bytes);
+        let text = &mut self.text;
+        match field.form {
+            Form::Index => self.put_index(value[0]),
+            Form::Interval => {
+                text.number(number as usize);
+                text.put(" (");
+                put_milliseconds(text, number);
+                text.put(")");
+            }
+            Form::Guid => {
+                text.hex(value);
+                let is_name = value[..4].iter().all(|it| it.is_ascii_uppercase() || it.is_ascii_digit());
+                if is_name && value[4..] == [0, 0, 0x10, 0, 0x80, 0, 0, 0xaa, 0, 0x38, 0x9b, 0x71] {
+                    text.meaning(str::from_utf8(&value[..4]).ok());
+                }
+            }
+            Form::Terminal(class) => {
+                text.word(number as u16);
+                text.meaning(terminal_name(class, number as u16));
+            }
+            Form::Bits(place) => {
+                text.byte(value[0]);
+                put_bits(text, bit_names(place), value[0]);
+            }
+            Form::Hex if count == value.len() => {
+                text.put("0x");
+                text.hex(&number.to_be_bytes()[4 - count..]);
+            }
+            Form::Hex => text.hex(value),
+            Form::Dec => text.number(number as usize),
+            Form::Bcd => text.coded_release(number as u16),
+            Form::Type => {
+                text.byte(value[0]);
+                text.meaning(match value[0] {
+                    0x22 => Some("report"),
+                    0x23 => Some("physical"),
+                    _ => None,
+                });
+            }
+        }
+        self.text.end();
+    }
+
+    fn of_strings(&mut self, file: &DescriptorFile, at: usize) {
+        let Some(strings) = &file.strings else {
+            return;
+        };
+        self.text.put("languages");
+        for language in &strings.languages {
+            self.text.put(" ");
+            self.text.word(*language);
+        }
+        let mut start = at + 2 + 2 * strings.languages.len();
+        self.end_heading(at, start - at);
+        let named = named(file).to_vec();
+        let places = strings.languages.iter().flat_map(|language| named.iter().map(move |it| (*language, *it)));
+        for ((language, index), units) in places.zip(&strings.texts) {
+            self.text.put("string ");
+            self.text.number(usize::from(index));
+            self.text.put(" in ");
+            self.text.word(language);
+            self.text.put(": ");
+            self.text.quoted(units);
+            self.end_heading(start, 2 + 2 * units.len());
+            start += 2 + 2 * units.len();
+        }
+    }
+
+    /// The sets from here on, so many; answers where they end.
+    fn of_sets(&mut self, count: usize, start: usize) -> usize {
+        let mut at = start;
+        for _ in 0..count {
+            let end = at + usize::from(word(self.bytes, at + 2));
+            self.of_set(&self.bytes[at..end], at);
+            at = end;
+        }
+        at
+    }
+
+    fn of_file(&mut self, file: &DescriptorFile) {
+        let bytes = self.bytes;
+        let end_of_main = {
+            let skip = |at: usize| at + usize::from(word(bytes, at + 2));
+            (0..file.sets.len()).fold(18, |at, _| skip(at))
+        };
+        if file.other.is_some() {
+            let known = Known { speed: None, packet: Some(bytes[end_of_main + 7]), has_other: true, other: None };
+            (self.has_other, self.other) = (true, Some(speed_of(&bytes[end_of_main + 10..], known)));
+        }
+        self.of_device(&bytes[..18]);
+        let mut at = self.of_sets(file.sets.len(), 18);
+        if let Some(other) = &file.other {
+            self.of_qualifier(&bytes[at..at + 10], at);
+            at = self.of_sets(other.sets.len(), at + 10);
+        }
+        self.of_strings(file, at);
+    }
+}
+
+fn put_bits(text: &mut Text, names: &[&str], bits: u8) {
+    for (number, bit) in (0..8).filter(|bit| bits >> bit & 1 == 1).enumerate() {
+        text.put(if number > 0 { ", " } else { " (" });
+        match names.get(bit) {
+            Some(name) => text.put(name),
+            None => {
+                text.put("bit ");
+                text.number(bit);
+            }
+        }
+    }
+    text.put(if bits != 0 { ")" } else { "" });
+}
+
+/// The strings of the first language by their indices.
+fn names_of(file: &DescriptorFile) -> Vec<Option<&[u16]>> {
+    let Some(strings) = &file.strings else {
+        return Vec::new();
+    };
+    let mut names = vec![None; 256];
+    for (index, units) in named(file).to_vec().iter().zip(&strings.texts) {
+        names[usize::from(*index)] = Some(units.as_slice());
+    }
+    names
+}
+
+/// The explanation of bytes that are this input.
+pub fn explain(bytes: &[u8], input: &Input) -> Vec<u8> {
+    let mut explainer = Explainer {
+        bytes,
+        is_dump: matches!(input, Input::Dump(_)),
+        // Most bytes take some thirty characters.
+        text: Text(Vec::with_capacity(1024 + 36 * bytes.len())),
+        found: check_by_rule(input),
+        told: [0; 13],
+        names: Vec::new(),
+        device: None,
+        qualifier: None,
+        has_other: false,
+        other: None,
+        sets: [0; 2],
+    };
+    explainer.text.put(match input {
+        Input::Set(_) => "set, ",
+        Input::File(file) if file.strings.is_some() => "file, ",
+        Input::File(_) => "file, no strings named, ",
+        Input::Dump(_) => "device and its sets without strings, ",
+    });
+    explainer.text.count(bytes.len(), "byte");
+    explainer.text.end();
+    match input {
+        Input::Set(_) => explainer.of_set(bytes, 0),
+        Input::File(file) | Input::Dump(file) => {
+            explainer.names = names_of(file);
+            explainer.of_file(file);
+        }
+    }
+    match explainer.found.iter().map(Vec::len).sum() {
+        0 => explainer.text.put("no findings"),
+        count => explainer.text.count(count, "finding"),
+    }
+    explainer.text.end();
+    explainer.text.0
+}
