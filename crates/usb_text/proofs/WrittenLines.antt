@@ -7,7 +7,7 @@ use Rattle.std.proofs.lemmas.List.Folds.{list_all-append}
 use Rattle.std.proofs.lemmas.List.Sums.{sum_by-append, sum_by-cons}
 use Rattle.usb_text.specs.HexText.{is_line_feed}
 use Rattle.usb_text.specs.Output.{AppendsLess, Held}
-use Rattle.usb_text.specs.Written.{PutsLines, WritesFewer, WritesLess, WritesLines, Written, is_of_lines, is_whole, more_lines, written}
+use Rattle.usb_text.specs.Written.{PutsLines, WritesFewer, WritesLess, WritesLines, Written, is_of_lines, is_whole, more_lines, no_lines, written}
 use Rattle.usb_text.specs.inside.Pages.{EndedLines}
 use Rattle.usb_text.proofs.Pages.{appends_more, appends_nothing, keeps_refl}
 
@@ -131,7 +131,7 @@ pub nothing_put : (a : Held) (p : Written) → PutsLines a a p p 0
 nothing_put a p = record { gained = 0; parts = omega arith; same = refl; written = no_lines_written p.utf8 a }
 
 pub all_passed : (utf8 : Bool) (a b : Held) (text : List ℕ) → list_all (is_of_lines utf8) text ≡ true → is_whole text ≡ true → Appends a b text
-    → PutsLines a b (written utf8 text) (written utf8 []) 0
+    → PutsLines a b (written (record { utf8 = utf8; bytes = text })) (written (no_lines utf8)) 0
 all_passed utf8 a b text h whole w =
     record { gained = feeds text; parts = refl; same = refl; written = ended_written utf8 a b text text h (all_ended text whole) w }
 
