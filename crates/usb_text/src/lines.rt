@@ -20,8 +20,8 @@ use usb_fields::known_bytes;
 const FULL: usize = 32 * 1024;
 
 /// Lines of printable ASCII and, with `utf8`, characters beyond it. A line feed ends a line, and nothing else does. In a
-/// contract they are how many lines have ended; [`Page`] says what they show. Out of memory, those that no writer has
-/// yet are gone.
+/// contract they are their bytes; a [`Page`], as which they are put, shows none of the words. Out of memory, those that
+/// no writer has yet are gone.
 ///
 /// ```rust
 /// let mut lines = Lines::new(alloc, false);
@@ -52,6 +52,7 @@ impl Model for Lines {
 impl Lines {
     ghost use Rattle.std.specs.Prelude.{◌≡◌, ◌==◌, ◌⊎◌, length, IfErr, IsTrue, OnErr, OnOk};
     ghost use Rattle.std.specs.List.{list_all};
+    ghost use Rattle.usb_text.specs.Output.{AppendsFront};
     ghost use Rattle.usb_text.specs.Written.{PutsLines, WritesLess, WritesLines, is_of_lines, no_lines, written};
 
     /// No lines.
@@ -90,12 +91,13 @@ impl Lines {
     ///
     /// # Errors
     ///
-    /// `Write` where the writer failed. It has not all of the lines then.
-    #[tactic(auto, using(crate::proofs::WrittenLines::all_passed, crate::proofs::WrittenLines::not_passed, crate::proofs::WrittenLines::nothing_put))]
+    /// `Write` where the writer failed. It has a prefix of the lines then, and not all of them.
+    #[tactic(auto, using(crate::proofs::WrittenLines::all_passed, crate::proofs::WrittenLines::not_passed, crate::proofs::WrittenLines::nothing_put, crate::proofs::WrittenLines::front_none, crate::proofs::WrittenLines::front_all, crate::proofs::WrittenLines::front_less))]
     pub fn pass_on<W: Write>(&mut self, w: &mut W) -> Result<(), OutFault>
         ensures ok { OnOk result (PutsLines (W.contents w.old) (W.contents w.new) (written self.old) (written self.new) 0) }
         ensures whole { OnOk result ((self.new ≡ self.old) ⊎ (self.new ≡ no_lines self.old.utf8)) }
         ensures err { OnErr result (WritesLess self.old.utf8 (written self.old).ended (W.contents w.old) (W.contents w.new)) }
+        ensures front { AppendsFront (W.contents w.old) (W.contents w.new) self.old.bytes }
         ensures why { IfErr result (λ fault. fault ≡ OutFault.Write) }
     {
         if self.text.len() >= FULL && is_whole(self.text.as_bytes()) {
@@ -109,11 +111,12 @@ impl Lines {
     ///
     /// # Errors
     ///
-    /// `Write` where the writer failed. It has not all of the lines then.
-    #[tactic(auto, using(crate::proofs::WrittenLines::ended_written, crate::proofs::WrittenLines::ended_less))]
+    /// `Write` where the writer failed. It has a prefix of the lines then, and not all of them.
+    #[tactic(auto, using(crate::proofs::WrittenLines::ended_written, crate::proofs::WrittenLines::ended_less, crate::proofs::WrittenLines::ended_front, crate::proofs::WrittenLines::ended_front_less))]
     pub fn finish<W: Write>(self, w: &mut W) -> Result<(), OutFault>
         ensures ok { OnOk result (WritesLines self.utf8 (written self).ended (W.contents w.old) (W.contents w.new)) }
         ensures err { OnErr result (WritesLess self.utf8 (written self).ended (W.contents w.old) (W.contents w.new)) }
+        ensures front { AppendsFront (W.contents w.old) (W.contents w.new) self.bytes }
         ensures why { IfErr result (λ fault. fault ≡ OutFault.Write) }
     {
         write_all(w, ended_lines(self.text.as_bytes()))?;
