@@ -1,15 +1,15 @@
 -- What a writer gained of lines.
-use Rattle.std.proofs.Common.{◌≡◌, ℕ, suc, ◌+◌, ◌-◌, ◌<◌, ◌≤◌, ◌==◌, length, slice_index, Bool, true, cond, count_by, List, [], ◌∷◌, ◌++◌, refl, sym, ap, subst, ◌∙◌, append-nil, arith}
+use Rattle.std.proofs.Common.{◌≡◌, ℕ, suc, ◌+◌, ◌-◌, ◌<◌, ◌≤◌, ◌==◌, length, slice_index, Bool, true, cond, count_by, List, [], ◌∷◌, ◌++◌, refl, sym, ap, subst, ◌∙◌, append-nil, append_assoc, arith}
 use Rattle.std.specs.Io.KnownBytes.{Appends}
 use Rattle.std.specs.List.{list_all}
 use Rattle.std.proofs.lemmas.Bool.{and_parts}
 use Rattle.std.proofs.lemmas.List.Folds.{list_all-append}
 use Rattle.std.proofs.lemmas.List.Sums.{sum_by-append, sum_by-cons}
 use Rattle.usb_text.specs.HexText.{is_line_feed}
-use Rattle.usb_text.specs.Output.{AppendsLess, Held}
-use Rattle.usb_text.specs.Written.{PutsLines, WritesFewer, WritesLess, WritesLines, Written, is_of_lines, is_whole, more_lines, written}
+use Rattle.usb_text.specs.Output.{AppendsFront, AppendsLess, Held}
+use Rattle.usb_text.specs.Written.{PutsLines, WritesFewer, WritesLess, WritesLines, Written, is_of_lines, is_whole, more_lines, no_lines, written}
 use Rattle.usb_text.specs.inside.Pages.{EndedLines}
-use Rattle.usb_text.proofs.Pages.{appends_more, appends_nothing, keeps_refl}
+use Rattle.usb_text.proofs.Pages.{appends_more, appends_nothing, keeps_refl, less_is_front}
 
 abbrev feeds : List ℕ → ℕ
 feeds xs = count_by is_line_feed xs
@@ -116,6 +116,30 @@ ended_less utf8 a b text lines h e w =
 pub all_ended : (text : List ℕ) → is_whole text ≡ true → EndedLines text text
 all_ended text h = record { begun = []; parts = sym (append-nil text); none = refl; whole = h }
 
+-- a prefix of the lines that have ended is one of the text
+pub front_none : (a : Held) (text : List ℕ) → AppendsFront a a text
+front_none a text = record { front = []; rest = text; parts = refl; written = appends_nothing a a (keeps_refl a) }
+
+pub front_all : (a b : Held) (text : List ℕ) → Appends a b text → AppendsFront a b text
+front_all a b text w = record { front = text; rest = []; parts = sym (append-nil text); written = w }
+
+pub front_less : (a b : Held) (text : List ℕ) → AppendsLess a b text → AppendsFront a b text
+front_less a b text w = less_is_front a b text w
+
+front_ended : (a b : Held) (text lines : List ℕ) → EndedLines text lines → AppendsFront a b lines → AppendsFront a b text
+front_ended a b text lines e w = record {
+  front = w.front;
+  rest = w.rest ++ e.begun;
+  parts = e.parts ∙ ap (λ (l : List ℕ). l ++ e.begun) w.parts ∙ append_assoc w.front w.rest e.begun;
+  written = w.written;
+}
+
+pub ended_front : (a b : Held) (text lines : List ℕ) → EndedLines text lines → Appends a b lines → AppendsFront a b text
+ended_front a b text lines e w = front_ended a b text lines e (front_all a b lines w)
+
+pub ended_front_less : (a b : Held) (text lines : List ℕ) → EndedLines text lines → AppendsLess a b lines → AppendsFront a b text
+ended_front_less a b text lines e w = front_ended a b text lines e (front_less a b lines w)
+
 -- no line feed is behind these bytes of a text
 pub record BegunBehind (text bytes : List ℕ) : Type 0 where
   pub begun : List ℕ
@@ -131,7 +155,7 @@ pub nothing_put : (a : Held) (p : Written) → PutsLines a a p p 0
 nothing_put a p = record { gained = 0; parts = omega arith; same = refl; written = no_lines_written p.utf8 a }
 
 pub all_passed : (utf8 : Bool) (a b : Held) (text : List ℕ) → list_all (is_of_lines utf8) text ≡ true → is_whole text ≡ true → Appends a b text
-    → PutsLines a b (written utf8 text) (written utf8 []) 0
+    → PutsLines a b (written (record { utf8 = utf8; bytes = text })) (written (no_lines utf8)) 0
 all_passed utf8 a b text h whole w =
     record { gained = feeds text; parts = refl; same = refl; written = ended_written utf8 a b text text h (all_ended text whole) w }
 

@@ -1,5 +1,5 @@
 -- Lines: which bytes they have, how many have ended, and what a writer gained of them.
-use Rattle.std.specs.Prelude.{◌≡◌, ℕ, ◌+◌, ◌<◌, Bool, true, ◌||◌, ◌&&◌, nat_le, List, [], ◌∷◌, count_by}
+use Rattle.std.specs.Prelude.{◌≡◌, ℕ, ◌+◌, ◌<◌, Bool, true, ◌||◌, ◌&&◌, nat_le, List, [], ◌∷◌, ◌++◌, count_by}
 use Rattle.std.specs.List.{list_all}
 use Rattle.std.specs.Io.KnownBytes.{Appends}
 use Rattle.usb_text.specs.HexText.{is_line_feed}
@@ -18,18 +18,26 @@ is_of_line utf8 x = is_printable x || (utf8 && nat_le 128 x)
 abbrev pub is_of_lines : Bool → ℕ → Bool
 is_of_lines utf8 x = is_of_line utf8 x || is_line_feed x
 
--- lines, with characters beyond ASCII or without, and how many of them have ended
+-- lines, with characters beyond ASCII or without, and their bytes
+pub record LineBytes : Type 0 where
+  pub utf8 : Bool
+  pub bytes : List ℕ
+
+-- no lines
+abbrev pub no_lines : Bool → LineBytes
+no_lines utf8 = record { utf8 = utf8; bytes = [] }
+
+-- lines with these bytes put after theirs
+abbrev pub with_bytes : LineBytes → List ℕ → LineBytes
+with_bytes lines more = record { utf8 = lines.utf8; bytes = lines.bytes ++ more }
+
+-- how many lines have ended
 pub record Written : Type 0 where
   pub utf8 : Bool
   pub ended : ℕ
 
--- the bytes of a text as lines
-abbrev pub written : Bool → List ℕ → Written
-written utf8 text = record { utf8 = utf8; ended = count_by is_line_feed text }
-
--- no lines
-abbrev pub no_lines : Bool → Written
-no_lines utf8 = record { utf8 = utf8; ended = 0 }
+abbrev pub written : LineBytes → Written
+written lines = record { utf8 = lines.utf8; ended = count_by is_line_feed lines.bytes }
 
 -- with so many lines more
 abbrev pub more_lines : ℕ → Written → Written

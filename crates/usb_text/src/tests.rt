@@ -2,7 +2,7 @@
 ghost use Rattle.std.specs.Prelude.{◌≡◌, ◌+◌, ◌*◌, [], ◌∷◌, ◌++◌, map, option_map, IfSome, IsTrue, OnErr, OnOk, length};
 ghost use Rattle.std.specs.Option.{option_to_list};
 ghost use Rattle.usb_text.specs.Shown.{Bytes, End, Indent, Name, Number, showing_all};
-ghost use Rattle.usb_text.specs.Written.{WritesLess, WritesLines, is_words};
+ghost use Rattle.usb_text.specs.Written.{WritesLess, WritesLines, is_words, written};
 
 use crate::lines::Lines;
 use crate::output::OutFault;
@@ -88,8 +88,8 @@ fn puts_lines(rt: HostRuntime) -> Result<(), Fail> {
 
 /// Writes so many lines.
 fn write_entries<W: Write>(lines: Lines, count: u8, w: &mut W) -> Result<(), OutFault>
-    ensures ok { OnOk result (WritesLines lines.utf8 (lines.ended + count) (W.contents w.old) (W.contents w.new)) }
-    ensures err { OnErr result (WritesLess lines.utf8 (lines.ended + count) (W.contents w.old) (W.contents w.new)) }
+    ensures ok { OnOk result (WritesLines lines.utf8 ((written lines).ended + count) (W.contents w.old) (W.contents w.new)) }
+    ensures err { OnErr result (WritesLess lines.utf8 ((written lines).ended + count) (W.contents w.old) (W.contents w.new)) }
 {
     let mut lines = lines;
     for i in 0..count {
