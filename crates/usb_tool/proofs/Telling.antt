@@ -1,6 +1,6 @@
 -- On telling what came of an enumeration.
 use Rattle.std.proofs.Common.{◌≡◌, ◌≢◌, ℕ, Bool, true, false, List, [], ◌∷◌, ◌++◌, ◌<◌, length, length-append, arith, Some, Result, Ok, Err, refl, sym, ap, ◌∙◌, inl, inr, subst, append_assoc}
-use Rattle.std.specs.Prelude.{IfErr, IfOk}
+use Rattle.std.specs.Prelude.{IfErr, IfOk, IsErrAnd}
 use Rattle.std.specs.Io.KnownBytes.{Appends}
 use Rattle.usb_fields.specs.declared.packet.Speed.{Speed}
 use Rattle.usb_file_data.specs.declared.file.DescriptorFile.{DescriptorFile}
@@ -20,7 +20,7 @@ use Rattle.usb_bus.specs.declared.enumeration.Run.{Run}
 use Rattle.usb_host.specs.declared.step.Trouble.{Trouble}
 use Rattle.usb_tool.specs.Enumerations.{Conditions, IsNotTaken, IsRun, IsTaken, RefusesToEnumerate, StopsShort, Tells, WritesResult, WritesResultFront, run_status, run_text, refused_line, success_line, trouble_line}
 use Rattle.usb_tool.specs.Faults.{fault_of_output}
-use Rattle.usb_tool.specs.inside.Telling.{EndsWith, IsCutShort}
+use Rattle.usb_tool.specs.inside.Telling.{BreaksRun, EndsWith, IsCutShort}
 use Rattle.usb_tool.specs.declared.fault.ToolFault.{ToolFault}
 use Rattle.usb_tool.specs.declared.fault.ToolFault.TheVariants as faults
 
@@ -137,3 +137,21 @@ refused_some refusals.Texts = rw length-append (omega arith)
 refused_some refusals.Speed = rw length-append (omega arith)
 refused_some refusals.Memory = rw length-append (omega arith)
 refused_some refusals.Unwritable = rw length-append (omega arith)
+
+-- a step of the enumeration of a device with these descriptors broke its log
+pub run_broken : (c : Conditions) (f : DescriptorFile) (b : List ℕ) (held holds : Held) (fault : ToolFault) → IsTaken c.flags.with_strings f b → Accepted f c.speed
+    → BreaksRun c f held holds fault → RefusesToEnumerate c b held holds fault
+run_broken c f b held holds faults.Write taken accepted broke = inl (record { file = f; taken = taken; accepted = accepted; asked = broke.0; written = broke.1 })
+run_broken c f b held holds faults.Memory taken accepted broke = inr (inl (record { file = f; taken = taken; accepted = accepted; asked = broke.0; written = broke.1 }))
+run_broken c f b held holds faults.Read taken accepted broke = absurd broke
+run_broken c f b held holds faults.TooLarge taken accepted broke = absurd broke
+run_broken c f b held holds (faults.File fault) taken accepted broke = absurd broke
+run_broken c f b held holds (faults.List fault) taken accepted broke = absurd broke
+run_broken c f b held holds (faults.Set fault) taken accepted broke = absurd broke
+run_broken c f b held holds (faults.Trailing at) taken accepted broke = absurd broke
+run_broken c f b held holds (faults.Hex line column) taken accepted broke = absurd broke
+
+-- and the fault is passed on
+pub same_broken : {T : Type 0} (P : ToolFault → Type 0) (r : Result T ToolFault) (e : ToolFault) → IsErrAnd r (λ fault. fault ≡ e) → P e → IfErr r P
+same_broken P (Ok v) e same p = tt
+same_broken P (Err fault) e same p = subst P (sym same) p

@@ -2,9 +2,9 @@ use Rattle.std.proofs.Common.{◌≢◌, rules, subst}
 use Rattle.usb_device.specs.Descriptors.{Described}
 use Rattle.usb_device.specs.declared.acceptance.DescriptionFault.TheVariants.{Memory}
 use Rattle.usb_text.proofs.Pages.{appends_nothing, keeps_refl}
-use Rattle.usb_tool.specs.Enumerations.{under}
-use Rattle.usb_tool.specs.inside.Telling.{MakesRun}
-use Rattle.usb_tool.proofs.Telling.{first_reason, refusal_told, refused_some, result_cut, result_written, run_text_some, run_told}
+use Rattle.usb_tool.specs.Enumerations.{RefusesToEnumerate, under}
+use Rattle.usb_tool.specs.inside.Telling.{BreaksRun, MakesRun}
+use Rattle.usb_tool.proofs.Telling.{first_reason, refusal_told, refused_some, result_cut, result_written, run_broken, run_text_some, run_told, same_broken}
 use Rattle.usb_tool.proofs.enumeration.enumerate_bytes.Goals as goal
 
 pub returns-in-Err : goal.returns-in-Err
@@ -36,3 +36,15 @@ returns g c =
       ok = result_written _ _ _ _ _ _ _ _ told made.written _ c.tell_run.ensures.ok;
       err = result_cut _ _ _ _ _ _ _ _ told made.written _ (run_text_some run.outcome run) c.tell_run.ensures.err;
     }
+
+pub returns-in_err-run-clause-err : goal.returns-in_err-run-clause-err
+returns-in_err-run-clause-err g c =
+    let set = under c.args.l c.args.s c.args.fates.now c.args.flags in
+    let held = g.W.Write.contents c.args.w.now in
+    let mid = g.W.Write.contents c.run_over.new.w in
+    let broke =
+    subst (λ (d : Described). BreaksRun (under c.args.l d.speed c.args.fates.now c.args.flags) d.file held mid c.in_err-run.field-0.0) c.in-Ok.ensures.ok
+    c.in_err-run.ensures.err
+    in
+    same_broken (RefusesToEnumerate set c.args.bytes.now held mid) c.from_residual-in_err-run.result c.in_err-run.field-0.0 c.from_residual-in_err-run.ensures.1
+    (run_broken set c.in_ok-file.file c.args.bytes.now held mid c.in_err-run.field-0.0 c.in_ok-file.ensures.ok c.in-Ok.ensures.accepted broke)
