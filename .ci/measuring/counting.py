@@ -20,6 +20,10 @@ def build(room):
     return program
 
 
+class Missing(Exception):
+    """A program lacks a work."""
+
+
 class Counter:
     """Counts by these two programs; inputs are made once, and so is each count."""
 
@@ -47,6 +51,8 @@ class Counter:
         line += [f"--toggle-collect={inside}"] if inside else []
         with open(path, "rb") as source:
             ran = subprocess.run([*line, program, str(rounds), work], stdin=source, capture_output=True, text=True, check=False)
+        if f"no work is named {work}" in ran.stdout + ran.stderr:
+            raise Missing(f"{program} has no work {work}")
         said = re.search(r": (\d+) bytes, ", ran.stdout)
         counted = re.search(r"Collected : (\d+)", ran.stderr)
         if ran.returncode or not said or not counted or counted[1] == "0":

@@ -124,6 +124,8 @@ def transactions():
     yield "IN with NAK", a_round([(1, device("nak"))])
     yield "OUT of the status stage", a_round([(1, device("status")), (-1, one)])
     yield "a read that an owner answers", a_round([(1, device("answered"))])
+    find = Count("find-last", made("strings"), 10, 1010)
+    yield "finding the last of 3,780 strings", a_round([(1, find)])
     data = transfer("host-data")
     yield "`Transfer`: SETUP", a_round([(1, transfer("host-setup"))])
     yield "IN, 64 bytes", a_round([(1, transfer("host-packets"))])

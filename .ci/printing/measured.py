@@ -43,6 +43,8 @@ def cell_of(pair, bound):
 def printed(name):
     found = numbers()
     table = next(it for it in tables.tables() if it.name == name)
+    if not any(it.startswith(f"{table.name}, ") for it in found):
+        return "Not counted yet."
     rows = [f"| {' | '.join([table.corner, *table.columns])} |", "|---" * (1 + len(table.columns)) + "|"]
     for number, (title, cells) in enumerate(table.rows):
         texts = [cell_of(found.get(key(table, number, column)), cell.bound) for column, cell in enumerate(cells)]
