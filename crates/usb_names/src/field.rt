@@ -49,6 +49,8 @@ pub enum Form {
     PacketSize,
     /// As bInterval.
     Interval,
+    /// As hexadecimal digits, two a byte in the order of the bytes: those of bytes without a field of their own.
+    Bytes,
 }
 
 /// A field of a descriptor, by its standard name.
