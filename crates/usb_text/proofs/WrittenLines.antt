@@ -1,5 +1,5 @@
 -- What a writer gained of lines.
-use Rattle.std.proofs.Common.{◌≡◌, ℕ, suc, ◌+◌, ◌-◌, ◌<◌, ◌≤◌, ◌==◌, length, slice_index, Bool, true, cond, count_by, List, [], ◌∷◌, ◌++◌, refl, sym, ap, subst, ◌∙◌, append-nil, append_assoc, arith}
+use Rattle.std.proofs.Common.{◌≡◌, ℕ, zero, suc, ◌+◌, ◌-◌, ◌<◌, ◌≤◌, ◌==◌, length, slice_index, Bool, true, false, replicate, cond, count_by, List, [], ◌∷◌, ◌++◌, refl, sym, ap, subst, ◌∙◌, append-nil, append_assoc, arith}
 use Rattle.std.specs.Io.KnownBytes.{Appends}
 use Rattle.std.specs.List.{list_all}
 use Rattle.std.proofs.lemmas.Bool.{and_parts}
@@ -7,7 +7,7 @@ use Rattle.std.proofs.lemmas.List.Folds.{list_all-append}
 use Rattle.std.proofs.lemmas.List.Sums.{sum_by-append, sum_by-cons}
 use Rattle.usb_text.specs.HexText.{is_line_feed}
 use Rattle.usb_text.specs.Output.{AppendsFront, AppendsLess, Held}
-use Rattle.usb_text.specs.Written.{PutsLines, WritesFewer, WritesLess, WritesLines, Written, is_of_lines, is_whole, more_lines, no_lines, written}
+use Rattle.usb_text.specs.Written.{AreLines, PutsLines, WritesLess, WritesLines, Written, is_of_lines, is_whole, more_lines, no_lines, written}
 use Rattle.usb_text.specs.inside.Pages.{EndedLines}
 use Rattle.usb_text.proofs.Pages.{appends_more, appends_nothing, keeps_refl, less_is_front}
 
@@ -21,7 +21,7 @@ feeds_more : (x : ℕ) (xs : List ℕ) → feeds (x ∷ xs) ≡ cond (is_line_fe
 feeds_more x xs = sum_by-cons (λ y. cond (is_line_feed y) 1 0) x xs
 
 -- a text that ends with a line feed has one
-whole_counts : (x : ℕ) (xs : List ℕ) → is_whole (x ∷ xs) ≡ true → 0 < feeds (x ∷ xs)
+pub whole_counts : (x : ℕ) (xs : List ℕ) → is_whole (x ∷ xs) ≡ true → 0 < feeds (x ∷ xs)
 whole_counts x [] h = rw (feeds_more x [], h) (omega arith)
 whole_counts x (y ∷ ys) h = let more = whole_counts y ys h in let e = feeds_more x (y ∷ ys) in omega (arith, more, e)
 
@@ -44,38 +44,34 @@ whole_at (x ∷ y ∷ rest) some =
     whole_at (y ∷ rest) (omega arith) ∙ rw last refl
 
 -- no line, and lines after lines
+are_joined : (utf8 : Bool) (m n : ℕ) (xs ys : List ℕ) → AreLines utf8 m xs → AreLines utf8 n ys → AreLines utf8 (m + n) (xs ++ ys)
+are_joined utf8 m n xs ys p q = record {
+  characters = list_all-append (is_of_lines utf8) xs ys ∙ rw (p.characters, q.characters) refl;
+  ended = feeds_joined xs ys ∙ rw (p.ended, q.ended) refl;
+  whole = whole_joined xs ys p.whole q.whole;
+}
+
 pub no_lines_written : (utf8 : Bool) (a : Held) → WritesLines utf8 0 a a
-no_lines_written utf8 a = record { text = []; characters = refl; ended = refl; whole = refl; written = appends_nothing a a (keeps_refl a) }
+no_lines_written utf8 a = record { text = []; lines = record { characters = refl; ended = refl; whole = refl }; written = appends_nothing a a (keeps_refl a) }
 
 pub lines_more : (utf8 : Bool) (m n : ℕ) (a b c : Held) → WritesLines utf8 m a b → WritesLines utf8 n b c → WritesLines utf8 (m + n) a c
 lines_more utf8 m n a b c p q = record {
   text = p.text ++ q.text;
-  characters = list_all-append (is_of_lines utf8) p.text q.text ∙ rw (p.characters, q.characters) refl;
-  ended = feeds_joined p.text q.text ∙ rw (p.ended, q.ended) refl;
-  whole = whole_joined p.text q.text p.whole q.whole;
+  lines = are_joined utf8 m n p.text q.text p.lines q.lines;
   written = appends_more a b c p.text q.text p.written q.written;
 }
 
 pub less_after : (utf8 : Bool) (m n : ℕ) (a b c : Held) → WritesLines utf8 m a b → WritesLess utf8 n b c → WritesLess utf8 (m + n) a c
 less_after utf8 m n a b c p q = record {
   front = p.text ++ q.front;
-  characters = list_all-append (is_of_lines utf8) p.text q.front ∙ rw (p.characters, q.characters) refl;
-  fewer = (let e = feeds_joined p.text q.front in let is = p.ended in let fewer = q.fewer in omega (arith, e, is, fewer));
+  characters = list_all-append (is_of_lines utf8) p.text q.front ∙ rw (p.lines.characters, q.characters) refl;
+  fewer = (let e = feeds_joined p.text q.front in let is = p.lines.ended in let fewer = q.fewer in omega (arith, e, is, fewer));
   written = appends_more a b c p.text q.front p.written q.written;
 }
 
 -- fewer lines than some are fewer than more
 pub less_more : (utf8 : Bool) (m n : ℕ) (a b : Held) → m ≤ n → WritesLess utf8 m a b → WritesLess utf8 n a b
 less_more utf8 m n a b le p = record { front = p.front; characters = p.characters; fewer = (let fewer = p.fewer in omega (arith, fewer, le)); written = p.written }
-
--- whole lines, but not all of them
-pub fewer_is_less : (utf8 : Bool) (n : ℕ) (a b : Held) → WritesFewer utf8 n a b → WritesLess utf8 n a b
-fewer_is_less utf8 n a b p = record {
-  front = p.written.text;
-  characters = p.written.characters;
-  fewer = (let is = p.written.ended in let fewer = p.fewer in omega (arith, is, fewer));
-  written = p.written.written;
-}
 
 -- the lines of a text that have ended
 front_fits : (utf8 : Bool) (front rest : List ℕ) → list_all (is_of_lines utf8) (front ++ rest) ≡ true → list_all (is_of_lines utf8) front ≡ true
@@ -91,9 +87,7 @@ pub ended_written : (utf8 : Bool) (a b : Held) (text lines : List ℕ) → list_
     → WritesLines utf8 (feeds text) a b
 ended_written utf8 a b text lines h e w = record {
   text = lines;
-  characters = ended_fit utf8 text lines e h;
-  ended = ended_count text lines e;
-  whole = e.whole;
+  lines = record { characters = ended_fit utf8 text lines e h; ended = ended_count text lines e; whole = e.whole };
   written = w;
 }
 
@@ -201,5 +195,62 @@ puts_broken {a} {b} {c} {p} {q} count put less most =
     (less_after p.utf8 put.gained q.ended a b c put.written (subst (λ (u : Bool). WritesLess u q.ended b c) put.same less))
 
 -- what the writer gained, where more lines were to come
-pub puts_fewer : {a b : Held} {p q : Written} {n : ℕ} (count : ℕ) → PutsLines a b p q n → p.ended + n < count → WritesFewer p.utf8 count a b
-puts_fewer count put few = record { gained = put.gained; fewer = (let parts = put.parts in omega (arith, parts, few)); written = put.written }
+pub puts_less : {a b : Held} {p q : Written} {n : ℕ} (count : ℕ) → PutsLines a b p q n → p.ended + n < count → WritesLess p.utf8 count a b
+puts_less count put few = record {
+  front = put.written.text;
+  characters = put.written.lines.characters;
+  fewer = (let parts = put.parts in let ended = put.written.lines.ended in omega (arith, parts, ended, few));
+  written = put.written.written;
+}
+
+-- ---- a text of so many lines with a given prefix
+
+feed_fits : (utf8 : Bool) → is_of_lines utf8 10 ≡ true
+feed_fits true = refl
+feed_fits false = refl
+
+feeds_fit : (utf8 : Bool) (n : ℕ) → list_all (is_of_lines utf8) (replicate n 10) ≡ true
+feeds_fit utf8 zero = refl
+feeds_fit utf8 (suc n) = rw (feed_fits utf8, feeds_fit utf8 n) refl
+
+feeds_counted : (n : ℕ) → feeds (replicate n 10) ≡ n
+feeds_counted zero = refl
+feeds_counted (suc n) = let one = feeds_more 10 (replicate n 10) in let more = feeds_counted n in omega (arith, one, more)
+
+feeds_whole : (n : ℕ) → is_whole (replicate n 10) ≡ true
+feeds_whole zero = refl
+feeds_whole (suc zero) = refl
+feeds_whole (suc (suc n)) = feeds_whole (suc n)
+
+whole_after : (front : List ℕ) (x : ℕ) (rest : List ℕ) → is_whole (x ∷ rest) ≡ true → is_whole (front ++ x ∷ rest) ≡ true
+whole_after [] x rest h = h
+whole_after (a ∷ []) x rest h = h
+whole_after (a ∷ b ∷ front) x rest h = whole_after (b ∷ front) x rest h
+
+-- what the writer gained is a prefix of such a text
+pub record FrontOfLines (utf8 : Bool) (count : ℕ) (old new : Held) : Type 0 where
+  pub text : List ℕ
+  pub lines : AreLines utf8 count text
+  pub less : AppendsLess old new text
+
+pub less_completed : (utf8 : Bool) (count : ℕ) (a b : Held) → WritesLess utf8 count a b → FrontOfLines utf8 count a b
+less_completed utf8 count a b w =
+    let left = count - feeds w.front - 1 in
+    record {
+      text = w.front ++ 10 ∷ replicate left 10;
+      lines = record {
+        characters = list_all-append (is_of_lines utf8) w.front (10 ∷ replicate left 10) ∙ rw (w.characters, feed_fits utf8, feeds_fit utf8 left) refl;
+        ended = (
+            let parts = feeds_joined w.front (10 ∷ replicate left 10) in
+            let one = feeds_more 10 (replicate left 10) in
+            let more = feeds_counted left in
+            let fewer = w.fewer in
+            omega (arith, parts, one, more, fewer)
+            );
+        whole = whole_after w.front 10 (replicate left 10) (feeds_whole (suc left));
+      };
+      less = record { front = w.front; missing = 10; rest = replicate left 10; parts = refl; written = w.written };
+    }
+
+pub some_lines : (utf8 : Bool) (count : ℕ) → AreLines utf8 count (replicate count 10)
+some_lines utf8 count = record { characters = feeds_fit utf8 count; ended = feeds_counted count; whole = feeds_whole count }

@@ -16,7 +16,7 @@ pub data Shown : Type 0 where
   Indent : ℕ → Shown
   End : Shown
 
--- of lines is seen how many have ended
+-- what is seen of lines: how many have ended
 abbrev pub with_shown : Shown → Written → Written
 with_shown End lines = more_lines 1 lines
 with_shown shown lines = lines

@@ -43,18 +43,22 @@ written lines = record { utf8 = lines.utf8; ended = count_by is_line_feed lines.
 abbrev pub more_lines : ℕ → Written → Written
 more_lines count lines = record { utf8 = lines.utf8; ended = lines.ended + count }
 
--- whether nothing is behind the last line feed of a text
+-- a text that is empty or ends with a line feed
 abbrev pub is_whole : List ℕ → Bool
 is_whole [] = true
 is_whole (x ∷ []) = is_line_feed x
 is_whole (x ∷ y ∷ rest) = is_whole (y ∷ rest)
 
--- the writer gained so many lines
-pub record WritesLines (utf8 : Bool) (count : ℕ) (old new : Held) : Type 0 where
-  pub text : List ℕ
+-- a text of so many lines, each of which has ended
+pub record AreLines (utf8 : Bool) (count : ℕ) (text : List ℕ) : Type 0 where
   pub characters : list_all (is_of_lines utf8) text ≡ true
   pub ended : count_by is_line_feed text ≡ count
   pub whole : is_whole text ≡ true
+
+-- the writer gained so many lines
+pub record WritesLines (utf8 : Bool) (count : ℕ) (old new : Held) : Type 0 where
+  pub text : List ℕ
+  pub lines : AreLines utf8 count text
   pub written : Appends old new text
 
 -- the writer gained fewer lines, and maybe a part of the next
@@ -70,7 +74,7 @@ pub record WritesFewer (utf8 : Bool) (count : ℕ) (old new : Held) : Type 0 whe
   pub fewer : gained < count
   pub written : WritesLines utf8 gained old new
 
--- So many lines were put after those there were, and the writer gained some of them; these are left.
+-- So many lines were put after those that there were. The writer gained some of all these, and the others are left.
 pub record PutsLines (old new : Held) (before after : Written) (count : ℕ) : Type 0 where
   pub gained : ℕ
   pub parts : before.ended + count ≡ gained + after.ended

@@ -193,16 +193,16 @@ impl Page for Lines {
     fn put_indented_column(
         &mut self,
         indent: usize,
-        words: &str,
+        name: &str,
         width: usize,
     ) -> Result<(), AllocError>
-        requires { IsTrue (is_words words.now) }
-        ensures bytes { OnOk result (self.new ≡ with_bytes self.old (replicate indent 32 ++ column width words.now)) }
+        requires { IsTrue (is_words name.now) }
+        ensures bytes { OnOk result (self.new ≡ with_bytes self.old (replicate indent 32 ++ column width name.now)) }
         ensures seen { OnOk result (written self.new ≡ written self.old) }
     {
         put!(
             self.text,
-            self.text.put_indented_column(indent, words, width)
+            self.text.put_indented_column(indent, name, width)
         )
     }
 

@@ -53,15 +53,15 @@ pub trait Page {
     fn put_indent(&mut self, count: usize) -> Result<(), AllocError>
         ensures { OnOk result (seen self.new ≡ showing (Indent count) (seen self.old)) };
 
-    /// Puts so many spaces, with which a line begins, and words in a column of this width.
+    /// Puts so many spaces, with which a line begins, and a name in a column of this width.
     fn put_indented_column(
         &mut self,
         indent: usize,
-        words: &str,
+        name: &str,
         width: usize,
     ) -> Result<(), AllocError>
-        requires { IsTrue (is_words words.now) }
-        ensures { OnOk result (seen self.new ≡ showing (Indent indent) (seen self.old)) };
+        requires { IsTrue (is_words name.now) }
+        ensures { OnOk result (seen self.new ≡ showing (Name name.now) (showing (Indent indent) (seen self.old))) };
 
     /// Puts a number in decimal digits.
     fn put_decimal(&mut self, number: u64) -> Result<(), AllocError>

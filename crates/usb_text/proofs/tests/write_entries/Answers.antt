@@ -1,6 +1,6 @@
 use Rattle.std.proofs.Common.{rules}
 use Rattle.usb_text.proofs.Pages.{on_err}
-use Rattle.usb_text.proofs.WrittenLines.{fewer_is_less, nothing_put, puts_broken, puts_fewer, puts_finished, puts_lines, puts_passed}
+use Rattle.usb_text.proofs.WrittenLines.{nothing_put, puts_broken, puts_finished, puts_less, puts_lines, puts_passed}
 use Rattle.usb_text.proofs.tests.write_entries.Goals as goal
 
 pub loop-i-init : goal.loop-i-init
@@ -10,7 +10,7 @@ pub loop-i-preserved : goal.loop-i-preserved
 loop-i-preserved g c = puts_passed 1 c.loop-i.invariant c.in_ok-put_entry.ensures c.in_ok-pass_on.ensures.ok
 
 pub returns-in_err-put_entry-clause-err : goal.returns-in_err-put_entry-clause-err
-returns-in_err-put_entry-clause-err g c = on_err _ (fewer_is_less _ _ _ _ (puts_fewer _ c.loop-i.invariant (search rules)))
+returns-in_err-put_entry-clause-err g c = on_err _ (puts_less _ c.loop-i.invariant (search rules))
 
 pub returns-in_err-pass_on-clause-err : goal.returns-in_err-pass_on-clause-err
 returns-in_err-pass_on-clause-err g c =
