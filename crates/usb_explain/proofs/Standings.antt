@@ -1,5 +1,5 @@
 -- How it stands behind a descriptor.
-use Rattle.std.proofs.Common.{◌≡◌, ◌≤◌, ℕ, ◌+◌, List, Option, Some, None, refl, arith}
+use Rattle.std.proofs.Common.{◌≡◌, ◌≤◌, ℕ, ◌+◌, List, Option, Some, None, slice_index, refl, arith}
 use Rattle.usb_file_data.specs.declared.finding.Part.{Part}
 use Rattle.usb_file_data.specs.declared.finding.Part.TheVariants as parts
 use Rattle.usb_explain.specs.declared.speed.SetSpeed.{SetSpeed}
@@ -8,7 +8,7 @@ use Rattle.usb_explain.specs.declared.role.Role.TheVariants.{Device, Qualifier, 
 use Rattle.usb_explain.specs.declared.position.SettingStanding.{SettingStanding}
 use Rattle.usb_explain.specs.declared.position.Standing.{Standing}
 use Rattle.usb_explain.specs.SetStart.{entered, opened}
-use Rattle.usb_explain.specs.Standings.{moved, noted, with_endpoint, with_set, with_told, start}
+use Rattle.usb_explain.specs.Standings.{moved, noted, with_endpoint, with_set, start}
 use Rattle.usb_explain.specs.inside.Walking.{Counted, endpoints_of}
 
 pub with_set_at : (p : Part) (s : Standing) → (with_set p s).at ≡ s.at
@@ -47,9 +47,9 @@ entered_at Raw running ahead s = refl
 entered_at Languages running ahead s = refl
 entered_at Text running ahead s = refl
 
-pub more_endpoints : (setting : Option SettingStanding) → endpoints_of (with_endpoint setting) ≤ endpoints_of setting + 1
-more_endpoints None = omega arith
-more_endpoints (Some setting) = omega arith
+pub more_endpoints : (address : ℕ) (setting : Option SettingStanding) → endpoints_of (with_endpoint address setting) ≤ endpoints_of setting + 1
+more_endpoints address None = omega arith
+more_endpoints address (Some setting) = omega arith
 
 pub counted_set : (p : Part) (n : ℕ) (s : Standing) → 1 ≤ n → Counted s → Counted (moved n (with_set p s))
 counted_set parts.Device n s more c = record { strings = omega arith; main_sets = omega arith; other_sets = omega arith; associations = omega arith; settings = omega arith; endpoints = omega arith }
@@ -64,48 +64,10 @@ counted_noted Qualifier d n s more c = record { strings = omega arith; main_sets
 counted_noted Configuration d n s more c = counted_set s.set.part n s more c
 counted_noted Association d n s more c = record { strings = omega arith; main_sets = omega arith; other_sets = omega arith; associations = omega arith; settings = omega arith; endpoints = omega arith }
 counted_noted Interface d n s more c = record { strings = omega arith; main_sets = omega arith; other_sets = omega arith; associations = omega arith; settings = omega arith; endpoints = omega arith }
-counted_noted Endpoint d n s more c = record { strings = omega arith; main_sets = omega arith; other_sets = omega arith; associations = omega arith; settings = omega arith; endpoints = omega (arith, more_endpoints s.set.setting) }
+counted_noted Endpoint d n s more c = record { strings = omega arith; main_sets = omega arith; other_sets = omega arith; associations = omega arith; settings = omega arith; endpoints = omega (arith, more_endpoints (slice_index d 2) s.set.setting) }
 counted_noted Raw d n s more c = record { strings = omega arith; main_sets = omega arith; other_sets = omega arith; associations = omega arith; settings = omega arith; endpoints = omega arith }
 counted_noted Languages d n s more c = record { strings = omega arith; main_sets = omega arith; other_sets = omega arith; associations = omega arith; settings = omega arith; endpoints = omega arith }
 counted_noted Text d n s more c = record { strings = omega arith; main_sets = omega arith; other_sets = omega arith; associations = omega arith; settings = omega arith; endpoints = omega arith }
-
-pub counted_told : (n : ℕ) (s : Standing) → Counted s → Counted (with_told n s)
-counted_told n s c = record { strings = c.strings; main_sets = c.main_sets; other_sets = c.other_sets; associations = c.associations; settings = c.settings; endpoints = c.endpoints }
-
--- what is told changes at findings alone
-pub told_entered : (role : Role) (running : Option SetSpeed) (ahead : List ℕ) (s : Standing) → (entered role running ahead s).told ≡ s.told
-unfolding opened
-told_entered Configuration running ahead s = refl
-told_entered Device running ahead s = refl
-told_entered Qualifier running ahead s = refl
-told_entered Association running ahead s = refl
-told_entered Interface running ahead s = refl
-told_entered Endpoint running ahead s = refl
-told_entered Raw running ahead s = refl
-told_entered Languages running ahead s = refl
-told_entered Text running ahead s = refl
-
-with_set_told : (p : Part) (s : Standing) → (with_set p s).told ≡ s.told
-with_set_told parts.Device s = refl
-with_set_told parts.Main s = refl
-with_set_told parts.Other s = refl
-
-pub told_noted : (role : Role) (d : List ℕ) (s : Standing) → (noted role d s).told ≡ s.told
-unfolding noted
-told_noted Device d s = refl
-told_noted Qualifier d s = refl
-told_noted Configuration d s = with_set_told s.set.part s
-told_noted Association d s = refl
-told_noted Interface d s = refl
-told_noted Endpoint d s = refl
-told_noted Raw d s = refl
-told_noted Languages d s = refl
-told_noted Text d s = refl
-
--- nothing is told before the first descriptor
-pub start_told : start.told ≡ 0
-unfolding start
-start_told = refl
 
 pub counted_entered : (role : Role) (running : Option SetSpeed) (ahead : List ℕ) (s : Standing) → Counted s → Counted (entered role running ahead s)
 unfolding opened

@@ -1,44 +1,53 @@
 -- The lines of a descriptor, by what it is.
-use Rattle.std.specs.Prelude.{ℕ, List, [], length, Bool, if◌then◌else◌}
+use Rattle.std.specs.Prelude.{List, [], ◌++◌, length, flat_map, if◌then◌else◌}
+use Rattle.usb_text.specs.Shown.{Shown}
 use Rattle.usb_explain.specs.declared.role.Role.{Role}
-use Rattle.usb_explain.specs.declared.role.Role.TheVariants.{Device, Qualifier, Configuration, Association, Interface, Endpoint, Raw, Languages, Text}
-use Rattle.usb_explain.specs.declared.context.Context.{Context}
-use Rattle.usb_explain.specs.declared.manner.Look.{Look}
-use Rattle.usb_explain.specs.Layouts.{layout_lines, association_layout, configuration_layout, device_layout, endpoint_layout, interface_layout, qualifier_layout}
-use Rattle.usb_explain.specs.Lines.{heading_line}
+use Rattle.usb_explain.specs.declared.role.Role.TheVariants as roles
+use Rattle.usb_explain.specs.Endpoints.{endpoint_shown}
+use Rattle.usb_explain.specs.Fields.{PlacedField, fields_of}
+use Rattle.usb_explain.specs.FindingLines.{finding_line}
+use Rattle.usb_explain.specs.Forms.{form_shown}
+use Rattle.usb_explain.specs.Headers.{raw_shown}
+use Rattle.usb_explain.specs.Lines.{field_line, heading_line}
+use Rattle.usb_explain.specs.Outline.{Described}
+use Rattle.usb_explain.specs.RemarkLines.{remark_lines}
+use Rattle.usb_explain.specs.Sets.{device_shown, version_shown, association_shown, configuration_shown, interface_shown, languages_shown, string_shown}
 use Rattle.usb_explain.specs.StringNames.{StringNames}
-use Rattle.usb_explain.specs.Sets.{device_words, qualifier_words, association_words, configuration_words, interface_words, languages_words, string_words}
-use Rattle.usb_explain.specs.Endpoints.{endpoint_words}
-use Rattle.usb_explain.specs.Headers.{raw_lines, raw_words}
+use Rattle.usb_explain.specs.Subjects.{Subject, place_of}
 
--- the words of its heading, maybe with characters beyond ASCII
-unfoldable pub heading_words : Bool → Role → Context → List ℕ → List ℕ
-heading_words utf8 Device context b = device_words b
-heading_words utf8 Qualifier context b = qualifier_words b
-heading_words utf8 Configuration context b = configuration_words context.speed b
-heading_words utf8 Association context b = association_words context.associations b
-heading_words utf8 Interface context b = interface_words context.association b
-heading_words utf8 Endpoint context b = endpoint_words context.speed b
-heading_words utf8 Raw context b = raw_words context.interface b
-heading_words utf8 Languages context b = languages_words b
-heading_words utf8 Text context b = string_words utf8 context.place b
+-- what its heading shows
+unfoldable pub heading_shown : Role → Subject → Described → List Shown
+heading_shown roles.Device subject d = device_shown d.bytes
+heading_shown roles.Qualifier subject d = version_shown d.bytes
+heading_shown roles.Configuration subject d = configuration_shown d.speed d.bytes
+heading_shown roles.Association subject d = association_shown d.associations d.bytes
+heading_shown roles.Interface subject d = interface_shown d.association d.bytes
+heading_shown roles.Endpoint subject d = endpoint_shown d.speed d.bytes
+heading_shown roles.Raw subject d = raw_shown d.interface d.bytes
+heading_shown roles.Languages subject d = languages_shown d.bytes
+heading_shown roles.Text subject d = string_shown (place_of subject d.string) d.bytes
 
--- the lines of its fields; the heading of a language list and of a string says all
-unfoldable pub field_lines : StringNames → Role → Context → List ℕ → List ℕ
-field_lines strings Device context b = layout_lines context strings device_layout b
-field_lines strings Qualifier context b = layout_lines context strings qualifier_layout b
-field_lines strings Configuration context b = layout_lines context strings configuration_layout b
-field_lines strings Association context b = layout_lines context strings association_layout b
-field_lines strings Interface context b = layout_lines context strings interface_layout b
-field_lines strings Endpoint context b = layout_lines context strings (endpoint_layout context.interface (length b)) b
-field_lines strings Raw context b = raw_lines context strings b
-field_lines strings Languages context b = []
-field_lines strings Text context b = []
+-- its heading
+unfoldable pub heading : Subject → Described → List Shown
+heading subject d = heading_line subject.manner.look d.depth (heading_shown d.role subject d) d.at (length d.bytes)
 
--- the heading of a descriptor that starts at this place of the input
-unfoldable pub heading : Look → Role → Context → List ℕ → ℕ → List ℕ
-heading look role context b at = heading_line look context.depth (heading_words look.utf8 role context b) at (length b)
+-- the lines of what is found at it
+abbrev pub found_lines : Described → List Shown
+found_lines d = flat_map (λ f. finding_line d.depth f.cause) d.findings
 
--- the lines of its fields, where they are shown
-unfoldable pub fields : Look → StringNames → Role → Context → List ℕ → List ℕ
-fields look strings role context b = if look.brief then [] else field_lines strings role context b
+-- the line of a field of it
+abbrev pub line_of_field : StringNames → Described → PlacedField → List Shown
+line_of_field strings d field =
+    field_line d.depth field.name (form_shown d.speed strings field.form field.value d.bytes field.place)
+
+-- the lines of its fields
+abbrev pub field_lines : StringNames → Described → List Shown
+field_lines strings d = flat_map (line_of_field strings d) (fields_of d.role d.interface d.bytes)
+
+-- the same, where they are shown
+unfoldable pub fields : Subject → Described → List Shown
+fields subject d = if subject.manner.look.brief then [] else field_lines subject.names d
+
+-- its lines: its heading, what it breaks, what is remarked of it, and its fields
+unfoldable pub lines_of : Subject → Described → List Shown
+lines_of subject d = heading subject d ++ found_lines d ++ remark_lines d ++ fields subject d

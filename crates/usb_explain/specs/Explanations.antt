@@ -1,138 +1,83 @@
--- The explanation of an input, and of bytes that are none: the lines of all descriptors.
-use Rattle.std.specs.Prelude.{ℕ, List, ◌+◌, ◌-◌, ◌++◌, length, take, drop, flat_map, nat_le, Option, Some, None, if◌then◌else◌, [], ◌∷◌, codes, nat_lt, ◌⊎◌, slice_index, is_some, ◌==◌, ◌||◌}
+-- The explanation of an input, and of bytes that are none: what its lines show, one after another.
+use Rattle.std.specs.Prelude.{ℕ, List, ◌-◌, ◌++◌, length, take, drop, flat_map, if◌then◌else◌, [], ◌∷◌, codes, nat_lt, ◌==◌, Ok, Err}
+use Rattle.usb_file_data.specs.declared.cause.Found.{Found}
 use Rattle.usb_file_data.specs.Findings.{found_in_order}
-use Rattle.usb_explain.specs.Descriptors.{fields, heading}
-use Rattle.usb_explain.specs.declared.role.Role.{Role}
-use Rattle.usb_explain.specs.RemarkLines.{remark_lines}
-use Rattle.usb_explain.specs.declared.position.Standing.{Standing}
-use Rattle.usb_explain.specs.Findings.{role_findings}
-use Rattle.usb_explain.specs.Contexts.{context_of}
-use Rattle.usb_explain.specs.Standings.{start}
-use Rattle.usb_explain.specs.Outline.{Entry, bytes_of, first_entries}
-use Rattle.usb_file_data.specs.Findings.{found_in_order}
-use Rattle.usb_explain.specs.Subjects.{Subject, broken_subject, subject_with}
-use Rattle.std.specs.Fmt.{decimal}
-use Rattle.hex.specs.Hex.{encode_lower}
-use Rattle.usb_explain.specs.declared.manner.Look.{Look}
-use Rattle.usb_explain.specs.Lines.{field_line, heading_line}
-use Rattle.std.specs.Io.KnownBytes.{Appends, Keeps}
 use Rattle.usb_text.specs.Output.{Held}
-use Rattle.usb_text.specs.Numbers.{count}
-use Rattle.usb_file_data.specs.declared.file.Input.{Input}
-use Rattle.usb_file_data.specs.declared.file.Input.TheVariants as inputs
-use Rattle.usb_file_data.specs.declared.fault.InputFault.{InputFault}
+use Rattle.usb_text.specs.Shown.{Shown, Bytes, End, Number, ends}
+use Rattle.usb_text.specs.Written.{AreLines, WritesLines}
+use Rattle.usb_explain.specs.declared.manner.Look.{Look}
 use Rattle.usb_explain.specs.declared.manner.Manner.{Manner}
+use Rattle.usb_explain.specs.Descriptors.{lines_of}
 use Rattle.usb_explain.specs.Faults.{fault_lines, place_of_fault}
-
--- The lines of all descriptors of an input, one after another.
-
--- the bytes of its set after a descriptor, where they are all there
-abbrev pub rest_of_set : Standing → List ℕ → List ℕ → Option (List ℕ)
-rest_of_set s d after =
-    let count = s.left - length d in if nat_le count (length after) then Some (take count after) else None
-
--- the lines of a descriptor, with the bytes after it: its heading, what it breaks, what is remarked of it, and
--- its fields
-unfoldable pub block : Subject → Standing → Role → List ℕ → List ℕ → List ℕ
-block subject s role d after =
-    heading subject.manner.look role (context_of subject s role d) d s.at
-    ++ role_findings subject s role
-    ++ remark_lines role (context_of subject s role d) d (rest_of_set s d after)
-    ++ fields subject.manner.look subject.names role (context_of subject s role d) d
-
--- the lines of a descriptor of an outline
-abbrev pub lines_of : Subject → Entry → List ℕ
-lines_of subject d = block subject d.standing d.role d.bytes d.after
-
--- The lines of the descriptors in these bytes, at most so many, and then what ends the text, given the place
--- where they end.
-unfoldable pub walked : ℕ → Subject → (ℕ → List ℕ) → Standing → List ℕ → List ℕ
-walked n subject ending s ahead =
-    let entries = first_entries n subject s ahead in flat_map (lines_of subject) entries ++ ending (s.at + length (bytes_of entries))
+use Rattle.usb_explain.specs.Lines.{field_line, heading_line}
+use Rattle.usb_explain.specs.Outline.{Described, bytes_of, outline}
+use Rattle.usb_explain.specs.Subjects.{Reading, subject_of}
 
 -- What is left of an input after the descriptors that were explained.
 
 -- how many bytes there are above 32
-abbrev pub more_words : ℕ → List ℕ
-more_words n = if nat_lt 32 n then codes " and " ++ decimal (n - 32) ++ codes " more" else []
+abbrev pub more_shown : ℕ → List Shown
+more_shown n = if nat_lt 32 n then Number (n - 32) ∷ [] else []
 
 -- the heading of bytes that are left at a place
-unfoldable pub rest_heading : Look → ℕ → List ℕ → List ℕ
-rest_heading look at b = heading_line look 0 (codes "the rest") at (length b)
+unfoldable pub rest_heading : Look → ℕ → List ℕ → List Shown
+rest_heading look at b = heading_line look 0 [] at (length b)
 
 -- the first 32 of them, and how many more there are
-unfoldable pub rest_line : List ℕ → List ℕ
-rest_line b = field_line 0 (codes "bytes") (encode_lower (take 32 b) ++ more_words (length b))
+unfoldable pub rest_line : List ℕ → List Shown
+rest_line b = field_line 0 (codes "bytes") (Bytes (take 32 b) ∷ more_shown (length b))
 
--- the same, where fields are shown
-unfoldable pub rest_fields : Look → List ℕ → List ℕ
-rest_fields look b = if look.brief then [] else rest_line b
-
--- the lines of the bytes that are left at a place, if there are any
-abbrev pub rest_lines : Look → ℕ → List ℕ → List ℕ
+-- the lines of the bytes that are left at a place, if there are any; the bytes themselves where fields are shown
+abbrev pub rest_lines : Look → ℕ → List ℕ → List Shown
 rest_lines look at [] = []
-rest_lines look at (x ∷ rest) = rest_heading look at (x ∷ rest) ++ rest_fields look (x ∷ rest)
+rest_lines look at (x ∷ rest) =
+    rest_heading look at (x ∷ rest) ++ (if look.brief then [] else rest_line (x ∷ rest))
 
--- The explanation of an input, and of bytes that are none.
+-- The whole.
 
--- the name of an input
-abbrev pub input_name : Input → List ℕ
-input_name (inputs.Set set) = codes "set"
-input_name (inputs.File file) = if is_some file.strings then codes "file" else codes "file, no strings named"
-input_name (inputs.Dump file) = codes "device and its sets without strings"
+-- what breaks a rule, in the order of the bytes; of bytes that are no input that isn't judged
+abbrev pub found_of : Reading → List Found
+found_of (Ok input) = found_in_order input
+found_of (Err fault) = []
 
--- the name of bytes that are none: they are read as a set by their second byte
-abbrev pub broken_name : List ℕ → List ℕ
-broken_name b = if (slice_index b 1 == 2) || (slice_index b 1 == 7) then codes "broken set" else codes "broken file"
+-- the bytes of which the descriptors are explained: those before the place of a fault
+abbrev pub before_fault : Reading → List ℕ → List ℕ
+before_fault (Ok input) b = b
+before_fault (Err fault) b = take (place_of_fault fault) b
 
--- the first line
-unfoldable pub first_line : List ℕ → ℕ → List ℕ
-first_line name n = name ++ codes ", " ++ count n (codes "byte") ++ codes "\n"
+-- their descriptors
+abbrev pub descriptors_of : Manner → Reading → List ℕ → List Described
+descriptors_of manner read b = outline manner.speed (found_of read) (before_fault read b)
 
--- the last line of an input, of so many findings
-unfoldable pub last_line : ℕ → List ℕ
-last_line n = if n == 0 then codes "no findings\n" else count n (codes "finding") ++ codes "\n"
+-- the first line: how many bytes there are
+abbrev pub first_line : ℕ → List Shown
+first_line n = Number n ∷ End ∷ []
 
--- what ends the explanation of an input
-abbrev pub whole_end : Subject → ℕ → List ℕ → ℕ → List ℕ
-whole_end subject findings b at = rest_lines subject.manner.look at (drop at b) ++ last_line findings
+-- the line of how many findings there are
+abbrev pub last_line : ℕ → List Shown
+last_line n = if n == 0 then End ∷ [] else Number n ∷ End ∷ []
 
--- what ends that of bytes which are none
-abbrev pub broken_end : Subject → InputFault → List ℕ → ℕ → List ℕ
-broken_end subject fault b at = fault_lines fault b ++ rest_lines subject.manner.look at (drop at b)
+-- what ends it, where the descriptors end at this place: the bytes that are left, and how many findings an input has or what
+-- is at fault with the bytes
+abbrev pub ending : Manner → Reading → List ℕ → ℕ → List Shown
+ending manner (Ok input) b at = rest_lines manner.look at (drop at b) ++ last_line (length (found_of (Ok input)))
+ending manner (Err fault) b at = fault_lines fault b ++ rest_lines manner.look at (drop at b)
 
--- the explanation of an input of this name
-unfoldable pub whole_text : Subject → List ℕ → ℕ → List ℕ → List ℕ
-whole_text subject name findings b = first_line name (length b) ++ walked (length b) subject (whole_end subject findings b) start b
+-- the first line and those of these descriptors
+abbrev pub beginning : Manner → Reading → List ℕ → List Described → List Shown
+beginning manner read b ds = first_line (length b) ++ flat_map (lines_of (subject_of manner read)) ds
 
--- the explanation of an input, of which these are the bytes
-abbrev pub explanation : Manner → Input → List ℕ → List ℕ
-explanation manner input b =
-    whole_text (subject_with manner input (found_in_order input)) (input_name input) (length (found_in_order input)) b
+-- what an explanation shows
+unfoldable pub explanation : Manner → Reading → List ℕ → List Shown
+explanation manner read b =
+    let ds = descriptors_of manner read b in
+    beginning manner read b ds ++ ending manner read b (length (bytes_of ds))
 
--- the explanation of bytes that are no input
-unfoldable pub broken_text : Subject → InputFault → List ℕ → List ℕ
-broken_text subject fault b =
-    let whole = take (place_of_fault fault) b in
-    first_line (broken_name b) (length b) ++ walked (length whole) subject (broken_end subject fault b) start whole
+-- a text of an explanation: as many lines as it shows
+abbrev pub IsExplanation : Manner → Reading → List ℕ → List ℕ → Type 0
+IsExplanation manner read b text = AreLines manner.look.utf8 (ends (explanation manner read b)) text
 
--- that of bytes that are no input: what comes before the place of their fault, the fault and what they look like, and the rest
-abbrev pub broken_explanation : Manner → InputFault → List ℕ → List ℕ
-broken_explanation manner fault b = broken_text (broken_subject manner) fault b
-
--- the writer gained this and the lines of the first so many descriptors, each whole
-pub record EndsBetween (subject : Subject) (b first : List ℕ) (old new : Held) : Type 0 where
+-- the writer gained the first line and those of the first so many descriptors, each whole
+pub record EndsBetween (manner : Manner) (read : Reading) (b : List ℕ) (old new : Held) : Type 0 where
   pub count : ℕ
-  pub written : Appends old new (first ++ walked count subject (λ at. []) start b)
-
--- Or it gained nothing. So it is where memory was wanting, and nothing failed to be written.
-abbrev pub StopsBetween : Subject → List ℕ → List ℕ → Held → Held → Type 0
-StopsBetween subject b first old new = Keeps old new ⊎ EndsBetween subject b first old new
-
--- of the explanation of an input
-abbrev pub StopsWhole : Manner → Input → List ℕ → Held → Held → Type 0
-StopsWhole manner input b = StopsBetween (subject_with manner input (found_in_order input)) b (first_line (input_name input) (length b))
-
--- and of that of bytes which are none
-abbrev pub StopsBroken : Manner → InputFault → List ℕ → Held → Held → Type 0
-StopsBroken manner fault b = StopsBetween (broken_subject manner) (take (place_of_fault fault) b) (first_line (broken_name b) (length b))
+  pub written : WritesLines manner.look.utf8 (ends (beginning manner read b (take count (descriptors_of manner read b)))) old new

@@ -1,5 +1,5 @@
--- What is reported of a descriptor that breaks a rule, right under its heading.
-use Rattle.std.specs.Prelude.{ℕ, List, drop, flat_map, Bool, true, false, ◌==◌, ◌&&◌, Option, Some, None}
+-- What is found at a descriptor that breaks a rule.
+use Rattle.std.specs.Prelude.{ℕ, List, Bool, true, false, ◌==◌, ◌&&◌, Option, Some, None}
 use Rattle.std.specs.List.{take_while}
 use Rattle.usb_file_data.specs.declared.cause.Cause.{Cause}
 use Rattle.usb_file_data.specs.declared.cause.Cause.TheVariants as causes
@@ -9,14 +9,11 @@ use Rattle.usb_file_data.specs.declared.finding.Part.{Part}
 use Rattle.usb_file_data.specs.declared.finding.Part.TheVariants as parts
 use Rattle.usb_file_data.specs.Causes.{rule_of}
 use Rattle.usb_file_data.specs.Places.{finding}
-use Rattle.usb_explain.specs.FindingLines.{finding_line}
 use Rattle.usb_explain.specs.declared.role.Role.{Role}
 use Rattle.usb_explain.specs.declared.role.Role.TheVariants.{Device, Qualifier, Configuration, Association, Interface, Endpoint}
 use Rattle.usb_explain.specs.declared.position.SetStanding.{SetStanding}
 use Rattle.usb_explain.specs.declared.position.SettingStanding.{SettingStanding}
 use Rattle.usb_explain.specs.declared.position.Standing.{Standing}
-use Rattle.usb_explain.specs.Contexts.{depth_of}
-use Rattle.usb_explain.specs.Subjects.{Subject}
 
 -- a device breaks V11, and V10 for the main part, where that has no set
 abbrev pub device_can : Cause → Bool
@@ -108,14 +105,6 @@ is_same f g =
 unfoldable pub is_here : Standing → Role → Found → Bool
 is_here s role f = is_same f.finding (finding_at s role f.cause) && can_break role f.cause
 
--- what was found of a descriptor: that of it with which what isn't reported yet begins
-unfoldable pub found_at : Subject → Standing → Role → List Found
-found_at subject s role = take_while (is_here s role) (drop s.told subject.found)
-
--- the line of one of them
-abbrev pub line_of : Standing → Role → Found → List ℕ
-line_of s role f = finding_line (depth_of s role) f.cause
-
--- their lines
-unfoldable pub role_findings : Subject → Standing → Role → List ℕ
-role_findings subject s role = flat_map (line_of s role) (found_at subject s role)
+-- what was found of a descriptor of this role: that with which these findings begin, which no descriptor before it has
+unfoldable pub found_at : Standing → Role → List Found → List Found
+found_at s role found = take_while (is_here s role) found

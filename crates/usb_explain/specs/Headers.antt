@@ -1,5 +1,5 @@
 -- Descriptors of classes, by their bytes, and what is remarked of a class header.
-use Rattle.std.specs.Prelude.{ℕ, ◌+◌, List, length, slice_index, Bool, not, nat_lt, ◌==◌, ◌&&◌, Option, Some, None, option_and_then, if◌then◌else◌, ◌++◌, drop, codes}
+use Rattle.std.specs.Prelude.{ℕ, ◌+◌, List, length, slice_index, Bool, not, nat_lt, ◌==◌, ◌&&◌, Option, Some, None, option_and_then, if◌then◌else◌, drop, [], ◌∷◌, codes}
 use Rattle.std.specs.List.{sum_by, take_while}
 use Rattle.usb_fields.specs.Bytes.{little_endian_at}
 use Rattle.usb_names.specs.declared.codes.ClassCodes.{ClassCodes}
@@ -8,11 +8,8 @@ use Rattle.usb_explain.specs.declared.remark.Remark.{Remark}
 use Rattle.usb_explain.specs.declared.remark.Remark.TheVariants as remarks
 use Rattle.usb_names.specs.Rows.{first_row, rows_behind}
 use Rattle.usb_names.specs.Shown.{Row}
-use Rattle.usb_text.specs.Numbers.{byte_code}
-use Rattle.usb_explain.specs.declared.context.Context.{Context}
-use Rattle.usb_explain.specs.Layouts.{Layout, layout_lines}
-use Rattle.usb_explain.specs.Lines.{digits_line, field_line}
-use Rattle.usb_explain.specs.StringNames.{StringNames}
+use Rattle.usb_text.specs.Shown.{Shown, Name, Number}
+use Rattle.usb_explain.specs.Layouts.{Layout}
 
 -- What is remarked of a class header: that its wTotalLength isn't the length of the class descriptors that it begins.
 
@@ -65,34 +62,19 @@ header_remark _ _ _ = None
 
 -- Descriptors of classes, by their bytes and the rows of the table.
 
--- a descriptor that has no name
-unfoldable pub unnamed_words : ℕ → List ℕ
-unnamed_words type = codes "descriptor of type " ++ byte_code type
-
 -- the row of a descriptor after an interface of these codes
 abbrev pub row_of_bytes : Option ClassCodes → List ℕ → Option Row
 row_of_bytes interface b = first_row (rows_behind interface) interface (slice_index b 1) (drop 2 b)
-
--- the name of a row, or the type of a descriptor that has none
-abbrev pub row_words : ℕ → Option Row → List ℕ
-row_words type None = unnamed_words type
-row_words type (Some row) = row.name
-
--- what a descriptor is called
-unfoldable pub raw_words : Option ClassCodes → List ℕ → List ℕ
-raw_words interface b = row_words (slice_index b 1) (row_of_bytes interface b)
 
 -- the layout of a row
 abbrev pub row_layout : Row → Layout
 row_layout row = record { fields = row.fields; group = row.group; rest = codes "bytes" }
 
--- the lines of the body of a descriptor of this row
-abbrev pub row_lines : Context → StringNames → Option Row → List ℕ → List ℕ
-row_lines context strings None b = digits_line context.depth (codes "bytes") (drop 2 b)
-row_lines context strings (Some row) b = layout_lines context strings (row_layout row) b
+-- the name of a row, or the type of a descriptor that has none
+abbrev pub row_shown : ℕ → Option Row → List Shown
+row_shown type None = Number type ∷ []
+row_shown type (Some row) = Name row.name ∷ []
 
--- the lines of a descriptor
-unfoldable pub raw_lines : Context → StringNames → List ℕ → List ℕ
-raw_lines context strings b =
-    field_line context.depth (codes "bDescriptorType") (byte_code (slice_index b 1))
-    ++ row_lines context strings (row_of_bytes context.interface b) b
+-- what a descriptor is called
+unfoldable pub raw_shown : Option ClassCodes → List ℕ → List Shown
+raw_shown interface b = row_shown (slice_index b 1) (row_of_bytes interface b)

@@ -2,6 +2,7 @@ pub mod Subjects
 pub mod Standings
 pub mod Roles
 pub mod SetStart
+pub mod Owners
 pub mod Contexts
 pub mod Findings
 pub mod Outline
@@ -22,6 +23,8 @@ pub mod Forms
 pub mod Layouts
 pub mod Sets
 pub mod Descriptors
+pub mod Fields
+pub mod FieldLaws
 pub mod FindingLines
 pub mod Remarks
 pub mod RemarkLines

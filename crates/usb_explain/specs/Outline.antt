@@ -1,55 +1,131 @@
--- The outline of bytes: their descriptors one after another, each where it stands.
-use Rattle.std.specs.Prelude.{ℕ, zero, suc, ◌+◌, List, [], ◌∷◌, length, take, drop, flat_map, unwrap_or}
-use Rattle.std.specs.Option.{option_map}
-use Rattle.usb_explain.specs.declared.role.Role.{Role}
+-- The outline of bytes: their descriptors one after another, each with all that is known of it at its place.
+use Rattle.std.specs.Prelude.{ℕ, zero, suc, List, [], ◌∷◌, length, map, take, drop, flat_map, slice_index, Option, unwrap_or}
+use Rattle.std.specs.Option.{option_copied, option_map}
+use Rattle.usb_file_data.specs.declared.cause.Found.{Found}
+use Rattle.usb_names.specs.declared.codes.ClassCodes.{ClassCodes}
+use Rattle.usb_explain.specs.declared.descriptor.Descriptor.{Descriptor}
+use Rattle.usb_explain.specs.declared.owner.DescriptorOwner.{DescriptorOwner}
 use Rattle.usb_explain.specs.declared.position.Standing.{Standing}
+use Rattle.usb_explain.specs.declared.role.Role.{Role}
+use Rattle.usb_explain.specs.declared.speed.SetSpeed.{SetSpeed}
+use Rattle.usb_explain.specs.Bindings.{bound_at}
+use Rattle.usb_explain.specs.Contexts.{codes_of, depth_of, rest_of_set, speed_of}
 use Rattle.usb_explain.specs.Findings.{found_at}
-use Rattle.usb_explain.specs.SetStart.{entered}
-use Rattle.usb_explain.specs.Standings.{passed, with_told, start}
+use Rattle.usb_explain.specs.Owners.{owner_of}
 use Rattle.usb_explain.specs.Roles.{next_role}
-use Rattle.usb_explain.specs.Subjects.{Subject}
+use Rattle.usb_explain.specs.SetStart.{entered}
+use Rattle.usb_explain.specs.Standings.{passed, start}
 
--- a descriptor: what came before it, what it is there, its bytes, and those after it
+-- A descriptor of an input: its place and its bytes, what it is, how deep and whose, its speed, and what is found there. Then
+-- how many associations of its set come before it; the first one of its set that binds an interface of its number; what the
+-- interface is that it follows; how many strings come before it; and the bytes of its set after it, where they are all there.
+pub record Described : Type 0 where
+  pub at : ℕ
+  pub bytes : List ℕ
+  pub role : Role
+  pub depth : ℕ
+  pub owner : Option DescriptorOwner
+  pub speed : SetSpeed
+  pub findings : List Found
+  pub associations : ℕ
+  pub association : Option ℕ
+  pub interface : Option ClassCodes
+  pub string : ℕ
+  pub rest : Option (List ℕ)
+
+-- that which a descriptor of the code says
+abbrev pub described : Descriptor → Described
+described d = record {
+  at = d.at;
+  bytes = d.bytes.now;
+  role = d.role;
+  depth = d.depth;
+  owner = d.owner;
+  speed = d.speed;
+  findings = d.findings.now;
+  associations = d.associations;
+  association = d.association;
+  interface = d.interface;
+  string = d.string;
+  rest = option_copied d.rest;
+}
+
+-- a descriptor where it stands: what came before it, what it is there, its bytes, those after it, and what is found from it on
 pub record Entry : Type 0 where
   pub standing : Standing
   pub role : Role
   pub bytes : List ℕ
   pub after : List ℕ
+  pub found : List Found
+
+-- what is found there
+abbrev pub findings_of : Entry → List Found
+findings_of e = found_at e.standing e.role e.found
+
+-- all that is known of it, where the device ran at a speed that is known or isn't
+unfoldable pub describe : Option SetSpeed → Entry → Described
+describe running e = record {
+  at = e.standing.at;
+  bytes = e.bytes;
+  role = e.role;
+  depth = depth_of e.standing e.role;
+  owner = owner_of e.standing e.role e.bytes;
+  speed = speed_of running e.standing e.role e.bytes;
+  findings = findings_of e;
+  associations = e.standing.set.associations;
+  association = bound_at e.standing.set.bindings (slice_index e.bytes 2);
+  interface = codes_of e.standing.set.setting;
+  string = e.standing.strings;
+  rest = rest_of_set e.standing e.bytes e.after;
+}
 
 -- the state at the first of these bytes
-abbrev pub here : Subject → Standing → List ℕ → Role × ℕ → Standing
-here subject s ahead next = entered next.0 subject.manner.speed ahead s
+abbrev pub here : Option SetSpeed → Standing → List ℕ → Role × ℕ → Standing
+here running s ahead next = entered next.0 running ahead s
 
 -- the descriptor with which these bytes begin
-abbrev pub entry_next : Subject → Standing → List ℕ → Role × ℕ → Entry
-entry_next subject s ahead next =
-    record { standing = here subject s ahead next; role = next.0; bytes = take next.1 ahead; after = drop next.1 ahead }
+abbrev pub entry_next : Option SetSpeed → Standing → List Found → List ℕ → Role × ℕ → Entry
+entry_next running s found ahead next =
+    record { standing = here running s ahead next; role = next.0; bytes = take next.1 ahead; after = drop next.1 ahead; found = found }
 
--- the state with the findings of a descriptor reported
-abbrev pub telling : Subject → Role → Standing → Standing
-telling subject role s = with_told (s.told + length (found_at subject s role)) s
-
--- the state when its findings are reported
-abbrev pub told_next : Subject → Standing → List ℕ → Role × ℕ → Standing
-told_next subject s ahead next = telling subject next.0 (here subject s ahead next)
+-- the findings that are left after it
+abbrev pub left_next : Option SetSpeed → Standing → List Found → List ℕ → Role × ℕ → List Found
+left_next running s found ahead next = drop (length (found_at (here running s ahead next) next.0 found)) found
 
 -- the state after that descriptor
-abbrev pub after_next : Subject → Standing → List ℕ → Role × ℕ → Standing
-after_next subject s ahead next = passed next.0 (take next.1 ahead) (told_next subject s ahead next)
+abbrev pub after_next : Option SetSpeed → Standing → List ℕ → Role × ℕ → Standing
+after_next running s ahead next = passed next.0 (take next.1 ahead) (here running s ahead next)
 
 -- the descriptors from here on, at most so many
-unfoldable pub first_entries : ℕ → Subject → Standing → List ℕ → List Entry
-first_entries zero subject s ahead = []
-first_entries (suc n) subject s ahead =
+unfoldable pub first_entries : ℕ → Option SetSpeed → Standing → List Found → List ℕ → List Entry
+first_entries zero running s found ahead = []
+first_entries (suc n) running s found ahead =
     unwrap_or
-    (option_map (λ next. entry_next subject s ahead next ∷ first_entries n subject (after_next subject s ahead next) (drop next.1 ahead))
+    (option_map
+    (λ next. entry_next running s found ahead next ∷ first_entries n running (after_next running s ahead next) (left_next running s found ahead next) (drop next.1 ahead))
     (next_role s ahead))
     []
 
 -- all of them: there are no more than bytes
-abbrev pub outline_of : Subject → List ℕ → List Entry
-outline_of subject b = first_entries (length b) subject start b
+abbrev pub entries_from : Option SetSpeed → Standing → List Found → List ℕ → List Entry
+entries_from running s found ahead = first_entries (length ahead) running s found ahead
 
--- their bytes
-abbrev pub bytes_of : List Entry → List ℕ
-bytes_of entries = flat_map (λ d. d.bytes) entries
+-- the same with what is known of each
+abbrev pub outline_from : Option SetSpeed → Standing → List Found → List ℕ → List Described
+outline_from running s found ahead = map (describe running) (entries_from running s found ahead)
+
+-- the descriptors of an input, where these are its findings in the order of its bytes
+abbrev pub entries : Option SetSpeed → List Found → List ℕ → List Entry
+entries running found b = entries_from running start found b
+
+-- the outline of an input
+abbrev pub outline : Option SetSpeed → List Found → List ℕ → List Described
+outline running found b = outline_from running start found b
+
+-- the bytes of descriptors
+abbrev pub bytes_of : List Described → List ℕ
+bytes_of ds = flat_map (λ d. d.bytes) ds
+
+-- where the descriptors of bytes end
+abbrev pub end_of : Option SetSpeed → List Found → List ℕ → ℕ
+end_of running found b = length (bytes_of (outline running found b))

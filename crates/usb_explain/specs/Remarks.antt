@@ -8,12 +8,12 @@ use Rattle.usb_set.specs.declared.endpoint.TransferType.TheVariants.{Control, Is
 use Rattle.usb_set.specs.Descriptors.{packet_size_of, transfer_type_of}
 use Rattle.usb_explain.specs.declared.speed.SetSpeed.{SetSpeed}
 use Rattle.usb_explain.specs.declared.speed.SetSpeed.TheVariants.{Low, Full, LowOrFull, High, FullOrHigh, Super}
-use Rattle.usb_explain.specs.declared.context.Context.{Context}
+use Rattle.usb_explain.specs.Outline.{Described}
 use Rattle.usb_explain.specs.declared.role.Role.{Role}
 use Rattle.usb_explain.specs.declared.role.Role.TheVariants as roles
-use Rattle.usb_explain.specs.declared.remark.Range.{Range}
-use Rattle.usb_explain.specs.declared.remark.Sizes.{Sizes}
-use Rattle.usb_explain.specs.declared.remark.Sizes.TheVariants.{NoEndpoint, Only, UpTo, EightTo64, EightTo64Or512}
+use Rattle.usb_explain.specs.declared.remark.IntervalRange.{IntervalRange}
+use Rattle.usb_explain.specs.declared.remark.PacketSizes.{PacketSizes}
+use Rattle.usb_explain.specs.declared.remark.PacketSizes.TheVariants.{NoEndpoint, Only, UpTo, EightTo64, EightTo64Or512}
 use Rattle.usb_explain.specs.declared.remark.Remark.{Remark}
 use Rattle.usb_explain.specs.declared.remark.Remark.TheVariants as remarks
 use Rattle.usb_explain.specs.Headers.{header_remark}
@@ -25,11 +25,11 @@ remark_if holds remark = if holds then Some remark else None
 -- ---- bInterval
 
 -- from the one to the other
-abbrev pub from_to : ℕ → ℕ → Option Range
+abbrev pub from_to : ℕ → ℕ → Option IntervalRange
 from_to least most = Some (record { least = least; most = most })
 
 -- The values of bInterval of a periodic endpoint (9.6.6). Where two speeds are open it is enough that one of them has a value.
-abbrev pub interval_range : SetSpeed → TransferType → Option Range
+abbrev pub interval_range : SetSpeed → TransferType → Option IntervalRange
 interval_range Low Interrupt = from_to 10 255
 interval_range Full Interrupt = from_to 1 255
 interval_range LowOrFull Interrupt = from_to 1 255
@@ -42,11 +42,11 @@ interval_range _ Isochronous = from_to 1 16
 interval_range _ _ = None
 
 -- a value is one of a range
-abbrev pub is_within : Range → ℕ → Bool
+abbrev pub is_within : IntervalRange → ℕ → Bool
 is_within range n = nat_le range.least n && nat_le n range.most
 
 -- bInterval that is out of its range
-abbrev pub out_of_range : SetSpeed → TransferType → ℕ → Range → Option Remark
+abbrev pub out_of_range : SetSpeed → TransferType → ℕ → IntervalRange → Option Remark
 out_of_range speed transfer n range = remark_if (not (is_within range n)) (remarks.Interval transfer speed range)
 
 abbrev pub interval_remark : SetSpeed → TransferType → ℕ → Option Remark
@@ -56,7 +56,7 @@ interval_remark speed transfer n = option_and_then (out_of_range speed transfer 
 
 -- The sizes of packets: control (5.5.3), isochronous (5.6.3), bulk (5.8.3) and interrupt (5.7.3). Where two speeds are open it
 -- is enough that one of them has a size. Those of SuperSpeed are left out.
-abbrev pub sizes_at : SetSpeed → TransferType → Option Sizes
+abbrev pub sizes_at : SetSpeed → TransferType → Option PacketSizes
 sizes_at Low Control = Some (Only 8)
 sizes_at Low Isochronous = Some NoEndpoint
 sizes_at Low Bulk = Some NoEndpoint
@@ -84,7 +84,7 @@ abbrev pub is_eight_to_64 : ℕ → Bool
 is_eight_to_64 n = (n == 8) || (n == 16) || (n == 32) || (n == 64)
 
 -- a size is one of these
-abbrev pub is_size : Sizes → ℕ → Bool
+abbrev pub is_size : PacketSizes → ℕ → Bool
 is_size NoEndpoint n = false
 is_size (Only size) n = n == size
 is_size (UpTo most) n = nat_le n most
@@ -92,7 +92,7 @@ is_size EightTo64 n = is_eight_to_64 n
 is_size EightTo64Or512 n = is_eight_to_64 n || (n == 512)
 
 -- packets of another size
-abbrev pub of_another_size : SetSpeed → TransferType → ℕ → Sizes → Option Remark
+abbrev pub of_another_size : SetSpeed → TransferType → ℕ → PacketSizes → Option Remark
 of_another_size speed transfer n sizes = remark_if (not (is_size sizes n)) (remarks.Packet transfer speed sizes)
 
 abbrev pub size_remark : SetSpeed → TransferType → ℕ → Option Remark
@@ -149,13 +149,13 @@ typed_remarks speed transfer b =
     ++ there (multiple_remark speed transfer (little_endian_at b 4))
     ++ there (attributes_remark speed transfer (slice_index b 3))
 
--- the remarks on a descriptor of this role, with the bytes of its set after it where they are all there
-unfoldable pub remarks_on : Role → Context → List ℕ → Option (List ℕ) → List Remark
-remarks_on roles.Association context b rest = there (class_remark (slice_index b 4))
-remarks_on roles.Interface context b rest = there (class_remark (slice_index b 5))
-remarks_on roles.Endpoint context b rest = typed_remarks context.speed (transfer_type_of (slice_index b 3)) b
-remarks_on roles.Raw context b rest = there (header_remark context.interface b rest)
-remarks_on _ context b rest = []
+-- the remarks on a descriptor of this role
+unfoldable pub remarks_on : Role → Described → List Remark
+remarks_on roles.Association d = there (class_remark (slice_index d.bytes 4))
+remarks_on roles.Interface d = there (class_remark (slice_index d.bytes 5))
+remarks_on roles.Endpoint d = typed_remarks d.speed (transfer_type_of (slice_index d.bytes 3)) d.bytes
+remarks_on roles.Raw d = there (header_remark d.interface d.bytes d.rest)
+remarks_on _ d = []
 
 -- What holds of remarks: one that speaks of two speeds holds at both.
 

@@ -14,7 +14,7 @@ use Rattle.usb_explain.specs.SetSpeeds.{other_speed, speed_by, survey_of}
 use Rattle.usb_explain.specs.declared.role.Role.{Role}
 use Rattle.usb_explain.specs.declared.role.Role.TheVariants.{Configuration, Device}
 use Rattle.usb_explain.specs.declared.position.DeviceFacts.{DeviceFacts}
-use Rattle.usb_explain.specs.declared.position.Owner.TheVariants as owners
+use Rattle.usb_explain.specs.declared.position.OwnerKind.TheVariants as owners
 use Rattle.usb_explain.specs.declared.position.SetStanding.{SetStanding}
 use Rattle.usb_explain.specs.declared.position.Standing.{Standing}
 

@@ -2,7 +2,7 @@
 use Rattle.std.specs.Prelude.{replicate, false, None, ℕ, ◌+◌, ◌-◌, List, length, slice_index, true, Option, Some}
 use Rattle.usb_file_data.specs.declared.finding.Part.TheVariants.{Main, Other}
 use Rattle.usb_explain.specs.declared.speed.SetSpeed.TheVariants.{FullOrHigh}
-use Rattle.usb_explain.specs.declared.position.Owner.TheVariants as owners
+use Rattle.usb_explain.specs.declared.position.OwnerKind.TheVariants as owners
 use Rattle.usb_explain.specs.declared.position.SetStanding.{SetStanding}
 use Rattle.usb_explain.specs.declared.position.Standing.{Standing}
 use Rattle.usb_fields.specs.Bytes.{little_endian_at}
@@ -39,7 +39,6 @@ start = record {
   main_sets = 0;
   other_sets = 0;
   left = 0;
-  told = 0;
   set = before_sets;
 }
 
@@ -54,14 +53,16 @@ with_set _ s = record s { main_sets = s.main_sets + 1 }
 abbrev pub setting_of : ℕ → List ℕ → SettingStanding
 setting_of number d = record {
   number = number;
+  interface = record { interface = slice_index d 2; alternate = slice_index d 3 };
   endpoints = 0;
+  endpoint = None;
   codes = record { class = slice_index d 5; subclass = slice_index d 6; protocol = slice_index d 7 };
 }
 
--- one endpoint more
-abbrev pub with_endpoint : Option SettingStanding → Option SettingStanding
-with_endpoint None = None
-with_endpoint (Some setting) = Some (record setting { endpoints = setting.endpoints + 1 })
+-- one endpoint more, of this address
+abbrev pub with_endpoint : ℕ → Option SettingStanding → Option SettingStanding
+with_endpoint address None = None
+with_endpoint address (Some setting) = Some (record setting { endpoints = setting.endpoints + 1; endpoint = Some address })
 
 -- what is kept of a descriptor of this role
 unfoldable pub noted : Role → List ℕ → Standing → Standing
@@ -72,14 +73,10 @@ noted Configuration d s = with_set s.set.part s
 noted Association d s = record s { set = record s.set { associations = s.set.associations + 1; owner = owners.Configuration } }
 noted Interface d s =
     record s { set = record s.set { settings = s.set.settings + 1; setting = Some (setting_of s.set.settings d); owner = owners.Interface } }
-noted Endpoint d s = record s { set = record s.set { setting = with_endpoint s.set.setting; owner = owners.Endpoint } }
+noted Endpoint d s = record s { set = record s.set { setting = with_endpoint (slice_index d 2) s.set.setting; owner = owners.Endpoint } }
 noted Raw d s = s
 noted Languages d s = record s { has_languages = true }
 noted Text d s = record s { strings = s.strings + 1 }
-
--- so many findings are reported
-abbrev pub with_told : ℕ → Standing → Standing
-with_told n s = record s { told = n }
 
 -- so many bytes further on
 abbrev pub moved : ℕ → Standing → Standing

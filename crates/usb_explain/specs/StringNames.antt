@@ -1,10 +1,9 @@
 -- Indices of strings, with the strings that they name (USB 2.0, 9.6.7).
-use Rattle.std.specs.Prelude.{ℕ, ◌==◌, List, [], ◌++◌, slice_get, codes, Bool, false, Option, Some, None, option_and_then, if◌then◌else◌}
-use Rattle.std.specs.Fmt.{decimal}
+use Rattle.std.specs.Prelude.{ℕ, ◌==◌, List, [], ◌∷◌, slice_get, Bool, false, Option, Some, None, option_and_then, if◌then◌else◌}
 use Rattle.usb_file_data.specs.declared.file.DescriptorFile.{DescriptorFile}
 use Rattle.usb_file_data.specs.declared.file.Strings.{Strings}
 use Rattle.usb_file_data.specs.File.{named_indices, units_at}
-use Rattle.usb_text.specs.Characters.{units_words}
+use Rattle.usb_text.specs.Shown.{Shown, Number, Units}
 use Rattle.usb_explain.specs.declared.string_names.Missing.{Missing}
 use Rattle.usb_explain.specs.declared.string_names.Missing.TheVariants.{NotInInput, NotRead}
 
@@ -33,21 +32,11 @@ units_in_first_language named index strings =
 abbrev pub named_units : StringNames → ℕ → Option (List ℕ)
 named_units names index = option_and_then (units_in_first_language names.named index) names.strings
 
--- the units of a string between quotes
-unfoldable pub quoted : Bool → List ℕ → List ℕ
-quoted utf8 units = codes "\"" ++ units_words utf8 units ++ codes "\""
+-- the units of a string, if it is there
+abbrev pub units_shown : Option (List ℕ) → List Shown
+units_shown None = []
+units_shown (Some units) = Units units ∷ []
 
--- why a string isn't there
-abbrev pub missing_words : Missing → List ℕ
-missing_words NotInInput = codes " (not in the input)"
-missing_words NotRead = codes " (not read)"
-
--- the string after its index
-abbrev pub name_words : StringNames → Option (List ℕ) → List ℕ
-name_words names None = missing_words names.missing
-name_words names (Some units) = codes " " ++ quoted names.utf8 units
-
--- the index of a string, and the string
-unfoldable pub index_words : StringNames → ℕ → List ℕ
-index_words names index =
-    if index == 0 then codes "0 (none)" else decimal index ++ name_words names (named_units names index)
+-- the index of a string, and the string; index 0 names none
+unfoldable pub index_shown : StringNames → ℕ → List Shown
+index_shown names index = Number index ∷ (if index == 0 then [] else units_shown (named_units names index))

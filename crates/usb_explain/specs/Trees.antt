@@ -1,4 +1,4 @@
--- The outline of an input: the descriptors of its tree, each with its depth.
+-- The descriptors of an input by its tree, each with its depth and its owner.
 use Rattle.std.specs.Prelude.{ℕ, zero, suc, ◌+◌, List, [], ◌∷◌, length, take, drop, nat_lt, ◌||◌, Option, Some, None, unwrap_or, if◌then◌else◌, ◌++◌, map}
 use Rattle.std.specs.Option.{option_map}
 use Rattle.std.specs.List.{flat_map}
@@ -12,11 +12,17 @@ use Rattle.usb_set.specs.declared.tree.Configuration.{Configuration}
 use Rattle.usb_set.specs.Descriptors.{configuration_descriptor, descriptor_bytes, endpoint_descriptor, extra_descriptor, interface_descriptor}
 use Rattle.usb_set.specs.Layout.{set_length}
 use Rattle.usb_file_data.specs.declared.file.Other.{Other}
+use Rattle.usb_file_data.specs.declared.finding.Part.{Part}
+use Rattle.usb_file_data.specs.declared.finding.Part.TheVariants as parts
+use Rattle.usb_file_data.specs.Findings.{part_of_kind}
+use Rattle.usb_file_data.specs.Places.{at_each}
 use Rattle.usb_file_data.specs.declared.file.Strings.{Strings}
 use Rattle.usb_file_data.specs.declared.file.Input.{Input}
 use Rattle.usb_file_data.specs.declared.file.Input.TheVariants as inputs
+use Rattle.usb_explain.specs.declared.owner.DescriptorOwner.{DescriptorOwner}
 use Rattle.usb_explain.specs.declared.role.Role.{Role}
 use Rattle.usb_explain.specs.declared.role.Role.TheVariants as roles
+use Rattle.usb_explain.specs.Owners.{of_endpoint, of_interface, of_set}
 
 -- Descriptors one after another, each as long as its first byte says (USB 2.0, 9.5).
 
@@ -35,15 +41,16 @@ first_descriptors (suc n) b =
 abbrev pub descriptors : List ℕ → List (List ℕ)
 descriptors b = first_descriptors (length b) b
 
--- An entry of an outline is a descriptor: what it is, its depth, and its bytes. It belongs to the last one before it that
--- is less deep.
-pub record OutlineEntry : Type 0 where
+-- A descriptor of a tree: what it is, its depth, whose it is, and its bytes. It belongs to the last one before it that is less
+-- deep.
+pub record TreeDescriptor : Type 0 where
   pub role : Role
   pub depth : ℕ
+  pub owner : Option DescriptorOwner
   pub bytes : List ℕ
 
-abbrev pub entry : Role → ℕ → List ℕ → OutlineEntry
-entry role depth bytes = record { role = role; depth = depth; bytes = bytes }
+abbrev pub tree_descriptor : Role → ℕ → Option DescriptorOwner → List ℕ → TreeDescriptor
+tree_descriptor role depth owner bytes = record { role = role; depth = depth; owner = owner; bytes = bytes }
 
 -- an association is one, and any other extra is raw bytes
 abbrev pub extra_role : Extra → Role
@@ -55,47 +62,60 @@ abbrev pub extra_depth : ℕ → Extra → ℕ
 extra_depth depth (extras.Raw raw) = depth
 extra_depth depth (extras.Association association) = 2
 
+-- and so it is with its owner
+abbrev pub extra_owner : DescriptorOwner → Extra → DescriptorOwner
+extra_owner owner (extras.Raw raw) = owner
+extra_owner owner (extras.Association association) = of_set owner.part owner.set
+
 -- extras that are one deeper than what they belong to; those after an association belong to the configuration too
-abbrev pub extra_entries : ℕ → List Extra → List OutlineEntry
-extra_entries depth [] = []
-extra_entries depth (x ∷ xs) =
-    entry (extra_role x) (extra_depth depth x) (descriptor_bytes (extra_descriptor x)) ∷ extra_entries (extra_depth depth x) xs
+abbrev pub extra_descriptors : ℕ → DescriptorOwner → List Extra → List TreeDescriptor
+extra_descriptors depth owner [] = []
+extra_descriptors depth owner (x ∷ xs) =
+    tree_descriptor (extra_role x) (extra_depth depth x) (Some (extra_owner owner x)) (descriptor_bytes (extra_descriptor x))
+    ∷ extra_descriptors (extra_depth depth x) (extra_owner owner x) xs
 
--- an endpoint and its extras
-abbrev pub endpoint_entries : Endpoint → List OutlineEntry
-endpoint_entries e = entry roles.Endpoint 3 (descriptor_bytes (endpoint_descriptor e)) ∷ extra_entries 4 e.extras
+-- an endpoint of an interface, and its extras
+abbrev pub endpoint_descriptors : DescriptorOwner → Endpoint → List TreeDescriptor
+endpoint_descriptors interface e =
+    let owner = of_endpoint interface e.address in
+    tree_descriptor roles.Endpoint 3 (Some owner) (descriptor_bytes (endpoint_descriptor e)) ∷ extra_descriptors 4 owner e.extras
 
--- a setting, its extras, and its endpoints
-abbrev pub setting_entries : Setting → List OutlineEntry
-setting_entries s =
-    entry roles.Interface 2 (descriptor_bytes (interface_descriptor s)) ∷ extra_entries 3 s.extras ++ flat_map endpoint_entries s.endpoints
+-- a setting of a set, its extras, and its endpoints
+abbrev pub setting_descriptors : DescriptorOwner → Setting → List TreeDescriptor
+setting_descriptors set s =
+    let owner = of_interface set s.number s.alternate in
+    tree_descriptor roles.Interface 2 (Some owner) (descriptor_bytes (interface_descriptor s))
+    ∷ extra_descriptors 3 owner s.extras ++ flat_map (endpoint_descriptors owner) s.endpoints
 
 -- a set of this wTotalLength, its extras, and its settings
-abbrev pub set_entries_by : Configuration → ℕ → List OutlineEntry
-set_entries_by c total =
-    entry roles.Configuration 1 (descriptor_bytes (configuration_descriptor c total)) ∷ extra_entries 2 c.extras ++ flat_map setting_entries c.settings
+abbrev pub set_descriptors_by : DescriptorOwner → Configuration → ℕ → List TreeDescriptor
+set_descriptors_by owner c total =
+    tree_descriptor roles.Configuration 1 (Some owner) (descriptor_bytes (configuration_descriptor c total))
+    ∷ extra_descriptors 2 owner c.extras ++ flat_map (setting_descriptors owner) c.settings
 
--- a set, whose wTotalLength is the count of its bytes
-abbrev pub set_entries : Configuration → List OutlineEntry
-set_entries c = set_entries_by c (set_length c)
+-- the set of this number in a part, whose wTotalLength is the count of its bytes
+abbrev pub set_descriptors : Part → ℕ → Configuration → List TreeDescriptor
+set_descriptors part i c = set_descriptors_by (of_set part i) c (set_length c)
 
 -- the qualifier and the sets of the other speed
-abbrev pub other_entries : Option Other → List OutlineEntry
-other_entries None = []
-other_entries (Some o) = entry roles.Qualifier 0 (qualifier_bytes o.qualifier) ∷ flat_map set_entries o.sets
+abbrev pub other_descriptors : Option Other → List TreeDescriptor
+other_descriptors None = []
+other_descriptors (Some o) = tree_descriptor roles.Qualifier 0 None (qualifier_bytes o.qualifier) ∷ at_each (set_descriptors parts.Other) 0 o.sets
 
 -- a string
-abbrev pub text_entry : List ℕ → OutlineEntry
-text_entry units = entry roles.Text 0 (units_bytes units)
+abbrev pub text_descriptor : List ℕ → TreeDescriptor
+text_descriptor units = tree_descriptor roles.Text 0 None (units_bytes units)
 
 -- the language list and the strings
-abbrev pub string_entries : Option Strings → List OutlineEntry
-string_entries None = []
-string_entries (Some s) = entry roles.Languages 0 (units_bytes s.languages) ∷ map text_entry s.texts
+abbrev pub string_descriptors : Option Strings → List TreeDescriptor
+string_descriptors None = []
+string_descriptors (Some s) = tree_descriptor roles.Languages 0 None (units_bytes s.languages) ∷ map text_descriptor s.texts
 
--- the outline of an input: all its descriptors, in the order of its bytes
-abbrev pub outline : Input → List OutlineEntry
-outline (inputs.Set set) = set_entries set
-outline (inputs.File file) =
-    entry roles.Device 0 (device_bytes file.device) ∷ flat_map set_entries file.sets ++ other_entries file.other ++ string_entries file.strings
-outline (inputs.Dump file) = entry roles.Device 0 (device_bytes file.device) ∷ flat_map set_entries file.sets
+-- all descriptors of an input, in the order of its bytes
+abbrev pub tree_descriptors : Input → List TreeDescriptor
+tree_descriptors (inputs.Set set) = set_descriptors (part_of_kind set.kind) 0 set
+tree_descriptors (inputs.File file) =
+    tree_descriptor roles.Device 0 None (device_bytes file.device)
+    ∷ at_each (set_descriptors parts.Main) 0 file.sets ++ other_descriptors file.other ++ string_descriptors file.strings
+tree_descriptors (inputs.Dump file) =
+    tree_descriptor roles.Device 0 None (device_bytes file.device) ∷ at_each (set_descriptors parts.Main) 0 file.sets

@@ -1,82 +1,100 @@
 //! The bits of a byte by their names.
-ghost use Rattle.std.specs.Prelude.{◌≡◌, ◌<◌, ◌++◌, map, OnOk};
-ghost use Rattle.std.specs.List.{AllByRecursion, filter};
-ghost use Rattle.usb_explain.specs.Names.{bit_words, bits_field, bits_meaning, further_bits, is_set};
+ghost use Rattle.std.specs.Prelude.{◌≡◌, ◌<◌, IsTrue, map, OnOk};
+ghost use Rattle.std.specs.List.{AllByRecursion, filter, flat_map, list_all};
+ghost use Rattle.usb_text.specs.Shown.{showing_all};
+ghost use Rattle.usb_text.specs.Written.{is_words};
+ghost use Rattle.usb_explain.specs.Names.{bit_shown, bits_field, is_set};
 
+use crate::table_names::bit_name;
 use std::alloc::AllocError;
-use usb_text::{Text, put_byte_code};
+use usb_text::Page;
+
+/// What the first bits of a byte are called.
+#[derive(Clone, Copy)]
+struct BitNames {
+    names: &'static [&'static str],
+    ghost words: { IsTrue (list_all is_words (map (λ name. name.now) names.now)) },
+}
 
 /// Puts a byte, and the names of its bits that are one: the first ones have these names.
 ///
 /// ```rust
-/// put_bits(&mut text, &["download", "upload"], 6)?;
-/// assert_eq!(rt; text.as_bytes(), b"0x06 (upload, bit 2)");
+/// put_bits(&mut lines, &["download", "upload"], 6)?;
+/// assert_eq!(rt; lines.as_bytes(), b"0x06 (upload, bit 2)");
 /// ```
 #[inline(never)]
-#[tactic(auto, unfolding(crate::specs::Names::bits_field))]
-pub(crate) fn put_bits(text: &mut Text, names: &[&str], value: u8) -> Result<(), AllocError>
-    ensures { OnOk result (text.new ≡ text.old ++ bits_field (map (λ name. name.now) names.now) value) }
+pub(crate) fn put_bits<P: Page>(
+    page: &mut P,
+    names: &'static [&'static str],
+    value: u8,
+) -> Result<(), AllocError>
+    requires { IsTrue (list_all is_words (map (λ name. name.now) names.now)) }
+    ensures { OnOk result (P.seen page.new ≡ showing_all P.showing (bits_field (map (λ name. name.now) names.now) value) (P.seen page.old)) }
 {
-    put_byte_code(text, value)?;
-    put_bits_meaning(text, names, value, &[0, 1, 2, 3, 4, 5, 6, 7])
+    page.put_byte_code(value)?;
+    put_bits_meaning(page, BitNames { names }, value, &[0, 1, 2, 3, 4, 5, 6, 7])
 }
 
 /// Puts what those of these bits mean that are one.
-fn put_bits_meaning(
-    text: &mut Text,
-    names: &[&str],
+#[tactic(auto, using(usb_text::proofs::ShownLines::showing_joined))]
+fn put_bits_meaning<P: Page>(
+    page: &mut P,
+    names: BitNames,
     value: u8,
     bits: &[u8],
 ) -> Result<(), AllocError>
     requires { AllByRecursion (λ bit. bit < 8) bits.now }
-    ensures { OnOk result (text.new ≡ text.old ++ bits_meaning (map (λ name. name.now) names.now) (filter (is_set value) bits.now)) }
+    ensures { OnOk result (P.seen page.new ≡ showing_all P.showing (flat_map (bit_shown (map (λ name. name.now) names.names.now)) (filter (is_set value) bits.now)) (P.seen page.old)) }
 {
     match bits {
         [] => Ok(()),
         [bit, more @ ..] => {
             if !is_set(value, *bit) {
-                return put_bits_meaning(text, names, value, more);
+                return put_bits_meaning(page, names, value, more);
             }
-            text.put(" (")?;
-            put_bit(text, names, *bit)?;
-            put_further_bits(text, names, value, more)?;
-            text.put(")")
+            page.put(" (")?;
+            names.put_bit(page, *bit)?;
+            put_further_bits(page, names, value, more)?;
+            page.put(")")
         }
     }
 }
 
 /// Puts those of these bits that are one, after another one.
-fn put_further_bits(
-    text: &mut Text,
-    names: &[&str],
+#[tactic(auto, using(usb_text::proofs::ShownLines::showing_joined))]
+fn put_further_bits<P: Page>(
+    page: &mut P,
+    names: BitNames,
     value: u8,
     bits: &[u8],
 ) -> Result<(), AllocError>
     requires { AllByRecursion (λ bit. bit < 8) bits.now }
-    ensures { OnOk result (text.new ≡ text.old ++ further_bits (map (λ name. name.now) names.now) (filter (is_set value) bits.now)) }
+    ensures { OnOk result (P.seen page.new ≡ showing_all P.showing (flat_map (bit_shown (map (λ name. name.now) names.names.now)) (filter (is_set value) bits.now)) (P.seen page.old)) }
 {
     match bits {
         [] => Ok(()),
         [bit, more @ ..] => {
             if is_set(value, *bit) {
-                text.put(", ")?;
-                put_bit(text, names, *bit)?;
+                page.put(", ")?;
+                names.put_bit(page, *bit)?;
             }
-            put_further_bits(text, names, value, more)
+            put_further_bits(page, names, value, more)
         }
     }
 }
 
-/// Puts what a bit is called.
-fn put_bit(text: &mut Text, names: &[&str], bit: u8) -> Result<(), AllocError>
-    ensures { OnOk result (text.new ≡ text.old ++ bit_words (map (λ name. name.now) names.now) bit) }
-{
-    match names.get(usize::from(bit)) {
-        None => {
-            text.put("bit ")?;
-            text.put_decimal(u64::from(bit))
+impl BitNames {
+    /// Puts what a bit is called.
+    fn put_bit<P: Page>(self, page: &mut P, bit: u8) -> Result<(), AllocError>
+        ensures { OnOk result (P.seen page.new ≡ showing_all P.showing (bit_shown (map (λ name. name.now) self.names.now) bit) (P.seen page.old)) }
+    {
+        match bit_name(self.names, bit) {
+            None => {
+                page.put("bit ")?;
+                page.put_decimal(u64::from(bit))
+            }
+            Some(name) => page.put_name(name),
         }
-        Some(name) => text.put(name),
     }
 }
 

@@ -1,66 +1,55 @@
 //! The endpoint descriptor: what it says, in words.
-ghost use Rattle.std.specs.Prelude.{◌≡◌, ◌++◌, OnOk};
-ghost use Rattle.usb_fields.specs.Setup.{direction_of};
-ghost use Rattle.usb_set.specs.Descriptors.{transactions_of};
-ghost use Rattle.usb_explain.specs.Endpoints.{attributes_words, direction_words, end_words, has_packets, packets_words, size_words, synchronization_words, usage_words, way_words};
-ghost use Rattle.std.specs.Prelude.{◌≡◌, ◌++◌, OnOk};
-ghost use Rattle.usb_explain.specs.Endpoints.{endpoint_words, interval_words};
-ghost use Rattle.usb_explain.specs.Endpoints.{address_value, attributes_value, interval_value, size_value};
+ghost use Rattle.std.specs.Prelude.{◌≡◌, ◌∷◌, [], IsTrue, OnOk};
+ghost use Rattle.usb_set.specs.Descriptors.{number_of, transactions_of, transfer_type_of};
+ghost use Rattle.usb_text.specs.Shown.{Number, showing_all};
+ghost use Rattle.usb_text.specs.Written.{is_words};
+ghost use Rattle.usb_explain.specs.Endpoints.{address_value, endpoint_interval, endpoint_shown, has_packets, interval_value, packets_shown, size_shown, size_value};
+ghost use Rattle.usb_explain.specs.Speeds.{interval_at};
 
 use crate::interval::{is_periodic, put_interval};
 use crate::speed::SetSpeed;
 use std::alloc::AllocError;
 use usb_fields::{Direction, byte_at, word_at};
 use usb_set::TransferType;
-use usb_text::{Text, begin_byte_meaning, begin_word_meaning, put_count};
+use usb_text::Page;
 
 /// Puts the end that bEndpointAddress names: `EP 1 IN`. A control endpoint goes both ways: `EP 1`.
-#[tactic(auto, unfolding(crate::specs::Endpoints::end_words))]
-pub(crate) fn put_end(text: &mut Text, attributes: u8, address: u8) -> Result<(), AllocError>
-    ensures { OnOk result (text.new ≡ text.old ++ end_words attributes address) }
+fn put_end<P: Page>(page: &mut P, attributes: u8, address: u8) -> Result<(), AllocError>
+    ensures { OnOk result (P.seen page.new ≡ P.showing (Number (number_of address)) (P.seen page.old)) }
 {
-    text.put("EP ")?;
-    text.put_decimal(u64::from(address % 16))?;
-    put_way(text, TransferType::of(attributes), address)
+    page.put("EP ")?;
+    page.put_decimal(u64::from(address % 16))?;
+    page.put(way(TransferType::of(attributes), address))
 }
 
-fn put_way(text: &mut Text, transfer: TransferType, address: u8) -> Result<(), AllocError>
-    ensures { OnOk result (text.new ≡ text.old ++ way_words transfer address) }
+fn way(transfer: TransferType, address: u8) -> &'static str
+    ensures { IsTrue (is_words result.now) }
 {
-    match transfer {
-        TransferType::Control => Ok(()),
-        _ => put_direction(text, address),
-    }
-}
-
-fn put_direction(text: &mut Text, address: u8) -> Result<(), AllocError>
-    ensures { OnOk result (text.new ≡ text.old ++ direction_words (direction_of address)) }
-{
-    match Direction::of(address) {
-        Direction::Out => text.put(" OUT"),
-        Direction::In => text.put(" IN"),
+    match (transfer, Direction::of(address)) {
+        (TransferType::Control, _) => "",
+        (_, Direction::Out) => " OUT",
+        (_, Direction::In) => " IN",
     }
 }
 
 /// Puts what bmAttributes says: `bulk`, or `isochronous, adaptive, data`.
-#[tactic(auto, unfolding(crate::specs::Endpoints::attributes_words))]
-pub(crate) fn put_attributes(text: &mut Text, attributes: u8) -> Result<(), AllocError>
-    ensures { OnOk result (text.new ≡ text.old ++ attributes_words attributes) }
+fn put_attributes<P: Page>(page: &mut P, attributes: u8) -> Result<(), AllocError>
+    ensures { OnOk result (P.seen page.new ≡ P.seen page.old) }
 {
     match TransferType::of(attributes) {
-        TransferType::Control => text.put("control"),
+        TransferType::Control => page.put("control"),
         TransferType::Isochronous => {
-            text.put("isochronous")?;
-            text.put(synchronization(attributes))?;
-            text.put(usage(attributes))
+            page.put("isochronous")?;
+            page.put(synchronization(attributes))?;
+            page.put(usage(attributes))
         }
-        TransferType::Bulk => text.put("bulk"),
-        TransferType::Interrupt => text.put("interrupt"),
+        TransferType::Bulk => page.put("bulk"),
+        TransferType::Interrupt => page.put("interrupt"),
     }
 }
 
 fn synchronization(attributes: u8) -> &'static str
-    ensures { result.now ≡ synchronization_words attributes }
+    ensures { IsTrue (is_words result.now) }
 {
     match attributes / 4 % 4 {
         0 => ", no synchronization",
@@ -71,7 +60,7 @@ fn synchronization(attributes: u8) -> &'static str
 }
 
 fn usage(attributes: u8) -> &'static str
-    ensures { result.now ≡ usage_words attributes }
+    ensures { IsTrue (is_words result.now) }
 {
     match attributes / 16 % 4 {
         0 => ", data",
@@ -85,23 +74,23 @@ fn usage(attributes: u8) -> &'static str
 /// microframe`.
 ///
 /// ```rust
-/// put_size(&mut text, SetSpeed::High, 1, 0x1400)?;
-/// assert_eq!(rt; text.as_bytes(), b"3 x 1024 bytes a microframe");
+/// put_size(&mut lines, SetSpeed::High, 1, 0x1400)?;
+/// assert_eq!(rt; lines.as_bytes(), b"3 x 1024 bytes a microframe");
 /// ```
-#[tactic(auto, unfolding(crate::specs::Endpoints::size_words))]
-pub(crate) fn put_size(
-    text: &mut Text,
+#[tactic(auto, unfolding(crate::specs::Endpoints::size_shown))]
+fn put_size<P: Page>(
+    page: &mut P,
     speed: SetSpeed,
     attributes: u8,
     max_packet: u16,
 ) -> Result<(), AllocError>
-    ensures { OnOk result (text.new ≡ text.old ++ size_words speed attributes max_packet) }
+    ensures { OnOk result (P.seen page.new ≡ showing_all P.showing (size_shown speed attributes max_packet) (P.seen page.old)) }
 {
     let size = u64::from(max_packet % 2048);
     if has_packets(speed, TransferType::of(attributes)) {
-        put_packets(text, transactions(max_packet), size)
+        put_packets(page, transactions(max_packet), size)
     } else {
-        put_count(text, size, "byte")
+        page.put_count(size, "byte")
     }
 }
 
@@ -127,56 +116,61 @@ fn transactions(max_packet: u16) -> Option<u8>
     }
 }
 
-fn put_packets(text: &mut Text, packets: Option<u8>, size: u64) -> Result<(), AllocError>
-    ensures { OnOk result (text.new ≡ text.old ++ packets_words packets size) }
+fn put_packets<P: Page>(page: &mut P, packets: Option<u8>, size: u64) -> Result<(), AllocError>
+    ensures { OnOk result (P.seen page.new ≡ showing_all P.showing (packets_shown packets size) (P.seen page.old)) }
 {
     match packets {
         None => {
-            put_count(text, size, "byte")?;
-            text.put(", reserved multiple")
+            page.put_count(size, "byte")?;
+            page.put(", reserved multiple")
         }
-        Some(1) => put_count(text, size, "byte"),
+        Some(1) => page.put_count(size, "byte"),
         Some(packets) => {
-            text.put_decimal(u64::from(packets))?;
-            text.put(" x ")?;
-            put_count(text, size, "byte")?;
-            text.put(" a microframe")
+            page.put_decimal(u64::from(packets))?;
+            page.put(" x ")?;
+            page.put_count(size, "byte")?;
+            page.put(" a microframe")
         }
     }
 }
 
 /// Puts the words of an endpoint descriptor's heading (USB 2.0, 9.6.6).
 #[inline(never)]
-#[tactic(auto, unfolding(crate::specs::Endpoints::endpoint_words))]
-pub(crate) fn put_endpoint_words(
-    text: &mut Text,
+#[tactic(auto, using(usb_text::proofs::ShownLines::showing_joined), unfolding(crate::specs::Endpoints::endpoint_shown))]
+pub(crate) fn put_endpoint_words<P: Page>(
+    page: &mut P,
     speed: SetSpeed,
     b: &[u8],
 ) -> Result<(), AllocError>
-    ensures { OnOk result (text.new ≡ text.old ++ endpoint_words speed b.now) }
+    ensures { OnOk result (P.seen page.new ≡ showing_all P.showing (endpoint_shown speed b.now) (P.seen page.old)) }
 {
     let attributes = byte_at(b, 3);
-    text.put("endpoint ")?;
-    put_address(text, attributes, byte_at(b, 2))?;
-    text.put(", ")?;
-    put_attributes(text, attributes)?;
-    text.put(", ")?;
-    put_size(text, speed, attributes, word_at(b, 4))?;
-    put_interval_words(text, speed, attributes, byte_at(b, 6))
+    page.put("endpoint ")?;
+    put_address(page, attributes, byte_at(b, 2))?;
+    page.put(", ")?;
+    put_attributes(page, attributes)?;
+    page.put(", ")?;
+    put_size(page, speed, attributes, word_at(b, 4))?;
+    put_interval_after(page, ", ", speed, attributes, byte_at(b, 6), "")
 }
 
-#[tactic(auto, unfolding(crate::specs::Endpoints::interval_words))]
-fn put_interval_words(
-    text: &mut Text,
+/// Puts the interval of an endpoint of these attributes between other words, if it is periodic.
+fn put_interval_after<P: Page>(
+    page: &mut P,
+    before: &str,
     speed: SetSpeed,
     attributes: u8,
     interval: u8,
+    after: &str,
 ) -> Result<(), AllocError>
-    ensures { OnOk result (text.new ≡ text.old ++ interval_words speed attributes interval) }
+    requires before { IsTrue (is_words before.now) }
+    requires after { IsTrue (is_words after.now) }
+    ensures { OnOk result (P.seen page.new ≡ showing_all P.showing (endpoint_interval speed attributes interval) (P.seen page.old)) }
 {
     if is_periodic(attributes) {
-        text.put(", ")?;
-        put_interval(text, speed, attributes, interval)
+        page.put(before)?;
+        put_interval(page, speed, attributes, interval)?;
+        page.put(after)
     } else {
         Ok(())
     }
@@ -184,58 +178,52 @@ fn put_interval_words(
 
 /// Puts bEndpointAddress of an endpoint of these attributes: `0x81 (EP 1 IN)`.
 #[inline(never)]
-#[tactic(auto, unfolding(crate::specs::Endpoints::address_value))]
-pub(crate) fn put_address(text: &mut Text, attributes: u8, address: u8) -> Result<(), AllocError>
-    ensures { OnOk result (text.new ≡ text.old ++ address_value attributes address) }
+pub(crate) fn put_address<P: Page>(
+    page: &mut P,
+    attributes: u8,
+    address: u8,
+) -> Result<(), AllocError>
+    ensures { OnOk result (P.seen page.new ≡ showing_all P.showing (address_value address) (P.seen page.old)) }
 {
-    begin_byte_meaning(text, address)?;
-    put_end(text, attributes, address)?;
-    text.put(")")
+    page.begin_byte_meaning(address)?;
+    put_end(page, attributes, address)?;
+    page.put(")")
 }
 
 /// Puts bmAttributes of an endpoint.
 #[inline(never)]
-#[tactic(auto, unfolding(crate::specs::Endpoints::attributes_value))]
-pub(crate) fn put_attributes_value(text: &mut Text, attributes: u8) -> Result<(), AllocError>
-    ensures { OnOk result (text.new ≡ text.old ++ attributes_value attributes) }
+pub(crate) fn put_attributes_value<P: Page>(page: &mut P, attributes: u8) -> Result<(), AllocError>
+    ensures { OnOk result (P.seen page.new ≡ showing_all P.showing (Number attributes ∷ []) (P.seen page.old)) }
 {
-    begin_byte_meaning(text, attributes)?;
-    put_attributes(text, attributes)?;
-    text.put(")")
+    page.begin_byte_meaning(attributes)?;
+    put_attributes(page, attributes)?;
+    page.put(")")
 }
 
 /// Puts wMaxPacketSize of an endpoint of these attributes at a speed.
-#[tactic(auto, unfolding(crate::specs::Endpoints::size_value))]
-pub(crate) fn put_size_value(
-    text: &mut Text,
+pub(crate) fn put_size_value<P: Page>(
+    page: &mut P,
     speed: SetSpeed,
     attributes: u8,
     max_packet: u16,
 ) -> Result<(), AllocError>
-    ensures { OnOk result (text.new ≡ text.old ++ size_value speed attributes max_packet) }
+    ensures { OnOk result (P.seen page.new ≡ showing_all P.showing (size_value speed attributes max_packet) (P.seen page.old)) }
 {
-    begin_word_meaning(text, max_packet)?;
-    put_size(text, speed, attributes, max_packet)?;
-    text.put(")")
+    page.begin_word_meaning(max_packet)?;
+    put_size(page, speed, attributes, max_packet)?;
+    page.put(")")
 }
 
 /// Puts bInterval of an endpoint of these attributes.
 #[inline(never)]
-#[tactic(auto, unfolding(crate::specs::Endpoints::interval_value))]
-pub(crate) fn put_interval_value(
-    text: &mut Text,
+pub(crate) fn put_interval_value<P: Page>(
+    page: &mut P,
     speed: SetSpeed,
     attributes: u8,
     interval: u8,
 ) -> Result<(), AllocError>
-    ensures { OnOk result (text.new ≡ text.old ++ interval_value speed attributes interval) }
+    ensures { OnOk result (P.seen page.new ≡ showing_all P.showing (interval_value speed attributes interval) (P.seen page.old)) }
 {
-    text.put_decimal(u64::from(interval))?;
-    if is_periodic(attributes) {
-        text.put(" (")?;
-        put_interval(text, speed, attributes, interval)?;
-        text.put(")")
-    } else {
-        Ok(())
-    }
+    page.put_decimal(u64::from(interval))?;
+    put_interval_after(page, " (", speed, attributes, interval, ")")
 }

@@ -1,166 +1,155 @@
 //! Whole explanations.
-ghost use Rattle.std.specs.Prelude.{◌≡◌, ◌++◌, length, take, IfErr, OnErr, OnOk};
-ghost use Rattle.std.specs.Io.KnownBytes.{Appends};
-ghost use Rattle.usb_text.specs.Output.{AppendsLess};
-ghost use Rattle.usb_explain.specs.Explanations.{StopsBetween, StopsBroken, StopsWhole, broken_end, broken_explanation, broken_name, broken_text, explanation, first_line, input_name, last_line, whole_end, whole_text};
-ghost use Rattle.usb_explain.specs.Faults.{place_of_fault};
+ghost use Rattle.std.specs.Prelude.{◌≡◌, ◌⊎◌, ◌+◌, ◌<◌, ◌^◌, length, IfErr, IfOk, IsTrue, OnErr, OnOk};
+ghost use Rattle.std.specs.Io.KnownBytes.{Keeps};
+ghost use Rattle.std.specs.List.{flat_map};
+ghost use Rattle.usb_text.specs.Shown.{ends, showing_all};
+ghost use Rattle.usb_text.specs.Written.{WritesLess, WritesLines, is_words, written};
+ghost use Rattle.usb_explain.specs.Descriptors.{lines_of};
+ghost use Rattle.usb_explain.specs.Explanations.{EndsBetween, before_fault, ending, explanation, first_line, found_of, last_line};
+ghost use Rattle.usb_explain.specs.Outline.{bytes_of};
+ghost use Rattle.usb_explain.specs.inside.Explaining.{PutsDescriptors, StopsBetween};
 
-use crate::fault_line::{fault_place, put_fault, put_likeness};
+use crate::block::put_descriptor;
+use crate::fault_line::{fault_place, put_fault_lines};
 use crate::manner::Manner;
+use crate::outline::Outline;
 use crate::rest_lines::put_rest;
 use crate::subject::Subject;
-use crate::walk::write_blocks;
 use std::alloc::{AllocError, Global};
 use std::io::Write;
 use usb_fields::{after, byte_at, descriptor_type, prefix};
-use usb_file_data::{Input, InputFault, found_in_order, likeness_of};
-use usb_text::{OutFault, Text, put_count, write_all};
+use usb_file_data::{Found, Input, InputFault, found_in_order};
+use usb_text::{Lines, OutFault, Page};
 
-/// Writes the explanation of an input, of which these are the bytes.
+/// Writes the explanation of bytes of which this was read: of an input, or of bytes that are none, as far as they go, with
+/// their fault and what they look like.
 ///
 /// ```rust
-/// let input = read_input(alloc, &bytes)?;
-/// explain(alloc, &bytes, &input, manner, &mut rt.stdout())?;
+/// let read = read_input(alloc, &bytes);
+/// explain(alloc, &bytes, &read, manner, &mut rt.stdout())?;
 /// ```
 ///
 /// # Errors
 ///
-/// `Write` where the writer failed, `Memory` when out of memory. A prefix of the explanation is written then, not all
-/// of it; of `Memory` nothing, or one that ends with the lines of a descriptor.
+/// `Write` where the writer failed, `Memory` when out of memory. The writer has fewer lines then, and maybe a part of one more;
+/// of `Memory` nothing, or the first line and all lines of the first descriptors.
 pub fn explain<W: Write>(
     alloc: Global,
     bytes: &[u8],
-    input: &Input,
+    read: &Result<Input, InputFault>,
     manner: Manner,
     w: &mut W,
 ) -> Result<(), OutFault>
-    ensures ok { OnOk result (Appends (W.contents w.old) (W.contents w.new) (explanation manner input.now bytes.now)) }
-    ensures err { OnErr result (AppendsLess (W.contents w.old) (W.contents w.new) (explanation manner input.now bytes.now)) }
-    ensures memory { IfErr result (λ fault. fault ≡ OutFault.Memory → StopsWhole manner input.now bytes.now (W.contents w.old) (W.contents w.new)) }
+    ensures ok { OnOk result (WritesLines manner.look.utf8 (ends (explanation manner read.now bytes.now)) (W.contents w.old) (W.contents w.new)) }
+    ensures err { OnErr result (WritesLess manner.look.utf8 (ends (explanation manner read.now bytes.now)) (W.contents w.old) (W.contents w.new)) }
+    ensures memory { IfErr result (λ fault. fault ≡ OutFault.Memory → Keeps (W.contents w.old) (W.contents w.new) ⊎ EndsBetween manner read.now bytes.now (W.contents w.old) (W.contents w.new)) }
 {
-    let found = found_in_order(alloc, input)?;
-    let subject = Subject::of(alloc, manner, input, &found)?;
-    write_whole(alloc, bytes, &subject, input_name(input), found.len(), w)
+    let found = found_of(alloc, read)?;
+    let subject = Subject::of(alloc, manner, read)?;
+    let mut lines = Lines::new(alloc, manner.look.utf8);
+    put_first_line(&mut lines, read, bytes)?;
+    let outline = Outline::of(before_fault(read, bytes), manner.speed, &found);
+    let place = write_descriptors(&mut lines, &subject, outline, w)?;
+    put_ending(&mut lines, manner, read, found.len(), bytes, place)?;
+    lines.finish(w)
 }
 
-/// Writes the explanation of an input of this name, with so many findings.
-fn write_whole<W: Write>(
-    alloc: Global,
-    bytes: &[u8],
-    subject: &Subject,
-    name: &str,
-    findings: usize,
-    w: &mut W,
-) -> Result<(), OutFault>
-    ensures ok { OnOk result (Appends (W.contents w.old) (W.contents w.new) (whole_text subject.now name.now findings bytes.now)) }
-    ensures err { OnErr result (AppendsLess (W.contents w.old) (W.contents w.new) (whole_text subject.now name.now findings bytes.now)) }
-    ensures memory { IfErr result (λ fault. fault ≡ OutFault.Memory → StopsBetween subject.now bytes.now (first_line name.now (length bytes.now)) (W.contents w.old) (W.contents w.new)) }
+/// What breaks a rule, in the order of the bytes.
+fn found_of(alloc: Global, read: &Result<Input, InputFault>) -> Result<Vec<Found>, AllocError>
+    ensures { IfOk result (λ found. found.items ≡ found_of read.now) }
 {
-    let mut text = Text::new(alloc);
-    put_first_line(&mut text, name, bytes)?;
-    let place = write_blocks(&mut text, subject, bytes, w)?;
-    put_whole_end(&mut text, subject, findings, bytes, place)?;
-    write_all(w, text.as_bytes())
-}
-
-fn put_whole_end(
-    text: &mut Text,
-    subject: &Subject,
-    findings: usize,
-    bytes: &[u8],
-    place: usize,
-) -> Result<(), AllocError>
-    ensures { OnOk result (text.new ≡ text.old ++ whole_end subject.now findings bytes.now place) }
-{
-    put_rest(text, subject.manner().look, place, after(bytes, place))?;
-    put_last_line(text, findings)
-}
-
-/// Writes the explanation of bytes that are no input, as far as they go, their fault, and what they look like.
-///
-/// ```rust
-/// if let Err(fault) = read_input(alloc, &bytes) {
-///     explain_broken(alloc, &bytes, fault, manner, &mut rt.stdout())?;
-/// }
-/// ```
-///
-/// # Errors
-///
-/// `Write` where the writer failed, `Memory` when out of memory. A prefix of the explanation is written then, not all
-/// of it; of `Memory` nothing, or one that ends with the lines of a descriptor.
-pub fn explain_broken<W: Write>(
-    alloc: Global,
-    bytes: &[u8],
-    fault: InputFault,
-    manner: Manner,
-    w: &mut W,
-) -> Result<(), OutFault>
-    ensures ok { OnOk result (Appends (W.contents w.old) (W.contents w.new) (broken_explanation manner fault bytes.now)) }
-    ensures err { OnErr result (AppendsLess (W.contents w.old) (W.contents w.new) (broken_explanation manner fault bytes.now)) }
-    ensures memory { IfErr result (λ why. why ≡ OutFault.Memory → StopsBroken manner fault bytes.now (W.contents w.old) (W.contents w.new)) }
-{
-    let subject = Subject::broken(alloc, manner);
-    write_broken(alloc, bytes, &subject, fault, w)
-}
-
-/// Writes the explanation of bytes that are no input.
-fn write_broken<W: Write>(
-    alloc: Global,
-    bytes: &[u8],
-    subject: &Subject,
-    fault: InputFault,
-    w: &mut W,
-) -> Result<(), OutFault>
-    ensures ok { OnOk result (Appends (W.contents w.old) (W.contents w.new) (broken_text subject.now fault bytes.now)) }
-    ensures err { OnErr result (AppendsLess (W.contents w.old) (W.contents w.new) (broken_text subject.now fault bytes.now)) }
-    ensures memory { IfErr result (λ why. why ≡ OutFault.Memory → StopsBetween subject.now (take (place_of_fault fault) bytes.now) (first_line (broken_name bytes.now) (length bytes.now)) (W.contents w.old) (W.contents w.new)) }
-{
-    let whole = prefix(bytes, fault_place(fault));
-    let mut text = Text::new(alloc);
-    put_first_line(&mut text, broken_name(bytes), bytes)?;
-    let place = write_blocks(&mut text, subject, whole, w)?;
-    put_broken_end(&mut text, subject, fault, bytes, place)?;
-    write_all(w, text.as_bytes())
-}
-
-fn put_broken_end(
-    text: &mut Text,
-    subject: &Subject,
-    fault: InputFault,
-    bytes: &[u8],
-    place: usize,
-) -> Result<(), AllocError>
-    ensures { OnOk result (text.new ≡ text.old ++ broken_end subject.now fault bytes.now place) }
-{
-    put_fault(text, fault)?;
-    put_likeness(text, likeness_of(fault, bytes))?;
-    put_rest(text, subject.manner().look, place, after(bytes, place))
-}
-
-#[tactic(auto, unfolding(crate::specs::Explanations::first_line))]
-fn put_first_line(text: &mut Text, name: &str, bytes: &[u8]) -> Result<(), AllocError>
-    ensures { OnOk result (text.new ≡ text.old ++ first_line name.now (length bytes.now)) }
-{
-    text.put(name)?;
-    text.put(", ")?;
-    put_count(text, bytes.len() as u64, "byte")?;
-    text.put("\n")
-}
-
-#[tactic(auto, unfolding(crate::specs::Explanations::last_line))]
-fn put_last_line(text: &mut Text, findings: usize) -> Result<(), AllocError>
-    ensures { OnOk result (text.new ≡ text.old ++ last_line findings) }
-{
-    if findings == 0 {
-        text.put("no findings\n")
-    } else {
-        put_count(text, findings as u64, "finding")?;
-        text.put("\n")
+    match read {
+        Ok(input) => found_in_order(alloc, input),
+        Err(_) => Ok(Vec::new(alloc)),
     }
 }
 
+/// The bytes of which the descriptors are explained: those before the place of a fault.
+fn before_fault<'b>(read: &Result<Input, InputFault>, bytes: &'b [u8]) -> &'b [u8]
+    ensures { result.now ≡ before_fault read.now bytes.now }
+{
+    match read {
+        Ok(_) => bytes,
+        Err(fault) => prefix(bytes, fault_place(*fault)),
+    }
+}
+
+/// Writes the lines of the descriptors of an outline. Answers how many bytes those have.
+fn write_descriptors<W: Write>(
+    lines: &mut Lines,
+    subject: &Subject,
+    outline: Outline<'_>,
+    w: &mut W,
+) -> Result<usize, OutFault>
+    requires { length (bytes_of outline) < 2 ^ 63 }
+    ensures ok { IfOk result (PutsDescriptors subject.now outline.entry (W.contents w.old) (W.contents w.new) (written lines.old) (written lines.new)) }
+    ensures err { OnErr result (WritesLess lines.old.utf8 ((written lines.old).ended + ends (flat_map (lines_of subject.now) outline.entry)) (W.contents w.old) (W.contents w.new)) }
+    ensures memory { IfErr result (λ fault. fault ≡ OutFault.Memory → StopsBetween subject.now outline.entry (written lines.old) (W.contents w.old) (W.contents w.new)) }
+{
+    let mut place = 0;
+    for descriptor in outline {
+        put_descriptor(lines, subject, &descriptor)?;
+        lines.pass_on(w)?;
+        place += descriptor.bytes.len();
+    }
+    Ok(place)
+}
+
+/// Puts what ends an explanation, with so many findings, where the descriptors end at this place.
+#[tactic(auto, using(usb_text::proofs::ShownLines::showing_joined))]
+fn put_ending<P: Page>(
+    page: &mut P,
+    manner: Manner,
+    read: &Result<Input, InputFault>,
+    findings: usize,
+    bytes: &[u8],
+    place: usize,
+) -> Result<(), AllocError>
+    requires { findings ≡ length (found_of read.now) }
+    ensures { OnOk result (P.seen page.new ≡ showing_all P.showing (ending manner read.now bytes.now place) (P.seen page.old)) }
+{
+    let rest = after(bytes, place);
+    match read {
+        Ok(_) => {
+            put_rest(page, manner.look, place, rest)?;
+            put_last_line(page, findings)
+        }
+        Err(fault) => {
+            put_fault_lines(page, *fault, bytes)?;
+            put_rest(page, manner.look, place, rest)
+        }
+    }
+}
+
+fn put_first_line<P: Page>(
+    page: &mut P,
+    read: &Result<Input, InputFault>,
+    bytes: &[u8],
+) -> Result<(), AllocError>
+    ensures { OnOk result (P.seen page.new ≡ showing_all P.showing (first_line (length bytes.now)) (P.seen page.old)) }
+{
+    page.put(match read {
+        Ok(input) => input_name(input),
+        Err(_) => broken_name(bytes),
+    })?;
+    page.put(", ")?;
+    page.put_count(bytes.len() as u64, "byte")?;
+    page.end_line()
+}
+
+fn put_last_line<P: Page>(page: &mut P, findings: usize) -> Result<(), AllocError>
+    ensures { OnOk result (P.seen page.new ≡ showing_all P.showing (last_line findings) (P.seen page.old)) }
+{
+    if findings == 0 {
+        page.put("no findings")?;
+    } else {
+        page.put_count(findings as u64, "finding")?;
+    }
+    page.end_line()
+}
+
 fn input_name(input: &Input) -> &'static str
-    ensures { result.now ≡ input_name input.now }
+    ensures { IsTrue (is_words result.now) }
 {
     match input {
         Input::Set(_) => "set",
@@ -177,7 +166,7 @@ fn input_name(input: &Input) -> &'static str
 
 /// What the bytes would have been.
 fn broken_name(bytes: &[u8]) -> &'static str
-    ensures { result.now ≡ broken_name bytes.now }
+    ensures { IsTrue (is_words result.now) }
 {
     match byte_at(bytes, 1) {
         descriptor_type::CONFIGURATION | descriptor_type::OTHER_SPEED_CONFIGURATION => "broken set",

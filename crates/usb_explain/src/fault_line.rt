@@ -1,10 +1,11 @@
 //! The lines of the fault of a broken input: what is wrong, and what its bytes look like.
-ghost use Rattle.std.specs.Prelude.{◌≡◌, ◌++◌, OnOk};
-ghost use Rattle.usb_explain.specs.Faults.{fault_text, fault_words, file_message, following_words, likeness_text, likeness_words, numbered, place_of_fault, trailing_words};
+ghost use Rattle.std.specs.Prelude.{◌≡◌, ◌∷◌, [], OnOk};
+ghost use Rattle.usb_text.specs.Shown.{Number, showing_all};
+ghost use Rattle.usb_explain.specs.Faults.{fault_lines, fault_shown, likeness_line, likeness_shown, place_of_fault};
 
 use std::alloc::AllocError;
-use usb_file_data::{FileWhy, InputFault, Likeness};
-use usb_text::Text;
+use usb_file_data::{FileWhy, InputFault, Likeness, likeness_of};
+use usb_text::Page;
 
 /// The place of the fault in the input.
 pub(crate) fn fault_place(fault: InputFault) -> usize
@@ -17,107 +18,99 @@ pub(crate) fn fault_place(fault: InputFault) -> usize
     }
 }
 
-/// Puts the line of the fault: its number, its place, and its message.
-#[tactic(auto, unfolding(crate::specs::Faults::fault_text))]
-pub(crate) fn put_fault(text: &mut Text, fault: InputFault) -> Result<(), AllocError>
-    ensures { OnOk result (text.new ≡ text.old ++ fault_text fault) }
+/// Puts the line of the fault of these bytes, and that of what they look like, if they look like anything.
+#[tactic(auto, using(usb_text::proofs::ShownLines::showing_joined), unfolding(crate::specs::Faults::fault_lines))]
+pub(crate) fn put_fault_lines<P: Page>(
+    page: &mut P,
+    fault: InputFault,
+    bytes: &[u8],
+) -> Result<(), AllocError>
+    ensures { OnOk result (P.seen page.new ≡ showing_all P.showing (fault_lines fault bytes.now) (P.seen page.old)) }
 {
-    text.put("  ! ")?;
-    put_words(text, fault)?;
-    text.put("\n")
+    page.put("  ! ")?;
+    put_fault(page, fault)?;
+    page.end_line()?;
+    put_likeness(page, likeness_of(fault, bytes))
 }
 
-fn put_words(text: &mut Text, fault: InputFault) -> Result<(), AllocError>
-    ensures { OnOk result (text.new ≡ text.old ++ fault_words fault) }
+/// Puts the fault: its number, its place, and its message.
+#[tactic(auto, using(crate::proofs::Messages::set_message_words))]
+fn put_fault<P: Page>(page: &mut P, fault: InputFault) -> Result<(), AllocError>
+    ensures { OnOk result (P.seen page.new ≡ showing_all P.showing (fault_shown fault) (P.seen page.old)) }
 {
     match fault {
         InputFault::Set(fault) => {
-            text.put("set fault ")?;
-            put_numbered(text, fault.number(), fault.at as usize)?;
-            text.put(fault.why.message())
+            page.put("set fault ")?;
+            put_numbered(page, fault.number(), fault.at as usize)?;
+            page.put(fault.why.message())
         }
-        InputFault::Trailing(at) => put_trailing(text, at),
+        InputFault::Trailing(at) => {
+            page.put("trailing bytes at ")?;
+            page.put_decimal(at as u64)?;
+            page.put(": bytes after the set")
+        }
         InputFault::File(fault) => {
-            text.put("file fault ")?;
-            put_numbered(text, fault.number(), fault.at)?;
-            put_file_message(text, fault.why)
+            page.put("file fault ")?;
+            put_numbered(page, fault.number(), fault.at)?;
+            put_file_message(page, fault.why)
         }
     }
 }
 
-fn put_trailing(text: &mut Text, at: usize) -> Result<(), AllocError>
-    ensures { OnOk result (text.new ≡ text.old ++ trailing_words at) }
+fn put_numbered<P: Page>(page: &mut P, number: u8, at: usize) -> Result<(), AllocError>
+    ensures { OnOk result (P.seen page.new ≡ showing_all P.showing (Number number ∷ Number at ∷ []) (P.seen page.old)) }
 {
-    text.put("trailing bytes at ")?;
-    text.put_decimal(at as u64)?;
-    text.put(": bytes after the set")
-}
-
-fn put_numbered(text: &mut Text, number: u8, at: usize) -> Result<(), AllocError>
-    ensures { OnOk result (text.new ≡ text.old ++ numbered number at) }
-{
-    text.put_decimal(u64::from(number))?;
-    text.put(" at ")?;
-    text.put_decimal(at as u64)?;
-    text.put(": ")
+    page.put_decimal(u64::from(number))?;
+    page.put(" at ")?;
+    page.put_decimal(at as u64)?;
+    page.put(": ")
 }
 
 /// Puts what is wrong with the bytes of a file.
-fn put_file_message(text: &mut Text, why: FileWhy) -> Result<(), AllocError>
-    ensures { OnOk result (text.new ≡ text.old ++ file_message why) }
+#[tactic(auto, using(crate::proofs::Messages::set_message_words, crate::proofs::Messages::file_message_words))]
+fn put_file_message<P: Page>(page: &mut P, why: FileWhy) -> Result<(), AllocError>
+    ensures { OnOk result (P.seen page.new ≡ P.seen page.old) }
 {
-    text.put(why.message())?;
+    page.put(why.message())?;
     match why {
         FileWhy::Set(why) => {
-            text.put(", ")?;
-            text.put(why.message())
+            page.put(", ")?;
+            page.put(why.message())
         }
         _ => Ok(()),
     }
 }
 
 /// Puts the line of what bytes look like, if they look like anything.
-#[tactic(auto, unfolding(crate::specs::Faults::likeness_text))]
-pub(crate) fn put_likeness(text: &mut Text, likeness: Option<Likeness>) -> Result<(), AllocError>
-    ensures { OnOk result (text.new ≡ text.old ++ likeness_text likeness) }
+#[tactic(auto, using(usb_text::proofs::ShownLines::showing_joined))]
+fn put_likeness<P: Page>(page: &mut P, likeness: Option<Likeness>) -> Result<(), AllocError>
+    ensures { OnOk result (P.seen page.new ≡ showing_all P.showing (likeness_line likeness) (P.seen page.old)) }
 {
     match likeness {
         None => Ok(()),
         Some(likeness) => {
-            text.put("  ? ")?;
-            put_likeness_words(text, likeness)?;
-            text.put("\n")
+            page.put("  ? ")?;
+            put_likeness_words(page, likeness)?;
+            page.end_line()
         }
     }
 }
 
-fn put_likeness_words(text: &mut Text, likeness: Likeness) -> Result<(), AllocError>
-    ensures { OnOk result (text.new ≡ text.old ++ likeness_words likeness) }
+fn put_likeness_words<P: Page>(page: &mut P, likeness: Likeness) -> Result<(), AllocError>
+    ensures { OnOk result (P.seen page.new ≡ showing_all P.showing (likeness_shown likeness) (P.seen page.old)) }
 {
     match likeness {
-        Likeness::Nothing => text.put("there are no bytes"),
-        Likeness::Text => text.put(
+        Likeness::Nothing => page.put("there are no bytes"),
+        Likeness::Text => page.put(
             "this is text; explain reads the bytes of descriptors, or their hexadecimal digits",
         ),
         Likeness::DumpAndMore(count) => {
-            text.put("the dump ends here, and ")?;
-            put_following(text, count)
+            page.put("the dump ends here, and ")?;
+            page.put_count(count as u64, "byte")?;
+            page.put(if count == 1 { " follows" } else { " follow" })
         }
-        Likeness::Bos => text.put("this looks like a BOS descriptor alone"),
-        Likeness::StringDescriptor => text.put("this looks like a string descriptor alone"),
-        Likeness::Report => text.put("this looks like a report descriptor"),
-    }
-}
-
-/// Puts that so many bytes follow.
-#[tactic(auto, unfolding(crate::specs::Faults::following_words))]
-fn put_following(text: &mut Text, count: usize) -> Result<(), AllocError>
-    ensures { OnOk result (text.new ≡ text.old ++ following_words count) }
-{
-    if count == 1 {
-        text.put("1 byte follows")
-    } else {
-        text.put_decimal(count as u64)?;
-        text.put(" bytes follow")
+        Likeness::Bos => page.put("this looks like a BOS descriptor alone"),
+        Likeness::StringDescriptor => page.put("this looks like a string descriptor alone"),
+        Likeness::Report => page.put("this looks like a report descriptor"),
     }
 }

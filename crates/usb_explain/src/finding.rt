@@ -1,53 +1,72 @@
 //! The lines of findings.
-ghost use Rattle.std.specs.Prelude.{◌≡◌, ◌++◌, OnOk};
-ghost use Rattle.usb_explain.specs.FindingLines.{caused, causes_words, counts_words, device_words, finding_line, has_more, packet_words, qualifier_words, reserved_words, cause_words};
+ghost use Rattle.std.specs.Prelude.{◌≡◌, IsTrue, OnOk};
+ghost use Rattle.std.specs.List.{flat_map};
+ghost use Rattle.usb_text.specs.Shown.{showing_all};
+ghost use Rattle.usb_text.specs.Written.{is_words};
+ghost use Rattle.usb_explain.specs.FindingLines.{counts_shown, finding_line};
 
 use std::alloc::AllocError;
-use usb_file_data::{Cause, PacketFault};
-use usb_text::{Text, put_count};
+use usb_file_data::{Cause, Found, PacketFault};
+use usb_text::Page;
+
+/// Puts a line for each of these findings of a descriptor whose heading has this depth.
+///
+/// # Errors
+///
+/// Out of memory.
+pub(crate) fn put_findings<P: Page>(
+    page: &mut P,
+    depth: u8,
+    found: &[Found],
+) -> Result<(), AllocError>
+    ensures { OnOk result (P.seen page.new ≡ showing_all P.showing (flat_map (λ f. finding_line depth f.cause) found.now) (P.seen page.old)) }
+{
+    for one in found {
+        put_finding(page, depth, one.cause)?;
+    }
+    Ok(())
+}
 
 /// Puts the line of a finding at a descriptor whose heading has this depth.
 ///
 /// ```rust
-/// put_finding(&mut text, 3, Cause::RepeatedAddress)?;
-/// assert_eq!(rt; text.as_bytes(), b"        ! V7 this setting has this address already\n");
+/// put_finding(&mut lines, 3, Cause::RepeatedAddress)?;
+/// assert_eq!(rt; lines.as_bytes(), b"        ! V7 this setting has this address already\n");
 /// ```
 ///
 /// # Errors
 ///
 /// Out of memory.
-#[tactic(auto, unfolding(crate::specs::FindingLines::finding_line))]
-pub(crate) fn put_finding(text: &mut Text, depth: u8, cause: Cause) -> Result<(), AllocError>
-    ensures { OnOk result (text.new ≡ text.old ++ finding_line depth cause) }
+#[tactic(auto, using(usb_text::proofs::ShownLines::showing_joined), unfolding(crate::specs::FindingLines::finding_line))]
+fn put_finding<P: Page>(page: &mut P, depth: u8, cause: Cause) -> Result<(), AllocError>
+    ensures { OnOk result (P.seen page.new ≡ showing_all P.showing (finding_line depth cause) (P.seen page.old)) }
 {
-    text.put_spaces(2 * usize::from(depth) + 2)?;
-    text.put("! V")?;
-    text.put_decimal(u64::from(cause.rule().number()))?;
-    text.put(" ")?;
-    put_cause(text, cause)?;
-    text.put("\n")
+    page.put_indent(2 * usize::from(depth) + 2)?;
+    page.put("! V")?;
+    page.put_decimal(u64::from(cause.rule().number()))?;
+    page.put(" ")?;
+    put_cause(page, cause)?;
+    page.end_line()
 }
 
-#[tactic(auto, unfolding(crate::specs::FindingLines::cause_words))]
-fn put_cause(text: &mut Text, cause: Cause) -> Result<(), AllocError>
-    ensures { OnOk result (text.new ≡ text.old ++ cause_words cause) }
+fn put_cause<P: Page>(page: &mut P, cause: Cause) -> Result<(), AllocError>
+    ensures { OnOk result (P.seen page.new ≡ showing_all P.showing (counts_shown cause) (P.seen page.old)) }
 {
     match cause {
         Cause::InterfaceCount { declared, found } => {
-            put_counts(text, "bNumInterfaces", declared, "set", found, "interface")
+            page.put("bNumInterfaces is ")?;
+            page.put_decimal(u64::from(declared))?;
+            page.put(", and the set has ")?;
+            page.put_count(found as u64, "interface")
         }
-        Cause::NumberGap => text.put("the interfaces aren't numbered from 0 without a gap"),
-        Cause::RepeatedSetting => text.put("this interface has this alternate setting already"),
-        Cause::NoDefaultSetting => text.put("this interface has no alternate setting 0"),
+        Cause::NumberGap => page.put("the interfaces aren't numbered from 0 without a gap"),
+        Cause::RepeatedSetting => page.put("this interface has this alternate setting already"),
+        Cause::NoDefaultSetting => page.put("this interface has no alternate setting 0"),
         Cause::EndpointCount { declared, found } => {
-            put_counts(
-                text,
-                "bNumEndpoints",
-                declared,
-                "setting",
-                found,
-                "endpoint",
-            )
+            page.put("bNumEndpoints is ")?;
+            page.put_decimal(u64::from(declared))?;
+            page.put(", and the setting has ")?;
+            page.put_count(found as u64, "endpoint")
         }
         Cause::Address {
             endpoint_zero,
@@ -55,81 +74,52 @@ fn put_cause(text: &mut Text, cause: Cause) -> Result<(), AllocError>
         } => {
             let one = "the address names endpoint 0";
             let other = "bits 6 to 4 of the address aren't zero";
-            put_causes(text, endpoint_zero, one, reserved, other)
+            put_causes(page, endpoint_zero, one, reserved, other)
         }
-        Cause::RepeatedAddress => text.put("this setting has this address already"),
-        Cause::SharedAddress => text.put("another interface of the set has this address"),
+        Cause::RepeatedAddress => page.put("this setting has this address already"),
+        Cause::SharedAddress => page.put("another interface of the set has this address"),
         Cause::Attributes { clear, reserved } => {
             let one = "bit 7 of bmAttributes isn't one";
             let other = "bits 4 to 0 of bmAttributes aren't zero";
-            put_causes(text, clear, one, reserved, other)
+            put_causes(page, clear, one, reserved, other)
         }
-        Cause::ZeroValue => text.put("bConfigurationValue is 0"),
-        Cause::RepeatedValue => text.put("an earlier set has this bConfigurationValue"),
-        Cause::NoConfiguration => text.put("there is no configuration"),
-        Cause::Device { packet, subclass } => put_device_causes(text, packet, subclass),
+        Cause::ZeroValue => page.put("bConfigurationValue is 0"),
+        Cause::RepeatedValue => page.put("an earlier set has this bConfigurationValue"),
+        Cause::NoConfiguration => page.put("there is no configuration"),
+        Cause::Device { packet, subclass } => put_device_causes(page, packet, subclass),
         Cause::Qualifier {
             packet,
             subclass,
             reserved,
-        } => put_qualifier_causes(text, packet, subclass, reserved),
-        Cause::PacketSize => text.put("bits 15 to 13 of wMaxPacketSize aren't zero"),
-        Cause::NoInterface => text.put("it binds no interface"),
-        Cause::MissingInterface => text.put("it binds an interface that the set hasn't"),
-    }
-}
-
-/// Puts what is wrong with a qualifier: that of a device, and bReserved.
-#[tactic(auto, unfolding(crate::specs::FindingLines::qualifier_words))]
-fn put_qualifier_causes(
-    text: &mut Text,
-    packet: Option<PacketFault>,
-    subclass: bool,
-    reserved: bool,
-) -> Result<(), AllocError>
-    ensures { OnOk result (text.new ≡ text.old ++ qualifier_words packet subclass reserved) }
-{
-    put_device_causes(text, packet, subclass)?;
-    put_reserved(text, has_more(packet, subclass, reserved), reserved)
-}
-
-/// Puts bReserved, after more causes or alone.
-#[tactic(auto, unfolding(crate::specs::FindingLines::reserved_words))]
-fn put_reserved(text: &mut Text, more: bool, reserved: bool) -> Result<(), AllocError>
-    ensures { OnOk result (text.new ≡ text.old ++ reserved_words more reserved) }
-{
-    put_caused(text, more, ", and ")?;
-    put_caused(text, reserved, "bReserved isn't 0")
-}
-
-#[tactic(auto, unfolding(crate::specs::FindingLines::has_more))]
-fn has_more(packet: Option<PacketFault>, subclass: bool, other: bool) -> bool
-    ensures { result ≡ has_more packet subclass other }
-{
-    match packet {
-        None => subclass && other,
-        Some(_) => other,
+        } => {
+            put_device_causes(page, packet, subclass)?;
+            let more = packet.is_some() || subclass;
+            put_caused(page, more && reserved, ", and ")?;
+            put_caused(page, reserved, "bReserved isn't 0")
+        }
+        Cause::PacketSize => page.put("bits 15 to 13 of wMaxPacketSize aren't zero"),
+        Cause::NoInterface => page.put("it binds no interface"),
+        Cause::MissingInterface => page.put("it binds an interface that the set hasn't"),
     }
 }
 
 /// Puts what is wrong with a device: its bMaxPacketSize0, and that there is a subclass without a class.
-#[tactic(auto, unfolding(crate::specs::FindingLines::device_words))]
-fn put_device_causes(
-    text: &mut Text,
+fn put_device_causes<P: Page>(
+    page: &mut P,
     packet: Option<PacketFault>,
     subclass: bool,
 ) -> Result<(), AllocError>
-    ensures { OnOk result (text.new ≡ text.old ++ device_words packet subclass) }
+    ensures { OnOk result (P.seen page.new ≡ P.seen page.old) }
 {
     let other = "there is a subclass without a class";
     match packet {
-        None => put_caused(text, subclass, other),
-        Some(packet) => put_causes(text, true, packet_words(packet), subclass, other),
+        None => put_caused(page, subclass, other),
+        Some(packet) => put_causes(page, true, packet_words(packet), subclass, other),
     }
 }
 
 fn packet_words(packet: PacketFault) -> &'static str
-    ensures { result.now ≡ packet_words packet }
+    ensures { IsTrue (is_words result.now) }
 {
     match packet {
         PacketFault::NotInTable => "bMaxPacketSize0 isn't 8, 16, 32 or 64",
@@ -141,45 +131,26 @@ fn packet_words(packet: PacketFault) -> &'static str
 }
 
 /// Puts the causes that hold, of two.
-#[tactic(auto, unfolding(crate::specs::FindingLines::causes_words))]
-fn put_causes(
-    text: &mut Text,
+fn put_causes<P: Page>(
+    page: &mut P,
     has_one: bool,
     one: &str,
     has_other: bool,
     other: &str,
 ) -> Result<(), AllocError>
-    ensures { OnOk result (text.new ≡ text.old ++ causes_words has_one one.now has_other other.now) }
+    requires one { IsTrue (is_words one.now) }
+    requires other { IsTrue (is_words other.now) }
+    ensures { OnOk result (P.seen page.new ≡ P.seen page.old) }
 {
-    put_caused(text, has_one, one)?;
-    put_caused(text, has_one && has_other, ", and ")?;
-    put_caused(text, has_other, other)
+    put_caused(page, has_one, one)?;
+    put_caused(page, has_one && has_other, ", and ")?;
+    put_caused(page, has_other, other)
 }
 
 /// Puts words where a cause holds.
-fn put_caused(text: &mut Text, holds: bool, words: &str) -> Result<(), AllocError>
-    ensures { OnOk result (text.new ≡ text.old ++ caused holds words.now) }
+fn put_caused<P: Page>(page: &mut P, holds: bool, words: &str) -> Result<(), AllocError>
+    requires { IsTrue (is_words words.now) }
+    ensures { OnOk result (P.seen page.new ≡ P.seen page.old) }
 {
-    if holds { text.put(words) } else { Ok(()) }
-}
-
-/// Puts a count that a descriptor says, and what there is.
-#[tactic(auto, unfolding(crate::specs::FindingLines::counts_words))]
-fn put_counts(
-    text: &mut Text,
-    field: &str,
-    declared: u8,
-    owner: &str,
-    found: usize,
-    noun: &str,
-) -> Result<(), AllocError>
-    ensures { OnOk result (text.new ≡ text.old ++ counts_words field.now declared owner.now found noun.now) }
-{
-    text.put(field)?;
-    text.put(" is ")?;
-    text.put_decimal(u64::from(declared))?;
-    text.put(", and the ")?;
-    text.put(owner)?;
-    text.put(" has ")?;
-    put_count(text, found as u64, noun)
+    if holds { page.put(words) } else { Ok(()) }
 }

@@ -1,83 +1,75 @@
 //! What the bytes of a field say, by the form of its number.
-ghost use Rattle.std.specs.Prelude.{◌≡◌, ◌-◌, ◌++◌, drop, slice_index, take, OnOk};
-ghost use Rattle.usb_explain.specs.Forms.{decimal_words, form_words, hexadecimal_words, packet_size_words, release_words, report_words};
+ghost use Rattle.std.specs.Prelude.{◌≡◌, ◌∷◌, [], ◌-◌, slice_index, OnOk};
+ghost use Rattle.usb_text.specs.Shown.{Number, showing_all};
+ghost use Rattle.usb_explain.specs.Forms.{decimal_shown, form_shown, hexadecimal_shown, packet_size_shown, release_shown};
 
 use crate::bits::put_bits;
 use crate::endpoint::{put_address, put_attributes_value, put_interval_value, put_size_value};
-use crate::layout::ShownBytes;
+use crate::field::Field;
 use crate::names::{
     put_audio_terminal, put_class, put_function_class, put_guid, put_protocol, put_subclass,
     put_video_terminal,
 };
 use crate::speed::{SetSpeed, put_frame_interval};
 use crate::string::put_index;
+use crate::string_names::Names;
+use crate::table_names::{abstract_control_bits, call_management_bits, firmware_upgrade_bits};
 use crate::value::{put_packet_value, put_power_value, put_release_value, put_set_attributes};
 use std::alloc::AllocError;
-use usb_fields::{after, byte_at, prefix};
-use usb_names::{
-    ClassField, Form, abstract_control_bits, call_management_bits, firmware_upgrade_bits,
-};
-use usb_text::{Text, put_byte_code, put_word_code};
+use usb_fields::byte_at;
+use usb_names::Form;
+use usb_text::Page;
 
 /// The place of bmAttributes in an endpoint descriptor (USB 2.0, 9.6.6).
 const ATTRIBUTES: usize = 3;
 
-/// Puts the words of the field at a place.
+/// Puts the words of a field of a descriptor of these bytes.
 #[inline(always)]
-#[tactic(auto, unfolding(crate::specs::Forms::form_words))]
-pub(crate) fn put_form(
-    text: &mut Text,
-    shown: &ShownBytes,
-    field: &ClassField,
-    place: usize,
+#[tactic(auto, unfolding(crate::specs::Forms::form_shown))]
+pub(crate) fn put_form<P: Page>(
+    page: &mut P,
+    speed: SetSpeed,
+    names: &Names,
+    field: &Field,
+    b: &[u8],
 ) -> Result<(), AllocError>
-    ensures { OnOk result (text.new ≡ text.old ++ form_words shown.now.context.speed shown.now.names.now field.now.form field.now.width shown.now.b.now place) }
+    ensures { OnOk result (P.seen page.new ≡ showing_all P.showing (form_shown speed names.now field.now.form field.now.value.now b.now field.now.place) (P.seen page.old)) }
 {
-    let b = shown.b;
-    let speed = shown.context.speed;
-    let byte = byte_at(b, place);
+    let value = field.value;
+    let byte = byte_at(b, field.place);
     match field.form {
-        Form::Decimal => put_decimal_words(text, bytes_at(b, place, field.width)),
-        Form::Hexadecimal => put_hexadecimal_words(text, bytes_at(b, place, field.width)),
-        Form::Release => put_release_words(text, bytes_at(b, place, field.width)),
-        Form::ReportType => put_report_words(text, byte),
-        Form::Index => put_index(text, shown.names, byte),
-        Form::FrameInterval => put_frame_interval(text, bytes_at(b, place, field.width)),
-        Form::Guid => put_guid(text, bytes_at(b, place, field.width)),
-        Form::AudioTerminal => put_audio_terminal(text, bytes_at(b, place, field.width)),
-        Form::VideoTerminal => put_video_terminal(text, bytes_at(b, place, field.width)),
-        Form::AbstractControl => put_bits(text, abstract_control_bits(), byte),
-        Form::CallManagement => put_bits(text, call_management_bits(), byte),
-        Form::FirmwareUpgrade => put_bits(text, firmware_upgrade_bits(), byte),
-        Form::Class => put_class(text, byte),
-        Form::FunctionClass => put_function_class(text, byte),
-        Form::Subclass => put_subclass(text, byte_before(b, place, 1), byte),
+        Form::Decimal => put_number(page, value),
+        Form::Hexadecimal => put_code(page, value),
+        Form::Release => put_release_words(page, value),
+        Form::ReportType => put_report_words(page, byte),
+        Form::Index => put_index(page, names, byte),
+        Form::FrameInterval => put_frame_interval(page, value),
+        Form::Guid => put_guid(page, value),
+        Form::AudioTerminal => put_audio_terminal(page, value),
+        Form::VideoTerminal => put_video_terminal(page, value),
+        Form::AbstractControl => put_bits(page, abstract_control_bits(), byte),
+        Form::CallManagement => put_bits(page, call_management_bits(), byte),
+        Form::FirmwareUpgrade => put_bits(page, firmware_upgrade_bits(), byte),
+        Form::Class => put_class(page, byte),
+        Form::FunctionClass => put_function_class(page, byte),
+        Form::Subclass => put_subclass(page, byte_before(b, field.place, 1), byte),
         Form::Protocol => {
             put_protocol(
-                text,
-                byte_before(b, place, 2),
-                byte_before(b, place, 1),
+                page,
+                byte_before(b, field.place, 2),
+                byte_before(b, field.place, 1),
                 byte,
             )
         }
-        Form::DevicePacket => put_packet_value(text, speed, byte),
-        Form::Supply => put_set_attributes(text, byte),
-        Form::Power => put_power_value(text, speed, byte),
-        Form::Address => put_address(text, byte_at(b, ATTRIBUTES), byte),
-        Form::Transfer => put_attributes_value(text, byte),
-        Form::PacketSize => {
-            let bytes = bytes_at(b, place, field.width);
-            put_packet_size(text, speed, byte_at(b, ATTRIBUTES), bytes)
-        }
-        Form::Interval => put_interval_value(text, speed, byte_at(b, ATTRIBUTES), byte),
+        Form::DevicePacket => put_packet_value(page, speed, byte),
+        Form::Supply => put_set_attributes(page, byte),
+        Form::Power => put_power_value(page, speed, byte),
+        Form::Address => put_address(page, byte_at(b, ATTRIBUTES), byte),
+        Form::Transfer => put_attributes_value(page, byte),
+        Form::PacketSize => put_packet_size(page, speed, byte_at(b, ATTRIBUTES), value),
+        Form::Interval => put_interval_value(page, speed, byte_at(b, ATTRIBUTES), byte),
+        Form::Bytes => page.put_digits(value),
     }
-}
-
-/// So many bytes at a place, or those that are there.
-fn bytes_at(b: &[u8], place: usize, width: u8) -> &[u8]
-    ensures { result.now ≡ take width (drop place b.now) }
-{
-    prefix(after(b, place), usize::from(width))
 }
 
 /// The byte so many before a place.
@@ -87,71 +79,74 @@ fn byte_before(b: &[u8], place: usize, count: usize) -> u8
     byte_at(b, place.saturating_sub(count))
 }
 
+/// Puts a number of one to four bytes in decimal digits.
 #[inline(always)]
-fn put_decimal_words(text: &mut Text, value: &[u8]) -> Result<(), AllocError>
-    ensures { OnOk result (text.new ≡ text.old ++ decimal_words value.now) }
+fn put_number<P: Page>(page: &mut P, value: &[u8]) -> Result<(), AllocError>
+    ensures { OnOk result (P.seen page.new ≡ showing_all P.showing (decimal_shown value.now) (P.seen page.old)) }
 {
     match value {
-        [a] => text.put_decimal(u64::from(*a)),
-        [a, b] => text.put_decimal(u64::from(*a) + 256 * u64::from(*b)),
+        [a] => page.put_decimal(u64::from(*a)),
+        [a, b] => page.put_decimal(u64::from(*a) + 256 * u64::from(*b)),
         [a, b, c] => {
-            text.put_decimal(u64::from(*a) + 256 * (u64::from(*b) + 256 * u64::from(*c)))
+            page.put_decimal(u64::from(*a) + 256 * (u64::from(*b) + 256 * u64::from(*c)))
         }
-        [a, b, c, d] => text.put_decimal(
+        [a, b, c, d] => page.put_decimal(
             u64::from(*a) + 256 * (u64::from(*b) + 256 * (u64::from(*c) + 256 * u64::from(*d))),
         ),
-        _ => text.put_digits(value),
+        _ => page.put_digits(value),
     }
 }
 
+/// Puts a number of one, two or four bytes as a code.
 #[inline(never)]
-fn put_hexadecimal_words(text: &mut Text, value: &[u8]) -> Result<(), AllocError>
-    ensures { OnOk result (text.new ≡ text.old ++ hexadecimal_words value.now) }
+fn put_code<P: Page>(page: &mut P, value: &[u8]) -> Result<(), AllocError>
+    ensures { OnOk result (P.seen page.new ≡ showing_all P.showing (hexadecimal_shown value.now) (P.seen page.old)) }
 {
     match value {
-        [a] => put_byte_code(text, *a),
-        [a, b] => put_word_code(text, u16::from_le_bytes([*a, *b])),
+        [a] => page.put_byte_code(*a),
+        [a, b] => page.put_word_code(u16::from_le_bytes([*a, *b])),
         [a, b, c, d] => {
-            text.put("0x")?;
-            text.put_digits(&[*d, *c, *b, *a])
+            page.put("0x")?;
+            page.put_digits(&[*d, *c, *b, *a])
         }
-        _ => text.put_digits(value),
+        _ => page.put_digits(value),
     }
 }
 
 #[inline(never)]
-fn put_release_words(text: &mut Text, value: &[u8]) -> Result<(), AllocError>
-    ensures { OnOk result (text.new ≡ text.old ++ release_words value.now) }
+fn put_release_words<P: Page>(page: &mut P, value: &[u8]) -> Result<(), AllocError>
+    ensures { OnOk result (P.seen page.new ≡ showing_all P.showing (release_shown value.now) (P.seen page.old)) }
 {
     match value {
-        [low, high] => put_release_value(text, u16::from_le_bytes([*low, *high])),
-        _ => text.put_digits(value),
+        [low, high] => put_release_value(page, u16::from_le_bytes([*low, *high])),
+        _ => page.put_digits(value),
     }
 }
 
 #[inline(never)]
-fn put_packet_size(
-    text: &mut Text,
+fn put_packet_size<P: Page>(
+    page: &mut P,
     speed: SetSpeed,
     attributes: u8,
     value: &[u8],
 ) -> Result<(), AllocError>
-    ensures { OnOk result (text.new ≡ text.old ++ packet_size_words speed attributes value.now) }
+    ensures { OnOk result (P.seen page.new ≡ showing_all P.showing (packet_size_shown speed attributes value.now) (P.seen page.old)) }
 {
     match value {
-        [low, high] => put_size_value(text, speed, attributes, u16::from_le_bytes([*low, *high])),
-        _ => text.put_digits(value),
+        [low, high] => put_size_value(page, speed, attributes, u16::from_le_bytes([*low, *high])),
+        _ => page.put_digits(value),
     }
 }
 
+/// Puts the type of a class descriptor of HID (HID 1.11, 7.1).
 #[inline(never)]
-fn put_report_words(text: &mut Text, descriptor_type: u8) -> Result<(), AllocError>
-    ensures { OnOk result (text.new ≡ text.old ++ report_words descriptor_type) }
+fn put_report_words<P: Page>(page: &mut P, descriptor_type: u8) -> Result<(), AllocError>
+    ensures { OnOk result (P.seen page.new ≡ showing_all P.showing (Number descriptor_type ∷ []) (P.seen page.old)) }
 {
-    put_byte_code(text, descriptor_type)?;
+    page.put_byte_code(descriptor_type)?;
     match descriptor_type {
-        0x22 => text.put(" (report)"),
-        0x23 => text.put(" (physical)"),
+        0x22 => page.put(" (report)"),
+        0x23 => page.put(" (physical)"),
         _ => Ok(()),
     }
 }

@@ -1,15 +1,15 @@
 //! bInterval of periodic endpoints as a time, and remarks on it.
-ghost use Rattle.std.specs.Prelude.{◌≡◌, ◌++◌, OnOk};
+ghost use Rattle.std.specs.Prelude.{◌≡◌, ◌*◌, ◌<◌, ◌≤◌, IfSome, OnOk};
 ghost use Rattle.usb_set.specs.Descriptors.{transfer_type_of};
-ghost use Rattle.usb_explain.specs.Speeds.{at_least_one, frames, full_interval, full_period, high_interval, interval_at, is_periodic, microframes, period};
-ghost use Rattle.std.specs.Prelude.{◌≡◌};
+ghost use Rattle.usb_text.specs.Shown.{showing_all};
 ghost use Rattle.usb_explain.specs.Remarks.{from_to, interval_range, interval_remark};
+ghost use Rattle.usb_explain.specs.Speeds.{at_least_one, full_microseconds, full_period, high_microseconds, interval_at, interval_shown, is_periodic, period, time_shown};
 
-use crate::remark::{Range, Remark};
+use crate::remark::{IntervalRange, Remark};
 use crate::speed::SetSpeed;
 use std::alloc::AllocError;
 use usb_set::TransferType;
-use usb_text::Text;
+use usb_text::Page;
 
 /// Whether an endpoint of these attributes has an interval: isochronous and interrupt ones do (USB 2.0, 5.6 and 5.7).
 pub(crate) fn is_periodic(attributes: u8) -> bool
@@ -24,44 +24,72 @@ pub(crate) fn is_periodic(attributes: u8) -> bool
 /// Puts the interval of a periodic endpoint of these attributes at a speed: `10 ms`, or `10 ms; at high speed 64 ms`.
 ///
 /// ```rust
-/// put_interval(&mut text, SetSpeed::High, 3, 4)?;
-/// assert_eq!(rt; text.as_bytes(), b"1 ms");
+/// put_interval(&mut lines, SetSpeed::High, 3, 4)?;
+/// assert_eq!(rt; lines.as_bytes(), b"1 ms");
 /// ```
-#[tactic(auto, unfolding(crate::specs::Speeds::interval_at))]
-pub(crate) fn put_interval(
-    text: &mut Text,
+#[tactic(auto, using(usb_text::proofs::ShownLines::showing_joined), unfolding(crate::specs::Speeds::interval_at))]
+pub(crate) fn put_interval<P: Page>(
+    page: &mut P,
     speed: SetSpeed,
     attributes: u8,
     interval: u8,
 ) -> Result<(), AllocError>
-    ensures { OnOk result (text.new ≡ text.old ++ interval_at speed (transfer_type_of attributes) interval) }
+    ensures { OnOk result (P.seen page.new ≡ showing_all P.showing (interval_at speed (transfer_type_of attributes) interval) (P.seen page.old)) }
 {
+    let transfer = TransferType::of(attributes);
     match speed {
         SetSpeed::Low | SetSpeed::Full | SetSpeed::LowOrFull => {
-            put_full(text, TransferType::of(attributes), interval)
+            put_time(page, full_microseconds(transfer, interval))
         }
         SetSpeed::FullOrHigh => {
-            put_full(text, TransferType::of(attributes), interval)?;
-            text.put("; at high speed ")?;
-            put_high(text, interval)
+            put_time(page, full_microseconds(transfer, interval))?;
+            page.put("; at high speed ")?;
+            put_time(page, high_microseconds(interval))
         }
-        SetSpeed::High | SetSpeed::Super => put_high(text, interval),
+        SetSpeed::High | SetSpeed::Super => put_time(page, high_microseconds(interval)),
     }
 }
 
-/// At low or full speed.
-#[tactic(auto, unfolding(crate::specs::Speeds::full_interval))]
-fn put_full(text: &mut Text, transfer: TransferType, interval: u8) -> Result<(), AllocError>
-    ensures { OnOk result (text.new ≡ text.old ++ full_interval transfer interval) }
+/// Puts a time in microseconds, if it is in its range: `125 us`, or `2 ms`.
+fn put_time<P: Page>(page: &mut P, microseconds: Option<u32>) -> Result<(), AllocError>
+    ensures { OnOk result (P.seen page.new ≡ showing_all P.showing (interval_shown microseconds) (P.seen page.old)) }
+{
+    match microseconds {
+        None => page.put("out of range"),
+        Some(time) if time < 1000 => {
+            page.put_decimal(u64::from(time))?;
+            page.put(" us")
+        }
+        Some(time) => {
+            page.put_decimal(u64::from(time / 1000))?;
+            page.put(" ms")
+        }
+    }
+}
+
+/// bInterval in microseconds at low or full speed, if it is in its range.
+fn full_microseconds(transfer: TransferType, interval: u8) -> Option<u32>
+    ensures { result ≡ full_microseconds transfer interval }
 {
     match full_period(transfer, interval) {
-        None => text.put("out of range"),
-        Some(frames) => put_frames(text, frames),
+        None => None,
+        Some(frames) => Some(1000 * frames),
     }
 }
 
-fn full_period(transfer: TransferType, interval: u8) -> Option<u64>
-    ensures { result ≡ full_period transfer interval }
+/// And at high speed and above.
+fn high_microseconds(interval: u8) -> Option<u32>
+    ensures { result ≡ high_microseconds interval }
+{
+    match period(interval) {
+        None => None,
+        Some(microframes) => Some(125 * microframes),
+    }
+}
+
+fn full_period(transfer: TransferType, interval: u8) -> Option<u32>
+    ensures frames { result ≡ full_period transfer interval }
+    ensures most { IfSome result (λ frames. frames ≤ 32768) }
 {
     match transfer {
         TransferType::Interrupt => at_least_one(interval),
@@ -69,30 +97,21 @@ fn full_period(transfer: TransferType, interval: u8) -> Option<u64>
     }
 }
 
-fn at_least_one(interval: u8) -> Option<u64>
-    ensures { result ≡ at_least_one interval }
+fn at_least_one(interval: u8) -> Option<u32>
+    ensures frames { result ≡ at_least_one interval }
+    ensures most { IfSome result (λ frames. frames ≤ 32768) }
 {
     if interval == 0 {
         None
     } else {
-        Some(u64::from(interval))
-    }
-}
-
-/// At high speed and above.
-#[tactic(auto, unfolding(crate::specs::Speeds::high_interval))]
-fn put_high(text: &mut Text, interval: u8) -> Result<(), AllocError>
-    ensures { OnOk result (text.new ≡ text.old ++ high_interval interval) }
-{
-    match period(interval) {
-        None => text.put("out of range"),
-        Some(count) => put_microframes(text, count),
+        Some(u32::from(interval))
     }
 }
 
 /// 2^(n-1), for n from 1 to 16 (USB 2.0, 9.6.6).
-fn period(interval: u8) -> Option<u64>
-    ensures { result ≡ period interval }
+fn period(interval: u8) -> Option<u32>
+    ensures period { result ≡ period interval }
+    ensures most { IfSome result (λ period. period ≤ 32768) }
 {
     if interval == 0 || interval > 16 {
         return None;
@@ -100,26 +119,8 @@ fn period(interval: u8) -> Option<u64>
     Some(1 << (interval - 1))
 }
 
-fn put_frames(text: &mut Text, count: u64) -> Result<(), AllocError>
-    ensures { OnOk result (text.new ≡ text.old ++ frames count) }
-{
-    text.put_decimal(count)?;
-    text.put(" ms")
-}
-
-fn put_microframes(text: &mut Text, count: u64) -> Result<(), AllocError>
-    ensures { OnOk result (text.new ≡ text.old ++ microframes count) }
-{
-    if count < 8 {
-        text.put_decimal(125 * count)?;
-        text.put(" us")
-    } else {
-        put_frames(text, count / 8)
-    }
-}
-
 /// The values that bInterval has at a speed, if it has a meaning (USB 2.0, 9.6.6).
-fn interval_range(speed: SetSpeed, transfer: TransferType) -> Option<Range>
+fn interval_range(speed: SetSpeed, transfer: TransferType) -> Option<IntervalRange>
     ensures { result ≡ interval_range speed transfer }
 {
     match (transfer, speed) {
@@ -132,10 +133,10 @@ fn interval_range(speed: SetSpeed, transfer: TransferType) -> Option<Range>
     }
 }
 
-fn from_to(least: u8, most: u8) -> Option<Range>
+fn from_to(least: u8, most: u8) -> Option<IntervalRange>
     ensures { result ≡ from_to least most }
 {
-    Some(Range { least, most })
+    Some(IntervalRange { least, most })
 }
 
 /// A remark on bInterval that is out of its range.

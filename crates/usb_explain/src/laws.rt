@@ -1,6 +1,7 @@
 //! What holds of the outline of each input, and so of its explanation, which has the lines of each descriptor of it. The
 //! functions of these laws do nothing: their contracts are the laws.
-ghost use Rattle.usb_explain.specs.Laws.{AllEachByteOnce, BriefLeavesOutFields, BrokenCoversUpToFault, BrokenInLines, WholeHasNoRest, WholeInLines, WholeShowsTree, WholeTellsFindings};
+ghost use Rattle.usb_explain.specs.FieldLaws.{AllFieldsHaveAllBytes};
+ghost use Rattle.usb_explain.specs.Laws.{AllEachByteOnce, BriefLeavesOutFields, BrokenCoversUpToFault, WholeHasNoRest, WholeShowsTree, WholeTellsFindings};
 ghost use Rattle.usb_explain.specs.Remarks.{FullOrHighIsOpen, LowOrFullIsOpen};
 
 /// Each byte once: the descriptors of any bytes follow each other from the first byte on, each at its place and as long as its
@@ -25,7 +26,8 @@ pub fn each_finding_is_told_once()
 {}
 
 /// Each descriptor has its owner: the outline of an input has the descriptors that were read, in their order. Each says what
-/// the descriptor is, and its depth which one before it the descriptor belongs to.
+/// the descriptor is, which one before it it belongs to by its depth, and its owner: the number of its set, the interface and
+/// its setting, and the address of the endpoint.
 pub fn each_descriptor_has_its_owner()
     ensures { WholeShowsTree }
 {}
@@ -36,18 +38,15 @@ pub fn a_brief_explanation_leaves_out_the_fields()
     ensures { BriefLeavesOutFields }
 {}
 
-/// A line is a line: in ASCII each heading, finding, remark and field is one, and so are the first line, those of the fault and
-/// of what the bytes look like, and the last one. It is printable ASCII (20 to 7e hexadecimal) up to its line feed, whatever
-/// the bytes of the input: nothing that a device says of itself reaches a terminal as a control character, or as a line of
-/// its own.
-pub fn each_line_is_one()
-    ensures whole { WholeInLines }
-    ensures broken { BrokenInLines }
-{}
-
 /// An open speed is both: on an endpoint at `low or full speed`, or at `full or high speed`, something is remarked just where
 /// it is remarked at either speed alone.
 pub fn an_open_speed_is_both()
     ensures low_or_full { LowOrFullIsOpen }
     ensures full_or_high { FullOrHighIsOpen }
+{}
+
+/// Each byte of a descriptor is in one field: its fields stand one after another, each where the one before ends and none
+/// without bytes, and have just the bytes from the place of the first one up to the end of the descriptor.
+pub fn each_byte_of_a_descriptor_is_in_one_field()
+    ensures { AllFieldsHaveAllBytes }
 {}

@@ -1,45 +1,50 @@
-//! The explanation of an input: a text of what each of its descriptors says, in the order of the bytes.
+//! The descriptors of an input as values, and its explanation: lines that say in words what each of them is.
 //!
-//! [`explain`] writes that of a set, a file or a dump, and [`explain_broken`] that of bytes which are none of them, as
-//! far as they go. Both go over the bytes descriptor by descriptor, each as long as its first byte says. A byte that
-//! isn't there is read as 0, so that all of it is defined for any bytes.
+//! [`Outline`] goes over the bytes of an input, and gives each [`Descriptor`]: its place and its bytes, as many as its first byte
+//! says, what it is, how deep and whose, its speed, and the findings that stand at it. [`Fields`] are the fields of a descriptor,
+//! each at its place. A byte that isn't there is read as 0, so that all of it is defined for any bytes. [`explain`] puts the lines
+//! of each descriptor: its heading, what it breaks, what is remarked of it, which is no finding, and its fields.
 //!
-//! - The whole text, and the walk over the bytes, is `specs/Explanations.antt`: for each descriptor a heading, what it
-//!   breaks (`specs/Findings.antt`), what is remarked of it, which is no finding (`specs/Remarks.antt`), and its
-//!   fields.
-//! - Its place is `specs/Standings.antt`, its role there `specs/Roles.antt`, what its words depend on beside its bytes
-//!   `specs/Contexts.antt`, and the speed of its set, as far as the descriptors tell it, `specs/SetSpeeds.antt`.
-//! - The lines of each role are `specs/Descriptors.antt`, which leads to each descriptor's heading and its fields by
-//!   their layout (`specs/Layouts.antt`); those of class descriptors are `specs/Headers.antt`.
-//! - Words are `specs/Names.antt`, `specs/Endpoints.antt` and `specs/Speeds.antt`; the forms of lines
-//!   `specs/Lines.antt`.
+//! - Descriptors are `specs/Outline.antt`: what each is `specs/Roles.antt`, whose `specs/Owners.antt`, what is found at it
+//!   `specs/Findings.antt`, and the speed of its set, as far as its descriptors tell it, `specs/SetSpeeds.antt`. What is remarked
+//!   of one is `specs/Remarks.antt`.
+//! - Fields are `specs/Fields.antt`, by the layouts of `specs/Layouts.antt` and the rows of `specs/Headers.antt`.
+//! - What is said of an explanation is what its lines show: numbers, bytes, and names of tables, each in its line
+//!   (`specs/Descriptors.antt`, `specs/Explanations.antt`). The words between them are free.
 //!
-//! [`laws`] says what holds of each explanation: every byte of the input is under one heading, every descriptor is
-//! shown as what it is and under its owner, every finding is reported once and with the right count, a brief text
-//! leaves out fields alone, every byte of a text in ASCII is a line feed or printable; and a remark at an open speed
-//! holds at both speeds.
+//! [`laws`] says what holds of each outline: every byte of the input is in one descriptor, the descriptors are those that were
+//! read, each with its owner, every finding stands at one of them, every byte of a descriptor is in one field; a brief
+//! explanation leaves out the lines of fields alone; and a remark at an open speed holds at both speeds.
 #![tactic(auto)]
 
 mod bindings;
 mod bits;
+mod block;
 mod context;
 mod descriptor;
 mod endpoint;
 mod explanation;
 mod fault_line;
+mod field;
+mod field_line;
+mod fields;
 mod finding;
 mod form;
 mod header;
+mod heading;
 mod interval;
 pub mod laws;
 mod layout;
 mod line;
 mod manner;
 mod names;
+mod outline;
+mod owner;
 mod position;
 mod raw;
 mod remark;
 mod remark_line;
+mod remarks;
 mod rest_lines;
 mod role;
 mod set;
@@ -53,10 +58,18 @@ mod string;
 mod string_names;
 mod subject;
 mod survey;
+mod table_names;
 mod told;
 mod value;
-mod walk;
 
-pub use explanation::{explain, explain_broken};
+pub use descriptor::Descriptor;
+pub use explanation::explain;
+pub use field::Field;
+pub use fields::Fields;
 pub use manner::{Look, Manner};
+pub use outline::Outline;
+pub use owner::{DescriptorOwner, InterfaceSetting};
+pub use remark::{IntervalRange, PacketSizes, Remark};
+pub use role::Role;
 pub use speed::SetSpeed;
+pub use usb_names::{ClassCodes, Form};

@@ -4,6 +4,7 @@ ghost use Rattle.usb_explain.specs.Standings.{before_sets, start};
 ghost use Rattle.usb_explain.specs.inside.Walking.{Counted};
 
 use crate::bindings::Bindings;
+use crate::owner::InterfaceSetting;
 use crate::speed::SetSpeed;
 use usb_file_data::Part;
 use usb_names::ClassCodes;
@@ -38,8 +39,6 @@ pub(crate) struct Standing {
     pub(crate) other_sets: usize,
     /// How many bytes of the set are left from here on; none outside of sets.
     pub(crate) left: usize,
-    /// How many findings were reported.
-    pub(crate) told: usize,
     /// The set that it is in, or the last one before it.
     pub(crate) set: SetStanding,
 }
@@ -62,7 +61,7 @@ pub(crate) struct SetStanding {
     /// The last one of them.
     pub(crate) setting: Option<SettingStanding>,
     /// What came last of what owns other descriptors.
-    pub(crate) owner: Owner,
+    pub(crate) owner: OwnerKind,
 }
 
 /// The setting whose interface descriptor a descriptor follows.
@@ -70,15 +69,19 @@ pub(crate) struct SetStanding {
 pub(crate) struct SettingStanding {
     /// The number of the setting in its set.
     pub(crate) number: usize,
+    /// The interface, and which of its settings it is.
+    pub(crate) interface: InterfaceSetting,
     /// How many endpoints came.
     pub(crate) endpoints: usize,
+    /// bEndpointAddress of the last one of them.
+    pub(crate) endpoint: Option<u8>,
     /// What its interface is.
     pub(crate) codes: ClassCodes,
 }
 
 /// What owns a descriptor that owns none itself.
 #[derive(Clone, Copy)]
-pub(crate) enum Owner {
+pub(crate) enum OwnerKind {
     Configuration,
     Interface,
     Endpoint,
@@ -101,7 +104,6 @@ impl Standing {
             main_sets: 0,
             other_sets: 0,
             left: 0,
-            told: 0,
             set: SetStanding {
                 part: Part::Main,
                 number: 0,
@@ -110,7 +112,7 @@ impl Standing {
                 associations: 0,
                 settings: 0,
                 setting: None,
-                owner: Owner::Configuration,
+                owner: OwnerKind::Configuration,
             },
         }
     }

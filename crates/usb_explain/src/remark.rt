@@ -1,4 +1,4 @@
-//! What is remarked: reserved bits, sizes of packets.
+//! What is remarked of a descriptor: values that its bytes may have by no rule, but not in its set.
 ghost use Rattle.std.specs.Prelude.{◌≡◌};
 ghost use Rattle.usb_explain.specs.Remarks.{is_eight_to_64, is_size, size_remark, sizes_at};
 ghost use Rattle.usb_explain.specs.Remarks.{attributes_remark, class_remark, counts_transactions, multiple_remark, remark_if, type_bits_remark};
@@ -8,16 +8,16 @@ use usb_set::TransferType;
 
 /// The values that bInterval can have.
 #[derive(Clone, Copy, Debug, PartialEq, Eq, Hash)]
-pub(crate) struct Range {
+pub struct IntervalRange {
     /// The least one.
-    pub(crate) least: u8,
+    pub least: u8,
     /// The greatest one.
-    pub(crate) most: u8,
+    pub most: u8,
 }
 
 /// The sizes that packets can have, by bits 10 to 0 of wMaxPacketSize.
 #[derive(Clone, Copy, Debug, PartialEq, Eq, Hash)]
-pub(crate) enum Sizes {
+pub enum PacketSizes {
     /// None: there are no such endpoints.
     NoEndpoint,
     /// This one alone.
@@ -30,20 +30,20 @@ pub(crate) enum Sizes {
     EightTo64Or512,
 }
 
-/// A remark on a descriptor.
+/// A remark on a descriptor, which is no finding: it breaks no rule.
 #[derive(Clone, Copy, Debug, PartialEq, Eq, Hash)]
-pub(crate) enum Remark {
+pub enum Remark {
     /// bInterval is out of the range that it has at this speed.
     Interval {
         transfer: TransferType,
         speed: SetSpeed,
-        range: Range,
+        range: IntervalRange,
     },
     /// A packet has none of the sizes that it can have at this speed.
     Packet {
         transfer: TransferType,
         speed: SetSpeed,
-        sizes: Sizes,
+        sizes: PacketSizes,
     },
     /// Bits 12 to 11 of wMaxPacketSize are 3 where they count transactions.
     ReservedMultiple,
@@ -67,29 +67,29 @@ pub(crate) enum Remark {
 }
 
 /// The sizes that packets have at a speed: control (USB 2.0, 5.5.3), isochronous (5.6.3), interrupt (5.7.3) and bulk (5.8.3).
-fn sizes_at(speed: SetSpeed, transfer: TransferType) -> Option<Sizes>
+fn sizes_at(speed: SetSpeed, transfer: TransferType) -> Option<PacketSizes>
     ensures { result ≡ sizes_at speed transfer }
 {
     match speed {
         SetSpeed::Low => match transfer {
-            TransferType::Control => Some(Sizes::Only(8)),
-            TransferType::Isochronous | TransferType::Bulk => Some(Sizes::NoEndpoint),
-            TransferType::Interrupt => Some(Sizes::UpTo(8)),
+            TransferType::Control => Some(PacketSizes::Only(8)),
+            TransferType::Isochronous | TransferType::Bulk => Some(PacketSizes::NoEndpoint),
+            TransferType::Interrupt => Some(PacketSizes::UpTo(8)),
         },
         SetSpeed::Full | SetSpeed::LowOrFull => match transfer {
-            TransferType::Control | TransferType::Bulk => Some(Sizes::EightTo64),
-            TransferType::Isochronous => Some(Sizes::UpTo(1023)),
-            TransferType::Interrupt => Some(Sizes::UpTo(64)),
+            TransferType::Control | TransferType::Bulk => Some(PacketSizes::EightTo64),
+            TransferType::Isochronous => Some(PacketSizes::UpTo(1023)),
+            TransferType::Interrupt => Some(PacketSizes::UpTo(64)),
         },
         SetSpeed::High => match transfer {
-            TransferType::Control => Some(Sizes::Only(64)),
-            TransferType::Bulk => Some(Sizes::Only(512)),
-            TransferType::Isochronous | TransferType::Interrupt => Some(Sizes::UpTo(1024)),
+            TransferType::Control => Some(PacketSizes::Only(64)),
+            TransferType::Bulk => Some(PacketSizes::Only(512)),
+            TransferType::Isochronous | TransferType::Interrupt => Some(PacketSizes::UpTo(1024)),
         },
         SetSpeed::FullOrHigh => match transfer {
-            TransferType::Control => Some(Sizes::EightTo64),
-            TransferType::Bulk => Some(Sizes::EightTo64Or512),
-            TransferType::Isochronous | TransferType::Interrupt => Some(Sizes::UpTo(1024)),
+            TransferType::Control => Some(PacketSizes::EightTo64),
+            TransferType::Bulk => Some(PacketSizes::EightTo64Or512),
+            TransferType::Isochronous | TransferType::Interrupt => Some(PacketSizes::UpTo(1024)),
         },
         SetSpeed::Super => None,
     }
@@ -101,15 +101,15 @@ fn is_eight_to_64(size: u16) -> bool
     size == 8 || size == 16 || size == 32 || size == 64
 }
 
-fn is_size(sizes: Sizes, size: u16) -> bool
+fn is_size(sizes: PacketSizes, size: u16) -> bool
     ensures { result ≡ is_size sizes size }
 {
     match sizes {
-        Sizes::NoEndpoint => false,
-        Sizes::Only(only) => size == only,
-        Sizes::UpTo(most) => size <= most,
-        Sizes::EightTo64 => is_eight_to_64(size),
-        Sizes::EightTo64Or512 => is_eight_to_64(size) || size == 512,
+        PacketSizes::NoEndpoint => false,
+        PacketSizes::Only(only) => size == only,
+        PacketSizes::UpTo(most) => size <= most,
+        PacketSizes::EightTo64 => is_eight_to_64(size),
+        PacketSizes::EightTo64Or512 => is_eight_to_64(size) || size == 512,
     }
 }
 

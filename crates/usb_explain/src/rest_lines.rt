@@ -1,64 +1,75 @@
 //! What is left of an input.
-ghost use Rattle.std.specs.Prelude.{◌≡◌, ◌++◌, OnOk};
-ghost use Rattle.usb_explain.specs.Explanations.{more_words, rest_heading, rest_line, rest_lines};
-ghost use Rattle.std.specs.Prelude.{◌≡◌, ◌≤◌, length, IfSome};
+ghost use Rattle.std.specs.Prelude.{◌≡◌, ◌≤◌, length, IfSome, OnOk};
+ghost use Rattle.usb_text.specs.Shown.{showing_all};
+ghost use Rattle.usb_explain.specs.Explanations.{more_shown, rest_heading, rest_line, rest_lines};
 ghost use Rattle.usb_explain.specs.Trees.{descriptor_length};
 
-use crate::line::{begin_field, put_place};
+use crate::line::{NAME_WIDTH, put_place};
 use crate::manner::Look;
 use std::alloc::AllocError;
 use usb_fields::prefix;
-use usb_text::Text;
+use usb_text::Page;
 
 /// Puts the lines of the bytes that are left from this place of the input on, if there are any.
 ///
 /// # Errors
 ///
 /// Out of memory.
-#[tactic(auto, unfolding(crate::specs::Explanations::rest_fields))]
-pub(crate) fn put_rest(text: &mut Text, look: Look, at: usize, b: &[u8]) -> Result<(), AllocError>
-    ensures { OnOk result (text.new ≡ text.old ++ rest_lines look at b.now) }
+#[tactic(auto, using(usb_text::proofs::ShownLines::showing_joined))]
+pub(crate) fn put_rest<P: Page>(
+    page: &mut P,
+    look: Look,
+    at: usize,
+    b: &[u8],
+) -> Result<(), AllocError>
+    ensures { OnOk result (P.seen page.new ≡ showing_all P.showing (rest_lines look at b.now) (P.seen page.old)) }
 {
     match b {
         [] => Ok(()),
         [_, ..] => {
-            put_rest_heading(text, look, at, b)?;
+            put_rest_heading(page, look, at, b)?;
             if look.brief {
                 Ok(())
             } else {
-                put_rest_line(text, b)
+                put_rest_line(page, b)
             }
         }
     }
 }
 
-#[tactic(auto, unfolding(crate::specs::Explanations::rest_heading, crate::specs::Lines::heading_line))]
-fn put_rest_heading(text: &mut Text, look: Look, at: usize, b: &[u8]) -> Result<(), AllocError>
-    ensures { OnOk result (text.new ≡ text.old ++ rest_heading look at b.now) }
+#[tactic(auto, using(usb_text::proofs::ShownLines::showing_joined), unfolding(crate::specs::Explanations::rest_heading))]
+fn put_rest_heading<P: Page>(
+    page: &mut P,
+    look: Look,
+    at: usize,
+    b: &[u8],
+) -> Result<(), AllocError>
+    ensures { OnOk result (P.seen page.new ≡ showing_all P.showing (rest_heading look at b.now) (P.seen page.old)) }
 {
-    text.put("the rest")?;
-    put_place(text, look, at, b.len())?;
-    text.put_character(b'\n')
+    page.put_indent(0)?;
+    page.put("the rest")?;
+    put_place(page, look, at, b.len())?;
+    page.end_line()
 }
 
 /// Puts the first 32 bytes, and how many more there are.
-#[tactic(auto, unfolding(crate::specs::Explanations::rest_line, crate::specs::Lines::field_line))]
-fn put_rest_line(text: &mut Text, b: &[u8]) -> Result<(), AllocError>
-    ensures { OnOk result (text.new ≡ text.old ++ rest_line b.now) }
+#[tactic(auto, using(usb_text::proofs::ShownLines::showing_joined), unfolding(crate::specs::Explanations::rest_line))]
+fn put_rest_line<P: Page>(page: &mut P, b: &[u8]) -> Result<(), AllocError>
+    ensures { OnOk result (P.seen page.new ≡ showing_all P.showing (rest_line b.now) (P.seen page.old)) }
 {
-    begin_field(text, 0, "bytes")?;
-    text.put_digits(prefix(b, 32))?;
-    put_more(text, b.len())?;
-    text.put_character(b'\n')
+    page.put_indented_column(4, "bytes", NAME_WIDTH)?;
+    page.put_digits(prefix(b, 32))?;
+    put_more(page, b.len())?;
+    page.end_line()
 }
 
-fn put_more(text: &mut Text, count: usize) -> Result<(), AllocError>
-    ensures { OnOk result (text.new ≡ text.old ++ more_words count) }
+fn put_more<P: Page>(page: &mut P, count: usize) -> Result<(), AllocError>
+    ensures { OnOk result (P.seen page.new ≡ showing_all P.showing (more_shown count) (P.seen page.old)) }
 {
     if count > 32 {
-        text.put(" and ")?;
-        text.put_decimal((count - 32) as u64)?;
-        text.put(" more")
+        page.put(" and ")?;
+        page.put_decimal((count - 32) as u64)?;
+        page.put(" more")
     } else {
         Ok(())
     }

@@ -97,24 +97,24 @@ fn typed_role(holds: bool, role: Role) -> Role
 
 /// What a descriptor is at its place.
 #[derive(Clone, Copy, Debug, PartialEq, Eq, Hash)]
-pub(crate) enum Role {
+pub enum Role {
     /// The device descriptor (USB 2.0, 9.6.1).
     Device,
-    /// The device qualifier (9.6.2).
+    /// The device qualifier (USB 2.0, 9.6.2).
     Qualifier,
-    /// The first descriptor of a set, of either type (9.6.3 and 9.6.4).
+    /// The first descriptor of a set, of either type (USB 2.0, 9.6.3 and 9.6.4).
     Configuration,
     /// An interface association (its ECN, 9.X.Y).
     Association,
-    /// An interface (9.6.5).
+    /// An interface (USB 2.0, 9.6.5).
     Interface,
-    /// An endpoint (9.6.6).
+    /// An endpoint (USB 2.0, 9.6.6).
     Endpoint,
-    /// A descriptor that a class defines, or that nothing does.
+    /// A descriptor that a class defines, or that nothing does (USB 2.0, 9.5).
     Raw,
-    /// The language list (9.6.7).
+    /// The language list (USB 2.0, 9.6.7).
     Languages,
-    /// A string (9.6.7).
+    /// A string (USB 2.0, 9.6.7).
     Text,
 }
 

@@ -1,47 +1,40 @@
 //! The configuration, interface association and interface descriptors.
-ghost use Rattle.std.specs.Prelude.{◌≡◌, ◌++◌, codes, OnOk};
-ghost use Rattle.std.specs.Fmt.{decimal};
-ghost use Rattle.usb_explain.specs.Sets.{association_words, binding_words, bound_words, configuration_words, function_words, interface_words, range_words, set_words, supply_words};
+ghost use Rattle.std.specs.Prelude.{◌≡◌, ◌∷◌, [], IsTrue, OnOk};
+ghost use Rattle.usb_text.specs.Shown.{Number, showing_all};
+ghost use Rattle.usb_text.specs.Written.{is_words};
+ghost use Rattle.usb_explain.specs.Sets.{association_shown, binding_shown, bound_shown, configuration_shown, interface_shown};
 
 use crate::names::put_function_class_words;
-use crate::speed::{SetSpeed, put_power, put_speed};
+use crate::speed::{SetSpeed, put_power};
 use crate::value::source_words;
 use std::alloc::AllocError;
 use usb_fields::byte_at;
-use usb_text::{Text, put_count};
+use usb_text::Page;
 
 /// Puts the words of the heading of a set's first descriptor (USB 2.0, 9.6.3 and 9.6.4).
 #[inline(never)]
-#[tactic(auto, unfolding(crate::specs::Sets::configuration_words))]
-pub(crate) fn put_configuration_words(
-    text: &mut Text,
+#[tactic(auto, unfolding(crate::specs::Sets::configuration_shown))]
+pub(crate) fn put_configuration_words<P: Page>(
+    page: &mut P,
     speed: SetSpeed,
     b: &[u8],
 ) -> Result<(), AllocError>
-    ensures { OnOk result (text.new ≡ text.old ++ configuration_words speed b.now) }
+    ensures { OnOk result (P.seen page.new ≡ showing_all P.showing (configuration_shown speed b.now) (P.seen page.old)) }
 {
-    text.put(set_words(byte_at(b, 1)))?;
-    text.put_decimal(u64::from(byte_at(b, 5)))?;
-    text.put(", ")?;
-    put_speed(text, speed)?;
-    text.put(", ")?;
-    put_count(text, u64::from(byte_at(b, 4)), "interface")?;
-    text.put(", ")?;
-    put_supply(text, speed, byte_at(b, 7), byte_at(b, 8))
+    page.put(set_words(byte_at(b, 1)))?;
+    page.put_decimal(u64::from(byte_at(b, 5)))?;
+    page.put(", ")?;
+    page.put(speed.words())?;
+    page.put(", ")?;
+    page.put_count(u64::from(byte_at(b, 4)), "interface")?;
+    page.put(", ")?;
+    page.put(source_words(byte_at(b, 7)))?;
+    page.put(", ")?;
+    put_power(page, speed, byte_at(b, 8))
 }
 
-#[tactic(auto, unfolding(crate::specs::Sets::supply_words))]
-fn put_supply(text: &mut Text, speed: SetSpeed, attributes: u8, power: u8) -> Result<(), AllocError>
-    ensures { OnOk result (text.new ≡ text.old ++ supply_words speed attributes power) }
-{
-    text.put(source_words(attributes))?;
-    text.put(", ")?;
-    put_power(text, speed, power)
-}
-
-#[tactic(auto, unfolding(crate::specs::Sets::set_words))]
 fn set_words(descriptor_type: u8) -> &'static str
-    ensures { result.now ≡ set_words descriptor_type }
+    ensures { IsTrue (is_words result.now) }
 {
     if descriptor_type == 7 {
         "other-speed configuration "
@@ -52,95 +45,76 @@ fn set_words(descriptor_type: u8) -> &'static str
 
 /// Puts the words of an interface association's heading (its ECN, 9.X.Y).
 #[inline(never)]
-#[tactic(auto, unfolding(crate::specs::Sets::association_words))]
-pub(crate) fn put_association_words(
-    text: &mut Text,
+#[tactic(auto, using(usb_text::proofs::ShownLines::showing_joined), unfolding(crate::specs::Sets::association_shown))]
+pub(crate) fn put_association_words<P: Page>(
+    page: &mut P,
     number: u64,
     b: &[u8],
 ) -> Result<(), AllocError>
-    ensures { OnOk result (text.new ≡ text.old ++ association_words number b.now) }
+    ensures { OnOk result (P.seen page.new ≡ showing_all P.showing (association_shown number b.now) (P.seen page.old)) }
 {
-    text.put("association ")?;
-    text.put_decimal(number)?;
-    text.put(" of ")?;
-    put_function(text, b)
-}
-
-#[tactic(auto, unfolding(crate::specs::Sets::function_words))]
-fn put_function(text: &mut Text, b: &[u8]) -> Result<(), AllocError>
-    ensures { OnOk result (text.new ≡ text.old ++ function_words b.now) }
-{
-    put_bound(text, byte_at(b, 2), byte_at(b, 3))?;
-    text.put(", ")?;
-    put_function_class_words(text, byte_at(b, 4), byte_at(b, 5), byte_at(b, 6))
+    page.put("association ")?;
+    page.put_decimal(number)?;
+    page.put(" of ")?;
+    put_bound(page, byte_at(b, 2), byte_at(b, 3))?;
+    page.put(", ")?;
+    put_function_class_words(page, byte_at(b, 4), byte_at(b, 5), byte_at(b, 6))
 }
 
 /// Puts which interfaces it binds. Their numbers don't wrap: the last may be one that no interface can have.
-#[tactic(auto, unfolding(crate::specs::Sets::bound_words))]
-fn put_bound(text: &mut Text, first: u8, count: u8) -> Result<(), AllocError>
-    ensures { OnOk result (text.new ≡ text.old ++ bound_words first count) }
+#[tactic(auto, unfolding(crate::specs::Sets::bound_shown))]
+fn put_bound<P: Page>(page: &mut P, first: u8, count: u8) -> Result<(), AllocError>
+    ensures { OnOk result (P.seen page.new ≡ showing_all P.showing (bound_shown first count) (P.seen page.old)) }
 {
     if count == 0 {
-        text.put("no interface")
-    } else if count == 1 {
-        text.put("interface ")?;
-        text.put_decimal(u64::from(first))
-    } else {
-        put_range(
-            text,
-            u64::from(first),
-            u64::from(first) + u64::from(count) - 1,
-        )
+        return page.put("no interface");
     }
-}
-
-#[tactic(auto, unfolding(crate::specs::Sets::range_words))]
-fn put_range(text: &mut Text, first: u64, last: u64) -> Result<(), AllocError>
-    ensures { OnOk result (text.new ≡ text.old ++ range_words first last) }
-{
-    text.put("interfaces ")?;
-    text.put_decimal(first)?;
-    text.put(" to ")?;
-    text.put_decimal(last)
+    if count == 1 {
+        page.put("interface ")?;
+        return page.put_decimal(u64::from(first));
+    }
+    page.put("interfaces ")?;
+    page.put_decimal(u64::from(first))?;
+    page.put(" to ")?;
+    page.put_decimal(u64::from(first) + u64::from(count) - 1)
 }
 
 /// Puts the words of an interface descriptor's heading (9.6.5).
 #[inline(never)]
-#[tactic(auto, unfolding(crate::specs::Sets::interface_words))]
-pub(crate) fn put_interface_words(
-    text: &mut Text,
+#[tactic(auto, using(usb_text::proofs::ShownLines::showing_joined), unfolding(crate::specs::Sets::interface_shown))]
+pub(crate) fn put_interface_words<P: Page>(
+    page: &mut P,
     association: Option<u64>,
     b: &[u8],
 ) -> Result<(), AllocError>
-    ensures { OnOk result (text.new ≡ text.old ++ interface_words association b.now) }
+    ensures { OnOk result (P.seen page.new ≡ showing_all P.showing (interface_shown association b.now) (P.seen page.old)) }
 {
-    put_setting(text, byte_at(b, 2), byte_at(b, 3))?;
-    put_binding(text, association)?;
-    text.put(", ")?;
-    put_function_class_words(text, byte_at(b, 5), byte_at(b, 6), byte_at(b, 7))?;
-    text.put(", ")?;
-    put_count(text, u64::from(byte_at(b, 4)), "endpoint")
+    put_setting(page, byte_at(b, 2), byte_at(b, 3))?;
+    put_binding(page, association)?;
+    page.put(", ")?;
+    put_function_class_words(page, byte_at(b, 5), byte_at(b, 6), byte_at(b, 7))?;
+    page.put(", ")?;
+    page.put_count(u64::from(byte_at(b, 4)), "endpoint")
 }
 
-#[tactic(auto, unfolding(crate::specs::Sets::binding_words))]
-fn put_binding(text: &mut Text, association: Option<u64>) -> Result<(), AllocError>
-    ensures { OnOk result (text.new ≡ text.old ++ binding_words association) }
+fn put_binding<P: Page>(page: &mut P, association: Option<u64>) -> Result<(), AllocError>
+    ensures { OnOk result (P.seen page.new ≡ showing_all P.showing (binding_shown association) (P.seen page.old)) }
 {
     match association {
         None => Ok(()),
         Some(number) => {
-            text.put(" of association ")?;
-            text.put_decimal(number)
+            page.put(" of association ")?;
+            page.put_decimal(number)
         }
     }
 }
 
 #[inline(never)]
-fn put_setting(text: &mut Text, interface: u8, alternate: u8) -> Result<(), AllocError>
-    ensures { OnOk result (text.new ≡ text.old ++ codes "interface " ++ decimal interface ++ codes " alternate " ++ decimal alternate) }
+fn put_setting<P: Page>(page: &mut P, interface: u8, alternate: u8) -> Result<(), AllocError>
+    ensures { OnOk result (P.seen page.new ≡ showing_all P.showing (Number interface ∷ Number alternate ∷ []) (P.seen page.old)) }
 {
-    text.put("interface ")?;
-    text.put_decimal(u64::from(interface))?;
-    text.put(" alternate ")?;
-    text.put_decimal(u64::from(alternate))
+    page.put("interface ")?;
+    page.put_decimal(u64::from(interface))?;
+    page.put(" alternate ")?;
+    page.put_decimal(u64::from(alternate))
 }

@@ -3,7 +3,7 @@ ghost use Rattle.std.specs.Prelude.{◌≡◌, option_and_then};
 ghost use Rattle.usb_explain.specs.SetSpeeds.{other_speed};
 ghost use Rattle.usb_explain.specs.SetStart.{background_by, has_qualifier, opened, other_ahead, other_background, part_of, sets_of};
 
-use crate::position::{DeviceFacts, Owner, SetStanding, Standing};
+use crate::position::{DeviceFacts, OwnerKind, SetStanding, Standing};
 use crate::set_speed::{Background, other_speed, speed_by};
 use crate::speed::SetSpeed;
 use crate::survey::Survey;
@@ -29,7 +29,7 @@ impl Standing {
             associations: 0,
             settings: 0,
             setting: None,
-            owner: Owner::Configuration,
+            owner: OwnerKind::Configuration,
         };
     }
 

@@ -1,12 +1,14 @@
 //! Speeds and power in the unit of each, and frame intervals of video.
-ghost use Rattle.std.specs.Prelude.{◌≡◌, ◌++◌, OnOk};
-ghost use Rattle.usb_explain.specs.Speeds.{power_unit, power_words, speed_words};
-ghost use Rattle.std.specs.Prelude.{◌≡◌, ◌++◌, ◌<◌, OnOk};
-ghost use Rattle.usb_explain.specs.Speeds.{digits_up_to_last, four_digits, fraction, frame_interval, milliseconds};
+ghost use Rattle.std.specs.Prelude.{◌≡◌, ◌∷◌, [], ◌<◌, IsTrue, OnOk};
+ghost use Rattle.std.specs.List.{list_all};
+ghost use Rattle.usb_text.specs.Lines.{is_printable};
+ghost use Rattle.usb_text.specs.Shown.{Number, showing_all};
+ghost use Rattle.usb_text.specs.Written.{is_words};
+ghost use Rattle.usb_explain.specs.Speeds.{digits_up_to_last, four_digits, fraction, frame_interval, milliamperes, milliseconds, power_unit};
 
 use std::alloc::AllocError;
 use usb_fields::prefix;
-use usb_text::Text;
+use usb_text::Page;
 
 /// The speed at which a set holds, as far as it is known (USB 2.0, 5.3.1.1; USB 3.2, 3.1).
 #[derive(Clone, Copy, Debug, PartialEq, Eq, Hash)]
@@ -28,7 +30,7 @@ pub enum SetSpeed {
 impl SetSpeed {
     /// The speed in words: `low or full speed`.
     pub(crate) fn words(self) -> &'static str
-        ensures { result.now ≡ speed_words self }
+        ensures { IsTrue (is_words result.now) }
     {
         match self {
             SetSpeed::Low => "low speed",
@@ -40,9 +42,16 @@ impl SetSpeed {
         }
     }
 
-    /// The unit of bMaxPower, in milliamperes (USB 2.0, 9.6.3; USB 3.2, 9.6.3).
-    pub(crate) fn power_unit(self) -> u64
-        ensures { result ≡ power_unit self }
+    /// bMaxPower in milliamperes (USB 2.0, 9.6.3; USB 3.2, 9.6.3).
+    pub(crate) fn milliamperes(self, power: u8) -> u16
+        ensures { result ≡ milliamperes self power }
+    {
+        self.power_unit() * u16::from(power)
+    }
+
+    fn power_unit(self) -> u16
+        ensures unit { result ≡ power_unit self }
+        ensures most { result < 9 }
     {
         match self {
             SetSpeed::Super => 8,
@@ -51,68 +60,60 @@ impl SetSpeed {
     }
 }
 
-/// Puts a speed: `low or full speed`.
-pub(crate) fn put_speed(text: &mut Text, speed: SetSpeed) -> Result<(), AllocError>
-    ensures { OnOk result (text.new ≡ text.old ++ speed_words speed) }
-{
-    text.put(speed.words())
-}
-
 /// Puts bMaxPower in milliamperes: `100 mA` of 50, and at SuperSpeed `400 mA`.
-#[tactic(auto, unfolding(crate::specs::Speeds::power_words))]
-pub(crate) fn put_power(text: &mut Text, speed: SetSpeed, power: u8) -> Result<(), AllocError>
-    ensures { OnOk result (text.new ≡ text.old ++ power_words speed power) }
+pub(crate) fn put_power<P: Page>(page: &mut P, speed: SetSpeed, power: u8) -> Result<(), AllocError>
+    ensures { OnOk result (P.seen page.new ≡ P.showing (Number (milliamperes speed power)) (P.seen page.old)) }
 {
-    text.put_decimal(speed.power_unit() * u64::from(power))?;
-    text.put(" mA")
+    page.put_decimal(u64::from(speed.milliamperes(power)))?;
+    page.put(" mA")
 }
 
 /// Puts a frame interval of four bytes in its units of 100 ns, and in milliseconds (UVC 1.5, Uncompressed Payload, 3.1.2).
 /// Bytes that aren't four are put in hexadecimal digits.
 ///
 /// ```rust
-/// put_frame_interval(&mut text, &[0x15, 0x16, 5, 0])?;
-/// assert_eq!(rt; text.as_bytes(), b"333333 (33.3333 ms)");
+/// put_frame_interval(&mut lines, &[0x15, 0x16, 5, 0])?;
+/// assert_eq!(rt; lines.as_bytes(), b"333333 (33.3333 ms)");
 /// ```
 #[inline(never)]
 #[tactic(auto, unfolding(crate::specs::Speeds::frame_interval))]
-pub(crate) fn put_frame_interval(text: &mut Text, value: &[u8]) -> Result<(), AllocError>
-    ensures { OnOk result (text.new ≡ text.old ++ frame_interval value.now) }
+pub(crate) fn put_frame_interval<P: Page>(page: &mut P, value: &[u8]) -> Result<(), AllocError>
+    ensures { OnOk result (P.seen page.new ≡ showing_all P.showing (frame_interval value.now) (P.seen page.old)) }
 {
     match value {
         [a, b, c, d] => {
             let units = u64::from(*a)
                 + 256 * (u64::from(*b) + 256 * (u64::from(*c) + 256 * u64::from(*d)));
-            text.put_decimal(units)?;
-            text.put(" (")?;
-            put_milliseconds(text, units)?;
-            text.put(")")
+            page.put_decimal(units)?;
+            page.put(" (")?;
+            put_milliseconds(page, units)?;
+            page.put(")")
         }
-        _ => text.put_digits(value),
+        _ => page.put_digits(value),
     }
 }
 
 /// Puts so many units of 100 ns in milliseconds.
 #[tactic(auto, unfolding(crate::specs::Speeds::milliseconds))]
-fn put_milliseconds(text: &mut Text, units: u64) -> Result<(), AllocError>
-    ensures { OnOk result (text.new ≡ text.old ++ milliseconds units) }
+fn put_milliseconds<P: Page>(page: &mut P, units: u64) -> Result<(), AllocError>
+    ensures { OnOk result (P.seen page.new ≡ showing_all P.showing (milliseconds units) (P.seen page.old)) }
 {
-    text.put_decimal(units / 10_000)?;
-    put_fraction(text, units % 10_000)?;
-    text.put(" ms")
+    page.put_decimal(units / 10_000)?;
+    put_fraction(page, units % 10_000)?;
+    page.put(" ms")
 }
 
 /// Puts so many ten-thousandths after a point.
 #[tactic(auto, unfolding(crate::specs::Speeds::fraction))]
-fn put_fraction(text: &mut Text, parts: u64) -> Result<(), AllocError>
+fn put_fraction<P: Page>(page: &mut P, parts: u64) -> Result<(), AllocError>
     requires { parts < 10000 }
-    ensures { OnOk result (text.new ≡ text.old ++ fraction parts) }
+    ensures { OnOk result (P.seen page.new ≡ showing_all P.showing (fraction parts) (P.seen page.old)) }
 {
     if parts == 0 {
         return Ok(());
     }
-    text.put(".")?;
-    text.put_bytes(prefix(&four_digits(parts), digits_up_to_last(parts)))
+    page.put(".")?;
+    page.put_characters(prefix(&four_digits(parts), digits_up_to_last(parts)))
 }
 
 /// The four digits of a number.

@@ -1,9 +1,10 @@
 //! What is kept from one descriptor to the next.
 ghost use Rattle.std.specs.Prelude.{◌≡◌, ◌+◌, ◌<◌, ◌^◌, length};
-ghost use Rattle.usb_explain.specs.Standings.{moved, noted, passed, setting_of, with_endpoint, with_set, with_told};
+ghost use Rattle.usb_explain.specs.Standings.{moved, noted, passed, setting_of, with_endpoint, with_set};
 ghost use Rattle.usb_explain.specs.inside.Walking.{Counted, endpoints_of};
 
-use crate::position::{DeviceFacts, Owner, SettingStanding, Standing};
+use crate::owner::InterfaceSetting;
+use crate::position::{DeviceFacts, OwnerKind, SettingStanding, Standing};
 use crate::role::Role;
 use crate::set_speed::speed_of_device;
 use usb_fields::{byte_at, word_at};
@@ -11,13 +12,6 @@ use usb_file_data::Part;
 use usb_names::ClassCodes;
 
 impl Standing {
-    /// Keeps how many findings are reported.
-    pub(crate) fn tell(&mut self, told: usize)
-        ensures { self.new ≡ with_told told self.old }
-    {
-        self.told = told;
-    }
-
     /// Moves past a descriptor of this role.
     pub(crate) fn pass(&mut self, role: Role, d: &[u8])
         requires counted { Counted self.old }
@@ -54,16 +48,16 @@ impl Standing {
             Role::Configuration => self.add_set(self.set.part),
             Role::Association => {
                 self.set.associations += 1;
-                self.set.owner = Owner::Configuration;
+                self.set.owner = OwnerKind::Configuration;
             }
             Role::Interface => {
                 self.set.setting = Some(setting_of(self.set.settings, d));
                 self.set.settings += 1;
-                self.set.owner = Owner::Interface;
+                self.set.owner = OwnerKind::Interface;
             }
             Role::Endpoint => {
-                self.set.setting = with_endpoint(self.set.setting);
-                self.set.owner = Owner::Endpoint;
+                self.set.setting = with_endpoint(self.set.setting, byte_at(d, 2));
+                self.set.owner = OwnerKind::Endpoint;
             }
             Role::Raw => {}
             Role::Languages => self.has_languages = true,
@@ -89,7 +83,12 @@ fn setting_of(number: usize, d: &[u8]) -> SettingStanding
 {
     SettingStanding {
         number,
+        interface: InterfaceSetting {
+            interface: byte_at(d, 2),
+            alternate: byte_at(d, 3),
+        },
         endpoints: 0,
+        endpoint: None,
         codes: ClassCodes {
             class: byte_at(d, 5),
             subclass: byte_at(d, 6),
@@ -98,15 +97,16 @@ fn setting_of(number: usize, d: &[u8]) -> SettingStanding
     }
 }
 
-/// One endpoint more.
-fn with_endpoint(setting: Option<SettingStanding>) -> Option<SettingStanding>
+/// One endpoint more, of this address.
+fn with_endpoint(setting: Option<SettingStanding>, address: u8) -> Option<SettingStanding>
     requires { endpoints_of setting + 1 < 2 ^ 64 }
-    ensures { result ≡ with_endpoint setting }
+    ensures { result ≡ with_endpoint address setting }
 {
     match setting {
         None => None,
         Some(setting) => Some(SettingStanding {
             endpoints: setting.endpoints + 1,
+            endpoint: Some(address),
             ..setting
         }),
     }

@@ -1,44 +1,41 @@
-//! What is reported of a descriptor that breaks a rule.
-ghost use Rattle.std.specs.Prelude.{◌≡◌, ◌+◌, ◌-◌, ◌++◌, length, take, IfOk, OnOk};
-ghost use Rattle.std.specs.Option.{option_copied};
+//! What is found at a descriptor that breaks a rule.
+ghost use Rattle.std.specs.Prelude.{◌≡◌, drop, length};
 ghost use Rattle.usb_file_data.specs.Places.{finding};
 ghost use Rattle.usb_file_data.specs.Causes.{rule_of};
-ghost use Rattle.usb_explain.specs.Explanations.{rest_of_set};
-ghost use Rattle.usb_explain.specs.Findings.{association_can, can_break, device_can, device_part, endpoint_can, finding_at, found_at, in_set, in_setting, interface_can, is_here, is_same, part_number, qualifier_can, role_findings, set_can};
+ghost use Rattle.usb_explain.specs.Findings.{association_can, can_break, device_can, device_part, endpoint_can, finding_at, found_at, in_set, in_setting, interface_can, is_here, is_same, part_number, qualifier_can, set_can};
 
-use crate::finding::put_finding;
 use crate::position::{SetStanding, Standing};
 use crate::role::Role;
-use crate::subject::Subject;
-use std::alloc::AllocError;
-use usb_fields::prefix;
 use usb_file_data::{Cause, Finding, Found, Part};
-use usb_text::Text;
 
 impl Standing {
-    /// Puts a line for each finding of a descriptor of this role, with which those that aren't reported yet begin. Answers how
-    /// many are reported then.
-    #[tactic(auto, unfolding(crate::specs::Findings::role_findings, crate::specs::Findings::found_at))]
-    pub(crate) fn put_findings(
-        &self,
-        text: &mut Text,
-        subject: &Subject,
-        role: Role,
-    ) -> Result<usize, AllocError>
-        ensures lines { OnOk result (text.new ≡ text.old ++ role_findings subject.now self.now role) }
-        ensures count { IfOk result (λ told. told ≡ self.now.told + length (found_at subject.now self.now role)) }
+    /// How many of these findings, from the first on, are of a descriptor of this role.
+    #[tactic(auto, unfolding(crate::specs::Findings::found_at))]
+    fn count_here(&self, role: Role, found: &[Found]) -> usize
+        ensures { result ≡ length (found_at self.now role found.now) }
     {
-        let depth = self.depth(role);
-        let mut told = self.told;
-        let left = subject.found_from(self.told);
-        for found in left {
-            if !self.is_here(role, *found) {
-                return Ok(told);
+        let mut count = 0;
+        for one in found {
+            if !self.is_here(role, *one) {
+                return count;
             }
-            put_finding(text, depth, found.cause)?;
-            told += 1;
+            count += 1;
         }
-        Ok(told)
+        count
+    }
+
+    /// The findings of a descriptor of this role, with which these begin, and those after them.
+    #[tactic(auto, using(crate::proofs::Telling::here_within, crate::proofs::Telling::here_front))]
+    pub(crate) fn split_found<'b>(
+        &self,
+        role: Role,
+        found: &'b [Found],
+    ) -> (&'b [Found], &'b [Found])
+        ensures here { result.0.now ≡ found_at self.now role found.now }
+        ensures left { result.1.now ≡ drop (length (found_at self.now role found.now)) found.now }
+    {
+        let count = self.count_here(role, found);
+        found.split_at(count)
     }
 
     /// Whether what was found is of this descriptor.
@@ -61,24 +58,6 @@ impl Standing {
             Role::Interface => self.set.finding(cause, self.set.settings, 0),
             Role::Endpoint => self.set.endpoint_finding(cause),
             _ => self.set.finding(cause, 0, 0),
-        }
-    }
-
-    /// The bytes of its set after a descriptor.
-    fn behind_in_set<'b>(&self, d: &[u8], behind: &'b [u8]) -> &'b [u8]
-        ensures { result.now ≡ take (self.now.left - length d.now) behind.now }
-    {
-        prefix(behind, self.left.saturating_sub(d.len()))
-    }
-
-    /// The same where they are all there.
-    pub(crate) fn rest_of_set<'b>(&self, d: &[u8], behind: &'b [u8]) -> Option<&'b [u8]>
-        ensures { option_copied result ≡ rest_of_set self.now d.now behind.now }
-    {
-        if self.left.saturating_sub(d.len()) <= behind.len() {
-            Some(self.behind_in_set(d, behind))
-        } else {
-            None
         }
     }
 }

@@ -15,20 +15,21 @@ use Rattle.usb_set.specs.declared.tree.Setting.{Setting}
 use Rattle.usb_set.specs.Descriptors.{descriptor_bytes, endpoint_descriptor}
 use Rattle.usb_set.specs.inside.Trees.{endpoint_bytes, extra_bytes, is_endpoint_typed}
 use Rattle.usb_explain.specs.declared.role.Role.TheVariants as roles
-use Rattle.usb_explain.specs.declared.position.Owner.{Owner}
-use Rattle.usb_explain.specs.declared.position.Owner.TheVariants as owners
+use Rattle.usb_explain.specs.declared.position.OwnerKind.{OwnerKind}
+use Rattle.usb_explain.specs.declared.position.OwnerKind.TheVariants as owners
 use Rattle.usb_explain.specs.declared.position.SetStanding.{SetStanding}
 use Rattle.usb_explain.specs.declared.position.SettingStanding.{SettingStanding}
 use Rattle.usb_explain.specs.declared.position.Standing.{Standing}
 use Rattle.usb_explain.specs.Findings.{can_break, endpoint_can, finding_at, in_setting, is_here, is_same}
 use Rattle.usb_explain.specs.Contexts.{depth_of}
+use Rattle.usb_explain.specs.Owners.{address_of, interface_of, of_endpoint, owner_of}
 use Rattle.usb_explain.specs.Standings.{noted, with_endpoint}
 use Rattle.usb_explain.specs.Roles.{inner_role, typed_role}
-use Rattle.usb_explain.specs.Subjects.{Subject}
-use Rattle.usb_explain.specs.Trees.{endpoint_entries, entry}
+use Rattle.usb_explain.specs.declared.speed.SetSpeed.{SetSpeed}
+use Rattle.usb_explain.specs.Trees.{endpoint_descriptors, tree_descriptor}
 use Rattle.usb_explain.proofs.Spans.{Aim, adding}
 use Rattle.usb_explain.proofs.rest.Steps.{four_parts, inner_at, length_is}
-use Rattle.usb_explain.proofs.rest.Seen.{AllHere, Goes, Seen, Step, goes_as, goes_twice, here_both, here_when, numbers_of, seen}
+use Rattle.usb_explain.proofs.rest.Seen.{AllHere, Goes, Seen, Step, goes_as, goes_twice, here_both, here_when, numbers_of, seen, whose_interface}
 use Rattle.usb_explain.proofs.rest.Extras.{count_append, extras_go, here_is, less, same_place, same_taken, seen_goes, taken}
 
 -- ---- the setting that an endpoint is in
@@ -45,9 +46,13 @@ some_setting : (o : Option SettingStanding) (j k : ℕ) → numbers_of o ≡ Som
 some_setting None j k e = absurd (none-some (j, k) e)
 some_setting (Some setting) j k e = refl
 
-next_endpoint : (o : Option SettingStanding) (j k : ℕ) → numbers_of o ≡ Some (j, k) → numbers_of (with_endpoint o) ≡ Some (j, k + 1)
-next_endpoint None j k e = absurd (none-some (j, k) e)
-next_endpoint (Some setting) j k e = ap (λ (o : Option (ℕ × ℕ)). Some ((unwrap_or o (0, 0)).0, (unwrap_or o (0, 0)).1 + 1)) e
+next_endpoint : (o : Option SettingStanding) (j k address : ℕ) (v : Seen) → numbers_of o ≡ Some (j, k)
+    → record v { setting = numbers_of (with_endpoint address o); interface = interface_of (with_endpoint address o); address = address_of (with_endpoint address o) }
+    ≡ record v { setting = Some (j, k + 1); interface = interface_of o; address = Some address }
+next_endpoint None j k address v e = absurd (none-some (j, k) e)
+next_endpoint (Some setting) j k address v e =
+    ap (λ (o : Option (ℕ × ℕ)).
+    record v { setting = Some ((unwrap_or o (0, 0)).0, (unwrap_or o (0, 0)).1 + 1); interface = Some setting.interface; address = Some address }) e
 
 here_endpoint : (s : Standing) (cause : Cause) (j k : ℕ) → numbers_of s.set.setting ≡ Some (j, k) → endpoint_can cause ≡ true
     → is_here s roles.Endpoint (found cause s.set.part s.set.number j k) ≡ true
@@ -72,9 +77,9 @@ endpoint_role s e h =
 abbrev pub at_setting : ℕ → ℕ → Seen → Seen
 at_setting j k v = record v { setting = Some (j, k) }
 
--- an endpoint came last of what owns others
-abbrev owned : Seen → Seen
-owned v = record v { owner = owners.Endpoint }
+-- an endpoint of this address came last of what owns others
+abbrev owned : ℕ → Seen → Seen
+owned address v = record v { address = Some address; owner = owners.Endpoint }
 
 -- findings of four rules, and of three
 pub here_four : (here : Found → Bool) (a b c d : Bool) (f g h i : Found) → here f ≡ true → here g ≡ true → here h ≡ true → here i ≡ true
@@ -84,12 +89,13 @@ here_four here a b c d f g h i one two three four =
     (here_both here (when a f ++ when b g) (when c h)
     (here_both here (when a f) (when b g) (here_when here a f (λ _. one)) (here_when here b g (λ _. two))) (here_when here c h (λ _. three))) (here_when here d i (λ _. four))
 
-endpoint_step : (subject : Subject) (before : List Setting) (j : ℕ) (t : Setting) (k : ℕ) (e : Endpoint) (behind : List ℕ) (s : Standing)
+endpoint_step : (running : Option SetSpeed) (before : List Setting) (j : ℕ) (t : Setting) (k : ℕ) (e : Endpoint) (behind : List ℕ) (s : Standing)
     → (numbers_of s.set.setting ≡ Some (j, k)) × (length (descriptor_bytes (endpoint_descriptor e)) ≤ s.left)
-    → Step subject s roles.Endpoint (descriptor_bytes (endpoint_descriptor e)) behind (at_endpoint s.set.part s.set.number before j t k e)
-    (at_setting j (k + 1) (owned (less (length (descriptor_bytes (endpoint_descriptor e))) (seen s)))) 3
-unfolding noted depth_of
-endpoint_step subject before j t k e behind s p =
+    → Step running s roles.Endpoint (descriptor_bytes (endpoint_descriptor e)) behind (at_endpoint s.set.part s.set.number before j t k e)
+    (at_setting j (k + 1) (owned e.address (less (length (descriptor_bytes (endpoint_descriptor e))) (seen s)))) 3
+    (Some (of_endpoint (whose_interface (seen s)) e.address))
+unfolding noted depth_of owner_of
+endpoint_step running before j t k e behind s p =
     let d = descriptor_bytes (endpoint_descriptor e) in
     let here = λ (cause : Cause). here_endpoint s cause j k p.0 in
     let f = λ (cause : Cause). found cause s.set.part s.set.number j k in
@@ -97,54 +103,56 @@ endpoint_step subject before j t k e behind s p =
       is = inner_at s d s.left refl (omega arith) p.1 ∙ endpoint_role s e (some_setting s.set.setting j k p.0);
       own = here_four (is_here s roles.Endpoint) (wrong_address e.address) (repeats_address (take k t.endpoints) e) (shares_address before t e) (wrong_packet_size e.max_packet)
           (f (address_cause e.address)) (f causes.RepeatedAddress) (f causes.SharedAddress) (f causes.PacketSize) (here (address_cause e.address) refl) (here causes.RepeatedAddress refl) (here causes.SharedAddress refl) (here causes.PacketSize refl);
-      after = λ told. ap (λ o. record (owned (less (length d) (seen s))) { setting = o }) (next_endpoint s.set.setting j k p.0);
+      after = next_endpoint s.set.setting j k e.address (owned e.address (less (length d) (seen s))) p.0;
       deep = refl;
+      belongs = refl;
     }
 
-endpoint_goes : (E : Aim) (subject : Subject) (before : List Setting) (j : ℕ) (t : Setting) (k : ℕ) (e : Endpoint) (v : Seen) (behind : List ℕ) (later : List Found)
+endpoint_goes : (E : Aim) (running : Option SetSpeed) (before : List Setting) (j : ℕ) (t : Setting) (k : ℕ) (e : Endpoint) (v : Seen) (behind : List ℕ) (later : List Found)
     → length (descriptor_bytes (endpoint_descriptor e)) ≤ v.left
-    → Goes (adding E (entry roles.Endpoint 3 (descriptor_bytes (endpoint_descriptor e)) ∷ [])) subject
-    (at_setting j (k + 1) (owned (less (length (descriptor_bytes (endpoint_descriptor e))) v))) later behind
-    → Goes E subject (at_setting j k v) (at_endpoint v.part v.number before j t k e ++ later) (descriptor_bytes (endpoint_descriptor e) ++ behind)
-endpoint_goes E subject before j t k e v behind later room onward =
+    → Goes (adding E (tree_descriptor roles.Endpoint 3 (Some (of_endpoint (whose_interface v) e.address)) (descriptor_bytes (endpoint_descriptor e)) ∷ [])) running
+    (at_setting j (k + 1) (owned e.address (less (length (descriptor_bytes (endpoint_descriptor e))) v))) later behind
+    → Goes E running (at_setting j k v) (at_endpoint v.part v.number before j t k e ++ later) (descriptor_bytes (endpoint_descriptor e) ++ behind)
+endpoint_goes E running before j t k e v behind later room onward =
     let item = endpoint_descriptor e in
     let d = descriptor_bytes item in
-    seen_goes E subject (at_setting j k v) (λ v. (v.setting ≡ Some (j, k)) × (length d ≤ v.left)) roles.Endpoint d behind (λ v. at_endpoint v.part v.number before j t k e)
-    (λ v. at_setting j (k + 1) (owned (less (length d) v))) later (λ v. 3) (length_is (2 + length item.body) item.kind item.body behind refl)
-    (λ s p. endpoint_step subject before j t k e behind s p) (refl, room) onward
+    seen_goes E running (at_setting j k v) (λ v. (v.setting ≡ Some (j, k)) × (length d ≤ v.left)) roles.Endpoint d behind (λ v. at_endpoint v.part v.number before j t k e)
+    (λ v. at_setting j (k + 1) (owned e.address (less (length d) v))) later (λ v. 3) (λ v. Some (of_endpoint (whose_interface v) e.address)) (length_is (2 + length item.body) item.kind item.body behind refl)
+    (λ s p. endpoint_step running before j t k e behind s p) (refl, room) onward
 
 -- ---- endpoints one after another, each with its extras
 
-pub endpoints_go : (E : Aim) (subject : Subject) (settings : List Setting) (j : ℕ) (t : Setting) (es : List Endpoint) (k : ℕ) (v : Seen) (behind : List ℕ) (later : List Found)
+pub endpoints_go : (E : Aim) (running : Option SetSpeed) (settings : List Setting) (j : ℕ) (t : Setting) (es : List Endpoint) (k : ℕ) (v : Seen) (behind : List ℕ) (later : List Found)
     → list_any is_endpoint_typed es ≡ false → length (flat_map endpoint_bytes es) ≤ v.left
-    → ((o : Option (ℕ × ℕ)) (w : Owner) → Goes (adding E (flat_map endpoint_entries es)) subject
-    (record (taken (length (flat_map endpoint_bytes es)) (association_count (flat_map (λ e. e.extras) es)) v) { setting = o; owner = w }) later behind)
-    → Goes E subject (at_setting j k v) (at_each_counted endpoint_associations (endpoint_in_order v.part v.number settings j t) k v.associations es ++ later)
+    → ((o : Option (ℕ × ℕ)) (w : OwnerKind) (a : Option ℕ) → Goes (adding E (flat_map (endpoint_descriptors (whose_interface v)) es)) running
+    (record (taken (length (flat_map endpoint_bytes es)) (association_count (flat_map (λ e. e.extras) es)) v) { setting = o; owner = w; address = a }) later behind)
+    → Goes E running (at_setting j k v) (at_each_counted endpoint_associations (endpoint_in_order v.part v.number settings j t) k v.associations es ++ later)
     (flat_map endpoint_bytes es ++ behind)
-endpoints_go E subject settings j t [] k v behind later typed room onward =
-    subst (λ w. Goes E subject (at_setting j k w) later behind) (sym (same_taken v v.left v.associations 0 0 (omega arith) (omega arith))) (onward (Some (j, k)) v.owner)
-endpoints_go E subject settings j t (e ∷ es) k v behind later typed room onward =
+endpoints_go E running settings j t [] k v behind later typed room onward =
+    subst (λ w. Goes E running (at_setting j k w) later behind) (sym (same_taken v v.left v.associations 0 0 (omega arith) (omega arith))) (onward (Some (j, k)) v.owner v.address)
+endpoints_go E running settings j t (e ∷ es) k v behind later typed room onward =
     let each = or_parts (is_endpoint_typed e) (list_any is_endpoint_typed es) typed in
     let d = descriptor_bytes (endpoint_descriptor e) in
     let x = flat_map extra_bytes e.extras in
     let more = flat_map endpoint_bytes es in
     let n = association_count e.extras in
     let m = association_count (flat_map (λ (e : Endpoint). e.extras) es) in
-    let u = owned (less (length d) v) in
+    let u = owned e.address (less (length d) v) in
+    let mine = endpoint_descriptors (whose_interface v) in
     let one = at_endpoint v.part v.number (take j settings) j t k e in
     let two = at_associations v.part v.number settings v.associations e.extras in
     let rest = at_each_counted endpoint_associations (endpoint_in_order v.part v.number settings j t) (k + 1) (v.associations + n) es in
     let sum : length ((d ++ x) ++ more) ≡ (length d + length x) + length more = length-append (d ++ x) more ∙ ap (λ n. n + length more) (length-append d x) in
     let count = count_append e.extras (flat_map (λ (e : Endpoint). e.extras) es) in
-    let said : Aim = adding E (entry roles.Endpoint 3 d ∷ []) in
-    let all : Aim = adding E (endpoint_entries e) in
-    goes_as E subject (at_setting j k v) (((one ++ two) ++ rest) ++ later) (one ++ (two ++ (rest ++ later))) (((d ++ x) ++ more) ++ behind) (d ++ (x ++ (more ++ behind)))
+    let said : Aim = adding E (tree_descriptor roles.Endpoint 3 (Some (of_endpoint (whose_interface v) e.address)) d ∷ []) in
+    let all : Aim = adding E (mine e) in
+    goes_as E running (at_setting j k v) (((one ++ two) ++ rest) ++ later) (one ++ (two ++ (rest ++ later))) (((d ++ x) ++ more) ++ behind) (d ++ (x ++ (more ++ behind)))
     (four_parts one two rest later) (four_parts d x more behind)
-    (endpoint_goes E subject (take j settings) j t k e v (x ++ (more ++ behind)) (two ++ (rest ++ later)) (omega (arith, room, sum))
-    (extras_go said subject settings e.extras (at_setting j (k + 1) u) (more ++ behind) (rest ++ later) each.0 (omega (arith, room, sum))
-    (λ q. endpoints_go all subject settings j t es (k + 1) (record (taken (length x) n u) { owner = q }) behind later each.1 (omega (arith, room, sum))
-    (λ o w. subst (λ v. Goes (adding all (flat_map endpoint_entries es)) subject (record v { setting = o; owner = w }) later behind)
+    (endpoint_goes E running (take j settings) j t k e v (x ++ (more ++ behind)) (two ++ (rest ++ later)) (omega (arith, room, sum))
+    (extras_go said running settings e.extras (at_setting j (k + 1) u) (more ++ behind) (rest ++ later) each.0 (omega (arith, room, sum))
+    (λ q. endpoints_go all running settings j t es (k + 1) (record (taken (length x) n u) { owner = q }) behind later each.1 (omega (arith, room, sum))
+    (λ o w a. subst (λ v. Goes (adding all (flat_map mine es)) running (record v { setting = o; owner = w; address = a }) later behind)
     (sym (same_taken v (((v.left - length d) - length x) - length more) ((v.associations + n) + m) (length ((d ++ x) ++ more)) (association_count (e.extras ++ flat_map (λ (e : Endpoint). e.extras) es))
     (omega (arith, sum)) (omega (arith, count))))
-    (goes_twice E subject (record (taken (length ((d ++ x) ++ more)) (association_count (e.extras ++ flat_map (λ (e : Endpoint). e.extras) es)) v) { setting = o; owner = w })
-    later behind (endpoint_entries e) (flat_map endpoint_entries es) (onward o w))))))
+    (goes_twice E running (record (taken (length ((d ++ x) ++ more)) (association_count (e.extras ++ flat_map (λ (e : Endpoint). e.extras) es)) v) { setting = o; owner = w; address = a })
+    later behind (mine e) (flat_map mine es) (onward o w a))))))

@@ -1,5 +1,5 @@
 -- A walk goes through the extras of a set, and tells their findings.
-use Rattle.std.proofs.Common.{◌≡◌, ◌≤◌, ℕ, ◌+◌, ◌-◌, Bool, true, false, List, [], ◌∷◌, ◌++◌, flat_map, if◌then◌else◌, length, Some, ◌==◌, refl, sym, ap, subst, ◌∙◌, arith, append_assoc, length-append}
+use Rattle.std.proofs.Common.{◌≡◌, ◌≤◌, ℕ, ◌+◌, ◌-◌, Bool, true, false, List, [], ◌∷◌, ◌++◌, flat_map, if◌then◌else◌, length, Option, Some, ◌==◌, refl, sym, ap, subst, ◌∙◌, arith, append_assoc, length-append}
 use Rattle.std.specs.List.{list_any}
 use Rattle.std.proofs.lemmas.Bool.{le-leb, eq-eqb, ne_eqb, or_parts}
 use Rattle.std.proofs.lemmas.List.Concat.{flat_map-append}
@@ -24,31 +24,33 @@ use Rattle.usb_set.specs.Layout.{is_typed, is_typed_raw}
 use Rattle.usb_set.specs.Owners.{association_in}
 use Rattle.usb_set.specs.inside.Trees.{extra_bytes}
 use Rattle.usb_set.proofs.ExtraLemmas.{untyped}
-use Rattle.usb_explain.specs.Trees.{descriptor_length, entry, extra_depth, extra_entries, extra_role}
+use Rattle.usb_explain.specs.Trees.{descriptor_length, extra_depth, extra_descriptors, extra_owner, extra_role, tree_descriptor}
 use Rattle.usb_explain.specs.declared.role.Role.{Role}
 use Rattle.usb_explain.specs.declared.role.Role.TheVariants as roles
-use Rattle.usb_explain.specs.declared.position.Owner.{Owner}
-use Rattle.usb_explain.specs.declared.position.Owner.TheVariants as owners
+use Rattle.usb_explain.specs.declared.position.OwnerKind.{OwnerKind}
+use Rattle.usb_explain.specs.declared.position.OwnerKind.TheVariants as owners
 use Rattle.usb_explain.specs.declared.position.Standing.{Standing}
 use Rattle.usb_explain.specs.Findings.{association_can, can_break, finding_at, is_here, is_same, part_number}
 use Rattle.usb_explain.specs.Contexts.{below, depth_of}
+use Rattle.usb_explain.specs.Owners.{owner_of}
+use Rattle.usb_explain.specs.declared.owner.DescriptorOwner.{DescriptorOwner}
 use Rattle.usb_explain.specs.Standings.{noted}
 use Rattle.usb_explain.specs.Roles.{inner_role, typed_role}
-use Rattle.usb_explain.specs.Subjects.{Subject}
+use Rattle.usb_explain.specs.declared.speed.SetSpeed.{SetSpeed}
 use Rattle.usb_explain.proofs.Spans.{Aim, adding}
 use Rattle.usb_explain.proofs.rest.Steps.{inner_at, length_is}
-use Rattle.usb_explain.proofs.rest.Seen.{Goes, Seen, Step, goes_as, here_both, here_when, one_goes, seen}
+use Rattle.usb_explain.proofs.rest.Seen.{Goes, Seen, Step, goes_as, here_both, here_when, one_goes, seen, whose, whose_is}
 
 -- ---- a descriptor by what is seen before it
 
 -- where this holds of what is seen
-pub seen_goes : (E : Aim) (subject : Subject) (v : Seen) (P : Seen → Type 0) (role : Role) (d behind : List ℕ) (mine : Seen → List Found) (w : Seen → Seen) (later : List Found)
-    (depth : Seen → ℕ)
-    → descriptor_length (d ++ behind) ≡ Some (length d) → ((s : Standing) → P (seen s) → Step subject s role d behind (mine (seen s)) (w (seen s)) (depth (seen s)))
-    → P v → Goes (adding E (entry role (depth v) d ∷ [])) subject (w v) later behind → Goes E subject v (mine v ++ later) (d ++ behind)
-seen_goes E subject v P role d behind mine w later depth e step holds onward =
-    one_goes E subject v (w v) role d behind (mine v) later (depth v) e
-    (λ s is. subst (λ v. Step subject s role d behind (mine v) (w v) (depth v)) is (step s (subst P (sym is) holds))) onward
+pub seen_goes : (E : Aim) (running : Option SetSpeed) (v : Seen) (P : Seen → Type 0) (role : Role) (d behind : List ℕ) (mine : Seen → List Found) (w : Seen → Seen) (later : List Found)
+    (depth : Seen → ℕ) (owner : Seen → Option DescriptorOwner)
+    → descriptor_length (d ++ behind) ≡ Some (length d) → ((s : Standing) → P (seen s) → Step running s role d behind (mine (seen s)) (w (seen s)) (depth (seen s)) (owner (seen s)))
+    → P v → Goes (adding E (tree_descriptor role (depth v) (owner v) d ∷ [])) running (w v) later behind → Goes E running v (mine v ++ later) (d ++ behind)
+seen_goes E running v P role d behind mine w later depth owner e step holds onward =
+    one_goes E running v (w v) role d behind (mine v) later (depth v) (owner v) e
+    (λ s is. subst (λ v. Step running s role d behind (mine v) (w v) (depth v) (owner v)) is (step s (subst P (sym is) holds))) onward
 
 -- ---- whose a finding is
 
@@ -87,17 +89,21 @@ same_taken v left count n c e f =
 -- ---- an extra
 
 -- what owns the descriptors after it
-abbrev owner_after : Extra → Owner → Owner
+abbrev owner_after : Extra → OwnerKind → OwnerKind
 owner_after (extras.Raw r) o = o
 owner_after (extras.Association a) o = owners.Configuration
 
-below_after : (x : Extra) (o : Owner) → below (owner_after x o) ≡ extra_depth (below o) x
+below_after : (x : Extra) (o : OwnerKind) → below (owner_after x o) ≡ extra_depth (below o) x
 below_after (extras.Raw r) o = refl
 below_after (extras.Association a) o = refl
 
 -- it is taken
 abbrev after_extra : Extra → Seen → Seen
 after_extra x v = record (taken (length (extra_bytes x)) (length (association_in x)) v) { owner = owner_after x v.owner }
+
+whose_after : (x : Extra) (v : Seen) → whose (after_extra x v) ≡ extra_owner (whose v) x
+whose_after (extras.Raw r) v = refl
+whose_after (extras.Association a) v = refl
 
 not_eleven : (kind : ℕ) → is_typed kind ≡ false → kind ≡ 11 → ⊥
 not_eleven kind e is = let no : true ≡ false = ap is_typed (sym is) ∙ e in cc
@@ -115,51 +121,53 @@ association_role s a = ap (λ b. Some (typed_role b roles.Association)) (le-leb 
 abbrev extra_findings : Part → ℕ → List Setting → ℕ → Extra → List Found
 extra_findings part i settings n x = at_each (λ k a. when (binds_missing_interface settings a) (found (association_cause a) part i k 0)) n (association_in x)
 
-extra_step : (subject : Subject) (settings : List Setting) (x : Extra) (behind : List ℕ) (s : Standing) → is_typed_raw x ≡ false → length (extra_bytes x) ≤ s.left
-    → Step subject s (extra_role x) (extra_bytes x) behind (extra_findings s.set.part s.set.number settings s.set.associations x)
-    (after_extra x (seen s)) (extra_depth (below s.set.owner) x)
-unfolding noted depth_of
-extra_step subject settings (extras.Raw r) behind s e room =
+extra_step : (running : Option SetSpeed) (settings : List Setting) (x : Extra) (behind : List ℕ) (s : Standing) → is_typed_raw x ≡ false → length (extra_bytes x) ≤ s.left
+    → Step running s (extra_role x) (extra_bytes x) behind (extra_findings s.set.part s.set.number settings s.set.associations x)
+    (after_extra x (seen s)) (extra_depth (below s.set.owner) x) (Some (extra_owner (whose (seen s)) x))
+unfolding noted depth_of owner_of
+extra_step running settings (extras.Raw r) behind s e room =
     let same : s.set.associations ≡ s.set.associations + 0 = omega arith in
     record {
       is = inner_at s (extra_bytes (extras.Raw r)) s.left refl (omega arith) room ∙ raw_role s r e;
       own = tt;
-      after = λ told. same_taken (seen s) (s.left - length (extra_bytes (extras.Raw r))) s.set.associations (length (extra_bytes (extras.Raw r))) 0 refl same;
+      after = same_taken (seen s) (s.left - length (extra_bytes (extras.Raw r))) s.set.associations (length (extra_bytes (extras.Raw r))) 0 refl same;
       deep = refl;
+      belongs = ap Some (whose_is s);
     }
-extra_step subject settings (extras.Association a) behind s e room =
+extra_step running settings (extras.Association a) behind s e room =
     let d = extra_bytes (extras.Association a) in
     let f = found (association_cause a) s.set.part s.set.number s.set.associations 0 in
     let here = is_here s roles.Association in
     record {
       is = inner_at s d s.left refl (omega arith) room ∙ association_role s a;
       own = here_both here (when (binds_missing_interface settings a) f) [] (here_when here (binds_missing_interface settings a) f (λ h. here_association s a)) tt;
-      after = λ told. refl;
+      after = refl;
       deep = refl;
+      belongs = refl;
     }
 
-extra_goes : (E : Aim) (subject : Subject) (settings : List Setting) (x : Extra) (v : Seen) (behind : List ℕ) (later : List Found) → is_typed_raw x ≡ false
+extra_goes : (E : Aim) (running : Option SetSpeed) (settings : List Setting) (x : Extra) (v : Seen) (behind : List ℕ) (later : List Found) → is_typed_raw x ≡ false
     → length (extra_bytes x) ≤ v.left
-    → Goes (adding E (entry (extra_role x) (extra_depth (below v.owner) x) (extra_bytes x) ∷ [])) subject (after_extra x v) later behind
-    → Goes E subject v (extra_findings v.part v.number settings v.associations x ++ later) (extra_bytes x ++ behind)
-extra_goes E subject settings x v behind later e room onward =
+    → Goes (adding E (tree_descriptor (extra_role x) (extra_depth (below v.owner) x) (Some (extra_owner (whose v) x)) (extra_bytes x) ∷ [])) running (after_extra x v) later behind
+    → Goes E running v (extra_findings v.part v.number settings v.associations x ++ later) (extra_bytes x ++ behind)
+extra_goes E running settings x v behind later e room onward =
     let item = extra_descriptor x in
-    seen_goes E subject v (λ v. length (extra_bytes x) ≤ v.left) (extra_role x) (extra_bytes x) behind (λ v. extra_findings v.part v.number settings v.associations x)
-    (after_extra x) later (λ v. extra_depth (below v.owner) x) (length_is (2 + length item.body) item.kind item.body behind refl)
-    (λ s p. extra_step subject settings x behind s e p) room onward
+    seen_goes E running v (λ v. length (extra_bytes x) ≤ v.left) (extra_role x) (extra_bytes x) behind (λ v. extra_findings v.part v.number settings v.associations x)
+    (after_extra x) later (λ v. extra_depth (below v.owner) x) (λ v. Some (extra_owner (whose v) x)) (length_is (2 + length item.body) item.kind item.body behind refl)
+    (λ s p. extra_step running settings x behind s e p) room onward
 
 -- ---- extras one after another
 
 pub count_append : (xs ys : List Extra) → association_count (xs ++ ys) ≡ association_count xs + association_count ys
 count_append xs ys = ap (λ (l : List Association). length l) (flat_map-append association_in xs ys) ∙ length-append (flat_map association_in xs) (flat_map association_in ys)
 
-pub extras_go : (E : Aim) (subject : Subject) (settings : List Setting) (xs : List Extra) (v : Seen) (behind : List ℕ) (later : List Found) → list_any is_typed_raw xs ≡ false
+pub extras_go : (E : Aim) (running : Option SetSpeed) (settings : List Setting) (xs : List Extra) (v : Seen) (behind : List ℕ) (later : List Found) → list_any is_typed_raw xs ≡ false
     → length (flat_map extra_bytes xs) ≤ v.left
-    → ((o : Owner) → Goes (adding E (extra_entries (below v.owner) xs)) subject (record (taken (length (flat_map extra_bytes xs)) (association_count xs) v) { owner = o }) later behind)
-    → Goes E subject v (at_associations v.part v.number settings v.associations xs ++ later) (flat_map extra_bytes xs ++ behind)
-extras_go E subject settings [] v behind later e room onward =
-    subst (λ w. Goes E subject w later behind) (sym (same_taken v v.left v.associations 0 0 (omega arith) (omega arith))) (onward v.owner)
-extras_go E subject settings (x ∷ xs) v behind later e room onward =
+    → ((o : OwnerKind) → Goes (adding E (extra_descriptors (below v.owner) (whose v) xs)) running (record (taken (length (flat_map extra_bytes xs)) (association_count xs) v) { owner = o }) later behind)
+    → Goes E running v (at_associations v.part v.number settings v.associations xs ++ later) (flat_map extra_bytes xs ++ behind)
+extras_go E running settings [] v behind later e room onward =
+    subst (λ w. Goes E running w later behind) (sym (same_taken v v.left v.associations 0 0 (omega arith) (omega arith))) (onward v.owner)
+extras_go E running settings (x ∷ xs) v behind later e room onward =
     let each = or_parts (is_typed_raw x) (list_any is_typed_raw xs) e in
     let d = extra_bytes x in
     let more = flat_map extra_bytes xs in
@@ -169,12 +177,15 @@ extras_go E subject settings (x ∷ xs) v behind later e room onward =
     let sum : length (d ++ more) ≡ length d + length more = length-append d more in
     let count : association_count (x ∷ xs) ≡ n + association_count xs = length-append (association_in x) (flat_map association_in xs) in
     let depth = extra_depth (below v.owner) x in
-    let said : Aim = adding E (entry (extra_role x) depth d ∷ []) in
-    goes_as E subject v (at_associations v.part v.number settings v.associations (x ∷ xs) ++ later) (one ++ (rest ++ later)) ((d ++ more) ++ behind) (d ++ (more ++ behind))
+    let owner = extra_owner (whose v) x in
+    let said : Aim = adding E (tree_descriptor (extra_role x) depth (Some owner) d ∷ []) in
+    goes_as E running v (at_associations v.part v.number settings v.associations (x ∷ xs) ++ later) (one ++ (rest ++ later)) ((d ++ more) ++ behind) (d ++ (more ++ behind))
     (ap (λ l. l ++ later) (each_append (λ k a. when (binds_missing_interface settings a) (found (association_cause a) v.part v.number k 0)) v.associations (association_in x) (flat_map association_in xs))
     ∙ append_assoc one rest later) (append_assoc d more behind)
-    (extra_goes E subject settings x v (more ++ behind) (rest ++ later) each.0 (omega (arith, room, sum))
-    (extras_go said subject settings xs (after_extra x v) behind later each.1 (omega (arith, room, sum))
-    (λ o. subst (λ k. Goes (adding said (extra_entries k xs)) subject (record (taken (length more) (association_count xs) (after_extra x v)) { owner = o }) later behind) (sym (below_after x v.owner))
-    (subst (λ (w : Seen). Goes (adding said (extra_entries depth xs)) subject (record w { owner = o }) later behind)
-    (sym (same_taken v ((v.left - length d) - length more) ((v.associations + n) + association_count xs) (length (d ++ more)) (association_count (x ∷ xs)) (omega (arith, sum)) (omega (arith, count)))) (onward o)))))
+    (extra_goes E running settings x v (more ++ behind) (rest ++ later) each.0 (omega (arith, room, sum))
+    (extras_go said running settings xs (after_extra x v) behind later each.1 (omega (arith, room, sum))
+    (λ o. subst (λ k. Goes (adding said (extra_descriptors k (whose (after_extra x v)) xs)) running (record (taken (length more) (association_count xs) (after_extra x v)) { owner = o }) later behind)
+    (sym (below_after x v.owner))
+    (subst (λ w. Goes (adding said (extra_descriptors depth w xs)) running (record (taken (length more) (association_count xs) (after_extra x v)) { owner = o }) later behind) (sym (whose_after x v))
+    (subst (λ (w : Seen). Goes (adding said (extra_descriptors depth owner xs)) running (record w { owner = o }) later behind)
+    (sym (same_taken v ((v.left - length d) - length more) ((v.associations + n) + association_count xs) (length (d ++ more)) (association_count (x ∷ xs)) (omega (arith, sum)) (omega (arith, count)))) (onward o))))))

@@ -1,5 +1,5 @@
 -- A walk over an input leaves nothing, tells each finding, and shows the input's tree.
-use Rattle.std.proofs.Common.{◌≡◌, ◌<◌, ℕ, ◌+◌, ◌-◌, ◌*◌, ◌%◌, ◌==◌, Bool, true, false, if◌then◌else◌, List, [], ◌∷◌, ◌++◌, length, map, take, drop, Option, Some, None, is_some, refl, sym, ap, subst, ◌∙◌, arith, append_assoc, append-nil}
+use Rattle.std.proofs.Common.{◌≡◌, ◌<◌, ℕ, ◌+◌, ◌-◌, ◌*◌, ◌%◌, ◌==◌, Bool, true, false, if◌then◌else◌, List, [], ◌∷◌, ◌++◌, length, map, take, Option, Some, None, is_some, refl, sym, ap, subst, ◌∙◌, arith, append_assoc, append-nil}
 use Rattle.std.specs.List.{flat_map, list_any}
 use Rattle.std.proofs.Math.Seq.{drop-nil}
 use Rattle.std.proofs.lemmas.Bool.{eq-eqb, le-leb, or_parts}
@@ -15,7 +15,7 @@ use Rattle.usb_file_data.specs.declared.rule.Rule.TheVariants as rules
 use Rattle.usb_file_data.specs.declared.cause.Cause.TheVariants as causes
 use Rattle.usb_file_data.specs.Causes.{device_cause, found, qualifier_cause}
 use Rattle.usb_file_data.specs.Findings.{at_device, at_qualifier, file_in_order, found_in_order, other_in_order, part_in_order, part_of_kind, set_in_order, without_sets}
-use Rattle.usb_file_data.specs.Places.{when}
+use Rattle.usb_file_data.specs.Places.{at_each, when}
 use Rattle.usb_file_data.specs.Rules.{wrong_device, wrong_dumped_device, wrong_qualifier}
 use Rattle.usb_set.specs.declared.tree.Configuration.{Configuration}
 use Rattle.usb_set.specs.declared.tree.SetKind.{SetKind}
@@ -31,23 +31,21 @@ use Rattle.usb_file_data.specs.declared.file.Input.TheVariants as inputs
 use Rattle.usb_file_data.specs.Inputs.{Dump, IsInput}
 use Rattle.usb_file_data.proofs.Counts.{all_strings}
 use Rattle.usb_file_data.proofs.Units.{length-units_bytes}
-use Rattle.usb_explain.specs.Trees.{descriptor_length, entry, other_entries, set_entries, set_entries_by, string_entries, text_entry}
+use Rattle.usb_explain.specs.Trees.{descriptor_length, other_descriptors, set_descriptors, set_descriptors_by, string_descriptors, text_descriptor, tree_descriptor}
 use Rattle.usb_explain.specs.declared.speed.SetSpeed.{SetSpeed}
-use Rattle.usb_explain.specs.declared.manner.Manner.{Manner}
 use Rattle.usb_explain.specs.declared.role.Role.{Role}
 use Rattle.usb_explain.specs.declared.role.Role.TheVariants as roles
 use Rattle.usb_explain.specs.declared.position.Standing.{Standing}
 use Rattle.usb_explain.specs.Findings.{can_break, finding_at, is_here}
 use Rattle.usb_explain.specs.Contexts.{depth_of}
 use Rattle.usb_explain.specs.Laws.{WholeHasNoRest, WholeShowsTree, WholeTellsFindings}
+use Rattle.usb_explain.specs.Owners.{of_set, owner_of}
 use Rattle.usb_explain.specs.SetStart.{entered}
-use Rattle.usb_explain.specs.Standings.{noted, passed, with_told, start}
+use Rattle.usb_explain.specs.Standings.{noted, passed, start}
 use Rattle.usb_explain.specs.Roles.{outer_role, role_if, role_of, string_role}
-use Rattle.usb_explain.specs.Subjects.{Subject, subject_with}
-use Rattle.usb_explain.proofs.Standings.{start_told}
 use Rattle.usb_explain.proofs.Spans.{Aim, adding}
 use Rattle.usb_explain.proofs.rest.Walks.{Ends, ShowsAll, Tells, all_tells, ends_here, nothing_left}
-use Rattle.usb_explain.proofs.rest.Steps.{behind_one, goes_on, length_is}
+use Rattle.usb_explain.proofs.rest.Steps.{behind_one, goes_on, left_one, length_is}
 use Rattle.usb_explain.proofs.rest.Seen.{AllHere, Rear, here_both, here_when, goes_as, rear_behind, seen}
 use Rattle.usb_explain.proofs.rest.Extras.{here_is, same_place}
 use Rattle.usb_explain.proofs.rest.Settings.{Out, out}
@@ -60,24 +58,25 @@ abbrev pub outside : Bool → Bool → ℕ → ℕ → Out
 outside known spoken mains others = record { left = 0; known = known; spoken = spoken; mains = mains; others = others }
 
 -- the end of the bytes
-at_end : (E : Aim) (subject : Subject) (o : Out) → E [] [] → GoesOut E subject o [] []
-at_end E subject o aimed v e s same rear = ends_here E subject s (rear.1 ∙ drop-nil rear.0) aimed
+at_end : (E : Aim) (running : Option SetSpeed) (o : Out) → E [] [] → GoesOut E running o [] []
+at_end E running o aimed v e s fs same rear = ends_here E running s fs (rear.1 ∙ drop-nil rear.0) aimed
 
 -- a descriptor outside of sets
-pub record OutStep (subject : Subject) (s : Standing) (role : Role) (d behind : List ℕ) (mine : List Found) (o : Out) : Type 0 where
+pub record OutStep (running : Option SetSpeed) (s : Standing) (role : Role) (d behind : List ℕ) (mine : List Found) (o : Out) : Type 0 where
   pub is : role_of s d ≡ Some role
-  pub own : AllHere (is_here (entered role subject.manner.speed (d ++ behind) s) role) mine
-  pub after : (told : ℕ) → out (seen (passed role d (with_told told (entered role subject.manner.speed (d ++ behind) s)))) ≡ o
-  pub deep : depth_of (entered role subject.manner.speed (d ++ behind) s) role ≡ 0
+  pub own : AllHere (is_here (entered role running (d ++ behind) s) role) mine
+  pub after : out (seen (passed role d (entered role running (d ++ behind) s))) ≡ o
+  pub deep : depth_of (entered role running (d ++ behind) s) role ≡ 0
+  pub belongs : owner_of (entered role running (d ++ behind) s) role d ≡ None
 
-pub out_goes : (E : Aim) (subject : Subject) (o p : Out) (role : Role) (d behind : List ℕ) (mine later : List Found) → descriptor_length (d ++ behind) ≡ Some (length d)
-    → ((s : Standing) → out (seen s) ≡ o → OutStep subject s role d behind mine p) → GoesOut (adding E (entry role 0 d ∷ [])) subject p later behind
-    → GoesOut E subject o (mine ++ later) (d ++ behind)
-out_goes E subject o p role d behind mine later e step onward v is s same rear =
+pub out_goes : (E : Aim) (running : Option SetSpeed) (o p : Out) (role : Role) (d behind : List ℕ) (mine later : List Found) → descriptor_length (d ++ behind) ≡ Some (length d)
+    → ((s : Standing) → out (seen s) ≡ o → OutStep running s role d behind mine p) → GoesOut (adding E (tree_descriptor role 0 None d ∷ [])) running p later behind
+    → GoesOut E running o (mine ++ later) (d ++ behind)
+out_goes E running o p role d behind mine later e step onward v is s fs same rear =
     let one = step s (ap (λ v. out v) same ∙ is) in
-    let next = behind_one subject s role d behind in
-    goes_on E subject s d behind role 0 e one.is one.deep
-    (onward (seen next) (one.after _) next refl (rear_behind subject s role d behind mine later one.own rear))
+    let next = behind_one running s role d behind in
+    goes_on E running s fs d behind role 0 None e one.is one.deep one.belongs
+    (onward (seen next) one.after next (left_one running s fs role d behind) refl (rear_behind running s fs role d behind mine later one.own rear))
 
 -- ---- the device
 
@@ -93,10 +92,10 @@ here_device : (s : Standing) (is_dump : Bool) (d : DeviceDescriptor) → is_here
 unfolding finding_at can_break
 here_device s is_dump d = here_is s roles.Device (device_cause is_dump d) parts.Device 0 0 0 (same_place rules.V11 parts.Device 0 0 0) refl
 
-pub device_after : (d ahead : List ℕ) (subject : Subject) (told : ℕ)
-    → out (seen (passed roles.Device d (with_told told (entered roles.Device subject.manner.speed ahead start)))) ≡ outside true false 0 0
+pub device_after : (d ahead : List ℕ) (running : Option SetSpeed)
+    → out (seen (passed roles.Device d (entered roles.Device running ahead start))) ≡ outside true false 0 0
 unfolding start noted
-device_after d ahead subject told = let none : 0 - length d ≡ 0 = omega arith in ap (λ n. record (outside true false 0 0) { left = n }) none
+device_after d ahead running = let none : 0 - length d ≡ 0 = omega arith in ap (λ n. record (outside true false 0 0) { left = n }) none
 
 abbrev device_findings : Bool → DeviceDescriptor → List Configuration → List Found
 device_findings is_dump d sets = without_sets parts.Main sets ++ at_device is_dump d
@@ -105,22 +104,26 @@ device_depth : (running : Option SetSpeed) (ahead : List ℕ) → depth_of (ente
 unfolding depth_of
 device_depth running ahead = refl
 
-device_goes : (E : Aim) (subject : Subject) (d : DeviceDescriptor) (sets : List Configuration) (is_dump : Bool) (behind : List ℕ) (later : List Found)
-    → GoesOut (adding E (entry roles.Device 0 (device_bytes d) ∷ [])) subject (outside true false 0 0) later behind
-    → Rear subject start (device_findings is_dump d sets ++ later) → Ends E subject start (device_bytes d ++ behind)
-device_goes E subject d sets is_dump behind later onward rear =
+device_owner : (running : Option SetSpeed) (d ahead : List ℕ) → owner_of (entered roles.Device running ahead start) roles.Device d ≡ None
+unfolding owner_of
+device_owner running d ahead = refl
+
+device_goes : (E : Aim) (running : Option SetSpeed) (fs : List Found) (d : DeviceDescriptor) (sets : List Configuration) (is_dump : Bool) (behind : List ℕ) (later : List Found)
+    → GoesOut (adding E (tree_descriptor roles.Device 0 None (device_bytes d) ∷ [])) running (outside true false 0 0) later behind
+    → Rear fs (device_findings is_dump d sets ++ later) → Ends E running start fs (device_bytes d ++ behind)
+device_goes E running fs d sets is_dump behind later onward rear =
     let b = device_bytes d in
-    let begun = entered roles.Device subject.manner.speed (b ++ behind) start in
+    let begun = entered roles.Device running (b ++ behind) start in
     let here = is_here begun roles.Device in
     let none = found causes.NoConfiguration parts.Main 0 0 0 in
-    let next = behind_one subject start roles.Device b behind in
+    let next = behind_one running start roles.Device b behind in
     let own : AllHere here (device_findings is_dump d sets) =
     here_both here (when (length sets == 0) none) (at_device is_dump d)
     (here_when here (length sets == 0) none (λ h. here_no_set begun))
     (here_when here (if is_dump then wrong_dumped_device d else wrong_device d) (found (device_cause is_dump d) parts.Device 0 0 0) (λ h. here_device begun is_dump d)) in
-    goes_on E subject start b behind roles.Device 0 (length_is 18 1 (fields_bytes device_fields d) behind refl) (device_role d)
-    (device_depth subject.manner.speed (b ++ behind))
-    (onward (seen next) (device_after b (b ++ behind) subject _) next refl (rear_behind subject start roles.Device b behind (device_findings is_dump d sets) later own rear))
+    goes_on E running start fs b behind roles.Device 0 None (length_is 18 1 (fields_bytes device_fields d) behind refl) (device_role d)
+    (device_depth running (b ++ behind)) (device_owner running b (b ++ behind))
+    (onward (seen next) (device_after b (b ++ behind) running) next (left_one running start fs roles.Device b behind) refl (rear_behind running start fs roles.Device b behind (device_findings is_dump d sets) later own rear))
 
 -- ---- the other speed
 
@@ -143,10 +146,10 @@ nothing_less o s n none e =
     let same : s.left - n ≡ s.left = omega (arith, left) in
     ap (λ k. record (out (seen s)) { left = k }) same ∙ e
 
-qualifier_step : (subject : Subject) (other : Other) (spoken : Bool) (m n : ℕ) (behind : List ℕ) (s : Standing) → out (seen s) ≡ outside true spoken m n
-    → OutStep subject s roles.Qualifier (qualifier_bytes other.qualifier) behind (without_sets parts.Other other.sets ++ at_qualifier other.qualifier) (outside true spoken m n)
-unfolding noted depth_of
-qualifier_step subject other spoken m n behind s e =
+qualifier_step : (running : Option SetSpeed) (other : Other) (spoken : Bool) (m n : ℕ) (behind : List ℕ) (s : Standing) → out (seen s) ≡ outside true spoken m n
+    → OutStep running s roles.Qualifier (qualifier_bytes other.qualifier) behind (without_sets parts.Other other.sets ++ at_qualifier other.qualifier) (outside true spoken m n)
+unfolding noted depth_of owner_of
+qualifier_step running other spoken m n behind s e =
     let d = qualifier_bytes other.qualifier in
     let here = is_here s roles.Qualifier in
     let none = found causes.NoConfiguration parts.Other 0 0 0 in
@@ -155,24 +158,25 @@ qualifier_step subject other spoken m n behind s e =
       own = here_both here (when (length other.sets == 0) none) (at_qualifier other.qualifier)
           (here_when here (length other.sets == 0) none (λ h. here_no_other s))
           (here_when here (wrong_qualifier other.qualifier) (found (qualifier_cause other.qualifier) parts.Other 0 0 0) (λ h. here_qualifier s other.qualifier));
-      after = λ told. nothing_less (outside true spoken m n) s (length d) refl e;
+      after = nothing_less (outside true spoken m n) s (length d) refl e;
       deep = refl;
+      belongs = refl;
     }
 
-other_goes : (E : Aim) (subject : Subject) (spoken : Bool) (m : ℕ) (other : Option Other) (behind : List ℕ) (later : List Found)
+other_goes : (E : Aim) (running : Option SetSpeed) (spoken : Bool) (m : ℕ) (other : Option Other) (behind : List ℕ) (later : List Found)
     → list_any (is_other_kind kinds.OtherSpeed) (other_sets other) ≡ false → list_any has_no_layout (other_sets other) ≡ false
-    → ((n : ℕ) → GoesOut (adding E (other_entries other)) subject (outside true spoken m n) later behind)
-    → GoesOut E subject (outside true spoken m 0) (other_in_order other ++ later) (other_bytes other ++ behind)
-other_goes E subject spoken m None behind later right allowed onward v is = onward 0 v is
-other_goes E subject spoken m (Some o) behind later right allowed onward v is =
+    → ((n : ℕ) → GoesOut (adding E (other_descriptors other)) running (outside true spoken m n) later behind)
+    → GoesOut E running (outside true spoken m 0) (other_in_order other ++ later) (other_bytes other ++ behind)
+other_goes E running spoken m None behind later right allowed onward v is = onward 0 v is
+other_goes E running spoken m (Some o) behind later right allowed onward v is =
     let one = without_sets parts.Other o.sets ++ at_qualifier o.qualifier in
     let rest = part_in_order parts.Other o.sets in
-    goes_as E subject v ((one ++ rest) ++ later) (one ++ (rest ++ later)) ((qualifier_bytes o.qualifier ++ sets_bytes o.sets) ++ behind) (qualifier_bytes o.qualifier ++ (sets_bytes o.sets ++ behind))
+    goes_as E running v ((one ++ rest) ++ later) (one ++ (rest ++ later)) ((qualifier_bytes o.qualifier ++ sets_bytes o.sets) ++ behind) (qualifier_bytes o.qualifier ++ (sets_bytes o.sets ++ behind))
     (append_assoc one rest later) (append_assoc (qualifier_bytes o.qualifier) (sets_bytes o.sets) behind)
-    (out_goes E subject (outside true spoken m 0) (outside true spoken m 0) roles.Qualifier (qualifier_bytes o.qualifier) (sets_bytes o.sets ++ behind) one (rest ++ later)
+    (out_goes E running (outside true spoken m 0) (outside true spoken m 0) roles.Qualifier (qualifier_bytes o.qualifier) (sets_bytes o.sets ++ behind) one (rest ++ later)
     (length_is 10 6 (fields_bytes qualifier_fields o.qualifier) (sets_bytes o.sets ++ behind) refl)
-    (λ s e. qualifier_step subject o spoken m 0 (sets_bytes o.sets ++ behind) s e)
-    (sets_go (adding E (entry roles.Qualifier 0 (qualifier_bytes o.qualifier) ∷ [])) subject kinds.OtherSpeed o.sets o.sets 0 (outside true spoken m 0) behind later refl allowed right onward) v is)
+    (λ s e. qualifier_step running o spoken m 0 (sets_bytes o.sets ++ behind) s e)
+    (sets_go (adding E (tree_descriptor roles.Qualifier 0 None (qualifier_bytes o.qualifier) ∷ [])) running kinds.OtherSpeed o.sets o.sets 0 (outside true spoken m 0) behind later refl allowed right onward) v is)
 
 -- ---- strings
 
@@ -197,54 +201,56 @@ text_role s u e =
     ap (λ b. string_role b (length (units_bytes u))) e
     ∙ holds _ roles.Text (even (length (units_bytes u)) (length u) (length-units_bytes u))
 
-pub languages_step : (subject : Subject) (u behind : List ℕ) (known : Bool) (m n : ℕ) (s : Standing) → 0 < length u → out (seen s) ≡ outside known false m n
-    → OutStep subject s roles.Languages (units_bytes u) behind [] (outside known true m n)
-unfolding noted depth_of
-languages_step subject u behind known m n s some e = record {
+pub languages_step : (running : Option SetSpeed) (u behind : List ℕ) (known : Bool) (m n : ℕ) (s : Standing) → 0 < length u → out (seen s) ≡ outside known false m n
+    → OutStep running s roles.Languages (units_bytes u) behind [] (outside known true m n)
+unfolding noted depth_of owner_of
+languages_step running u behind known m n s some e = record {
   is = outer_at s (units_bytes u) (ap (λ (o : Out). o.left) e) ∙ languages_role s u (ap (λ (o : Out). o.spoken) e) some;
   own = tt;
-  after = λ told. ap (λ (o : Out). record o { spoken = true }) (nothing_less (outside known false m n) s (length (units_bytes u)) refl e);
+  after = ap (λ (o : Out). record o { spoken = true }) (nothing_less (outside known false m n) s (length (units_bytes u)) refl e);
   deep = refl;
+  belongs = refl;
 }
 
-pub text_step : (subject : Subject) (u behind : List ℕ) (known : Bool) (m n : ℕ) (s : Standing) → out (seen s) ≡ outside known true m n
-    → OutStep subject s roles.Text (units_bytes u) behind [] (outside known true m n)
-unfolding noted depth_of
-text_step subject u behind known m n s e = record {
+pub text_step : (running : Option SetSpeed) (u behind : List ℕ) (known : Bool) (m n : ℕ) (s : Standing) → out (seen s) ≡ outside known true m n
+    → OutStep running s roles.Text (units_bytes u) behind [] (outside known true m n)
+unfolding noted depth_of owner_of
+text_step running u behind known m n s e = record {
   is = outer_at s (units_bytes u) (ap (λ (o : Out). o.left) e) ∙ text_role s u (ap (λ (o : Out). o.spoken) e);
   own = tt;
-  after = λ told. nothing_less (outside known true m n) s (length (units_bytes u)) refl e;
+  after = nothing_less (outside known true m n) s (length (units_bytes u)) refl e;
   deep = refl;
+  belongs = refl;
 }
 
 pub units_length : (u : List ℕ) → 2 + 2 * length u ≡ 2 + length (flat_map little_endian u)
 units_length u = omega (arith, length-units_bytes u)
 
 -- strings behind the language list, up to the end
-texts_go : (E : Aim) (subject : Subject) (known : Bool) (m n : ℕ) (texts : List (List ℕ)) → E [] (map text_entry texts)
-    → GoesOut E subject (outside known true m n) [] (each_string_bytes texts)
-texts_go E subject known m n [] aimed = at_end E subject (outside known true m n) aimed
-texts_go E subject known m n (u ∷ texts) aimed =
-    out_goes E subject (outside known true m n) (outside known true m n) roles.Text (units_bytes u) (each_string_bytes texts) [] []
+texts_go : (E : Aim) (running : Option SetSpeed) (known : Bool) (m n : ℕ) (texts : List (List ℕ)) → E [] (map text_descriptor texts)
+    → GoesOut E running (outside known true m n) [] (each_string_bytes texts)
+texts_go E running known m n [] aimed = at_end E running (outside known true m n) aimed
+texts_go E running known m n (u ∷ texts) aimed =
+    out_goes E running (outside known true m n) (outside known true m n) roles.Text (units_bytes u) (each_string_bytes texts) [] []
     (length_is (2 + 2 * length u) 3 (flat_map little_endian u) (each_string_bytes texts) (units_length u))
-    (λ s e. text_step subject u (each_string_bytes texts) known m n s e) (texts_go (adding E (text_entry u ∷ [])) subject known m n texts aimed)
+    (λ s e. text_step running u (each_string_bytes texts) known m n s e) (texts_go (adding E (text_descriptor u ∷ [])) running known m n texts aimed)
 
 -- a language list has one language at least, as the walk asks of it
-strings_go : (E : Aim) (subject : Subject) (known : Bool) (m n count : ℕ) (strings : Option Strings) → are_wrong_strings count strings ≡ false → E [] (string_entries strings)
-    → GoesOut E subject (outside known false m n) [] (strings_bytes strings)
-strings_go E subject known m n count None right aimed = at_end E subject (outside known false m n) aimed
-strings_go E subject known m n count (Some strings) right aimed =
+strings_go : (E : Aim) (running : Option SetSpeed) (known : Bool) (m n count : ℕ) (strings : Option Strings) → are_wrong_strings count strings ≡ false → E [] (string_descriptors strings)
+    → GoesOut E running (outside known false m n) [] (strings_bytes strings)
+strings_go E running known m n count None right aimed = at_end E running (outside known false m n) aimed
+strings_go E running known m n count (Some strings) right aimed =
     let u = strings.languages in
-    out_goes E subject (outside known false m n) (outside known true m n) roles.Languages (units_bytes u) (each_string_bytes strings.texts) [] []
+    out_goes E running (outside known false m n) (outside known true m n) roles.Languages (units_bytes u) (each_string_bytes strings.texts) [] []
     (length_is (2 + 2 * length u) 3 (flat_map little_endian u) (each_string_bytes strings.texts) (units_length u))
-    (λ s e. languages_step subject u (each_string_bytes strings.texts) known m n s (all_strings count strings right).follow.spoken e)
-    (texts_go (adding E (entry roles.Languages 0 (units_bytes u) ∷ [])) subject known m n strings.texts aimed)
+    (λ s e. languages_step running u (each_string_bytes strings.texts) known m n s (all_strings count strings right).follow.spoken e)
+    (texts_go (adding E (tree_descriptor roles.Languages 0 None (units_bytes u) ∷ [])) running known m n strings.texts aimed)
 
 -- ---- inputs
 
--- at the first byte nothing is told
-rear_of_all : (subject : Subject) (all : List Found) → subject.found ≡ all → Rear subject start all
-rear_of_all subject all e = (0, ap (λ k. drop k subject.found) start_told ∙ e)
+-- at the first byte all of them are left
+rear_of_all : (fs all : List Found) → fs ≡ all → Rear fs all
+rear_of_all fs all e = (0, e)
 
 no_sets : (kind : SetKind) → count_in kind (out (seen start)) ≡ 0
 unfolding start
@@ -255,22 +261,25 @@ pub start_outside : start.left ≡ 0
 unfolding start
 start_outside = refl
 
-set_leaves : (subject : Subject) (c : Configuration) (b : List ℕ) → Layout c b → subject.found ≡ found_in_order (inputs.Set c) → Ends (ShowsAll (inputs.Set c)) subject start b
-set_leaves subject c b layout found =
+set_leaves : (running : Option SetSpeed) (c : Configuration) (b : List ℕ) → Layout c b
+    → Ends (ShowsAll (inputs.Set c)) running start (found_in_order (inputs.Set c)) b
+set_leaves running c b layout =
     let before = take 0 (c ∷ []) in
     let part = part_of_kind c.kind in
     let goal = ShowsAll (inputs.Set c) in
     let total : length b ≡ set_length c = ap (λ (l : List ℕ). length l) layout.bytes ∙ length-set_bytes c (length b) 0 in
-    let entries : set_entries_by c (length b) ++ [] ≡ set_entries c = append-nil (set_entries_by c (length b)) ∙ ap (λ n. set_entries_by c n) total in
-    subst (λ l. Ends goal subject start l) (append-nil (set_bytes c (length b)) ∙ sym layout.bytes)
-    (set_goes goal subject c before (length b) (seen start) [] [] layout.raws_are_raw (ap (λ (l : List ℕ). length l) (sym layout.bytes)) start_outside
-    (λ w e. at_end (adding goal (set_entries_by c (length b))) subject (out w) (refl, entries) w refl) start refl
-    (rear_of_all subject (set_in_order part before (count_in c.kind (out (seen start))) c ++ [])
-    (found ∙ ap (λ n. set_in_order part before n c ++ []) (sym (no_sets c.kind)))))
+    let said = λ (n : ℕ). set_descriptors_by (of_set part n) c (length b) in
+    let entries : said (count_in c.kind (out (seen start))) ++ [] ≡ set_descriptors part 0 c =
+    append-nil (said (count_in c.kind (out (seen start)))) ∙ ap (λ n. said n) (no_sets c.kind) ∙ ap (λ n. set_descriptors_by (of_set part 0) c n) total in
+    subst (λ l. Ends goal running start (found_in_order (inputs.Set c)) l) (append-nil (set_bytes c (length b)) ∙ sym layout.bytes)
+    (set_goes goal running c before (length b) (seen start) [] [] layout.raws_are_raw (ap (λ (l : List ℕ). length l) (sym layout.bytes)) start_outside
+    (λ w e. at_end (adding goal (said (count_in c.kind (out (seen start))))) running (out w) (refl, entries) w refl) start (found_in_order (inputs.Set c)) refl
+    (rear_of_all (found_in_order (inputs.Set c)) (set_in_order part before (count_in c.kind (out (seen start))) c ++ [])
+    (ap (λ n. set_in_order part before n c ++ []) (sym (no_sets c.kind)))))
 
 -- the parts of a file in their order: a qualifier stands behind the device, and the language list before strings
-file_leaves : (subject : Subject) (f : DescriptorFile) (b : List ℕ) → File f b → subject.found ≡ file_in_order false f → Ends (ShowsAll (inputs.File f)) subject start b
-file_leaves subject f b file found =
+file_leaves : (running : Option SetSpeed) (f : DescriptorFile) (b : List ℕ) → File f b → Ends (ShowsAll (inputs.File f)) running start (file_in_order false f) b
+file_leaves running f b file =
     let d = device_bytes f.device in
     let sets = sets_bytes f.sets in
     let other = other_bytes f.other in
@@ -283,20 +292,21 @@ file_leaves subject f b file found =
     let parts_of : file_bytes f ≡ d ++ (sets ++ (other ++ strings)) = append_assoc (d ++ sets) other strings ∙ append_assoc d sets (other ++ strings) in
     let in_parts : (one ++ two) ++ three ≡ one ++ (two ++ (three ++ [])) = append_assoc one two three ∙ ap (λ l. one ++ (two ++ l)) (sym (append-nil three)) in
     let goal = ShowsAll (inputs.File f) in
-    let with_device : Aim = adding goal (entry roles.Device 0 d ∷ []) in
-    let with_main : Aim = adding with_device (flat_map set_entries f.sets) in
-    let with_other : Aim = adding with_main (other_entries f.other) in
-    let joined : flat_map set_entries f.sets ++ (other_entries f.other ++ string_entries f.strings) ≡ (flat_map set_entries f.sets ++ other_entries f.other) ++ string_entries f.strings =
-    sym (append_assoc (flat_map set_entries f.sets) (other_entries f.other) (string_entries f.strings)) in
-    subst (λ l. Ends goal subject start l) (sym (file.bytes ∙ parts_of))
-    (device_goes goal subject f.device f.sets false (sets ++ (other ++ strings)) (two ++ (three ++ []))
-    (sets_go with_device subject kinds.Configuration f.sets f.sets 0 (outside true false 0 0) (other ++ strings) (three ++ []) refl layouts.0 right.0
-    (λ m. other_goes with_main subject false m f.other strings [] right.1 layouts.1
-    (λ n. strings_go with_other subject true m n (length (named_indices f)) f.strings file.texts (refl, ap (λ l. entry roles.Device 0 d ∷ l) joined))))
-    (rear_of_all subject (one ++ (two ++ (three ++ []))) (found ∙ in_parts)))
+    let with_device : Aim = adding goal (tree_descriptor roles.Device 0 None d ∷ []) in
+    let with_main : Aim = adding with_device (at_each (set_descriptors parts.Main) 0 f.sets) in
+    let with_other : Aim = adding with_main (other_descriptors f.other) in
+    let main = at_each (set_descriptors parts.Main) 0 f.sets in
+    let joined : main ++ (other_descriptors f.other ++ string_descriptors f.strings) ≡ (main ++ other_descriptors f.other) ++ string_descriptors f.strings =
+    sym (append_assoc main (other_descriptors f.other) (string_descriptors f.strings)) in
+    subst (λ l. Ends goal running start (file_in_order false f) l) (sym (file.bytes ∙ parts_of))
+    (device_goes goal running (file_in_order false f) f.device f.sets false (sets ++ (other ++ strings)) (two ++ (three ++ []))
+    (sets_go with_device running kinds.Configuration f.sets f.sets 0 (outside true false 0 0) (other ++ strings) (three ++ []) refl layouts.0 right.0
+    (λ m. other_goes with_main running false m f.other strings [] right.1 layouts.1
+    (λ n. strings_go with_other running true m n (length (named_indices f)) f.strings file.texts (refl, ap (λ l. tree_descriptor roles.Device 0 None d ∷ l) joined))))
+    (rear_of_all (file_in_order false f) (one ++ (two ++ (three ++ []))) in_parts))
 
-dump_leaves : (subject : Subject) (f : DescriptorFile) (b : List ℕ) → Dump f b → subject.found ≡ file_in_order true f → Ends (ShowsAll (inputs.Dump f)) subject start b
-dump_leaves subject f b dump found =
+dump_leaves : (running : Option SetSpeed) (f : DescriptorFile) (b : List ℕ) → Dump f b → Ends (ShowsAll (inputs.Dump f)) running start (file_in_order true f) b
+dump_leaves running f b dump =
     let d = device_bytes f.device in
     let sets = sets_bytes f.sets in
     let one = device_findings true f.device f.sets in
@@ -304,38 +314,28 @@ dump_leaves subject f b dump found =
     let parts_of : b ≡ d ++ (sets ++ []) = dump.bytes ∙ ap (λ l. d ++ l) (sym (append-nil sets)) in
     let in_parts : (one ++ two) ++ other_in_order f.other ≡ one ++ (two ++ []) = ap (λ o. (one ++ two) ++ other_in_order o) dump.no_other ∙ append_assoc one two [] in
     let goal = ShowsAll (inputs.Dump f) in
-    let with_device : Aim = adding goal (entry roles.Device 0 d ∷ []) in
-    let with_main : Aim = adding with_device (flat_map set_entries f.sets) in
-    subst (λ l. Ends goal subject start l) (sym parts_of)
-    (device_goes goal subject f.device f.sets true (sets ++ []) (two ++ [])
-    (sets_go with_device subject kinds.Configuration f.sets f.sets 0 (outside true false 0 0) [] [] refl dump.layouts dump.kinds
-    (λ m. at_end with_main subject (outside true false m 0)
-    (refl, ap (λ l. entry roles.Device 0 d ∷ l) (append-nil (flat_map set_entries f.sets)))))
-    (rear_of_all subject (one ++ (two ++ [])) (found ∙ in_parts)))
+    let with_device : Aim = adding goal (tree_descriptor roles.Device 0 None d ∷ []) in
+    let with_main : Aim = adding with_device (at_each (set_descriptors parts.Main) 0 f.sets) in
+    subst (λ l. Ends goal running start (file_in_order true f) l) (sym parts_of)
+    (device_goes goal running (file_in_order true f) f.device f.sets true (sets ++ []) (two ++ [])
+    (sets_go with_device running kinds.Configuration f.sets f.sets 0 (outside true false 0 0) [] [] refl dump.layouts dump.kinds
+    (λ m. at_end with_main running (outside true false m 0)
+    (refl, ap (λ l. tree_descriptor roles.Device 0 None d ∷ l) (append-nil (at_each (set_descriptors parts.Main) 0 f.sets)))))
+    (rear_of_all (file_in_order true f) (one ++ (two ++ [])) in_parts))
 
-input_leaves : (subject : Subject) (input : Input) (b : List ℕ) → IsInput input b → subject.found ≡ found_in_order input → Ends (ShowsAll input) subject start b
-input_leaves subject (inputs.Set set) b is found = set_leaves subject set b is found
-input_leaves subject (inputs.File file) b is found = file_leaves subject file b is found
-input_leaves subject (inputs.Dump file) b is found = dump_leaves subject file b is found
-
-found_is : (manner : Manner) (input : Input) (all : List Found) → (subject_with manner input all).found ≡ all
-found_is manner (inputs.Set set) all = refl
-found_is manner (inputs.File file) all = refl
-found_is manner (inputs.Dump file) all = refl
+input_leaves : (running : Option SetSpeed) (input : Input) (b : List ℕ) → IsInput input b → Ends (ShowsAll input) running start (found_in_order input) b
+input_leaves running (inputs.Set set) b is = set_leaves running set b is
+input_leaves running (inputs.File file) b is = file_leaves running file b is
+input_leaves running (inputs.Dump file) b is = dump_leaves running file b is
 
 pub whole_has_no_rest : WholeHasNoRest
-whole_has_no_rest manner input b is =
-    let all = found_in_order input in
-    nothing_left (subject_with manner input all) input b (input_leaves (subject_with manner input all) input b is (found_is manner input all))
+whole_has_no_rest running input b is = nothing_left running input b (input_leaves running input b is)
 
-all_is_told : (manner : Manner) (input : Input) (b : List ℕ) → IsInput input b → Tells (subject_with manner input (found_in_order input)) input b
-all_is_told manner input b is =
-    let all = found_in_order input in
-    let same : (subject_with manner input all).found ≡ all = found_is manner input all in
-    all_tells (subject_with manner input all) input b same (input_leaves (subject_with manner input all) input b is same)
+all_is_told : (running : Option SetSpeed) (input : Input) (b : List ℕ) → IsInput input b → Tells running input b
+all_is_told running input b is = all_tells running input b (input_leaves running input b is)
 
 pub whole_tells : WholeTellsFindings
-whole_tells manner input b is = (all_is_told manner input b is).tells
+whole_tells running input b is = (all_is_told running input b is).tells
 
 pub whole_shows : WholeShowsTree
-whole_shows manner input b is = (all_is_told manner input b is).entries
+whole_shows running input b is = (all_is_told running input b is).shows

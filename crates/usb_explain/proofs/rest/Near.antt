@@ -1,5 +1,5 @@
 -- A walk over bytes with the fault of a set comes up to that fault.
-use Rattle.std.proofs.Common.{◌≡◌, ◌≤◌, ◌<◌, ℕ, zero, suc, ◌+◌, ◌-◌, ◌*◌, ◌==◌, ◌&&◌, ◌||◌, Bool, true, false, if◌then◌else◌, List, [], ◌∷◌, ◌++◌, length, take, drop, nat_le, nat_lt, Option, Some, None, is_some, refl, sym, ap, subst, ◌∙◌, arith, inl, inr, append_assoc, append-nil, length-append}
+use Rattle.std.proofs.Common.{◌≡◌, ◌≤◌, ◌<◌, ℕ, zero, suc, ◌+◌, ◌-◌, ◌*◌, ◌==◌, ◌&&◌, ◌||◌, Bool, true, false, if◌then◌else◌, List, [], ◌∷◌, ◌++◌, flat_map, length, take, drop, nat_le, nat_lt, Option, Some, None, is_some, refl, sym, ap, subst, ◌∙◌, arith, inl, inr, append_assoc, append-nil, length-append}
 use Rattle.std.proofs.Math.Seq.{drop-length, drop-nil, take-append_seam}
 use Rattle.std.proofs.lemmas.Bool.{cond-false, eq-eqb, eqb-true}
 use Rattle.std.proofs.lemmas.Bool.Decides.{nat_tests}
@@ -23,28 +23,40 @@ use Rattle.usb_explain.specs.declared.role.Role.TheVariants.{Device, Qualifier, 
 use Rattle.usb_explain.specs.declared.role.Role.TheVariants as roles
 use Rattle.usb_explain.specs.declared.position.Standing.{Standing}
 use Rattle.usb_explain.specs.Laws.{Cut}
-use Rattle.usb_explain.specs.Outline.{Entry}
+use Rattle.usb_explain.specs.Outline.{Entry, findings_of}
+use Rattle.usb_explain.specs.Findings.{found_at}
 use Rattle.usb_explain.specs.SetStart.{entered}
-use Rattle.usb_explain.specs.Standings.{noted, passed, with_told}
+use Rattle.usb_explain.specs.Standings.{noted, passed}
 use Rattle.usb_explain.specs.Roles.{inner_role, typed_role}
 use Rattle.usb_explain.specs.Uncovered.{uncovered_in_set}
-use Rattle.usb_explain.specs.Subjects.{Subject}
 use Rattle.usb_explain.proofs.Spans.{Aim, walk_shows}
 use Rattle.usb_explain.proofs.rest.Walks.{Ends}
 use Rattle.usb_explain.proofs.rest.Seen.{Rear, Seen}
 use Rattle.usb_explain.proofs.rest.Sets.{outer_at, set_after, set_role}
-use Rattle.usb_explain.proofs.rest.Steps.{behind_one, goes_on, inner_at, length_is}
+use Rattle.usb_explain.proofs.rest.Steps.{behind_one, goes_on, inner_at, left_one, length_is}
 
 -- no more bytes are left than so many
 abbrev pub few : ℕ → Aim
 few k = λ rest entries. length rest ≤ k
 
--- nothing is told of bytes that are no input
-abbrev pub TellsNothing : Subject → Type 0
-TellsNothing subject = subject.found ≡ []
+-- a walk from here leaves no more bytes than so many, where nothing is found
+abbrev pub EndsFew : ℕ → Option SetSpeed → Standing → List ℕ → Type 0
+EndsFew k running s ahead = (fs : List Found) → fs ≡ [] → Ends (few k) running s fs ahead
 
-pub rear_of_none : (subject : Subject) (s : Standing) (found : List Found) → TellsNothing subject → Rear subject s found
-rear_of_none subject s found none = (length found, ap (λ l. drop s.told l) none ∙ drop-nil s.told ∙ sym (drop-length found))
+pub rear_of_nil : (fs found : List Found) → fs ≡ [] → Rear fs found
+rear_of_nil fs found nil = (length found, nil ∙ sym (drop-length found))
+
+pub nil_of_rear : (fs : List Found) → Rear fs [] → fs ≡ []
+nil_of_rear fs rear = rear.1 ∙ drop-nil rear.0
+
+pub nil_behind : (running : Option SetSpeed) (s : Standing) (fs : List Found) (role : Role) (d behind : List ℕ) → fs ≡ [] → left_one running s fs role d behind ≡ []
+nil_behind running s fs role d behind nil =
+    let begun = entered role running (d ++ behind) s in
+    ap (λ l. drop (length (found_at begun role l)) l) nil ∙ drop-nil (length (found_at begun role []))
+
+nil_after : (xs ys : List Found) → xs ++ ys ≡ [] → ys ≡ []
+nil_after [] ys e = e
+nil_after (x ∷ xs) ys e = absurd (cc)
 
 -- ---- few bytes
 
@@ -54,11 +66,11 @@ cut_rest (d ∷ ds) b rest c =
     omega (arith, ap (λ (l : List ℕ). length l) c.0, length-append d.bytes d.after, cut_rest ds d.after rest c.2)
 
 -- of few bytes few are left
-pub few_left : (k : ℕ) (subject : Subject) (s : Standing) (ahead : List ℕ) → TellsNothing subject → length ahead ≤ k → Ends (few k) subject s ahead
-few_left k subject s ahead none le n enough =
-    let w = walk_shows subject n s ahead in
+pub few_left : (k : ℕ) (running : Option SetSpeed) (s : Standing) (ahead : List ℕ) → length ahead ≤ k → EndsFew k running s ahead
+few_left k running s ahead le fs nil n enough =
+    let w = walk_shows running n s fs ahead in
     let fewer : length w.rest ≤ k = omega (arith, le, cut_rest w.shown ahead w.rest w.cut) in
-    record { walk = w; aimed = fewer; all_told = ap (λ l. drop w.told l) none ∙ drop-nil w.told }
+    record { walk = w; aimed = fewer; all_told = nil_after (flat_map findings_of w.shown) w.left (w.tells ∙ nil) }
 
 taken : (n : ℕ) (b : List ℕ) → length (take n b) ≤ n
 taken zero b = omega arith
@@ -110,18 +122,18 @@ inner s len kind body e =
     (typed_stays nine Interface tt) (typed_stays seven Endpoint tt) (typed_stays eight Association tt) in
     record { role = one.0; is = cond-false (is_set_type kind) None _ e ∙ one.1; stays = one.2 }
 
-left_behind : (role : Role) → Stays role → (running : Option SetSpeed) (d ahead : List ℕ) (s : Standing) (told : ℕ)
-    → (passed role d (with_told told (entered role running ahead s))).left ≡ s.left - length d
+left_behind : (role : Role) → Stays role → (running : Option SetSpeed) (d ahead : List ℕ) (s : Standing)
+    → (passed role d (entered role running ahead s)).left ≡ s.left - length d
 unfolding noted
-left_behind Device h running d ahead s told = absurd h
-left_behind Qualifier h running d ahead s told = absurd h
-left_behind roles.Configuration h running d ahead s told = absurd h
-left_behind Association h running d ahead s told = refl
-left_behind Interface h running d ahead s told = refl
-left_behind Endpoint h running d ahead s told = refl
-left_behind Raw h running d ahead s told = refl
-left_behind Languages h running d ahead s told = absurd h
-left_behind Text h running d ahead s told = absurd h
+left_behind Device h running d ahead s = absurd h
+left_behind Qualifier h running d ahead s = absurd h
+left_behind roles.Configuration h running d ahead s = absurd h
+left_behind Association h running d ahead s = refl
+left_behind Interface h running d ahead s = refl
+left_behind Endpoint h running d ahead s = refl
+left_behind Raw h running d ahead s = refl
+left_behind Languages h running d ahead s = absurd h
+left_behind Text h running d ahead s = absurd h
 
 no_other_fault : (a b c : Bool) (x y z : SetWhy) (rest : Option SetWhy)
     → (if a then Some x else if b then Some y else if c then Some z else rest) ≡ None → c ≡ false
@@ -135,28 +147,29 @@ not_nested room in_setting len kind body e =
     no_other_fault (nat_lt len 2) (nat_lt room len) (is_set_type kind) whys.ItemLength whys.Over whys.Nested _ e
 
 -- from each standing where so much of a set is left, no more bytes than so many are left of these
-abbrev pub GoesFew : ℕ → Subject → ℕ → List ℕ → Type 0
-GoesFew k subject room ahead = (s : Standing) → s.left ≡ room → Ends (few k) subject s ahead
+abbrev pub GoesFew : ℕ → Option SetSpeed → ℕ → List ℕ → Type 0
+GoesFew k running room ahead = (s : Standing) → s.left ≡ room → EndsFew k running s ahead
 
-item_goes : (k : ℕ) (subject : Subject) (room : ℕ) (in_setting : Bool) (item : Descriptor) (behind : List ℕ) → item_fault room in_setting (descriptor_bytes item) ≡ None
-    → GoesFew k subject (room - length (descriptor_bytes item)) behind → GoesFew k subject room (descriptor_bytes item ++ behind)
-item_goes k subject room in_setting item behind fine onward s left =
+item_goes : (k : ℕ) (running : Option SetSpeed) (room : ℕ) (in_setting : Bool) (item : Descriptor) (behind : List ℕ) → item_fault room in_setting (descriptor_bytes item) ≡ None
+    → GoesFew k running (room - length (descriptor_bytes item)) behind → GoesFew k running room (descriptor_bytes item ++ behind)
+item_goes k running room in_setting item behind fine onward s left fs nil =
     let d = descriptor_bytes item in
     let len = 2 + length item.body in
     let one = inner s len item.kind item.body (not_nested room in_setting len item.kind item.body fine) in
     let within : length d ≤ room = item_within room in_setting d fine (eq-eqb (length (item.kind ∷ item.body) + 1) len (omega arith)) in
-    goes_on (few k) subject s d behind one.role _ (length_is len item.kind item.body behind refl) (inner_at s d room left (omega arith) within ∙ one.is) refl
-    (onward (behind_one subject s one.role d behind)
-    (left_behind one.role one.stays subject.manner.speed d (d ++ behind) s _ ∙ ap (λ k. k - length d) left))
+    goes_on (few k) running s fs d behind one.role _ _ (length_is len item.kind item.body behind refl) (inner_at s d room left (omega arith) within ∙ one.is) refl refl
+    (onward (behind_one running s one.role d behind)
+    (left_behind one.role one.stays running d (d ++ behind) s ∙ ap (λ k. k - length d) left)
+    (left_one running s fs one.role d behind) (nil_behind running s fs one.role d behind nil))
 
-items_go : (k : ℕ) (subject : Subject) (room : ℕ) (in_setting : Bool) (items : List Descriptor) (behind : List ℕ) → AreItems room in_setting items
-    → ((s : Standing) → Ends (few k) subject s behind) → GoesFew k subject room (joined items ++ behind)
-items_go k subject room in_setting [] behind are onward s left = onward s
-items_go k subject room in_setting (item ∷ items) behind are onward s left =
+items_go : (k : ℕ) (running : Option SetSpeed) (room : ℕ) (in_setting : Bool) (items : List Descriptor) (behind : List ℕ) → AreItems room in_setting items
+    → ((s : Standing) → EndsFew k running s behind) → GoesFew k running room (joined items ++ behind)
+items_go k running room in_setting [] behind are onward s left = onward s
+items_go k running room in_setting (item ∷ items) behind are onward s left =
     let d = descriptor_bytes item in
-    subst (λ l. Ends (few k) subject s l) (sym (append_assoc d (joined items) behind))
-    (item_goes k subject room in_setting item (joined items ++ behind) are.0
-    (items_go k subject (room - length d) (in_setting || is_interface item) items behind are.1 onward) s left)
+    subst (λ l. EndsFew k running s l) (sym (append_assoc d (joined items) behind))
+    (item_goes k running room in_setting item (joined items ++ behind) are.0
+    (items_go k running (room - length d) (in_setting || is_interface item) items behind are.1 onward) s left)
 
 -- ---- the first descriptor of a set
 
@@ -210,47 +223,48 @@ total_before len kind [] behind least = absurd (omega arith)
 total_before len kind (low ∷ []) behind least = absurd (omega arith)
 total_before len kind (low ∷ high ∷ body) behind least = refl
 
-begun_goes : (k : ℕ) (subject : Subject) (kind : SetKind) (body behind : List ℕ) (s : Standing) → s.left ≡ 0
+begun_goes : (k : ℕ) (running : Option SetSpeed) (kind : SetKind) (body behind : List ℕ) (s : Standing) → s.left ≡ 0
     → (let d : List ℕ = (2 + length body) ∷ type_number kind ∷ body in
-    9 ≤ length d → length d ≤ total_of d → GoesFew k subject (total_of d - length d) behind → Ends (few k) subject s (d ++ behind))
-begun_goes k subject kind body behind s outside least most onward =
+    9 ≤ length d → length d ≤ total_of d → GoesFew k running (total_of d - length d) behind → EndsFew k running s (d ++ behind))
+begun_goes k running kind body behind s outside least most onward fs nil =
     let len = 2 + length body in
     let d : List ℕ = len ∷ type_number kind ∷ body in
-    goes_on (few k) subject s d behind roles.Configuration _ (length_is len (type_number kind) body behind refl)
-    (outer_at s d outside ∙ set_role s kind len body least most) refl
-    (onward (behind_one subject s roles.Configuration d behind)
-    (ap (λ (v : Seen). v.left) (set_after kind subject.manner.speed len body behind s _) ∙ ap (λ n. n - length d) (total_before len (type_number kind) body behind least)))
+    goes_on (few k) running s fs d behind roles.Configuration _ _ (length_is len (type_number kind) body behind refl)
+    (outer_at s d outside ∙ set_role s kind len body least most) refl refl
+    (onward (behind_one running s roles.Configuration d behind)
+    (ap (λ (v : Seen). v.left) (set_after kind running len body behind s) ∙ ap (λ n. n - length d) (total_before len (type_number kind) body behind least))
+    (left_one running s fs roles.Configuration d behind) (nil_behind running s fs roles.Configuration d behind nil))
 
-header_goes : (k : ℕ) (subject : Subject) (header behind : List ℕ) (s : Standing) → s.left ≡ 0 → IsHeader header
-    → GoesFew k subject (total_of header - length header) behind → Ends (few k) subject s (header ++ behind)
-header_goes k subject header behind s outside is onward =
+header_goes : (k : ℕ) (running : Option SetSpeed) (header behind : List ℕ) (s : Standing) → s.left ≡ 0 → IsHeader header
+    → GoesFew k running (total_of header - length header) behind → EndsFew k running s (header ++ behind)
+header_goes k running header behind s outside is onward =
     let h = header_parts header is in
-    subst (λ l. Ends (few k) subject s (l ++ behind)) (sym h.is)
-    (begun_goes k subject h.kind h.body behind s outside (subst (λ l. 9 ≤ length l) h.is h.least) (subst (λ l. length l ≤ total_of l) h.is h.most)
-    (subst (λ l. GoesFew k subject (total_of l - length l) behind) h.is onward))
+    subst (λ l. EndsFew k running s (l ++ behind)) (sym h.is)
+    (begun_goes k running h.kind h.body behind s outside (subst (λ l. 9 ≤ length l) h.is h.least) (subst (λ l. length l ≤ total_of l) h.is h.most)
+    (subst (λ l. GoesFew k running (total_of l - length l) behind) h.is onward))
 
 -- ---- sets
 
 -- so it is from each standing outside of sets
-abbrev pub OutFew : ℕ → Subject → List ℕ → Type 0
-OutFew k subject ahead = GoesFew k subject 0 ahead
+abbrev pub OutFew : ℕ → Option SetSpeed → List ℕ → Type 0
+OutFew k running ahead = GoesFew k running 0 ahead
 
-pub reached : (k : ℕ) (subject : Subject) (b header : List ℕ) (items : List Descriptor) (place : ℕ) (rest cur : List ℕ) → TellsNothing subject
-    → Reaches b header items place rest → length cur ≤ k → OutFew k subject (header ++ joined items ++ cur)
-reached k subject b header items place rest cur none r lt s outside =
-    subst (λ l. Ends (few k) subject s l) (sym (append_assoc header (joined items) cur))
-    (header_goes k subject header (joined items ++ cur) s outside r.is_header
-    (items_go k subject (total_of header - length header) false items cur r.are_items (λ t. few_left k subject t cur none lt)))
+pub reached : (k : ℕ) (running : Option SetSpeed) (b header : List ℕ) (items : List Descriptor) (place : ℕ) (rest cur : List ℕ)
+    → Reaches b header items place rest → length cur ≤ k → OutFew k running (header ++ joined items ++ cur)
+reached k running b header items place rest cur r lt s outside =
+    subst (λ l. EndsFew k running s l) (sym (append_assoc header (joined items) cur))
+    (header_goes k running header (joined items ++ cur) s outside r.is_header
+    (items_go k running (total_of header - length header) false items cur r.are_items (λ t. few_left k running t cur lt)))
 
 -- up to the place of the rest
-pub reached_place : (k : ℕ) (subject : Subject) (b header : List ℕ) (items : List Descriptor) (place : ℕ) (rest : List ℕ) → TellsNothing subject
-    → Reaches b header items place rest → OutFew k subject (take place b)
-reached_place k subject b header items place rest none r s outside =
+pub reached_place : (k : ℕ) (running : Option SetSpeed) (b header : List ℕ) (items : List Descriptor) (place : ℕ) (rest : List ℕ)
+    → Reaches b header items place rest → OutFew k running (take place b)
+reached_place k running b header items place rest r s outside =
     let front = header ++ joined items in
     let ends : length front ≡ place = length-append header (joined items) ∙ sym r.ends in
     let is : take place b ≡ front ++ [] =
     ap (λ l. take place l) r.parts ∙ ap (λ k. take k (front ++ rest)) (sym ends) ∙ take-append_seam front rest ∙ sym (append-nil front) in
-    subst (λ l. Ends (few k) subject s l) (sym is) (reached k subject b header items place rest [] none r (omega arith) s outside)
+    subst (λ l. EndsFew k running s l) (sym is) (reached k running b header items place rest [] r (omega arith) s outside)
 
 -- a fault of the first descriptor is no further on than bytes may be left before it
 abbrev IsNear : Option Fault → Type 0
@@ -270,22 +284,22 @@ header_near (len ∷ kind ∷ []) = first_near (nat_lt len 9) (is_set_type kind)
 header_near (len ∷ kind ∷ low ∷ []) = first_near (nat_lt len 9) (is_set_type kind) false
 header_near (len ∷ kind ∷ low ∷ high ∷ b) = first_near (nat_lt len 9) (is_set_type kind) (nat_lt (low + 256 * high) len)
 
-pub faulty_few : (subject : Subject) (b : List ℕ) (place : ℕ) (why : SetWhy) → TellsNothing subject → Faulty b place why → OutFew (uncovered_in_set why) subject (take place b)
-faulty_few subject b place why none (inl e) s outside =
-    few_left (uncovered_in_set why) subject s (take place b) none (few_taken (uncovered_in_set why) place b (subst (λ o. IsNear o) e (header_near b)))
-faulty_few subject b place why none (inr h) s outside = reached_place (uncovered_in_set why) subject b h.header h.items place h.rest none h.reaches s outside
+pub faulty_few : (running : Option SetSpeed) (b : List ℕ) (place : ℕ) (why : SetWhy) → Faulty b place why → OutFew (uncovered_in_set why) running (take place b)
+faulty_few running b place why (inl e) s outside =
+    few_left (uncovered_in_set why) running s (take place b) (few_taken (uncovered_in_set why) place b (subst (λ o. IsNear o) e (header_near b)))
+faulty_few running b place why (inr h) s outside = reached_place (uncovered_in_set why) running b h.header h.items place h.rest h.reaches s outside
 
 -- bytes that are open end in a descriptor
-open_by : (subject : Subject) (b : List ℕ) (r : Reading) → TellsNothing subject → AreBytes b → IsOpen b → Sound b r → OutFew 254 subject b
-open_by subject b (first cur) none h waits is s outside =
-    few_left 254 subject s b none (below_length b h (subst (λ l. length l < first_byte l) (sym is.same) is.short))
-open_by subject b (later c total place cur) none h waits is s outside =
+open_by : (running : Option SetSpeed) (b : List ℕ) (r : Reading) → AreBytes b → IsOpen b → Sound b r → OutFew 254 running b
+open_by running b (first cur) h waits is s outside =
+    few_left 254 running s b (below_length b h (subst (λ l. length l < first_byte l) (sym is.same) is.short))
+open_by running b (later c total place cur) h waits is s outside =
     let front = is.header ++ joined is.items in
     let behind = bytes_behind front cur (subst AreBytes is.reaches.parts h) in
-    subst (λ l. Ends (few 254) subject s l) (sym is.reaches.parts)
-    (reached 254 subject b is.header is.items place cur cur none is.reaches (below_length cur behind is.short) s outside)
-open_by subject b (whole c place) none h waits is s outside = absurd (waits.no_layout c place is)
-open_by subject b (faulty place why) none h waits is s outside = absurd (waits.no_fault place why is)
+    subst (λ l. EndsFew 254 running s l) (sym is.reaches.parts)
+    (reached 254 running b is.header is.items place cur cur is.reaches (below_length cur behind is.short) s outside)
+open_by running b (whole c place) h waits is s outside = absurd (waits.no_layout c place is)
+open_by running b (faulty place why) h waits is s outside = absurd (waits.no_fault place why is)
 
-pub open_few : (subject : Subject) (b : List ℕ) → TellsNothing subject → AreBytes b → IsOpen b → OutFew 254 subject b
-open_few subject b none h waits = open_by subject b (reading_of b) none h waits (sound b h)
+pub open_few : (running : Option SetSpeed) (b : List ℕ) → AreBytes b → IsOpen b → OutFew 254 running b
+open_few running b h waits = open_by running b (reading_of b) h waits (sound b h)

@@ -7,26 +7,30 @@ use Rattle.std.proofs.lemmas.List.Sums.{take_while-cons}
 use Rattle.usb_file_data.specs.declared.cause.Found.{Found}
 use Rattle.usb_file_data.specs.declared.finding.Part.{Part}
 use Rattle.usb_file_data.specs.Places.{when}
-use Rattle.usb_explain.specs.Trees.{descriptor_length, OutlineEntry, entry}
+use Rattle.usb_explain.specs.Trees.{descriptor_length, TreeDescriptor, tree_descriptor}
 use Rattle.usb_explain.specs.declared.role.Role.{Role}
-use Rattle.usb_explain.specs.declared.position.Owner.{Owner}
+use Rattle.usb_explain.specs.declared.position.OwnerKind.{OwnerKind}
+use Rattle.usb_explain.specs.declared.position.SetStanding.{SetStanding}
 use Rattle.usb_explain.specs.declared.position.SettingStanding.{SettingStanding}
 use Rattle.usb_explain.specs.declared.position.Standing.{Standing}
 use Rattle.usb_explain.specs.Findings.{found_at, is_here}
 use Rattle.usb_explain.specs.Contexts.{depth_of}
-use Rattle.usb_explain.specs.Laws.{entry_of}
+use Rattle.usb_explain.proofs.Outlines.{entry_in_tree}
+use Rattle.usb_explain.specs.Owners.{address_of, interface_of, last_owner, owner_of}
+use Rattle.usb_explain.specs.declared.owner.InterfaceSetting.{InterfaceSetting}
+use Rattle.usb_explain.specs.declared.owner.DescriptorOwner.{DescriptorOwner}
+use Rattle.usb_explain.specs.declared.position.OwnerKind.TheVariants as owners
 use Rattle.usb_explain.specs.SetStart.{entered}
-use Rattle.usb_explain.specs.Standings.{passed, with_told}
+use Rattle.usb_explain.specs.Standings.{passed}
 use Rattle.usb_explain.specs.Roles.{role_of}
-use Rattle.usb_explain.specs.Subjects.{Subject}
+use Rattle.usb_explain.specs.declared.speed.SetSpeed.{SetSpeed}
 use Rattle.usb_explain.proofs.Spans.{Aim, adding}
-use Rattle.usb_explain.proofs.Standings.{told_entered, told_noted}
 use Rattle.usb_explain.proofs.rest.Walks.{Ends}
-use Rattle.usb_explain.proofs.rest.Steps.{behind_one, goes_on}
+use Rattle.usb_explain.proofs.rest.Steps.{behind_one, goes_on, left_one}
 
 -- how much of a set is left, whether the device and the language list came, how many sets of each part, which set it is, how
--- many associations and settings of it came, of the last setting its number and how many endpoints, and what came last of
--- what owns other descriptors
+-- many associations and settings of it came, of the last setting its number, how many endpoints, its interface and the address
+-- of its last endpoint, and what came last of what owns other descriptors
 pub record Seen : Type 0 where
   pub left : ℕ
   pub known : Bool
@@ -38,7 +42,9 @@ pub record Seen : Type 0 where
   pub associations : ℕ
   pub settings : ℕ
   pub setting : Option (ℕ × ℕ)
-  pub owner : Owner
+  pub interface : Option InterfaceSetting
+  pub address : Option ℕ
+  pub owner : OwnerKind
 
 abbrev pub numbers_of : Option SettingStanding → Option (ℕ × ℕ)
 numbers_of None = None
@@ -56,16 +62,46 @@ seen s = record {
   associations = s.set.associations;
   settings = s.set.settings;
   setting = numbers_of s.set.setting;
+  interface = interface_of s.set.setting;
+  address = address_of s.set.setting;
   owner = s.set.owner;
 }
 
--- what is left to be told is a rear of these findings
-abbrev pub Rear : Subject → Standing → List Found → Type 0
-Rear subject s later = (k : ℕ) × (drop s.told subject.found ≡ drop k later)
+-- an interface of what owns others last, and an endpoint
+abbrev pub setting_when : OwnerKind → Option InterfaceSetting → Option InterfaceSetting
+setting_when owners.Configuration interface = None
+setting_when owners.Interface interface = interface
+setting_when owners.Endpoint interface = interface
+
+abbrev pub endpoint_when : OwnerKind → Option ℕ → Option ℕ
+endpoint_when owners.Configuration address = None
+endpoint_when owners.Interface address = None
+endpoint_when owners.Endpoint address = address
+
+-- the last of what owns others, and the last interface
+abbrev pub whose : Seen → DescriptorOwner
+whose v = record { part = v.part; set = v.number; setting = setting_when v.owner v.interface; endpoint = endpoint_when v.owner v.address }
+
+abbrev pub whose_interface : Seen → DescriptorOwner
+whose_interface v = record { part = v.part; set = v.number; setting = v.interface; endpoint = None }
+
+by_kind : (kind : OwnerKind) (set : SetStanding)
+    → last_owner kind set
+    ≡ record { part = set.part; set = set.number; setting = setting_when kind (interface_of set.setting); endpoint = endpoint_when kind (address_of set.setting) }
+by_kind owners.Configuration set = refl
+by_kind owners.Interface set = refl
+by_kind owners.Endpoint set = refl
+
+pub whose_is : (s : Standing) → last_owner s.set.owner s.set ≡ whose (seen s)
+whose_is s = by_kind s.set.owner s.set
+
+-- what is left is a rear of these findings
+abbrev pub Rear : List Found → List Found → Type 0
+Rear fs later = (k : ℕ) × (fs ≡ drop k later)
 
 -- from each such standing, where no findings but these are left, a walk over these bytes ends so
-abbrev pub Goes : Aim → Subject → Seen → List Found → List ℕ → Type 0
-Goes E subject v later ahead = (s : Standing) → seen s ≡ v → Rear subject s later → Ends E subject s ahead
+abbrev pub Goes : Aim → Option SetSpeed → Seen → List Found → List ℕ → Type 0
+Goes E running v later ahead = (s : Standing) (fs : List Found) → seen s ≡ v → Rear fs later → Ends E running s fs ahead
 
 -- each of these findings is one of the descriptor
 abbrev pub AllHere : (Found → Bool) → List Found → Type 0
@@ -91,58 +127,50 @@ rear_taken here (f ∷ mine) later zero h =
     (rest.0, ap (λ (l : List Found). drop (length l) (f ∷ (mine ++ later))) one ∙ rest.1)
 rear_taken here (f ∷ mine) later (suc k) h = rear_taken here mine later k h.1
 
-pub rear_behind : (subject : Subject) (s : Standing) (role : Role) (d behind : List ℕ) (mine later : List Found)
-    → AllHere (is_here (entered role subject.manner.speed (d ++ behind) s) role) mine
-    → Rear subject s (mine ++ later) → Rear subject (behind_one subject s role d behind) later
+pub rear_behind : (running : Option SetSpeed) (s : Standing) (fs : List Found) (role : Role) (d behind : List ℕ) (mine later : List Found)
+    → AllHere (is_here (entered role running (d ++ behind) s) role) mine → Rear fs (mine ++ later) → Rear (left_one running s fs role d behind) later
 unfolding found_at
-rear_behind subject s role d behind mine later all rear =
-    let begun = entered role subject.manner.speed (d ++ behind) s in
-    let here = is_here begun role in
-    let left = drop begun.told subject.found in
-    let is : left ≡ drop rear.0 (mine ++ later) = ap (λ k. drop k subject.found) (told_entered role subject.manner.speed (d ++ behind) s) ∙ rear.1 in
-    let taken = rear_taken here mine later rear.0 all in (
-      taken.0,
-      ap (λ k. drop k subject.found) (told_noted role d (with_told (begun.told + length (take_while here left)) begun))
-          ∙ sym (drop-drop (length (take_while here left)) begun.told subject.found)
-          ∙ ap (λ (l : List Found). drop (length (take_while here l)) l) is
-          ∙ taken.1,
-    )
+rear_behind running s fs role d behind mine later all rear =
+    let here = is_here (entered role running (d ++ behind) s) role in
+    let taken = rear_taken here mine later rear.0 all in
+    (taken.0, ap (λ (l : List Found). drop (length (take_while here l)) l) rear.1 ∙ taken.1)
 
--- a descriptor of this role: it is one, of this depth, each of these findings is its own, and so it stands behind it
-pub record Step (subject : Subject) (s : Standing) (role : Role) (d behind : List ℕ) (mine : List Found) (w : Seen) (depth : ℕ) : Type 0 where
+-- a descriptor of this role: it is one, of this depth and this owner, each of these findings is its own, and so it stands behind it
+pub record Step (running : Option SetSpeed) (s : Standing) (role : Role) (d behind : List ℕ) (mine : List Found) (w : Seen) (depth : ℕ) (owner : Option DescriptorOwner) : Type 0 where
   pub is : role_of s d ≡ Some role
-  pub own : AllHere (is_here (entered role subject.manner.speed (d ++ behind) s) role) mine
-  pub after : (told : ℕ) → seen (passed role d (with_told told (entered role subject.manner.speed (d ++ behind) s))) ≡ w
-  pub deep : depth_of (entered role subject.manner.speed (d ++ behind) s) role ≡ depth
+  pub own : AllHere (is_here (entered role running (d ++ behind) s) role) mine
+  pub after : seen (passed role d (entered role running (d ++ behind) s)) ≡ w
+  pub deep : depth_of (entered role running (d ++ behind) s) role ≡ depth
+  pub belongs : owner_of (entered role running (d ++ behind) s) role d ≡ owner
 
-pub one_goes : (E : Aim) (subject : Subject) (v w : Seen) (role : Role) (d behind : List ℕ) (mine later : List Found) (depth : ℕ)
-    → descriptor_length (d ++ behind) ≡ Some (length d) → ((s : Standing) → seen s ≡ v → Step subject s role d behind mine w depth)
-    → Goes (adding E (entry role depth d ∷ [])) subject w later behind → Goes E subject v (mine ++ later) (d ++ behind)
-one_goes E subject v w role d behind mine later depth e step onward s at rear =
+pub one_goes : (E : Aim) (running : Option SetSpeed) (v w : Seen) (role : Role) (d behind : List ℕ) (mine later : List Found) (depth : ℕ) (owner : Option DescriptorOwner)
+    → descriptor_length (d ++ behind) ≡ Some (length d) → ((s : Standing) → seen s ≡ v → Step running s role d behind mine w depth owner)
+    → Goes (adding E (tree_descriptor role depth owner d ∷ [])) running w later behind → Goes E running v (mine ++ later) (d ++ behind)
+one_goes E running v w role d behind mine later depth owner e step onward s fs at rear =
     let one = step s at in
-    goes_on E subject s d behind role depth e one.is one.deep
-    (onward (behind_one subject s role d behind) (one.after _) (rear_behind subject s role d behind mine later one.own rear))
+    goes_on E running s fs d behind role depth owner e one.is one.deep one.belongs
+    (onward (behind_one running s role d behind) (left_one running s fs role d behind) one.after (rear_behind running s fs role d behind mine later one.own rear))
 
 -- the same findings and the same bytes
-pub goes_as : (E : Aim) (subject : Subject) (v : Seen) (later later_as : List Found) (ahead ahead_as : List ℕ) → later ≡ later_as → ahead ≡ ahead_as
-    → Goes E subject v later_as ahead_as → Goes E subject v later ahead
-goes_as E subject v later later_as ahead ahead_as e f goes =
-    subst (λ l. Goes E subject v l ahead) (sym e) (subst (λ l. Goes E subject v later_as l) (sym f) goes)
+pub goes_as : (E : Aim) (running : Option SetSpeed) (v : Seen) (later later_as : List Found) (ahead ahead_as : List ℕ) → later ≡ later_as → ahead ≡ ahead_as
+    → Goes E running v later_as ahead_as → Goes E running v later ahead
+goes_as E running v later later_as ahead ahead_as e f goes =
+    subst (λ l. Goes E running v l ahead) (sym e) (subst (λ l. Goes E running v later_as l) (sym f) goes)
 
 -- a walk that ends so ends as follows from it
-pub goes_for : (E F : Aim) (subject : Subject) (v : Seen) (later : List Found) (ahead : List ℕ)
-    → ((rest : List ℕ) (c : List OutlineEntry) → E rest c → F rest c) → Goes E subject v later ahead → Goes F subject v later ahead
-goes_for E F subject v later ahead follows goes s at rear n enough =
-    let ended = goes s at rear n enough in
+pub goes_for : (E F : Aim) (running : Option SetSpeed) (v : Seen) (later : List Found) (ahead : List ℕ)
+    → ((rest : List ℕ) (c : List TreeDescriptor) → E rest c → F rest c) → Goes E running v later ahead → Goes F running v later ahead
+goes_for E F running v later ahead follows goes s fs at rear n enough =
+    let ended = goes s fs at rear n enough in
     record {
       walk = ended.walk;
-      aimed = follows ended.walk.rest (map entry_of ended.walk.shown) ended.aimed;
+      aimed = follows ended.walk.rest (map entry_in_tree ended.walk.shown) ended.aimed;
       all_told = ended.all_told;
     }
 
 -- behind two runs of descriptors, one after the other
-pub goes_twice : (E : Aim) (subject : Subject) (v : Seen) (later : List Found) (ahead : List ℕ) (xs ys : List OutlineEntry)
-    → Goes (adding E (xs ++ ys)) subject v later ahead → Goes (adding (adding E xs) ys) subject v later ahead
-goes_twice E subject v later ahead xs ys goes =
-    goes_for (adding E (xs ++ ys)) (adding (adding E xs) ys) subject v later ahead
+pub goes_twice : (E : Aim) (running : Option SetSpeed) (v : Seen) (later : List Found) (ahead : List ℕ) (xs ys : List TreeDescriptor)
+    → Goes (adding E (xs ++ ys)) running v later ahead → Goes (adding (adding E xs) ys) running v later ahead
+goes_twice E running v later ahead xs ys goes =
+    goes_for (adding E (xs ++ ys)) (adding (adding E xs) ys) running v later ahead
     (λ rest c h. subst (λ l. E rest l) (append_assoc xs ys c) h) goes

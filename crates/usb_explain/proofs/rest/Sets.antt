@@ -26,15 +26,15 @@ use Rattle.usb_file_data.proofs.WholeSets.{no_some}
 use Rattle.usb_explain.specs.declared.speed.SetSpeed.{SetSpeed}
 use Rattle.usb_explain.specs.declared.role.Role.{Role}
 use Rattle.usb_explain.specs.declared.role.Role.TheVariants as roles
-use Rattle.usb_explain.specs.declared.position.Owner.TheVariants as owners
+use Rattle.usb_explain.specs.declared.position.OwnerKind.TheVariants as owners
 use Rattle.usb_explain.specs.declared.position.Standing.{Standing}
 use Rattle.usb_explain.specs.Findings.{can_break, finding_at, is_here, set_can}
 use Rattle.usb_explain.specs.Contexts.{depth_of}
+use Rattle.usb_explain.specs.Owners.{of_set, owner_of}
 use Rattle.usb_explain.specs.SetStart.{entered, opened}
-use Rattle.usb_explain.specs.Standings.{noted, passed, with_told}
+use Rattle.usb_explain.specs.Standings.{noted, passed}
 use Rattle.usb_explain.specs.Roles.{outer_role, role_if, role_of}
-use Rattle.usb_explain.specs.Subjects.{Subject}
-use Rattle.usb_explain.specs.Trees.{entry, extra_entries, set_entries, set_entries_by, setting_entries}
+use Rattle.usb_explain.specs.Trees.{extra_descriptors, set_descriptors, set_descriptors_by, setting_descriptors, tree_descriptor}
 use Rattle.usb_explain.proofs.Spans.{Aim, adding}
 use Rattle.usb_explain.proofs.rest.Steps.{four_parts, length_is}
 use Rattle.usb_explain.proofs.rest.Seen.{Goes, Seen, Step, goes_as, goes_for, goes_twice, seen}
@@ -75,6 +75,8 @@ begun kind n v = record {
   associations = 0;
   settings = 0;
   setting = None;
+  interface = None;
+  address = None;
   owner = owners.Configuration;
 }
 
@@ -82,12 +84,12 @@ begun_out : (kind : SetKind) (k n : ℕ) (v : Seen) → out_at k (begun kind n v
 begun_out kinds.Configuration k n v = refl
 begun_out kinds.OtherSpeed k n v = refl
 
-pub set_after : (kind : SetKind) (running : Option SetSpeed) (len : ℕ) (body behind : List ℕ) (s : Standing) (told : ℕ)
+pub set_after : (kind : SetKind) (running : Option SetSpeed) (len : ℕ) (body behind : List ℕ) (s : Standing)
     → (let d : List ℕ = len ∷ type_number kind ∷ body in
-    seen (passed roles.Configuration d (with_told told (entered roles.Configuration running (d ++ behind) s))) ≡ begun kind (little_endian_at (d ++ behind) 2 - length d) (seen s))
+    seen (passed roles.Configuration d (entered roles.Configuration running (d ++ behind) s)) ≡ begun kind (little_endian_at (d ++ behind) 2 - length d) (seen s))
 unfolding noted opened
-set_after kinds.Configuration running len body behind s told = refl
-set_after kinds.OtherSpeed running len body behind s told = refl
+set_after kinds.Configuration running len body behind s = refl
+set_after kinds.OtherSpeed running len body behind s = refl
 
 here_set : (kind : SetKind) (running : Option SetSpeed) (s : Standing) (len : ℕ) (body behind : List ℕ) (cause : Cause) → set_can cause ≡ true
     → (let d : List ℕ = len ∷ type_number kind ∷ body in
@@ -97,6 +99,14 @@ here_set kinds.Configuration running s len body behind cause h =
     here_is (opened running (len ∷ 2 ∷ body ++ behind) s) roles.Configuration cause parts.Main s.main_sets 0 0 (same_place (rule_of cause) parts.Main s.main_sets 0 0) h
 here_set kinds.OtherSpeed running s len body behind cause h =
     here_is (opened running (len ∷ 7 ∷ body ++ behind) s) roles.Configuration cause parts.Other s.other_sets 0 0 (same_place (rule_of cause) parts.Other s.other_sets 0 0) h
+
+-- it belongs to its set
+owner_set : (kind : SetKind) (running : Option SetSpeed) (s : Standing) (len : ℕ) (body behind : List ℕ)
+    → (let d : List ℕ = len ∷ type_number kind ∷ body in
+    owner_of (entered roles.Configuration running (d ++ behind) s) roles.Configuration d ≡ Some (of_set (part_of_kind kind) (count_in kind (out (seen s)))))
+unfolding opened owner_of
+owner_set kinds.Configuration running s len body behind = refl
+owner_set kinds.OtherSpeed running s len body behind = refl
 
 value_breaks : (is_zero : Bool) → set_can (if is_zero then causes.ZeroValue else causes.RepeatedValue) ≡ true
 value_breaks true = refl
@@ -127,50 +137,51 @@ whole_sum c total whole =
     let y = flat_map setting_bytes c.settings in
     sym (length-append (d ++ x) y ∙ ap (λ n. n + length y) (length-append d x)) ∙ whole.length_is
 
-configuration_step : (subject : Subject) (before : List Configuration) (c : Configuration) (total : ℕ) (behind : List ℕ) (s : Standing) → IsWhole c total → s.left ≡ 0
-    → Step subject s roles.Configuration (descriptor_bytes (configuration_descriptor c total)) (behind_first c behind) (at_configuration (part_of_kind c.kind) before (count_in c.kind (out (seen s))) c)
+configuration_step : (running : Option SetSpeed) (before : List Configuration) (c : Configuration) (total : ℕ) (behind : List ℕ) (s : Standing) → IsWhole c total → s.left ≡ 0
+    → Step running s roles.Configuration (descriptor_bytes (configuration_descriptor c total)) (behind_first c behind) (at_configuration (part_of_kind c.kind) before (count_in c.kind (out (seen s))) c)
     (begun c.kind (total - length (descriptor_bytes (configuration_descriptor c total))) (seen s))
-    1
+    1 (Some (of_set (part_of_kind c.kind) (count_in c.kind (out (seen s)))))
 unfolding depth_of
-configuration_step subject before c total behind s whole outside =
+configuration_step running before c total behind s whole outside =
     let body : List ℕ = (configuration_descriptor c total).body in
     let d : List ℕ = descriptor_bytes (configuration_descriptor c total) in
     let after_it = behind_first c behind in
     let f = λ (cause : Cause). found cause (part_of_kind c.kind) (count_in c.kind (out (seen s))) 0 0 in
-    let here = here_set c.kind subject.manner.speed s (2 + length body) body after_it in
+    let here = here_set c.kind running s (2 + length body) body after_it in
     let count = causes.InterfaceCount c.declared_interfaces (length (interface_numbers c.settings)) in
     let sum = whole_sum c total whole in
     let room : length d ≤ total = omega (arith, sum) in
     record {
       is = outer_at s d outside ∙ set_role s c.kind (2 + length body) body (omega arith) (omega (arith, two_bytes total, room));
-      own = here_four (is_here (entered roles.Configuration subject.manner.speed (d ++ after_it) s) roles.Configuration)
+      own = here_four (is_here (entered roles.Configuration running (d ++ after_it) s) roles.Configuration)
           (wrong_interface_count c) (has_number_gap c) (wrong_attributes c) (wrong_value before c)
           (f count) (f causes.NumberGap) (f (attributes_cause c.attributes)) (f (value_cause c.value)) (here count refl) (here causes.NumberGap refl) (here (attributes_cause c.attributes) refl) (here (value_cause c.value) (value_breaks (c.value == 0)));
-      after = λ n. set_after c.kind subject.manner.speed (2 + length body) body after_it s n ∙ ap (λ n. begun c.kind (n - length d) (seen s)) (two_bytes total);
+      after = set_after c.kind running (2 + length body) body after_it s ∙ ap (λ n. begun c.kind (n - length d) (seen s)) (two_bytes total);
       deep = refl;
+      belongs = owner_set c.kind running s (2 + length body) body after_it;
     }
 
-configuration_goes : (E : Aim) (subject : Subject) (before : List Configuration) (c : Configuration) (total : ℕ) (v : Seen) (behind : List ℕ) (later : List Found)
+configuration_goes : (E : Aim) (running : Option SetSpeed) (before : List Configuration) (c : Configuration) (total : ℕ) (v : Seen) (behind : List ℕ) (later : List Found)
     → IsWhole c total → v.left ≡ 0
-    → Goes (adding E (entry roles.Configuration 1 (descriptor_bytes (configuration_descriptor c total)) ∷ [])) subject
+    → Goes (adding E (tree_descriptor roles.Configuration 1 (Some (of_set (part_of_kind c.kind) (count_in c.kind (out v)))) (descriptor_bytes (configuration_descriptor c total)) ∷ [])) running
     (begun c.kind (total - length (descriptor_bytes (configuration_descriptor c total))) v) later (behind_first c behind)
-    → Goes E subject v (at_configuration (part_of_kind c.kind) before (count_in c.kind (out v)) c ++ later) (descriptor_bytes (configuration_descriptor c total) ++ behind_first c behind)
-configuration_goes E subject before c total v behind later whole outside onward =
+    → Goes E running v (at_configuration (part_of_kind c.kind) before (count_in c.kind (out v)) c ++ later) (descriptor_bytes (configuration_descriptor c total) ++ behind_first c behind)
+configuration_goes E running before c total v behind later whole outside onward =
     let item = configuration_descriptor c total in
     let d = descriptor_bytes item in
-    seen_goes E subject v (λ v. v.left ≡ 0) roles.Configuration d (behind_first c behind) (λ v. at_configuration (part_of_kind c.kind) before (count_in c.kind (out v)) c)
-    (begun c.kind (total - length d)) later (λ v. 1)
+    seen_goes E running v (λ v. v.left ≡ 0) roles.Configuration d (behind_first c behind) (λ v. at_configuration (part_of_kind c.kind) before (count_in c.kind (out v)) c)
+    (begun c.kind (total - length d)) later (λ v. 1) (λ v. Some (of_set (part_of_kind c.kind) (count_in c.kind (out v))))
     (length_is (2 + length item.body) item.kind item.body (behind_first c behind) refl)
-    (λ s p. configuration_step subject before c total behind s whole p) outside onward
+    (λ s p. configuration_step running before c total behind s whole p) outside onward
 
 -- ---- sets
 
 -- A set whose wTotalLength is the count of its bytes. Behind its first descriptor so many bytes are left as the others have.
-pub set_goes : (E : Aim) (subject : Subject) (c : Configuration) (before : List Configuration) (total : ℕ) (v : Seen) (behind : List ℕ) (later : List Found)
+pub set_goes : (E : Aim) (running : Option SetSpeed) (c : Configuration) (before : List Configuration) (total : ℕ) (v : Seen) (behind : List ℕ) (later : List Found)
     → has_typed_raw c ≡ false → length (set_bytes c total) ≡ total → v.left ≡ 0
-    → ((w : Seen) → out w ≡ with_count c.kind (count_in c.kind (out v) + 1) (out v) → Goes (adding E (set_entries_by c total)) subject w later behind)
-    → Goes E subject v (set_in_order (part_of_kind c.kind) before (count_in c.kind (out v)) c ++ later) (set_bytes c total ++ behind)
-set_goes E subject c before total v behind later raws all_bytes outside onward =
+    → ((w : Seen) → out w ≡ with_count c.kind (count_in c.kind (out v) + 1) (out v) → Goes (adding E (set_descriptors_by (of_set (part_of_kind c.kind) (count_in c.kind (out v))) c total)) running w later behind)
+    → Goes E running v (set_in_order (part_of_kind c.kind) before (count_in c.kind (out v)) c ++ later) (set_bytes c total ++ behind)
+set_goes E running c before total v behind later raws all_bytes outside onward =
     let d : List ℕ = descriptor_bytes (configuration_descriptor c total) in
     let x = flat_map extra_bytes c.extras in
     let y = flat_map setting_bytes c.settings in
@@ -187,20 +198,21 @@ set_goes E subject c before total v behind later raws all_bytes outside onward =
     let sum = whole_sum c total whole in
     let none : n ≡ 0 + n = omega arith in
     let left : (total - length d) - length x ≡ length y = omega (arith, sum) in
-    let said : Aim = adding E (entry roles.Configuration 1 d ∷ []) in
-    let with_extras : Aim = adding said (extra_entries 2 c.extras) in
-    goes_as E subject v (((one ++ two) ++ three n) ++ later) (one ++ (two ++ (three (0 + n) ++ later))) (set_bytes c total ++ behind) (d ++ (x ++ (y ++ behind)))
+    let owner = of_set part i in
+    let said : Aim = adding E (tree_descriptor roles.Configuration 1 (Some owner) d ∷ []) in
+    let with_extras : Aim = adding said (extra_descriptors 2 owner c.extras) in
+    goes_as E running v (((one ++ two) ++ three n) ++ later) (one ++ (two ++ (three (0 + n) ++ later))) (set_bytes c total ++ behind) (d ++ (x ++ (y ++ behind)))
     (four_parts one two (three n) later ∙ ap (λ k. one ++ (two ++ (three k ++ later))) none) (ap (λ l. l ++ behind) is ∙ four_parts d x y behind)
-    (configuration_goes E subject before c total v behind (two ++ (three (0 + n) ++ later)) whole outside
-    (extras_go said subject c.settings c.extras first (y ++ behind) (three (0 + n) ++ later) typed.0 (omega (arith, sum))
-    (λ q. settings_go with_extras subject c.settings c.settings (record (taken (length x) n first) { owner = q }) behind later typed.1 left
-    (λ w e. goes_for (adding E (set_entries_by c total)) (adding with_extras (flat_map setting_entries c.settings)) subject w later behind
-    (λ r l h. subst (λ k. E r (entry roles.Configuration 1 d ∷ k)) (append_assoc (extra_entries 2 c.extras) (flat_map setting_entries c.settings) l) h)
+    (configuration_goes E running before c total v behind (two ++ (three (0 + n) ++ later)) whole outside
+    (extras_go said running c.settings c.extras first (y ++ behind) (three (0 + n) ++ later) typed.0 (omega (arith, sum))
+    (λ q. settings_go with_extras running c.settings c.settings (record (taken (length x) n first) { owner = q }) behind later typed.1 left
+    (λ w e. goes_for (adding E (set_descriptors_by owner c total)) (adding with_extras (flat_map (setting_descriptors owner) c.settings)) running w later behind
+    (λ r l h. subst (λ k. E r (tree_descriptor roles.Configuration 1 (Some owner) d ∷ k)) (append_assoc (extra_descriptors 2 owner c.extras) (flat_map (setting_descriptors owner) c.settings) l) h)
     (onward w (e ∙ begun_out c.kind 0 (total - length d) v ∙ ap (λ k. with_count c.kind (i + 1) (out_at k v)) (sym outside)))))))
 
 -- from each standing of which this is seen
-abbrev pub GoesOut : Aim → Subject → Out → List Found → List ℕ → Type 0
-GoesOut E subject o later ahead = (v : Seen) → out v ≡ o → Goes E subject v later ahead
+abbrev pub GoesOut : Aim → Option SetSpeed → Out → List Found → List ℕ → Type 0
+GoesOut E running o later ahead = (v : Seen) → out v ≡ o → Goes E running v later ahead
 
 with_twice : (kind : SetKind) (m n : ℕ) (o : Out) → with_count kind m (with_count kind n o) ≡ with_count kind m o
 with_twice kinds.Configuration m n o = refl
@@ -221,35 +233,38 @@ same_kind kinds.OtherSpeed kinds.Configuration e = cc
 same_kind kinds.OtherSpeed kinds.OtherSpeed e = refl
 
 -- a set against which no reason stands has no raw descriptor of a type that a set reads
-whole_set_goes : (E : Aim) (subject : Subject) (kind : SetKind) (c : Configuration) (before : List Configuration) (i : ℕ) (o : Out) (v : Seen) (behind : List ℕ) (later : List Found)
+whole_set_goes : (E : Aim) (running : Option SetSpeed) (kind : SetKind) (c : Configuration) (before : List Configuration) (i : ℕ) (o : Out) (v : Seen) (behind : List ℕ) (later : List Found)
     → c.kind ≡ kind → o.left ≡ 0 → has_no_layout c ≡ false → out v ≡ with_count kind i o
-    → GoesOut (adding E (set_entries c)) subject (with_count kind (i + 1) o) later behind
-    → Goes E subject v (set_in_order (part_of_kind kind) before i c ++ later) (whole_set c ++ behind)
+    → GoesOut (adding E (set_descriptors (part_of_kind kind) i c)) running (with_count kind (i + 1) o) later behind
+    → Goes E running v (set_in_order (part_of_kind kind) before i c ++ later) (whole_set c ++ behind)
 unfolding whole_set
-whole_set_goes E subject kind c before i o v behind later same outside allowed is onward =
+whole_set_goes E running kind c before i o v behind later same outside allowed is onward =
     let long = no_some (has_long_descriptor c) encoding.Tail _ allowed in
     let typed = no_some (has_typed_raw c) encoding.RawKind _ long.1 in
     let count : count_in c.kind (out v) ≡ i = ap (λ k. count_in k (out v)) same ∙ ap (λ o. count_in kind o) is ∙ count_of kind i o in
     let left : v.left ≡ 0 = ap (λ (o : Out). o.left) is ∙ left_of kind i o ∙ outside in
-    goes_as E subject v (set_in_order (part_of_kind kind) before i c ++ later) (set_in_order (part_of_kind c.kind) before (count_in c.kind (out v)) c ++ later)
+    let mine : set_descriptors (part_of_kind kind) i c ≡ set_descriptors (part_of_kind c.kind) (count_in c.kind (out v)) c =
+    ap (λ k. set_descriptors (part_of_kind k) i c) (sym same) ∙ ap (λ n. set_descriptors (part_of_kind c.kind) n c) (sym count) in
+    goes_as E running v (set_in_order (part_of_kind kind) before i c ++ later) (set_in_order (part_of_kind c.kind) before (count_in c.kind (out v)) c ++ later)
     (set_bytes c (set_length c) ++ behind) (set_bytes c (set_length c) ++ behind)
     (ap (λ k. set_in_order (part_of_kind k) before i c ++ later) (sym same) ∙ ap (λ n. set_in_order (part_of_kind c.kind) before n c ++ later) (sym count)) refl
-    (set_goes E subject c before (set_length c) v behind later typed.0 (length-set_bytes c (set_length c) 0) left
-    (λ w e. onward w (e ∙ ap (λ n. with_count c.kind (n + 1) (out v)) count ∙ ap (λ k. with_count k (i + 1) (out v)) same ∙ ap (λ o. with_count kind (i + 1) o) is
-    ∙ with_twice kind (i + 1) i o)))
+    (set_goes E running c before (set_length c) v behind later typed.0 (length-set_bytes c (set_length c) 0) left
+    (λ w e. subst (λ l. Goes (adding E l) running w later behind) mine
+    (onward w (e ∙ ap (λ n. with_count c.kind (n + 1) (out v)) count ∙ ap (λ k. with_count k (i + 1) (out v)) same ∙ ap (λ o. with_count kind (i + 1) o) is
+    ∙ with_twice kind (i + 1) i o))))
 
 -- sets one after another
-pub sets_go : (E : Aim) (subject : Subject) (kind : SetKind) (all sets : List Configuration) (i : ℕ) (o : Out) (behind : List ℕ) (later : List Found) → o.left ≡ 0
-    → list_any has_no_layout sets ≡ false → list_any (is_other_kind kind) sets ≡ false → ((n : ℕ) → GoesOut (adding E (flat_map set_entries sets)) subject (with_count kind n o) later behind)
-    → GoesOut E subject (with_count kind i o) (at_each (λ i c. set_in_order (part_of_kind kind) (take i all) i c) i sets ++ later) (sets_bytes sets ++ behind)
-sets_go E subject kind all [] i o behind later outside allowed right onward v is = onward i v is
-sets_go E subject kind all (c ∷ sets) i o behind later outside allowed right onward v is =
+pub sets_go : (E : Aim) (running : Option SetSpeed) (kind : SetKind) (all sets : List Configuration) (i : ℕ) (o : Out) (behind : List ℕ) (later : List Found) → o.left ≡ 0
+    → list_any has_no_layout sets ≡ false → list_any (is_other_kind kind) sets ≡ false → ((n : ℕ) → GoesOut (adding E (at_each (set_descriptors (part_of_kind kind)) i sets)) running (with_count kind n o) later behind)
+    → GoesOut E running (with_count kind i o) (at_each (λ i c. set_in_order (part_of_kind kind) (take i all) i c) i sets ++ later) (sets_bytes sets ++ behind)
+sets_go E running kind all [] i o behind later outside allowed right onward v is = onward i v is
+sets_go E running kind all (c ∷ sets) i o behind later outside allowed right onward v is =
     let each = or_parts (has_no_layout c) (list_any has_no_layout sets) allowed in
     let same = or_parts (is_other_kind kind c) (list_any (is_other_kind kind) sets) right in
     let one = set_in_order (part_of_kind kind) (take i all) i c in
     let rest = at_each (λ i c. set_in_order (part_of_kind kind) (take i all) i c) (i + 1) sets in
-    goes_as E subject v ((one ++ rest) ++ later) (one ++ (rest ++ later)) ((whole_set c ++ sets_bytes sets) ++ behind) (whole_set c ++ (sets_bytes sets ++ behind))
+    goes_as E running v ((one ++ rest) ++ later) (one ++ (rest ++ later)) ((whole_set c ++ sets_bytes sets) ++ behind) (whole_set c ++ (sets_bytes sets ++ behind))
     (append_assoc one rest later) (append_assoc (whole_set c) (sets_bytes sets) behind)
-    (whole_set_goes E subject kind c (take i all) i o v (sets_bytes sets ++ behind) (rest ++ later) (same_kind kind c.kind same.0) outside each.0 is
-    (sets_go (adding E (set_entries c)) subject kind all sets (i + 1) o behind later outside each.1 same.1
-    (λ n w at. goes_twice E subject w later behind (set_entries c) (flat_map set_entries sets) (onward n w at))))
+    (whole_set_goes E running kind c (take i all) i o v (sets_bytes sets ++ behind) (rest ++ later) (same_kind kind c.kind same.0) outside each.0 is
+    (sets_go (adding E (set_descriptors (part_of_kind kind) i c)) running kind all sets (i + 1) o behind later outside each.1 same.1
+    (λ n w at. goes_twice E running w later behind (set_descriptors (part_of_kind kind) i c) (at_each (set_descriptors (part_of_kind kind)) (i + 1) sets) (onward n w at))))

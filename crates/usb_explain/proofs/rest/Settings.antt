@@ -1,5 +1,5 @@
 -- A walk goes through the settings of a set, and tells their findings.
-use Rattle.std.proofs.Common.{◌≡◌, ℕ, ◌+◌, ◌-◌, Bool, true, false, List, [], ◌∷◌, ◌++◌, flat_map, length, take, Some, refl, ap, subst, ◌∙◌, arith, append_assoc, length-append}
+use Rattle.std.proofs.Common.{◌≡◌, ℕ, ◌+◌, ◌-◌, Bool, true, false, List, [], ◌∷◌, ◌++◌, flat_map, length, take, Option, Some, None, refl, ap, subst, ◌∙◌, arith, append_assoc, length-append}
 use Rattle.std.specs.List.{list_any}
 use Rattle.std.proofs.lemmas.Bool.{le-leb, or_parts}
 use Rattle.usb_file_data.specs.declared.cause.Found.{Found}
@@ -15,14 +15,16 @@ use Rattle.usb_set.specs.Descriptors.{descriptor_bytes, interface_descriptor}
 use Rattle.usb_set.specs.inside.Trees.{endpoint_bytes, extra_bytes, is_setting_typed, setting_bytes}
 use Rattle.usb_set.proofs.Trees.{setting_typed_parts}
 use Rattle.usb_explain.specs.declared.role.Role.TheVariants as roles
-use Rattle.usb_explain.specs.declared.position.Owner.TheVariants as owners
+use Rattle.usb_explain.specs.declared.position.OwnerKind.TheVariants as owners
 use Rattle.usb_explain.specs.declared.position.Standing.{Standing}
 use Rattle.usb_explain.specs.Findings.{can_break, finding_at, interface_can, is_here}
 use Rattle.usb_explain.specs.Contexts.{depth_of}
+use Rattle.usb_explain.specs.Owners.{of_interface, of_set, owner_of}
+use Rattle.usb_explain.specs.declared.owner.DescriptorOwner.{DescriptorOwner}
 use Rattle.usb_explain.specs.Standings.{noted}
 use Rattle.usb_explain.specs.Roles.{inner_role, typed_role}
-use Rattle.usb_explain.specs.Subjects.{Subject}
-use Rattle.usb_explain.specs.Trees.{OutlineEntry, endpoint_entries, entry, extra_entries, setting_entries}
+use Rattle.usb_explain.specs.declared.speed.SetSpeed.{SetSpeed}
+use Rattle.usb_explain.specs.Trees.{TreeDescriptor, endpoint_descriptors, extra_descriptors, setting_descriptors, tree_descriptor}
 use Rattle.usb_explain.proofs.Spans.{Aim, adding}
 use Rattle.usb_explain.proofs.rest.Steps.{four_parts, inner_at, length_is}
 use Rattle.usb_explain.proofs.rest.Seen.{AllHere, Goes, Seen, Step, goes_as, goes_for, here_both, here_when, seen}
@@ -40,8 +42,19 @@ unfolding inner_role
 interface_role s t = ap (λ b. Some (typed_role b roles.Interface)) (le-leb 9 (length (descriptor_bytes (interface_descriptor t))) (omega arith))
 
 -- a setting begins
-abbrev begun_setting : ℕ → Seen → Seen
-begun_setting n v = record v { left = v.left - n; settings = v.settings + 1; setting = Some (v.settings, 0); owner = owners.Interface }
+abbrev begun_setting : Setting → ℕ → Seen → Seen
+begun_setting t n v = record v {
+  left = v.left - n;
+  settings = v.settings + 1;
+  setting = Some (v.settings, 0);
+  interface = Some (record { interface = t.number; alternate = t.alternate });
+  address = None;
+  owner = owners.Interface;
+}
+
+-- an interface of the set that is seen
+abbrev interface_in : Setting → Seen → DescriptorOwner
+interface_in t v = of_interface (of_set v.part v.number) t.number t.alternate
 
 here_three : (here : Found → Bool) (a b c : Bool) (f g h : Found) → here f ≡ true → here g ≡ true → here h ≡ true → AllHere here (when a f ++ when b g ++ when c h)
 here_three here a b c f g h one two three =
@@ -64,12 +77,12 @@ setting_sum t ts =
     length-append ((d ++ x) ++ y) more ∙ ap (λ n. n + length more) (length-append (d ++ x) y ∙ ap (λ n. n + length y) (length-append d x)) in
     omega (arith, sum)
 
-interface_step : (subject : Subject) (all : List Setting) (t : Setting) (ts : List Setting) (behind : List ℕ) (s : Standing)
+interface_step : (running : Option SetSpeed) (all : List Setting) (t : Setting) (ts : List Setting) (behind : List ℕ) (s : Standing)
     → s.left ≡ length (flat_map setting_bytes (t ∷ ts))
-    → Step subject s roles.Interface (descriptor_bytes (interface_descriptor t)) (behind_interface t ts behind) (at_interface s.set.part s.set.number all s.set.settings t)
-    (begun_setting (length (descriptor_bytes (interface_descriptor t))) (seen s)) 2
-unfolding noted depth_of
-interface_step subject all t ts behind s left =
+    → Step running s roles.Interface (descriptor_bytes (interface_descriptor t)) (behind_interface t ts behind) (at_interface s.set.part s.set.number all s.set.settings t)
+    (begun_setting t (length (descriptor_bytes (interface_descriptor t))) (seen s)) 2 (Some (interface_in t (seen s)))
+unfolding noted depth_of owner_of
+interface_step running all t ts behind s left =
     let d = descriptor_bytes (interface_descriptor t) in
     let j = s.set.settings in
     let f = λ (cause : Cause). found cause s.set.part s.set.number j 0 in
@@ -80,21 +93,22 @@ interface_step subject all t ts behind s left =
       is = inner_at s d s.left refl (omega arith) (omega (arith, left, sum)) ∙ interface_role s t;
       own = here_three (is_here s roles.Interface) (repeats_setting (take j all) t) (lacks_default_setting all (take j all) t) (wrong_endpoint_count t)
           (f causes.RepeatedSetting) (f causes.NoDefaultSetting) (f count) (here causes.RepeatedSetting refl) (here causes.NoDefaultSetting refl) (here count refl);
-      after = λ n. refl;
+      after = refl;
       deep = refl;
+      belongs = refl;
     }
 
-interface_goes : (E : Aim) (subject : Subject) (all : List Setting) (t : Setting) (ts : List Setting) (v : Seen) (behind : List ℕ) (later : List Found)
+interface_goes : (E : Aim) (running : Option SetSpeed) (all : List Setting) (t : Setting) (ts : List Setting) (v : Seen) (behind : List ℕ) (later : List Found)
     → v.left ≡ length (flat_map setting_bytes (t ∷ ts))
-    → Goes (adding E (entry roles.Interface 2 (descriptor_bytes (interface_descriptor t)) ∷ [])) subject
-    (begun_setting (length (descriptor_bytes (interface_descriptor t))) v) later (behind_interface t ts behind)
-    → Goes E subject v (at_interface v.part v.number all v.settings t ++ later) (descriptor_bytes (interface_descriptor t) ++ behind_interface t ts behind)
-interface_goes E subject all t ts v behind later left onward =
+    → Goes (adding E (tree_descriptor roles.Interface 2 (Some (interface_in t v)) (descriptor_bytes (interface_descriptor t)) ∷ [])) running
+    (begun_setting t (length (descriptor_bytes (interface_descriptor t))) v) later (behind_interface t ts behind)
+    → Goes E running v (at_interface v.part v.number all v.settings t ++ later) (descriptor_bytes (interface_descriptor t) ++ behind_interface t ts behind)
+interface_goes E running all t ts v behind later left onward =
     let item = interface_descriptor t in
     let d = descriptor_bytes item in
-    seen_goes E subject v (λ v. v.left ≡ length (flat_map setting_bytes (t ∷ ts))) roles.Interface d (behind_interface t ts behind)
-    (λ v. at_interface v.part v.number all v.settings t) (begun_setting (length d)) later (λ v. 2)
-    (length_is (2 + length item.body) item.kind item.body (behind_interface t ts behind) refl) (λ s p. interface_step subject all t ts behind s p) left onward
+    seen_goes E running v (λ v. v.left ≡ length (flat_map setting_bytes (t ∷ ts))) roles.Interface d (behind_interface t ts behind)
+    (λ v. at_interface v.part v.number all v.settings t) (begun_setting t (length d)) later (λ v. 2) (λ v. Some (interface_in t v))
+    (length_is (2 + length item.body) item.kind item.body (behind_interface t ts behind) refl) (λ s p. interface_step running all t ts behind s p) left onward
 
 -- ---- settings one after another, each with its extras and its endpoints
 
@@ -116,22 +130,25 @@ five_parts : {A : Type 0} (a b c d e : List A) → (((a ++ b) ++ c) ++ d) ++ e �
 five_parts a b c d e = append_assoc ((a ++ b) ++ c) d e ∙ four_parts a b c (d ++ e)
 
 -- descriptors of a setting and of those behind it
-setting_joined : (t : Setting) (ts : List Setting) (c : List OutlineEntry)
-    → flat_map setting_entries (t ∷ ts) ++ c
-    ≡ entry roles.Interface 2 (descriptor_bytes (interface_descriptor t)) ∷ (extra_entries 3 t.extras ++ (flat_map endpoint_entries t.endpoints ++ (flat_map setting_entries ts ++ c)))
-setting_joined t ts c =
-    let one = entry roles.Interface 2 (descriptor_bytes (interface_descriptor t)) in
-    let x = extra_entries 3 t.extras in
-    let y = flat_map endpoint_entries t.endpoints in
-    append_assoc (setting_entries t) (flat_map setting_entries ts) c
-    ∙ ap (λ l. one ∷ l) (append_assoc x y (flat_map setting_entries ts ++ c))
+setting_joined : (set : DescriptorOwner) (t : Setting) (ts : List Setting) (c : List TreeDescriptor)
+    → (let owner = of_interface set t.number t.alternate in
+    flat_map (setting_descriptors set) (t ∷ ts) ++ c
+    ≡ tree_descriptor roles.Interface 2 (Some owner) (descriptor_bytes (interface_descriptor t))
+    ∷ (extra_descriptors 3 owner t.extras ++ (flat_map (endpoint_descriptors owner) t.endpoints ++ (flat_map (setting_descriptors set) ts ++ c))))
+setting_joined set t ts c =
+    let owner = of_interface set t.number t.alternate in
+    let one = tree_descriptor roles.Interface 2 (Some owner) (descriptor_bytes (interface_descriptor t)) in
+    let x = extra_descriptors 3 owner t.extras in
+    let y = flat_map (endpoint_descriptors owner) t.endpoints in
+    append_assoc (setting_descriptors set t) (flat_map (setting_descriptors set) ts) c
+    ∙ ap (λ l. one ∷ l) (append_assoc x y (flat_map (setting_descriptors set) ts ++ c))
 
-pub settings_go : (E : Aim) (subject : Subject) (all : List Setting) (ts : List Setting) (v : Seen) (behind : List ℕ) (later : List Found)
+pub settings_go : (E : Aim) (running : Option SetSpeed) (all : List Setting) (ts : List Setting) (v : Seen) (behind : List ℕ) (later : List Found)
     → list_any is_setting_typed ts ≡ false → v.left ≡ length (flat_map setting_bytes ts)
-    → ((w : Seen) → out w ≡ out_at 0 v → Goes (adding E (flat_map setting_entries ts)) subject w later behind)
-    → Goes E subject v (at_each_counted setting_associations (setting_in_order v.part v.number all) v.settings v.associations ts ++ later) (flat_map setting_bytes ts ++ behind)
-settings_go E subject all [] v behind later typed none onward = onward v (ap (λ n. out_at n v) none)
-settings_go E subject all (t ∷ ts) v behind later typed whole onward =
+    → ((w : Seen) → out w ≡ out_at 0 v → Goes (adding E (flat_map (setting_descriptors (of_set v.part v.number)) ts)) running w later behind)
+    → Goes E running v (at_each_counted setting_associations (setting_in_order v.part v.number all) v.settings v.associations ts ++ later) (flat_map setting_bytes ts ++ behind)
+settings_go E running all [] v behind later typed none onward = onward v (ap (λ n. out_at n v) none)
+settings_go E running all (t ∷ ts) v behind later typed whole onward =
     let each = or_parts (is_setting_typed t) (list_any is_setting_typed ts) typed in
     let parts = setting_typed_parts t each.0 in
     let d = descriptor_bytes (interface_descriptor t) in
@@ -142,7 +159,9 @@ settings_go E subject all (t ∷ ts) v behind later typed whole onward =
     let n = association_count t.extras in
     let m = association_count inner in
     let j = v.settings in
-    let begun = begun_setting (length d) v in
+    let begun = begun_setting t (length d) v in
+    let set = of_set v.part v.number in
+    let owner = interface_in t v in
     let passed = taken (length x) n begun in
     let one = at_interface v.part v.number all j t in
     let two = at_associations v.part v.number all v.associations t.extras in
@@ -152,16 +171,16 @@ settings_go E subject all (t ∷ ts) v behind later typed whole onward =
     let sum = setting_sum t ts in
     let count : v.associations + setting_associations t ≡ (v.associations + n) + m = omega (arith, count_append t.extras inner) in
     let left : ((v.left - length d) - length x) - length y ≡ length more = omega (arith, whole, sum) in
-    let said : Aim = adding E (entry roles.Interface 2 d ∷ []) in
-    let with_extras : Aim = adding said (extra_entries 3 t.extras) in
-    let with_endpoints : Aim = adding with_extras (flat_map endpoint_entries t.endpoints) in
-    goes_as E subject v ((((one ++ two) ++ three) ++ rest) ++ later) (one ++ (two ++ (three ++ (rest ++ later))))
+    let said : Aim = adding E (tree_descriptor roles.Interface 2 (Some owner) d ∷ []) in
+    let with_extras : Aim = adding said (extra_descriptors 3 owner t.extras) in
+    let with_endpoints : Aim = adding with_extras (flat_map (endpoint_descriptors owner) t.endpoints) in
+    goes_as E running v ((((one ++ two) ++ three) ++ rest) ++ later) (one ++ (two ++ (three ++ (rest ++ later))))
     ((((d ++ x) ++ y) ++ more) ++ behind) (d ++ (x ++ (y ++ (more ++ behind)))) (five_parts one two three rest later) (five_parts d x y more behind)
-    (interface_goes E subject all t ts v behind (two ++ (three ++ (rest ++ later))) whole
-    (extras_go said subject all t.extras begun (y ++ (more ++ behind)) (three ++ (rest ++ later)) parts.0 (omega (arith, whole, sum))
-    (λ q. endpoints_go with_extras subject all j t t.endpoints 0 (record passed { owner = q }) (more ++ behind) (rest ++ later) parts.1 (omega (arith, whole, sum))
-    (λ o w. let u : Seen = record (taken (length y) m passed) { setting = o; owner = w } in
-    goes_as with_endpoints subject u (rest ++ later) (four ((v.associations + n) + m) ++ later) (more ++ behind) (more ++ behind) (ap (λ k. four k ++ later) count) refl
-    (settings_go with_endpoints subject all ts u behind later each.1 left
-    (λ w e. goes_for (adding E (flat_map setting_entries (t ∷ ts))) (adding with_endpoints (flat_map setting_entries ts)) subject w later behind
-    (λ r c h. subst (λ l. E r l) (setting_joined t ts c) h) (onward w e)))))))
+    (interface_goes E running all t ts v behind (two ++ (three ++ (rest ++ later))) whole
+    (extras_go said running all t.extras begun (y ++ (more ++ behind)) (three ++ (rest ++ later)) parts.0 (omega (arith, whole, sum))
+    (λ q. endpoints_go with_extras running all j t t.endpoints 0 (record passed { owner = q }) (more ++ behind) (rest ++ later) parts.1 (omega (arith, whole, sum))
+    (λ o w a. let u : Seen = record (taken (length y) m passed) { setting = o; owner = w; address = a } in
+    goes_as with_endpoints running u (rest ++ later) (four ((v.associations + n) + m) ++ later) (more ++ behind) (more ++ behind) (ap (λ k. four k ++ later) count) refl
+    (settings_go with_endpoints running all ts u behind later each.1 left
+    (λ w e. goes_for (adding E (flat_map (setting_descriptors set) (t ∷ ts))) (adding with_endpoints (flat_map (setting_descriptors set) ts)) running w later behind
+    (λ r c h. subst (λ l. E r l) (setting_joined set t ts c) h) (onward w e)))))))

@@ -1,19 +1,23 @@
 -- How a walk goes on behind a descriptor.
-use Rattle.std.proofs.Common.{◌≡◌, ◌≤◌, ◌<◌, ℕ, ◌+◌, ◌==◌, ◌||◌, List, [], ◌∷◌, ◌++◌, if◌then◌else◌, length, take, drop, nat_le, nat_lt, Some, None, option_and_then, sym, ap, subst, ◌∙◌, arith, append_assoc, length-append}
+use Rattle.std.proofs.Common.{◌≡◌, ◌≤◌, ◌<◌, ℕ, ◌+◌, ◌==◌, ◌||◌, List, [], ◌∷◌, ◌++◌, if◌then◌else◌, length, take, drop, nat_le, nat_lt, Option, Some, None, option_and_then, sym, ap, subst, ◌∙◌, arith, append_assoc, length-append}
 use Rattle.std.specs.Option.{option_map}
 use Rattle.std.proofs.lemmas.Bool.{cond-false, cond-true, le-leb, ne_eqb}
 use Rattle.std.proofs.lemmas.Bool.Decides.{nat_tests}
 use Rattle.std.proofs.Math.Seq.{drop-append_seam, take-append_seam}
-use Rattle.usb_explain.specs.Trees.{descriptor_length, entry}
+use Rattle.usb_explain.specs.Trees.{descriptor_length, tree_descriptor}
 use Rattle.usb_explain.specs.declared.role.Role.{Role}
 use Rattle.usb_explain.specs.declared.position.Standing.{Standing}
 use Rattle.usb_explain.specs.Contexts.{depth_of}
-use Rattle.usb_explain.specs.Laws.{entry_of}
+use Rattle.usb_explain.specs.Owners.{owner_of}
+use Rattle.usb_explain.specs.declared.owner.DescriptorOwner.{DescriptorOwner}
 use Rattle.usb_explain.specs.SetStart.{entered}
 use Rattle.usb_explain.specs.Standings.{passed}
 use Rattle.usb_explain.specs.Roles.{inner_role, next_role, role_of}
-use Rattle.usb_explain.specs.Subjects.{Subject}
-use Rattle.usb_explain.specs.Outline.{Entry, telling}
+use Rattle.usb_explain.specs.declared.speed.SetSpeed.{SetSpeed}
+use Rattle.usb_explain.specs.Outline.{Entry}
+use Rattle.usb_explain.specs.Findings.{found_at}
+use Rattle.usb_file_data.specs.declared.cause.Found.{Found}
+use Rattle.usb_explain.proofs.Outlines.{entry_in_tree}
 use Rattle.usb_explain.proofs.Spans.{Aim, adding}
 use Rattle.usb_explain.proofs.rest.Walks.{Ends, ends_behind}
 
@@ -42,35 +46,43 @@ next_at s d behind role e is =
     ∙ ap (λ l. option_map (λ role. (role, length d)) (role_of s l)) (take-append_seam d behind)
     ∙ ap (λ o. option_map (λ role. (role, length d)) o) is
 
--- where it stands behind a descriptor of this role
-abbrev pub behind_one : Subject → Standing → Role → List ℕ → List ℕ → Standing
-behind_one subject s role d behind = passed role d (telling subject role (entered role subject.manner.speed (d ++ behind) s))
+-- where it stands behind a descriptor of this role, and the findings that are left there
+abbrev pub behind_one : Option SetSpeed → Standing → Role → List ℕ → List ℕ → Standing
+behind_one running s role d behind = passed role d (entered role running (d ++ behind) s)
+
+abbrev pub left_one : Option SetSpeed → Standing → List Found → Role → List ℕ → List ℕ → List Found
+left_one running s fs role d behind = drop (length (found_at (entered role running (d ++ behind) s) role fs)) fs
 
 -- a descriptor of this role where it is shown
-abbrev pub shown_at : Subject → Standing → Role → List ℕ → List ℕ → List ℕ → Entry
-shown_at subject s role ahead d behind = record { standing = entered role subject.manner.speed ahead s; role = role; bytes = d; after = behind }
+abbrev pub shown_at : Option SetSpeed → Standing → List Found → Role → List ℕ → List ℕ → List ℕ → Entry
+shown_at running s fs role ahead d behind = record { standing = entered role running ahead s; role = role; bytes = d; after = behind; found = fs }
 
--- behind it a walk ends so, where it has this entry
-abbrev EndsBehind : Aim → Subject → Standing → Role → List ℕ → List ℕ → List ℕ → Type 0
-EndsBehind E subject s role ahead d behind =
-    Ends (adding E (entry_of (shown_at subject s role ahead d behind) ∷ [])) subject
-    (passed role d (telling subject role (entered role subject.manner.speed ahead s))) behind
+-- behind it a walk ends so, where it has this descriptor
+abbrev EndsBehind : Aim → Option SetSpeed → Standing → List Found → Role → List ℕ → List ℕ → List ℕ → Type 0
+EndsBehind E running s fs role ahead d behind =
+    Ends (adding E (entry_in_tree (shown_at running s fs role ahead d behind) ∷ [])) running
+    (passed role d (entered role running ahead s)) (drop (length (found_at (entered role running ahead s) role fs)) fs) behind
 
-ends_on : (E : Aim) (subject : Subject) (s : Standing) (d behind : List ℕ) (role : Role) → descriptor_length (d ++ behind) ≡ Some (length d)
-    → role_of s d ≡ Some role → EndsBehind E subject s role (d ++ behind) d behind → Ends E subject s (d ++ behind)
-ends_on E subject s d behind role e is onward =
-    ends_behind E subject s (d ++ behind) (role, length d) (next_at s d behind role e is)
-    (subst (λ l. EndsBehind E subject s role (d ++ behind) l (drop (length d) (d ++ behind))) (sym (take-append_seam d behind))
-    (subst (λ l. EndsBehind E subject s role (d ++ behind) d l) (sym (drop-append_seam d behind)) onward))
+ends_on : (E : Aim) (running : Option SetSpeed) (s : Standing) (fs : List Found) (d behind : List ℕ) (role : Role) → descriptor_length (d ++ behind) ≡ Some (length d)
+    → role_of s d ≡ Some role → EndsBehind E running s fs role (d ++ behind) d behind → Ends E running s fs (d ++ behind)
+ends_on E running s fs d behind role e is onward =
+    ends_behind E running s fs (d ++ behind) (role, length d) (next_at s d behind role e is)
+    (subst (λ l. EndsBehind E running s fs role (d ++ behind) l (drop (length d) (d ++ behind))) (sym (take-append_seam d behind))
+    (subst (λ l. EndsBehind E running s fs role (d ++ behind) d l) (sym (drop-append_seam d behind)) onward))
 
--- behind a descriptor of this role and depth the walk goes on
-pub goes_on : (E : Aim) (subject : Subject) (s : Standing) (d behind : List ℕ) (role : Role) (depth : ℕ)
-    → descriptor_length (d ++ behind) ≡ Some (length d) → role_of s d ≡ Some role → depth_of (entered role subject.manner.speed (d ++ behind) s) role ≡ depth
-    → Ends (adding E (entry role depth d ∷ [])) subject (behind_one subject s role d behind) behind
-    → Ends E subject s (d ++ behind)
-goes_on E subject s d behind role depth e is deep onward =
-    ends_on E subject s d behind role e is
-    (subst (λ n. Ends (adding E (entry role n d ∷ [])) subject (behind_one subject s role d behind) behind) (sym deep) onward)
+-- behind a descriptor of this role, depth and owner the walk goes on
+pub goes_on : (E : Aim) (running : Option SetSpeed) (s : Standing) (fs : List Found) (d behind : List ℕ) (role : Role) (depth : ℕ) (owner : Option DescriptorOwner)
+    → descriptor_length (d ++ behind) ≡ Some (length d) → role_of s d ≡ Some role → depth_of (entered role running (d ++ behind) s) role ≡ depth
+    → owner_of (entered role running (d ++ behind) s) role d ≡ owner
+    → Ends (adding E (tree_descriptor role depth owner d ∷ [])) running (behind_one running s role d behind) (left_one running s fs role d behind) behind
+    → Ends E running s fs (d ++ behind)
+goes_on E running s fs d behind role depth owner e is deep belongs onward =
+    let begun = entered role running (d ++ behind) s in
+    let next = behind_one running s role d behind in
+    let gs = left_one running s fs role d behind in
+    ends_on E running s fs d behind role e is
+    (subst (λ n. Ends (adding E (tree_descriptor role n (owner_of begun role d) d ∷ [])) running next gs behind) (sym deep)
+    (subst (λ o. Ends (adding E (tree_descriptor role depth o d ∷ [])) running next gs behind) (sym belongs) onward))
 
 -- where so much of a set is left, a descriptor that has room stands in the set
 pub inner_at : (s : Standing) (d : List ℕ) (n : ℕ) → s.left ≡ n → 0 < length d → length d ≤ n → role_of s d ≡ inner_role s d

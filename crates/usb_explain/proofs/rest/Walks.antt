@@ -2,18 +2,18 @@
 use Rattle.std.proofs.Common.{◌≡◌, ◌≤◌, ℕ, zero, suc, List, [], ◌++◌, flat_map, length, map, drop, Option, Some, None, is_some, ◌==◌, ◌&&◌, sym, ap, subst, ◌∙◌, arith, append-nil, length-drop, Bool, true, false, cond, ◌∷◌, refl}
 use Rattle.usb_explain.specs.declared.role.Role.{Role}
 use Rattle.usb_explain.specs.declared.position.Standing.{Standing}
-use Rattle.usb_explain.specs.Outline.{Entry, after_next, entry_next, outline_of}
-use Rattle.usb_explain.specs.Laws.{EachFindingOnce, TellsItsOwn, end_of, entry_of, findings_of}
+use Rattle.usb_explain.specs.Outline.{Entry, after_next, end_of, entries, entry_next, findings_of, left_next, outline}
+use Rattle.usb_explain.specs.Laws.{EachFindingOnce, TellsItsOwn, as_in_tree}
 use Rattle.usb_explain.specs.Findings.{finding_at, found_at, in_setting, is_here}
 use Rattle.std.specs.List.{AllByRecursion, take_while}
 use Rattle.std.proofs.lemmas.List.Sums.{take_while-cons}
 use Rattle.usb_explain.specs.Roles.{next_role}
 use Rattle.usb_explain.specs.Standings.{start}
-use Rattle.usb_explain.specs.Subjects.{Subject}
-use Rattle.usb_explain.specs.Trees.{outline}
+use Rattle.usb_explain.specs.declared.speed.SetSpeed.{SetSpeed}
+use Rattle.usb_explain.specs.Trees.{tree_descriptors}
 use Rattle.usb_file_data.specs.declared.file.Input.{Input}
-use Rattle.usb_file_data.specs.Findings.{by_rule, found_in_order}
-use Rattle.usb_explain.proofs.Standings.{start_told}
+use Rattle.usb_file_data.specs.Findings.{found_in_order}
+use Rattle.usb_explain.proofs.Outlines.{entry_in_tree, found_same, next_bounds, tree_same}
 use Rattle.usb_file_data.specs.declared.cause.Found.{Found}
 use Rattle.usb_file_data.specs.Numbers.{rule_number, rule_numbered}
 use Rattle.usb_file_data.specs.declared.cause.Cause.{Cause}
@@ -26,36 +26,37 @@ use Rattle.std.proofs.lemmas.Bool.{eqb-true}
 use Rattle.std.proofs.lemmas.List.{length-map}
 use Rattle.usb_file_data.specs.declared.rule.Rule.{Rule}
 use Rattle.usb_file_data.proofs.Sorting.{HasRule, as_many}
-use Rattle.usb_explain.proofs.Spans.{Aim, Ended, adding, end_and_rest, ended_more, ended_none, next_bounds}
+use Rattle.usb_explain.proofs.Spans.{Aim, Ended, adding, end_and_rest, ended_more, ended_none}
 
 -- a walk from here ends so, if it may take as many steps as there are bytes
-abbrev pub Ends : Aim → Subject → Standing → List ℕ → Type 0
-Ends E subject s ahead = (n : ℕ) → length ahead ≤ n → Ended E subject n s ahead
+abbrev pub Ends : Aim → Option SetSpeed → Standing → List Found → List ℕ → Type 0
+Ends E running s fs ahead = (n : ℕ) → length ahead ≤ n → Ended E running n s fs ahead
 
-pub ends_here : (E : Aim) (subject : Subject) (s : Standing) → drop s.told subject.found ≡ [] → E [] [] → Ends E subject s []
-ends_here E subject s none aimed n enough = ended_none E subject n s none aimed
+pub ends_here : (E : Aim) (running : Option SetSpeed) (s : Standing) (fs : List Found) → fs ≡ [] → E [] [] → Ends E running s fs []
+ends_here E running s fs none aimed n enough = ended_none E running n s fs none aimed
 
 -- a descriptor takes one step, and has two bytes at least
-pub ends_behind : (E : Aim) (subject : Subject) (s : Standing) (ahead : List ℕ) (next : Role × ℕ) → next_role s ahead ≡ Some next
-    → Ends (adding E (entry_of (entry_next subject s ahead next) ∷ [])) subject (after_next subject s ahead next) (drop next.1 ahead)
-    → Ends E subject s ahead
-ends_behind E subject s ahead next e onward zero enough =
+pub ends_behind : (E : Aim) (running : Option SetSpeed) (s : Standing) (fs : List Found) (ahead : List ℕ) (next : Role × ℕ) → next_role s ahead ≡ Some next
+    → Ends (adding E (entry_in_tree (entry_next running s fs ahead next) ∷ [])) running (after_next running s ahead next) (left_next running s fs ahead next) (drop next.1 ahead)
+    → Ends E running s fs ahead
+ends_behind E running s fs ahead next e onward zero enough =
     let bounds = next_bounds s ahead next e in
     absurd (omega (arith, bounds.0, bounds.1, enough))
-ends_behind E subject s ahead next e onward (suc n) enough =
+ends_behind E running s fs ahead next e onward (suc n) enough =
     let bounds = next_bounds s ahead next e in
-    ended_more E subject n s ahead next e (onward n (omega (arith, length-drop next.1 ahead, bounds.0, bounds.1, enough)))
+    ended_more E running n s fs ahead next e (onward n (omega (arith, length-drop next.1 ahead, bounds.0, bounds.1, enough)))
 
 -- a walk over all bytes of an input shows its descriptors
 abbrev pub ShowsAll : Input → Aim
-ShowsAll input rest entries = (rest ≡ []) × (entries ≡ outline input)
+ShowsAll input rest shown = (rest ≡ []) × (shown ≡ tree_descriptors input)
 
 -- a walk that leaves nothing comes to the end
-pub nothing_left : (subject : Subject) (input : Input) (b : List ℕ) → Ends (ShowsAll input) subject start b → end_of subject b ≡ length b
-nothing_left subject input b leaves =
+pub nothing_left : (running : Option SetSpeed) (input : Input) (b : List ℕ) → Ends (ShowsAll input) running start (found_in_order input) b
+    → end_of running (found_in_order input) b ≡ length b
+nothing_left running input b leaves =
     let ended = leaves (length b) (omega arith) in
     let none : length ended.walk.rest ≡ 0 = ap length ended.aimed.0 in
-    omega (arith, none, end_and_rest subject b ended.walk)
+    omega (arith, none, end_and_rest running (found_in_order input) b ended.walk)
 
 -- those that stand at the front while a test holds pass it
 passed_by : (p : Found → Bool) (f : Found) (rest : List Found) (b : Bool) → p f ≡ b → AllByRecursion (λ f. p f ≡ true) rest
@@ -68,13 +69,13 @@ all_pass p [] = tt
 all_pass p (f ∷ found) =
     subst (λ l. AllByRecursion (λ f. p f ≡ true) l) (sym (take_while-cons p f found)) (passed_by p f (take_while p found) (p f) refl (all_pass p found))
 
-pub tells_own : (subject : Subject) (d : Entry) → TellsItsOwn subject d
+pub tells_own : (d : Entry) → TellsItsOwn d
 unfolding found_at
-tells_own subject d = all_pass (is_here d.standing d.role) (drop d.standing.told subject.found)
+tells_own d = all_pass (is_here d.standing d.role) d.found
 
-all_own : (subject : Subject) (shown : List Entry) → AllByRecursion (TellsItsOwn subject) shown
-all_own subject [] = tt
-all_own subject (d ∷ ds) = (tells_own subject d, all_own subject ds)
+all_own : (shown : List Entry) → AllByRecursion TellsItsOwn shown
+all_own [] = tt
+all_own (d ∷ ds) = (tells_own d, all_own ds)
 
 setting_rule : (set : SetStanding) (cause : Cause) (o : Option SettingStanding) → (in_setting set cause o).rule ≡ rule_number (rule_of cause)
 setting_rule set cause None = refl
@@ -111,37 +112,37 @@ both_all : (P : Found → Type 0) (xs ys : List Found) → AllByRecursion P xs �
 both_all P [] ys one two = two
 both_all P (x ∷ xs) ys one two = (one.0, both_all P xs ys one.1 two)
 
-all_have_rules : (subject : Subject) (shown : List Entry) → AllByRecursion (TellsItsOwn subject) shown → AllByRecursion (λ f. HasRule f.finding) (flat_map (findings_of subject) shown)
-all_have_rules subject [] own = tt
-all_have_rules subject (d ∷ ds) own =
-    both_all (λ f. HasRule f.finding) (findings_of subject d) (flat_map (findings_of subject) ds)
-    (have_rules d.standing d.role (findings_of subject d) own.0) (all_have_rules subject ds own.1)
+all_have_rules : (shown : List Entry) → AllByRecursion TellsItsOwn shown → AllByRecursion (λ f. HasRule f.finding) (flat_map findings_of shown)
+all_have_rules [] own = tt
+all_have_rules (d ∷ ds) own =
+    both_all (λ f. HasRule f.finding) (findings_of d) (flat_map findings_of ds)
+    (have_rules d.standing d.role (findings_of d) own.0) (all_have_rules ds own.1)
 
 without_causes : (found : List Found) → AllByRecursion (λ f. HasRule f.finding) found → AllByRecursion HasRule (map (λ f. f.finding) found)
 without_causes [] ruled = tt
 without_causes (f ∷ found) ruled = (ruled.0, without_causes found ruled.1)
 
--- it tells each finding, and has the entries of the input's outline
-pub record Tells (subject : Subject) (input : Input) (bytes : List ℕ) : Type 0 where
-  pub tells : EachFindingOnce subject input bytes
-  pub entries : map entry_of (outline_of subject bytes) ≡ outline input
+-- it tells each finding, and has the descriptors of the input's tree
+pub record Tells (running : Option SetSpeed) (input : Input) (bytes : List ℕ) : Type 0 where
+  pub tells : EachFindingOnce running input bytes
+  pub shows : map as_in_tree (outline running (found_in_order input) bytes) ≡ tree_descriptors input
 
-pub all_tells : (subject : Subject) (input : Input) (b : List ℕ) → subject.found ≡ found_in_order input → Ends (ShowsAll input) subject start b
-    → Tells subject input b
-all_tells subject input b is leaves =
+pub all_tells : (running : Option SetSpeed) (input : Input) (b : List ℕ) → Ends (ShowsAll input) running start (found_in_order input) b → Tells running input b
+all_tells running input b leaves =
+    let found = found_in_order input in
     let ended = leaves (length b) (omega arith) in
     let w = ended.walk in
-    let told : flat_map (findings_of subject) (outline_of subject b) ≡ subject.found =
-    ap (λ l. flat_map (findings_of subject) l) w.is ∙ sym (append-nil (flat_map (findings_of subject) w.shown))
-    ∙ ap (λ l. flat_map (findings_of subject) w.shown ++ l) (sym ended.all_told) ∙ w.tells ∙ ap (λ k. drop k subject.found) start_told in
-    let own = all_own subject (outline_of subject b) in
-    let ruled = without_causes subject.found (subst (λ l. AllByRecursion (λ f. HasRule f.finding) l) told (all_have_rules subject (outline_of subject b) own)) in
+    let es = entries running found b in
+    let told : flat_map findings_of es ≡ found =
+    ap (λ l. flat_map findings_of l) w.is ∙ sym (append-nil (flat_map findings_of w.shown))
+    ∙ ap (λ l. flat_map findings_of w.shown ++ l) (sym ended.all_told) ∙ w.tells in
+    let own = all_own es in
+    let ruled = without_causes found (subst (λ l. AllByRecursion (λ f. HasRule f.finding) l) told (all_have_rules es own)) in
     record {
       tells = record {
-        told = told ∙ is;
+        told = found_same running es ∙ told;
         own = own;
-        count = sym (length-map subject.found (λ f. f.finding)) ∙ sym (as_many (map (λ f. f.finding) subject.found) ruled)
-            ∙ ap (λ l. length (by_rule (map (λ f. f.finding) l))) is;
+        count = sym (length-map found (λ f. f.finding)) ∙ sym (as_many (map (λ f. f.finding) found) ruled);
       };
-      entries = ap (λ l. map entry_of l) w.is ∙ ended.aimed.1;
+      shows = tree_same running es ∙ ap (λ l. map entry_in_tree l) w.is ∙ ended.aimed.1;
     }

@@ -10,15 +10,8 @@ use Rattle.usb_explain.specs.declared.survey.Binders.{Binders}
 use Rattle.usb_names.specs.Shown.{field_of}
 use Rattle.usb_explain.specs.declared.layout.DescriptorLayout.{DescriptorLayout}
 use Rattle.usb_explain.specs.Layouts.{Layout}
-use Rattle.usb_text.specs.Output.{Held}
-use Rattle.usb_text.specs.inside.Pages.{Puts}
 use Rattle.usb_explain.specs.declared.position.SettingStanding.{SettingStanding}
-use Rattle.usb_explain.specs.declared.role.Role.{Role}
 use Rattle.usb_explain.specs.declared.position.Standing.{Standing}
-use Rattle.usb_explain.specs.Standings.{start}
-use Rattle.usb_explain.specs.Subjects.{Subject}
-use Rattle.usb_explain.specs.Explanations.{lines_of, walked}
-use Rattle.usb_explain.specs.Outline.{entry_next}
 
 -- What is heard of the speed of a set, descriptor by descriptor.
 
@@ -65,18 +58,3 @@ pub record Counted (s : Standing) : Type 0 where
   pub associations : s.set.associations ≤ s.at
   pub settings : s.set.settings ≤ s.at
   pub endpoints : endpoints_of s.set.setting ≤ s.at
-
--- the lines of the descriptor with which these bytes begin
-abbrev pub next_block : Subject → Standing → List ℕ → Role × ℕ → List ℕ
-next_block subject s ahead next = lines_of subject (entry_next subject s ahead next)
-
--- these lines, and then what ends the text, are all that is walked
-pub record Walked (subject : Subject) (bytes done : List ℕ) (at : ℕ) : Type 0 where
-  pub whole : (ending : ℕ → List ℕ) → walked (length bytes) subject ending start bytes ≡ done ++ ending at
-
--- The lines of all descriptors were put at the end of a page, of which the writer gained a prefix; the page holds the rest.
--- They end at this place.
-pub record PutsWalk (subject : Subject) (bytes : List ℕ) (old new : Held) (page rest : List ℕ) (at : ℕ) : Type 0 where
-  pub done : List ℕ
-  pub whole : Walked subject bytes done at
-  pub puts : Puts old new page rest done

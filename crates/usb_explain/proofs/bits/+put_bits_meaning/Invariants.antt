@@ -3,4 +3,4 @@ use Rattle.usb_explain.proofs.bits.+put_bits_meaning.Given as goal
 
 -- fewer bits are left
 abbrev pub decreases-put_bits_meaning : goal.decreases-put_bits_meaning
-decreases-put_bits_meaning l = length l.bits.now
+decreases-put_bits_meaning g l = length l.bits.now

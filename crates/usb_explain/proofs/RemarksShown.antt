@@ -1,0 +1,21 @@
+-- The lines of remarks, each of which may be absent.
+use Rattle.std.proofs.Common.{◌≡◌, ◌∙◌, List, [], ◌∷◌, ◌++◌, Option, ap, refl, sym}
+use Rattle.std.proofs.lemmas.Grind.{flat_map-append}
+use Rattle.std.specs.List.{flat_map}
+use Rattle.usb_text.specs.Shown.{Shown}
+use Rattle.usb_explain.specs.declared.remark.Remark.{Remark}
+use Rattle.usb_explain.specs.Outline.{Described}
+use Rattle.usb_explain.specs.RemarkLines.{remark_line, remark_lines}
+use Rattle.usb_explain.specs.Remarks.{remarks_on, there}
+
+lines_there : (line : Remark → List Shown) (remarks : List (Option Remark))
+    → flat_map (λ (r : Option Remark). flat_map line (there r)) remarks ≡ flat_map line (flat_map there remarks)
+lines_there line [] = refl
+lines_there line (r ∷ rest) =
+    ap (λ (l : List Shown). flat_map line (there r) ++ l) (lines_there line rest) ∙ sym (flat_map-append line (there r) (flat_map there rest))
+
+-- those of a descriptor
+pub all_lines : (d : Described) (remarks : List (Option Remark)) → flat_map there remarks ≡ remarks_on d.role d
+    → flat_map (λ (r : Option Remark). flat_map (remark_line d.depth) (there r)) remarks ≡ remark_lines d
+unfolding remark_lines
+all_lines d remarks e = lines_there (remark_line d.depth) remarks ∙ ap (flat_map (remark_line d.depth)) e

@@ -1,0 +1,40 @@
+use Rattle.std.proofs.Common.{◌≡◌, ◌∙◌, ◌∷◌, drop, ap, ap₂, arith, length, subst, sym, rules, List, ℕ}
+use Rattle.usb_explain.specs.declared.role.Role.{Role}
+use Rattle.usb_explain.specs.declared.position.Standing.{Standing}
+use Rattle.usb_explain.specs.Outline.{Described, after_next}
+use Rattle.usb_explain.specs.inside.Walking.{Counted}
+use Rattle.usb_explain.proofs.Outlines.{left_same, outline_next, outline_nil, outline_none, stays_counted, stays_room}
+use Rattle.usb_explain.proofs.outline.OutlineIterator.next.Goals as goal
+
+pub returns-in_default-clause-steps : goal.returns-in_default-clause-steps
+returns-in_default-clause-steps c = (
+  sym c.self.view_is ∙ outline_none c.self.inside.running c.self.inside.standing c.self.inside.found.now c.self.inside.ahead.now (sym c.next_role.ensures.next ∙ c.in_default.is),
+  outline_nil c.self.inside.running c.self.inside.standing c.self.inside.found.now,
+)
+
+pub invariant_of-self-2 : goal.invariant_of-self-2
+invariant_of-self-2 c =
+    let b = c.self.inside.ahead.now in
+    let next : Role × ℕ = (c.in-Some.role, c.in-Some.count) in
+    let at : c.step_over.new.self.at ≡ (after_next c.self.inside.running c.self.inside.standing b next).at = ap (λ (s : Standing). s.at) c.step_over.ensures.standing in
+    let left : length c.after-self-inside.result.now ≡ length (drop c.in-Some.count b) = ap length c.after-self-inside.ensures in (
+      subst Counted (sym c.step_over.ensures.standing) (stays_counted c.self.inside.running c.self.inside.standing b next c.self.invariant.0 c.in-Some.ensures.least c.in-Some.ensures.most),
+      omega (arith, at, left, stays_room c.self.inside.running c.self.inside.standing b next c.in-Some.ensures.most c.self.invariant.1),
+    )
+
+pub returns-clause-steps : goal.returns-clause-steps
+returns-clause-steps c =
+    let b = c.self.inside.ahead.now in
+    let next : Role × ℕ = (c.in-Some.role, c.in-Some.count) in
+    sym c.self.view_is ∙ outline_next c.self.inside.running c.self.inside.standing c.self.inside.found.now b next (sym c.next_role.ensures.next ∙ c.in-Some.is)
+    ∙ ap₂ ◌∷◌ (sym c.step_over.ensures.here)
+    (left_same c.self.inside.running _ _ _ _ _ _ (sym c.step_over.ensures.standing) (sym c.step_over.ensures.left) (sym c.after-self-inside.ensures))
+
+pub returns-clause-goes : goal.returns-clause-goes
+returns-clause-goes c =
+    let b = c.self.inside.ahead.now in
+    let next : Role × ℕ = (c.in-Some.role, c.in-Some.count) in
+    let step = sym c.self.view_is ∙ outline_next c.self.inside.running c.self.inside.standing c.self.inside.found.now b next (sym c.next_role.ensures.next ∙ c.in-Some.is)
+    ∙ ap₂ ◌∷◌ (sym c.step_over.ensures.here)
+    (left_same c.self.inside.running _ _ _ _ _ _ (sym c.step_over.ensures.standing) (sym c.step_over.ensures.left) (sym c.after-self-inside.ensures)) in
+    let shorter = ap (λ (l : List Described). length l) step in search rules

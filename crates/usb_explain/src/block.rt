@@ -1,0 +1,33 @@
+//! The lines of a descriptor.
+ghost use Rattle.std.specs.Prelude.{◌≡◌, OnOk};
+ghost use Rattle.usb_text.specs.Shown.{showing_all};
+ghost use Rattle.usb_explain.specs.Descriptors.{lines_of};
+ghost use Rattle.usb_explain.specs.Outline.{described};
+
+use crate::descriptor::Descriptor;
+use crate::field_line::put_fields;
+use crate::finding::put_findings;
+use crate::heading::put_heading;
+use crate::remark_line::put_remarks;
+use crate::subject::Subject;
+use std::alloc::AllocError;
+use usb_text::Page;
+
+/// Puts the lines of a descriptor: its heading, its findings, its remarks and its fields.
+///
+/// # Errors
+///
+/// Out of memory.
+#[tactic(auto, using(usb_text::proofs::ShownLines::showing_joined), unfolding(crate::specs::Descriptors::lines_of))]
+pub(crate) fn put_descriptor<P: Page>(
+    page: &mut P,
+    subject: &Subject,
+    d: &Descriptor<'_>,
+) -> Result<(), AllocError>
+    ensures { OnOk result (P.seen page.new ≡ showing_all P.showing (lines_of subject.now (described d.now)) (P.seen page.old)) }
+{
+    put_heading(page, subject, d)?;
+    put_findings(page, d.depth, d.findings)?;
+    put_remarks(page, d)?;
+    put_fields(page, subject, d)
+}
