@@ -25,6 +25,8 @@ pub use Rattle.usb_listing.specs.Comments
 pub use Rattle.usb_listing.specs.Comments
 pub use Rattle.usb_listing.specs.Listings
 pub use Rattle.usb_explain.specs.Explanations
+pub use Rattle.usb_explain.specs.Outline
+pub use Rattle.usb_explain.specs.Fields
 pub use Rattle.usb_file_data.specs.Rules
 pub use Rattle.usb_file_data.specs.Findings
 pub use Rattle.usb_device.specs.Accepted

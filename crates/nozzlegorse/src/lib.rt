@@ -25,10 +25,13 @@ pub mod descriptors {
     };
 }
 
-/// All descriptors of a device in a file; their listing for people, which is read back to the same file; and what they
-/// mean, in words.
+/// All descriptors of a device in a file; their listing for people, which is read back to the same file; each of them as a
+/// value, with its owner, its findings and its fields; and what they mean, in words.
 pub mod files {
-    pub use usb_explain::{Look, Manner, SetSpeed, explain, explain_broken};
+    pub use usb_explain::{
+        ClassCodes, Descriptor, DescriptorOwner, Field, Fields, Form, InterfaceSetting,
+        IntervalRange, Look, Manner, Outline, PacketSizes, Remark, Role, SetSpeed, explain,
+    };
     pub use usb_file::{
         DescriptorFile, FILE_LIMIT, Input, NoMemory, Other, Strings, WriteFault, named, read_file,
         read_input, write_file, write_refusal,
@@ -42,7 +45,10 @@ pub mod files {
 
 /// What breaks a rule of chapter 9.
 pub mod rules {
-    pub use usb_file_data::{Finding, Part, Rule, check, check_dump, check_input, check_set};
+    pub use usb_file_data::{
+        Cause, Finding, Found, PacketFault, Part, Rule, check, check_dump, check_input, check_set,
+        found_in_order,
+    };
 }
 
 /// The device's end of a control pipe (USB 2.0, 8.5.3 and 9.4).

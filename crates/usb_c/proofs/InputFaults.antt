@@ -1,5 +1,5 @@
 -- On the faults of inputs and listings, as they are told.
-use Rattle.std.proofs.Common.{◌≡◌, ℕ, ◌⊎◌, Bool, true, false, List, [], refl, sym, subst, inl, inr}
+use Rattle.std.proofs.Common.{◌≡◌, ℕ, ◌⊎◌, Bool, true, false, List, [], Err, refl, sym, subst, inl, inr}
 use Rattle.usb_set.specs.declared.fault.SetFault.{SetFault}
 use Rattle.usb_set.specs.declared.fault.SetWhy.{SetWhy}
 use Rattle.usb_set.specs.declared.fault.SetWhy.TheVariants as sets
@@ -22,11 +22,13 @@ use Rattle.usb_listing.specs.Listings.{ListFaulty}
 use Rattle.usb_device.specs.Accepted.{Refuses as RefusesDescription}
 use Rattle.usb_device.specs.declared.acceptance.DescriptionFault.{DescriptionFault}
 use Rattle.usb_device.specs.declared.acceptance.DescriptionFault.TheVariants as descriptions
-use Rattle.usb_explain.specs.declared.manner.Manner.{Manner}
-use Rattle.usb_c.specs.declared.answer.Verdict.{Verdict}
 use Rattle.usb_c.specs.Enumerations.{RefusesRun}
-use Rattle.usb_c.specs.Answers.{set_by}
-use Rattle.usb_c.specs.inside.Refusals.{ExplainsFault, file_by, file_wants, list_by, refused_description, refused_file, refused_input, refused_list, set_wants, wants_memory}
+use Rattle.usb_c.specs.Answers.{Fills, set_by}
+use Rattle.usb_c.specs.declared.answer.Verdict.{Verdict}
+use Rattle.usb_c.specs.declared.answer.Verdict.TheVariants as verdicts
+use Rattle.usb_explain.specs.declared.manner.Manner.{Manner}
+use Rattle.usb_explain.specs.Explanations.{IsExplanation}
+use Rattle.usb_c.specs.inside.Refusals.{file_by, file_wants, list_by, refused_description, refused_file, refused_input, refused_list, set_wants, wants_memory}
 use Rattle.usb_c.specs.Texts.{Explains, Refuses, RefusesList}
 use Rattle.usb_c.specs.inside.Taking.{BuildRefused}
 
@@ -63,9 +65,18 @@ shown_fault b (inputs.Trailing at) h known = h
 shown_fault b (inputs.File fault) h known = file_shows b fault fault.why refl known h.0 h.1
 
 -- what is made of bytes that are no input is their explanation
-pub fault_explained : (m : Manner) (b old new : List ℕ) (e : InputFault) (v : Verdict) → InputRefused b e → ExplainsFault m e b old new v → Explains m b old new v
-fault_explained m b old new e v refused (inl (known, fills)) = inr (inl (record { fault = e; shows = shown_fault b e refused known; fills = fills }))
-fault_explained m b old new e v refused (inr none) = inr (inr none)
+pub broken_explained : (m : Manner) (b old new text slice : List ℕ) (e : InputFault) (v : Verdict) → InputRefused b e → wants_memory e ≡ false
+    → IsExplanation m (Err e) b text → slice ≡ text → Fills (verdicts.Broken e) slice old new v → Explains m b old new v
+broken_explained m b old new text slice e v refused known explains same fills =
+    inr (inl (record {
+      fault = e;
+      shows = shown_fault b e refused known;
+      fills = record {
+        text = text;
+        is = explains;
+        fills = subst (λ (t : List ℕ). Fills (verdicts.Broken e) t old new v) same fills;
+      };
+    }))
 
 list_refuses_by : (comments : Bool) (text : List ℕ) (e : ListFault) (why : ListWhy) → e.why ≡ why → BuildRefused comments text e.line why → RefusesList comments text (list_by why e)
 list_refuses_by comments text e lists.Memory is h = tt

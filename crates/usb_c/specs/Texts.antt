@@ -1,5 +1,5 @@
 -- What the calls do that put a text into a buffer.
-use Rattle.std.specs.Prelude.{◌≡◌, ℕ, List, Bool, true, false, ◌/◌, ◌%◌, ◌⊎◌, ◌==◌, Option, Some, None, if◌then◌else◌}
+use Rattle.std.specs.Prelude.{◌≡◌, ℕ, List, Bool, true, false, ◌/◌, ◌%◌, ◌⊎◌, ◌==◌, Option, Some, None, if◌then◌else◌, Ok, Err}
 use Rattle.usb_file_data.specs.File.{File}
 use Rattle.usb_file_data.specs.declared.file.Input.{Input}
 use Rattle.usb_file_data.specs.declared.file.Input.TheVariants as inputs
@@ -10,7 +10,8 @@ use Rattle.usb_file_data.specs.declared.fault.InputFault.TheVariants as faults
 use Rattle.usb_listing.specs.Comments.{CommentedFaulty, uncommented}
 use Rattle.usb_listing.specs.Listings.{ListFaulty, Lists}
 use Rattle.usb_listing.specs.declared.fault.ListWhy.{ListWhy}
-use Rattle.usb_explain.specs.Explanations.{broken_explanation, explanation}
+use Rattle.usb_explain.specs.Explanations.{IsExplanation}
+use Rattle.usb_explain.specs.Subjects.{Reading}
 use Rattle.usb_explain.specs.declared.manner.Manner.{Manner}
 use Rattle.usb_explain.specs.declared.speed.SetSpeed.{SetSpeed}
 use Rattle.usb_explain.specs.declared.speed.SetSpeed.TheVariants as speeds
@@ -100,17 +101,28 @@ manner_told options speed =
       speed = running_speed_told speed;
     }
 
--- the explanation of bytes that show this fault is in the buffer, and both are reported
+-- the explanation of bytes of which this was read is in the buffer, with this verdict
+pub record FillsExplained (m : Manner) (read : Reading) (told : ℕ → Verdict) (b old new : List ℕ) (verdict : Verdict) : Type 0 where
+  pub text : List ℕ
+  pub is : IsExplanation m read b text
+  pub fills : Fills told text old new verdict
+
+-- that of an input
+pub record TellsExplained (m : Manner) (b old new : List ℕ) (verdict : Verdict) : Type 0 where
+  pub input : Input
+  pub is : IsInput input b
+  pub fills : FillsExplained m (Ok input) verdicts.Done b old new verdict
+
+-- that of bytes that show this fault, and both are reported
 pub record TellsBroken (m : Manner) (b old new : List ℕ) (verdict : Verdict) : Type 0 where
   pub fault : InputFault
   pub shows : InputFaulty b fault
-  pub fills : Fills (verdicts.Broken fault) (broken_explanation m fault b) old new verdict
+  pub fills : FillsExplained m (Err fault) (verdicts.Broken fault) b old new verdict
 
 -- the bytes are explained: as an input, or as far as they go; or out of memory
 abbrev pub Explains : Manner → List ℕ → List ℕ → List ℕ → Verdict → Type 0
 Explains m b old new verdict =
-    TellsInput IsInput (λ input. explanation m input b) b old new verdict
-    ⊎ (TellsBroken m b old new verdict ⊎ ((verdict ≡ verdicts.NoMemory) × (new ≡ old)))
+    TellsExplained m b old new verdict ⊎ (TellsBroken m b old new verdict ⊎ ((verdict ≡ verdicts.NoMemory) × (new ≡ old)))
 
 -- the bytes of the file that the text lists are in the buffer
 pub record TellsListed (comments : Bool) (text old new : List ℕ) (verdict : Verdict) : Type 0 where

@@ -1,13 +1,12 @@
 //! Texts, from a buffer into a buffer: what `usbdesc` writes.
 ghost use Rattle.std.specs.Prelude.{◌≡◌, List, ℕ, IfOk};
-ghost use Rattle.usb_explain.specs.Explanations.{explanation};
+ghost use Rattle.usb_explain.specs.Explanations.{IsExplanation};
 ghost use Rattle.usb_file_data.specs.Findings.{input_findings};
 ghost use Rattle.usb_file_data.specs.File.{File};
 ghost use Rattle.usb_listing.specs.Listing.{set_lines, input_lines};
 ghost use Rattle.usb_file_data.specs.FindingLine.{check_text};
 ghost use Rattle.usb_c.specs.Answers.{Fills};
 ghost use Rattle.usb_c.specs.Hosts.{PutsFile};
-ghost use Rattle.usb_c.specs.inside.Refusals.{ExplainsFault};
 ghost use Rattle.usb_c.specs.Texts.{Builds, Checks, Explains, Shows, manner_told, running_speed_told};
 ghost use Rattle.usb_c.specs.declared.answer.Verdict.TheVariants as verdicts;
 
@@ -15,7 +14,7 @@ use crate::answer::{Verdict, refused_input, refused_list, wants_memory};
 use crate::buffer::{fill_broken, fill_done};
 use crate::taken::{read_checked, read_listing, read_shown};
 use std::alloc::{AllocError, Global};
-use usb_explain::{Look, Manner, SetSpeed, explain, explain_broken};
+use usb_explain::{Look, Manner, SetSpeed, explain};
 use usb_file::{DescriptorFile, Input, WriteFault, read_input, write_file};
 use usb_file_data::{InputFault, check_input, findings_text};
 use usb_listing::{list_input, list_set};
@@ -117,49 +116,39 @@ fn running_speed(number: u8) -> Option<SetSpeed>
 /// Puts the explanation of bytes into the buffer: of an input all of it, else what is before the fault, the fault and
 /// the rest. Options: bit 0 leaves out the fields, bit 1 gives each heading its place, bit 2 writes characters beyond
 /// ASCII. A speed: 1 low, 2 full, 3 high, 4 super; any other says nothing of it.
-#[tactic(auto, using(crate::proofs::InputFaults::fault_explained))]
 pub(crate) fn explain_bytes(alloc: Global, bytes: &[u8], manner: Manner, out: &mut [u8]) -> Verdict
     ensures { Explains manner bytes.now out.old out.new result }
 {
-    match read_input(alloc, bytes) {
-        Ok(input) => explain_input(alloc, bytes, &input, manner, out),
-        Err(fault) => explain_fault(alloc, bytes, fault, manner, out),
+    let read = read_input(alloc, bytes);
+    match read {
+        Ok(_) => match explained(alloc, bytes, &read, manner) {
+            Ok(text) => fill_done(text.as_slice(), out),
+            Err(_) => Verdict::NoMemory,
+        },
+        Err(fault) => {
+            if wants_memory(fault) {
+                return Verdict::NoMemory;
+            }
+            match explained(alloc, bytes, &read, manner) {
+                Ok(text) => fill_broken(fault, text.as_slice(), out),
+                Err(_) => Verdict::NoMemory,
+            }
+        }
     }
 }
 
-fn explain_input(
+/// The explanation of bytes of which this was read.
+fn explained(
     alloc: Global,
     bytes: &[u8],
-    input: &Input,
+    read: &Result<Input, InputFault>,
     manner: Manner,
-    out: &mut [u8],
-) -> Verdict
-    ensures { Fills verdicts.Done (explanation manner input.now bytes.now) out.old out.new result }
+) -> Result<Vec<u8>, OutFault>
+    ensures { IfOk result (λ text. IsExplanation manner read.now bytes.now text.items) }
 {
     let mut text = Vec::new(alloc);
-    match explain(alloc, bytes, input, manner, &mut text) {
-        Ok(()) => fill_done(text.as_slice(), out),
-        Err(_) => Verdict::NoMemory,
-    }
-}
-
-fn explain_fault(
-    alloc: Global,
-    bytes: &[u8],
-    fault: InputFault,
-    manner: Manner,
-    out: &mut [u8],
-) -> Verdict
-    ensures { ExplainsFault manner fault bytes.now out.old out.new result }
-{
-    if wants_memory(fault) {
-        return Verdict::NoMemory;
-    }
-    let mut text = Vec::new(alloc);
-    match explain_broken(alloc, bytes, fault, manner, &mut text) {
-        Ok(()) => fill_broken(fault, text.as_slice(), out),
-        Err(_) => Verdict::NoMemory,
-    }
+    explain(alloc, bytes, read, manner, &mut text)?;
+    Ok(text)
 }
 
 /// Puts the bytes of the file that a text lists into the buffer. With `comments` lines that are empty or begin with `#` are

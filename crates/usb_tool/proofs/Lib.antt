@@ -9,3 +9,4 @@ pub mod FateLemmas
 pub mod LineLemmas
 pub mod NumberLemmas
 pub mod Hexadecimal
+pub mod Explained

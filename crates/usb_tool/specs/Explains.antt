@@ -1,5 +1,5 @@
 -- What `explain` tells of its input, by its options.
-use Rattle.std.specs.Prelude.{◌≡◌, ℕ, List, not, Option, Some, None, option_map, if◌then◌else◌, codes, ◌⊎◌, Bool, true, false, [], ◌++◌, length}
+use Rattle.std.specs.Prelude.{◌≡◌, ℕ, List, not, Option, Some, None, option_map, if◌then◌else◌, codes, ◌⊎◌, Bool, true, false, [], ◌++◌, length, Ok, Err}
 use Rattle.std.specs.Borrow.{Bor}
 use Rattle.std.specs.Str.{bytes_eq}
 use Rattle.usb_explain.specs.declared.manner.Manner.{Manner}
@@ -7,8 +7,8 @@ use Rattle.usb_explain.specs.declared.speed.SetSpeed.{SetSpeed}
 use Rattle.usb_explain.specs.declared.speed.SetSpeed.TheVariants.{Low, Full, High, Super}
 use Rattle.usb_tool.specs.declared.manner.Explaining.{Explaining}
 use Rattle.std.specs.Io.KnownBytes.{Appends, Keeps}
-use Rattle.usb_explain.specs.Explanations.{broken_explanation, explanation}
-use Rattle.usb_explain.specs.Faults.{fault_words}
+use Rattle.usb_explain.specs.Explanations.{IsExplanation}
+use Rattle.usb_explain.specs.Subjects.{Reading}
 use Rattle.usb_file_data.specs.Inputs.{InputFaulty, IsInput}
 use Rattle.usb_file_data.specs.declared.file.Input.{Input}
 use Rattle.usb_file_data.specs.declared.fault.InputFault.{InputFault}
@@ -17,8 +17,7 @@ use Rattle.usb_text.specs.HexText.{HexFaulty, HexText}
 use Rattle.usb_text.specs.declared.hex_text.HexFault.{HexFault}
 use Rattle.usb_text.specs.declared.hex_text.HexFault.TheVariants as hexes
 use Rattle.usb_text.specs.Output.{AppendsLess, Held}
-use Rattle.usb_tool.specs.Endings.{Fails, Refusal, Refuses, Telling, Told, Left}
-use Rattle.usb_tool.specs.Faults.{fault_line, fault_of_input}
+use Rattle.usb_tool.specs.Endings.{Extent, Fails, Refusal, Refuses, Telling, Told, Left}
 use Rattle.usb_tool.specs.Inputs.{OfInput}
 use Rattle.usb_tool.specs.declared.fault.ToolFault.{ToolFault}
 use Rattle.usb_tool.specs.declared.fault.ToolFault.TheVariants as tools
@@ -57,28 +56,40 @@ HasBadSpeed o = running_said o.speed ≡ None
 unfoldable pub hexadecimal_words : ℕ → List ℕ
 hexadecimal_words n = codes "hexadecimal text, " ++ count n (codes "byte") ++ codes ": "
 
+-- A text that explains bytes of which this was read, after a heading
+pub record ExplainsAfter (m : Manner) (read : Reading) (heading b text : List ℕ) : Type 0 where
+  pub lines : List ℕ
+  pub is : IsExplanation m read b lines
+  pub joined : text ≡ heading ++ lines
+
 -- the explanation of the set, the file or the dump that the bytes are is reported after a heading, with status 0
 pub record TellsExplanation (m : Manner) (heading b text : List ℕ) (status : ℕ) : Type 0 where
   pub input : Input
   pub is : IsInput input b
-  pub explains : text ≡ heading ++ explanation m input b
+  pub explains : ExplainsAfter m (Ok input) heading b text
   pub ended : status ≡ 0
 
 -- bytes that show a fault are explained as far as they go, with status 3
 pub record TellsBroken (m : Manner) (heading b text : List ℕ) (status : ℕ) : Type 0 where
   pub fault : InputFault
   pub shows : InputFaulty b fault
-  pub explains : text ≡ heading ++ broken_explanation m fault b
+  pub explains : ExplainsAfter m (Err fault) heading b text
   pub ended : status ≡ 3
 
 -- one of both
 abbrev pub Explains : Manner → List ℕ → List ℕ → List ℕ → ℕ → Type 0
 Explains m heading b text status = TellsExplanation m heading b text status ⊎ TellsBroken m heading b text status
 
+-- so much of a heading and an explanation was written
+pub record WritesExplained (extent : Extent) (m : Manner) (read : Reading) (heading b : List ℕ) (held holds : Held) : Type 0 where
+  pub text : List ℕ
+  pub explains : ExplainsAfter m read heading b text
+  pub written : extent held holds text
+
 -- the bytes show this fault of an input, and were explained as far as they go
 abbrev pub ExplainsFault : Manner → List ℕ → Refusal
 ExplainsFault m heading b held holds =
-    OfInput (λ fault. InputFaulty b fault × Appends held holds (heading ++ broken_explanation m fault b))
+    OfInput (λ fault. InputFaulty b fault × WritesExplained Appends m (Err fault) heading b held holds)
 
 -- How bytes are not explained as an input: as far as they go where they show a fault, and else a prefix of their
 -- explanation was written, which is left unfinished out of memory.
@@ -126,10 +137,3 @@ ExplainFails hex m = Fails FILE_LIMIT (RefusesText hex m)
 -- no set, file or dump is hexadecimal text
 abbrev pub NoInputIsHexadecimal : Type 0
 NoInputIsHexadecimal = (input : Input) (b bytes : List ℕ) → IsInput input b → HexText b bytes → ⊥
-
--- What an explanation says of a fault is the line that standard error has of it, and then what is wrong there. Out of memory
--- is a fault of the program, of which nothing is explained.
-abbrev pub SaysLineOfFault : Type 0
-SaysLineOfFault =
-    (fault : InputFault) → (fault_of_input fault ≡ tools.Memory → ⊥) →
-    (message : List ℕ) × (codes "usbdesc: " ++ fault_words fault ≡ fault_line (fault_of_input fault) ++ codes ": " ++ message)

@@ -1,19 +1,18 @@
 //! The command `explain`.
 ghost use Rattle.std.specs.Prelude.{◌≡◌, ◌++◌, IfErr, IfOk, OnErr, OnOk, length};
 ghost use Rattle.std.specs.Io.KnownBytes.{Appends};
-ghost use Rattle.usb_explain.specs.Explanations.{broken_explanation, explanation};
-ghost use Rattle.usb_file_data.specs.Inputs.{InputRefused};
+ghost use Rattle.usb_file_data.specs.Inputs.{InputRefused, IsInput};
 ghost use Rattle.usb_text.specs.Output.{AppendsLess};
 ghost use Rattle.usb_tool.specs.Endings.{Writes};
-ghost use Rattle.usb_tool.specs.Explains.{ExplainFails, Explained, NoInputIsHexadecimal, RefusesText, RefusesToExplain, SaysLineOfFault, TellsExplanation, TellsText, hexadecimal_words};
-ghost use Rattle.usb_tool.specs.inside.Telling.{IsCutShort};
+ghost use Rattle.usb_tool.specs.Explains.{ExplainFails, Explained, NoInputIsHexadecimal, RefusesText, RefusesToExplain, TellsExplanation, TellsText, WritesExplained, hexadecimal_words};
+ghost use Rattle.usb_tool.specs.inside.Telling.{CutsExplained};
 
 use crate::fault::ToolFault;
 use crate::input::read_all;
 use crate::output::finish;
 use std::alloc::{AllocError, Global};
 use std::io::{Read, Write};
-use usb_explain::{Manner, explain, explain_broken};
+use usb_explain::{Manner, explain};
 use usb_file::{FILE_LIMIT, Input, read_input};
 use usb_file_data::InputFault;
 use usb_text::{HexFault, OutFault, Text, parse, put_count, write_all};
@@ -104,7 +103,7 @@ fn put_hexadecimal(text: &mut Text, count: usize) -> Result<(), AllocError>
     text.put(": ")
 }
 
-/// Writes the explanation of the bytes after a heading.
+/// Writes the explanation of the bytes after a heading. Out of memory nothing is known of them.
 fn explain_bytes<W: Write>(
     alloc: Global,
     heading: &[u8],
@@ -115,112 +114,75 @@ fn explain_bytes<W: Write>(
     ensures explained { IfOk result (Writes Appends (TellsExplanation manner heading.now) bytes.now (W.contents w.old) (W.contents w.new)) }
     ensures err { IfErr result (RefusesToExplain manner heading.now bytes.now (W.contents w.old) (W.contents w.new)) }
 {
-    match read_input(alloc, bytes) {
-        Ok(input) => {
-            explain_input(alloc, heading, bytes, &input, w, manner)?;
-            Ok(0)
-        }
-        Err(fault) => Err(explain_fault(alloc, heading, bytes, fault, w, manner)),
-    }
+    let read = read_input(alloc, bytes);
+    explain_known(alloc, heading, bytes, &read, w, manner)
 }
 
-/// Writes the explanation of the input that the bytes are, and flushes the writer.
-#[tactic(auto, using(crate::proofs::Written::flushed, crate::proofs::Written::not_flushed))]
-fn explain_input<W: Write>(
+/// The same of bytes of which this was read.
+fn explain_known<W: Write>(
     alloc: Global,
     heading: &[u8],
     bytes: &[u8],
-    input: &Input,
+    read: &Result<Input, InputFault>,
+    w: &mut W,
+    manner: Manner,
+) -> Result<u8, ToolFault>
+    requires ok { IfOk read.now (λ input. IsInput input bytes.now) }
+    requires err { IfErr read.now (InputRefused bytes.now) }
+    ensures explained { IfOk result (Writes Appends (TellsExplanation manner heading.now) bytes.now (W.contents w.old) (W.contents w.new)) }
+    ensures err { IfErr result (RefusesToExplain manner heading.now bytes.now (W.contents w.old) (W.contents w.new)) }
+{
+    match read {
+        Ok(_) => {
+            explain_read(alloc, heading, bytes, read, w, manner)?;
+            Ok(0)
+        }
+        Err(fault) => {
+            let told = ToolFault::from(*fault);
+            if told == ToolFault::Memory {
+                return Err(told);
+            }
+            explain_read(alloc, heading, bytes, read, w, manner)?;
+            Err(told)
+        }
+    }
+}
+
+/// Writes a heading and the explanation of bytes of which this was read, and flushes the writer.
+#[tactic(auto, using(crate::proofs::Explained::flushed, crate::proofs::Explained::not_flushed))]
+fn explain_read<W: Write>(
+    alloc: Global,
+    heading: &[u8],
+    bytes: &[u8],
+    read: &Result<Input, InputFault>,
     w: &mut W,
     manner: Manner,
 ) -> Result<(), ToolFault>
-    ensures explained { OnOk result (Appends (W.contents w.old) (W.contents w.new) (heading.now ++ explanation manner input.now bytes.now)) }
-    ensures err { IfErr result (IsCutShort (heading.now ++ explanation manner input.now bytes.now) (W.contents w.old) (W.contents w.new)) }
+    ensures explained { OnOk result (WritesExplained Appends manner read.now heading.now bytes.now (W.contents w.old) (W.contents w.new)) }
+    ensures err { IfErr result (CutsExplained manner read.now heading.now bytes.now (W.contents w.old) (W.contents w.new)) }
 {
-    write_explained(alloc, heading, bytes, input, w, manner)?;
+    write_explained(alloc, heading, bytes, read, w, manner)?;
     finish(w)
 }
 
-/// Writes a heading and the explanation of the input that the bytes are.
-#[tactic(auto, using(usb_text::proofs::Pages::front_longer, usb_text::proofs::Pages::appends_more, crate::proofs::Telling::less_after))]
+/// Writes a heading and the explanation of bytes of which this was read.
+#[tactic(auto, using(crate::proofs::Explained::explained, crate::proofs::Explained::explained_less, crate::proofs::Explained::headed_less))]
 fn write_explained<W: Write>(
     alloc: Global,
     heading: &[u8],
     bytes: &[u8],
-    input: &Input,
+    read: &Result<Input, InputFault>,
     w: &mut W,
     manner: Manner,
 ) -> Result<(), OutFault>
-    ensures ok { OnOk result (Appends (W.contents w.old) (W.contents w.new) (heading.now ++ explanation manner input.now bytes.now)) }
-    ensures err { OnErr result (AppendsLess (W.contents w.old) (W.contents w.new) (heading.now ++ explanation manner input.now bytes.now)) }
+    ensures ok { OnOk result (WritesExplained Appends manner read.now heading.now bytes.now (W.contents w.old) (W.contents w.new)) }
+    ensures err { OnErr result (WritesExplained AppendsLess manner read.now heading.now bytes.now (W.contents w.old) (W.contents w.new)) }
 {
     write_all(w, heading)?;
-    explain(alloc, bytes, input, manner, w)
-}
-
-/// Writes the explanation of bytes that are no input, as far as they go, and answers the fault. Out of memory nothing is
-/// known of them.
-fn explain_fault<W: Write>(
-    alloc: Global,
-    heading: &[u8],
-    bytes: &[u8],
-    fault: InputFault,
-    w: &mut W,
-    manner: Manner,
-) -> ToolFault
-    ensures { InputRefused bytes.now fault → RefusesToExplain manner heading.now bytes.now (W.contents w.old) (W.contents w.new) result }
-{
-    let told = ToolFault::from(fault);
-    if told == ToolFault::Memory {
-        return told;
-    }
-    match explain_front(alloc, heading, bytes, fault, w, manner) {
-        Ok(()) => told,
-        Err(cut) => cut,
-    }
-}
-
-/// Writes the explanation of bytes with this fault, as far as they go, and flushes the writer.
-#[tactic(auto, using(crate::proofs::Written::flushed, crate::proofs::Written::not_flushed))]
-fn explain_front<W: Write>(
-    alloc: Global,
-    heading: &[u8],
-    bytes: &[u8],
-    fault: InputFault,
-    w: &mut W,
-    manner: Manner,
-) -> Result<(), ToolFault>
-    ensures explained { OnOk result (Appends (W.contents w.old) (W.contents w.new) (heading.now ++ broken_explanation manner fault bytes.now)) }
-    ensures err { IfErr result (IsCutShort (heading.now ++ broken_explanation manner fault bytes.now) (W.contents w.old) (W.contents w.new)) }
-{
-    write_broken(alloc, heading, bytes, fault, w, manner)?;
-    finish(w)
-}
-
-/// Writes a heading and the explanation of bytes with this fault, as far as they go.
-#[tactic(auto, using(usb_text::proofs::Pages::front_longer, usb_text::proofs::Pages::appends_more, crate::proofs::Telling::less_after))]
-fn write_broken<W: Write>(
-    alloc: Global,
-    heading: &[u8],
-    bytes: &[u8],
-    fault: InputFault,
-    w: &mut W,
-    manner: Manner,
-) -> Result<(), OutFault>
-    ensures ok { OnOk result (Appends (W.contents w.old) (W.contents w.new) (heading.now ++ broken_explanation manner fault bytes.now)) }
-    ensures err { OnErr result (AppendsLess (W.contents w.old) (W.contents w.new) (heading.now ++ broken_explanation manner fault bytes.now)) }
-{
-    write_all(w, heading)?;
-    explain_broken(alloc, bytes, fault, manner, w)
+    explain(alloc, bytes, read, manner, w)
 }
 
 /// No set, file or dump is hexadecimal text, so each of them is explained as it is.
 pub fn no_input_is_hexadecimal_text()
     ensures { NoInputIsHexadecimal }
-{}
-
-/// What an explanation says of a fault is the line that standard error has of it, a colon, and what is wrong there. It says
-/// nothing of out of memory.
-pub fn an_explanation_says_the_line_of_its_fault()
-    ensures { SaysLineOfFault }
 {}

@@ -52,9 +52,7 @@ pub use build::{run_build, run_build_commented};
 pub use check::{run_check, run_check_any};
 pub use command_line::{Line, read_line};
 pub use enumeration::{run_enumerate, run_enumerate_with};
-pub use explanation::{
-    an_explanation_says_the_line_of_its_fault, no_input_is_hexadecimal_text, run_explain,
-};
+pub use explanation::{no_input_is_hexadecimal_text, run_explain};
 pub use fault::{ToolFault, verdict};
 pub use manner::{Explaining, manner_of, read_running_speed};
 pub use program::{refuse_words, run};

@@ -2,9 +2,7 @@
 use Rattle.std.specs.Prelude.{◌≡◌, ℕ, ◌⊎◌, List, Bool, true, false}
 use Rattle.usb_c.specs.declared.answer.Verdict.{Verdict}
 use Rattle.usb_c.specs.declared.answer.Verdict.TheVariants as verdicts
-use Rattle.usb_explain.specs.Explanations.{broken_explanation}
-use Rattle.usb_explain.specs.declared.manner.Manner.{Manner}
-use Rattle.usb_c.specs.Answers.{Fills, refused_set}
+use Rattle.usb_c.specs.Answers.{refused_set}
 use Rattle.usb_file_data.specs.declared.fault.InputFault.{InputFault}
 use Rattle.usb_file_data.specs.declared.fault.InputFault.TheVariants as inputs
 use Rattle.usb_set.specs.declared.fault.SetWhy.{SetWhy}
@@ -58,9 +56,3 @@ abbrev pub wants_memory : InputFault → Bool
 wants_memory (inputs.Set fault) = set_wants fault.why
 wants_memory (inputs.Trailing at) = false
 wants_memory (inputs.File fault) = file_wants fault.why
-
--- bytes with this fault are explained as far as they go, or memory was wanting before or is now
-abbrev pub ExplainsFault : Manner → InputFault → List ℕ → List ℕ → List ℕ → Verdict → Type 0
-ExplainsFault m fault b old new verdict =
-    ((wants_memory fault ≡ false) × Fills (verdicts.Broken fault) (broken_explanation m fault b) old new verdict)
-    ⊎ ((verdict ≡ verdicts.NoMemory) × (new ≡ old))

@@ -6,7 +6,10 @@ use Rattle.usb_text.specs.Output.{AppendsFront, AppendsLess, Held}
 use Rattle.usb_file_data.specs.declared.file.DescriptorFile.{DescriptorFile}
 use Rattle.usb_bus.specs.declared.enumeration.Run.{Run}
 use Rattle.usb_bus.specs.Log.{WritesLogLess}
+use Rattle.usb_explain.specs.declared.manner.Manner.{Manner}
+use Rattle.usb_explain.specs.Subjects.{Reading}
 use Rattle.usb_tool.specs.Endings.{Extent}
+use Rattle.usb_tool.specs.Explains.{ExplainsAfter}
 use Rattle.usb_tool.specs.Enumerations.{Conditions, IsRun}
 use Rattle.usb_tool.specs.declared.fault.ToolFault.{ToolFault}
 use Rattle.usb_tool.specs.declared.fault.ToolFault.TheVariants as faults
@@ -24,6 +27,12 @@ IsCut extent text held holds fault = ⊥
 -- it is left unfinished out of memory
 abbrev pub IsCutShort : List ℕ → Held → Held → ToolFault → Type 0
 IsCutShort = IsCut AppendsLess
+
+-- an explanation after a heading was left unfinished
+pub record CutsExplained (m : Manner) (read : Reading) (heading b : List ℕ) (held holds : Held) (fault : ToolFault) : Type 0 where
+  pub text : List ℕ
+  pub explains : ExplainsAfter m read heading b text
+  pub cut : IsCutShort text held holds fault
 
 -- a device with these descriptors was enumerated, and its log was written where one is asked for
 pub record MakesRun (c : Conditions) (f : DescriptorFile) (held holds : Held) (run : Run) : Type 0 where
