@@ -22,6 +22,8 @@ mod names;
 #[cfg(test)]
 mod observing;
 #[cfg(test)]
+mod outline;
+#[cfg(test)]
 mod packets;
 #[cfg(test)]
 mod programs;
