@@ -1,6 +1,7 @@
 -- The fields of the standard's descriptors.
 use Rattle.std.specs.Prelude.{ℕ, ◌+◌, ◌/◌, ◌==◌, List, [], ◌∷◌, ◌++◌, if◌then◌else◌, codes, ◌&&◌, Bool, false, Option, Some, None}
 use Rattle.usb_names.specs.Shown.{Field}
+use Rattle.usb_fields.specs.declared.field_name.TheConstants.{B_REFRESH, B_SYNCH_ADDRESS, W_TOTAL_LENGTH}
 use Rattle.usb_fields.specs.Fields as standard
 use Rattle.usb_fields.specs.Device.{device_fields, qualifier_fields}
 use Rattle.usb_set.specs.Descriptors.{association_fields, configuration_fields, endpoint_fields, interface_fields}
@@ -51,7 +52,7 @@ qualifier_layout = with_tail (fields_in qualifier_fields (Release ∷ Class ∷ 
 -- the first descriptor of a set (9.6.3 and 9.6.4)
 abbrev pub configuration_layout : Layout
 configuration_layout =
-    with_tail (field_in Decimal 2 (codes "wTotalLength") ∷ fields_in configuration_fields (Decimal ∷ Decimal ∷ Index ∷ Supply ∷ Power ∷ []))
+    with_tail (field_in Decimal 2 W_TOTAL_LENGTH.now ∷ fields_in configuration_fields (Decimal ∷ Decimal ∷ Index ∷ Supply ∷ Power ∷ []))
 
 -- an interface association (its ECN, 9.X.Y)
 abbrev pub association_layout : Layout
@@ -72,7 +73,7 @@ is_audio (Some codes) = codes.class == 1
 
 -- the fields that an endpoint of audio has after those (audio 1.0, 4.6.1.1 and 4.6.2.1)
 abbrev pub further_audio_fields : List Field
-further_audio_fields = field_in Decimal 1 (codes "bRefresh") ∷ field_in Hexadecimal 1 (codes "bSynchAddress") ∷ []
+further_audio_fields = field_in Decimal 1 B_REFRESH.now ∷ field_in Hexadecimal 1 B_SYNCH_ADDRESS.now ∷ []
 
 -- an endpoint of so many bytes, after an interface of these codes
 abbrev pub endpoint_layout : Option ClassCodes → ℕ → Layout

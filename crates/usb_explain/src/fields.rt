@@ -10,11 +10,10 @@ ghost use Rattle.usb_explain.specs.inside.FieldsLeft.{layout_has_words, layout_l
 ghost use Rattle.usb_explain.specs.inside.Walking.{layout_of};
 
 use crate::field::Field;
-use crate::layout::DescriptorLayout;
 use crate::role::Role;
 use crate::standard_layouts::{
-    association_layout, configuration_layout, device_layout, endpoint_layout, interface_layout,
-    qualifier_layout,
+    DescriptorLayout, association_layout, configuration_layout, device_layout, endpoint_layout,
+    interface_layout, qualifier_layout,
 };
 use crate::table_names::class_row;
 use std::marker::Model;

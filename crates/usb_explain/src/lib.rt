@@ -34,7 +34,6 @@ mod header;
 mod heading;
 mod interval;
 pub mod laws;
-mod layout;
 mod line;
 mod manner;
 mod names;

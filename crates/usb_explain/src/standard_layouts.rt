@@ -3,17 +3,28 @@ ghost use Rattle.std.specs.Prelude.{◌≡◌};
 ghost use Rattle.usb_explain.specs.inside.Walking.{layout_of};
 ghost use Rattle.usb_explain.specs.Layouts.{association_layout, configuration_layout, device_layout, endpoint_layout, interface_layout, is_audio, qualifier_layout};
 
-use crate::layout::DescriptorLayout;
+use usb_fields::field_name;
 use usb_names::{ClassCodes, ClassField, Form};
 
 /// The class of audio devices.
 const AUDIO_CLASS: u8 = 1;
 
-/// The fields after bDescriptorType: name, form and width of each. What follows them is a tail.
+/// The fields of a descriptor after bDescriptorType.
+#[derive(Clone, Copy, Debug)]
+pub(crate) struct DescriptorLayout {
+    /// The fields, in order.
+    pub(crate) fields: &'static [ClassField],
+    /// The fields that repeat after those.
+    pub(crate) group: &'static [ClassField],
+    /// What the bytes are called that are left.
+    pub(crate) rest: &'static str,
+}
+
+/// Those of the standard's names, each with its form and its width. What follows them is a tail.
 macro_rules! layout {
-    [$($name:literal $form:ident $width:literal),*] => {
+    [$($name:ident $form:ident $width:literal),*] => {
         DescriptorLayout {
-            fields: &[$(ClassField { name: $name, width: $width, form: Form::$form }),*],
+            fields: &[$(ClassField { name: field_name::$name, width: $width, form: Form::$form }),*],
             group: &[],
             rest: "tail",
         }
@@ -25,7 +36,7 @@ pub(crate) fn device_layout() -> &'static DescriptorLayout
     ensures { layout_of result.now ≡ device_layout }
 {
     static LAYOUT: DescriptorLayout =
-        layout!["bcdUSB" Release 2, "bDeviceClass" Class 1, "bDeviceSubClass" Subclass 1, "bDeviceProtocol" Protocol 1, "bMaxPacketSize0" DevicePacket 1, "idVendor" Hexadecimal 2, "idProduct" Hexadecimal 2, "bcdDevice" Release 2, "iManufacturer" Index 1, "iProduct" Index 1, "iSerialNumber" Index 1, "bNumConfigurations" Decimal 1];
+        layout![BCD_USB Release 2, B_DEVICE_CLASS Class 1, B_DEVICE_SUB_CLASS Subclass 1, B_DEVICE_PROTOCOL Protocol 1, B_MAX_PACKET_SIZE_0 DevicePacket 1, ID_VENDOR Hexadecimal 2, ID_PRODUCT Hexadecimal 2, BCD_DEVICE Release 2, I_MANUFACTURER Index 1, I_PRODUCT Index 1, I_SERIAL_NUMBER Index 1, B_NUM_CONFIGURATIONS Decimal 1];
     &LAYOUT
 }
 
@@ -34,7 +45,7 @@ pub(crate) fn qualifier_layout() -> &'static DescriptorLayout
     ensures { layout_of result.now ≡ qualifier_layout }
 {
     static LAYOUT: DescriptorLayout =
-        layout!["bcdUSB" Release 2, "bDeviceClass" Class 1, "bDeviceSubClass" Subclass 1, "bDeviceProtocol" Protocol 1, "bMaxPacketSize0" Decimal 1, "bNumConfigurations" Decimal 1, "bReserved" Hexadecimal 1];
+        layout![BCD_USB Release 2, B_DEVICE_CLASS Class 1, B_DEVICE_SUB_CLASS Subclass 1, B_DEVICE_PROTOCOL Protocol 1, B_MAX_PACKET_SIZE_0 Decimal 1, B_NUM_CONFIGURATIONS Decimal 1, B_RESERVED Hexadecimal 1];
     &LAYOUT
 }
 
@@ -43,7 +54,7 @@ pub(crate) fn configuration_layout() -> &'static DescriptorLayout
     ensures { layout_of result.now ≡ configuration_layout }
 {
     static LAYOUT: DescriptorLayout =
-        layout!["wTotalLength" Decimal 2, "bNumInterfaces" Decimal 1, "bConfigurationValue" Decimal 1, "iConfiguration" Index 1, "bmAttributes" Supply 1, "bMaxPower" Power 1];
+        layout![W_TOTAL_LENGTH Decimal 2, B_NUM_INTERFACES Decimal 1, B_CONFIGURATION_VALUE Decimal 1, I_CONFIGURATION Index 1, BM_ATTRIBUTES Supply 1, B_MAX_POWER Power 1];
     &LAYOUT
 }
 
@@ -52,7 +63,7 @@ pub(crate) fn association_layout() -> &'static DescriptorLayout
     ensures { layout_of result.now ≡ association_layout }
 {
     static LAYOUT: DescriptorLayout =
-        layout!["bFirstInterface" Decimal 1, "bInterfaceCount" Decimal 1, "bFunctionClass" FunctionClass 1, "bFunctionSubClass" Subclass 1, "bFunctionProtocol" Protocol 1, "iFunction" Index 1];
+        layout![B_FIRST_INTERFACE Decimal 1, B_INTERFACE_COUNT Decimal 1, B_FUNCTION_CLASS FunctionClass 1, B_FUNCTION_SUB_CLASS Subclass 1, B_FUNCTION_PROTOCOL Protocol 1, I_FUNCTION Index 1];
     &LAYOUT
 }
 
@@ -61,7 +72,7 @@ pub(crate) fn interface_layout() -> &'static DescriptorLayout
     ensures { layout_of result.now ≡ interface_layout }
 {
     static LAYOUT: DescriptorLayout =
-        layout!["bInterfaceNumber" Decimal 1, "bAlternateSetting" Decimal 1, "bNumEndpoints" Decimal 1, "bInterfaceClass" FunctionClass 1, "bInterfaceSubClass" Subclass 1, "bInterfaceProtocol" Protocol 1, "iInterface" Index 1];
+        layout![B_INTERFACE_NUMBER Decimal 1, B_ALTERNATE_SETTING Decimal 1, B_NUM_ENDPOINTS Decimal 1, B_INTERFACE_CLASS FunctionClass 1, B_INTERFACE_SUB_CLASS Subclass 1, B_INTERFACE_PROTOCOL Protocol 1, I_INTERFACE Index 1];
     &LAYOUT
 }
 
@@ -73,9 +84,9 @@ pub(crate) fn endpoint_layout(
     ensures { layout_of result.now ≡ endpoint_layout interface length }
 {
     static OTHER: DescriptorLayout =
-        layout!["bEndpointAddress" Address 1, "bmAttributes" Transfer 1, "wMaxPacketSize" PacketSize 2, "bInterval" Interval 1];
+        layout![B_ENDPOINT_ADDRESS Address 1, BM_ATTRIBUTES Transfer 1, W_MAX_PACKET_SIZE PacketSize 2, B_INTERVAL Interval 1];
     static AUDIO: DescriptorLayout =
-        layout!["bEndpointAddress" Address 1, "bmAttributes" Transfer 1, "wMaxPacketSize" PacketSize 2, "bInterval" Interval 1, "bRefresh" Decimal 1, "bSynchAddress" Hexadecimal 1];
+        layout![B_ENDPOINT_ADDRESS Address 1, BM_ATTRIBUTES Transfer 1, W_MAX_PACKET_SIZE PacketSize 2, B_INTERVAL Interval 1, B_REFRESH Decimal 1, B_SYNCH_ADDRESS Hexadecimal 1];
     if is_audio(interface) && length == 9 {
         &AUDIO
     } else {

@@ -1,5 +1,6 @@
 -- The device descriptor and the device qualifier, and why bytes are neither (USB 2.0, 9.5, 9.6.1 and 9.6.2).
-use Rattle.std.specs.Prelude.{ℕ, List, length, slice_index, ◌==◌, not, if◌then◌else◌, Option, Some, None, [], ◌∷◌, codes}
+use Rattle.std.specs.Prelude.{ℕ, List, length, slice_index, ◌==◌, not, if◌then◌else◌, Option, Some, None, [], ◌∷◌}
+use Rattle.usb_fields.specs.declared.field_name.TheConstants.{BCD_DEVICE, BCD_USB, B_DEVICE_CLASS, B_DEVICE_PROTOCOL, B_DEVICE_SUB_CLASS, B_MAX_PACKET_SIZE_0, B_NUM_CONFIGURATIONS, B_RESERVED, ID_PRODUCT, ID_VENDOR, I_MANUFACTURER, I_PRODUCT, I_SERIAL_NUMBER}
 use Rattle.usb_fields.specs.declared.fault.FieldFault.{FieldFault}
 use Rattle.usb_fields.specs.declared.fault.FieldFault.TheVariants as fields
 use Rattle.usb_fields.specs.Bytes.{little_endian_at}
@@ -22,18 +23,18 @@ field_fault size kind b =
 -- the fields of a device descriptor, in the order of its bytes
 abbrev pub device_fields : List (Field DeviceDescriptor)
 device_fields =
-    word (codes "bcdUSB") (λ d. d.usb)
-    ∷ byte (codes "bDeviceClass") (λ d. d.class)
-    ∷ byte (codes "bDeviceSubClass") (λ d. d.subclass)
-    ∷ byte (codes "bDeviceProtocol") (λ d. d.protocol)
-    ∷ byte (codes "bMaxPacketSize0") (λ d. d.packet)
-    ∷ word (codes "idVendor") (λ d. d.vendor)
-    ∷ word (codes "idProduct") (λ d. d.product)
-    ∷ word (codes "bcdDevice") (λ d. d.release)
-    ∷ byte (codes "iManufacturer") (λ d. d.maker_text)
-    ∷ byte (codes "iProduct") (λ d. d.product_text)
-    ∷ byte (codes "iSerialNumber") (λ d. d.serial_text)
-    ∷ byte (codes "bNumConfigurations") (λ d. d.configurations) ∷ []
+    word BCD_USB.now (λ d. d.usb)
+    ∷ byte B_DEVICE_CLASS.now (λ d. d.class)
+    ∷ byte B_DEVICE_SUB_CLASS.now (λ d. d.subclass)
+    ∷ byte B_DEVICE_PROTOCOL.now (λ d. d.protocol)
+    ∷ byte B_MAX_PACKET_SIZE_0.now (λ d. d.packet)
+    ∷ word ID_VENDOR.now (λ d. d.vendor)
+    ∷ word ID_PRODUCT.now (λ d. d.product)
+    ∷ word BCD_DEVICE.now (λ d. d.release)
+    ∷ byte I_MANUFACTURER.now (λ d. d.maker_text)
+    ∷ byte I_PRODUCT.now (λ d. d.product_text)
+    ∷ byte I_SERIAL_NUMBER.now (λ d. d.serial_text)
+    ∷ byte B_NUM_CONFIGURATIONS.now (λ d. d.configurations) ∷ []
 
 -- its bytes: bLength 18, bDescriptorType 1, and its fields
 abbrev pub device_bytes : DeviceDescriptor → List ℕ
@@ -65,13 +66,13 @@ device_fault b = field_fault 18 1 b
 -- the fields of a device qualifier, in the order of its bytes
 abbrev pub qualifier_fields : List (Field Qualifier)
 qualifier_fields =
-    word (codes "bcdUSB") (λ q. q.usb)
-    ∷ byte (codes "bDeviceClass") (λ q. q.class)
-    ∷ byte (codes "bDeviceSubClass") (λ q. q.subclass)
-    ∷ byte (codes "bDeviceProtocol") (λ q. q.protocol)
-    ∷ byte (codes "bMaxPacketSize0") (λ q. q.packet)
-    ∷ byte (codes "bNumConfigurations") (λ q. q.configurations)
-    ∷ byte (codes "bReserved") (λ q. q.reserved) ∷ []
+    word BCD_USB.now (λ q. q.usb)
+    ∷ byte B_DEVICE_CLASS.now (λ q. q.class)
+    ∷ byte B_DEVICE_SUB_CLASS.now (λ q. q.subclass)
+    ∷ byte B_DEVICE_PROTOCOL.now (λ q. q.protocol)
+    ∷ byte B_MAX_PACKET_SIZE_0.now (λ q. q.packet)
+    ∷ byte B_NUM_CONFIGURATIONS.now (λ q. q.configurations)
+    ∷ byte B_RESERVED.now (λ q. q.reserved) ∷ []
 
 -- its bytes: bLength 10, bDescriptorType 6, and its fields
 abbrev pub qualifier_bytes : Qualifier → List ℕ

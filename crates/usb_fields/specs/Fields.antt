@@ -12,11 +12,6 @@ pub data Field (Descriptor : Type 0) : Type 0 where
   word : (name : List ℕ) → (number : Descriptor → ℕ) → Field Descriptor
 
 module _ {Descriptor : Type 0} where
-  -- the name of a field
-  abbrev pub field_name : Field Descriptor → List ℕ
-  field_name (byte name number) = name
-  field_name (word name number) = name
-
   -- its width
   abbrev pub field_width : Field Descriptor → Width
   field_width (byte name number) = One
@@ -32,10 +27,7 @@ module _ {Descriptor : Type 0} where
   field_text d (byte name number) = number d ∷ []
   field_text d (word name number) = big_endian (number d)
 
-  -- the names of fields, and their widths
-  abbrev pub names : List (Field Descriptor) → List (List ℕ)
-  names fields = map field_name fields
-
+  -- the widths of fields
   abbrev pub widths : List (Field Descriptor) → List Width
   widths fields = map field_width fields
 

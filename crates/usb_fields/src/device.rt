@@ -10,23 +10,7 @@ use crate::{descriptor_length, descriptor_type};
 /// bcdUSB of release 2.0 of the standard, the first with a second speed (USB 2.0, 9.6.2).
 pub const USB_2_0: u16 = 0x0200;
 
-/// Names of the fields of a device descriptor (USB 2.0, table 9-8).
-pub const DEVICE_NAMES: [&str; 12] = [
-    "bcdUSB",
-    "bDeviceClass",
-    "bDeviceSubClass",
-    "bDeviceProtocol",
-    "bMaxPacketSize0",
-    "idVendor",
-    "idProduct",
-    "bcdDevice",
-    "iManufacturer",
-    "iProduct",
-    "iSerialNumber",
-    "bNumConfigurations",
-];
-
-/// Their widths.
+/// Widths of the fields of a device descriptor (USB 2.0, table 9-8).
 pub const DEVICE_WIDTHS: [Width; 12] = [Two, One, One, One, One, Two, Two, Two, One, One, One, One];
 
 /// A device descriptor: what a device is, apart from its configurations (USB 2.0, table 9-8).

@@ -7,18 +7,7 @@ use crate::field::Width::{self, One, Two};
 use crate::field::fault_in;
 use crate::{descriptor_length, descriptor_type};
 
-/// Names of the fields of a device qualifier (USB 2.0, table 9-9).
-pub const QUALIFIER_NAMES: [&str; 7] = [
-    "bcdUSB",
-    "bDeviceClass",
-    "bDeviceSubClass",
-    "bDeviceProtocol",
-    "bMaxPacketSize0",
-    "bNumConfigurations",
-    "bReserved",
-];
-
-/// Their widths.
+/// Widths of the fields of a device qualifier (USB 2.0, table 9-9).
 pub const QUALIFIER_WIDTHS: [Width; 7] = [Two, One, One, One, One, One, One];
 
 /// A device qualifier: what a high-speed device would be at its other speed (USB 2.0, table 9-9).

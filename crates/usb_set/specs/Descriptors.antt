@@ -1,6 +1,7 @@
 -- The descriptors of a configuration set, one by one (USB 2.0, 9.5 and 9.6.3 to 9.6.6, and its ECN on
 -- interface associations, 9.X.Y).
-use Rattle.std.specs.Prelude.{ℕ, ◌+◌, ◌==◌, List, [], ◌∷◌, ◌++◌, codes, length, slice_index, drop, Option, Some, None, if◌then◌else◌, ◌/◌, ◌%◌}
+use Rattle.std.specs.Prelude.{ℕ, ◌+◌, ◌==◌, List, [], ◌∷◌, ◌++◌, length, slice_index, drop, Option, Some, None, if◌then◌else◌, ◌/◌, ◌%◌}
+use Rattle.usb_fields.specs.declared.field_name.TheConstants.{BM_ATTRIBUTES, B_ALTERNATE_SETTING, B_CONFIGURATION_VALUE, B_ENDPOINT_ADDRESS, B_FIRST_INTERFACE, B_FUNCTION_CLASS, B_FUNCTION_PROTOCOL, B_FUNCTION_SUB_CLASS, B_INTERFACE_CLASS, B_INTERFACE_COUNT, B_INTERFACE_NUMBER, B_INTERFACE_PROTOCOL, B_INTERFACE_SUB_CLASS, B_INTERVAL, B_MAX_POWER, B_NUM_ENDPOINTS, B_NUM_INTERFACES, I_CONFIGURATION, I_FUNCTION, I_INTERFACE, W_MAX_PACKET_SIZE}
 use Rattle.usb_fields.specs.Bytes.{little_endian}
 use Rattle.usb_fields.specs.Fields.{Field, byte, word, fields_bytes}
 use Rattle.usb_set.specs.declared.tree.SetKind.{SetKind}
@@ -31,12 +32,12 @@ raw_descriptor r = record { kind = r.kind; body = r.body }
 -- the fields of an interface association descriptor, in the order of its bytes (ECN, 9.X.Y)
 abbrev pub association_fields : List (Field Association)
 association_fields =
-    byte (codes "bFirstInterface") (λ a. a.first)
-    ∷ byte (codes "bInterfaceCount") (λ a. a.count)
-    ∷ byte (codes "bFunctionClass") (λ a. a.class)
-    ∷ byte (codes "bFunctionSubClass") (λ a. a.subclass)
-    ∷ byte (codes "bFunctionProtocol") (λ a. a.protocol)
-    ∷ byte (codes "iFunction") (λ a. a.text) ∷ []
+    byte B_FIRST_INTERFACE.now (λ a. a.first)
+    ∷ byte B_INTERFACE_COUNT.now (λ a. a.count)
+    ∷ byte B_FUNCTION_CLASS.now (λ a. a.class)
+    ∷ byte B_FUNCTION_SUB_CLASS.now (λ a. a.subclass)
+    ∷ byte B_FUNCTION_PROTOCOL.now (λ a. a.protocol)
+    ∷ byte I_FUNCTION.now (λ a. a.text) ∷ []
 
 -- the descriptor: type 11, its fields, then what it has beyond them
 abbrev pub association_descriptor : Association → Descriptor
@@ -78,10 +79,10 @@ typed_length kind =
 -- the fields of an endpoint descriptor, in the order of its bytes (9.6.6)
 abbrev pub endpoint_fields : List (Field Endpoint)
 endpoint_fields =
-    byte (codes "bEndpointAddress") (λ e. e.address)
-    ∷ byte (codes "bmAttributes") (λ e. e.attributes)
-    ∷ word (codes "wMaxPacketSize") (λ e. e.max_packet)
-    ∷ byte (codes "bInterval") (λ e. e.interval) ∷ []
+    byte B_ENDPOINT_ADDRESS.now (λ e. e.address)
+    ∷ byte BM_ATTRIBUTES.now (λ e. e.attributes)
+    ∷ word W_MAX_PACKET_SIZE.now (λ e. e.max_packet)
+    ∷ byte B_INTERVAL.now (λ e. e.interval) ∷ []
 
 -- the descriptor: type 5, its fields, then what it has beyond them
 abbrev pub endpoint_descriptor : Endpoint → Descriptor
@@ -90,13 +91,13 @@ endpoint_descriptor e = record { kind = 5; body = fields_bytes endpoint_fields e
 -- the fields of an interface descriptor, in the order of its bytes (9.6.5)
 abbrev pub interface_fields : List (Field Setting)
 interface_fields =
-    byte (codes "bInterfaceNumber") (λ s. s.number)
-    ∷ byte (codes "bAlternateSetting") (λ s. s.alternate)
-    ∷ byte (codes "bNumEndpoints") (λ s. s.declared_endpoints)
-    ∷ byte (codes "bInterfaceClass") (λ s. s.class)
-    ∷ byte (codes "bInterfaceSubClass") (λ s. s.subclass)
-    ∷ byte (codes "bInterfaceProtocol") (λ s. s.protocol)
-    ∷ byte (codes "iInterface") (λ s. s.text) ∷ []
+    byte B_INTERFACE_NUMBER.now (λ s. s.number)
+    ∷ byte B_ALTERNATE_SETTING.now (λ s. s.alternate)
+    ∷ byte B_NUM_ENDPOINTS.now (λ s. s.declared_endpoints)
+    ∷ byte B_INTERFACE_CLASS.now (λ s. s.class)
+    ∷ byte B_INTERFACE_SUB_CLASS.now (λ s. s.subclass)
+    ∷ byte B_INTERFACE_PROTOCOL.now (λ s. s.protocol)
+    ∷ byte I_INTERFACE.now (λ s. s.text) ∷ []
 
 -- the descriptor: type 4, its fields, then what it has beyond them
 abbrev pub interface_descriptor : Setting → Descriptor
@@ -110,11 +111,11 @@ type_number kinds.OtherSpeed = 7
 -- the fields of a set's first descriptor after wTotalLength, in the order of its bytes (9.6.3 and 9.6.4)
 abbrev pub configuration_fields : List (Field Configuration)
 configuration_fields =
-    byte (codes "bNumInterfaces") (λ c. c.declared_interfaces)
-    ∷ byte (codes "bConfigurationValue") (λ c. c.value)
-    ∷ byte (codes "iConfiguration") (λ c. c.text)
-    ∷ byte (codes "bmAttributes") (λ c. c.attributes)
-    ∷ byte (codes "bMaxPower") (λ c. c.power) ∷ []
+    byte B_NUM_INTERFACES.now (λ c. c.declared_interfaces)
+    ∷ byte B_CONFIGURATION_VALUE.now (λ c. c.value)
+    ∷ byte I_CONFIGURATION.now (λ c. c.text)
+    ∷ byte BM_ATTRIBUTES.now (λ c. c.attributes)
+    ∷ byte B_MAX_POWER.now (λ c. c.power) ∷ []
 
 -- the descriptor, with this number as wTotalLength, its fields, then what it has beyond them
 abbrev pub configuration_descriptor : Configuration → ℕ → Descriptor

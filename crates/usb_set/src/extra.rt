@@ -1,6 +1,6 @@
 //! The descriptors that belong to the one before them and own none: all that is known of each of their types.
-ghost use Rattle.std.specs.Prelude.{◌≡◌, ◌≤◌, ◌+◌, [], IfOk, length, map};
-ghost use Rattle.usb_fields.specs.Fields.{fields_bytes, names, widths};
+ghost use Rattle.std.specs.Prelude.{◌≡◌, ◌≤◌, ◌+◌, [], IfOk, length};
+ghost use Rattle.usb_fields.specs.Fields.{fields_bytes, widths};
 ghost use Rattle.usb_set.specs.Descriptors.{association_fields, extra_of, raw_descriptor, typed_length};
 ghost use Rattle.usb_set.specs.Faults.{least_length};
 ghost use Rattle.usb_set.specs.Layout.{is_typed, is_typed_raw};
@@ -49,22 +49,12 @@ pub enum Extra {
     Association(Association),
 }
 
-/// Names of the fields of an interface association descriptor (its ECN, 9.X.Y).
-pub const ASSOCIATION_NAMES: [&str; 6] = [
-    "bFirstInterface",
-    "bInterfaceCount",
-    "bFunctionClass",
-    "bFunctionSubClass",
-    "bFunctionProtocol",
-    "iFunction",
-];
-
-/// Their widths.
+/// Widths of the fields of an interface association descriptor (its ECN, 9.X.Y).
 pub const ASSOCIATION_WIDTHS: [Width; 6] = [One; 6];
 
-/// The names and the widths that the code has of the fields of extras are those of the standard's.
-pub fn fields_of_extras_are_the_standards()
-    ensures association { (map (λ name. name.now) ASSOCIATION_NAMES ≡ names association_fields) × (ASSOCIATION_WIDTHS ≡ widths association_fields) }
+/// The widths that the code has of the fields of extras are those of the standard's.
+pub fn widths_of_extras_are_the_standards()
+    ensures association { ASSOCIATION_WIDTHS ≡ widths association_fields }
 {}
 
 /// Does one thing with the descriptor that an extra is, whichever it is. Each has `descriptor_type()`, `field_bytes()` and

@@ -7,41 +7,13 @@ use crate::tree::{Configuration, Endpoint, Setting};
 use usb_fields::Width::{self, One, Two};
 use usb_fields::word_bytes;
 
-/// Names of the fields of a set's first descriptor after wTotalLength (USB 2.0, tables 9-10 and 9-11).
-pub const CONFIGURATION_NAMES: [&str; 5] = [
-    "bNumInterfaces",
-    "bConfigurationValue",
-    "iConfiguration",
-    "bmAttributes",
-    "bMaxPower",
-];
-
-/// Their widths.
+/// Widths of the fields of a set's first descriptor after wTotalLength (USB 2.0, tables 9-10 and 9-11).
 pub const CONFIGURATION_WIDTHS: [Width; 5] = [One; 5];
 
-/// Names of the fields of an interface descriptor (USB 2.0, table 9-12).
-pub const INTERFACE_NAMES: [&str; 7] = [
-    "bInterfaceNumber",
-    "bAlternateSetting",
-    "bNumEndpoints",
-    "bInterfaceClass",
-    "bInterfaceSubClass",
-    "bInterfaceProtocol",
-    "iInterface",
-];
-
-/// Their widths.
+/// Widths of the fields of an interface descriptor (USB 2.0, table 9-12).
 pub const INTERFACE_WIDTHS: [Width; 7] = [One; 7];
 
-/// Names of the fields of an endpoint descriptor (USB 2.0, table 9-13).
-pub const ENDPOINT_NAMES: [&str; 4] = [
-    "bEndpointAddress",
-    "bmAttributes",
-    "wMaxPacketSize",
-    "bInterval",
-];
-
-/// Their widths.
+/// Widths of the fields of an endpoint descriptor (USB 2.0, table 9-13).
 pub const ENDPOINT_WIDTHS: [Width; 4] = [One, One, Two, One];
 
 impl Configuration {

@@ -33,12 +33,9 @@ pub use builder::{add_descriptor, begin_set, next_fault};
 pub use decoder::{Decoder, Progress, read_set};
 pub use encoder::{encode, encode_onto, refusal};
 pub use endpoint::TransferType;
-pub use extra::{ASSOCIATION_NAMES, ASSOCIATION_WIDTHS, Association, Extra, Raw, is_typed};
+pub use extra::{ASSOCIATION_WIDTHS, Association, Extra, Raw, is_typed};
 pub use fault::{EncodeFault, SetFault, SetWhy};
-pub use fields::{
-    CONFIGURATION_NAMES, CONFIGURATION_WIDTHS, ENDPOINT_NAMES, ENDPOINT_WIDTHS, INTERFACE_NAMES,
-    INTERFACE_WIDTHS,
-};
+pub use fields::{CONFIGURATION_WIDTHS, ENDPOINT_WIDTHS, INTERFACE_WIDTHS};
 pub use owner::{Associations, Endpoints, Extras, Owner};
 pub use tree::{Configuration, Endpoint, SetKind, Setting};
 pub use usb_fields::{Direction, Sequence};

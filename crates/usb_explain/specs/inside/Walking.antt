@@ -8,7 +8,7 @@ use Rattle.usb_explain.specs.Bindings.{binding, bound_at}
 use Rattle.usb_explain.specs.declared.survey.Gathering.{Gathering}
 use Rattle.usb_explain.specs.declared.survey.Binders.{Binders}
 use Rattle.usb_names.specs.Shown.{field_of}
-use Rattle.usb_explain.specs.declared.layout.DescriptorLayout.{DescriptorLayout}
+use Rattle.usb_explain.specs.declared.standard_layouts.DescriptorLayout.{DescriptorLayout}
 use Rattle.usb_explain.specs.Layouts.{Layout}
 use Rattle.usb_explain.specs.declared.position.SettingStanding.{SettingStanding}
 use Rattle.usb_explain.specs.declared.position.Standing.{Standing}
