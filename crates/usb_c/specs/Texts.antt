@@ -114,7 +114,7 @@ pub record TellsExplained (m : Manner) (b old new : List ℕ) (verdict : Verdict
   pub fills : FillsExplained m (Ok input) verdicts.Done b old new verdict
 
 -- that of bytes that show this fault, and both are reported
-pub record TellsBroken (m : Manner) (b old new : List ℕ) (verdict : Verdict) : Type 0 where
+pub record ReportsBroken (m : Manner) (b old new : List ℕ) (verdict : Verdict) : Type 0 where
   pub fault : InputFault
   pub shows : InputFaulty b fault
   pub fills : FillsExplained m (Err fault) (verdicts.Broken fault) b old new verdict
@@ -122,7 +122,7 @@ pub record TellsBroken (m : Manner) (b old new : List ℕ) (verdict : Verdict) :
 -- the bytes are explained: as an input, or as far as they go; or out of memory
 abbrev pub Explains : Manner → List ℕ → List ℕ → List ℕ → Verdict → Type 0
 Explains m b old new verdict =
-    TellsExplained m b old new verdict ⊎ (TellsBroken m b old new verdict ⊎ ((verdict ≡ verdicts.NoMemory) × (new ≡ old)))
+    TellsExplained m b old new verdict ⊎ (ReportsBroken m b old new verdict ⊎ ((verdict ≡ verdicts.NoMemory) × (new ≡ old)))
 
 -- the bytes of the file that the text lists are in the buffer
 pub record TellsListed (comments : Bool) (text old new : List ℕ) (verdict : Verdict) : Type 0 where

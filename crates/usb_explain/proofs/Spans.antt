@@ -98,7 +98,7 @@ adding E before = λ rest c. E rest (before ++ c)
 pub record Ended (E : Aim) (running : Option SetSpeed) (n : ℕ) (s : Standing) (found : List Found) (ahead : List ℕ) : Type 0 where
   pub walk : Walk running n s found ahead
   pub aimed : E walk.rest (map entry_in_tree walk.shown)
-  pub all_told : walk.left ≡ []
+  pub all_reported : walk.left ≡ []
 
 -- where no bytes are, no descriptor can stand
 none_of_nothing : (s : Standing) → next_role s [] ≡ None
@@ -108,14 +108,14 @@ none_of_nothing s = refl
 pub ended_none : (E : Aim) (running : Option SetSpeed) (n : ℕ) (s : Standing) (found : List Found) → found ≡ [] → E [] [] → Ended E running n s found []
 unfolding walk_none
 ended_none E running n s found none aimed =
-    record { walk = walk_none running n s found [] (entries_none n running s found [] (none_of_nothing s)); aimed = aimed; all_told = none }
+    record { walk = walk_none running n s found [] (entries_none n running s found [] (none_of_nothing s)); aimed = aimed; all_reported = none }
 
 pub ended_more : (E : Aim) (running : Option SetSpeed) (n : ℕ) (s : Standing) (found : List Found) (ahead : List ℕ) (next : Role × ℕ) → next_role s ahead ≡ Some next
     → Ended (adding E (entry_in_tree (entry_next running s found ahead next) ∷ [])) running n (after_next running s ahead next) (left_next running s found ahead next) (drop next.1 ahead)
     → Ended E running (suc n) s found ahead
 unfolding walk_more
 ended_more E running n s found ahead next e ended =
-    record { walk = walk_more running n s found ahead next e ended.walk; aimed = ended.aimed; all_told = ended.all_told }
+    record { walk = walk_more running n s found ahead next e ended.walk; aimed = ended.aimed; all_reported = ended.all_reported }
 
 -- spans end where the lengths add up to
 spans_end : (shown : List Entry) (from to : ℕ) → Follow from (map entry_span shown) to → from + length (flat_map (λ d. d.bytes) shown) ≡ to

@@ -35,7 +35,7 @@ rest_lines look at (x ∷ rest) =
 
 -- The whole.
 
--- what breaks a rule, in the order of the bytes; of bytes that are no input that isn't judged
+-- what breaks a rule, in the order of the bytes; bytes that are no input aren't judged, and nothing is found in them
 abbrev pub found_of : Reading → List Found
 found_of (Ok input) = found_in_order input
 found_of (Err fault) = []
@@ -73,7 +73,7 @@ explanation manner read b =
     let ds = descriptors_of manner read b in
     beginning manner read b ds ++ ending manner read b (length (bytes_of ds))
 
--- a text of an explanation: as many lines as it shows
+-- a text of so many lines as the explanation has; what each shows is said of the function that puts it
 abbrev pub IsExplanation : Manner → Reading → List ℕ → List ℕ → Type 0
 IsExplanation manner read b text = AreLines manner.look.utf8 (ends (explanation manner read b)) text
 

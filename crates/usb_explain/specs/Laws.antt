@@ -62,19 +62,19 @@ BrokenCoversUpToFault =
     length before ≤ end_of running [] before + most_uncovered fault
 
 -- what stands at a descriptor are findings of its own
-abbrev pub TellsItsOwn : Entry → Type 0
-TellsItsOwn d = AllByRecursion (λ f. is_here d.standing d.role f ≡ true) (findings_of d)
+abbrev pub HasItsOwnFindings : Entry → Type 0
+HasItsOwnFindings d = AllByRecursion (λ f. is_here d.standing d.role f ≡ true) (findings_of d)
 
 -- Each finding once, with the cause by which its rule was judged: what stands at the descriptors is, in its order, all that is
 -- found in the input. The findings that are counted are as many as those that are checked.
 pub record EachFindingOnce (running : Option SetSpeed) (input : Input) (b : List ℕ) : Type 0 where
-  pub told : flat_map (λ d. d.findings) (outline running (found_in_order input) b) ≡ found_in_order input
-  pub own : AllByRecursion TellsItsOwn (entries running (found_in_order input) b)
+  pub reported : flat_map (λ d. d.findings) (outline running (found_in_order input) b) ≡ found_in_order input
+  pub own : AllByRecursion HasItsOwnFindings (entries running (found_in_order input) b)
   pub count : length (found_in_order input) ≡ length (input_findings input)
 
 -- so it is of each input
-abbrev pub WholeTellsFindings : Type 0
-WholeTellsFindings =
+abbrev pub WholeReportsFindings : Type 0
+WholeReportsFindings =
     (running : Option SetSpeed) (input : Input) (b : List ℕ) → IsInput input b → EachFindingOnce running input b
 
 -- a descriptor, by its role, its depth, its owner and its bytes

@@ -79,7 +79,7 @@ describe running e = record {
   rest = rest_of_set e.standing e.bytes e.after;
 }
 
--- the state at the first of these bytes
+-- the state at the descriptor with which these bytes begin: in its set, where it begins one
 abbrev pub here : Option SetSpeed → Standing → List ℕ → Role × ℕ → Standing
 here running s ahead next = entered next.0 running ahead s
 

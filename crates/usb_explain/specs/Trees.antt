@@ -49,6 +49,7 @@ pub record TreeDescriptor : Type 0 where
   pub owner : Option DescriptorOwner
   pub bytes : List ℕ
 
+-- one of these four facts
 abbrev pub tree_descriptor : Role → ℕ → Option DescriptorOwner → List ℕ → TreeDescriptor
 tree_descriptor role depth owner bytes = record { role = role; depth = depth; owner = owner; bytes = bytes }
 
@@ -62,7 +63,7 @@ abbrev pub extra_depth : ℕ → Extra → ℕ
 extra_depth depth (extras.Raw raw) = depth
 extra_depth depth (extras.Association association) = 2
 
--- and so it is with its owner
+-- an association belongs to the configuration, and any other extra to this owner
 abbrev pub extra_owner : DescriptorOwner → Extra → DescriptorOwner
 extra_owner owner (extras.Raw raw) = owner
 extra_owner owner (extras.Association association) = of_set owner.part owner.set

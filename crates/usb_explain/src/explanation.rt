@@ -9,7 +9,7 @@ ghost use Rattle.usb_explain.specs.Explanations.{EndsBetween, before_fault, endi
 ghost use Rattle.usb_explain.specs.Outline.{bytes_of};
 ghost use Rattle.usb_explain.specs.inside.Explaining.{PutsDescriptors, StopsBetween};
 
-use crate::block::put_descriptor;
+use crate::descriptor_lines::put_descriptor;
 use crate::fault_line::{fault_place, put_fault_lines};
 use crate::manner::Manner;
 use crate::outline::Outline;

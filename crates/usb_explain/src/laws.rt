@@ -1,7 +1,7 @@
 //! What holds of the outline of each input, and so of its explanation, which has the lines of each descriptor of it. The
 //! functions of these laws do nothing: their contracts are the laws.
 ghost use Rattle.usb_explain.specs.FieldLaws.{AllFieldsHaveAllBytes};
-ghost use Rattle.usb_explain.specs.Laws.{AllEachByteOnce, BriefLeavesOutFields, BrokenCoversUpToFault, WholeHasNoRest, WholeShowsTree, WholeTellsFindings};
+ghost use Rattle.usb_explain.specs.Laws.{AllEachByteOnce, BriefLeavesOutFields, BrokenCoversUpToFault, WholeHasNoRest, WholeShowsTree, WholeReportsFindings};
 ghost use Rattle.usb_explain.specs.Remarks.{FullOrHighIsOpen, LowOrFullIsOpen};
 
 /// Each byte once: the descriptors of any bytes follow each other from the first byte on, each at its place and as long as its
@@ -21,8 +21,8 @@ pub fn a_broken_input_is_explained_up_to_its_fault()
 /// Each finding once: the findings that stand at the descriptors are, in the order of the bytes, just those that `check` reports
 /// of the input, each at the descriptor that breaks the rule, with the cause and the counts by which the rule was judged. They
 /// are as many as the last line says.
-pub fn each_finding_is_told_once()
-    ensures { WholeTellsFindings }
+pub fn each_finding_is_reported_once()
+    ensures { WholeReportsFindings }
 {}
 
 /// Each descriptor has its owner: the outline of an input has the descriptors that were read, in their order. Each says what

@@ -19,7 +19,7 @@
 
 mod bindings;
 mod bits;
-mod block;
+mod descriptor_lines;
 mod context;
 mod descriptor;
 mod endpoint;
@@ -58,7 +58,7 @@ mod string_names;
 mod subject;
 mod survey;
 mod table_names;
-mod told;
+mod found_here;
 mod value;
 
 pub use descriptor::Descriptor;

@@ -9,7 +9,7 @@ use Rattle.usb_explain.specs.declared.manner.Manner.{Manner}
 use Rattle.usb_text.specs.Output.{Held}
 use Rattle.usb_text.proofs.Pages.{keeps_refl}
 use Rattle.usb_tool.specs.Endings.{Writes}
-use Rattle.usb_tool.specs.Explains.{RefusesText, RefusesToExplain, TellsExplanation, TellsText, hexadecimal_words}
+use Rattle.usb_tool.specs.Explains.{RefusesText, RefusesToExplain, ReportsExplanation, ReportsText, hexadecimal_words}
 use Rattle.usb_tool.specs.declared.fault.ToolFault.{ToolFault}
 use Rattle.usb_tool.specs.declared.fault.ToolFault.TheVariants as faults
 
@@ -21,8 +21,8 @@ no_text b line column (inr faulty) = faulty
 module _ (hex : Bool) (m : Manner) (b : List ℕ) (held holds : Held) where
   -- hexadecimal text is explained as its bytes
   pub told_of_text : (bytes : List ℕ) (r : Result ℕ ToolFault) → HexText b bytes
-      → IfOk r (Writes Appends (TellsExplanation m (hexadecimal_words (length bytes))) bytes held holds)
-      → IfOk r (Writes Appends (TellsText hex m) b held holds)
+      → IfOk r (Writes Appends (ReportsExplanation m (hexadecimal_words (length bytes))) bytes held holds)
+      → IfOk r (Writes Appends (ReportsText hex m) b held holds)
   told_of_text bytes (Ok status) text written = record {
     text = written.text;
     told = record { bytes = bytes; heading = hexadecimal_words (length bytes); is = inl (text, refl); done = written.told };
@@ -38,7 +38,7 @@ module _ (hex : Bool) (m : Manner) (b : List ℕ) (held holds : Held) where
 
   -- and other bytes as they are
   pub told_as_is : (fault : HexFault) (r : Result ℕ ToolFault) → hex ≡ false → HexFaulty b fault
-      → IfOk r (Writes Appends (TellsExplanation m []) b held holds) → IfOk r (Writes Appends (TellsText hex m) b held holds)
+      → IfOk r (Writes Appends (ReportsExplanation m []) b held holds) → IfOk r (Writes Appends (ReportsText hex m) b held holds)
   told_as_is fault (Ok status) free faulty written = record {
     text = written.text;
     told = record { bytes = b; heading = []; is = inr (free, (fault, faulty), refl, refl); done = written.told };

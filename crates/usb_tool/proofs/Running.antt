@@ -4,12 +4,12 @@ use Rattle.std.specs.Prelude.{IfErr, IfOk}
 use Rattle.usb_text.specs.Output.{Held}
 use Rattle.usb_tool.specs.Faults.{status_of}
 use Rattle.usb_tool.specs.Endings.{Left}
-use Rattle.usb_tool.specs.Runs.{Ends, Failure, TellsOutcome, Work}
+use Rattle.usb_tool.specs.Runs.{Ends, Failure, ReportsOutcome, Work}
 use Rattle.usb_tool.specs.declared.fault.ToolFault.{ToolFault}
 
 -- a command with this outcome ends so
 pub command_ends : (does : Work) (fails : Failure) (outcome : Result ℕ ToolFault) (from to : Left) (held holds errors told : Held) (status : ℕ)
-    → IfOk outcome (does from to held holds) → IfErr outcome (fails from to held holds) → TellsOutcome outcome errors told
+    → IfOk outcome (does from to held holds) → IfErr outcome (fails from to held holds) → ReportsOutcome outcome errors told
     → status ≡ status_of outcome → Ends does fails from to held holds errors told status
 command_ends does fails (Ok number) from to held holds errors told status done failed quiet ended =
     inl (subst (does from to held holds) (sym ended) done, quiet)

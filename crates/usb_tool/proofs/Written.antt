@@ -7,7 +7,7 @@ use Rattle.std.specs.Io.KnownBytes.{Appends, Keeps}
 use Rattle.arrayvec.specs.ArrayString.{ArrayString}
 use Rattle.usb_text.specs.Output.{AppendsFront, AppendsLess, Held}
 use Rattle.usb_text.proofs.Pages.{appends_kept, front_whole, keeps_refl, less_is_front}
-use Rattle.usb_tool.specs.Runs.{TellsLine}
+use Rattle.usb_tool.specs.Runs.{ReportsLine}
 use Rattle.usb_tool.specs.inside.Telling.{IsCutShort}
 use Rattle.usb_tool.specs.declared.fault.ToolFault.{ToolFault}
 use Rattle.usb_tool.specs.declared.fault.ToolFault.TheVariants as faults
@@ -34,7 +34,7 @@ front_written (Err e) text a b whole less = less_is_front a b text less
 -- and so the line that an empty buffer was given before, with its line feed
 pub line_written : {T E : Type 0} (r : Result T E) (line : Option (List ℕ)) (text : List ℕ) (empty full : ArrayString) (a b : Held)
     → empty.bytes ≡ [] → WritesText (λ (s : ArrayString) bytes (t : ArrayString). t.bytes ≡ s.bytes ++ bytes) empty (with_newline line) full → text ≡ full.bytes
-    → OnOk r (Appends a b text) → OnErr r (AppendsLess a b text) → IfSome line (λ l. TellsLine l a b)
+    → OnOk r (Appends a b text) → OnErr r (AppendsLess a b text) → IfSome line (λ l. ReportsLine l a b)
 line_written r None text empty full a b none writes is whole less = tt
 line_written r (Some l) text empty full a b none writes is whole less =
     let all = is ∙ (contents_after_writes _ (λ (s : ArrayString). s.bytes) (λ _ _ _ more. more) empty _ full writes ∙ ap (λ s. s ++ (l ++ 10 ∷ [])) none) in

@@ -56,21 +56,21 @@ HasBadSpeed o = running_said o.speed ≡ None
 unfoldable pub hexadecimal_words : ℕ → List ℕ
 hexadecimal_words n = codes "hexadecimal text, " ++ count n (codes "byte") ++ codes ": "
 
--- A text that explains bytes of which this was read, after a heading
+-- a heading, and the lines that explain bytes of which this was read
 pub record ExplainsAfter (m : Manner) (read : Reading) (heading b text : List ℕ) : Type 0 where
   pub lines : List ℕ
   pub is : IsExplanation m read b lines
   pub joined : text ≡ heading ++ lines
 
 -- the explanation of the set, the file or the dump that the bytes are is reported after a heading, with status 0
-pub record TellsExplanation (m : Manner) (heading b text : List ℕ) (status : ℕ) : Type 0 where
+pub record ReportsExplanation (m : Manner) (heading b text : List ℕ) (status : ℕ) : Type 0 where
   pub input : Input
   pub is : IsInput input b
   pub explains : ExplainsAfter m (Ok input) heading b text
   pub ended : status ≡ 0
 
 -- bytes that show a fault are explained as far as they go, with status 3
-pub record TellsBroken (m : Manner) (heading b text : List ℕ) (status : ℕ) : Type 0 where
+pub record ReportsBroken (m : Manner) (heading b text : List ℕ) (status : ℕ) : Type 0 where
   pub fault : InputFault
   pub shows : InputFaulty b fault
   pub explains : ExplainsAfter m (Err fault) heading b text
@@ -78,7 +78,7 @@ pub record TellsBroken (m : Manner) (heading b text : List ℕ) (status : ℕ) :
 
 -- one of both
 abbrev pub Explains : Manner → List ℕ → List ℕ → List ℕ → ℕ → Type 0
-Explains m heading b text status = TellsExplanation m heading b text status ⊎ TellsBroken m heading b text status
+Explains m heading b text status = ReportsExplanation m heading b text status ⊎ ReportsBroken m heading b text status
 
 -- so much of a heading and an explanation was written
 pub record WritesExplained (extent : Extent) (m : Manner) (read : Reading) (heading b : List ℕ) (held holds : Held) : Type 0 where
@@ -111,8 +111,8 @@ pub record DoesWithText (hex : Bool) (b : List ℕ) (does : List ℕ → List �
   pub done : does heading bytes
 
 -- their explanation is reported
-abbrev pub TellsText : Bool → Manner → Telling
-TellsText hex m b text status = DoesWithText hex b (λ heading bytes. TellsExplanation m heading bytes text status)
+abbrev pub ReportsText : Bool → Manner → Telling
+ReportsText hex m b text status = DoesWithText hex b (λ heading bytes. ReportsExplanation m heading bytes text status)
 
 -- hexadecimal text has to be, and the bytes are none, or out of memory as it is read
 abbrev pub RefusesHex : Bool → List ℕ → ToolFault → Type 0
@@ -128,7 +128,7 @@ RefusesText hex m b held holds fault =
 
 -- all was read, at most what a file can have, and its explanation was written
 abbrev pub Explained : Bool → Manner → Left → Left → Held → Held → ℕ → Type 0
-Explained hex m = Told FILE_LIMIT (TellsText hex m)
+Explained hex m = Told FILE_LIMIT (ReportsText hex m)
 
 -- how `explain` fails
 abbrev pub ExplainFails : Bool → Manner → Left → Left → Held → Held → ToolFault → Type 0

@@ -52,19 +52,19 @@ abbrev pub Course : Type 1
 Course = Left → Left → Held → Held → Held → Held → ℕ → Type 0
 
 -- a line was written, with its line feed or a prefix of that
-abbrev pub TellsLine : List ℕ → Held → Held → Type 0
-TellsLine line errors told = AppendsFront errors told (line ++ 10 ∷ [])
+abbrev pub ReportsLine : List ℕ → Held → Held → Type 0
+ReportsLine line errors told = AppendsFront errors told (line ++ 10 ∷ [])
 
 -- after a fault standard error has its line, and else nothing
-abbrev pub TellsOutcome : Result ℕ ToolFault → Held → Held → Type 0
-TellsOutcome (Ok number) errors told = Keeps errors told
-TellsOutcome (Err fault) errors told = TellsLine (fault_line fault) errors told
+abbrev pub ReportsOutcome : Result ℕ ToolFault → Held → Held → Type 0
+ReportsOutcome (Ok number) errors told = Keeps errors told
+ReportsOutcome (Err fault) errors told = ReportsLine (fault_line fault) errors told
 
 -- the command failed, and so the status is 3, and standard error has the line of the fault
 pub record EndsInFault (fails : Failure) (from to : Left) (held holds errors told : Held) (status : ℕ) : Type 0 where
   pub fault : ToolFault
   pub failed : fails from to held holds fault
-  pub line : TellsLine (fault_line fault) errors told
+  pub line : ReportsLine (fault_line fault) errors told
   pub ended : status ≡ 3
 
 -- the command did its work, its number is the status, and standard error has nothing, or it failed
@@ -84,7 +84,7 @@ pub record OptionsAreRefused (refuses : SettingsFault → Type 0) (from to : Lef
   pub refused : refuses fault
   pub input : Keeps from to
   pub output : Keeps held holds
-  pub line : TellsLine (settings_line fault) errors told
+  pub line : ReportsLine (settings_line fault) errors told
   pub ended : status ≡ settings_status fault
 
 -- how `explain` ends with these options: the one that is refused is a speed

@@ -4,7 +4,7 @@ ghost use Rattle.std.specs.Io.KnownBytes.{Appends};
 ghost use Rattle.usb_file_data.specs.Inputs.{InputRefused, IsInput};
 ghost use Rattle.usb_text.specs.Output.{AppendsLess};
 ghost use Rattle.usb_tool.specs.Endings.{Writes};
-ghost use Rattle.usb_tool.specs.Explains.{ExplainFails, Explained, NoInputIsHexadecimal, RefusesText, RefusesToExplain, TellsExplanation, TellsText, WritesExplained, hexadecimal_words};
+ghost use Rattle.usb_tool.specs.Explains.{ExplainFails, Explained, NoInputIsHexadecimal, RefusesText, RefusesToExplain, ReportsExplanation, ReportsText, WritesExplained, hexadecimal_words};
 ghost use Rattle.usb_tool.specs.inside.Telling.{CutsExplained};
 
 use crate::fault::ToolFault;
@@ -63,7 +63,7 @@ fn explain_text<W: Write>(
     manner: Manner,
     hex: bool,
 ) -> Result<u8, ToolFault>
-    ensures explained { IfOk result (Writes Appends (TellsText hex manner) bytes.now (W.contents w.old) (W.contents w.new)) }
+    ensures explained { IfOk result (Writes Appends (ReportsText hex manner) bytes.now (W.contents w.old) (W.contents w.new)) }
     ensures err { IfErr result (RefusesText hex manner bytes.now (W.contents w.old) (W.contents w.new)) }
 {
     match parse(alloc, bytes) {
@@ -85,7 +85,7 @@ fn explain_found<W: Write>(
     w: &mut W,
     manner: Manner,
 ) -> Result<u8, ToolFault>
-    ensures explained { IfOk result (Writes Appends (TellsExplanation manner (hexadecimal_words (length bytes.now))) bytes.now (W.contents w.old) (W.contents w.new)) }
+    ensures explained { IfOk result (Writes Appends (ReportsExplanation manner (hexadecimal_words (length bytes.now))) bytes.now (W.contents w.old) (W.contents w.new)) }
     ensures err { IfErr result (RefusesToExplain manner (hexadecimal_words (length bytes.now)) bytes.now (W.contents w.old) (W.contents w.new)) }
 {
     let mut heading = Text::new(alloc);
@@ -111,7 +111,7 @@ fn explain_bytes<W: Write>(
     w: &mut W,
     manner: Manner,
 ) -> Result<u8, ToolFault>
-    ensures explained { IfOk result (Writes Appends (TellsExplanation manner heading.now) bytes.now (W.contents w.old) (W.contents w.new)) }
+    ensures explained { IfOk result (Writes Appends (ReportsExplanation manner heading.now) bytes.now (W.contents w.old) (W.contents w.new)) }
     ensures err { IfErr result (RefusesToExplain manner heading.now bytes.now (W.contents w.old) (W.contents w.new)) }
 {
     let read = read_input(alloc, bytes);
@@ -129,7 +129,7 @@ fn explain_known<W: Write>(
 ) -> Result<u8, ToolFault>
     requires ok { IfOk read.now (λ input. IsInput input bytes.now) }
     requires err { IfErr read.now (InputRefused bytes.now) }
-    ensures explained { IfOk result (Writes Appends (TellsExplanation manner heading.now) bytes.now (W.contents w.old) (W.contents w.new)) }
+    ensures explained { IfOk result (Writes Appends (ReportsExplanation manner heading.now) bytes.now (W.contents w.old) (W.contents w.new)) }
     ensures err { IfErr result (RefusesToExplain manner heading.now bytes.now (W.contents w.old) (W.contents w.new)) }
 {
     match read {

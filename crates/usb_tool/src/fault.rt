@@ -3,7 +3,7 @@ ghost use Rattle.std.specs.Prelude.{◌≡◌, Some};
 ghost use Rattle.usb_tool.specs.Faults.{fault_line, fault_number, fault_of_file, fault_of_input, fault_of_list, fault_of_output, fault_of_set, status_of};
 ghost use Rattle.usb_tool.specs.declared.fault.ToolFault.TheVariants.{Memory};
 ghost use Rattle.std.specs.Prelude.{IfSome};
-ghost use Rattle.usb_tool.specs.Runs.{TellsLine};
+ghost use Rattle.usb_tool.specs.Runs.{ReportsLine};
 
 use arrayvec::ArrayString;
 use std::alloc::AllocError;
@@ -191,7 +191,7 @@ const ROOM: usize = 128;
 /// Writes the line of a fault and a line feed to standard error, as far as that takes them. This takes no memory: there may
 /// be none.
 pub(crate) fn tell_line<D: Display + Drop, E: Write>(fault: D, e: &mut E)
-    ensures { IfSome (D.output fault) (λ line. TellsLine line (E.contents e.old) (E.contents e.new)) }
+    ensures { IfSome (D.output fault) (λ line. ReportsLine line (E.contents e.old) (E.contents e.new)) }
 {
     let mut line = ArrayString::<ROOM>::new();
     match writeln!(line, "{fault}") {

@@ -4,7 +4,7 @@ ghost use Rattle.std.specs.IoError.{error_kind};
 ghost use Rattle.usb_tool.specs.Faults.{words_line, words_status};
 ghost use Rattle.usb_tool.specs.CommandLine.{no_flags};
 ghost use Rattle.usb_tool.specs.Faults.{status_of};
-ghost use Rattle.usb_tool.specs.Runs.{Answers, EndsEnumeration, EndsExplanation, EndsLine, Runs, TellsLine, TellsOutcome, line_status};
+ghost use Rattle.usb_tool.specs.Runs.{Answers, EndsEnumeration, EndsExplanation, EndsLine, Runs, ReportsLine, ReportsOutcome, line_status};
 ghost use Rattle.usb_tool.specs.OptionFaults.{settings_line, settings_status};
 
 use crate::build::{run_build, run_build_commented};
@@ -162,7 +162,7 @@ fn enumerate_with<R: Read, W: Write, E: Write>(
 /// The exit status of options that are refused, after the line of their fault.
 fn refuse<E: Write>(fault: SettingsFault, e: &mut E) -> u8
     ensures status { result ≡ settings_status fault }
-    ensures line { TellsLine (settings_line fault) (E.contents e.old) (E.contents e.new) }
+    ensures line { ReportsLine (settings_line fault) (E.contents e.old) (E.contents e.new) }
 {
     tell_line(fault, e);
     fault.status()
@@ -171,7 +171,7 @@ fn refuse<E: Write>(fault: SettingsFault, e: &mut E) -> u8
 /// The exit status of a command, after the line of its fault.
 fn report<E: Write>(outcome: &Result<u8, ToolFault>, e: &mut E) -> u8
     ensures status { result ≡ status_of outcome.now }
-    ensures line { TellsOutcome outcome.now (E.contents e.old) (E.contents e.new) }
+    ensures line { ReportsOutcome outcome.now (E.contents e.old) (E.contents e.new) }
 {
     if let Err(fault) = outcome {
         tell_line(*fault, e);

@@ -38,7 +38,7 @@ use Rattle.usb_explain.specs.declared.role.Role.TheVariants as roles
 use Rattle.usb_explain.specs.declared.position.Standing.{Standing}
 use Rattle.usb_explain.specs.Findings.{can_break, finding_at, is_here}
 use Rattle.usb_explain.specs.Contexts.{depth_of}
-use Rattle.usb_explain.specs.Laws.{WholeHasNoRest, WholeShowsTree, WholeTellsFindings}
+use Rattle.usb_explain.specs.Laws.{WholeHasNoRest, WholeShowsTree, WholeReportsFindings}
 use Rattle.usb_explain.specs.Owners.{of_set, owner_of}
 use Rattle.usb_explain.specs.SetStart.{entered}
 use Rattle.usb_explain.specs.Standings.{noted, passed, start}
@@ -334,7 +334,7 @@ whole_has_no_rest running input b is = nothing_left running input b (input_leave
 all_is_told : (running : Option SetSpeed) (input : Input) (b : List ℕ) → IsInput input b → Tells running input b
 all_is_told running input b is = all_tells running input b (input_leaves running input b is)
 
-pub whole_tells : WholeTellsFindings
+pub whole_tells : WholeReportsFindings
 whole_tells running input b is = (all_is_told running input b is).tells
 
 pub whole_shows : WholeShowsTree

@@ -70,7 +70,7 @@ pub few_left : (k : ℕ) (running : Option SetSpeed) (s : Standing) (ahead : Lis
 few_left k running s ahead le fs nil n enough =
     let w = walk_shows running n s fs ahead in
     let fewer : length w.rest ≤ k = omega (arith, le, cut_rest w.shown ahead w.rest w.cut) in
-    record { walk = w; aimed = fewer; all_told = nil_after (flat_map findings_of w.shown) w.left (w.tells ∙ nil) }
+    record { walk = w; aimed = fewer; all_reported = nil_after (flat_map findings_of w.shown) w.left (w.tells ∙ nil) }
 
 taken : (n : ℕ) (b : List ℕ) → length (take n b) ≤ n
 taken zero b = omega arith

@@ -165,7 +165,7 @@ goes_for E F running v later ahead follows goes s fs at rear n enough =
     record {
       walk = ended.walk;
       aimed = follows ended.walk.rest (map entry_in_tree ended.walk.shown) ended.aimed;
-      all_told = ended.all_told;
+      all_reported = ended.all_reported;
     }
 
 -- behind two runs of descriptors, one after the other

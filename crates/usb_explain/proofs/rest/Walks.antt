@@ -3,7 +3,7 @@ use Rattle.std.proofs.Common.{◌≡◌, ◌≤◌, ℕ, zero, suc, List, [], �
 use Rattle.usb_explain.specs.declared.role.Role.{Role}
 use Rattle.usb_explain.specs.declared.position.Standing.{Standing}
 use Rattle.usb_explain.specs.Outline.{Entry, after_next, end_of, entries, entry_next, findings_of, left_next, outline}
-use Rattle.usb_explain.specs.Laws.{EachFindingOnce, TellsItsOwn, as_in_tree}
+use Rattle.usb_explain.specs.Laws.{EachFindingOnce, HasItsOwnFindings, as_in_tree}
 use Rattle.usb_explain.specs.Findings.{finding_at, found_at, in_setting, is_here}
 use Rattle.std.specs.List.{AllByRecursion, take_while}
 use Rattle.std.proofs.lemmas.List.Sums.{take_while-cons}
@@ -69,11 +69,11 @@ all_pass p [] = tt
 all_pass p (f ∷ found) =
     subst (λ l. AllByRecursion (λ f. p f ≡ true) l) (sym (take_while-cons p f found)) (passed_by p f (take_while p found) (p f) refl (all_pass p found))
 
-pub tells_own : (d : Entry) → TellsItsOwn d
+pub tells_own : (d : Entry) → HasItsOwnFindings d
 unfolding found_at
 tells_own d = all_pass (is_here d.standing d.role) d.found
 
-all_own : (shown : List Entry) → AllByRecursion TellsItsOwn shown
+all_own : (shown : List Entry) → AllByRecursion HasItsOwnFindings shown
 all_own [] = tt
 all_own (d ∷ ds) = (tells_own d, all_own ds)
 
@@ -112,7 +112,7 @@ both_all : (P : Found → Type 0) (xs ys : List Found) → AllByRecursion P xs �
 both_all P [] ys one two = two
 both_all P (x ∷ xs) ys one two = (one.0, both_all P xs ys one.1 two)
 
-all_have_rules : (shown : List Entry) → AllByRecursion TellsItsOwn shown → AllByRecursion (λ f. HasRule f.finding) (flat_map findings_of shown)
+all_have_rules : (shown : List Entry) → AllByRecursion HasItsOwnFindings shown → AllByRecursion (λ f. HasRule f.finding) (flat_map findings_of shown)
 all_have_rules [] own = tt
 all_have_rules (d ∷ ds) own =
     both_all (λ f. HasRule f.finding) (findings_of d) (flat_map findings_of ds)
@@ -135,7 +135,7 @@ all_tells running input b leaves =
     let es = entries running found b in
     let told : flat_map findings_of es ≡ found =
     ap (λ l. flat_map findings_of l) w.is ∙ sym (append-nil (flat_map findings_of w.shown))
-    ∙ ap (λ l. flat_map findings_of w.shown ++ l) (sym ended.all_told) ∙ w.tells in
+    ∙ ap (λ l. flat_map findings_of w.shown ++ l) (sym ended.all_reported) ∙ w.tells in
     let own = all_own es in
     let ruled = without_causes found (subst (λ l. AllByRecursion (λ f. HasRule f.finding) l) told (all_have_rules es own)) in
     record {

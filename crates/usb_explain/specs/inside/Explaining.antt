@@ -26,7 +26,7 @@ pub record PutsDescriptors (subject : Subject) (ds : List Described) (old new : 
   pub place_is : place ≡ length (bytes_of ds)
   pub between : StopsBetween subject ds before old new
 
--- so it is of those that were done, and the others are left
+-- the lines of the descriptors that were gone over are put, their bytes come up to the place, and the others are left
 pub record DoneSoFar (subject : Subject) (ds left : List Described) (old new : Held) (before after : Written) (place : ℕ) : Type 0 where
   pub done : List Described
   pub parts : ds ≡ done ++ left
