@@ -37,8 +37,8 @@ enum nzg_status {
     NZG_NO_ROOM = 7,           /* length is wanted */
     NZG_NO_MEMORY = 8,
     NZG_CLOSED = 9,            /* the handle holds nothing */
-    NZG_BAD_ARGUMENT = 10,     /* number: 1 address, 2 attempts, 3 speed, 4 a fate */
-    NZG_TROUBLE = 11,          /* number 1..7: why an enumeration failed */
+    NZG_BAD_ARGUMENT = 10,     /* number: 1 address, 2 attempts, 3 speed, 4 a fate, 5 a rule, 6 no string, 7 a packet size, 8 a reply */
+    NZG_TROUBLE = 11,          /* number 1..7: why a transfer or an enumeration failed */
     NZG_UNANSWERED = 12,       /* number 1..4: why the device doesn't take the answer to a request */
     NZG_NO_BYTES = 13          /* number: why the file of a host has no bytes; a law of the library says it doesn't come */
 };
@@ -77,6 +77,73 @@ struct nzg_outcome { uint64_t transactions; uint8_t attempts, address, selected,
 /* fates: one letter a transaction, as for `usbdesc enumerate --fates`. The text is the listing of what was read. */
 struct nzg_answer nzg_enumerate(const uint8_t *bytes, size_t len, uint8_t speed, uint16_t naks, uint8_t attempts, const uint8_t *fates, size_t fates_len, struct nzg_outcome *outcome, uint8_t *text, size_t room);
 
+/* --- descriptors as numbers: no memory is asked for ------------------------------------------------------------ */
+
+enum nzg_role {
+    NZG_DEVICE = 1, NZG_CONFIGURATION = 2, NZG_INTERFACE = 3, NZG_ENDPOINT = 4, NZG_ASSOCIATION = 5,
+    NZG_RAW = 6, /* of a class, of a vendor, or of a type that has no meaning in a set */
+    NZG_QUALIFIER = 7, NZG_LANGUAGES = 8, NZG_STRING = 9
+};
+
+/* A descriptor where it stands in its input. The walk goes on from it, so a copy is a place to come back to. What does
+ * not apply is 0. Class, subclass and protocol are those of the interface setting that it belongs to, of a device its
+ * own; endpoint is the address of the endpoint that it is or belongs to. */
+struct nzg_descriptor {
+    size_t place;             /* of its first byte */
+    size_t set_end;           /* of the set that it is in */
+    size_t languages_place;   /* of the list of languages, once it came */
+    size_t strings;           /* strings that came, it included */
+    size_t main_sets, other_sets; /* sets that came, of the device and of the other speed */
+    size_t set;               /* number of the set in its part, from 0 */
+    size_t associations;      /* associations of this set that came, it included */
+    size_t setting, settings; /* number of the setting in its set, from 0: as findings count; and how many came */
+    size_t endpoint_number, endpoints; /* number of the endpoint in its setting, from 0; and how many came */
+    uint64_t named[4];        /* bit i % 64 of word i / 64: a descriptor so far names string i */
+    uint16_t language;        /* of a string */
+    uint8_t length, type;     /* bLength, bDescriptorType */
+    uint8_t role;             /* enum nzg_role; 0 before the first descriptor */
+    uint8_t owner;            /* of an association or a raw one: the role of what it belongs to */
+    uint8_t depth;            /* 0 device, 1 configuration, 2, 3, 4; a raw one after an association is one of its set */
+    uint8_t part;             /* 0 device, 1 its sets, 2 its qualifier and the sets of the other speed */
+    uint8_t interface_, alternate, class_, subclass, protocol;
+    uint8_t endpoint;         /* bEndpointAddress */
+    uint8_t index;            /* of a string */
+    bool has_device, has_languages; /* they came */
+};
+
+/* The first descriptor after {0}, or the one after it. False where none can stand there: nothing changes then. Of bytes
+ * that nzg_judge takes it goes to their end; of others as far as they can be read. */
+bool nzg_next(const uint8_t *bytes, size_t len, struct nzg_descriptor *descriptor);
+
+struct nzg_field {
+    size_t place;       /* of its first byte */
+    uint64_t value;     /* of a field of at most eight bytes, little-endian; else 0 */
+    uint8_t width;      /* bytes */
+    uint8_t name_length;
+    uint8_t name[62];   /* as in the standard of its descriptor; the bytes after it are 0 */
+};
+/* The n-th field of a descriptor, from 0. False where it has none, or is none of these bytes: nothing changes then. */
+bool nzg_field(const uint8_t *bytes, size_t len, const struct nzg_descriptor *descriptor, size_t n, struct nzg_field *field);
+
+/* --- facts about bytes; these ask for memory ----------------------------------------------------------------------- */
+
+/* what the bytes are: done, and number 1 a set, 2 a descriptor file, 3 a dump; or the fault */
+struct nzg_answer nzg_judge(const uint8_t *bytes, size_t len);
+
+struct nzg_finding {
+    size_t place;              /* of the descriptor that breaks the rule */
+    uint16_t setting, endpoint;
+    uint8_t rule, part, set, role;
+};
+/* Each broken rule, in the order of the bytes. Room and length count findings. */
+struct nzg_answer nzg_findings(const uint8_t *bytes, size_t len, struct nzg_finding *found, size_t room);
+/* what a rule from 1 to 13 asks, as in docs/formats.md */
+struct nzg_answer nzg_rule(uint8_t rule, uint8_t *text, size_t room);
+/* a string, as UTF-8 with escapes for what is no character */
+struct nzg_answer nzg_text(const uint8_t *bytes, size_t len, const struct nzg_descriptor *string, uint8_t *text, size_t room);
+/* a dump as a descriptor file, with the strings that `usbdesc enumerate --with-strings` puts */
+struct nzg_answer nzg_with_strings(const uint8_t *dump, size_t len, uint8_t *file, size_t room);
+
 /* --- transactions ------------------------------------------------------------------------------------------------ */
 
 enum nzg_stage { NZG_SETUP = 0, NZG_IN = 1, NZG_OUT = 2 };
@@ -108,11 +175,25 @@ bool nzg_device_carried_out(struct nzg_device *device, struct nzg_setup *setup);
 bool nzg_device_state(struct nzg_device *device, struct nzg_state *state);
 void nzg_device_close(struct nzg_device *device);
 
+/* --- the host end: one control transfer; only _open asks for memory ------------------------------------------------ */
+
+struct nzg_transfer { void *held; };
+
+/* packet: bMaxPacketSize0, 1 to 255; naks: how many NAKs in a row are taken */
+struct nzg_answer nzg_transfer_open(struct nzg_transfer *transfer, uint8_t address, uint8_t packet, uint16_t naks, const struct nzg_setup *setup);
+/* False once it has ended, or where nothing is held: the transaction is then as it was. */
+bool nzg_transfer_next(struct nzg_transfer *transfer, struct nzg_transaction *transaction);
+/* open: it goes on; done; trouble with its number. The first `length` of these bytes are new and belong to the answer. */
+struct nzg_answer nzg_transfer_take(struct nzg_transfer *transfer, uint8_t reply, uint8_t toggle, const uint8_t *data, size_t len);
+void nzg_transfer_close(struct nzg_transfer *transfer);
+
 /* --- the host end: _open, _take and _outcome ask for memory ---------------------------------------------------------- */
 
 struct nzg_host { void *held; };
 enum nzg_action { NZG_RESET = 0, NZG_SEND = 1, NZG_ENDED = 2, NZG_NONE = 3 };
 struct nzg_trouble { uint8_t why, step, index; uint16_t language; };
+/* step and index and language as in nzg_outcome; naks so far in a row, bytes kept so far, strikes: losses in a row */
+struct nzg_step { uint16_t naks, kept, language; uint8_t step, index, strikes, setup[8]; };
 
 struct nzg_answer nzg_host_open(struct nzg_host *host, uint8_t address, uint16_t naks, uint8_t attempts, uint8_t speed);
 /* enum nzg_action. An OUT has no bytes. But for NZG_SEND the transaction is as it was. */
@@ -120,6 +201,8 @@ uint8_t nzg_host_next(struct nzg_host *host, struct nzg_transaction *transaction
 bool nzg_host_reset_done(struct nzg_host *host);
 /* False where nothing is held, or where the reply or the toggle of NZG_DATA has no meaning: nothing changes then. */
 bool nzg_host_take(struct nzg_host *host, uint8_t reply, uint8_t toggle, const uint8_t *data, size_t len);
+/* The request that the host makes now, for a log; false where there is none, and the step is then as it was. */
+bool nzg_host_step(struct nzg_host *host, struct nzg_step *step);
 uint8_t nzg_host_attempts(struct nzg_host *host);
 struct nzg_answer nzg_host_outcome(struct nzg_host *host, struct nzg_trouble *trouble, uint8_t *file, size_t room);
 void nzg_host_close(struct nzg_host *host);

@@ -12,6 +12,7 @@ mod answer;
 mod buffer;
 mod decoder;
 mod decoder_handle;
+mod descriptor;
 mod device;
 mod device_handle;
 mod enumeration;
@@ -26,6 +27,7 @@ pub use answer::Answer;
 pub use buffer::{nzg_build, nzg_check, nzg_enumerate, nzg_explain, nzg_show};
 pub use decoder::{nzg_decoder_close, nzg_decoder_feed, nzg_decoder_list, nzg_decoder_open};
 pub use decoder_handle::NzgDecoder;
+pub use descriptor::NzgDescriptor;
 pub use device::{
     NzgSetup, NzgState, nzg_device_accept, nzg_device_acked, nzg_device_answer_with,
     nzg_device_carried_out, nzg_device_close, nzg_device_open, nzg_device_refused,
