@@ -22,7 +22,7 @@ use Rattle.usb_explain.specs.Lines.{place_shown}
 use Rattle.usb_explain.specs.Outline.{Described, bytes_of}
 use Rattle.usb_explain.specs.RemarkLines.{remark_lines}
 use Rattle.usb_explain.specs.Subjects.{Reading, Subject, subject_of}
-use Rattle.usb_explain.specs.inside.Explaining.{DoneSoFar, EndsAfter, PutsDescriptors, StopsBetween, line_count}
+use Rattle.usb_explain.specs.inside.Explaining.{DoneSoFar, PutsDescriptors, StopsBetween, line_count}
 
 -- ---- how many lines are ended
 

@@ -7,7 +7,7 @@ use Rattle.usb_explain.specs.declared.role.Role.{Role}
 use Rattle.usb_explain.specs.declared.speed.SetSpeed.{SetSpeed}
 use Rattle.usb_explain.specs.declared.standing.Standing.{Standing}
 use Rattle.usb_explain.specs.Numbered.{Numbered, NumbersAreOutline, first_numbered, numbered_next, facts_of, next_position, facts_by_position}
-use Rattle.usb_explain.specs.Outline.{Entry, after_next, describe, entries, entry_next, first_entries, left_next}
+use Rattle.usb_explain.specs.Outline.{Entry, after_next, describe, entries, first_entries, left_next}
 use Rattle.usb_explain.specs.Positions.{first_position}
 use Rattle.usb_explain.specs.Roles.{next_role}
 use Rattle.usb_explain.specs.Standings.{start}

@@ -5,7 +5,7 @@ use Rattle.usb_set.specs.declared.endpoint.TransferType.{TransferType}
 use Rattle.usb_set.specs.declared.endpoint.TransferType.TheVariants.{Isochronous, Interrupt}
 use Rattle.usb_text.specs.Shown.{Shown, Bytes, Name, Number}
 use Rattle.usb_explain.specs.declared.speed.SetSpeed.{SetSpeed}
-use Rattle.usb_explain.specs.declared.speed.SetSpeed.TheVariants.{Low, Full, LowOrFull, High, FullOrHigh, Super}
+use Rattle.usb_explain.specs.declared.speed.SetSpeed.TheVariants.{High, FullOrHigh, Super}
 
 -- the unit of bMaxPower in milliamperes (USB 2.0, 9.6.3, and USB 3.2, 9.6.3)
 abbrev pub power_unit : SetSpeed → ℕ

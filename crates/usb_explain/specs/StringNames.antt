@@ -5,7 +5,7 @@ use Rattle.usb_file_data.specs.declared.file.Strings.{Strings}
 use Rattle.usb_file_data.specs.File.{named_indices, units_at}
 use Rattle.usb_text.specs.Shown.{Shown, Number, Units}
 use Rattle.usb_explain.specs.declared.string_names.Missing.{Missing}
-use Rattle.usb_explain.specs.declared.string_names.Missing.TheVariants.{NotInInput, NotRead}
+use Rattle.usb_explain.specs.declared.string_names.Missing.TheVariants.{NotInInput}
 
 -- the strings of an input and the indices that name them, why there is no string of another index, and whether characters
 -- beyond ASCII are written

@@ -2,11 +2,10 @@
 ghost use Rattle.std.specs.Prelude.{◌≡◌, ◌≤◌, ◌-◌, ◌∷◌, [], ◌&&◌, IsTrue, IfSome, MatchOption, map, nat_le, nat_lt, option_map};
 ghost use Rattle.std.specs.Option.{option_copied};
 ghost use Rattle.usb_names.specs.Shown.{field_of, row_of};
-ghost use Rattle.usb_text.specs.Written.{is_words};
 ghost use Rattle.usb_explain.specs.Fields.{class_layout, fields_of, laid, left_over, placed_of};
 ghost use Rattle.usb_explain.specs.Headers.{row_layout};
 ghost use Rattle.usb_explain.specs.Layouts.{width_of};
-ghost use Rattle.usb_explain.specs.inside.FieldsLeft.{layout_has_words, layout_left, left_in, lists_have_words, no_layout, piece_of};
+ghost use Rattle.usb_explain.specs.inside.FieldsLeft.{is_name, layout_has_words, layout_left, left_in, lists_have_words, no_layout, piece_of};
 ghost use Rattle.usb_explain.specs.inside.Walking.{layout_of};
 
 use crate::field::Field;
@@ -213,7 +212,7 @@ impl Lists {
         requires { IsTrue (lists_have_words self) }
         ensures first { MatchOption result (left_in self count ≡ []) (λ next. left_in self count ≡ piece_of next.0 ∷ left_in next.1 (count - next.0.width)) }
         ensures fits { IfSome result (λ next. next.0.width ≤ count) }
-        ensures name { IfSome result (λ next. IsTrue (is_words next.0.name.now)) }
+        ensures name { IfSome result (λ next. IsTrue (is_name next.0.name.now)) }
         ensures words { IfSome result (λ next. IsTrue (lists_have_words next.1)) }
     {
         let lists = self.turned(count);
@@ -268,10 +267,10 @@ impl Lists {
 
     /// The bytes that are left, as a field.
     fn left_over(self, count: usize) -> Option<(Piece, Lists)>
-        requires { IsTrue (is_words self.rest.now) }
+        requires { IsTrue (is_name self.rest.now) }
         ensures first { MatchOption result (left_over self.rest.now count ≡ []) (λ next. left_over self.rest.now count ≡ piece_of next.0 ∷ left_in next.1 (count - next.0.width)) }
         ensures fits { IfSome result (λ next. next.0.width ≤ count) }
-        ensures name { IfSome result (λ next. IsTrue (is_words next.0.name.now)) }
+        ensures name { IfSome result (λ next. IsTrue (is_name next.0.name.now)) }
         ensures words { IfSome result (λ next. IsTrue (lists_have_words next.1)) }
     {
         if count == 0 {

@@ -1,5 +1,5 @@
 -- What is left of a descriptor's fields.
-use Rattle.std.specs.Prelude.{ℕ, ◌&&◌, Bool, List, [], ◌++◌, map}
+use Rattle.std.specs.Prelude.{ℕ, ◌&&◌, Bool, length, nat_le, List, [], ◌++◌, map}
 use Rattle.std.specs.List.{list_all}
 use Rattle.usb_names.specs.Shown.{Field, field_of}
 use Rattle.usb_text.specs.Written.{is_words}
@@ -24,9 +24,13 @@ left_in l n = let layout = layout_left l in fields_in_bytes layout.fields layout
 abbrev pub piece_of : Piece → Field
 piece_of p = record { name = p.name.now; width = p.width; form = p.form }
 
--- the name of a field is printable
+-- a name is printable, and has at most 62 characters
+abbrev pub is_name : List ℕ → Bool
+is_name words = is_words words && nat_le (length words) 62
+
+-- so is that of a field
 abbrev pub has_words : Field → Bool
-has_words field = is_words field.name
+has_words field = is_name field.name
 
 -- the names of these fields are
 abbrev pub have_words : List Field → Bool
@@ -34,9 +38,9 @@ have_words fields = list_all has_words fields
 
 -- the names in a layout are
 abbrev pub layout_has_words : Layout → Bool
-layout_has_words layout = have_words layout.fields && (have_words layout.group && is_words layout.rest)
+layout_has_words layout = have_words layout.fields && (have_words layout.group && is_name layout.rest)
 
 -- the names in these lists are
 abbrev pub lists_have_words : Lists → Bool
 lists_have_words l =
-    have_words (map field_of l.current.now) && (have_words (map field_of l.following.now) && (have_words (map field_of l.group.now) && is_words l.rest.now))
+    have_words (map field_of l.current.now) && (have_words (map field_of l.following.now) && (have_words (map field_of l.group.now) && is_name l.rest.now))

@@ -5,7 +5,7 @@ use Rattle.usb_text.specs.Written.{LineBytes, more_lines, written}
 use Rattle.usb_text.proofs.Pages.{on_err}
 use Rattle.usb_explain.specs.Explanations.{descriptors_of, found_of}
 use Rattle.usb_explain.specs.Outline.{outline}
-use Rattle.usb_explain.proofs.Explaining.{explains_between, explains_cut, explains_less, explains_no_end, explains_nothing, explains_whole, if_memory, no_memory, same_memory}
+use Rattle.usb_explain.proofs.Explaining.{explains_between, explains_cut, explains_less, explains_no_end, explains_nothing, explains_whole, if_memory, same_memory}
 use Rattle.usb_explain.proofs.Spans.{bytes_within}
 use Rattle.usb_explain.proofs.explanation.explain.Goals as goal
 

@@ -1,8 +1,7 @@
 use Rattle.std.proofs.Common.{◌≡◌, ◌∷◌, arith}
-use Rattle.usb_text.specs.Written.{written}
 use Rattle.usb_text.proofs.Pages.{on_err}
 use Rattle.usb_explain.specs.Outline.{described}
-use Rattle.usb_explain.proofs.Explaining.{all_done, done_within, failed_at, if_memory, no_memory, none_done, one_done, same_memory, stopped_at}
+use Rattle.usb_explain.proofs.Explaining.{done_within, failed_at, none_done, one_done, stopped_at}
 use Rattle.usb_explain.proofs.explanation.write_descriptors.Goals as goal
 
 pub loop-descriptor-init : goal.loop-descriptor-init

@@ -1,6 +1,5 @@
-use Rattle.std.proofs.Common.{◌≡◌, ◌∙◌, ap, sym, true}
+use Rattle.std.proofs.Common.{◌∙◌, ap, sym}
 use Rattle.usb_text.specs.Written.{is_words}
-use Rattle.usb_explain.specs.Names.{has_characters}
 use Rattle.usb_explain.proofs.Guids.{characters_are_words}
 use Rattle.usb_explain.proofs.names.put_guid.Goals as goal
 
