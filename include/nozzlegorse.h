@@ -175,6 +175,24 @@ bool nzg_device_carried_out(struct nzg_device *device, struct nzg_setup *setup);
 bool nzg_device_state(struct nzg_device *device, struct nzg_state *state);
 void nzg_device_close(struct nzg_device *device);
 
+/* Why a device under test may not answer so: what is due is another answer. */
+enum nzg_difference {
+    NZG_ALLOWED = 0,
+    NZG_NOT_TAKEN = 1,  /* no ACK of a SETUP (8.4.6.4) */
+    NZG_ADDRESS = 2,    /* an answer at another address, or none at its own: a new one holds after the status stage (9.4.6) */
+    NZG_TOGGLE = 3,     /* DATA0 for DATA1 or the reverse: DATA1 is first, and each packet that is acknowledged flips it (8.5.3, 8.6) */
+    NZG_NOT_EMPTY = 4,  /* no empty packet, after a whole multiple of the packet size (8.5.3.2) or as the status (8.5.3.1) */
+    NZG_BYTES = 5,      /* other bytes (8.5.3.2, 9.4) */
+    NZG_STALLED = 6,    /* STALL of a request that the device has (9.4) */
+    NZG_NOT_STALLED = 7, /* no STALL of a request that it does not have, or before the SETUP after one (9.2.7, 8.5.3.4) */
+    NZG_OTHER_PACKET = 8, /* data for OUT, or an ACK for IN (8.4.6.1, 8.4.6.3) */
+    NZG_NOT_JUDGED = 9  /* nothing is held, or a stage, a toggle, a reply or a length above 64 has no meaning: nothing changes */
+};
+/* A device under test was sent this in the transfer of this request, and that came. The device here has the same, and is ready
+ * where the other one was: its answer goes into `has`. Of what came is allowed: the same; anything in the transfer of a request
+ * that this one refuses and its owner may answer; and a status of a device that differs in bit 0 (9.4.5). */
+uint8_t nzg_judge_device(struct nzg_device *device, const struct nzg_setup *request, const struct nzg_transaction *transaction, const uint8_t *data, size_t len, const struct nzg_packet *came, struct nzg_packet *has);
+
 /* --- the host end: one control transfer; only _open asks for memory ------------------------------------------------ */
 
 struct nzg_transfer { void *held; };

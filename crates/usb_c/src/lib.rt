@@ -22,6 +22,7 @@ mod loose;
 mod outcome;
 mod taken;
 mod text;
+mod under_test;
 
 pub use answer::Answer;
 pub use buffer::{nzg_build, nzg_check, nzg_enumerate, nzg_explain, nzg_show};
@@ -41,4 +42,5 @@ pub use host::{
 };
 pub use host_handle::NzgHost;
 pub use outcome::NzgTrouble;
+pub use under_test::nzg_judge_device;
 pub use usb_device::{NzgPacket, NzgTransaction};
