@@ -1,7 +1,7 @@
 //! A device under test beside a device that C holds.
 ghost use Rattle.std.specs.Prelude.{◌≡◌};
 ghost use Rattle.usb_fields.specs.Setup.{setup_of};
-ghost use Rattle.usb_c.specs.UnderTest.{JudgesDevice, judged_number};
+ghost use Rattle.usb_c.specs.Conformance.{JudgesDevice, judged_number};
 ghost use Rattle.usb_device.specs.Transactions.{packet_told, sent_told};
 
 use crate::device::NzgSetup;
