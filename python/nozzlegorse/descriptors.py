@@ -43,14 +43,14 @@ class Descriptor:
     depth: int
     owner: str | None
     part: str
-    set_number: int
-    setting_number: int
+    set: int
+    setting: int
     endpoint_number: int
     interface: int
     alternate: int
     codes: tuple[int, int, int]
     _input: bytes = field(compare=False)
-    _at: object = field(compare=False)
+    _at: bytes = field(compare=False)
 
     @property
     def type(self) -> int:
@@ -60,8 +60,8 @@ class Descriptor:
     @property
     def fields(self) -> list[Field]:
         """Each field in the order of the bytes, of descriptors of classes too."""
-        found, lent, it = [], c.lend(self._input), c.structs["field"]()
-        while c.lib.nzg_field(*lent, self._at, len(found), it):
+        found, at, it = [], self._numbers(), c.structs["field"]()
+        while c.lib.nzg_field(*c.lend(self._input), at, len(found), it):
             name = bytes(it.name)[:it.name_length].decode("ascii")
             found.append(Field(name, it.place, self._input[it.place:it.place + it.width]))
         return found
@@ -71,6 +71,9 @@ class Descriptor:
             if it.name == name:
                 return it.value
         raise KeyError(name)
+
+    def _numbers(self):
+        return c.structs["descriptor"].from_buffer_copy(self._at)
 
     def _words(self) -> str:
         return ""
@@ -97,8 +100,23 @@ class Qualifier(Descriptor):
 class Device(Descriptor):
     """A device descriptor."""
 
+    @property
+    def vendor(self) -> int:
+        """idVendor."""
+        return int.from_bytes(self.data[8:10], "little")
+
+    @property
+    def product(self) -> int:
+        """idProduct."""
+        return int.from_bytes(self.data[10:12], "little")
+
+    @property
+    def max_packet_size(self) -> int:
+        """bMaxPacketSize0."""
+        return self.data[7]
+
     def _words(self):
-        return f" {self['idVendor']:04x}:{self['idProduct']:04x}"
+        return f" {self.vendor:04x}:{self.product:04x}"
 
 
 class Languages(Descriptor):
@@ -116,17 +134,17 @@ class String(Descriptor):
     @property
     def language(self) -> int:
         """Its language's code."""
-        return self._at.language
+        return self._numbers().language
 
     @property
     def index(self) -> int:
         """Its index."""
-        return self._at.index
+        return self._numbers().index
 
     @property
     def text(self) -> str:
         """Its characters, with escapes for what is none."""
-        answer, out = c.into(c.lib.nzg_text, *c.lend(self._input), self._at)
+        answer, out = c.into(c.lib.nzg_text, *c.lend(self._input), self._numbers())
         done(answer)
         return out.decode()
 
@@ -263,7 +281,7 @@ def _walk(data, length, at):
         yield _CLASSES[ROLES[at.role]](
             ROLES[at.role], at.place, data[at.place:at.place + at.length], at.depth, ROLES[at.owner], PARTS[at.part], at.set,
             at.setting, at.endpoint_number, at.interface_, at.alternate, (at.class_, at.subclass, at.protocol), data,
-            type(at).from_buffer_copy(at))
+            bytes(at))
 
 
 def judge(data: bytes) -> str:

@@ -23,7 +23,7 @@ class Fault(ValueError):
     >>> import nozzlegorse as usb
     >>> try: usb.read(bytes([9, 2, 9]))
     ... except usb.Fault as fault: print(fault)
-    set_fault 9 (Truncated) at 3
+    set fault 9 (Truncated) at 3
     """
 
     def __init__(self, kind: str, number: int = 0, place: int = 0, step: str = ""):
@@ -37,9 +37,11 @@ class Fault(ValueError):
         return names[self.number - 1] if 0 < self.number <= len(names) else ""
 
     def __str__(self) -> str:
-        where = {"set_fault": " at {}", "file_fault": " at {}", "trailing": " at {}", "list_fault": " in line {}"}.get(self.kind, "")
-        return (self.kind + f" {self.number}" * bool(self.number) + f" ({self.name})" * bool(self.name) + where.format(self.place)
-                + f" in {self.step}" * bool(self.step))
+        words = {"list_fault": "listing fault", "trailing": "trailing bytes"}.get(self.kind, self.kind.replace("_", " "))
+        words += f" {self.number} ({self.name})" if self.number else ""
+        if self.kind in ("set_fault", "file_fault", "trailing"):
+            return f"{words} at {self.place}"
+        return f"{words} line {self.place}" if self.kind == "list_fault" else words + (f" in {self.step}" if self.step else "")
 
 
 def step_word(it) -> str:

@@ -29,7 +29,7 @@ pub fn judge(bytes: &[u8]) -> Result<Input, Fault> {
 #[derive(Clone, Copy, Debug, PartialEq, Eq, Hash)]
 pub enum Role {
     /// A device descriptor.
-    Device,
+    Device = 1,
     /// A configuration descriptor, of the device's own speed or of its other.
     Configuration,
     /// An interface at one of its settings.
