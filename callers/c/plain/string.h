@@ -1,0 +1,4 @@
+#include <stddef.h>
+size_t strlen(const char *text);
+int memcmp(const void *a, const void *b, size_t length);
+void *memset(void *to, int byte, size_t length);
