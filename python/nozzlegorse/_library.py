@@ -48,6 +48,8 @@ struct nzg_answer nzg_device_accept(struct nzg_device *);
 bool nzg_device_carried_out(struct nzg_device *, struct nzg_setup *);
 bool nzg_device_state(struct nzg_device *, struct nzg_state *);
 void nzg_device_close(struct nzg_device *);
+uint8_t nzg_judge_device(struct nzg_device *, const struct nzg_setup *, const struct nzg_transaction *, const uint8_t *, size_t,
+    const struct nzg_packet *, struct nzg_packet *);
 struct nzg_answer nzg_transfer_open(struct nzg_transfer *, uint8_t, uint8_t, uint16_t, const struct nzg_setup *);
 bool nzg_transfer_next(struct nzg_transfer *, struct nzg_transaction *);
 struct nzg_answer nzg_transfer_take(struct nzg_transfer *, uint8_t, uint8_t, const uint8_t *, size_t);
