@@ -179,11 +179,13 @@ void nzg_device_close(struct nzg_device *device);
 
 struct nzg_transfer { void *held; };
 
-/* packet: bMaxPacketSize0, 1 to 255; naks: how many NAKs in a row are taken */
+/* address: 0 to 127; packet: bMaxPacketSize0, 1 to 255; naks: how many NAKs without progress are taken. After a fault the
+ * handle is as it was. */
 struct nzg_answer nzg_transfer_open(struct nzg_transfer *transfer, uint8_t address, uint8_t packet, uint16_t naks, const struct nzg_setup *setup);
 /* False once it has ended, or where nothing is held: the transaction is then as it was. */
 bool nzg_transfer_next(struct nzg_transfer *transfer, struct nzg_transaction *transaction);
-/* open: it goes on; done; trouble with its number. The first `length` of these bytes are new and belong to the answer. */
+/* open: it goes on, and the first `length` of these bytes, all or none, are new; done; trouble with its number. A reply, or a
+ * toggle of NZG_DATA, that has no meaning is a bad argument: nothing changes then. */
 struct nzg_answer nzg_transfer_take(struct nzg_transfer *transfer, uint8_t reply, uint8_t toggle, const uint8_t *data, size_t len);
 void nzg_transfer_close(struct nzg_transfer *transfer);
 

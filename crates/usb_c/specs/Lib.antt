@@ -4,4 +4,5 @@ pub mod Devices
 pub mod Enumerations
 pub mod Hosts
 pub mod Texts
+pub mod Transfers
 pub mod inside
