@@ -1,6 +1,6 @@
 /* nozzlegorse.h: USB 2.0 descriptors, a device's end and a host's end of the control pipe, by a proved library.
  *
- * docs/callers.md tells who owns what, what each status says, and how a program without a C library links. In short:
+ * docs/callers.md tells who owns what, and how a program without a C library links. In short:
  *
  *  - A pointer and its length are lent for the call. The pointer is never NULL, also where the length is 0; the length
  *    is below 2^63; what is written overlaps nothing else that is passed. A pointer to a struct is not NULL.
