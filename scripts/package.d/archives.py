@@ -119,9 +119,9 @@ def packed(files, epoch):
 
 
 def plain(made):
-    top = f"nozzlegorse-{made.version}"
+    top = f"nozzlegorse-{made.version}-linux-x86_64"
     files = installed(made, "lib", "${pcfiledir}/../..")
-    return f"{top}-linux-x86_64.tar.gz", packed({f"{top}/{path}": it for path, it in files.items()}, made.epoch)
+    return f"{top}.tar.gz", packed({f"{top}/{path}": it for path, it in files.items()}, made.epoch)
 
 
 def crate(made):
