@@ -119,9 +119,9 @@ def packed(files, epoch):
 
 
 def plain(made):
-    top = f"nozzlegorse-{made.version}"
+    top = f"nozzlegorse-{made.version}-linux-x86_64"
     files = installed(made, "lib", "${pcfiledir}/../..")
-    return f"{top}-linux-x86_64.tar.gz", packed({f"{top}/{path}": it for path, it in files.items()}, made.epoch)
+    return f"{top}.tar.gz", packed({f"{top}/{path}": it for path, it in files.items()}, made.epoch)
 
 
 def crate(made):
@@ -150,7 +150,6 @@ def wheel(made):
     files = {f"nozzlegorse/{os.path.basename(it)}": (with_version(it, made), 0o644) for it in python_module()}
     files["nozzlegorse/libnozzlegorse.so"] = read(f"{made.room}/libnozzlegorse.so"), 0o644
     files[f"{name}.data/scripts/usbdesc"] = read(f"{made.room}/usbdesc"), 0o755
-    files[f"{name}.data/data/share/man/man1/usbdesc.1"] = man(made), 0o644
     files[f"{info}/METADATA"] = METADATA.format(version=made.version, summary=SUMMARY).encode(), 0o644
     files[f"{info}/WHEEL"] = f"Wheel-Version: 1.0\nGenerator: nozzlegorse\nRoot-Is-Purelib: false\nTag: {WHEEL}\n".encode(), 0o644
     files[f"{info}/LICENSE"] = read(f"{ROOT}/LICENSE"), 0o644
