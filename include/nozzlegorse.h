@@ -1,6 +1,6 @@
 /* nozzlegorse.h: USB 2.0 descriptors, a device's end and a host's end of the control pipe, by a proved library.
  *
- * docs/callers.md tells who owns what, what each status says, and how a program without a C library links. In short:
+ * docs/callers.md tells who owns what, and how a program without a C library links. In short:
  *
  *  - A pointer and its length are lent for the call. The pointer is never NULL, also where the length is 0; the length
  *    is below 2^63; what is written overlaps nothing else that is passed. A pointer to a struct is not NULL.
@@ -92,23 +92,23 @@ struct nzg_descriptor {
     size_t place;             /* of its first byte */
     size_t set_end;           /* of the set that it is in */
     size_t languages_place;   /* of the list of languages, once it came */
-    uint32_t strings;         /* strings that came, it included */
-    uint16_t setting;         /* number of the setting in its set, from 0: as findings count */
-    uint16_t endpoint_number; /* number of the endpoint in its setting, from 0 */
-    uint16_t settings, endpoints; /* settings of this set that came, endpoints of this setting that came */
+    size_t strings;           /* strings that came, it included */
+    size_t main_sets, other_sets; /* sets that came, of the device and of the other speed */
+    size_t set;               /* number of the set in its part, from 0 */
+    size_t associations;      /* associations of this set that came, it included */
+    size_t setting, settings; /* number of the setting in its set, from 0: as findings count; and how many came */
+    size_t endpoint_number, endpoints; /* number of the endpoint in its setting, from 0; and how many came */
+    uint64_t named[4];        /* bit i % 64 of word i / 64: a descriptor so far names string i */
     uint16_t language;        /* of a string */
     uint8_t length, type;     /* bLength, bDescriptorType */
     uint8_t role;             /* enum nzg_role; 0 before the first descriptor */
     uint8_t owner;            /* of an association or a raw one: the role of what it belongs to */
-    uint8_t depth;            /* 0 device, 1 configuration, 2, 3, 4 */
+    uint8_t depth;            /* 0 device, 1 configuration, 2, 3, 4; a raw one after an association is one of its set */
     uint8_t part;             /* 0 device, 1 its sets, 2 its qualifier and the sets of the other speed */
-    uint8_t set;              /* number of the set in its part, from 0 */
     uint8_t interface_, alternate, class_, subclass, protocol;
     uint8_t endpoint;         /* bEndpointAddress */
     uint8_t index;            /* of a string */
-    uint8_t main_sets, other_sets; /* sets that came, of the device and of the other speed */
-    bool has_device;
-    uint8_t named[32];        /* bit i: a descriptor so far names string i */
+    bool has_device, has_languages; /* they came */
 };
 
 /* The first descriptor after {0}, or the one after it. False where none can stand there: nothing changes then. Of bytes

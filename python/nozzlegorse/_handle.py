@@ -17,12 +17,9 @@ class Handle:
         return self
 
     def _open(self, *rest) -> None:
+        self.close()
+        done(getattr(c.lib, f"nzg_{self._of}_open")(self._handle, *rest))
         self._is_open = True
-        try:
-            done(self._call("open", *rest))
-        except (Fault, MemoryError):
-            self._is_open = False
-            raise
 
     def _call(self, name: str, *rest):
         if not self._is_open:
@@ -31,9 +28,8 @@ class Handle:
 
     def close(self) -> None:
         """Frees what is held. Nothing happens where nothing is."""
-        if self._is_open:
-            self._call("close")
-            self._is_open = False
+        self._is_open = False
+        getattr(c.lib, f"nzg_{self._of}_close")(self._handle)
 
     def __enter__(self):
         return self

@@ -25,7 +25,7 @@ fn made(command: &str, fates: &str, bytes: &[u8]) -> Result<Vec<u8>, Fault> {
         speed: (command == "high").then_some(Speed::High),
     };
     Ok(match command {
-        "show" => show(bytes)?.into(),
+        "show-" => show(bytes)?.into(),
         "check" => check(bytes)?.iter().map(|it| format!("{it}\n")).collect::<String>().into(),
         "build" | "build-" => build(bytes, command == "build-")?,
         "with_strings" => with_strings(bytes)?,

@@ -87,10 +87,16 @@ impl Part {
 }
 
 /// A descriptor where it is in its input. A number that doesn't apply is 0.
-#[derive(Clone, Copy, Debug)]
+#[derive(Clone, Copy)]
 pub struct Descriptor<'a> {
     at: nzg_descriptor,
     input: &'a [u8],
+}
+
+impl fmt::Debug for Descriptor<'_> {
+    fn fmt(&self, f: &mut fmt::Formatter<'_>) -> fmt::Result {
+        write!(f, "{:?} at {}: {:02x?}", self.role(), self.place(), self.bytes())
+    }
 }
 
 impl<'a> Descriptor<'a> {

@@ -3,7 +3,6 @@
 import glob
 import os
 import re
-import shutil
 
 from playing.built import AR, CLANG, KIT, LLD, ROOT, fail, run
 

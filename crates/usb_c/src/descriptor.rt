@@ -1,50 +1,66 @@
 //! A descriptor as numbers.
 
 /// A descriptor where it stands in its input, as numbers: the struct `nzg_descriptor` of nozzlegorse.h. The walk goes on from it.
+/// What doesn't apply is 0.
 #[repr(C)]
 #[derive(Clone, Copy, Drop)]
 pub struct NzgDescriptor {
-    /// of its first byte
+    /// The place of its first byte.
     pub place: usize,
-    /// of the end of the set that it is in
+    /// Where the set ends that it is in.
     pub set_end: usize,
-    /// of the list of languages, once it came
+    /// The place of the list of languages, once it came.
     pub languages_place: usize,
-    /// strings that came, it included
-    pub strings: u32,
-    /// number of the setting in its set
-    pub setting: u16,
-    /// number of the endpoint in its setting
-    pub endpoint_number: u16,
-    /// settings of this set that came
-    pub settings: u16,
-    /// endpoints of this setting that came
-    pub endpoints: u16,
-    /// of a string
+    /// How many strings came, it included.
+    pub strings: usize,
+    /// How many sets of the device came.
+    pub main_sets: usize,
+    /// How many sets of the other speed came.
+    pub other_sets: usize,
+    /// The number of the set in its part.
+    pub set: usize,
+    /// How many associations of the set came, it included.
+    pub associations: usize,
+    /// The number of the setting in its set.
+    pub setting: usize,
+    /// How many settings of the set came.
+    pub settings: usize,
+    /// The number of the endpoint in its setting.
+    pub endpoint_number: usize,
+    /// How many endpoints of the setting came.
+    pub endpoints: usize,
+    /// Which strings the descriptors so far name, a bit for each index.
+    pub named: [u64; 4],
+    /// The language of a string.
     pub language: u16,
+    /// bLength.
     pub length: u8,
-    /// bDescriptorType
+    /// bDescriptorType.
     pub kind: u8,
-    /// its role's number; 0 before the first descriptor
+    /// The number of its role; 0 before the first descriptor.
     pub role: u8,
-    /// of an association or a raw descriptor: the role of what it belongs to
+    /// Of an association or a raw descriptor the role of what it belongs to: the last configuration, interface or endpoint.
     pub owner: u8,
+    /// How deep it is.
     pub depth: u8,
+    /// The part that has it: 0 none, 1 the sets of the device, 2 the qualifier and the sets of the other speed.
     pub part: u8,
-    /// number of the set in its part
-    pub set: u8,
+    /// bInterfaceNumber of the setting that it belongs to.
     pub interface: u8,
+    /// bAlternateSetting of it.
     pub alternate: u8,
+    /// bInterfaceClass of it; of a device its own.
     pub class: u8,
+    /// The subclass.
     pub subclass: u8,
+    /// The protocol.
     pub protocol: u8,
-    /// bEndpointAddress
+    /// bEndpointAddress of the endpoint that it is or belongs to.
     pub endpoint: u8,
-    /// of a string
+    /// The index of a string.
     pub index: u8,
-    pub main_sets: u8,
-    pub other_sets: u8,
+    /// Whether the device came.
     pub has_device: bool,
-    /// bit i: a descriptor so far names string i
-    pub named: [u8; 32],
+    /// Whether the list of languages came.
+    pub has_languages: bool,
 }
