@@ -75,7 +75,7 @@ def zsh(of):
         cases.append(f"    {command}) _arguments {' '.join(rows)} ;;\n")
     return f"""#compdef usbdesc
 if (( CURRENT == 2 )); then
-  compadd {' '.join(of.commands)} --help --version
+  compadd -- {' '.join(of.commands)} --help --version
 else
   local command=$words[2]
   shift words; (( CURRENT-- ))
