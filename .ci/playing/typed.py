@@ -1,6 +1,6 @@
 """Compares descriptors, their fields and findings as values, by the Python package, with the texts of the library: `show`,
-`check` and `explain`, of each example and of mutations of them. Faults are the same; of broken bytes the walk goes as far as the
-explanation does. The owner of what has one is the nearest configuration, interface or endpoint before it.
+`check` and `explain`, of each example and of mutations of them. Faults are the same; of broken bytes the walk goes at least as
+far as the explanation does. The owner of what has one is the nearest configuration, interface or endpoint before it.
 
     .ci/playing/typed.py MUTATIONS    with NOZZLEGORSE_LIBRARY and PYTHONPATH=python
 """
@@ -68,8 +68,10 @@ def check_lines(data):
     return out.decode().replace("no findings\n", "").splitlines()
 
 
-def walk_differs(walked, told, is_broken):
-    """How the walk differs from the headings, or None."""
+def walk_differs(walked, told, fault):
+    """How the walk differs from the headings, or None. Of broken bytes it may go on over the place of the fault."""
+    if fault and all(it.place + len(it.data) > fault[2] for it in walked[len(told):]):
+        walked = walked[:len(told)]
     if [(it.place, len(it.data), it.depth) for it in walked] != [numbers for numbers, *_ in told]:
         return f"descriptors {[(it.place, len(it.data), it.depth) for it in walked]} against {[numbers for numbers, *_ in told]}"
     owner, place = None, 0
@@ -77,7 +79,7 @@ def walk_differs(walked, told, is_broken):
         mine = it.fields
         if len(mine) != len(fields) or not all(map(is_shown, mine, *zip(*fields))) if mine or fields else False:
             return f"fields {mine} against {fields}"
-        if it.role == "string" and words not in (f'string {it.index} in 0x{it.language:04x}: "{it.text}"', f'string "{it.text}"' * is_broken):
+        if it.role == "string" and words not in (f'string {it.index} in 0x{it.language:04x}: "{it.text}"', f'string "{it.text}"' * bool(fault)):
             return f"{it} against {words}"
         if it.owner != (owner if it.role in ("association", "raw") else None) or it.place != place:
             return f"owner of {it}: {it.owner}, not {owner}; or a gap at {place}"
@@ -92,7 +94,7 @@ def differs(data):
     if any(it != fault for it in others):
         return f"faults {fault} and {others}"
     walked, told = list(usb.walk(data)), headings(explained.text)
-    if why := walk_differs(walked, told, bool(fault)):
+    if why := walk_differs(walked, told, fault):
         return why
     if fault:
         return None

@@ -11,7 +11,7 @@ int main(int argc, char **argv) {
     struct nzg_descriptor d = {0};
     struct nzg_field f;
     while (nzg_next(bytes, (size_t)read, &d)) {
-        printf("%zu %u %u %u %u %u %u %u %u ", d.place, d.length, d.role, d.depth, d.owner, d.part, d.set, d.setting, d.endpoint_number);
+        printf("%zu %u %u %u %u %u %zu %zu %zu ", d.place, d.length, d.role, d.depth, d.owner, d.part, d.set, d.setting, d.endpoint_number);
         printf("%u %u %u %u %u %u %u", d.interface_, d.alternate, d.class_, d.subclass, d.protocol, d.language, d.index);
         for (size_t n = 0; nzg_field(bytes, (size_t)read, &d, n, &f); n++)
             printf(" %.*s=%zu+%u:%llu", f.name_length, (char *)f.name, f.place, f.width, (unsigned long long)f.value);

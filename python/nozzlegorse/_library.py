@@ -10,11 +10,11 @@ import re
 DECLARATIONS = """
 struct nzg_answer { uint32_t status, number; size_t place, length; };
 struct nzg_outcome { uint64_t transactions; uint8_t attempts, address, selected, step, index; uint16_t language; };
-struct nzg_descriptor { size_t place, set_end, languages_place; uint32_t strings; uint16_t setting, endpoint_number, settings,
-    endpoints, language; uint8_t length, type, role, owner, depth, part, set, interface_, alternate, class_, subclass, protocol,
-    endpoint, index, main_sets, other_sets; bool has_device; uint8_t named[32]; };
+struct nzg_descriptor { size_t place, set_end, languages_place, strings, main_sets, other_sets, set, associations, setting, settings,
+    endpoint_number, endpoints; uint64_t named[4]; uint16_t language; uint8_t length, type, role, owner, depth, part, interface_,
+    alternate, class_, subclass, protocol, endpoint, index; bool has_device, has_languages; };
 struct nzg_field { size_t place; uint64_t value; uint8_t width, name_length, name[62]; };
-struct nzg_finding { size_t place; uint16_t setting, endpoint; uint8_t rule, part, set, role; };
+struct nzg_finding { size_t place, set, setting, endpoint; uint8_t rule, part, role; };
 struct nzg_transaction { uint8_t address, stage, toggle, setup[8]; };
 struct nzg_packet { uint8_t reply, toggle, length, data[64]; };
 struct nzg_setup { uint8_t bytes[8]; };

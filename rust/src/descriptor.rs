@@ -125,15 +125,15 @@ impl<'a> Descriptor<'a> {
         Part::of(self.at.part)
     }
     /// Number of its set in its part, from 0.
-    pub fn set(&self) -> u8 {
+    pub fn set(&self) -> usize {
         self.at.set
     }
     /// Number of its setting in its set, from 0.
-    pub fn setting(&self) -> u16 {
+    pub fn setting(&self) -> usize {
         self.at.setting
     }
     /// Number of its endpoint in its setting, from 0.
-    pub fn endpoint_number(&self) -> u16 {
+    pub fn endpoint_number(&self) -> usize {
         self.at.endpoint_number
     }
     /// bInterfaceNumber of the setting that it is or belongs to.
@@ -287,11 +287,11 @@ pub struct Finding {
     /// In which part.
     pub part: Part,
     /// Number of the set in its part, from 0.
-    pub set: u8,
+    pub set: usize,
     /// Number of the setting in its set, from 0.
-    pub setting: u16,
+    pub setting: usize,
     /// Number of the endpoint in its setting, from 0.
-    pub endpoint: u16,
+    pub endpoint: usize,
     /// Where the descriptor is that breaks it.
     pub place: usize,
     /// What it is.

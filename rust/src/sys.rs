@@ -21,15 +21,14 @@ structs! {
     nzg_answer { u32: status number; usize: place length; }
     nzg_outcome { u64: transactions; u8: attempts address selected step index; u16: language; }
     nzg_descriptor {
-        usize: place set_end languages_place;
-        u32: strings;
-        u16: setting endpoint_number settings endpoints language;
-        u8: length r#type role owner depth part set interface_ alternate class_ subclass protocol endpoint index main_sets other_sets;
-        bool: has_device;
-        [u8; 32]: named;
+        usize: place set_end languages_place strings main_sets other_sets set associations setting settings endpoint_number endpoints;
+        [u64; 4]: named;
+        u16: language;
+        u8: length r#type role owner depth part interface_ alternate class_ subclass protocol endpoint index;
+        bool: has_device has_languages;
     }
     nzg_field { usize: place; u64: value; u8: width name_length; [u8; 62]: name; }
-    nzg_finding { usize: place; u16: setting endpoint; u8: rule part set role; }
+    nzg_finding { usize: place set setting endpoint; u8: rule part role; }
     nzg_transaction { u8: address stage toggle; [u8; 8]: setup; }
     nzg_packet { u8: reply toggle length; [u8; 64]: data; }
     nzg_setup { [u8; 8]: bytes; }

@@ -49,14 +49,15 @@ def man(of, version, epoch):
 
 def bash(of):
     commands = " ".join(of.commands)
-    words = "".join(f"    {name}) words='{' '.join('--' + it.name for it in options)}' ;;\n" for name, options in of.options.items())
-    chosen = {it.name: it.values() for options in of.options.values() for it in options if it.values()}
-    values = "".join(f"    --{name}) words='{' '.join(given)}' ;;\n" for name, given in chosen.items())
+    words, values = "", ""
+    for command, options in of.options.items():
+        words += f"    {command}) words='{' '.join('--' + it.name for it in options)}' ;;\n"
+        values += "".join(f"    '{command} --{it.name}') words='{' '.join(it.values())}' ;;\n" for it in options if it.values())
     return f"""_usbdesc() {{
     local words='{commands} --help --version'
     [ "$COMP_CWORD" -eq 1 ] || case ${{COMP_WORDS[1]}} in
 {words}    esac
-    case $3 in
+    case "${{COMP_WORDS[1]}} $3" in
 {values}    esac
     COMPREPLY=($(compgen -W "$words" -- "$2"))
 }}
@@ -75,7 +76,7 @@ def zsh(of):
         cases.append(f"    {command}) _arguments {' '.join(rows)} ;;\n")
     return f"""#compdef usbdesc
 if (( CURRENT == 2 )); then
-  compadd {' '.join(of.commands)} --help --version
+  compadd -- {' '.join(of.commands)} --help --version
 else
   local command=$words[2]
   shift words; (( CURRENT-- ))

@@ -1,5 +1,6 @@
-pub mod Standings
+pub mod Positions
 pub mod Outlines
+pub mod NumberedLemmas
 pub mod Explaining
 pub mod Telling
 pub mod Spans

@@ -6,7 +6,8 @@ use Rattle.std.proofs.lemmas.List.{length-take-le, take-append-drop}
 use Rattle.std.proofs.Math.Seq.{drop-append_seam}
 use Rattle.usb_explain.specs.Trees.{descriptor_length, TreeDescriptor}
 use Rattle.usb_explain.specs.declared.role.Role.{Role}
-use Rattle.usb_explain.specs.declared.position.Standing.{Standing}
+use Rattle.usb_explain.specs.declared.position.Position.{Position}
+use Rattle.usb_explain.specs.declared.standing.Standing.{Standing}
 use Rattle.usb_explain.specs.Outline.{Entry, after_next, bytes_of, end_of, entries, entry_next, findings_of, first_entries, here, left_next, outline}
 use Rattle.usb_explain.specs.Findings.{found_at}
 use Rattle.usb_explain.specs.Laws.{AllEachByteOnce, Cut, Follow, span_of}
@@ -15,7 +16,7 @@ use Rattle.usb_explain.specs.Standings.{start}
 use Rattle.usb_explain.specs.declared.speed.SetSpeed.{SetSpeed}
 use Rattle.usb_file_data.specs.declared.cause.Found.{Found}
 use Rattle.usb_explain.proofs.Outlines.{bytes_same, entries_next, entries_none, entry_in_tree, entry_span, next_bounds, next_says, spans_same}
-use Rattle.usb_explain.proofs.Standings.{entered_at, noted_at, start_at}
+use Rattle.usb_explain.proofs.Positions.{noted_at, same_at, start_at}
 use Rattle.usb_explain.proofs.Telling.{found_front}
 
 -- its two tests
@@ -33,8 +34,8 @@ length_first (len ∷ rest) n e =
     let bounds = length_if len (length rest + 1) n e in
     first_byte n len rest bounds.0 ∙ bounds.2
 
-next_first : (s : Standing) (ahead : List ℕ) (next : Role × ℕ) → next_role s ahead ≡ Some next → slice_index (take next.1 ahead) 0 ≡ next.1
-next_first s ahead next e = length_first ahead next.1 (next_says s ahead next e)
+pub next_first : (p : Position) (ahead : List ℕ) (next : Role × ℕ) → next_role p ahead ≡ Some next → slice_index (take next.1 ahead) 0 ≡ next.1
+next_first p ahead next e = length_first ahead next.1 (next_says p ahead next e)
 
 -- What a walk shows from here on.
 pub record Walk (running : Option SetSpeed) (n : ℕ) (s : Standing) (found : List Found) (ahead : List ℕ) : Type 0 where
@@ -43,35 +44,35 @@ pub record Walk (running : Option SetSpeed) (n : ℕ) (s : Standing) (found : Li
   pub rest : List ℕ
   pub end : ℕ
   pub cut : Cut ahead shown rest
-  pub spans : Follow s.at (map entry_span shown) end
+  pub spans : Follow s.position.at (map entry_span shown) end
   pub left : List Found
   pub tells : flat_map findings_of shown ++ left ≡ found
 
 walk_none : (running : Option SetSpeed) (n : ℕ) (s : Standing) (found : List Found) (ahead : List ℕ) → first_entries n running s found ahead ≡ []
     → Walk running n s found ahead
-walk_none running n s found ahead e = record { shown = []; is = e; rest = ahead; end = s.at; cut = refl; spans = refl; left = found; tells = refl }
+walk_none running n s found ahead e = record { shown = []; is = e; rest = ahead; end = s.position.at; cut = refl; spans = refl; left = found; tells = refl }
 
-walk_more : (running : Option SetSpeed) (n : ℕ) (s : Standing) (found : List Found) (ahead : List ℕ) (next : Role × ℕ) → next_role s ahead ≡ Some next
+walk_more : (running : Option SetSpeed) (n : ℕ) (s : Standing) (found : List Found) (ahead : List ℕ) (next : Role × ℕ) → next_role s.position ahead ≡ Some next
     → Walk running n (after_next running s ahead next) (left_next running s found ahead next) (drop next.1 ahead) → Walk running (suc n) s found ahead
 walk_more running n s found ahead next e w =
-    let bounds = next_bounds s ahead next e in
+    let bounds = next_bounds s.position ahead next e in
     let taken : length (take next.1 ahead) ≡ next.1 = length-take-le next.1 ahead bounds.1 in
-    let at_here : (here running s ahead next).at ≡ s.at = entered_at next.0 running ahead s in
+    let at_here : (here running s ahead next).position.at ≡ s.position.at = same_at next.0 ahead s.position in
     let mine = found_at (here running s ahead next) next.0 found in
-    let at_after : (after_next running s ahead next).at ≡ s.at + length (take next.1 ahead) =
-    ap (λ k. k + length (take next.1 ahead)) (noted_at next.0 (take next.1 ahead) (here running s ahead next) ∙ at_here) in
+    let at_after : (after_next running s ahead next).position.at ≡ s.position.at + length (take next.1 ahead) =
+    ap (λ k. k + length (take next.1 ahead)) (noted_at next.0 (take next.1 ahead) (here running s ahead next).position ∙ at_here) in
     record {
       shown = entry_next running s found ahead next ∷ w.shown;
       is = entries_next n running s found ahead next e ∙ ap (λ l. entry_next running s found ahead next ∷ l) w.is;
       rest = w.rest;
       end = w.end;
-      cut = (sym (take-append-drop next.1 ahead), next_first s ahead next e ∙ sym taken, w.cut);
+      cut = (sym (take-append-drop next.1 ahead), next_first s.position ahead next e ∙ sym taken, w.cut);
       spans = (at_here, omega (arith, taken, bounds.0), subst (λ k. Follow k (map entry_span w.shown) w.end) at_after w.spans);
       left = w.left;
       tells = append_assoc mine (flat_map findings_of w.shown) w.left ∙ ap (λ l. mine ++ l) w.tells ∙ found_front (here running s ahead next) next.0 found;
     }
 
-walk_by : (running : Option SetSpeed) (n : ℕ) (s : Standing) (found : List Found) (ahead : List ℕ) (next : Option (Role × ℕ)) → next_role s ahead ≡ next
+walk_by : (running : Option SetSpeed) (n : ℕ) (s : Standing) (found : List Found) (ahead : List ℕ) (next : Option (Role × ℕ)) → next_role s.position ahead ≡ next
     → ((s : Standing) (found : List Found) (ahead : List ℕ) → Walk running n s found ahead) → Walk running (suc n) s found ahead
 walk_by running n s found ahead None e onward = walk_none running (suc n) s found ahead (entries_none (suc n) running s found ahead e)
 walk_by running n s found ahead (Some next) e onward =
@@ -84,7 +85,7 @@ walk_zero running s found ahead = refl
 -- each walk shows descriptors one after another
 pub walk_shows : (running : Option SetSpeed) (n : ℕ) (s : Standing) (found : List Found) (ahead : List ℕ) → Walk running n s found ahead
 walk_shows running zero s found ahead = walk_none running zero s found ahead (walk_zero running s found ahead)
-walk_shows running (suc n) s found ahead = walk_by running n s found ahead (next_role s ahead) refl (walk_shows running n)
+walk_shows running (suc n) s found ahead = walk_by running n s found ahead (next_role s.position ahead) refl (walk_shows running n)
 
 -- what is said of a walk: of the bytes that are left, and of its descriptors
 abbrev pub Aim : Type 1
@@ -101,7 +102,7 @@ pub record Ended (E : Aim) (running : Option SetSpeed) (n : ℕ) (s : Standing) 
   pub all_told : walk.left ≡ []
 
 -- where no bytes are, no descriptor can stand
-none_of_nothing : (s : Standing) → next_role s [] ≡ None
+none_of_nothing : (s : Standing) → next_role s.position [] ≡ None
 unfolding next_role
 none_of_nothing s = refl
 
@@ -110,7 +111,7 @@ unfolding walk_none
 ended_none E running n s found none aimed =
     record { walk = walk_none running n s found [] (entries_none n running s found [] (none_of_nothing s)); aimed = aimed; all_told = none }
 
-pub ended_more : (E : Aim) (running : Option SetSpeed) (n : ℕ) (s : Standing) (found : List Found) (ahead : List ℕ) (next : Role × ℕ) → next_role s ahead ≡ Some next
+pub ended_more : (E : Aim) (running : Option SetSpeed) (n : ℕ) (s : Standing) (found : List Found) (ahead : List ℕ) (next : Role × ℕ) → next_role s.position ahead ≡ Some next
     → Ended (adding E (entry_in_tree (entry_next running s found ahead next) ∷ [])) running n (after_next running s ahead next) (left_next running s found ahead next) (drop next.1 ahead)
     → Ended E running (suc n) s found ahead
 unfolding walk_more
@@ -126,8 +127,8 @@ spans_end (d ∷ ds) from to f =
     omega (arith, rest, sum)
 
 -- from the first place on they end where the lengths end
-pub ends_at : (shown : List Entry) (end : ℕ) → Follow start.at (map entry_span shown) end → length (flat_map (λ d. d.bytes) shown) ≡ end
-ends_at shown end f = omega (arith, start_at, spans_end shown start.at end f)
+pub ends_at : (shown : List Entry) (end : ℕ) → Follow start.position.at (map entry_span shown) end → length (flat_map (λ d. d.bytes) shown) ≡ end
+ends_at shown end f = omega (arith, start_at, spans_end shown start.position.at end f)
 
 -- what is cut is all of it
 pub cut_parts : (shown : List Entry) (b rest : List ℕ) → Cut b shown rest → b ≡ flat_map (λ d. d.bytes) shown ++ rest

@@ -8,8 +8,9 @@ use Rattle.usb_explain.specs.declared.role.Role.{Role}
 use Rattle.usb_explain.specs.declared.role.Role.TheVariants.{Device, Configuration, Association, Interface, Endpoint, Raw}
 use Rattle.usb_explain.specs.declared.position.OwnerKind.{OwnerKind}
 use Rattle.usb_explain.specs.declared.position.OwnerKind.TheVariants as owners
-use Rattle.usb_explain.specs.declared.position.SettingStanding.{SettingStanding}
-use Rattle.usb_explain.specs.declared.position.Standing.{Standing}
+use Rattle.usb_explain.specs.declared.position.Position.{Position}
+use Rattle.usb_explain.specs.declared.position.SettingPosition.{SettingPosition}
+use Rattle.usb_explain.specs.declared.standing.Standing.{Standing}
 
 -- a device of SuperSpeed: it ran so, or bcdUSB is 0300 or more
 abbrev pub is_super : Option SetSpeed → ℕ → Bool
@@ -20,10 +21,10 @@ is_super (Some running) usb = false
 -- its speed: that of the device, or of its set
 abbrev pub speed_of : Option SetSpeed → Standing → Role → List ℕ → SetSpeed
 speed_of running s Device d = if is_super running (little_endian_at d 2) then Super else FullOrHigh
-speed_of running s _ d = s.set.speed
+speed_of running s _ d = s.speed
 
 -- what the interface is that a descriptor follows
-abbrev pub codes_of : Option SettingStanding → Option ClassCodes
+abbrev pub codes_of : Option SettingPosition → Option ClassCodes
 codes_of None = None
 codes_of (Some setting) = Some setting.codes
 
@@ -34,15 +35,15 @@ below owners.Interface = 3
 below owners.Endpoint = 4
 
 -- the depth of its heading
-unfoldable pub depth_of : Standing → Role → ℕ
-depth_of s Configuration = 1
-depth_of s Interface = 2
-depth_of s Endpoint = 3
-depth_of s Association = 2
-depth_of s Raw = below s.set.owner
-depth_of s _ = 0
+unfoldable pub depth_of : Position → Role → ℕ
+depth_of p Configuration = 1
+depth_of p Interface = 2
+depth_of p Endpoint = 3
+depth_of p Association = 2
+depth_of p Raw = below p.set.owner
+depth_of p _ = 0
 
 -- the bytes of its set after a descriptor, where they are all there
-abbrev pub rest_of_set : Standing → List ℕ → List ℕ → Option (List ℕ)
-rest_of_set s d after =
-    let count = s.left - length d in if nat_le count (length after) then Some (take count after) else None
+abbrev pub rest_of_set : Position → List ℕ → List ℕ → Option (List ℕ)
+rest_of_set p d after =
+    let count = p.left - length d in if nat_le count (length after) then Some (take count after) else None

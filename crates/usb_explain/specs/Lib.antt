@@ -1,4 +1,5 @@
 pub mod Subjects
+pub mod Positions
 pub mod Standings
 pub mod Roles
 pub mod SetStart
@@ -6,6 +7,7 @@ pub mod Owners
 pub mod Contexts
 pub mod Findings
 pub mod Outline
+pub mod Numbered
 pub mod Explanations
 pub mod Faults
 pub mod Lines

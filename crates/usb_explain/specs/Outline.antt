@@ -5,7 +5,7 @@ use Rattle.usb_file_data.specs.declared.cause.Found.{Found}
 use Rattle.usb_names.specs.declared.codes.ClassCodes.{ClassCodes}
 use Rattle.usb_explain.specs.declared.descriptor.Descriptor.{Descriptor}
 use Rattle.usb_explain.specs.declared.owner.DescriptorOwner.{DescriptorOwner}
-use Rattle.usb_explain.specs.declared.position.Standing.{Standing}
+use Rattle.usb_explain.specs.declared.standing.Standing.{Standing}
 use Rattle.usb_explain.specs.declared.role.Role.{Role}
 use Rattle.usb_explain.specs.declared.speed.SetSpeed.{SetSpeed}
 use Rattle.usb_explain.specs.Bindings.{bound_at}
@@ -65,18 +65,18 @@ findings_of e = found_at e.standing e.role e.found
 -- all that is known of it, where the device ran at a speed that is known or isn't
 unfoldable pub describe : Option SetSpeed → Entry → Described
 describe running e = record {
-  at = e.standing.at;
+  at = e.standing.position.at;
   bytes = e.bytes;
   role = e.role;
-  depth = depth_of e.standing e.role;
-  owner = owner_of e.standing e.role e.bytes;
+  depth = depth_of e.standing.position e.role;
+  owner = owner_of e.standing.position e.role e.bytes;
   speed = speed_of running e.standing e.role e.bytes;
   findings = findings_of e;
-  associations = e.standing.set.associations;
-  association = bound_at e.standing.set.bindings (slice_index e.bytes 2);
-  interface = codes_of e.standing.set.setting;
-  string = e.standing.strings;
-  rest = rest_of_set e.standing e.bytes e.after;
+  associations = e.standing.position.set.associations;
+  association = bound_at e.standing.bindings (slice_index e.bytes 2);
+  interface = codes_of e.standing.position.set.setting;
+  string = e.standing.position.strings;
+  rest = rest_of_set e.standing.position e.bytes e.after;
 }
 
 -- the state at the first of these bytes
@@ -103,7 +103,7 @@ first_entries (suc n) running s found ahead =
     unwrap_or
     (option_map
     (λ next. entry_next running s found ahead next ∷ first_entries n running (after_next running s ahead next) (left_next running s found ahead next) (drop next.1 ahead))
-    (next_role s ahead))
+    (next_role s.position ahead))
     []
 
 -- all of them: there are no more than bytes

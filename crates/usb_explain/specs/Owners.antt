@@ -5,9 +5,9 @@ use Rattle.usb_explain.specs.declared.owner.InterfaceSetting.{InterfaceSetting}
 use Rattle.usb_explain.specs.declared.owner.DescriptorOwner.{DescriptorOwner}
 use Rattle.usb_explain.specs.declared.position.OwnerKind.{OwnerKind}
 use Rattle.usb_explain.specs.declared.position.OwnerKind.TheVariants as owners
-use Rattle.usb_explain.specs.declared.position.SetStanding.{SetStanding}
-use Rattle.usb_explain.specs.declared.position.SettingStanding.{SettingStanding}
-use Rattle.usb_explain.specs.declared.position.Standing.{Standing}
+use Rattle.usb_explain.specs.declared.position.SetPosition.{SetPosition}
+use Rattle.usb_explain.specs.declared.position.SettingPosition.{SettingPosition}
+use Rattle.usb_explain.specs.declared.position.Position.{Position}
 use Rattle.usb_explain.specs.declared.role.Role.{Role}
 use Rattle.usb_explain.specs.declared.role.Role.TheVariants.{Configuration, Association, Interface, Endpoint, Raw}
 
@@ -24,34 +24,34 @@ abbrev pub of_endpoint : DescriptorOwner → ℕ → DescriptorOwner
 of_endpoint interface address = record interface { endpoint = Some address }
 
 -- the interface of the last setting that came
-abbrev pub interface_of : Option SettingStanding → Option InterfaceSetting
+abbrev pub interface_of : Option SettingPosition → Option InterfaceSetting
 interface_of None = None
 interface_of (Some setting) = Some setting.interface
 
 -- the address of its last endpoint
-abbrev pub address_of : Option SettingStanding → Option ℕ
+abbrev pub address_of : Option SettingPosition → Option ℕ
 address_of None = None
 address_of (Some setting) = setting.endpoint
 
 -- the set in which a descriptor stands
-abbrev pub set_of : SetStanding → DescriptorOwner
+abbrev pub set_of : SetPosition → DescriptorOwner
 set_of set = of_set set.part set.number
 
 -- the last interface before it
-abbrev pub last_interface : SetStanding → DescriptorOwner
+abbrev pub last_interface : SetPosition → DescriptorOwner
 last_interface set = record (set_of set) { setting = interface_of set.setting }
 
 -- the last of what owns others before it
-abbrev pub last_owner : OwnerKind → SetStanding → DescriptorOwner
+abbrev pub last_owner : OwnerKind → SetPosition → DescriptorOwner
 last_owner owners.Configuration set = set_of set
 last_owner owners.Interface set = last_interface set
 last_owner owners.Endpoint set = record (last_interface set) { endpoint = address_of set.setting }
 
 -- whose a descriptor of this role and these bytes is; one outside of sets is nobody's
-unfoldable pub owner_of : Standing → Role → List ℕ → Option DescriptorOwner
-owner_of s Configuration d = Some (set_of s.set)
-owner_of s Association d = Some (set_of s.set)
-owner_of s Interface d = Some (of_interface (set_of s.set) (slice_index d 2) (slice_index d 3))
-owner_of s Endpoint d = Some (of_endpoint (last_interface s.set) (slice_index d 2))
-owner_of s Raw d = Some (last_owner s.set.owner s.set)
-owner_of s _ d = None
+unfoldable pub owner_of : Position → Role → List ℕ → Option DescriptorOwner
+owner_of p Configuration d = Some (set_of p.set)
+owner_of p Association d = Some (set_of p.set)
+owner_of p Interface d = Some (of_interface (set_of p.set) (slice_index d 2) (slice_index d 3))
+owner_of p Endpoint d = Some (of_endpoint (last_interface p.set) (slice_index d 2))
+owner_of p Raw d = Some (last_owner p.set.owner p.set)
+owner_of p _ d = None

@@ -5,7 +5,7 @@ use Rattle.usb_fields.specs.Bytes.{little_endian_at}
 use Rattle.usb_explain.specs.Trees.{descriptor_length}
 use Rattle.usb_explain.specs.declared.role.Role.{Role}
 use Rattle.usb_explain.specs.declared.role.Role.TheVariants.{Device, Qualifier, Configuration, Association, Interface, Endpoint, Raw, Languages, Text}
-use Rattle.usb_explain.specs.declared.position.Standing.{Standing}
+use Rattle.usb_explain.specs.declared.position.Position.{Position}
 
 -- What the descriptors of a set are, by bDescriptorType and bLength (USB 2.0, 9.6.5 and 9.6.6, and the ECN on interface
 -- associations, 9.X.Y).
@@ -40,32 +40,32 @@ string_role true n = role_if (n % 2 == 0) Text
 string_role false n = role_if ((n % 2 == 0) && nat_le 4 n) Languages
 
 -- outside of a set: the device at the first byte, a qualifier after it, the first descriptor of a set, and strings
-unfoldable pub outer_role : Standing → List ℕ → Option Role
-outer_role s d =
+unfoldable pub outer_role : Position → List ℕ → Option Role
+outer_role p d =
     let kind = slice_index d 1 in
-    if kind == 1 then role_if ((s.at == 0) && (length d == 18)) Device
-    else if kind == 6 then role_if (is_some s.device && (length d == 10)) Qualifier
+    if kind == 1 then role_if ((p.at == 0) && (length d == 18)) Device
+    else if kind == 6 then role_if (p.has_device && (length d == 10)) Qualifier
     else if (kind == 2) || (kind == 7) then role_if (nat_le 9 (length d) && nat_le (length d) (little_endian_at d 2)) Configuration
-    else if kind == 3 then string_role s.has_languages (length d)
+    else if kind == 3 then string_role p.has_languages (length d)
     else None
 
 -- in a set
-unfoldable pub inner_role : Standing → List ℕ → Option Role
-inner_role s d =
+unfoldable pub inner_role : Position → List ℕ → Option Role
+inner_role p d =
     let kind = slice_index d 1 in
     if (kind == 2) || (kind == 7) then None
     else if kind == 4 then Some (typed_role (nat_le 9 (length d)) Interface)
-    else if kind == 5 then Some (typed_role (is_some s.set.setting && nat_le 7 (length d)) Endpoint)
+    else if kind == 5 then Some (typed_role (is_some p.set.setting && nat_le 7 (length d)) Endpoint)
     else if kind == 11 then Some (typed_role (nat_le 8 (length d)) Association)
     else Some Raw
 
 -- what a descriptor is here; one that ends after its set can't be here
-unfoldable pub role_of : Standing → List ℕ → Option Role
-role_of s d =
-    if s.left == 0 then outer_role s d
-    else if nat_le (length d) s.left then inner_role s d
+unfoldable pub role_of : Position → List ℕ → Option Role
+role_of p d =
+    if p.left == 0 then outer_role p d
+    else if nat_le (length d) p.left then inner_role p d
     else None
 
 -- the descriptor with which the bytes begin: what it is, and how long
-unfoldable pub next_role : Standing → List ℕ → Option (Role × ℕ)
-next_role s ahead = option_and_then (λ n. option_map (λ role. (role, n)) (role_of s (take n ahead))) (descriptor_length ahead)
+unfoldable pub next_role : Position → List ℕ → Option (Role × ℕ)
+next_role p ahead = option_and_then (λ n. option_map (λ role. (role, n)) (role_of p (take n ahead))) (descriptor_length ahead)

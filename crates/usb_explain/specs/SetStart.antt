@@ -3,29 +3,16 @@ use Rattle.std.specs.Prelude.{ℕ, List, length, slice_index, take, drop, nat_le
 use Rattle.std.specs.Option.{option_or}
 use Rattle.usb_fields.specs.Bytes.{little_endian_at}
 use Rattle.usb_file_data.specs.Likeness.{after_sets}
-use Rattle.usb_file_data.specs.declared.finding.Part.{Part}
-use Rattle.usb_file_data.specs.declared.finding.Part.TheVariants.{Main, Other}
 use Rattle.usb_explain.specs.declared.speed.SetSpeed.{SetSpeed}
 use Rattle.usb_explain.specs.declared.speed.SetSpeed.TheVariants.{FullOrHigh}
 use Rattle.usb_explain.specs.declared.set_speed.Background.{Background}
-use Rattle.usb_explain.specs.declared.survey.Survey.{Survey}
 use Rattle.usb_explain.specs.Trees.{descriptors}
 use Rattle.usb_explain.specs.SetSpeeds.{other_speed, speed_by, survey_of}
 use Rattle.usb_explain.specs.declared.role.Role.{Role}
 use Rattle.usb_explain.specs.declared.role.Role.TheVariants.{Configuration, Device}
-use Rattle.usb_explain.specs.declared.position.DeviceFacts.{DeviceFacts}
-use Rattle.usb_explain.specs.declared.position.OwnerKind.TheVariants as owners
-use Rattle.usb_explain.specs.declared.position.SetStanding.{SetStanding}
-use Rattle.usb_explain.specs.declared.position.Standing.{Standing}
-
--- the part of a set, by the type of its first descriptor
-abbrev pub part_of : ℕ → Part
-part_of kind = if kind == 7 then Other else Main
-
--- how many sets of the part came
-abbrev pub sets_of : Standing → Part → ℕ
-sets_of s Other = s.other_sets
-sets_of s _ = s.main_sets
+use Rattle.usb_explain.specs.declared.standing.DeviceFacts.{DeviceFacts}
+use Rattle.usb_explain.specs.declared.standing.Standing.{Standing}
+use Rattle.usb_explain.specs.Positions.{position_at}
 
 -- what is known of the sets after a qualifier of this bMaxPacketSize0, which are those of the other speed
 unfoldable pub other_background : Option SetSpeed → ℕ → Background
@@ -53,27 +40,21 @@ speed_after_qualifier b =
 unfoldable pub other_ahead : List ℕ → Option SetSpeed
 other_ahead ahead = speed_after_qualifier (after_sets (slice_index ahead 17) (drop 18 ahead))
 
--- a set of this survey, before its first descriptor
-abbrev pub set_by : Standing → Option SetSpeed → Part → Survey → SetStanding
-set_by s running part survey = record {
-  part = part;
-  number = sets_of s part;
-  speed = speed_by (background_by running s.device s.other_packet s.other_speed) survey.spoken;
-  bindings = survey.bindings;
-  associations = 0;
-  settings = 0;
-  setting = None;
-  owner = owners.Configuration;
-}
+-- what the bytes of a set say of the whole of it, as far as they are there
+unfoldable pub surveyed : Option SetSpeed → List ℕ → Standing → Standing
+surveyed running ahead s =
+    let survey = survey_of (descriptors (take (little_endian_at ahead 2) ahead)) in
+    record s {
+      speed = speed_by (background_by running s.device s.other_packet s.other_speed) survey.spoken;
+      bindings = survey.bindings;
+    }
 
--- at the first descriptor of a set: what its bytes say, as far as they are there
-unfoldable pub opened : Option SetSpeed → List ℕ → Standing → Standing
-opened running ahead s =
-    let total = little_endian_at ahead 2 in
-    record s { left = total; set = set_by s running (part_of (slice_index ahead 1)) (survey_of (descriptors (take total ahead))) }
+-- what is looked for ahead at a descriptor of this role: the other speed of a device, and what a set says
+abbrev pub looked : Role → Option SetSpeed → List ℕ → Standing → Standing
+looked Device running ahead s = record s { other_speed = other_ahead ahead }
+looked Configuration running ahead s = surveyed running ahead s
+looked _ running ahead s = s
 
--- at a descriptor of this role: the first one of a set opens the set, and the device looks for its other speed
+-- at a descriptor of this role, with which the bytes begin
 abbrev pub entered : Role → Option SetSpeed → List ℕ → Standing → Standing
-entered Device running ahead s = record s { other_speed = other_ahead ahead }
-entered Configuration running ahead s = opened running ahead s
-entered _ running ahead s = s
+entered role running ahead s = record (looked role running ahead s) { position = position_at role ahead s.position }

@@ -3,9 +3,10 @@ ghost use Rattle.std.specs.Prelude.{◌≡◌, ◌-◌, length, take};
 ghost use Rattle.std.specs.Option.{option_copied};
 ghost use Rattle.usb_explain.specs.Contexts.{below, codes_of, depth_of, is_super, rest_of_set, speed_of};
 
-use crate::position::{OwnerKind, SettingStanding, Standing};
+use crate::position::{OwnerKind, Position, SettingPosition};
 use crate::role::Role;
 use crate::speed::SetSpeed;
+use crate::standing::Standing;
 use usb_fields::{prefix, word_at};
 use usb_names::ClassCodes;
 
@@ -17,13 +18,15 @@ impl Standing {
         match role {
             Role::Device if is_super(running, word_at(d, 2)) => SetSpeed::Super,
             Role::Device => SetSpeed::FullOrHigh,
-            _ => self.set.speed,
+            _ => self.speed,
         }
     }
+}
 
+impl Position {
     /// The depth of its heading.
     #[tactic(auto, unfolding(crate::specs::Contexts::depth_of))]
-    pub(crate) fn depth(&self, role: Role) -> u8
+    pub fn depth(&self, role: Role) -> u8
         ensures { result ≡ depth_of self.now role }
     {
         match role {
@@ -67,7 +70,7 @@ pub(crate) fn below(owner: OwnerKind) -> u8
 }
 
 /// The class codes of the interface that a descriptor follows.
-pub(crate) fn codes_of(setting: Option<SettingStanding>) -> Option<ClassCodes>
+pub(crate) fn codes_of(setting: Option<SettingPosition>) -> Option<ClassCodes>
     ensures { result ≡ codes_of setting }
 {
     match setting {

@@ -2,6 +2,7 @@
 //! functions of these laws do nothing: their contracts are the laws.
 ghost use Rattle.usb_explain.specs.FieldLaws.{AllFieldsHaveAllBytes};
 ghost use Rattle.usb_explain.specs.Laws.{AllEachByteOnce, BriefLeavesOutFields, BrokenCoversUpToFault, WholeHasNoRest, WholeShowsTree, WholeTellsFindings};
+ghost use Rattle.usb_explain.specs.Numbered.{NumbersAreOutline};
 ghost use Rattle.usb_explain.specs.Remarks.{FullOrHighIsOpen, LowOrFullIsOpen};
 
 /// Each byte once: the descriptors of any bytes follow each other from the first byte on, each at its place and as long as its
@@ -30,6 +31,12 @@ pub fn each_finding_is_told_once()
 /// its setting, and the address of the endpoint.
 pub fn each_descriptor_has_its_owner()
     ensures { WholeShowsTree }
+{}
+
+/// A walk that goes from one [`Position`](crate::Position) to the next has the descriptors of the outline: with the same places,
+/// bytes, roles, depths and owners.
+pub fn a_walk_by_numbers_is_the_outline()
+    ensures { NumbersAreOutline }
 {}
 
 /// A brief explanation is the other one without the lines of fields: it has the same descriptors, headings, findings and

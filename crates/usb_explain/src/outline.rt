@@ -1,19 +1,16 @@
 //! The descriptors of an input, one after another.
-ghost use Rattle.std.specs.Prelude.{◌≡◌, ◌≤◌, ◌<◌, ◌+◌, ◌^◌, drop, length, take, IfSome};
+ghost use Rattle.std.specs.Prelude.{◌≡◌, ◌≤◌, ◌<◌, ◌+◌, ◌^◌, drop, length, take};
 ghost use Rattle.usb_explain.specs.Findings.{found_at};
 ghost use Rattle.usb_explain.specs.Outline.{describe, described, outline};
-ghost use Rattle.usb_explain.specs.Roles.{next_role};
 ghost use Rattle.usb_explain.specs.SetStart.{entered};
 ghost use Rattle.usb_explain.specs.Standings.{passed};
 ghost use Rattle.usb_explain.specs.inside.Walking.{Counted};
 
 use crate::context::codes_of;
 use crate::descriptor::Descriptor;
-use crate::position::Standing;
-use crate::rest_lines::descriptor_length;
 use crate::role::Role;
-use crate::set_start::other_ahead;
 use crate::speed::SetSpeed;
+use crate::standing::Standing;
 use std::marker::Model;
 use usb_fields::{after, byte_at, prefix};
 use usb_file_data::Found;
@@ -45,13 +42,13 @@ impl<'b> Model for Outline<'b> {
 
     ghost view = { λ o. outline_from o.running o.standing o.found.now o.ahead.now };
 
-    ghost invariant = { λ o. Counted o.standing × (o.standing.at + length o.ahead.now < 2 ^ 63) };
+    ghost invariant = { λ o. Counted o.standing.position × (o.standing.position.at + length o.ahead.now < 2 ^ 63) };
 }
 
 impl<'b> Outline<'b> {
     /// The outline of these bytes of a device that ran at this speed, if that is known, where these are its findings in the
     /// order of the bytes, as `found_in_order` gives them.
-    #[tactic(auto, using(crate::proofs::Standings::start_at))]
+    #[tactic(auto, using(crate::proofs::Positions::start_at))]
     pub fn of(bytes: &'b [u8], running: Option<SetSpeed>, found: &'b [Found]) -> Outline<'b>
         ensures { result ≡ outline running found.now bytes.now }
     {
@@ -75,7 +72,7 @@ impl<'b> Iterator for Outline<'b> {
     ghost remaining = { item_count (λ o. o) };
 
     fn next(&mut self) -> Option<Descriptor<'b>> {
-        let Some((role, count)) = self.standing.next_role(self.ahead) else {
+        let Some((role, count)) = self.standing.position.next_role(self.ahead) else {
             self.ahead = &[];
             return None;
         };
@@ -89,33 +86,6 @@ impl<'b> Iterator for Outline<'b> {
 }
 
 impl Standing {
-    /// What the descriptor is with which the bytes begin, and how long it is, where one can be here.
-    #[tactic(auto, unfolding(crate::specs::Roles::next_role))]
-    fn next_role(&self, ahead: &[u8]) -> Option<(Role, usize)>
-        ensures next { result ≡ next_role self.now ahead.now }
-        ensures least { IfSome result (λ next. 2 ≤ next.1) }
-        ensures most { IfSome result (λ next. next.1 ≤ length ahead.now) }
-    {
-        match descriptor_length(ahead) {
-            None => None,
-            Some(length) => match self.role(prefix(ahead, length)) {
-                None => None,
-                Some(role) => Some((role, length)),
-            },
-        }
-    }
-
-    /// Opens the set that a descriptor begins, and looks for the other speed of a device.
-    fn enter(&mut self, role: Role, running: Option<SetSpeed>, ahead: &[u8])
-        ensures { self.new ≡ entered role running ahead.now self.old }
-    {
-        match role {
-            Role::Device => self.other_speed = other_ahead(ahead),
-            Role::Configuration => self.open_set(running, ahead),
-            _ => {}
-        }
-    }
-
     /// Passes the descriptor of this role and length with which the bytes begin. Answers it, and the findings that are left.
     fn step_over<'b>(
         &mut self,
@@ -125,8 +95,8 @@ impl Standing {
         ahead: &'b [u8],
         count: usize,
     ) -> (Descriptor<'b>, &'b [Found])
-        requires counted { Counted self.old }
-        requires room { self.old.at + length ahead.now < 2 ^ 63 }
+        requires counted { Counted self.old.position }
+        requires room { self.old.position.at + length ahead.now < 2 ^ 63 }
         requires most { count ≤ length ahead.now }
         ensures here { described result.0 ≡ describe running (record { standing = entered role running ahead.now self.old; role = role; bytes = take count ahead.now; after = drop count ahead.now; found = found.now }) }
         ensures left { result.1.now ≡ drop (length (found_at (entered role running ahead.now self.old) role found.now)) found.now }
@@ -154,18 +124,18 @@ impl Standing {
     {
         let (findings, left) = self.split_found(role, found);
         let here = Descriptor {
-            at: self.at,
+            at: self.position.at,
             bytes,
             role,
-            depth: self.depth(role),
-            owner: self.owner(role, bytes),
+            depth: self.position.depth(role),
+            owner: self.position.owner(role, bytes),
             speed: self.speed(running, role, bytes),
             findings,
-            associations: self.set.associations,
-            association: self.set.bindings.of(byte_at(bytes, 2)),
-            interface: codes_of(self.set.setting),
-            string: self.strings,
-            rest: self.rest_of_set(bytes, behind),
+            associations: self.position.set.associations,
+            association: self.bindings.of(byte_at(bytes, 2)),
+            interface: codes_of(self.position.set.setting),
+            string: self.position.strings,
+            rest: self.position.rest_of_set(bytes, behind),
         };
         (here, left)
     }

@@ -2,7 +2,7 @@
 ghost use Rattle.std.specs.Prelude.{◌≡◌};
 ghost use Rattle.usb_explain.specs.Owners.{address_of, interface_of, last_interface, last_owner, owner_of, set_of};
 
-use crate::position::{OwnerKind, SetStanding, SettingStanding, Standing};
+use crate::position::{OwnerKind, Position, SetPosition, SettingPosition};
 use crate::role::Role;
 use usb_fields::byte_at;
 use usb_file_data::Part;
@@ -31,7 +31,7 @@ pub struct DescriptorOwner {
     pub endpoint: Option<u8>,
 }
 
-impl Standing {
+impl Position {
     /// Whose a descriptor of this role is.
     #[tactic(auto, unfolding(crate::specs::Owners::owner_of))]
     pub(crate) fn owner(&self, role: Role, d: &[u8]) -> Option<DescriptorOwner>
@@ -56,7 +56,7 @@ impl Standing {
     }
 }
 
-impl SetStanding {
+impl SetPosition {
     fn whole(&self) -> DescriptorOwner
         ensures { result ≡ set_of self.now }
     {
@@ -92,7 +92,7 @@ impl SetStanding {
     }
 }
 
-fn interface_of(setting: Option<SettingStanding>) -> Option<InterfaceSetting>
+fn interface_of(setting: Option<SettingPosition>) -> Option<InterfaceSetting>
     ensures { result ≡ interface_of setting }
 {
     match setting {
@@ -101,7 +101,7 @@ fn interface_of(setting: Option<SettingStanding>) -> Option<InterfaceSetting>
     }
 }
 
-fn address_of(setting: Option<SettingStanding>) -> Option<u8>
+fn address_of(setting: Option<SettingPosition>) -> Option<u8>
     ensures { result ≡ address_of setting }
 {
     match setting {

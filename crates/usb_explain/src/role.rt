@@ -4,10 +4,10 @@ ghost use Rattle.usb_explain.specs.Roles.{inner_role, outer_role, role_if, role_
 ghost use Rattle.std.specs.Prelude.{◌≡◌};
 ghost use Rattle.usb_explain.specs.Roles.{is_association, is_endpoint, is_interface, is_of_type};
 
-use crate::position::Standing;
+use crate::position::Position;
 use usb_fields::{byte_at, descriptor_length, descriptor_type, word_at};
 
-impl Standing {
+impl Position {
     /// What the descriptor is, where one can be here.
     #[tactic(auto, unfolding(crate::specs::Roles::role_of))]
     pub(crate) fn role(&self, d: &[u8]) -> Option<Role>
@@ -35,7 +35,7 @@ impl Standing {
                 )
             }
             descriptor_type::DEVICE_QUALIFIER => role_if(
-                self.device.is_some() && length == usize::from(descriptor_length::DEVICE_QUALIFIER),
+                self.has_device && length == usize::from(descriptor_length::DEVICE_QUALIFIER),
                 Role::Qualifier,
             ),
             descriptor_type::CONFIGURATION | descriptor_type::OTHER_SPEED_CONFIGURATION => role_if(

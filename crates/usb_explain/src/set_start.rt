@@ -1,56 +1,46 @@
 //! How a set begins.
 ghost use Rattle.std.specs.Prelude.{◌≡◌, option_and_then};
 ghost use Rattle.usb_explain.specs.SetSpeeds.{other_speed};
-ghost use Rattle.usb_explain.specs.SetStart.{background_by, has_qualifier, opened, other_ahead, other_background, part_of, sets_of};
+ghost use Rattle.usb_explain.specs.SetStart.{background_by, entered, has_qualifier, looked, other_ahead, other_background, surveyed};
 
-use crate::position::{DeviceFacts, OwnerKind, SetStanding, Standing};
+use crate::role::Role;
 use crate::set_speed::{Background, other_speed, speed_by};
 use crate::speed::SetSpeed;
+use crate::standing::{DeviceFacts, Standing};
 use crate::survey::Survey;
 use usb_fields::{after, byte_at, descriptor_type, prefix, word_at};
-use usb_file_data::{Part, after_sets};
+use usb_file_data::after_sets;
 
 impl Standing {
-    /// At the first descriptor of a set, of whose bytes and those after it these are there.
-    #[tactic(auto, unfolding(crate::specs::SetStart::opened))]
-    pub(crate) fn open_set(&mut self, running: Option<SetSpeed>, ahead: &[u8])
-        ensures { self.new ≡ opened running ahead.now self.old }
+    /// Comes to a descriptor of this role, with which the bytes begin.
+    pub(crate) fn enter(&mut self, role: Role, running: Option<SetSpeed>, ahead: &[u8])
+        ensures { self.new ≡ entered role running ahead.now self.old }
+    {
+        self.look_ahead(role, running, ahead);
+        self.position.enter(role, ahead);
+    }
+
+    /// Looks for the other speed of a device, and for what the descriptors of a set say of the whole of it.
+    fn look_ahead(&mut self, role: Role, running: Option<SetSpeed>, ahead: &[u8])
+        ensures { self.new ≡ looked role running ahead.now self.old }
+    {
+        match role {
+            Role::Device => self.other_speed = other_ahead(ahead),
+            Role::Configuration => self.survey(running, ahead),
+            _ => {}
+        }
+    }
+
+    /// Gathers what a set says, of whose bytes and those after it these are there.
+    #[tactic(auto, unfolding(crate::specs::SetStart::surveyed))]
+    fn survey(&mut self, running: Option<SetSpeed>, ahead: &[u8])
+        ensures { self.new ≡ surveyed running ahead.now self.old }
     {
         let total = usize::from(word_at(ahead, 2));
         let survey = Survey::of(prefix(ahead, total));
-        let part = part_of(byte_at(ahead, 1));
         let background = background_of(running, self.device, self.other_packet, self.other_speed);
-        self.left = total;
-        self.set = SetStanding {
-            part,
-            number: self.sets_of(part),
-            speed: speed_by(background, survey.spoken),
-            bindings: survey.bindings,
-            associations: 0,
-            settings: 0,
-            setting: None,
-            owner: OwnerKind::Configuration,
-        };
-    }
-
-    /// How many sets of the part came.
-    fn sets_of(&self, part: Part) -> usize
-        ensures { result ≡ sets_of self.now part }
-    {
-        match part {
-            Part::Other => self.other_sets,
-            _ => self.main_sets,
-        }
-    }
-}
-
-/// The part of a set, by its type.
-fn part_of(kind: u8) -> Part
-    ensures { result ≡ part_of kind }
-{
-    match kind {
-        descriptor_type::OTHER_SPEED_CONFIGURATION => Part::Other,
-        _ => Part::Main,
+        self.speed = speed_by(background, survey.spoken);
+        self.bindings = survey.bindings;
     }
 }
 
@@ -102,7 +92,7 @@ fn background_of(
 
 /// The other speed of the device with which these bytes begin, as far as its qualifier and the descriptors after that say.
 #[tactic(auto, unfolding(crate::specs::SetStart::other_ahead))]
-pub(crate) fn other_ahead(ahead: &[u8]) -> Option<SetSpeed>
+fn other_ahead(ahead: &[u8]) -> Option<SetSpeed>
     ensures { result ≡ other_ahead ahead.now }
 {
     let rest = after_sets(byte_at(ahead, 17), after(ahead, 18));

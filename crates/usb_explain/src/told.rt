@@ -4,8 +4,9 @@ ghost use Rattle.usb_file_data.specs.Places.{finding};
 ghost use Rattle.usb_file_data.specs.Causes.{rule_of};
 ghost use Rattle.usb_explain.specs.Findings.{association_can, can_break, device_can, device_part, endpoint_can, finding_at, found_at, in_set, in_setting, interface_can, is_here, is_same, part_number, qualifier_can, set_can};
 
-use crate::position::{SetStanding, Standing};
+use crate::position::SetPosition;
 use crate::role::Role;
+use crate::standing::Standing;
 use usb_file_data::{Cause, Finding, Found, Part};
 
 impl Standing {
@@ -51,18 +52,19 @@ impl Standing {
     fn finding(&self, role: Role, cause: Cause) -> Finding
         ensures { result ≡ finding_at self.now role cause }
     {
+        let set = &self.position.set;
         match role {
             Role::Device => part_finding(cause, device_part(cause)),
             Role::Qualifier => part_finding(cause, Part::Other),
-            Role::Association => self.set.finding(cause, self.set.associations, 0),
-            Role::Interface => self.set.finding(cause, self.set.settings, 0),
-            Role::Endpoint => self.set.endpoint_finding(cause),
-            _ => self.set.finding(cause, 0, 0),
+            Role::Association => set.finding(cause, set.associations, 0),
+            Role::Interface => set.finding(cause, set.settings, 0),
+            Role::Endpoint => set.endpoint_finding(cause),
+            _ => set.finding(cause, 0, 0),
         }
     }
 }
 
-impl SetStanding {
+impl SetPosition {
     fn finding(&self, cause: Cause, setting: usize, endpoint: usize) -> Finding
         ensures { result ≡ in_set self.now cause setting endpoint }
     {

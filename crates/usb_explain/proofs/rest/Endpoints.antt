@@ -17,13 +17,13 @@ use Rattle.usb_set.specs.inside.Trees.{endpoint_bytes, extra_bytes, is_endpoint_
 use Rattle.usb_explain.specs.declared.role.Role.TheVariants as roles
 use Rattle.usb_explain.specs.declared.position.OwnerKind.{OwnerKind}
 use Rattle.usb_explain.specs.declared.position.OwnerKind.TheVariants as owners
-use Rattle.usb_explain.specs.declared.position.SetStanding.{SetStanding}
-use Rattle.usb_explain.specs.declared.position.SettingStanding.{SettingStanding}
-use Rattle.usb_explain.specs.declared.position.Standing.{Standing}
+use Rattle.usb_explain.specs.declared.position.SetPosition.{SetPosition}
+use Rattle.usb_explain.specs.declared.position.SettingPosition.{SettingPosition}
+use Rattle.usb_explain.specs.declared.standing.Standing.{Standing}
 use Rattle.usb_explain.specs.Findings.{can_break, endpoint_can, finding_at, in_setting, is_here, is_same}
 use Rattle.usb_explain.specs.Contexts.{depth_of}
 use Rattle.usb_explain.specs.Owners.{address_of, interface_of, of_endpoint, owner_of}
-use Rattle.usb_explain.specs.Standings.{noted, with_endpoint}
+use Rattle.usb_explain.specs.Positions.{noted, with_endpoint}
 use Rattle.usb_explain.specs.Roles.{inner_role, typed_role}
 use Rattle.usb_explain.specs.declared.speed.SetSpeed.{SetSpeed}
 use Rattle.usb_explain.specs.Trees.{endpoint_descriptors, tree_descriptor}
@@ -34,7 +34,7 @@ use Rattle.usb_explain.proofs.rest.Extras.{count_append, extras_go, here_is, les
 
 -- ---- the setting that an endpoint is in
 
-in_setting_is : (set : SetStanding) (cause : Cause) (o : Option SettingStanding) (j k : ℕ) → numbers_of o ≡ Some (j, k)
+in_setting_is : (set : SetPosition) (cause : Cause) (o : Option SettingPosition) (j k : ℕ) → numbers_of o ≡ Some (j, k)
     → in_setting set cause o ≡ finding (rule_of cause) set.part set.number j k
 in_setting_is set cause None j k e = absurd (none-some (j, k) e)
 in_setting_is set cause (Some setting) j k e =
@@ -42,11 +42,11 @@ in_setting_is set cause (Some setting) j k e =
     let two : setting.endpoints ≡ k = ap (λ (o : Option (ℕ × ℕ)). (unwrap_or o (0, 0)).1) e in
     ap (λ n. finding (rule_of cause) set.part set.number n setting.endpoints) one ∙ ap (λ n. finding (rule_of cause) set.part set.number j n) two
 
-some_setting : (o : Option SettingStanding) (j k : ℕ) → numbers_of o ≡ Some (j, k) → is_some o ≡ true
+some_setting : (o : Option SettingPosition) (j k : ℕ) → numbers_of o ≡ Some (j, k) → is_some o ≡ true
 some_setting None j k e = absurd (none-some (j, k) e)
 some_setting (Some setting) j k e = refl
 
-next_endpoint : (o : Option SettingStanding) (j k address : ℕ) (v : Seen) → numbers_of o ≡ Some (j, k)
+next_endpoint : (o : Option SettingPosition) (j k address : ℕ) (v : Seen) → numbers_of o ≡ Some (j, k)
     → record v { setting = numbers_of (with_endpoint address o); interface = interface_of (with_endpoint address o); address = address_of (with_endpoint address o) }
     ≡ record v { setting = Some (j, k + 1); interface = interface_of o; address = Some address }
 next_endpoint None j k address v e = absurd (none-some (j, k) e)
@@ -54,24 +54,24 @@ next_endpoint (Some setting) j k address v e =
     ap (λ (o : Option (ℕ × ℕ)).
     record v { setting = Some ((unwrap_or o (0, 0)).0, (unwrap_or o (0, 0)).1 + 1); interface = Some setting.interface; address = Some address }) e
 
-here_endpoint : (s : Standing) (cause : Cause) (j k : ℕ) → numbers_of s.set.setting ≡ Some (j, k) → endpoint_can cause ≡ true
-    → is_here s roles.Endpoint (found cause s.set.part s.set.number j k) ≡ true
+here_endpoint : (s : Standing) (cause : Cause) (j k : ℕ) → numbers_of s.position.set.setting ≡ Some (j, k) → endpoint_can cause ≡ true
+    → is_here s roles.Endpoint (found cause s.position.set.part s.position.set.number j k) ≡ true
 unfolding finding_at can_break
 here_endpoint s cause j k e h =
-    here_is s roles.Endpoint cause s.set.part s.set.number j k
-    (ap (λ g. is_same (finding (rule_of cause) s.set.part s.set.number j k) g) (in_setting_is s.set cause s.set.setting j k e)
-    ∙ same_place (rule_of cause) s.set.part s.set.number j k) h
+    here_is s roles.Endpoint cause s.position.set.part s.position.set.number j k
+    (ap (λ g. is_same (finding (rule_of cause) s.position.set.part s.position.set.number j k) g) (in_setting_is s.position.set cause s.position.set.setting j k e)
+    ∙ same_place (rule_of cause) s.position.set.part s.position.set.number j k) h
 
 -- ---- its descriptor
 
 both_true : (a b : Bool) → a ≡ true → b ≡ true → (a && b) ≡ true
 both_true a b h k = rw (h, k) refl
 
-endpoint_role : (s : Standing) (e : Endpoint) → is_some s.set.setting ≡ true → inner_role s (descriptor_bytes (endpoint_descriptor e)) ≡ Some roles.Endpoint
+endpoint_role : (s : Standing) (e : Endpoint) → is_some s.position.set.setting ≡ true → inner_role s.position (descriptor_bytes (endpoint_descriptor e)) ≡ Some roles.Endpoint
 unfolding inner_role
 endpoint_role s e h =
     let n = length (descriptor_bytes (endpoint_descriptor e)) in
-    ap (λ b. Some (typed_role b roles.Endpoint)) (both_true (is_some s.set.setting) (nat_le 7 n) h (le-leb 7 n (omega arith)))
+    ap (λ b. Some (typed_role b roles.Endpoint)) (both_true (is_some s.position.set.setting) (nat_le 7 n) h (le-leb 7 n (omega arith)))
 
 -- the endpoint of this number in a setting is next
 abbrev pub at_setting : ℕ → ℕ → Seen → Seen
@@ -90,20 +90,20 @@ here_four here a b c d f g h i one two three four =
     (here_both here (when a f) (when b g) (here_when here a f (λ _. one)) (here_when here b g (λ _. two))) (here_when here c h (λ _. three))) (here_when here d i (λ _. four))
 
 endpoint_step : (running : Option SetSpeed) (before : List Setting) (j : ℕ) (t : Setting) (k : ℕ) (e : Endpoint) (behind : List ℕ) (s : Standing)
-    → (numbers_of s.set.setting ≡ Some (j, k)) × (length (descriptor_bytes (endpoint_descriptor e)) ≤ s.left)
-    → Step running s roles.Endpoint (descriptor_bytes (endpoint_descriptor e)) behind (at_endpoint s.set.part s.set.number before j t k e)
+    → (numbers_of s.position.set.setting ≡ Some (j, k)) × (length (descriptor_bytes (endpoint_descriptor e)) ≤ s.position.left)
+    → Step running s roles.Endpoint (descriptor_bytes (endpoint_descriptor e)) behind (at_endpoint s.position.set.part s.position.set.number before j t k e)
     (at_setting j (k + 1) (owned e.address (less (length (descriptor_bytes (endpoint_descriptor e))) (seen s)))) 3
     (Some (of_endpoint (whose_interface (seen s)) e.address))
 unfolding noted depth_of owner_of
 endpoint_step running before j t k e behind s p =
     let d = descriptor_bytes (endpoint_descriptor e) in
     let here = λ (cause : Cause). here_endpoint s cause j k p.0 in
-    let f = λ (cause : Cause). found cause s.set.part s.set.number j k in
+    let f = λ (cause : Cause). found cause s.position.set.part s.position.set.number j k in
     record {
-      is = inner_at s d s.left refl (omega arith) p.1 ∙ endpoint_role s e (some_setting s.set.setting j k p.0);
+      is = inner_at s d s.position.left refl (omega arith) p.1 ∙ endpoint_role s e (some_setting s.position.set.setting j k p.0);
       own = here_four (is_here s roles.Endpoint) (wrong_address e.address) (repeats_address (take k t.endpoints) e) (shares_address before t e) (wrong_packet_size e.max_packet)
           (f (address_cause e.address)) (f causes.RepeatedAddress) (f causes.SharedAddress) (f causes.PacketSize) (here (address_cause e.address) refl) (here causes.RepeatedAddress refl) (here causes.SharedAddress refl) (here causes.PacketSize refl);
-      after = next_endpoint s.set.setting j k e.address (owned e.address (less (length d) (seen s))) p.0;
+      after = next_endpoint s.position.set.setting j k e.address (owned e.address (less (length d) (seen s))) p.0;
       deep = refl;
       belongs = refl;
     }

@@ -29,12 +29,12 @@ use Rattle.usb_explain.specs.declared.role.Role.{Role}
 use Rattle.usb_explain.specs.declared.role.Role.TheVariants as roles
 use Rattle.usb_explain.specs.declared.position.OwnerKind.{OwnerKind}
 use Rattle.usb_explain.specs.declared.position.OwnerKind.TheVariants as owners
-use Rattle.usb_explain.specs.declared.position.Standing.{Standing}
+use Rattle.usb_explain.specs.declared.standing.Standing.{Standing}
 use Rattle.usb_explain.specs.Findings.{association_can, can_break, finding_at, is_here, is_same, part_number}
 use Rattle.usb_explain.specs.Contexts.{below, depth_of}
 use Rattle.usb_explain.specs.Owners.{owner_of}
 use Rattle.usb_explain.specs.declared.owner.DescriptorOwner.{DescriptorOwner}
-use Rattle.usb_explain.specs.Standings.{noted}
+use Rattle.usb_explain.specs.Positions.{noted}
 use Rattle.usb_explain.specs.Roles.{inner_role, typed_role}
 use Rattle.usb_explain.specs.declared.speed.SetSpeed.{SetSpeed}
 use Rattle.usb_explain.proofs.Spans.{Aim, adding}
@@ -66,11 +66,11 @@ association_breaks : (none : Bool) → association_can (if none then causes.NoIn
 association_breaks true = refl
 association_breaks false = refl
 
-here_association : (s : Standing) (a : Association) → is_here s roles.Association (found (association_cause a) s.set.part s.set.number s.set.associations 0) ≡ true
+here_association : (s : Standing) (a : Association) → is_here s roles.Association (found (association_cause a) s.position.set.part s.position.set.number s.position.set.associations 0) ≡ true
 unfolding finding_at can_break
 here_association s a =
-    here_is s roles.Association (association_cause a) s.set.part s.set.number s.set.associations 0
-    (same_place (rule_of (association_cause a)) s.set.part s.set.number s.set.associations 0) (association_breaks (a.count == 0))
+    here_is s roles.Association (association_cause a) s.position.set.part s.position.set.number s.position.set.associations 0
+    (same_place (rule_of (association_cause a)) s.position.set.part s.position.set.number s.position.set.associations 0) (association_breaks (a.count == 0))
 
 -- ---- what is left
 
@@ -108,38 +108,38 @@ whose_after (extras.Association a) v = refl
 not_eleven : (kind : ℕ) → is_typed kind ≡ false → kind ≡ 11 → ⊥
 not_eleven kind e is = let no : true ≡ false = ap is_typed (sym is) ∙ e in cc
 
-raw_role : (s : Standing) (r : Raw) → is_typed r.kind ≡ false → inner_role s (descriptor_bytes (raw_descriptor r)) ≡ Some roles.Raw
+raw_role : (s : Standing) (r : Raw) → is_typed r.kind ≡ false → inner_role s.position (descriptor_bytes (raw_descriptor r)) ≡ Some roles.Raw
 unfolding inner_role
 raw_role s r e =
     let is = untyped r.kind e in
     rw (ne_eqb r.kind 2 is.two, ne_eqb r.kind 7 is.seven, ne_eqb r.kind 4 is.four, ne_eqb r.kind 5 is.five, ne_eqb r.kind 11 (not_eleven r.kind e)) refl
 
-association_role : (s : Standing) (a : Association) → inner_role s (descriptor_bytes (association_descriptor a)) ≡ Some roles.Association
+association_role : (s : Standing) (a : Association) → inner_role s.position (descriptor_bytes (association_descriptor a)) ≡ Some roles.Association
 unfolding inner_role
 association_role s a = ap (λ b. Some (typed_role b roles.Association)) (le-leb 8 (length (descriptor_bytes (association_descriptor a))) (omega arith))
 
 abbrev extra_findings : Part → ℕ → List Setting → ℕ → Extra → List Found
 extra_findings part i settings n x = at_each (λ k a. when (binds_missing_interface settings a) (found (association_cause a) part i k 0)) n (association_in x)
 
-extra_step : (running : Option SetSpeed) (settings : List Setting) (x : Extra) (behind : List ℕ) (s : Standing) → is_typed_raw x ≡ false → length (extra_bytes x) ≤ s.left
-    → Step running s (extra_role x) (extra_bytes x) behind (extra_findings s.set.part s.set.number settings s.set.associations x)
-    (after_extra x (seen s)) (extra_depth (below s.set.owner) x) (Some (extra_owner (whose (seen s)) x))
+extra_step : (running : Option SetSpeed) (settings : List Setting) (x : Extra) (behind : List ℕ) (s : Standing) → is_typed_raw x ≡ false → length (extra_bytes x) ≤ s.position.left
+    → Step running s (extra_role x) (extra_bytes x) behind (extra_findings s.position.set.part s.position.set.number settings s.position.set.associations x)
+    (after_extra x (seen s)) (extra_depth (below s.position.set.owner) x) (Some (extra_owner (whose (seen s)) x))
 unfolding noted depth_of owner_of
 extra_step running settings (extras.Raw r) behind s e room =
-    let same : s.set.associations ≡ s.set.associations + 0 = omega arith in
+    let same : s.position.set.associations ≡ s.position.set.associations + 0 = omega arith in
     record {
-      is = inner_at s (extra_bytes (extras.Raw r)) s.left refl (omega arith) room ∙ raw_role s r e;
+      is = inner_at s (extra_bytes (extras.Raw r)) s.position.left refl (omega arith) room ∙ raw_role s r e;
       own = tt;
-      after = same_taken (seen s) (s.left - length (extra_bytes (extras.Raw r))) s.set.associations (length (extra_bytes (extras.Raw r))) 0 refl same;
+      after = same_taken (seen s) (s.position.left - length (extra_bytes (extras.Raw r))) s.position.set.associations (length (extra_bytes (extras.Raw r))) 0 refl same;
       deep = refl;
       belongs = ap Some (whose_is s);
     }
 extra_step running settings (extras.Association a) behind s e room =
     let d = extra_bytes (extras.Association a) in
-    let f = found (association_cause a) s.set.part s.set.number s.set.associations 0 in
+    let f = found (association_cause a) s.position.set.part s.position.set.number s.position.set.associations 0 in
     let here = is_here s roles.Association in
     record {
-      is = inner_at s d s.left refl (omega arith) room ∙ association_role s a;
+      is = inner_at s d s.position.left refl (omega arith) room ∙ association_role s a;
       own = here_both here (when (binds_missing_interface settings a) f) [] (here_when here (binds_missing_interface settings a) f (λ h. here_association s a)) tt;
       after = refl;
       deep = refl;

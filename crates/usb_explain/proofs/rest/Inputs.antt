@@ -35,13 +35,14 @@ use Rattle.usb_explain.specs.Trees.{descriptor_length, other_descriptors, set_de
 use Rattle.usb_explain.specs.declared.speed.SetSpeed.{SetSpeed}
 use Rattle.usb_explain.specs.declared.role.Role.{Role}
 use Rattle.usb_explain.specs.declared.role.Role.TheVariants as roles
-use Rattle.usb_explain.specs.declared.position.Standing.{Standing}
+use Rattle.usb_explain.specs.declared.standing.Standing.{Standing}
 use Rattle.usb_explain.specs.Findings.{can_break, finding_at, is_here}
 use Rattle.usb_explain.specs.Contexts.{depth_of}
 use Rattle.usb_explain.specs.Laws.{WholeHasNoRest, WholeShowsTree, WholeTellsFindings}
 use Rattle.usb_explain.specs.Owners.{of_set, owner_of}
 use Rattle.usb_explain.specs.SetStart.{entered}
-use Rattle.usb_explain.specs.Standings.{noted, passed, start}
+use Rattle.usb_explain.specs.Positions.{noted}
+use Rattle.usb_explain.specs.Standings.{passed, start}
 use Rattle.usb_explain.specs.Roles.{outer_role, role_if, role_of, string_role}
 use Rattle.usb_explain.proofs.Spans.{Aim, adding}
 use Rattle.usb_explain.proofs.rest.Walks.{Ends, ShowsAll, Tells, all_tells, ends_here, nothing_left}
@@ -63,11 +64,11 @@ at_end E running o aimed v e s fs same rear = ends_here E running s fs (rear.1 �
 
 -- a descriptor outside of sets
 pub record OutStep (running : Option SetSpeed) (s : Standing) (role : Role) (d behind : List ℕ) (mine : List Found) (o : Out) : Type 0 where
-  pub is : role_of s d ≡ Some role
+  pub is : role_of s.position d ≡ Some role
   pub own : AllHere (is_here (entered role running (d ++ behind) s) role) mine
   pub after : out (seen (passed role d (entered role running (d ++ behind) s))) ≡ o
-  pub deep : depth_of (entered role running (d ++ behind) s) role ≡ 0
-  pub belongs : owner_of (entered role running (d ++ behind) s) role d ≡ None
+  pub deep : depth_of (entered role running (d ++ behind) s).position role ≡ 0
+  pub belongs : owner_of (entered role running (d ++ behind) s).position role d ≡ None
 
 pub out_goes : (E : Aim) (running : Option SetSpeed) (o p : Out) (role : Role) (d behind : List ℕ) (mine later : List Found) → descriptor_length (d ++ behind) ≡ Some (length d)
     → ((s : Standing) → out (seen s) ≡ o → OutStep running s role d behind mine p) → GoesOut (adding E (tree_descriptor role 0 None d ∷ [])) running p later behind
@@ -80,7 +81,7 @@ out_goes E running o p role d behind mine later e step onward v is s fs same rea
 
 -- ---- the device
 
-pub device_role : (d : DeviceDescriptor) → role_of start (device_bytes d) ≡ Some roles.Device
+pub device_role : (d : DeviceDescriptor) → role_of start.position (device_bytes d) ≡ Some roles.Device
 unfolding start role_of outer_role
 device_role d = refl
 
@@ -100,11 +101,11 @@ device_after d ahead running = let none : 0 - length d ≡ 0 = omega arith in ap
 abbrev device_findings : Bool → DeviceDescriptor → List Configuration → List Found
 device_findings is_dump d sets = without_sets parts.Main sets ++ at_device is_dump d
 
-device_depth : (running : Option SetSpeed) (ahead : List ℕ) → depth_of (entered roles.Device running ahead start) roles.Device ≡ 0
+device_depth : (running : Option SetSpeed) (ahead : List ℕ) → depth_of (entered roles.Device running ahead start).position roles.Device ≡ 0
 unfolding depth_of
 device_depth running ahead = refl
 
-device_owner : (running : Option SetSpeed) (d ahead : List ℕ) → owner_of (entered roles.Device running ahead start) roles.Device d ≡ None
+device_owner : (running : Option SetSpeed) (d ahead : List ℕ) → owner_of (entered roles.Device running ahead start).position roles.Device d ≡ None
 unfolding owner_of
 device_owner running d ahead = refl
 
@@ -127,9 +128,9 @@ device_goes E running fs d sets is_dump behind later onward rear =
 
 -- ---- the other speed
 
-pub qualifier_role : (s : Standing) (q : Qualifier) → is_some s.device ≡ true → outer_role s (qualifier_bytes q) ≡ Some roles.Qualifier
+pub qualifier_role : (s : Standing) (q : Qualifier) → s.position.has_device ≡ true → outer_role s.position (qualifier_bytes q) ≡ Some roles.Qualifier
 unfolding outer_role
-qualifier_role s q e = both_hold (is_some s.device) true roles.Qualifier e refl
+qualifier_role s q e = both_hold (s.position.has_device) true roles.Qualifier e refl
 
 here_no_other : (s : Standing) → is_here s roles.Qualifier (found causes.NoConfiguration parts.Other 0 0 0) ≡ true
 unfolding finding_at can_break
@@ -140,10 +141,10 @@ unfolding finding_at can_break
 here_qualifier s q = here_is s roles.Qualifier (qualifier_cause q) parts.Other 0 0 0 (same_place rules.V11 parts.Other 0 0 0) refl
 
 -- outside of sets nothing is left of one
-pub nothing_less : (o : Out) (s : Standing) (n : ℕ) → o.left ≡ 0 → out (seen s) ≡ o → record (out (seen s)) { left = s.left - n } ≡ o
+pub nothing_less : (o : Out) (s : Standing) (n : ℕ) → o.left ≡ 0 → out (seen s) ≡ o → record (out (seen s)) { left = s.position.left - n } ≡ o
 nothing_less o s n none e =
-    let left : s.left ≡ 0 = ap (λ (o : Out). o.left) e ∙ none in
-    let same : s.left - n ≡ s.left = omega (arith, left) in
+    let left : s.position.left ≡ 0 = ap (λ (o : Out). o.left) e ∙ none in
+    let same : s.position.left - n ≡ s.position.left = omega (arith, left) in
     ap (λ k. record (out (seen s)) { left = k }) same ∙ e
 
 qualifier_step : (running : Option SetSpeed) (other : Other) (spoken : Bool) (m n : ℕ) (behind : List ℕ) (s : Standing) → out (seen s) ≡ outside true spoken m n
@@ -151,13 +152,14 @@ qualifier_step : (running : Option SetSpeed) (other : Other) (spoken : Bool) (m 
 unfolding noted depth_of owner_of
 qualifier_step running other spoken m n behind s e =
     let d = qualifier_bytes other.qualifier in
-    let here = is_here s roles.Qualifier in
+    let begun = entered roles.Qualifier running (d ++ behind) s in
+    let here = is_here begun roles.Qualifier in
     let none = found causes.NoConfiguration parts.Other 0 0 0 in
     record {
       is = outer_at s d (ap (λ (o : Out). o.left) e) ∙ qualifier_role s other.qualifier (ap (λ (o : Out). o.known) e);
       own = here_both here (when (length other.sets == 0) none) (at_qualifier other.qualifier)
-          (here_when here (length other.sets == 0) none (λ h. here_no_other s))
-          (here_when here (wrong_qualifier other.qualifier) (found (qualifier_cause other.qualifier) parts.Other 0 0 0) (λ h. here_qualifier s other.qualifier));
+          (here_when here (length other.sets == 0) none (λ h. here_no_other begun))
+          (here_when here (wrong_qualifier other.qualifier) (found (qualifier_cause other.qualifier) parts.Other 0 0 0) (λ h. here_qualifier begun other.qualifier));
       after = nothing_less (outside true spoken m n) s (length d) refl e;
       deep = refl;
       belongs = refl;
@@ -188,14 +190,14 @@ even n k e = eq-eqb (n % 2) 0 (omega (arith, e))
 holds : (a : Bool) (role : Role) → a ≡ true → role_if a role ≡ Some role
 holds a role h = rw h refl
 
-languages_role : (s : Standing) (u : List ℕ) → s.has_languages ≡ false → 0 < length u → outer_role s (units_bytes u) ≡ Some roles.Languages
+languages_role : (s : Standing) (u : List ℕ) → s.position.has_languages ≡ false → 0 < length u → outer_role s.position (units_bytes u) ≡ Some roles.Languages
 unfolding outer_role
 languages_role s u e some =
     ap (λ b. string_role b (length (units_bytes u))) e
     ∙ both_hold _ _ roles.Languages (even (length (units_bytes u)) (length u) (length-units_bytes u))
     (le-leb 4 (length (units_bytes u)) (omega (arith, length-units_bytes u, some)))
 
-text_role : (s : Standing) (u : List ℕ) → s.has_languages ≡ true → outer_role s (units_bytes u) ≡ Some roles.Text
+text_role : (s : Standing) (u : List ℕ) → s.position.has_languages ≡ true → outer_role s.position (units_bytes u) ≡ Some roles.Text
 unfolding outer_role
 text_role s u e =
     ap (λ b. string_role b (length (units_bytes u))) e
@@ -257,7 +259,7 @@ unfolding start
 no_sets kinds.Configuration = refl
 no_sets kinds.OtherSpeed = refl
 
-pub start_outside : start.left ≡ 0
+pub start_outside : start.position.left ≡ 0
 unfolding start
 start_outside = refl
 

@@ -21,12 +21,13 @@ use Rattle.usb_explain.specs.declared.speed.SetSpeed.{SetSpeed}
 use Rattle.usb_explain.specs.declared.role.Role.{Role}
 use Rattle.usb_explain.specs.declared.role.Role.TheVariants.{Device, Qualifier, Association, Interface, Endpoint, Raw, Languages, Text}
 use Rattle.usb_explain.specs.declared.role.Role.TheVariants as roles
-use Rattle.usb_explain.specs.declared.position.Standing.{Standing}
+use Rattle.usb_explain.specs.declared.standing.Standing.{Standing}
 use Rattle.usb_explain.specs.Laws.{Cut}
 use Rattle.usb_explain.specs.Outline.{Entry, findings_of}
 use Rattle.usb_explain.specs.Findings.{found_at}
 use Rattle.usb_explain.specs.SetStart.{entered}
-use Rattle.usb_explain.specs.Standings.{noted, passed}
+use Rattle.usb_explain.specs.Positions.{noted}
+use Rattle.usb_explain.specs.Standings.{passed}
 use Rattle.usb_explain.specs.Roles.{inner_role, typed_role}
 use Rattle.usb_explain.specs.Uncovered.{uncovered_in_set}
 use Rattle.usb_explain.proofs.Spans.{Aim, walk_shows}
@@ -101,7 +102,7 @@ typed_stays false role h = tt
 
 record Inner (s : Standing) (d : List ℕ) : Type 0 where
   role : Role
-  is : inner_role s d ≡ Some role
+  is : inner_role s.position d ≡ Some role
   stays : Stays role
 
 chosen : (a b c : Bool) (x y z : Role) → Stays x → Stays y → Stays z
@@ -116,14 +117,14 @@ unfolding inner_role
 inner s len kind body e =
     let n = length (len ∷ kind ∷ body) in
     let nine = nat_le 9 n in
-    let seven = is_some s.set.setting && nat_le 7 n in
+    let seven = is_some s.position.set.setting && nat_le 7 n in
     let eight = nat_le 8 n in
     let one = chosen (kind == 4) (kind == 5) (kind == 11) (typed_role nine Interface) (typed_role seven Endpoint) (typed_role eight Association)
     (typed_stays nine Interface tt) (typed_stays seven Endpoint tt) (typed_stays eight Association tt) in
     record { role = one.0; is = cond-false (is_set_type kind) None _ e ∙ one.1; stays = one.2 }
 
 left_behind : (role : Role) → Stays role → (running : Option SetSpeed) (d ahead : List ℕ) (s : Standing)
-    → (passed role d (entered role running ahead s)).left ≡ s.left - length d
+    → (passed role d (entered role running ahead s)).position.left ≡ s.position.left - length d
 unfolding noted
 left_behind Device h running d ahead s = absurd h
 left_behind Qualifier h running d ahead s = absurd h
@@ -148,7 +149,7 @@ not_nested room in_setting len kind body e =
 
 -- from each standing where so much of a set is left, no more bytes than so many are left of these
 abbrev pub GoesFew : ℕ → Option SetSpeed → ℕ → List ℕ → Type 0
-GoesFew k running room ahead = (s : Standing) → s.left ≡ room → EndsFew k running s ahead
+GoesFew k running room ahead = (s : Standing) → s.position.left ≡ room → EndsFew k running s ahead
 
 item_goes : (k : ℕ) (running : Option SetSpeed) (room : ℕ) (in_setting : Bool) (item : Descriptor) (behind : List ℕ) → item_fault room in_setting (descriptor_bytes item) ≡ None
     → GoesFew k running (room - length (descriptor_bytes item)) behind → GoesFew k running room (descriptor_bytes item ++ behind)
@@ -223,7 +224,7 @@ total_before len kind [] behind least = absurd (omega arith)
 total_before len kind (low ∷ []) behind least = absurd (omega arith)
 total_before len kind (low ∷ high ∷ body) behind least = refl
 
-begun_goes : (k : ℕ) (running : Option SetSpeed) (kind : SetKind) (body behind : List ℕ) (s : Standing) → s.left ≡ 0
+begun_goes : (k : ℕ) (running : Option SetSpeed) (kind : SetKind) (body behind : List ℕ) (s : Standing) → s.position.left ≡ 0
     → (let d : List ℕ = (2 + length body) ∷ type_number kind ∷ body in
     9 ≤ length d → length d ≤ total_of d → GoesFew k running (total_of d - length d) behind → EndsFew k running s (d ++ behind))
 begun_goes k running kind body behind s outside least most onward fs nil =
@@ -235,7 +236,7 @@ begun_goes k running kind body behind s outside least most onward fs nil =
     (ap (λ (v : Seen). v.left) (set_after kind running len body behind s) ∙ ap (λ n. n - length d) (total_before len (type_number kind) body behind least))
     (left_one running s fs roles.Configuration d behind) (nil_behind running s fs roles.Configuration d behind nil))
 
-header_goes : (k : ℕ) (running : Option SetSpeed) (header behind : List ℕ) (s : Standing) → s.left ≡ 0 → IsHeader header
+header_goes : (k : ℕ) (running : Option SetSpeed) (header behind : List ℕ) (s : Standing) → s.position.left ≡ 0 → IsHeader header
     → GoesFew k running (total_of header - length header) behind → EndsFew k running s (header ++ behind)
 header_goes k running header behind s outside is onward =
     let h = header_parts header is in

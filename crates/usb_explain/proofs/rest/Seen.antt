@@ -10,9 +10,9 @@ use Rattle.usb_file_data.specs.Places.{when}
 use Rattle.usb_explain.specs.Trees.{descriptor_length, TreeDescriptor, tree_descriptor}
 use Rattle.usb_explain.specs.declared.role.Role.{Role}
 use Rattle.usb_explain.specs.declared.position.OwnerKind.{OwnerKind}
-use Rattle.usb_explain.specs.declared.position.SetStanding.{SetStanding}
-use Rattle.usb_explain.specs.declared.position.SettingStanding.{SettingStanding}
-use Rattle.usb_explain.specs.declared.position.Standing.{Standing}
+use Rattle.usb_explain.specs.declared.position.SetPosition.{SetPosition}
+use Rattle.usb_explain.specs.declared.position.SettingPosition.{SettingPosition}
+use Rattle.usb_explain.specs.declared.standing.Standing.{Standing}
 use Rattle.usb_explain.specs.Findings.{found_at, is_here}
 use Rattle.usb_explain.specs.Contexts.{depth_of}
 use Rattle.usb_explain.proofs.Outlines.{entry_in_tree}
@@ -46,25 +46,25 @@ pub record Seen : Type 0 where
   pub address : Option ℕ
   pub owner : OwnerKind
 
-abbrev pub numbers_of : Option SettingStanding → Option (ℕ × ℕ)
+abbrev pub numbers_of : Option SettingPosition → Option (ℕ × ℕ)
 numbers_of None = None
 numbers_of (Some setting) = Some (setting.number, setting.endpoints)
 
 abbrev pub seen : Standing → Seen
 seen s = record {
-  left = s.left;
-  known = is_some s.device;
-  spoken = s.has_languages;
-  mains = s.main_sets;
-  others = s.other_sets;
-  part = s.set.part;
-  number = s.set.number;
-  associations = s.set.associations;
-  settings = s.set.settings;
-  setting = numbers_of s.set.setting;
-  interface = interface_of s.set.setting;
-  address = address_of s.set.setting;
-  owner = s.set.owner;
+  left = s.position.left;
+  known = s.position.has_device;
+  spoken = s.position.has_languages;
+  mains = s.position.main_sets;
+  others = s.position.other_sets;
+  part = s.position.set.part;
+  number = s.position.set.number;
+  associations = s.position.set.associations;
+  settings = s.position.set.settings;
+  setting = numbers_of s.position.set.setting;
+  interface = interface_of s.position.set.setting;
+  address = address_of s.position.set.setting;
+  owner = s.position.set.owner;
 }
 
 -- an interface of what owns others last, and an endpoint
@@ -85,15 +85,15 @@ whose v = record { part = v.part; set = v.number; setting = setting_when v.owner
 abbrev pub whose_interface : Seen → DescriptorOwner
 whose_interface v = record { part = v.part; set = v.number; setting = v.interface; endpoint = None }
 
-by_kind : (kind : OwnerKind) (set : SetStanding)
+by_kind : (kind : OwnerKind) (set : SetPosition)
     → last_owner kind set
     ≡ record { part = set.part; set = set.number; setting = setting_when kind (interface_of set.setting); endpoint = endpoint_when kind (address_of set.setting) }
 by_kind owners.Configuration set = refl
 by_kind owners.Interface set = refl
 by_kind owners.Endpoint set = refl
 
-pub whose_is : (s : Standing) → last_owner s.set.owner s.set ≡ whose (seen s)
-whose_is s = by_kind s.set.owner s.set
+pub whose_is : (s : Standing) → last_owner s.position.set.owner s.position.set ≡ whose (seen s)
+whose_is s = by_kind s.position.set.owner s.position.set
 
 -- what is left is a rear of these findings
 abbrev pub Rear : List Found → List Found → Type 0
@@ -137,11 +137,11 @@ rear_behind running s fs role d behind mine later all rear =
 
 -- a descriptor of this role: it is one, of this depth and this owner, each of these findings is its own, and so it stands behind it
 pub record Step (running : Option SetSpeed) (s : Standing) (role : Role) (d behind : List ℕ) (mine : List Found) (w : Seen) (depth : ℕ) (owner : Option DescriptorOwner) : Type 0 where
-  pub is : role_of s d ≡ Some role
+  pub is : role_of s.position d ≡ Some role
   pub own : AllHere (is_here (entered role running (d ++ behind) s) role) mine
   pub after : seen (passed role d (entered role running (d ++ behind) s)) ≡ w
-  pub deep : depth_of (entered role running (d ++ behind) s) role ≡ depth
-  pub belongs : owner_of (entered role running (d ++ behind) s) role d ≡ owner
+  pub deep : depth_of (entered role running (d ++ behind) s).position role ≡ depth
+  pub belongs : owner_of (entered role running (d ++ behind) s).position role d ≡ owner
 
 pub one_goes : (E : Aim) (running : Option SetSpeed) (v w : Seen) (role : Role) (d behind : List ℕ) (mine later : List Found) (depth : ℕ) (owner : Option DescriptorOwner)
     → descriptor_length (d ++ behind) ≡ Some (length d) → ((s : Standing) → seen s ≡ v → Step running s role d behind mine w depth owner)

@@ -27,12 +27,13 @@ use Rattle.usb_explain.specs.declared.speed.SetSpeed.{SetSpeed}
 use Rattle.usb_explain.specs.declared.role.Role.{Role}
 use Rattle.usb_explain.specs.declared.role.Role.TheVariants as roles
 use Rattle.usb_explain.specs.declared.position.OwnerKind.TheVariants as owners
-use Rattle.usb_explain.specs.declared.position.Standing.{Standing}
+use Rattle.usb_explain.specs.declared.standing.Standing.{Standing}
 use Rattle.usb_explain.specs.Findings.{can_break, finding_at, is_here, set_can}
 use Rattle.usb_explain.specs.Contexts.{depth_of}
 use Rattle.usb_explain.specs.Owners.{of_set, owner_of}
-use Rattle.usb_explain.specs.SetStart.{entered, opened}
-use Rattle.usb_explain.specs.Standings.{noted, passed}
+use Rattle.usb_explain.specs.SetStart.{entered}
+use Rattle.usb_explain.specs.Positions.{noted}
+use Rattle.usb_explain.specs.Standings.{passed}
 use Rattle.usb_explain.specs.Roles.{outer_role, role_if, role_of}
 use Rattle.usb_explain.specs.Trees.{extra_descriptors, set_descriptors, set_descriptors_by, setting_descriptors, tree_descriptor}
 use Rattle.usb_explain.proofs.Spans.{Aim, adding}
@@ -43,9 +44,9 @@ use Rattle.usb_explain.proofs.rest.Endpoints.{here_four}
 use Rattle.usb_explain.proofs.rest.Settings.{Out, out, out_at, settings_go}
 
 -- outside of sets
-pub outer_at : (s : Standing) (d : List ℕ) → s.left ≡ 0 → role_of s d ≡ outer_role s d
+pub outer_at : (s : Standing) (d : List ℕ) → s.position.left ≡ 0 → role_of s.position d ≡ outer_role s.position d
 unfolding role_of
-outer_at s d e = cond-true (s.left == 0) _ _ (eq-eqb s.left 0 e)
+outer_at s d e = cond-true (s.position.left == 0) _ _ (eq-eqb s.position.left 0 e)
 
 -- a role that asks for two things which hold
 pub both_hold : (a b : Bool) (role : Role) → a ≡ true → b ≡ true → role_if (a && b) role ≡ Some role
@@ -87,24 +88,24 @@ begun_out kinds.OtherSpeed k n v = refl
 pub set_after : (kind : SetKind) (running : Option SetSpeed) (len : ℕ) (body behind : List ℕ) (s : Standing)
     → (let d : List ℕ = len ∷ type_number kind ∷ body in
     seen (passed roles.Configuration d (entered roles.Configuration running (d ++ behind) s)) ≡ begun kind (little_endian_at (d ++ behind) 2 - length d) (seen s))
-unfolding noted opened
+unfolding noted
 set_after kinds.Configuration running len body behind s = refl
 set_after kinds.OtherSpeed running len body behind s = refl
 
 here_set : (kind : SetKind) (running : Option SetSpeed) (s : Standing) (len : ℕ) (body behind : List ℕ) (cause : Cause) → set_can cause ≡ true
     → (let d : List ℕ = len ∷ type_number kind ∷ body in
     is_here (entered roles.Configuration running (d ++ behind) s) roles.Configuration (found cause (part_of_kind kind) (count_in kind (out (seen s))) 0 0) ≡ true)
-unfolding opened finding_at can_break
+unfolding finding_at can_break
 here_set kinds.Configuration running s len body behind cause h =
-    here_is (opened running (len ∷ 2 ∷ body ++ behind) s) roles.Configuration cause parts.Main s.main_sets 0 0 (same_place (rule_of cause) parts.Main s.main_sets 0 0) h
+    here_is (entered roles.Configuration running (len ∷ 2 ∷ body ++ behind) s) roles.Configuration cause parts.Main s.position.main_sets 0 0 (same_place (rule_of cause) parts.Main s.position.main_sets 0 0) h
 here_set kinds.OtherSpeed running s len body behind cause h =
-    here_is (opened running (len ∷ 7 ∷ body ++ behind) s) roles.Configuration cause parts.Other s.other_sets 0 0 (same_place (rule_of cause) parts.Other s.other_sets 0 0) h
+    here_is (entered roles.Configuration running (len ∷ 7 ∷ body ++ behind) s) roles.Configuration cause parts.Other s.position.other_sets 0 0 (same_place (rule_of cause) parts.Other s.position.other_sets 0 0) h
 
 -- it belongs to its set
 owner_set : (kind : SetKind) (running : Option SetSpeed) (s : Standing) (len : ℕ) (body behind : List ℕ)
     → (let d : List ℕ = len ∷ type_number kind ∷ body in
-    owner_of (entered roles.Configuration running (d ++ behind) s) roles.Configuration d ≡ Some (of_set (part_of_kind kind) (count_in kind (out (seen s)))))
-unfolding opened owner_of
+    owner_of (entered roles.Configuration running (d ++ behind) s).position roles.Configuration d ≡ Some (of_set (part_of_kind kind) (count_in kind (out (seen s)))))
+unfolding owner_of
 owner_set kinds.Configuration running s len body behind = refl
 owner_set kinds.OtherSpeed running s len body behind = refl
 
@@ -115,7 +116,7 @@ value_breaks false = refl
 -- either type of its first descriptor begins a set
 pub set_role : (s : Standing) (kind : SetKind) (len : ℕ) (body : List ℕ) → 9 ≤ length (len ∷ type_number kind ∷ body)
     → length (len ∷ type_number kind ∷ body) ≤ little_endian_at (len ∷ type_number kind ∷ body) 2
-    → outer_role s (len ∷ type_number kind ∷ body) ≡ Some roles.Configuration
+    → outer_role s.position (len ∷ type_number kind ∷ body) ≡ Some roles.Configuration
 unfolding outer_role
 set_role s kinds.Configuration len body least most = both_hold _ _ roles.Configuration (le-leb _ _ least) (le-leb _ _ most)
 set_role s kinds.OtherSpeed len body least most = both_hold _ _ roles.Configuration (le-leb _ _ least) (le-leb _ _ most)
@@ -137,7 +138,7 @@ whole_sum c total whole =
     let y = flat_map setting_bytes c.settings in
     sym (length-append (d ++ x) y ∙ ap (λ n. n + length y) (length-append d x)) ∙ whole.length_is
 
-configuration_step : (running : Option SetSpeed) (before : List Configuration) (c : Configuration) (total : ℕ) (behind : List ℕ) (s : Standing) → IsWhole c total → s.left ≡ 0
+configuration_step : (running : Option SetSpeed) (before : List Configuration) (c : Configuration) (total : ℕ) (behind : List ℕ) (s : Standing) → IsWhole c total → s.position.left ≡ 0
     → Step running s roles.Configuration (descriptor_bytes (configuration_descriptor c total)) (behind_first c behind) (at_configuration (part_of_kind c.kind) before (count_in c.kind (out (seen s))) c)
     (begun c.kind (total - length (descriptor_bytes (configuration_descriptor c total))) (seen s))
     1 (Some (of_set (part_of_kind c.kind) (count_in c.kind (out (seen s)))))

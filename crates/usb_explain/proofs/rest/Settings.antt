@@ -16,12 +16,12 @@ use Rattle.usb_set.specs.inside.Trees.{endpoint_bytes, extra_bytes, is_setting_t
 use Rattle.usb_set.proofs.Trees.{setting_typed_parts}
 use Rattle.usb_explain.specs.declared.role.Role.TheVariants as roles
 use Rattle.usb_explain.specs.declared.position.OwnerKind.TheVariants as owners
-use Rattle.usb_explain.specs.declared.position.Standing.{Standing}
+use Rattle.usb_explain.specs.declared.standing.Standing.{Standing}
 use Rattle.usb_explain.specs.Findings.{can_break, finding_at, interface_can, is_here}
 use Rattle.usb_explain.specs.Contexts.{depth_of}
 use Rattle.usb_explain.specs.Owners.{of_interface, of_set, owner_of}
 use Rattle.usb_explain.specs.declared.owner.DescriptorOwner.{DescriptorOwner}
-use Rattle.usb_explain.specs.Standings.{noted}
+use Rattle.usb_explain.specs.Positions.{noted}
 use Rattle.usb_explain.specs.Roles.{inner_role, typed_role}
 use Rattle.usb_explain.specs.declared.speed.SetSpeed.{SetSpeed}
 use Rattle.usb_explain.specs.Trees.{TreeDescriptor, endpoint_descriptors, extra_descriptors, setting_descriptors, tree_descriptor}
@@ -33,11 +33,11 @@ use Rattle.usb_explain.proofs.rest.Endpoints.{endpoints_go}
 
 -- ---- an interface
 
-here_interface : (s : Standing) (cause : Cause) → interface_can cause ≡ true → is_here s roles.Interface (found cause s.set.part s.set.number s.set.settings 0) ≡ true
+here_interface : (s : Standing) (cause : Cause) → interface_can cause ≡ true → is_here s roles.Interface (found cause s.position.set.part s.position.set.number s.position.set.settings 0) ≡ true
 unfolding finding_at can_break
-here_interface s cause h = here_is s roles.Interface cause s.set.part s.set.number s.set.settings 0 (same_place (rule_of cause) s.set.part s.set.number s.set.settings 0) h
+here_interface s cause h = here_is s roles.Interface cause s.position.set.part s.position.set.number s.position.set.settings 0 (same_place (rule_of cause) s.position.set.part s.position.set.number s.position.set.settings 0) h
 
-interface_role : (s : Standing) (t : Setting) → inner_role s (descriptor_bytes (interface_descriptor t)) ≡ Some roles.Interface
+interface_role : (s : Standing) (t : Setting) → inner_role s.position (descriptor_bytes (interface_descriptor t)) ≡ Some roles.Interface
 unfolding inner_role
 interface_role s t = ap (λ b. Some (typed_role b roles.Interface)) (le-leb 9 (length (descriptor_bytes (interface_descriptor t))) (omega arith))
 
@@ -78,19 +78,19 @@ setting_sum t ts =
     omega (arith, sum)
 
 interface_step : (running : Option SetSpeed) (all : List Setting) (t : Setting) (ts : List Setting) (behind : List ℕ) (s : Standing)
-    → s.left ≡ length (flat_map setting_bytes (t ∷ ts))
-    → Step running s roles.Interface (descriptor_bytes (interface_descriptor t)) (behind_interface t ts behind) (at_interface s.set.part s.set.number all s.set.settings t)
+    → s.position.left ≡ length (flat_map setting_bytes (t ∷ ts))
+    → Step running s roles.Interface (descriptor_bytes (interface_descriptor t)) (behind_interface t ts behind) (at_interface s.position.set.part s.position.set.number all s.position.set.settings t)
     (begun_setting t (length (descriptor_bytes (interface_descriptor t))) (seen s)) 2 (Some (interface_in t (seen s)))
 unfolding noted depth_of owner_of
 interface_step running all t ts behind s left =
     let d = descriptor_bytes (interface_descriptor t) in
-    let j = s.set.settings in
-    let f = λ (cause : Cause). found cause s.set.part s.set.number j 0 in
+    let j = s.position.set.settings in
+    let f = λ (cause : Cause). found cause s.position.set.part s.position.set.number j 0 in
     let here = here_interface s in
     let count = causes.EndpointCount t.declared_endpoints (length t.endpoints) in
     let sum = setting_sum t ts in
     record {
-      is = inner_at s d s.left refl (omega arith) (omega (arith, left, sum)) ∙ interface_role s t;
+      is = inner_at s d s.position.left refl (omega arith) (omega (arith, left, sum)) ∙ interface_role s t;
       own = here_three (is_here s roles.Interface) (repeats_setting (take j all) t) (lacks_default_setting all (take j all) t) (wrong_endpoint_count t)
           (f causes.RepeatedSetting) (f causes.NoDefaultSetting) (f count) (here causes.RepeatedSetting refl) (here causes.NoDefaultSetting refl) (here count refl);
       after = refl;

@@ -6,7 +6,7 @@ use Rattle.std.proofs.lemmas.Bool.Decides.{nat_tests}
 use Rattle.std.proofs.Math.Seq.{drop-append_seam, take-append_seam}
 use Rattle.usb_explain.specs.Trees.{descriptor_length, tree_descriptor}
 use Rattle.usb_explain.specs.declared.role.Role.{Role}
-use Rattle.usb_explain.specs.declared.position.Standing.{Standing}
+use Rattle.usb_explain.specs.declared.standing.Standing.{Standing}
 use Rattle.usb_explain.specs.Contexts.{depth_of}
 use Rattle.usb_explain.specs.Owners.{owner_of}
 use Rattle.usb_explain.specs.declared.owner.DescriptorOwner.{DescriptorOwner}
@@ -38,12 +38,12 @@ length_is len kind body behind e =
     ∙ ap Some (omega (arith, e))
 
 -- so it is the next one, if it has a role here
-next_at : (s : Standing) (d behind : List ℕ) (role : Role) → descriptor_length (d ++ behind) ≡ Some (length d) → role_of s d ≡ Some role
-    → next_role s (d ++ behind) ≡ Some (role, length d)
+next_at : (s : Standing) (d behind : List ℕ) (role : Role) → descriptor_length (d ++ behind) ≡ Some (length d) → role_of s.position d ≡ Some role
+    → next_role s.position (d ++ behind) ≡ Some (role, length d)
 unfolding next_role
 next_at s d behind role e is =
-    ap (λ o. option_and_then (λ n. option_map (λ role. (role, n)) (role_of s (take n (d ++ behind)))) o) e
-    ∙ ap (λ l. option_map (λ role. (role, length d)) (role_of s l)) (take-append_seam d behind)
+    ap (λ o. option_and_then (λ n. option_map (λ role. (role, n)) (role_of s.position (take n (d ++ behind)))) o) e
+    ∙ ap (λ l. option_map (λ role. (role, length d)) (role_of s.position l)) (take-append_seam d behind)
     ∙ ap (λ o. option_map (λ role. (role, length d)) o) is
 
 -- where it stands behind a descriptor of this role, and the findings that are left there
@@ -64,7 +64,7 @@ EndsBehind E running s fs role ahead d behind =
     (passed role d (entered role running ahead s)) (drop (length (found_at (entered role running ahead s) role fs)) fs) behind
 
 ends_on : (E : Aim) (running : Option SetSpeed) (s : Standing) (fs : List Found) (d behind : List ℕ) (role : Role) → descriptor_length (d ++ behind) ≡ Some (length d)
-    → role_of s d ≡ Some role → EndsBehind E running s fs role (d ++ behind) d behind → Ends E running s fs (d ++ behind)
+    → role_of s.position d ≡ Some role → EndsBehind E running s fs role (d ++ behind) d behind → Ends E running s fs (d ++ behind)
 ends_on E running s fs d behind role e is onward =
     ends_behind E running s fs (d ++ behind) (role, length d) (next_at s d behind role e is)
     (subst (λ l. EndsBehind E running s fs role (d ++ behind) l (drop (length d) (d ++ behind))) (sym (take-append_seam d behind))
@@ -72,8 +72,8 @@ ends_on E running s fs d behind role e is onward =
 
 -- behind a descriptor of this role, depth and owner the walk goes on
 pub goes_on : (E : Aim) (running : Option SetSpeed) (s : Standing) (fs : List Found) (d behind : List ℕ) (role : Role) (depth : ℕ) (owner : Option DescriptorOwner)
-    → descriptor_length (d ++ behind) ≡ Some (length d) → role_of s d ≡ Some role → depth_of (entered role running (d ++ behind) s) role ≡ depth
-    → owner_of (entered role running (d ++ behind) s) role d ≡ owner
+    → descriptor_length (d ++ behind) ≡ Some (length d) → role_of s.position d ≡ Some role → depth_of (entered role running (d ++ behind) s).position role ≡ depth
+    → owner_of (entered role running (d ++ behind) s).position role d ≡ owner
     → Ends (adding E (tree_descriptor role depth owner d ∷ [])) running (behind_one running s role d behind) (left_one running s fs role d behind) behind
     → Ends E running s fs (d ++ behind)
 goes_on E running s fs d behind role depth owner e is deep belongs onward =
@@ -81,12 +81,12 @@ goes_on E running s fs d behind role depth owner e is deep belongs onward =
     let next = behind_one running s role d behind in
     let gs = left_one running s fs role d behind in
     ends_on E running s fs d behind role e is
-    (subst (λ n. Ends (adding E (tree_descriptor role n (owner_of begun role d) d ∷ [])) running next gs behind) (sym deep)
+    (subst (λ n. Ends (adding E (tree_descriptor role n (owner_of begun.position role d) d ∷ [])) running next gs behind) (sym deep)
     (subst (λ o. Ends (adding E (tree_descriptor role depth o d ∷ [])) running next gs behind) (sym belongs) onward))
 
 -- where so much of a set is left, a descriptor that has room stands in the set
-pub inner_at : (s : Standing) (d : List ℕ) (n : ℕ) → s.left ≡ n → 0 < length d → length d ≤ n → role_of s d ≡ inner_role s d
+pub inner_at : (s : Standing) (d : List ℕ) (n : ℕ) → s.position.left ≡ n → 0 < length d → length d ≤ n → role_of s.position d ≡ inner_role s.position d
 unfolding role_of
 inner_at s d n e some room =
-    cond-false (s.left == 0) _ _ (ne_eqb s.left 0 (λ none. omega (arith, e, some, room, none)))
-    ∙ cond-true (nat_le (length d) s.left) _ _ (le-leb (length d) s.left (omega (arith, e, room)))
+    cond-false (s.position.left == 0) _ _ (ne_eqb s.position.left 0 (λ none. omega (arith, e, some, room, none)))
+    ∙ cond-true (nat_le (length d) s.position.left) _ _ (le-leb (length d) s.position.left (omega (arith, e, room)))

@@ -1,7 +1,7 @@
 -- Walks that come to the end of the bytes, and their text.
 use Rattle.std.proofs.Common.{◌≡◌, ◌≤◌, ℕ, zero, suc, List, [], ◌++◌, flat_map, length, map, drop, Option, Some, None, is_some, ◌==◌, ◌&&◌, sym, ap, subst, ◌∙◌, arith, append-nil, length-drop, Bool, true, false, cond, ◌∷◌, refl}
 use Rattle.usb_explain.specs.declared.role.Role.{Role}
-use Rattle.usb_explain.specs.declared.position.Standing.{Standing}
+use Rattle.usb_explain.specs.declared.standing.Standing.{Standing}
 use Rattle.usb_explain.specs.Outline.{Entry, after_next, end_of, entries, entry_next, findings_of, left_next, outline}
 use Rattle.usb_explain.specs.Laws.{EachFindingOnce, TellsItsOwn, as_in_tree}
 use Rattle.usb_explain.specs.Findings.{finding_at, found_at, in_setting, is_here}
@@ -19,8 +19,8 @@ use Rattle.usb_file_data.specs.Numbers.{rule_number, rule_numbered}
 use Rattle.usb_file_data.specs.declared.cause.Cause.{Cause}
 use Rattle.usb_file_data.specs.Causes.{rule_of}
 use Rattle.usb_file_data.proofs.RuleNumbers.{numbered_rule}
-use Rattle.usb_explain.specs.declared.position.SetStanding.{SetStanding}
-use Rattle.usb_explain.specs.declared.position.SettingStanding.{SettingStanding}
+use Rattle.usb_explain.specs.declared.position.SetPosition.{SetPosition}
+use Rattle.usb_explain.specs.declared.position.SettingPosition.{SettingPosition}
 use Rattle.usb_explain.specs.declared.role.Role.TheVariants as roles
 use Rattle.std.proofs.lemmas.Bool.{eqb-true}
 use Rattle.std.proofs.lemmas.List.{length-map}
@@ -36,14 +36,14 @@ pub ends_here : (E : Aim) (running : Option SetSpeed) (s : Standing) (fs : List 
 ends_here E running s fs none aimed n enough = ended_none E running n s fs none aimed
 
 -- a descriptor takes one step, and has two bytes at least
-pub ends_behind : (E : Aim) (running : Option SetSpeed) (s : Standing) (fs : List Found) (ahead : List ℕ) (next : Role × ℕ) → next_role s ahead ≡ Some next
+pub ends_behind : (E : Aim) (running : Option SetSpeed) (s : Standing) (fs : List Found) (ahead : List ℕ) (next : Role × ℕ) → next_role s.position ahead ≡ Some next
     → Ends (adding E (entry_in_tree (entry_next running s fs ahead next) ∷ [])) running (after_next running s ahead next) (left_next running s fs ahead next) (drop next.1 ahead)
     → Ends E running s fs ahead
 ends_behind E running s fs ahead next e onward zero enough =
-    let bounds = next_bounds s ahead next e in
+    let bounds = next_bounds s.position ahead next e in
     absurd (omega (arith, bounds.0, bounds.1, enough))
 ends_behind E running s fs ahead next e onward (suc n) enough =
-    let bounds = next_bounds s ahead next e in
+    let bounds = next_bounds s.position ahead next e in
     ended_more E running n s fs ahead next e (onward n (omega (arith, length-drop next.1 ahead, bounds.0, bounds.1, enough)))
 
 -- a walk over all bytes of an input shows its descriptors
@@ -77,7 +77,7 @@ all_own : (shown : List Entry) → AllByRecursion TellsItsOwn shown
 all_own [] = tt
 all_own (d ∷ ds) = (tells_own d, all_own ds)
 
-setting_rule : (set : SetStanding) (cause : Cause) (o : Option SettingStanding) → (in_setting set cause o).rule ≡ rule_number (rule_of cause)
+setting_rule : (set : SetPosition) (cause : Cause) (o : Option SettingPosition) → (in_setting set cause o).rule ≡ rule_number (rule_of cause)
 setting_rule set cause None = refl
 setting_rule set cause (Some setting) = refl
 
@@ -89,7 +89,7 @@ rule_at s roles.Qualifier cause = refl
 rule_at s roles.Configuration cause = refl
 rule_at s roles.Association cause = refl
 rule_at s roles.Interface cause = refl
-rule_at s roles.Endpoint cause = setting_rule s.set cause s.set.setting
+rule_at s roles.Endpoint cause = setting_rule s.position.set cause s.position.set.setting
 rule_at s roles.Raw cause = refl
 rule_at s roles.Languages cause = refl
 rule_at s roles.Text cause = refl

@@ -1,6 +1,6 @@
 use Rattle.std.proofs.Common.{◌≡◌, ◌∙◌, ◌∷◌, drop, ap, ap₂, arith, length, subst, sym, rules, List, ℕ}
 use Rattle.usb_explain.specs.declared.role.Role.{Role}
-use Rattle.usb_explain.specs.declared.position.Standing.{Standing}
+use Rattle.usb_explain.specs.declared.standing.Standing.{Standing}
 use Rattle.usb_explain.specs.Outline.{Described, after_next}
 use Rattle.usb_explain.specs.inside.Walking.{Counted}
 use Rattle.usb_explain.proofs.Outlines.{left_same, outline_next, outline_nil, outline_none, stays_counted, stays_room}
@@ -16,9 +16,9 @@ pub invariant_of-self-2 : goal.invariant_of-self-2
 invariant_of-self-2 c =
     let b = c.self.inside.ahead.now in
     let next : Role × ℕ = (c.in-Some.role, c.in-Some.count) in
-    let at : c.step_over.new.self.at ≡ (after_next c.self.inside.running c.self.inside.standing b next).at = ap (λ (s : Standing). s.at) c.step_over.ensures.standing in
+    let at : c.step_over.new.self.position.at ≡ (after_next c.self.inside.running c.self.inside.standing b next).position.at = ap (λ (s : Standing). s.position.at) c.step_over.ensures.standing in
     let left : length c.after-self-inside.result.now ≡ length (drop c.in-Some.count b) = ap length c.after-self-inside.ensures in (
-      subst Counted (sym c.step_over.ensures.standing) (stays_counted c.self.inside.running c.self.inside.standing b next c.self.invariant.0 c.in-Some.ensures.least c.in-Some.ensures.most),
+      subst (λ (s : Standing). Counted s.position) (sym c.step_over.ensures.standing) (stays_counted c.self.inside.running c.self.inside.standing b next c.self.invariant.0 c.in-Some.ensures.least c.in-Some.ensures.most),
       omega (arith, at, left, stays_room c.self.inside.running c.self.inside.standing b next c.in-Some.ensures.most c.self.invariant.1),
     )
 

@@ -1,6 +1,6 @@
 use Rattle.std.proofs.Common.{arith, sym, ◌∙◌}
 use Rattle.usb_explain.proofs.Telling.{one_on}
-use Rattle.usb_explain.proofs.position.Standing.count_here.Goals as goal
+use Rattle.usb_explain.proofs.standing.Standing.count_here.Goals as goal
 
 pub loop-one-preserved : goal.loop-one-preserved
 loop-one-preserved c =

@@ -1,0 +1,19 @@
+use Rattle.std.proofs.Common.{◌≡◌, ◌∙◌, ap, arith, length, subst, sym}
+use Rattle.std.proofs.lemmas.List.{length-take-le}
+use Rattle.usb_explain.specs.declared.standing.Standing.{Standing}
+use Rattle.usb_explain.specs.SetStart.{entered}
+use Rattle.usb_explain.specs.inside.Walking.{Counted}
+use Rattle.usb_explain.proofs.Positions.{counted_at, same_at}
+use Rattle.usb_explain.proofs.standing.Standing.step_over.Goals as goal
+
+pub pass-requires-clause-counted : goal.pass-requires-clause-counted
+pass-requires-clause-counted c =
+    let at : Counted (entered c.args.role c.args.running c.args.ahead.now c.args.self.now).position = counted_at c.args.role c.args.ahead.now c.args.self.now.position c.requires.counted in
+    subst (λ (s : Standing). Counted s.position) (sym c.enter.ensures) at
+
+pub pass-requires-clause-room : goal.pass-requires-clause-room
+pass-requires-clause-room c =
+    let same : c.enter.new.self.position.at ≡ c.args.self.now.position.at =
+    ap (λ (s : Standing). s.position.at) c.enter.ensures ∙ same_at c.args.role c.args.ahead.now c.args.self.now.position in
+    let taken : length c.prefix-bytes.result.now ≡ c.args.count = ap length c.prefix-bytes.ensures ∙ length-take-le c.args.count c.args.ahead.now c.requires.most in
+    omega (arith, same, taken, c.requires.room, c.requires.most)

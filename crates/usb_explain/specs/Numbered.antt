@@ -1,0 +1,82 @@
+-- A walk by positions alone, and what of an outline it has.
+use Rattle.std.specs.Prelude.{◌≡◌, ℕ, zero, suc, List, [], ◌∷◌, length, map, take, drop, Option, unwrap_or}
+use Rattle.std.specs.Option.{option_map}
+use Rattle.usb_file_data.specs.declared.cause.Found.{Found}
+use Rattle.usb_names.specs.declared.codes.ClassCodes.{ClassCodes}
+use Rattle.usb_explain.specs.declared.owner.DescriptorOwner.{DescriptorOwner}
+use Rattle.usb_explain.specs.declared.position.Position.{Position}
+use Rattle.usb_explain.specs.declared.role.Role.{Role}
+use Rattle.usb_explain.specs.declared.speed.SetSpeed.{SetSpeed}
+use Rattle.usb_explain.specs.Contexts.{codes_of, depth_of}
+use Rattle.usb_explain.specs.Outline.{Described, outline}
+use Rattle.usb_explain.specs.Owners.{owner_of}
+use Rattle.usb_explain.specs.Positions.{first_position, position_after, position_at}
+use Rattle.usb_explain.specs.Roles.{next_role}
+
+-- a descriptor at its position: what it is there, and its bytes
+pub record Numbered : Type 0 where
+  pub position : Position
+  pub role : Role
+  pub bytes : List ℕ
+
+-- the descriptor with which these bytes begin
+abbrev pub numbered_next : Position → List ℕ → Role × ℕ → Numbered
+numbered_next p ahead next = record { position = position_at next.0 ahead p; role = next.0; bytes = take next.1 ahead }
+
+-- the position behind it
+abbrev pub position_behind : Numbered → Position
+position_behind d = position_after d.role d.bytes d.position
+
+-- the descriptors from a position on, at most so many
+unfoldable pub first_numbered : ℕ → Position → List ℕ → List Numbered
+first_numbered zero p ahead = []
+first_numbered (suc n) p ahead =
+    unwrap_or
+    (option_map
+    (λ next. numbered_next p ahead next ∷ first_numbered n (position_behind (numbered_next p ahead next)) (drop next.1 ahead))
+    (next_role p ahead))
+    []
+
+-- those of an input: there are no more than bytes
+abbrev pub numbered : List ℕ → List Numbered
+numbered b = first_numbered (length b) first_position b
+
+-- What of an outline is said of a descriptor by its position.
+pub record Told : Type 0 where
+  pub at : ℕ
+  pub bytes : List ℕ
+  pub role : Role
+  pub depth : ℕ
+  pub owner : Option DescriptorOwner
+  pub associations : ℕ
+  pub interface : Option ClassCodes
+  pub string : ℕ
+
+abbrev pub told : Numbered → Told
+told d = record {
+  at = d.position.at;
+  bytes = d.bytes;
+  role = d.role;
+  depth = depth_of d.position d.role;
+  owner = owner_of d.position d.role d.bytes;
+  associations = d.position.set.associations;
+  interface = codes_of d.position.set.setting;
+  string = d.position.strings;
+}
+
+abbrev pub outlined : Described → Told
+outlined d = record {
+  at = d.at;
+  bytes = d.bytes;
+  role = d.role;
+  depth = d.depth;
+  owner = d.owner;
+  associations = d.associations;
+  interface = d.interface;
+  string = d.string;
+}
+
+-- the descriptors of any bytes by their positions are those of their outline
+abbrev pub NumbersAreOutline : Type 0
+NumbersAreOutline =
+    (running : Option SetSpeed) (found : List Found) (b : List ℕ) → map told (numbered b) ≡ map outlined (outline running found b)
