@@ -1,5 +1,5 @@
 -- What an enumeration asks: no status of the device, and nothing that the device refuses and that is open to an owner.
-use Rattle.std.proofs.Common.{◌≡◌, ℕ, ◌<◌, Bool, true, false, List, [], ◌∷◌, ◌++◌, ◌⊎◌, inl, inr, Option, Some, None, refl, ap, sym, ◌∙◌, subst, arith}
+use Rattle.std.proofs.Common.{◌≡◌, ℕ, zero, suc, ◌<◌, Bool, true, false, List, [], ◌∷◌, ◌++◌, ◌⊎◌, inl, inr, Option, Some, None, refl, ap, sym, ◌∙◌, subst, arith}
 use Rattle.usb_fields.specs.declared.packet.Speed.{Speed}
 use Rattle.usb_fields.specs.declared.packet.Toggle.{Toggle}
 use Rattle.usb_fields.specs.declared.setup.Setup.{Setup as SetupPacket}
@@ -56,19 +56,19 @@ use Rattle.usb_bus.proofs.WalkLemmas.{walks_script}
 begins_same : (address packet other size : ℕ) (q r : SetupPacket) → Begin address packet q ≡ Begin other size r → q ≡ r
 begins_same address packet other size q r e = cc
 
-is_same_request : (q r : SetupPacket) (address packet other size : ℕ) → is_device_status q ≡ false → Begin address packet q ≡ Begin other size r → is_device_status r ≡ false
-is_same_request q r address packet other size no e = subst (λ z. is_device_status z ≡ false) (begins_same address packet other size q r e) no
+is_same_request : (q r : SetupPacket) (address packet other size : ℕ) → Begin address packet q ≡ Begin other size r → is_device_status q ≡ false → is_device_status r ≡ false
+is_same_request q r address packet other size e other_request = subst (λ z. is_device_status z ≡ false) (begins_same address packet other size q r e) other_request
 
 asks_no_status : (address : ℕ) (place : Place) (other size : ℕ) (q : SetupPacket) → asks address place ≡ Begin other size q → is_device_status q ≡ false
-asks_no_status address First other size q e = is_same_request _ q _ _ other size refl e
-asks_no_status address (Address first) other size q e = is_same_request _ q _ _ other size refl e
-asks_no_status address (Device first) other size q e = is_same_request _ q _ _ other size refl e
-asks_no_status address (Header kind f) other size q e = is_same_request _ q _ _ other size refl e
-asks_no_status address (Set kind f total) other size q e = is_same_request _ q _ _ other size refl e
-asks_no_status address (Qualifier f) other size q e = is_same_request _ q _ _ other size refl e
-asks_no_status address (Languages f named) other size q e = is_same_request _ q _ _ other size refl e
-asks_no_status address (Text f s named) other size q e = is_same_request _ q _ _ other size refl e
-asks_no_status address (Configure f) other size q e = is_same_request _ q _ _ other size refl e
+asks_no_status address First other size q e = is_same_request _ q _ _ other size e refl
+asks_no_status address (Address first) other size q e = is_same_request _ q _ _ other size e refl
+asks_no_status address (Device first) other size q e = is_same_request _ q _ _ other size e refl
+asks_no_status address (Header kind f) other size q e = is_same_request _ q _ _ other size e refl
+asks_no_status address (Set kind f total) other size q e = is_same_request _ q _ _ other size e refl
+asks_no_status address (Qualifier f) other size q e = is_same_request _ q _ _ other size e refl
+asks_no_status address (Languages f named) other size q e = is_same_request _ q _ _ other size e refl
+asks_no_status address (Text f s named) other size q e = is_same_request _ q _ _ other size e refl
+asks_no_status address (Configure f) other size q e = is_same_request _ q _ _ other size e refl
 asks_no_status address (Reported f) other size q e = absurd (cc)
 asks_no_status address (Stopped trouble) other size q e = absurd (cc)
 
@@ -102,7 +102,7 @@ no_setup : (request : SetupPacket) (stage : TransferStage) (token : Token) (has 
     is_in_transfer token has ≡ true → ⊥
 no_setup request stage token has at is inside =
     let same : token ≡ SetupToken (setup_bytes request) = (let begun = ap (λ s. token_due request s) at in cc) in
-    absurd (let no : is_in_transfer (SetupToken (setup_bytes request)) has ≡ true = subst (λ t. is_in_transfer t has ≡ true) same inside in cc)
+    absurd (let never : is_in_transfer (SetupToken (setup_bytes request)) has ≡ true = subst (λ t. is_in_transfer t has ≡ true) same inside in cc)
 
 module _ (table : State → SetupPacket → Outcome) (cut : ℕ) (s : State) (q : SetupPacket) (size naks l b a : ℕ) where
   -- a device that refuses in the transfer does so by its table
@@ -182,10 +182,10 @@ module _ (set_of : List ℕ → Option Configuration) (exact : ReadsSets set_of)
         is inside refusing t.in_one.stages in
         let closed = refused_closed set_of speed limits.address (Reported f) First xs replies t.todo t.r t.s.address t.packet t.q walks
         (script_closed limits.address size speed f) t.front t.planned.begins (sym t.planned.reply ∙ ap reply_to refused) in
-        absurd (let no = sym open_ ∙ ap is_open t.in_one.request ∙ closed in cc)
+        absurd (let never = sym open_ ∙ ap is_open t.in_one.request ∙ closed in cc)
     same_together t is (inr (inside, inr (status, alike))) =
-        let no = asks_no_status limits.address (reached set_of speed First replies) t.s.address t.packet t.q t.planned.begins in
-        absurd (let wrong = sym status ∙ ap is_device_status t.in_one.request ∙ no in cc)
+        let never = asks_no_status limits.address (reached set_of speed First replies) t.s.address t.packet t.q t.planned.begins in
+        absurd (let wrong = sym status ∙ ap is_device_status t.in_one.request ∙ never in cc)
 
     same_sound : Sound plan limits.naks (answer f) size false (replies_in xs) last l b a replies (Running h) d →
         token_due h.transfer.request h.transfer.stage ≡ Some token → IsAllowed h.transfer.request (is_refusing d.stage) token came has → came ≡ has
