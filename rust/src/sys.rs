@@ -69,6 +69,10 @@ unsafe extern "C" {
     pub fn nzg_device_carried_out(device: *mut nzg_device, setup: *mut nzg_setup) -> bool;
     pub fn nzg_device_state(device: *mut nzg_device, state: *mut nzg_state) -> bool;
     pub fn nzg_device_close(device: *mut nzg_device);
+    pub fn nzg_judge_device(
+        device: *mut nzg_device, request: *const nzg_setup, transaction: *const nzg_transaction, data: *const u8, len: usize,
+        came: *const nzg_packet, has: *mut nzg_packet,
+    ) -> u8;
     pub fn nzg_transfer_open(
         transfer: *mut nzg_transfer, address: u8, packet: u8, naks: u16, setup: *const nzg_setup,
     ) -> nzg_answer;
