@@ -3,7 +3,7 @@ use Rattle.std.specs.Prelude.{◌≡◌, ◌↔◌, ℕ, IfSome, Option, None, �
 use Rattle.usb_fields.specs.Numbers.{number_in}
 use Rattle.usb_fields.specs.declared.packet.Toggle.{Toggle}
 use Rattle.usb_fields.specs.declared.setup.Setup.{Setup}
-use Rattle.usb_fields.specs.Packets.{Token, SetupToken, InToken, OutToken, Reply, AckReply, NakReply, StallReply, DataReply, NoReply, is_same_toggle}
+use Rattle.usb_fields.specs.Packets.{Token, SetupToken, Reply, NakReply, StallReply, DataReply, NoReply, is_same_toggle}
 use Rattle.usb_device.specs.Beside.{is_open}
 use Rattle.usb_device.specs.Step.{DeviceStage, Idle, Halted, Sending, StatusOut, Over, StatusIn}
 use Rattle.usb_device.specs.declared.conformance.Difference.{Difference}
