@@ -1,6 +1,6 @@
 /* nozzlegorse.h: USB 2.0 descriptors, a device's end and a host's end of the control pipe, by a proved library.
  *
- * docs/callers.md tells who owns what, what each status says, and how a program without a C library links. In short:
+ * docs/callers.md tells who owns what, and how a program without a C library links. In short:
  *
  *  - A pointer and its length are lent for the call. The pointer is never NULL, also where the length is 0; the length
  *    is below 2^63; what is written overlaps nothing else that is passed. A pointer to a struct is not NULL.
@@ -175,15 +175,35 @@ bool nzg_device_carried_out(struct nzg_device *device, struct nzg_setup *setup);
 bool nzg_device_state(struct nzg_device *device, struct nzg_state *state);
 void nzg_device_close(struct nzg_device *device);
 
+/* Why a device under test may not answer so: what is due is another answer. */
+enum nzg_difference {
+    NZG_ALLOWED = 0,
+    NZG_NOT_TAKEN = 1,  /* no ACK of a SETUP (8.4.6.4) */
+    NZG_ADDRESS = 2,    /* an answer at another address, or none at its own: a new one holds after the status stage (9.4.6) */
+    NZG_TOGGLE = 3,     /* DATA0 for DATA1 or the reverse: DATA1 is first, and each packet that is acknowledged flips it (8.5.3, 8.6) */
+    NZG_NOT_EMPTY = 4,  /* no empty packet, after a whole multiple of the packet size (8.5.3.2) or as the status (8.5.3.1) */
+    NZG_BYTES = 5,      /* other bytes (8.5.3.2, 9.4) */
+    NZG_STALLED = 6,    /* STALL of a request that the device has (9.4) */
+    NZG_NOT_STALLED = 7, /* no STALL of a request that it does not have, or before the SETUP after one (9.2.7, 8.5.3.4) */
+    NZG_OTHER_PACKET = 8, /* data for OUT, or an ACK for IN (8.4.6.1, 8.4.6.3) */
+    NZG_NOT_JUDGED = 9  /* nothing is held, or a stage, a toggle, a reply or a length above 64 has no meaning: nothing changes */
+};
+/* A device under test was sent this in the transfer of this request, and that came. The device here has the same, and is ready
+ * where the other one was: its answer goes into `has`. Of what came is allowed: the same; anything in the transfer of a request
+ * that this one refuses and its owner may answer; and a status of a device that differs in bit 0 (9.4.5). */
+uint8_t nzg_judge_device(struct nzg_device *device, const struct nzg_setup *request, const struct nzg_transaction *transaction, const uint8_t *data, size_t len, const struct nzg_packet *came, struct nzg_packet *has);
+
 /* --- the host end: one control transfer; only _open asks for memory ------------------------------------------------ */
 
 struct nzg_transfer { void *held; };
 
-/* packet: bMaxPacketSize0, 1 to 255; naks: how many NAKs in a row are taken */
+/* address: 0 to 127; packet: bMaxPacketSize0, 1 to 255; naks: how many NAKs without progress are taken. After a fault the
+ * handle is as it was. */
 struct nzg_answer nzg_transfer_open(struct nzg_transfer *transfer, uint8_t address, uint8_t packet, uint16_t naks, const struct nzg_setup *setup);
 /* False once it has ended, or where nothing is held: the transaction is then as it was. */
 bool nzg_transfer_next(struct nzg_transfer *transfer, struct nzg_transaction *transaction);
-/* open: it goes on; done; trouble with its number. The first `length` of these bytes are new and belong to the answer. */
+/* open: it goes on, and the first `length` of these bytes, all or none, are new; done; trouble with its number. A reply, or a
+ * toggle of NZG_DATA, that has no meaning is a bad argument: nothing changes then. */
 struct nzg_answer nzg_transfer_take(struct nzg_transfer *transfer, uint8_t reply, uint8_t toggle, const uint8_t *data, size_t len);
 void nzg_transfer_close(struct nzg_transfer *transfer);
 

@@ -9,6 +9,8 @@ from typing import NamedTuple, Optional
 SECONDS = 60
 GIGABYTE = 1_000_000_000
 MOST_LINES = 60
+# How the version of a program that isn't proved ends.
+UNPROVED = "+unproved"
 
 
 class Run(NamedTuple):
@@ -60,8 +62,8 @@ def read_by(program, run):
         return ended, os.lseek(source.fileno(), 0, os.SEEK_CUR)
 
 
-def play(program, run):
-    """How the run with this program differs, in lines."""
+def play(program, run, mark=""):
+    """How the run with this program differs, in lines. The mark may be anywhere in what it writes."""
     try:
         if run.read is None:
             ended, read = start(program, run, input=run.data), None
@@ -72,4 +74,4 @@ def play(program, run):
     told = [] if run.status in (None, ended.returncode) else [f"status {ended.returncode}, not {run.status}"]
     if read != run.read:
         told.append(f"{read} bytes read, not {run.read}")
-    return told + differs("standard output", run.output, ended.stdout) + differs("standard error", run.errors, ended.stderr)
+    return told + differs("standard output", run.output, ended.stdout.replace(mark.encode(), b"")) + differs("standard error", run.errors, ended.stderr)

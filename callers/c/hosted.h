@@ -1,17 +1,10 @@
-/* What the programs beside it use of the C library, for a machine that has its headers or not. */
+/* What the programs beside it have in common. */
 #ifndef HOSTED_H
 #define HOSTED_H
-#include "nozzlegorse.h"
-
-typedef struct file_of_c FILE;
-FILE *fopen(const char *name, const char *mode);
-size_t fread(void *to, size_t size, size_t count, FILE *from);
-int fclose(FILE *file);
-int printf(const char *format, ...);
-int atoi(const char *text);
-size_t strlen(const char *text);
-int memcmp(const void *a, const void *b, size_t length);
-void *memset(void *to, int byte, size_t length);
+#include <nozzlegorse.h>
+#include <stdio.h>
+#include <stdlib.h>
+#include <string.h>
 
 /* The bytes of a file, at most `room` of them; -1 where it isn't there. */
 static inline long read_all(const char *name, uint8_t *to, size_t room) {

@@ -2,7 +2,7 @@
  * that includes this needs no other memory. */
 #ifndef POOL_H
 #define POOL_H
-#include "nozzlegorse.h"
+#include <nozzlegorse.h>
 
 #ifndef POOL
 #define POOL (1 << 20)

@@ -9,7 +9,7 @@ static uint8_t bytes[1 << 16], text[1 << 20], again[1 << 20];
 static size_t length;
 static long calls, refusals;
 
-enum { SHOW, CHECK, CHECK_ANY, EXPLAIN, BUILD, BUILD_COMMENTS, ENUMERATE, DEVICE, HOST, DECODER, KINDS };
+enum { SHOW, CHECK, CHECK_ANY, EXPLAIN, BUILD, BUILD_COMMENTS, ENUMERATE, DEVICE, HOST, DECODER, TRANSFER, KINDS };
 
 static struct nzg_answer in_pieces(uint8_t *out) {
     struct nzg_decoder decoder = {0};
@@ -59,6 +59,20 @@ static struct nzg_answer opened_twice(void) {
     return answer;
 }
 
+/* A transfer in the place of another, which stays where memory is refused. */
+static struct nzg_answer transferred_twice(void) {
+    const struct nzg_setup setup = {{0x80, 6, 0, 1, 0, 0, 18, 0}};
+    struct nzg_transfer transfer = {0};
+    struct nzg_transaction due = {0, 0, 0, {0}};
+    uint8_t address = nzg_transfer_open(&transfer, 1, 64, 16, &setup).status == NZG_DONE ? 1 : 0;
+    struct nzg_answer answer = nzg_transfer_open(&transfer, 2, 64, 16, &setup);
+    if (answer.status == NZG_DONE) address = 2;
+    if (nzg_transfer_next(&transfer, &due) != (address > 0) || due.address != address) answer.status = 99;
+    nzg_transfer_close(&transfer);
+    nzg_transfer_close(&transfer);
+    return answer;
+}
+
 static struct nzg_answer call(int kind, uint8_t *out) {
     struct nzg_outcome outcome;
     switch (kind) {
@@ -71,6 +85,7 @@ static struct nzg_answer call(int kind, uint8_t *out) {
     case ENUMERATE: return nzg_enumerate(bytes, length, NZG_FULL, 16, 3, (const uint8_t *)"....a", 5, &outcome, out, sizeof text);
     case DEVICE: return opened_twice();
     case HOST: return by_host(out);
+    case TRANSFER: return transferred_twice();
     default: return in_pieces(out);
     }
 }

@@ -2,7 +2,7 @@
  * dash behind them with `any`; build, so with `comments`; and explain as plain, brief, noplaces, high or utf8. Writes what it
  * makes, and behind it, on a line of its own, the status, the number and the place. Ends in 9 where a buffer that is too short
  * is written to. */
-#include "nozzlegorse.h"
+#include <nozzlegorse.h>
 #include "hosted.h"
 
 static uint8_t bytes[1 << 21];

@@ -24,7 +24,7 @@ use Rattle.usb_bus.specs.inside.Script.{Exchange, set_script, text_script, strin
 use Rattle.usb_fields.proofs.ByteParts.{bytes_front}
 
 -- what the script sees refused is open to no owner
-abbrev AreClosed : List Exchange → Type 0
+abbrev pub AreClosed : List Exchange → Type 0
 AreClosed [] = Unit {0}
 AreClosed (x ∷ xs) = (x.reply ≡ replied.Refused → is_open x.request ≡ false) × AreClosed xs
 

@@ -28,6 +28,8 @@ mod SeriesLemmas
 mod ImageLemmas
 mod HeardLemmas
 mod RunLemmas
+mod AskedLemmas
+mod TestedRuns
 mod ByteLemmas
 pub mod EnumerateLemmas
 mod JoinLemmas

@@ -45,7 +45,7 @@ fates_used-more [] (suc n) = ap (λ fs. Pass ∷ fs) (fates_used-more [] n)
 fates_used-more (f ∷ fates) (suc n) = ap (λ fs. f ∷ fs) (fates_used-more fates n)
 
 -- what is sent is due
-is_due : (o : Option Sent) (sent : Sent) → sends o ≡ WantsSent sent → o ≡ Some sent
+pub is_due : (o : Option Sent) (sent : Sent) → sends o ≡ WantsSent sent → o ≡ Some sent
 is_due None sent e = absurd (cc)
 is_due (Some other) sent e = cc
 
@@ -59,32 +59,32 @@ last_heard fates m n count arrived =
     ap (λ k. ends_heard (fates_used fates k)) count ∙ ap ends_heard (fates_used-more fates m) ∙ ends_with (fates_used fates m) (fate_at fates m) ∙ arrived
 
 module _ (set_of : List ℕ → Option Configuration) (limits : LimitView) (speed : Speed) where
-  abbrev plan : List Reply → Plan
+  abbrev pub plan : List Reply → Plan
   plan replies = plan_of set_of limits speed replies
 
-  abbrev Image : List Reply → Phase → HostPhase → Type 0
+  abbrev pub Image : List Reply → Phase → HostPhase → Type 0
   Image replies p phase = IsImage set_of limits speed replies p phase
 
-  abbrev begin : ℕ → Series
+  abbrev pub begin : ℕ → Series
   begin attempts = fresh plan limits.naks limits.attempts attempts
 
   -- an attempt that goes on, or has ended
-  abbrev Stands : ℕ → HostPhase → DeviceView → Series → Type 0
+  abbrev pub Stands : ℕ → HostPhase → DeviceView → Series → Type 0
   Stands resets phase d x = (resets ≤ limits.attempts) × (x.attempts ≡ resets) × Image x.attempt.replies x.attempt.phase phase × (x.attempt.device ≡ d)
 
   -- how both ends stand against the attempts of a plan
-  abbrev Matches : ℕ → HostPhase → DeviceView → Series → Type 0
+  abbrev pub Matches : ℕ → HostPhase → DeviceView → Series → Type 0
   Matches resets ResetDue d x = (resets < limits.attempts) × (x ≡ begin (suc resets))
   Matches resets (Reading place t k) d x = Stands resets (Reading place t k) d x
   Matches resets (Ended place) d x = Stands resets (Ended place) d x
 
-  record Follows (y : Pair) (x : Series) : Type 0 where
-    limits_are : y.host.limits ≡ limits
-    speed_is : y.host.speed ≡ speed
-    matches : Matches y.host.resets y.host.phase y.device x
+  pub record Follows (y : Pair) (x : Series) : Type 0 where
+    pub limits_are : y.host.limits ≡ limits
+    pub speed_is : y.host.speed ≡ speed
+    pub matches : Matches y.host.resets y.host.phase y.device x
 
   -- or memory was wanting
-  abbrev IsWanting : HostView → Type 0
+  abbrev pub IsWanting : HostView → Type 0
   IsWanting v = (place : Place) × (v.phase ≡ Ended (stopped place Memory))
 
   -- an attempt that failed by the bus
@@ -241,10 +241,10 @@ module _ (set_of : List ℕ → Option Configuration) (limits : LimitView) (spee
     series_more [] fate s = refl
     series_more (g ∷ used) fate s = series_more used fate (stepped g s)
 
-    abbrev after : List Fate → ℕ → Series
+    abbrev pub after : List Fate → ℕ → Series
     after fates n = series_run plan limits.naks limits.attempts table f.device.packet (fates_used fates n) (begin 1)
 
-    runs_match : (some : 0 < limits.attempts) (fates : List Fate) (earlier : List Pair) (n : ℕ) (last : Pair) → RunsAt table f.device.packet fates (new_pair limits speed) earlier n last →
+    pub runs_match : (some : 0 < limits.attempts) (fates : List Fate) (earlier : List Pair) (n : ℕ) (last : Pair) → RunsAt table f.device.packet fates (new_pair limits speed) earlier n last →
         (IsWanting last.host × (ends_heard (fates_used fates n) ≡ true)) ⊎ Follows last (after fates n)
     runs_match some fates [] n last (e, none) =
         let new : Follows (new_pair limits speed) (begin 1) = record { limits_are = refl; speed_is = refl; matches = (some, refl) } in

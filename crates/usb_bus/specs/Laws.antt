@@ -1,5 +1,5 @@
 -- The laws of two ends over a bus, under every list of fates: how both ends stand together, and what comes of an enumeration.
-use Rattle.std.specs.Prelude.{◌≡◌, ℕ, ◌<◌, Bool, List, [], ◌∷◌, ◌≤◌}
+use Rattle.std.specs.Prelude.{◌≡◌, ℕ, ◌<◌, Bool, List, [], ◌∷◌, ◌≤◌, map}
 use Rattle.usb_fields.specs.declared.setup.Setup.{Setup as SetupPacket, Setup}
 use Rattle.usb_fields.specs.Packets.{Sent}
 use Rattle.usb_file_data.specs.declared.file.DescriptorFile.{DescriptorFile}
@@ -23,6 +23,7 @@ use Rattle.usb_file_data.specs.File.{file_bytes}
 use Rattle.usb_host.specs.Limits.{LimitView, IsInRange}
 use Rattle.usb_device.specs.Accepted.{Accepted}
 use Rattle.usb_bus.specs.Run.{fates_used}
+use Rattle.usb_bus.specs.UnderTest.{IsTest, Tested, bus_fate, known_fates}
 use Rattle.usb_bus.specs.declared.enumeration.Run.{Run}
 use Rattle.usb_bus.specs.Enumerate.{EndsWell, IsEnumeration, IsEnumerationAt}
 
@@ -139,3 +140,15 @@ RespondersAreBeside =
 -- Of the fates of a list, those that were used lose no more, and are no more often busy.
 abbrev pub UsesFates : Type 0
 UsesFates = (fates : List Fate) (n : ℕ) → (losses (fates_used fates n) ≤ losses fates) × (busies (fates_used fates n) ≤ busies fates)
+
+-- An enumeration of a device under test, where each of its answers is allowed, is one of a device with the descriptors, under
+-- fates of which the bus has lost no fewer: so it ends well, and a success has read just the descriptors.
+pub record EndsAsKnown (f : DescriptorFile) (speed : Speed) (limits : LimitView) (tested : List Tested) (run : Run) : Type 0 where
+  pub known : IsEnumeration f speed limits (known_fates tested) run
+  pub ends : EndsWell f limits (known_fates tested) run
+  pub losses_are : losses (known_fates tested) ≤ losses (map bus_fate tested)
+
+abbrev pub TestsEndAsKnown : Type 0
+TestsEndAsKnown =
+    (f : DescriptorFile) (speed : Speed) (limits : LimitView) (tested : List Tested) (run : Run) → Accepted f speed → AreBytes (file_bytes f) →
+    IsInRange limits.address limits.attempts → IsTest f speed limits tested run → EndsAsKnown f speed limits tested run

@@ -10,4 +10,5 @@ pub mod Enumerate
 pub mod Lines
 pub mod Exchanges
 pub mod Log
+pub mod UnderTest
 pub mod inside

@@ -5,9 +5,9 @@
 ghost use Rattle.usb_device.specs.Requests.{answer};
 ghost use Rattle.usb_file_data.specs.declared.file.DescriptorFile.{DescriptorFile};
 ghost use Rattle.usb_bus.specs.Beside.{IsTable};
-ghost use Rattle.usb_bus.specs.Laws.{EnumerationsEndWell, OwnersChangeNothing, RespondersAreBeside, UsesFates, AttemptsHaveCauses, AttemptsStayTogether, ResetsBringTogether, RespondersAreOneDevice, RespondersKeepTables, TalksAreDetermined, TalksHaveCauses, TransfersHaveCauses, TransfersReadOneAnswer, TransfersStayTogether};
+ghost use Rattle.usb_bus.specs.Laws.{EnumerationsEndWell, OwnersChangeNothing, RespondersAreBeside, UsesFates, AttemptsHaveCauses, AttemptsStayTogether, ResetsBringTogether, RespondersAreOneDevice, RespondersKeepTables, TalksAreDetermined, TalksHaveCauses, TestsEndAsKnown, TransfersHaveCauses, TransfersReadOneAnswer, TransfersStayTogether};
 
-use crate::lemmas::a_run_ends_well;
+use crate::lemmas::{a_host_keeps_the_image, a_run_ends_well, descriptions_are_read};
 
 /// A transfer begun at the device's address. The host still waits for its SETUP's ACK, or both ends are in this transfer: the
 /// host has kept as many packets as the device counts acknowledged, or one more; in the status stages either end may be one
@@ -107,6 +107,18 @@ pub fn a_responder_is_such_an_owner()
 {
     a_device_keeps_its_table();
     a_responder_keeps_a_table();
+}
+
+/// An enumeration of a device under test, each of whose answers is allowed beside a device with these descriptors (see
+/// [`judge`](usb_device::judge)), is an enumeration of that device: a success has read just these descriptors. It never asks
+/// for the status of a device, nor for what the device refuses and an owner may answer, so what is allowed there changes
+/// nothing of it.
+pub fn a_device_under_test_is_known()
+    ensures { TestsEndAsKnown }
+{
+    a_host_keeps_the_image();
+    descriptions_are_read();
+    an_enumeration_ends_well();
 }
 
 /// Of the fates of a list, those that were used lose no more, and are no more often busy.

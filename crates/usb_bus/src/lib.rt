@@ -18,9 +18,11 @@
 //! - An enumeration that succeeds has read just the descriptors of the device. Any other end has a cause: for each
 //!   attempt a loss of its own, or one busy transaction more than the NAK limit; or out of memory. There are at most as
 //!   many attempts and transactions as the limits allow.
+//! - So does an enumeration of a device under test, each of whose answers is allowed beside a device of known
+//!   descriptors.
 //!
-//! One transaction is `specs/Bus.antt`, a talk `specs/Converse.antt`, a run of both ends `specs/Enumerate.antt`, and a
-//! log `specs/Log.antt` with its lines in `specs/Lines.antt`.
+//! One transaction is `specs/Bus.antt`, a talk `specs/Converse.antt`, a run of both ends `specs/Enumerate.antt`, one
+//! with a device under test `specs/UnderTest.antt`, and a log `specs/Log.antt` with its lines in `specs/Lines.antt`.
 #![tactic(auto)]
 
 mod conversation;

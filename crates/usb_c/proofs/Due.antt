@@ -1,11 +1,11 @@
 -- What a host wants sent has no bytes but those of a SETUP: its numbers are all of it.
 use Rattle.std.proofs.Common.{◌≡◌, ℕ, [], Option, Some, None, refl, sym, subst}
-use Rattle.std.specs.Option.{option_map}
+use Rattle.std.specs.Option.{option_and_then, option_map, unwrap_or}
 use Rattle.usb_fields.specs.Packets.{Sent}
 use Rattle.usb_fields.specs.declared.setup.Setup.{Setup as SetupPacket}
 use Rattle.usb_host.specs.declared.transfer.TransferStage.{TransferStage}
 use Rattle.usb_host.specs.declared.transfer.TransferStage.TheVariants as stages
-use Rattle.usb_host.specs.Transfer.{addressed, token_due}
+use Rattle.usb_host.specs.Transfer.{TransferView, addressed, due, token_due}
 use Rattle.usb_host.specs.Steps.{HostPhase, HostView, ResetDue, Reading, Ended, Wanted, WantsNothing, WantsReset, WantsSent, sends, wanted}
 use Rattle.usb_device.specs.declared.transaction.NzgTransaction.{NzgTransaction}
 use Rattle.usb_c.specs.Hosts.{transaction_due}
@@ -42,3 +42,15 @@ pub told_whole : (held : Option HostView) (old new : NzgTransaction) (sent : Sen
 told_whole held old new sent told is =
     let now : new ≡ transaction_of sent = subst (λ (w : Option Wanted). new ≡ transaction_due w old) is told in
     subst (λ (t : NzgTransaction). sent_told t [] ≡ Some sent) (sym now) (subst IsWhole is (held_whole held))
+
+transfer_whole : (held : Option TransferView) → IsWhole (Some (sends (option_and_then due held)))
+transfer_whole None = tt
+transfer_whole (Some t) = token_whole t.address t.request t.stage
+
+-- the same of a transfer
+pub due_whole : (held : Option TransferView) (old new : NzgTransaction) (sent : Sent)
+    → new ≡ unwrap_or (option_map transaction_of (option_and_then due held)) old → option_and_then due held ≡ Some sent → sent_told new [] ≡ Some sent
+due_whole held old new sent told is =
+    let now : new ≡ transaction_of sent = subst (λ (s : Option Sent). new ≡ unwrap_or (option_map transaction_of s) old) is told in
+    let whole : IsWhole (Some (sends (Some sent))) = subst (λ (s : Option Sent). IsWhole (Some (sends s))) is (transfer_whole held) in
+    subst (λ (t : NzgTransaction). sent_told t [] ≡ Some sent) (sym now) whole

@@ -8,3 +8,4 @@ mod InputFaults
 mod LooseValues
 mod Reasons
 mod Taking
+mod TransferValues

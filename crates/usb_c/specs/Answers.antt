@@ -53,6 +53,7 @@ answer_of verdicts.NoMemory = numbers 8 0 0 0
 answer_of verdicts.Closed = numbers 9 0 0 0
 answer_of (verdicts.BadArgument number) = numbers 10 number 0 0
 answer_of (verdicts.Trouble trouble) = numbers 11 (trouble_number trouble.why) 0 0
+answer_of (verdicts.Failed why) = numbers 11 (trouble_number why) 0 0
 answer_of (verdicts.Unanswered why) = numbers 12 (unanswered_number why) 0 0
 answer_of (verdicts.Unwritten why) = numbers 13 (write_number why) 0 0
 

@@ -11,12 +11,16 @@ use Rattle.usb_c.specs.declared.answer.Verdict.{Verdict}
 use Rattle.usb_c.specs.declared.answer.Verdict.TheVariants as verdicts
 use Rattle.usb_c.specs.declared.outcome.StepNumbers.{StepNumbers}
 use Rattle.usb_c.specs.declared.outcome.NzgTrouble.{NzgTrouble}
+use Rattle.usb_c.specs.declared.step.NzgStep.{NzgStep}
 use Rattle.usb_c.specs.Answers.{Fills}
 use Rattle.usb_fields.specs.Packets.{Reply}
 use Rattle.usb_fields.specs.declared.packet.Speed.{Speed}
 use Rattle.usb_host.specs.Limits.{limit_fault, limit_fault_number}
 use Rattle.usb_host.specs.declared.limits.LimitFault.{LimitFault}
-use Rattle.usb_host.specs.Steps.{HostView, Takes, Wanted, WantsNothing, WantsReset, WantsSent, new_host, outcome_of}
+use Rattle.usb_fields.specs.Setup.{setup_bytes}
+use Rattle.usb_host.specs.Order.{step_of}
+use Rattle.usb_host.specs.Steps.{HostPhase, HostView, ResetDue, Reading, Ended, Takes, Wanted, WantsNothing, WantsReset, WantsSent, new_host, outcome_of}
+use Rattle.usb_host.specs.Transfer.{TransferView}
 use Rattle.usb_device.specs.declared.transaction.NzgTransaction.{NzgTransaction}
 use Rattle.usb_device.specs.Transactions.{transaction_of}
 
@@ -98,6 +102,25 @@ abbrev pub TakesOne : Option HostView → Option Reply → Option HostView → B
 TakesOne (Some v) (Some reply) new done = (done ≡ true) × ((w : HostView) × (new ≡ Some w) × Takes v reply w)
 TakesOne (Some v) None new done = (done ≡ false) × (new ≡ Some v)
 TakesOne None reply new done = (done ≡ false) × (new ≡ None)
+
+-- a step and the transfer of its request, as numbers
+abbrev pub asked_numbers : Step → TransferView → NzgStep
+asked_numbers step t =
+    record {
+      naks = t.nak_count;
+      kept = t.kept;
+      language = (step_numbers step).language;
+      step = (step_numbers step).step;
+      index = (step_numbers step).index;
+      strikes = t.strikes;
+      setup = setup_bytes t.request;
+    }
+
+-- those that are in work, if any are
+abbrev pub asked_in : HostPhase → Option NzgStep
+asked_in ResetDue = None
+asked_in (Reading place t kept) = Some (asked_numbers (step_of place) t)
+asked_in (Ended place) = None
 
 -- the bus resets so far
 abbrev pub resets_of : Option HostView → ℕ

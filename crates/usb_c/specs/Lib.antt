@@ -1,7 +1,9 @@
 pub mod Answers
+pub mod Conformance
 pub mod Decoders
 pub mod Devices
 pub mod Enumerations
 pub mod Hosts
 pub mod Texts
+pub mod Transfers
 pub mod inside

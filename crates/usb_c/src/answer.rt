@@ -6,7 +6,7 @@ ghost use Rattle.usb_c.specs.inside.Refusals.{refused_description, refused_file,
 use usb_device::{DescriptionFault, Unanswered};
 use usb_file::WriteFault;
 use usb_file_data::{FileFault, FileWhy, InputFault};
-use usb_host::Trouble;
+use usb_host::{Trouble, Why};
 use usb_listing::{ListFault, ListWhy};
 use usb_set::{SetFault, SetWhy};
 
@@ -44,10 +44,12 @@ pub enum Verdict {
     NoMemory,
     /// The handle holds nothing.
     Closed,
-    /// A number has no meaning: 1 the address, 2 the attempts, 3 the speed, 4 a fate.
+    /// A number has no meaning: 1 the address, 2 the attempts, 3 the speed, 4 a fate, 7 a packet size, 8 a reply.
     BadArgument(u8),
     /// The enumeration ended without success.
     Trouble(Trouble),
+    /// The transfer failed.
+    Failed(Why),
     /// The device doesn't take this answer to a request.
     Unanswered(Unanswered),
     /// The file has no bytes. That of a host always has some: `usb_host::laws`.
@@ -94,6 +96,7 @@ impl Verdict {
             Verdict::Closed => numbers(9, 0, 0, 0),
             Verdict::BadArgument(number) => numbers(10, number, 0, 0),
             Verdict::Trouble(trouble) => numbers(11, trouble.why.number(), 0, 0),
+            Verdict::Failed(why) => numbers(11, why.number(), 0, 0),
             Verdict::Unanswered(why) => numbers(12, why.number(), 0, 0),
             Verdict::Unwritten(why) => numbers(13, why.number(), 0, 0),
         }

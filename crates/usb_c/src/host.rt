@@ -1,15 +1,16 @@
 //! A host that enumerates, by a handle.
-ghost use Rattle.std.specs.Prelude.{◌≡◌, None, Some, is_some, []};
-ghost use Rattle.std.specs.Option.{option_map};
+ghost use Rattle.std.specs.Prelude.{◌≡◌, None, Some, is_some, unwrap_or, []};
+ghost use Rattle.std.specs.Option.{option_and_then, option_map};
 ghost use Rattle.usb_fields.specs.Packets.{Sent};
 ghost use Rattle.usb_host.specs.Steps.{WantsSent, reset, wanted};
 ghost use Rattle.usb_c.specs.Answers.{AnswersOn};
-ghost use Rattle.usb_c.specs.Hosts.{Ends, HostOpens, HostOpensAt, TakesOne, action_number, resets_of, transaction_due};
+ghost use Rattle.usb_c.specs.Hosts.{Ends, HostOpens, HostOpensAt, TakesOne, action_number, asked_in, resets_of, transaction_due};
 ghost use Rattle.usb_device.specs.Transactions.{reply_told, sent_told, speed_told};
 
 use crate::answer::{Answer, Verdict};
 use crate::host_handle::NzgHost;
 use crate::outcome::{NzgTrouble, tell_outcome};
+use crate::step::{NzgStep, tell_step};
 use std::alloc::Global;
 use std::mem::replace;
 use usb_device::{NzgTransaction, answer_of, speed_of, told};
@@ -124,6 +125,21 @@ pub extern "C" fn nzg_host_take(
     held.take(answer);
     *host = NzgHost::of(held);
     true
+}
+
+/// The request that the host makes now. False where there is none: the step is then as it was.
+#[unsafe(no_mangle)]
+pub extern "C" fn nzg_host_step(alloc: Global, host: &mut NzgHost, step: &mut NzgStep) -> bool
+    ensures held { host.new.held ≡ host.old.held }
+    ensures step { step.new ≡ unwrap_or (option_and_then (λ v. asked_in v.phase) host.old.held) step.old }
+    ensures found { result ≡ is_some (option_and_then (λ v. asked_in v.phase) host.old.held) }
+{
+    let Some(held) = replace(host, NzgHost::empty(alloc)).into_box() else {
+        return false;
+    };
+    let found = tell_step(&held, step);
+    *host = NzgHost::of(held);
+    found
 }
 
 /// How often the bus was reset; 0 where none is held.

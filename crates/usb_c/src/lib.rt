@@ -10,6 +10,7 @@
 
 mod answer;
 mod buffer;
+mod conformance;
 mod decoder;
 mod decoder_handle;
 mod descriptor;
@@ -20,11 +21,15 @@ mod host;
 mod host_handle;
 mod loose;
 mod outcome;
+mod step;
 mod taken;
 mod text;
+mod transfer;
+mod transfer_handle;
 
 pub use answer::Answer;
 pub use buffer::{nzg_build, nzg_check, nzg_enumerate, nzg_explain, nzg_show};
+pub use conformance::nzg_judge_device;
 pub use decoder::{nzg_decoder_close, nzg_decoder_feed, nzg_decoder_list, nzg_decoder_open};
 pub use decoder_handle::NzgDecoder;
 pub use descriptor::NzgDescriptor;
@@ -37,8 +42,13 @@ pub use device_handle::NzgDevice;
 pub use enumeration::NzgOutcome;
 pub use host::{
     nzg_host_attempts, nzg_host_close, nzg_host_next, nzg_host_open, nzg_host_outcome,
-    nzg_host_reset_done, nzg_host_take,
+    nzg_host_reset_done, nzg_host_step, nzg_host_take,
 };
 pub use host_handle::NzgHost;
 pub use outcome::NzgTrouble;
+pub use step::NzgStep;
+pub use transfer::{
+    nzg_transfer_close, nzg_transfer_next, nzg_transfer_open, nzg_transfer_take,
+};
+pub use transfer_handle::NzgTransfer;
 pub use usb_device::{NzgPacket, NzgTransaction};

@@ -2,6 +2,7 @@ pub mod States
 pub mod Requests
 pub mod Step
 pub mod Beside
+pub mod Conformance
 pub mod Accepted
 pub mod View
 pub mod Lending

@@ -1,5 +1,5 @@
 -- Transactions and packets as numbers.
-use Rattle.std.specs.Prelude.{ℕ, ◌≤◌, List, ◌++◌, length, drop, replicate, ◌==◌, Option, Some, None, if◌then◌else◌}
+use Rattle.std.specs.Prelude.{ℕ, ◌≤◌, List, ◌++◌, length, drop, take, nat_lt, replicate, ◌==◌, Option, Some, None, if◌then◌else◌}
 use Rattle.std.specs.Option.{option_map}
 use Rattle.usb_fields.specs.declared.packet.Toggle.{Toggle}
 use Rattle.usb_fields.specs.declared.packet.Toggle.TheVariants.{Data0, Data1}
@@ -70,3 +70,7 @@ reply_told reply toggle bytes =
     else if reply == 3 then option_map (λ t. DataReply t bytes) (toggle_told toggle)
     else if reply == 4 then Some NoReply
     else None
+
+-- the reply of a packet, where its numbers have a meaning
+abbrev pub packet_told : NzgPacket → Option Reply
+packet_told p = if nat_lt 64 p.length then None else reply_told p.reply p.toggle (take p.length p.bytes)

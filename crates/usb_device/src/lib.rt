@@ -11,9 +11,13 @@
 //! can be one handle of a program in another language, for which [`NzgTransaction`] and [`NzgPacket`] are what passes
 //! on the bus, in numbers and lent bytes.
 //!
+//! What is allowed of a device under test, beside a device of the same descriptors, [`judge`] says, transaction by
+//! transaction.
+//!
 //! - Which descriptors make a device is `specs/Accepted.antt`, and where each is `specs/Descriptors.antt`.
 //! - What comes of each request is `specs/Requests.antt`, a definition for each row of the table, over
-//!   `specs/States.antt`; what may be answered beside the table is `specs/Beside.antt`.
+//!   `specs/States.antt`; what may be answered beside the table is `specs/Beside.antt`, and
+//!   what is allowed of a device under test `specs/Conformance.antt`.
 //! - How a device goes through a control transfer is `specs/Step.antt`, whatever the table is.
 //! - What the parts of a device mean is `specs/View.antt` and `specs/Stages.antt`: the code has an offset and a toggle
 //!   where the definition has a list of packets. Transactions as numbers are `specs/Transactions.antt`.
@@ -21,6 +25,7 @@
 
 mod acceptance;
 mod beside;
+mod conformance;
 mod description;
 mod device;
 mod encoded_file;
@@ -37,10 +42,11 @@ mod transaction;
 
 pub use acceptance::DescriptionFault;
 pub use beside::{ROOM, Unanswered, is_open};
+pub use conformance::{Difference, is_ready, judge};
 pub use description::Description;
 pub use device::Device;
 pub use endpoint_zero::{EndpointZero, is_set_address};
 pub use owned_device::OwnedDevice;
 pub use stage::Stage as DeviceStage;
 pub use state::{DeviceState, State};
-pub use transaction::{NzgPacket, NzgTransaction, answer_of, sent, speed_of, told};
+pub use transaction::{NzgPacket, NzgTransaction, answer_in, answer_of, sent, speed_of, told};

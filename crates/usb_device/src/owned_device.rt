@@ -1,14 +1,17 @@
 //! A device that owns its description.
 ghost use Rattle.std.specs.Prelude.{◌≡◌};
-ghost use Rattle.usb_fields.specs.Packets.{sent_of};
+ghost use Rattle.usb_fields.specs.Packets.{reply_of, sent_of};
+ghost use Rattle.usb_device.specs.Conformance.{is_ready, is_refusing, IsJudged};
 ghost use Rattle.usb_device.specs.View.{served_by, after};
 ghost use Rattle.usb_device.specs.Transactions.{packet_of};
 
+use crate::conformance::{Difference, is_ready, judge};
 use crate::description::Description;
 use crate::endpoint_zero::EndpointZero;
+use crate::stage::Stage;
 use crate::transaction::{NzgPacket, tell};
 use std::marker::Model;
-use usb_fields::Transaction;
+use usb_fields::{Answer, Setup, Transaction};
 
 /// A device that owns its description, and so can be one handle: each call of what changes in it is given the description
 /// beside it.
@@ -43,5 +46,35 @@ impl OwnedDevice {
             self.endpoint_zero.serve(&self.description, t, ready),
             packet,
         );
+    }
+
+    /// One transaction, to which a device under test has answered so in the transfer of this request. This one's answer goes
+    /// into the packet, and what comes back is what [`judge`] says.
+    #[tactic(auto, using(crate::proofs::Replies::reply_has_room))]
+    pub fn judge(
+        &mut self,
+        request: Setup,
+        t: &Transaction<'_>,
+        came: Answer<'_>,
+        packet: &mut NzgPacket,
+    ) -> Option<Difference>
+        ensures device { self.new ≡ after self.old (served_by self.old.description.file self.old.device (sent_of t.now) (is_ready (reply_of came.entry))).device }
+        ensures packet { packet.new ≡ packet_of (served_by self.old.description.file self.old.device (sent_of t.now) (is_ready (reply_of came.entry))).reply packet.old }
+        ensures judged { IsJudged request (is_refusing self.old.device.stage) (sent_of t.now).token (reply_of came.entry) (served_by self.old.description.file self.old.device (sent_of t.now) (is_ready (reply_of came.entry))).reply result }
+    {
+        // For the proof alone: the descriptors are accepted.
+        let _file = self.description.file();
+        let refused = self.refuses();
+        let has = self
+            .endpoint_zero
+            .serve(&self.description, t, is_ready(came));
+        tell(has, packet);
+        judge(request, refused, t.stage, came, has)
+    }
+
+    fn refuses(&self) -> bool
+        ensures { result ≡ is_refusing self.now.device.stage }
+    {
+        matches!(self.endpoint_zero.stage(), Stage::Halted)
     }
 }

@@ -2,7 +2,7 @@
 ghost use Rattle.std.specs.Prelude.{◌≡◌, ◌≤◌, ◌++◌, drop, length};
 ghost use Rattle.std.specs.Option.{option_map};
 ghost use Rattle.usb_fields.specs.Packets.{reply_of, sent_of};
-ghost use Rattle.usb_device.specs.Transactions.{HasRoom, packet_of, reply_told, sent_told, speed_told, toggle_number, toggle_told, transaction_of};
+ghost use Rattle.usb_device.specs.Transactions.{HasRoom, packet_of, packet_told, reply_told, sent_told, speed_told, toggle_number, toggle_told, transaction_of};
 
 use usb_fields::{Answer, Speed, Stage, Toggle, Transaction};
 
@@ -158,4 +158,15 @@ pub fn answer_of<'a>(reply: u8, toggle: u8, bytes: &'a [u8]) -> Option<Answer<'a
         4 => Some(Answer::Silence),
         _ => None,
     }
+}
+
+/// The answer that a packet says, or `None` where its numbers have no meaning.
+pub fn answer_in(packet: &NzgPacket) -> Option<Answer<'_>>
+    ensures { option_map reply_of result ≡ packet_told packet.now }
+{
+    if packet.length > 64 {
+        return None;
+    }
+    let bytes = &packet.bytes[..usize::from(packet.length)];
+    answer_of(packet.reply, packet.toggle, bytes)
 }

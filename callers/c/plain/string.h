@@ -1,0 +1,5 @@
+#include <stddef.h>
+size_t strlen(const char *text);
+int memcmp(const void *a, const void *b, size_t length);
+void *memset(void *to, int byte, size_t length);
+void *memcpy(void *to, const void *from, size_t length);

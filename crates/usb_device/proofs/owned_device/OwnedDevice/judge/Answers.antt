@@ -1,0 +1,22 @@
+use Rattle.std.proofs.Common.{rules, ◌≡◌, subst}
+use Rattle.usb_fields.specs.Packets.{reply_of, sent_of, token_of}
+use Rattle.usb_device.specs.Conformance.{is_ready, is_refusing, IsJudged}
+use Rattle.usb_device.specs.View.{device_of, served_by}
+use Rattle.usb_device.proofs.Replies.{reply_has_room}
+use Rattle.usb_device.proofs.owned_device.OwnedDevice.judge.Goals as goal
+
+pub tell-requires : goal.tell-requires
+tell-requires c =
+    let d = c.self.inside in
+    reply_has_room d.description.file d.description.speed (device_of d.description.file d.endpoint_zero) (sent_of c.args.t.now) c.is_ready.result
+    (reply_of c.serve-has.result) (search rules) (search rules)
+
+pub returns-clause-judged : goal.returns-clause-judged
+returns-clause-judged c =
+    let v = c.args.self.now in
+    let token = token_of c.args.t.now.stage in
+    let came = reply_of c.args.came in
+    let refused : c.refuses-refused.result ≡ is_refusing v.device.stage = search rules in
+    let has : reply_of c.serve-has.result ≡ (served_by v.description.file v.device (sent_of c.args.t.now) (is_ready came)).reply = search rules in
+    subst (λ r. IsJudged c.args.request (is_refusing v.device.stage) token came r c.judge.result) has
+    (subst (λ b. IsJudged c.args.request b token came (reply_of c.serve-has.result) c.judge.result) refused c.judge.ensures)

@@ -1,0 +1,140 @@
+"""The calls of nozzlegorse.h by ctypes, and what the other modules share. Nothing outside of this package uses it."""
+from __future__ import annotations
+
+import ctypes
+import operator
+import os
+import re
+
+# nozzlegorse.h without its comments, its numbers and the names of parameters.
+DECLARATIONS = """
+struct nzg_answer { uint32_t status, number; size_t place, length; };
+struct nzg_outcome { uint64_t transactions; uint8_t attempts, address, selected, step, index; uint16_t language; };
+struct nzg_descriptor { size_t place, set_end, languages_place, strings, main_sets, other_sets, set, associations, setting, settings,
+    endpoint_number, endpoints; uint64_t named[4]; uint16_t language; uint8_t length, type, role, owner, depth, part, interface_,
+    alternate, class_, subclass, protocol, endpoint, index; bool has_device, has_languages; };
+struct nzg_field { size_t place; uint64_t value; uint8_t width, name_length, name[62]; };
+struct nzg_finding { size_t place, set, setting, endpoint; uint8_t rule, part, role; };
+struct nzg_transaction { uint8_t address, stage, toggle, setup[8]; };
+struct nzg_packet { uint8_t reply, toggle, length, data[64]; };
+struct nzg_setup { uint8_t bytes[8]; };
+struct nzg_state { uint32_t halts; uint8_t address, selected; bool wakeup; uint8_t alternates[256]; };
+struct nzg_trouble { uint8_t why, step, index; uint16_t language; };
+struct nzg_step { uint16_t naks, kept, language; uint8_t step, index, strikes, setup[8]; };
+struct nzg_device { void *held; };
+struct nzg_transfer { void *held; };
+struct nzg_host { void *held; };
+struct nzg_decoder { void *held; };
+struct nzg_answer nzg_show(const uint8_t *, size_t, bool, uint8_t *, size_t);
+struct nzg_answer nzg_check(const uint8_t *, size_t, bool, uint8_t *, size_t);
+struct nzg_answer nzg_explain(const uint8_t *, size_t, uint32_t, uint8_t, uint8_t *, size_t);
+struct nzg_answer nzg_build(const uint8_t *, size_t, bool, uint8_t *, size_t);
+struct nzg_answer nzg_enumerate(const uint8_t *, size_t, uint8_t, uint16_t, uint8_t, const uint8_t *, size_t, struct nzg_outcome *,
+    uint8_t *, size_t);
+bool nzg_next(const uint8_t *, size_t, struct nzg_descriptor *);
+bool nzg_field(const uint8_t *, size_t, const struct nzg_descriptor *, size_t, struct nzg_field *);
+struct nzg_answer nzg_judge(const uint8_t *, size_t);
+struct nzg_answer nzg_findings(const uint8_t *, size_t, struct nzg_finding *, size_t);
+struct nzg_answer nzg_rule(uint8_t, uint8_t *, size_t);
+struct nzg_answer nzg_text(const uint8_t *, size_t, const struct nzg_descriptor *, uint8_t *, size_t);
+struct nzg_answer nzg_with_strings(const uint8_t *, size_t, uint8_t *, size_t);
+struct nzg_answer nzg_device_open(struct nzg_device *, const uint8_t *, size_t, uint8_t);
+bool nzg_device_reset(struct nzg_device *);
+bool nzg_device_serve(struct nzg_device *, const struct nzg_transaction *, const uint8_t *, size_t, bool, struct nzg_packet *);
+bool nzg_device_acked(struct nzg_device *);
+bool nzg_device_refused(struct nzg_device *, struct nzg_setup *);
+struct nzg_answer nzg_device_answer_with(struct nzg_device *, const uint8_t *, size_t);
+struct nzg_answer nzg_device_accept(struct nzg_device *);
+bool nzg_device_carried_out(struct nzg_device *, struct nzg_setup *);
+bool nzg_device_state(struct nzg_device *, struct nzg_state *);
+void nzg_device_close(struct nzg_device *);
+uint8_t nzg_judge_device(struct nzg_device *, const struct nzg_setup *, const struct nzg_transaction *, const uint8_t *, size_t,
+    const struct nzg_packet *, struct nzg_packet *);
+struct nzg_answer nzg_transfer_open(struct nzg_transfer *, uint8_t, uint8_t, uint16_t, const struct nzg_setup *);
+bool nzg_transfer_next(struct nzg_transfer *, struct nzg_transaction *);
+struct nzg_answer nzg_transfer_take(struct nzg_transfer *, uint8_t, uint8_t, const uint8_t *, size_t);
+void nzg_transfer_close(struct nzg_transfer *);
+struct nzg_answer nzg_host_open(struct nzg_host *, uint8_t, uint16_t, uint8_t, uint8_t);
+uint8_t nzg_host_next(struct nzg_host *, struct nzg_transaction *);
+bool nzg_host_reset_done(struct nzg_host *);
+bool nzg_host_take(struct nzg_host *, uint8_t, uint8_t, const uint8_t *, size_t);
+bool nzg_host_step(struct nzg_host *, struct nzg_step *);
+uint8_t nzg_host_attempts(struct nzg_host *);
+struct nzg_answer nzg_host_outcome(struct nzg_host *, struct nzg_trouble *, uint8_t *, size_t);
+void nzg_host_close(struct nzg_host *);
+struct nzg_answer nzg_decoder_open(struct nzg_decoder *);
+struct nzg_answer nzg_decoder_feed(struct nzg_decoder *, const uint8_t *, size_t);
+struct nzg_answer nzg_decoder_list(struct nzg_decoder *, uint8_t *, size_t);
+void nzg_decoder_close(struct nzg_decoder *);
+"""
+STATUSES = ("done", "open", "set_fault", "file_fault", "list_fault", "description_fault", "trailing", "no_room", "no_memory",
+            "closed", "bad_argument", "trouble", "unanswered", "no_bytes")
+SPEEDS = ("low", "full", "high", "super")
+_TYPES = {"void": None, "void *": ctypes.c_void_p, "bool": ctypes.c_bool, "size_t": ctypes.c_size_t, "uint8_t": ctypes.c_uint8,
+          "uint16_t": ctypes.c_uint16, "uint32_t": ctypes.c_uint32, "uint64_t": ctypes.c_uint64,
+          "const uint8_t *": ctypes.c_char_p, "uint8_t *": ctypes.c_void_p}
+
+
+def _struct(name: str, body: str) -> type:
+    fields = []
+    for line in filter(str.strip, body.split(";")):
+        kind, declared = line.split(maxsplit=1)
+        for star, field, count in re.findall(r"(\*?)(\w+)(?:\[(\d+)\])?", declared):
+            it = _TYPES[kind + " *" * bool(star)]
+            fields.append((field, it * int(count) if count else it))
+    return type(name, (ctypes.Structure,), {"_fields_": fields})
+
+
+def _declared(library, text: str) -> dict[str, type]:
+    """Gives each call of a library its types; the structs that are declared, by their names without nzg_."""
+    structs = {}
+    for name, body in re.findall(r"struct nzg_(\w+) \{(.*?)\};", text, re.S):
+        it = structs[name] = _struct(name, body)
+        pointer = ctypes.POINTER(it)
+        _TYPES.update({f"struct nzg_{name}": it, f"struct nzg_{name} *": pointer, f"const struct nzg_{name} *": pointer})
+    for result, name, parameters in re.findall(r"^((?:struct )?\w+) (nzg_\w+)\((.*?)\);", text, re.S | re.M):
+        call = getattr(library, name)
+        call.restype, call.argtypes = _TYPES[result], [_TYPES[" ".join(it.split())] for it in parameters.split(",")]
+    return structs
+
+
+def _load() -> ctypes.PyDLL:
+    """NOZZLEGORSE_LIBRARY, else what is beside this file, else what the system has. PyDLL keeps one call at a time, so that
+    threads may share a handle."""
+    beside = os.path.join(os.path.dirname(os.path.abspath(__file__)), "libnozzlegorse.so")
+    return ctypes.PyDLL(os.environ.get("NOZZLEGORSE_LIBRARY") or (beside if os.path.exists(beside) else "libnozzlegorse.so.0"))
+
+
+lib = _load()
+structs = _declared(lib, DECLARATIONS)
+
+
+def number(value: int, least: int, most: int, name: str) -> int:
+    """A number in its range, and no other: ctypes would cut it."""
+    value = operator.index(value)
+    if not least <= value <= most:
+        raise ValueError(f"{name} is from {least} to {most}, not {value}")
+    return value
+
+
+def speed_number(speed: str | None, known: tuple = SPEEDS[:3]) -> int:
+    """The number of a speed, and 0 of None where that is known."""
+    if speed not in known:
+        raise ValueError(f"a speed is one of {', '.join(map(repr, known))}, not {speed!r}")
+    return SPEEDS.index(speed) + 1 if speed else 0
+
+
+def lend(data: bytes) -> tuple[bytes, int]:
+    """Bytes, or what any buffer holds, and their count; of anything else a TypeError."""
+    data = bytes(memoryview(data))
+    return data, len(data)
+
+
+def into(call, *before, of: type = ctypes.c_char, room: int = 4096):
+    """Calls with a buffer that grows to what is wanted: the answer, and what was put there."""
+    while True:
+        out = (of * max(room, 1))()
+        answer = call(*before, out, room)
+        if STATUSES[answer.status] != "no_room":
+            return answer, out[:answer.length]
+        room = answer.length

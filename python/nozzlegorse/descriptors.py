@@ -1,0 +1,322 @@
+"""Descriptors as values: what `read` and `walk` give, and the rules that `check` finds broken."""
+from __future__ import annotations
+
+from collections.abc import Iterator
+from dataclasses import dataclass, field
+
+from . import _library as c
+from .faults import done
+
+ROLES = (None, "device", "configuration", "interface", "endpoint", "association", "raw", "qualifier", "languages", "string")
+PARTS = ("device", "main", "other")
+
+
+@dataclass(frozen=True)
+class Field:
+    """A field of a descriptor: its name in the standard, its place in the input, and its bytes."""
+
+    name: str
+    place: int
+    data: bytes
+
+    @property
+    def value(self) -> int:
+        """The number that the bytes are, little-endian."""
+        return int.from_bytes(self.data, "little")
+
+    def __repr__(self) -> str:
+        return f"<{self.name} {self.data[::-1].hex()}, at {self.place}>"
+
+
+@dataclass(frozen=True, repr=False)
+class Descriptor:
+    """A descriptor where it is in its input; `it["bInterval"]` is a field by its name in the standard. What doesn't apply is 0.
+
+    `owner` is the role of what an association or raw descriptor belongs to. `part` is 'device', 'main' or 'other', the set a
+    number in it, the setting a number in the set and the endpoint one in the setting, as findings count. Interface, alternate
+    and codes (class, subclass, protocol) are of the setting that it belongs to, codes of a device its own.
+    """
+
+    role: str
+    place: int
+    data: bytes
+    depth: int
+    owner: str | None
+    part: str
+    set: int
+    setting: int
+    endpoint_number: int
+    interface: int
+    alternate: int
+    codes: tuple[int, int, int]
+    _input: bytes = field(compare=False)
+    _at: bytes = field(compare=False)
+
+    @property
+    def type(self) -> int:
+        """bDescriptorType."""
+        return self.data[1]
+
+    @property
+    def fields(self) -> list[Field]:
+        """Each field in the order of the bytes, of descriptors of classes too."""
+        found, at, it = [], self._numbers(), c.structs["field"]()
+        while c.lib.nzg_field(*c.lend(self._input), at, len(found), it):
+            name = bytes(it.name)[:it.name_length].decode("ascii")
+            found.append(Field(name, it.place, self._input[it.place:it.place + it.width]))
+        return found
+
+    def __getitem__(self, name: str) -> int:
+        for it in self.fields:
+            if it.name == name:
+                return it.value
+        raise KeyError(name)
+
+    def _numbers(self):
+        return c.structs["descriptor"].from_buffer_copy(self._at)
+
+    def _words(self) -> str:
+        return ""
+
+    def __repr__(self) -> str:
+        return f"<{self.role}{self._words()}, at {self.place}>"
+
+
+class Raw(Descriptor):
+    """A descriptor of a class or a vendor, or of a type that has no meaning in a set."""
+
+    def _words(self):
+        return f" {self.type:02x} {self.data[2:].hex() or '-'}"
+
+
+class Association(Descriptor):
+    """Interfaces that make one function."""
+
+
+class Qualifier(Descriptor):
+    """What the device is at its other speed."""
+
+
+class Device(Descriptor):
+    """A device descriptor."""
+
+    @property
+    def vendor(self) -> int:
+        """idVendor."""
+        return int.from_bytes(self.data[8:10], "little")
+
+    @property
+    def product(self) -> int:
+        """idProduct."""
+        return int.from_bytes(self.data[10:12], "little")
+
+    @property
+    def max_packet_size(self) -> int:
+        """bMaxPacketSize0."""
+        return self.data[7]
+
+    def _words(self):
+        return f" {self.vendor:04x}:{self.product:04x}"
+
+
+class Languages(Descriptor):
+    """The list of languages."""
+
+    @property
+    def languages(self) -> list[int]:
+        """Their codes, in its order."""
+        return [int.from_bytes(self.data[at:at + 2], "little") for at in range(2, len(self.data), 2)]
+
+
+class String(Descriptor):
+    """A string."""
+
+    @property
+    def language(self) -> int:
+        """Its language's code."""
+        return self._numbers().language
+
+    @property
+    def index(self) -> int:
+        """Its index."""
+        return self._numbers().index
+
+    @property
+    def text(self) -> str:
+        """Its characters, with escapes for what is none."""
+        answer, out = c.into(c.lib.nzg_text, *c.lend(self._input), self._numbers())
+        done(answer)
+        return out.decode()
+
+    def _words(self):
+        return f" {self.index} in {self.language:04x} {self.text!r}"
+
+
+@dataclass(frozen=True, repr=False)
+class Endpoint(Descriptor):
+    """An endpoint, and the descriptors that belong to it."""
+
+    extras: list[Descriptor] = field(default_factory=list, compare=False)
+
+    @property
+    def address(self) -> int:
+        """bEndpointAddress."""
+        return self.data[2]
+
+    @property
+    def number(self) -> int:
+        """Bits 3 to 0 of the address."""
+        return self.address & 15
+
+    @property
+    def direction(self) -> str:
+        """'in' or 'out'."""
+        return "in" if self.address & 0x80 else "out"
+
+    @property
+    def transfer_type(self) -> str:
+        """'control', 'isochronous', 'bulk' or 'interrupt'."""
+        return ("control", "isochronous", "bulk", "interrupt")[self.data[3] & 3]
+
+    @property
+    def max_packet_size(self) -> int:
+        """Bytes in a packet: bits 10 to 0 of wMaxPacketSize."""
+        return int.from_bytes(self.data[4:6], "little") & 0x7FF
+
+    @property
+    def interval(self) -> int:
+        """bInterval."""
+        return self.data[6]
+
+    def _words(self):
+        return f" {self.address:02x}: {self.transfer_type} {self.direction} {self.number}, {self.max_packet_size} bytes"
+
+
+@dataclass(frozen=True, repr=False)
+class Interface(Descriptor):
+    """An interface at one of its settings, with its endpoints and the other descriptors that belong to it."""
+
+    endpoints: list[Endpoint] = field(default_factory=list, compare=False)
+    extras: list[Descriptor] = field(default_factory=list, compare=False)
+
+    def _words(self):
+        return f" {self.interface}.{self.alternate}, class {bytes(self.codes).hex(' ')}, {len(self.endpoints)} endpoints"
+
+
+@dataclass(frozen=True, repr=False)
+class Configuration(Descriptor):
+    """A configuration set: its interfaces at each of their settings, and the other descriptors that belong to it."""
+
+    interfaces: list[Interface] = field(default_factory=list, compare=False)
+    extras: list[Descriptor] = field(default_factory=list, compare=False)
+
+    @property
+    def value(self) -> int:
+        """bConfigurationValue."""
+        return self.data[5]
+
+    def _words(self):
+        return f" {self.value}, {len(self.interfaces)} settings"
+
+
+@dataclass(frozen=True)
+class Finding:
+    """A rule of chapter 9 that is broken, by which descriptor, and what breaks it in words. Sets, settings and endpoints are
+    numbers from 0, each in what it belongs to."""
+
+    rule: int
+    part: str
+    set: int
+    setting: int
+    endpoint: int
+    place: int
+    role: str
+    message: str
+
+    def __str__(self) -> str:
+        return f"at {self.place}: V{self.rule}: {self.message}"
+
+
+@dataclass(frozen=True, repr=False)
+class Descriptors:
+    """All that a set, a descriptor file or a dump says. `kind` is 'set', 'file' or 'dump'."""
+
+    kind: str
+    device: Device | None = None
+    configurations: list[Configuration] = field(default_factory=list)
+    qualifier: Qualifier | None = None
+    other_configurations: list[Configuration] = field(default_factory=list)
+    languages: list[int] = field(default_factory=list)
+    strings: list[String] = field(default_factory=list)
+
+    @property
+    def interfaces(self) -> list[Interface]:
+        """All settings of all configurations of the device's own speed."""
+        return [it for set_ in self.configurations for it in set_.interfaces]
+
+    @property
+    def endpoints(self) -> list[Endpoint]:
+        """All endpoints of these settings."""
+        return [it for setting in self.interfaces for it in setting.endpoints]
+
+    def string(self, index: int, language: int | None = None) -> str | None:
+        """The string of an index, in a language or in the first."""
+        return next((it.text for it in self.strings if it.index == index and language in (None, it.language)), None)
+
+    def __repr__(self) -> str:
+        return f"<{self.kind}: {self.device}, {len(self.configurations)} configurations, {len(self.strings)} strings>"
+
+
+_CLASSES = dict(zip(ROLES[1:], (Device, Configuration, Interface, Endpoint, Association, Raw, Qualifier, Languages, String)))
+
+
+def walk(data: bytes) -> Iterator[Descriptor]:
+    """Each descriptor in the order of the bytes, also of broken bytes as far as they can be read."""
+    (data, length), at = c.lend(data), c.structs["descriptor"]()
+    return iter(_walk(data, length, at))
+
+
+def _walk(data, length, at):
+    while c.lib.nzg_next(data, length, at):
+        yield _CLASSES[ROLES[at.role]](
+            ROLES[at.role], at.place, data[at.place:at.place + at.length], at.depth, ROLES[at.owner], PARTS[at.part], at.set,
+            at.setting, at.endpoint_number, at.interface_, at.alternate, (at.class_, at.subclass, at.protocol), data,
+            bytes(at))
+
+
+def judge(data: bytes) -> str:
+    """What the bytes are: 'set', 'file' or 'dump'. Raises a `Fault` with its number and place where they are none."""
+    return ("set", "file", "dump")[done(c.lib.nzg_judge(*c.lend(data))).number - 1]
+
+
+def read(data: bytes) -> Descriptors:
+    """What a set, a descriptor file or a dump of Linux says. Raises what `judge` raises."""
+    found: dict[str, list] = {role: [] for role in _CLASSES}
+    last: dict[str | None, Descriptor] = {}
+    kind = judge(data)
+    for it in walk(data):
+        found[it.role].append(it)
+        last[it.role] = it
+        if it.role == "interface":
+            last["configuration"].interfaces.append(it)
+        elif it.role == "endpoint":
+            last["interface"].endpoints.append(it)
+        elif it.owner:
+            last[it.owner].extras.append(it)
+    main, other = ([it for it in found["configuration"] if it.part == part] for part in PARTS[1:])
+    return Descriptors(kind, last.get("device"), main, last.get("qualifier"), other,
+                       [it for list_ in found["languages"] for it in list_.languages], found["string"])
+
+
+def check(data: bytes) -> list[Finding]:
+    """Each rule of chapter 9 that a set, a descriptor file or a dump breaks, in the order of the bytes."""
+    answer, found = c.into(c.lib.nzg_findings, *c.lend(data), of=c.structs["finding"], room=64)
+    done(answer)
+    return [Finding(it.rule, PARTS[it.part], it.set, it.setting, it.endpoint, it.place, ROLES[it.role], message(it.rule)) for it in found]
+
+
+def message(rule: int) -> str:
+    """What breaks a rule, in words."""
+    answer, text = c.into(c.lib.nzg_rule, c.number(rule, 0, 255, "rule"))
+    done(answer)
+    return text.decode("ascii")

@@ -1,0 +1,222 @@
+"""Both ends of endpoint zero, transaction by transaction.
+
+>>> from nozzlegorse.ends import Device, Transaction
+>>> with Device(file) as device:
+...     device.serve(Transaction.setup(0, bytes.fromhex("8006000100001200")))
+Reply(kind='ack', toggle=0, data=b'')
+"""
+from __future__ import annotations
+
+from dataclasses import dataclass
+
+from . import _library as c
+from ._handle import Handle
+from .faults import STATUSES, Fault, done, step_word
+
+STAGES, KINDS = ("setup", "in", "out"), ("ack", "nak", "stall", "data", "silence")
+
+
+def _word(value: str, known: tuple, name: str) -> int:
+    if value not in known:
+        raise ValueError(f"{name} is one of {', '.join(map(repr, known))}, not {value!r}")
+    return known.index(value)
+
+
+def _request(data: bytes):
+    data, length = c.lend(data)
+    if length != 8:
+        raise ValueError(f"a request has 8 bytes, not {length}")
+    return c.structs["setup"].from_buffer_copy(data)
+
+
+@dataclass(frozen=True)
+class Transaction:
+    """What a host sends: SETUP with its eight bytes, IN, or OUT with a toggle and data."""
+
+    address: int
+    stage: str
+    setup_bytes: bytes = bytes(8)
+    toggle: int = 0
+    data: bytes = b""
+
+    def __post_init__(self):
+        for name in ("setup_bytes", "data"):
+            object.__setattr__(self, name, c.lend(getattr(self, name))[0])
+        self._numbers()
+
+    @staticmethod
+    def setup(address: int, request: bytes) -> Transaction:
+        """SETUP with the eight bytes of a request."""
+        return Transaction(address, "setup", request)
+
+    def __str__(self) -> str:
+        data = (self.setup_bytes if self.stage == "setup" else self.data).hex() or "empty"
+        return f"{self.address} " + {"setup": f"SETUP {data}", "in": "IN", "out": f"OUT DATA{self.toggle} {data}"}[self.stage]
+
+    def _numbers(self):
+        return c.structs["transaction"](c.number(self.address, 0, 255, "address"), _word(self.stage, STAGES, "a stage"),
+                                        c.number(self.toggle, 0, 1, "a toggle"), _request(self.setup_bytes).bytes)
+
+
+@dataclass(frozen=True)
+class Reply:
+    """What comes back: 'ack', 'nak', 'stall', 'data' with a toggle and bytes, or 'silence'."""
+
+    kind: str
+    toggle: int = 0
+    data: bytes = b""
+
+    def __post_init__(self):
+        object.__setattr__(self, "data", c.lend(self.data)[0])
+        self._numbers()
+
+    def __str__(self) -> str:
+        return f"DATA{self.toggle} {self.data.hex() or 'empty'}" if self.kind == "data" else self.kind.upper()
+
+    def _numbers(self):
+        return _word(self.kind, KINDS, "a reply"), c.number(self.toggle, 0, 1, "a toggle"), *c.lend(self.data)
+
+
+ACK, NAK, STALL, SILENCE = (Reply(it) for it in ("ack", "nak", "stall", "silence"))
+
+
+def _is_a(value, kind: type):
+    if not isinstance(value, kind):
+        raise TypeError(f"a {kind.__name__} is wanted, not {value!r}")
+    return value
+
+
+def _due(it) -> Transaction:
+    return Transaction(it.address, STAGES[it.stage], bytes(it.setup), it.toggle)
+
+
+@dataclass(frozen=True)
+class State:
+    """What a device keeps: bit i of `halts` is endpoint i OUT, bit 16 + i endpoint i IN; `alternates` by interface number."""
+
+    address: int
+    selected: int
+    wakeup: bool
+    halts: int
+    alternates: bytes
+
+
+class Device(Handle):
+    """A device with the descriptors of a file."""
+
+    _of = "device"
+
+    def __init__(self, file: bytes, speed: str = "full"):
+        self._open(*c.lend(file), c.speed_number(speed))
+
+    def reset(self) -> None:
+        """The bus is reset."""
+        self._call("reset")
+
+    def serve(self, transaction: Transaction, ready: bool = True) -> Reply:
+        """What comes back of a transaction; NAK to IN and OUT where the device isn't ready."""
+        it, packet = _is_a(transaction, Transaction), c.structs["packet"]()
+        self._call("serve", it._numbers(), *c.lend(it.data), bool(ready), packet)
+        return Reply(KINDS[packet.reply], packet.toggle, bytes(packet.data)[:packet.length])
+
+    def acked(self) -> None:
+        """The host acknowledged the data that was answered right before."""
+        self._call("acked")
+
+    def refused(self) -> bytes | None:
+        """The request that is refused, before the host is told, or None."""
+        return self._setup("refused")
+
+    def carried_out(self) -> bytes | None:
+        """The request that was carried out just now, or None."""
+        return self._setup("carried_out")
+
+    def _setup(self, name: str) -> bytes | None:
+        it = c.structs["setup"]()
+        return bytes(it.bytes) if self._call(name, it) else None
+
+    def answer_with(self, data: bytes) -> None:
+        """Answers the refused request with these bytes."""
+        done(self._call("answer_with", *c.lend(data)))
+
+    def accept(self) -> None:
+        """Accepts the refused request, which has no data stage."""
+        done(self._call("accept"))
+
+    def state(self) -> State:
+        """What the device keeps."""
+        it = c.structs["state"]()
+        self._call("state", it)
+        return State(it.address, it.selected, it.wakeup, it.halts, bytes(it.alternates))
+
+
+class Transfer(Handle):
+    """One control transfer at the host's end.
+
+    `data` are the bytes that came; `ended` is None while it goes on, and then 'complete' or why it failed, as 'NoAnswer'.
+    """
+
+    _of = "transfer"
+
+    def __init__(self, request: bytes, address: int = 0, packet: int = 64, naks: int = 16):
+        self.data, self.ended = b"", None
+        self._open(c.number(address, 0, 255, "address"), c.number(packet, 0, 255, "packet"), c.number(naks, 0, 65535, "naks"),
+                   _request(request))
+
+    def next(self) -> Transaction | None:
+        """The transaction that is due; None once it has ended."""
+        due = c.structs["transaction"]()
+        return _due(due) if self._call("next", due) else None
+
+    def take(self, reply: Reply) -> None:
+        """Takes what came back of the transaction that is due."""
+        answer = self._call("take", *_is_a(reply, Reply)._numbers())
+        kind = STATUSES[answer.status]
+        if kind == "trouble":
+            self.ended = Fault(kind, answer.number).name
+        else:
+            done(answer)
+            self.data += reply.data[:answer.length]
+            self.ended = "complete" if kind == "done" else None
+
+
+class Host(Handle):
+    """A host that enumerates one device."""
+
+    _of = "host"
+
+    def __init__(self, address: int = 1, naks: int = 16, attempts: int = 3, speed: str = "full"):
+        self._open(c.number(address, 0, 255, "address"), c.number(naks, 0, 65535, "naks"), c.number(attempts, 0, 255, "attempts"),
+                   c.speed_number(speed))
+
+    def next(self) -> Transaction | str:
+        """The transaction that is due, or 'reset' or 'ended'."""
+        due = c.structs["transaction"]()
+        action = ("reset", "send", "ended", "ended")[self._call("next", due)]
+        return _due(due) if action == "send" else action
+
+    def reset_done(self) -> None:
+        """The bus was reset."""
+        self._call("reset_done")
+
+    def take(self, reply: Reply) -> None:
+        """Takes what came back of the transaction that is due."""
+        self._call("take", *_is_a(reply, Reply)._numbers())
+
+    def step(self) -> str | None:
+        """What is in work, in the words of `usbdesc`; None where nothing is."""
+        it = c.structs["step"]()
+        return step_word(it) if self._call("step", it) else None
+
+    @property
+    def attempts(self) -> int:
+        """How often it began."""
+        return self._call("attempts")
+
+    def outcome(self) -> bytes | None:
+        """The bytes of the file that was read, or None before the end. Trouble is raised as a `Fault`."""
+        trouble = c.structs["trouble"]()
+        answer, out = c.into(lambda *rest: self._call("outcome", trouble, *rest))
+        if STATUSES[answer.status] == "trouble":
+            raise Fault("trouble", answer.number, step=step_word(trouble))
+        return out if STATUSES[done(answer).status] == "done" else None

@@ -1,0 +1,99 @@
+"""What `usbdesc` writes, from bytes, and the bytes that a text lists."""
+from __future__ import annotations
+
+from dataclasses import dataclass
+
+from . import _library as c
+from ._handle import Handle
+from .faults import STATUSES, Fault, done, fault_of, step_word
+
+
+@dataclass(frozen=True)
+class Explanation:
+    """A text as far as the bytes go, and the fault where they are broken."""
+
+    text: str
+    fault: Fault | None
+
+    def __str__(self) -> str:
+        return self.text
+
+
+@dataclass(frozen=True)
+class Enumeration:
+    """What came of an enumeration: after success the listing of what was read and no trouble. `str` is the line of `usbdesc`."""
+
+    attempts: int
+    transactions: int
+    address: int
+    selected: int
+    trouble: Fault | None
+    text: str
+
+    def __str__(self) -> str:
+        counts = f"attempts {self.attempts} transactions {self.transactions}"
+        if self.trouble:
+            return f"trouble {self.trouble.number} {self.trouble.step} {counts}"
+        return f"success {counts} address {self.address} value {self.selected}"
+
+
+def _whole(call, *before) -> bytes:
+    answer, out = c.into(call, *before)
+    done(answer)
+    return out
+
+
+def show(data: bytes) -> str:
+    """The listing of a set, a descriptor file or a dump: a line for each descriptor."""
+    return _whole(c.lib.nzg_show, *c.lend(data), True).decode("ascii")
+
+
+def build(text: str | bytes, comments: bool = False) -> bytes:
+    """The bytes that a text lists. With `comments` empty lines, lines that begin with # and carriage returns are dropped."""
+    return _whole(c.lib.nzg_build, *c.lend(text.encode() if isinstance(text, str) else text), bool(comments))
+
+
+def with_strings(dump: bytes) -> bytes:
+    """A dump as a descriptor file, with the strings that `usbdesc enumerate --with-strings` puts."""
+    return _whole(c.lib.nzg_with_strings, *c.lend(dump))
+
+
+def explain(data: bytes, brief: bool = False, places: bool = True, speed: str | None = None, utf8: bool = False) -> Explanation:
+    """What descriptors mean, in words, also of broken bytes as far as they go."""
+    options = bool(brief) | bool(places) << 1 | bool(utf8) << 2
+    answer, out = c.into(c.lib.nzg_explain, *c.lend(data), options, c.speed_number(speed, (None, *c.SPEEDS)))
+    return Explanation(out.decode(), fault_of(answer))
+
+
+def enumerate(data: bytes, speed: str = "full", naks: int = 16, attempts: int = 3, fates: str | bytes = "") -> Enumeration:
+    """A host enumerates a device with these descriptors, over a bus with these fates, a letter a transaction."""
+    outcome = c.structs["outcome"]()
+    answer, out = c.into(c.lib.nzg_enumerate, *c.lend(data), c.speed_number(speed), c.number(naks, 0, 65535, "naks"),
+                         c.number(attempts, 0, 255, "attempts"), *c.lend(fates.encode() if isinstance(fates, str) else fates), outcome)
+    trouble = None
+    if STATUSES[answer.status] == "trouble":
+        trouble = Fault("trouble", answer.number, step=step_word(outcome))
+    else:
+        done(answer)
+    return Enumeration(outcome.attempts, outcome.transactions, outcome.address, outcome.selected, trouble, out.decode("ascii"))
+
+
+class Decoder(Handle):
+    """A set that comes in pieces."""
+
+    _of = "decoder"
+
+    def __init__(self):
+        self._open()
+
+    def feed(self, piece: bytes) -> tuple[bool, int]:
+        """Whether the set is whole, and how many bytes of the piece it took."""
+        answer = done(self._call("feed", *c.lend(piece)))
+        return STATUSES[answer.status] == "done", answer.length
+
+    def list(self) -> str:
+        """The listing of the set. The decoder is closed then."""
+        answer, out = c.into(lambda *rest: self._call("list", *rest), room=1 << 20)
+        self._is_open = False
+        done(answer)
+        return out.decode("ascii")

@@ -1,0 +1,52 @@
+//! texts COMMAND [FATES] < FILE: what the crate makes of the bytes; a fault on standard error, as `usbdesc` says it.
+use nozzlegorse::{Fault, Options, Speed, build, check, descriptors, enumerate, explain, show, with_strings};
+use std::io::{Read, Write, stdin, stdout};
+
+fn walk(bytes: &[u8]) -> String {
+    let line = |it: nozzlegorse::Descriptor| {
+        let (class, subclass, protocol) = it.codes();
+        let (role, owner, part) = (it.role() as u8, it.owner().map_or(0, |it| it as u8), it.part() as u8);
+        let (place, length, depth, set, setting) = (it.place(), it.bytes().len(), it.depth(), it.set(), it.setting());
+        let (endpoint, interface, alternate, language, index) =
+            (it.endpoint_number(), it.interface(), it.alternate(), it.language(), it.index());
+        let field = |f: nozzlegorse::Field| format!(" {}={}+{}:{}", f.name(), f.place(), f.width(), f.value());
+        let fields: String = it.fields().map(field).collect();
+        format!("{place} {length} {role} {depth} {owner} {part} {set} {setting} {endpoint} {interface} {alternate} ")
+            + &format!("{class} {subclass} {protocol} {language} {index}{fields}\n")
+    };
+    descriptors(bytes).map(line).collect()
+}
+
+fn made(command: &str, fates: &str, bytes: &[u8]) -> Result<Vec<u8>, Fault> {
+    let how = Options {
+        brief: command == "brief",
+        no_places: command == "noplaces",
+        utf8: command == "utf8",
+        speed: (command == "high").then_some(Speed::High),
+    };
+    Ok(match command {
+        "show-" => show(bytes)?.into(),
+        "check" => check(bytes)?.iter().map(|it| format!("{it}\n")).collect::<String>().into(),
+        "build" | "build-" => build(bytes, command == "build-")?,
+        "with_strings" => with_strings(bytes)?,
+        "walk" => walk(bytes).into(),
+        "enumerate" => {
+            let it = enumerate(bytes, Speed::Full, 16, 3, fates.as_bytes())?;
+            format!("{it}\n{}", it.read.as_deref().unwrap_or("")).into()
+        }
+        _ => {
+            let (text, fault) = explain(bytes, how);
+            stdout().write_all(text.as_bytes()).unwrap();
+            return fault.map_or(Ok(Vec::new()), Err);
+        }
+    })
+}
+
+fn main() {
+    let (mut words, mut bytes) = (std::env::args().skip(1), Vec::new());
+    stdin().read_to_end(&mut bytes).unwrap();
+    match made(&words.next().unwrap(), &words.next().unwrap_or_default(), &bytes) {
+        Ok(text) => stdout().write_all(&text).unwrap(),
+        Err(fault) => eprintln!("{fault}"),
+    }
+}

@@ -1,0 +1,279 @@
+//! Both ends of endpoint zero, transaction by transaction, and a set in pieces.
+use crate::fault::{Fault, Kind, Step, done};
+use crate::sys::{self, nzg_packet, nzg_setup, nzg_state, nzg_step, nzg_transaction, nzg_trouble};
+use crate::{Speed, into, text_of};
+
+/// The data toggle of a packet.
+#[derive(Clone, Copy, Debug, PartialEq, Eq, Hash)]
+pub enum Toggle {
+    /// DATA0.
+    Data0,
+    /// DATA1.
+    Data1,
+}
+
+impl Toggle {
+    fn of(number: u8) -> Toggle {
+        if number == 0 { Toggle::Data0 } else { Toggle::Data1 }
+    }
+}
+
+/// What a transaction is.
+#[derive(Clone, Copy, Debug, PartialEq, Eq, Hash)]
+pub enum Stage<'a> {
+    /// SETUP with a request.
+    Setup([u8; 8]),
+    /// IN.
+    In,
+    /// OUT with data.
+    Out(Toggle, &'a [u8]),
+}
+
+/// What a host sends.
+#[derive(Clone, Copy, Debug, PartialEq, Eq, Hash)]
+pub struct Transaction<'a> {
+    /// To which address.
+    pub address: u8,
+    /// What it is.
+    pub stage: Stage<'a>,
+}
+
+impl Transaction<'_> {
+    fn numbers(&self) -> (nzg_transaction, &[u8]) {
+        let (stage, toggle, setup, data): (u8, u8, [u8; 8], &[u8]) = match self.stage {
+            Stage::Setup(setup) => (0, 0, setup, &[]),
+            Stage::In => (1, 0, [0; 8], &[]),
+            Stage::Out(toggle, data) => (2, toggle as u8, [0; 8], data),
+        };
+        (nzg_transaction { address: self.address, stage, toggle, setup }, data)
+    }
+
+    fn due(it: nzg_transaction) -> Transaction<'static> {
+        let stage = match it.stage {
+            0 => Stage::Setup(it.setup),
+            1 => Stage::In,
+            _ => Stage::Out(Toggle::of(it.toggle), &[]),
+        };
+        Transaction { address: it.address, stage }
+    }
+}
+
+/// What comes back of a transaction.
+#[derive(Clone, Debug, PartialEq, Eq, Hash)]
+pub enum Reply {
+    /// ACK.
+    Ack,
+    /// NAK.
+    Nak,
+    /// STALL.
+    Stall,
+    /// A data packet.
+    Data(Toggle, Vec<u8>),
+    /// Nothing.
+    Silence,
+}
+
+impl Reply {
+    fn numbers(&self) -> (u8, u8, &[u8]) {
+        match self {
+            Reply::Ack => (0, 0, &[]),
+            Reply::Nak => (1, 0, &[]),
+            Reply::Stall => (2, 0, &[]),
+            Reply::Data(toggle, data) => (3, *toggle as u8, data),
+            Reply::Silence => (4, 0, &[]),
+        }
+    }
+}
+
+// Each handle is closed by the library when it is dropped. The raw pointer in it makes it neither `Send` nor `Sync`.
+macro_rules! handles {
+    ($($(#[$words:meta])* $name:ident $of:ident $close:ident)*) => {$(
+        $(#[$words])*
+        #[derive(Debug)]
+        pub struct $name(sys::$of);
+
+        impl Drop for $name {
+            fn drop(&mut self) {
+                unsafe { sys::$close(&mut self.0) }
+            }
+        }
+    )*};
+}
+
+handles! {
+    /// A device with the descriptors of a file. It is neither `Clone` nor `Send`.
+    Device nzg_device nzg_device_close
+    /// One control transfer at the host's end. It is neither `Clone` nor `Send`.
+    Transfer nzg_transfer nzg_transfer_close
+    /// A host that enumerates one device. It is neither `Clone` nor `Send`.
+    Host nzg_host nzg_host_close
+    /// A set that comes in pieces. It is neither `Clone` nor `Send`.
+    Decoder nzg_decoder nzg_decoder_close
+}
+
+/// What a device keeps.
+#[derive(Clone, Copy, Debug, PartialEq, Eq)]
+pub struct State {
+    /// Its address.
+    pub address: u8,
+    /// bConfigurationValue of its configuration, or 0.
+    pub selected: u8,
+    /// Whether remote wakeup is enabled.
+    pub wakeup: bool,
+    /// The endpoints that are halted, a bit each.
+    pub halts: u32,
+    /// The alternate setting of each interface, by its number.
+    pub alternates: [u8; 256],
+}
+
+impl Device {
+    /// A device with the descriptors of a file, at a speed.
+    pub fn open(file: &[u8], speed: Speed) -> Result<Device, Fault> {
+        let mut device = Device(sys::nzg_device::default());
+        done(unsafe { sys::nzg_device_open(&mut device.0, file.as_ptr(), file.len(), speed as u8) })?;
+        Ok(device)
+    }
+    /// The bus is reset.
+    pub fn reset(&mut self) {
+        unsafe { sys::nzg_device_reset(&mut self.0) };
+    }
+    /// What comes back of a transaction; NAK to IN and OUT where the device isn't ready.
+    pub fn serve(&mut self, transaction: &Transaction<'_>, ready: bool) -> Reply {
+        let ((transaction, data), mut it) = (transaction.numbers(), nzg_packet::default());
+        unsafe { sys::nzg_device_serve(&mut self.0, &transaction, data.as_ptr(), data.len(), ready, &mut it) };
+        match it.reply {
+            0 => Reply::Ack,
+            1 => Reply::Nak,
+            2 => Reply::Stall,
+            3 => Reply::Data(Toggle::of(it.toggle), it.data[..it.length.into()].to_vec()),
+            _ => Reply::Silence,
+        }
+    }
+    /// The host acknowledged the data that was answered right before.
+    pub fn acked(&mut self) {
+        unsafe { sys::nzg_device_acked(&mut self.0) };
+    }
+    /// The request that is refused, before the host is told.
+    pub fn refused(&mut self) -> Option<[u8; 8]> {
+        let mut setup = nzg_setup::default();
+        unsafe { sys::nzg_device_refused(&mut self.0, &mut setup) }.then_some(setup.bytes)
+    }
+    /// Answers the refused request with these bytes.
+    pub fn answer_with(&mut self, bytes: &[u8]) -> Result<(), Fault> {
+        done(unsafe { sys::nzg_device_answer_with(&mut self.0, bytes.as_ptr(), bytes.len()) }).map(|_| ())
+    }
+    /// Accepts the refused request, which has no data stage.
+    pub fn accept(&mut self) -> Result<(), Fault> {
+        done(unsafe { sys::nzg_device_accept(&mut self.0) }).map(|_| ())
+    }
+    /// The request that was carried out just now.
+    pub fn carried_out(&mut self) -> Option<[u8; 8]> {
+        let mut setup = nzg_setup::default();
+        unsafe { sys::nzg_device_carried_out(&mut self.0, &mut setup) }.then_some(setup.bytes)
+    }
+    /// What the device keeps.
+    pub fn state(&mut self) -> State {
+        let mut it = nzg_state::default();
+        unsafe { sys::nzg_device_state(&mut self.0, &mut it) };
+        State { address: it.address, selected: it.selected, wakeup: it.wakeup, halts: it.halts, alternates: it.alternates }
+    }
+}
+
+impl Transfer {
+    /// The transfer of a request to a device whose bMaxPacketSize0 is `packet`; `naks` NAKs in a row are taken.
+    pub fn open(request: [u8; 8], address: u8, packet: u8, naks: u16) -> Result<Transfer, Fault> {
+        let mut transfer = Transfer(sys::nzg_transfer::default());
+        done(unsafe { sys::nzg_transfer_open(&mut transfer.0, address, packet, naks, &nzg_setup { bytes: request }) })?;
+        Ok(transfer)
+    }
+    /// The transaction that is due; `None` once it has ended.
+    pub fn due(&mut self) -> Option<Transaction<'static>> {
+        let mut due = nzg_transaction::default();
+        unsafe { sys::nzg_transfer_next(&mut self.0, &mut due) }.then(|| Transaction::due(due))
+    }
+    /// Takes what came back: whether the transfer is complete, and how many bytes of the reply are new.
+    pub fn take(&mut self, reply: &Reply) -> Result<(bool, usize), Fault> {
+        let (number, toggle, data) = reply.numbers();
+        let answer = done(unsafe { sys::nzg_transfer_take(&mut self.0, number, toggle, data.as_ptr(), data.len()) })?;
+        Ok((answer.status == 0, answer.length))
+    }
+}
+
+/// What a host does next.
+#[derive(Clone, Debug, PartialEq, Eq)]
+pub enum Action {
+    /// It resets the bus.
+    Reset,
+    /// It sends a transaction.
+    Send(Transaction<'static>),
+    /// Nothing: it has ended.
+    Ended,
+}
+
+impl Host {
+    /// A host that gives this address, takes `naks` NAKs in a row and begins at most so often.
+    pub fn open(address: u8, naks: u16, attempts: u8, speed: Speed) -> Result<Host, Fault> {
+        let mut host = Host(sys::nzg_host::default());
+        done(unsafe { sys::nzg_host_open(&mut host.0, address, naks, attempts, speed as u8) })?;
+        Ok(host)
+    }
+    /// What it does next.
+    pub fn due(&mut self) -> Action {
+        let mut due = nzg_transaction::default();
+        match unsafe { sys::nzg_host_next(&mut self.0, &mut due) } {
+            0 => Action::Reset,
+            1 => Action::Send(Transaction::due(due)),
+            _ => Action::Ended,
+        }
+    }
+    /// The bus was reset.
+    pub fn reset_done(&mut self) {
+        unsafe { sys::nzg_host_reset_done(&mut self.0) };
+    }
+    /// Takes what came back of the transaction that is due.
+    pub fn take(&mut self, reply: &Reply) {
+        let (number, toggle, data) = reply.numbers();
+        unsafe { sys::nzg_host_take(&mut self.0, number, toggle, data.as_ptr(), data.len()) };
+    }
+    /// What is in work.
+    pub fn step(&mut self) -> Option<Step> {
+        let mut it = nzg_step::default();
+        unsafe { sys::nzg_host_step(&mut self.0, &mut it) }.then(|| Step::of(it.step, it.index, it.language))?
+    }
+    /// How often it began.
+    pub fn attempts(&mut self) -> u8 {
+        unsafe { sys::nzg_host_attempts(&mut self.0) }
+    }
+    /// The bytes of the file that was read, `None` before the end, or the trouble and its step.
+    pub fn outcome(&mut self) -> Result<Option<Vec<u8>>, Fault> {
+        let mut it = nzg_trouble::default();
+        let (answer, out) = into(|out, room| unsafe { sys::nzg_host_outcome(&mut self.0, &mut it, out, room) });
+        match done(answer) {
+            Ok(answer) => Ok((answer.status == 0).then_some(out)),
+            Err(fault) if fault.kind == Kind::Trouble => Err(Fault { step: Step::of(it.step, it.index, it.language), ..fault }),
+            Err(fault) => Err(fault),
+        }
+    }
+}
+
+impl Decoder {
+    /// A decoder to which nothing has been fed.
+    pub fn open() -> Result<Decoder, Fault> {
+        let mut decoder = Decoder(sys::nzg_decoder::default());
+        done(unsafe { sys::nzg_decoder_open(&mut decoder.0) })?;
+        Ok(decoder)
+    }
+    /// Whether the set is whole, and how many bytes of the piece it took.
+    pub fn feed(&mut self, piece: &[u8]) -> Result<(bool, usize), Fault> {
+        let answer = done(unsafe { sys::nzg_decoder_feed(&mut self.0, piece.as_ptr(), piece.len()) })?;
+        Ok((answer.status == 0, answer.length))
+    }
+    /// The listing of the set.
+    pub fn list(mut self) -> Result<String, Fault> {
+        // The call closes the decoder, so the room is what the longest set wants.
+        let mut out = vec![0u8; 1 << 20];
+        let answer = unsafe { sys::nzg_decoder_list(&mut self.0, out.as_mut_ptr(), out.len()) };
+        out.truncate(answer.length);
+        text_of((answer, out))
+    }
+}

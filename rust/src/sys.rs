@@ -1,0 +1,94 @@
+//! The declarations of `nozzlegorse.h`.
+#![allow(non_camel_case_types)]
+use std::ffi::c_void;
+
+macro_rules! structs {
+    ($($name:ident { $($kind:ty: $($field:ident)*;)* })*) => {$(
+        #[repr(C)]
+        #[derive(Clone, Copy, Debug)]
+        pub struct $name { $($(pub $field: $kind,)*)* }
+
+        impl Default for $name {
+            fn default() -> $name {
+                // SAFETY: numbers, flags and pointers may be zeros.
+                unsafe { std::mem::zeroed() }
+            }
+        }
+    )*};
+}
+
+structs! {
+    nzg_answer { u32: status number; usize: place length; }
+    nzg_outcome { u64: transactions; u8: attempts address selected step index; u16: language; }
+    nzg_descriptor {
+        usize: place set_end languages_place strings main_sets other_sets set associations setting settings endpoint_number endpoints;
+        [u64; 4]: named;
+        u16: language;
+        u8: length r#type role owner depth part interface_ alternate class_ subclass protocol endpoint index;
+        bool: has_device has_languages;
+    }
+    nzg_field { usize: place; u64: value; u8: width name_length; [u8; 62]: name; }
+    nzg_finding { usize: place set setting endpoint; u8: rule part role; }
+    nzg_transaction { u8: address stage toggle; [u8; 8]: setup; }
+    nzg_packet { u8: reply toggle length; [u8; 64]: data; }
+    nzg_setup { [u8; 8]: bytes; }
+    nzg_state { u32: halts; u8: address selected; bool: wakeup; [u8; 256]: alternates; }
+    nzg_trouble { u8: why step index; u16: language; }
+    nzg_step { u16: naks kept language; u8: step index strikes; [u8; 8]: setup; }
+    nzg_device { *mut c_void: held; }
+    nzg_transfer { *mut c_void: held; }
+    nzg_host { *mut c_void: held; }
+    nzg_decoder { *mut c_void: held; }
+}
+
+unsafe extern "C" {
+    pub fn nzg_show(bytes: *const u8, len: usize, any: bool, text: *mut u8, room: usize) -> nzg_answer;
+    pub fn nzg_explain(bytes: *const u8, len: usize, options: u32, speed: u8, text: *mut u8, room: usize) -> nzg_answer;
+    pub fn nzg_build(text: *const u8, len: usize, comments: bool, bytes: *mut u8, room: usize) -> nzg_answer;
+    pub fn nzg_enumerate(
+        bytes: *const u8, len: usize, speed: u8, naks: u16, attempts: u8, fates: *const u8, fates_len: usize,
+        outcome: *mut nzg_outcome, text: *mut u8, room: usize,
+    ) -> nzg_answer;
+    pub fn nzg_next(bytes: *const u8, len: usize, descriptor: *mut nzg_descriptor) -> bool;
+    pub fn nzg_field(bytes: *const u8, len: usize, descriptor: *const nzg_descriptor, n: usize, field: *mut nzg_field) -> bool;
+    pub fn nzg_judge(bytes: *const u8, len: usize) -> nzg_answer;
+    pub fn nzg_findings(bytes: *const u8, len: usize, found: *mut nzg_finding, room: usize) -> nzg_answer;
+    pub fn nzg_rule(rule: u8, text: *mut u8, room: usize) -> nzg_answer;
+    pub fn nzg_text(bytes: *const u8, len: usize, string: *const nzg_descriptor, text: *mut u8, room: usize) -> nzg_answer;
+    pub fn nzg_with_strings(dump: *const u8, len: usize, file: *mut u8, room: usize) -> nzg_answer;
+    pub fn nzg_device_open(device: *mut nzg_device, file: *const u8, len: usize, speed: u8) -> nzg_answer;
+    pub fn nzg_device_reset(device: *mut nzg_device) -> bool;
+    pub fn nzg_device_serve(
+        device: *mut nzg_device, transaction: *const nzg_transaction, data: *const u8, len: usize, ready: bool,
+        packet: *mut nzg_packet,
+    ) -> bool;
+    pub fn nzg_device_acked(device: *mut nzg_device) -> bool;
+    pub fn nzg_device_refused(device: *mut nzg_device, setup: *mut nzg_setup) -> bool;
+    pub fn nzg_device_answer_with(device: *mut nzg_device, bytes: *const u8, len: usize) -> nzg_answer;
+    pub fn nzg_device_accept(device: *mut nzg_device) -> nzg_answer;
+    pub fn nzg_device_carried_out(device: *mut nzg_device, setup: *mut nzg_setup) -> bool;
+    pub fn nzg_device_state(device: *mut nzg_device, state: *mut nzg_state) -> bool;
+    pub fn nzg_device_close(device: *mut nzg_device);
+    pub fn nzg_judge_device(
+        device: *mut nzg_device, request: *const nzg_setup, transaction: *const nzg_transaction, data: *const u8, len: usize,
+        came: *const nzg_packet, has: *mut nzg_packet,
+    ) -> u8;
+    pub fn nzg_transfer_open(
+        transfer: *mut nzg_transfer, address: u8, packet: u8, naks: u16, setup: *const nzg_setup,
+    ) -> nzg_answer;
+    pub fn nzg_transfer_next(transfer: *mut nzg_transfer, transaction: *mut nzg_transaction) -> bool;
+    pub fn nzg_transfer_take(transfer: *mut nzg_transfer, reply: u8, toggle: u8, data: *const u8, len: usize) -> nzg_answer;
+    pub fn nzg_transfer_close(transfer: *mut nzg_transfer);
+    pub fn nzg_host_open(host: *mut nzg_host, address: u8, naks: u16, attempts: u8, speed: u8) -> nzg_answer;
+    pub fn nzg_host_next(host: *mut nzg_host, transaction: *mut nzg_transaction) -> u8;
+    pub fn nzg_host_reset_done(host: *mut nzg_host) -> bool;
+    pub fn nzg_host_take(host: *mut nzg_host, reply: u8, toggle: u8, data: *const u8, len: usize) -> bool;
+    pub fn nzg_host_step(host: *mut nzg_host, step: *mut nzg_step) -> bool;
+    pub fn nzg_host_attempts(host: *mut nzg_host) -> u8;
+    pub fn nzg_host_outcome(host: *mut nzg_host, trouble: *mut nzg_trouble, file: *mut u8, room: usize) -> nzg_answer;
+    pub fn nzg_host_close(host: *mut nzg_host);
+    pub fn nzg_decoder_open(decoder: *mut nzg_decoder) -> nzg_answer;
+    pub fn nzg_decoder_feed(decoder: *mut nzg_decoder, piece: *const u8, len: usize) -> nzg_answer;
+    pub fn nzg_decoder_list(decoder: *mut nzg_decoder, text: *mut u8, room: usize) -> nzg_answer;
+    pub fn nzg_decoder_close(decoder: *mut nzg_decoder);
+}

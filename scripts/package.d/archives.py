@@ -1,0 +1,165 @@
+"""The packages: what lies where in each, and their bytes. Files are given by their paths, each with its content, or the
+target of a link as text, and its mode."""
+
+import base64
+import glob
+import gzip
+import hashlib
+import io
+import os
+import re
+import tarfile
+import time
+import zipfile
+from typing import NamedTuple
+
+import pages
+from playing.built import ROOT, TARGET
+
+SUMMARY = "USB 2.0 descriptors, and both ends of the control pipe, by a proved library"
+# Python's installers know of no glibc before this one.
+WHEEL = "py3-none-manylinux_2_17_x86_64"
+CONFIG = """prefix={prefix}
+libdir=${{prefix}}/{libdir}
+includedir=${{prefix}}/include
+
+Name: nozzlegorse
+Description: {summary}
+Version: {version}
+Libs: -L${{libdir}} -lnozzlegorse
+Cflags: -I${{includedir}}
+"""
+CONTROL = """Package: nozzlegorse
+Version: {version}
+Architecture: amd64
+Maintainer: the Nozzlegorse authors
+Installed-Size: {size}
+Depends: libc6 (>= 2.14)
+Section: utils
+Priority: optional
+Description: {summary}
+ The program usbdesc, and the library for C with header, archive and pkg-config.
+"""
+METADATA = """Metadata-Version: 2.1
+Name: nozzlegorse
+Version: {version}
+Summary: {summary}
+License: MIT
+Requires-Python: >=3.10
+"""
+
+
+class Made(NamedTuple):
+    """What is packed: its version, the folder that it was built in, the program's help, and the time that files get."""
+
+    version: str
+    room: str
+    help: pages.Help
+    epoch: int
+
+
+def read(path):
+    with open(path, "rb") as it:
+        return it.read()
+
+
+def man(made):
+    return pages.man(made.help, made.version, made.epoch).encode()
+
+
+def with_version(path, made):
+    """A source that says the version says that of the package."""
+    mark = rb'^((?:__version__|version) = ").*"$'
+    return re.sub(mark, rb'\g<1>' + made.version.encode() + b'"', read(path), count=1, flags=re.M)
+
+
+def python_module():
+    return [*sorted(glob.glob(f"{ROOT}/python/nozzlegorse/*.py")), *glob.glob(f"{ROOT}/python/nozzlegorse/py.typed")]
+
+
+def rust_crate():
+    return [it for kind in ("Cargo.toml", "build.rs", "src/*.rs", "examples/*.rs") for it in sorted(glob.glob(f"{ROOT}/rust/{kind}"))]
+
+
+def installed(made, libdir, prefix):
+    """The program and the library as a system has them, below its prefix."""
+    plain, release = f"{libdir}/libnozzlegorse", made.version.partition("+")[0]
+    major = f"libnozzlegorse.so.{release.partition('.')[0]}"
+    config = CONFIG.format(prefix=prefix, libdir=libdir, summary=SUMMARY, version=made.version)
+    return {
+        "bin/usbdesc": (read(f"{made.room}/usbdesc"), 0o755),
+        f"{plain}.a": (read(f"{made.room}/libnozzlegorse.a"), 0o644),
+        f"{plain}.so.{release}": (read(f"{made.room}/libnozzlegorse.so"), 0o644),
+        f"{libdir}/{major}": (f"libnozzlegorse.so.{release}", 0o777),
+        f"{plain}.so": (major, 0o777),
+        f"{libdir}/pkgconfig/nozzlegorse.pc": (config.encode(), 0o644),
+        "include/nozzlegorse.h": (read(f"{made.room}/nozzlegorse.h"), 0o644),
+        "share/man/man1/usbdesc.1.gz": (gzip.compress(man(made), 9, mtime=0), 0o644),
+        "share/bash-completion/completions/usbdesc": (pages.bash(made.help).encode(), 0o644),
+        "share/zsh/vendor-completions/_usbdesc": (pages.zsh(made.help).encode(), 0o644),
+        "share/fish/vendor_completions.d/usbdesc.fish": (pages.fish(made.help).encode(), 0o644),
+        "share/doc/nozzlegorse/copyright": (read(f"{ROOT}/LICENSE"), 0o644),
+    }
+
+
+def packed(files, epoch):
+    """A tar.gz of the files, after the folders that they lie in."""
+    whole = io.BytesIO()
+    folders = {path[:at] for path in files for at in range(len(path)) if path[at] == "/"}
+    with tarfile.open(fileobj=whole, mode="w", format=tarfile.USTAR_FORMAT) as archive:
+        for path in sorted(folders | set(files)):
+            content, mode = files.get(path, (b"", 0o755))
+            row = tarfile.TarInfo(path)
+            row.mode, row.mtime, row.uname, row.gname = mode, epoch, "root", "root"
+            row.type = tarfile.DIRTYPE if path in folders else tarfile.SYMTYPE if isinstance(content, str) else tarfile.REGTYPE
+            row.linkname, content = (content, b"") if isinstance(content, str) else ("", content)
+            row.size = len(content)
+            archive.addfile(row, io.BytesIO(content))
+    return gzip.compress(whole.getvalue(), 9, mtime=epoch)
+
+
+def plain(made):
+    top = f"nozzlegorse-{made.version}-linux-x86_64"
+    files = installed(made, "lib", "${pcfiledir}/../..")
+    return f"{top}.tar.gz", packed({f"{top}/{path}": it for path, it in files.items()}, made.epoch)
+
+
+def crate(made):
+    top = f"nozzlegorse-{made.version}"
+    files = {os.path.relpath(it, f"{ROOT}/rust"): (with_version(it, made), 0o644) for it in rust_crate()}
+    files[f"lib/{TARGET}/libnozzlegorse.a"] = read(f"{made.room}/libnozzlegorse.a"), 0o644
+    files["LICENSE"] = read(f"{ROOT}/LICENSE"), 0o644
+    return f"{top}.crate", packed({f"{top}/{path}": it for path, it in files.items()}, made.epoch)
+
+
+def debian(made):
+    """An archive of ar with three members, each at an even place."""
+    files = {f"./usr/{path}": it for path, it in installed(made, f"lib/{TARGET.replace('-unknown', '')}", "/usr").items()}
+    size = sum(len(content) for content, _ in files.values()) // 1024
+    control = CONTROL.format(version=made.version, size=size, summary=SUMMARY).encode()
+    about = {"./control": (control, 0o644), "./triggers": (b"activate-noawait ldconfig\n", 0o644)}
+    whole = b"!<arch>\n"
+    for name, data in (("debian-binary", b"2.0\n"), ("control.tar.gz", packed(about, made.epoch)), ("data.tar.gz", packed(files, made.epoch))):
+        whole += f"{name:<16}{made.epoch:<12}{0:<6}{0:<6}{'100644':<8}{len(data):<10}`\n".encode() + data + b"\n" * (len(data) % 2)
+    return f"nozzlegorse_{made.version}_amd64.deb", whole
+
+
+def wheel(made):
+    name = f"nozzlegorse-{made.version}"
+    info = f"{name}.dist-info"
+    files = {f"nozzlegorse/{os.path.basename(it)}": (with_version(it, made), 0o644) for it in python_module()}
+    files["nozzlegorse/libnozzlegorse.so"] = read(f"{made.room}/libnozzlegorse.so"), 0o644
+    files[f"{name}.data/scripts/usbdesc"] = read(f"{made.room}/usbdesc"), 0o755
+    files[f"{info}/METADATA"] = METADATA.format(version=made.version, summary=SUMMARY).encode(), 0o644
+    files[f"{info}/WHEEL"] = f"Wheel-Version: 1.0\nGenerator: nozzlegorse\nRoot-Is-Purelib: false\nTag: {WHEEL}\n".encode(), 0o644
+    files[f"{info}/LICENSE"] = read(f"{ROOT}/LICENSE"), 0o644
+    digests = {path: base64.urlsafe_b64encode(hashlib.sha256(data).digest()).rstrip(b"=").decode() for path, (data, _) in files.items()}
+    record = "".join(f"{path},sha256={digest},{len(files[path][0])}\n" for path, digest in digests.items())
+    files[f"{info}/RECORD"] = f"{record}{info}/RECORD,,\n".encode(), 0o644
+    whole = io.BytesIO()
+    with zipfile.ZipFile(whole, "w", zipfile.ZIP_DEFLATED) as archive:
+        for path, (data, mode) in files.items():
+            row = zipfile.ZipInfo(path, time.gmtime(made.epoch)[:6])
+            row.external_attr, row.compress_type = (0o100000 | mode) << 16, zipfile.ZIP_DEFLATED
+            archive.writestr(row, data)
+    return f"{name}-{WHEEL}.whl", whole.getvalue()

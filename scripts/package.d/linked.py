@@ -1,0 +1,49 @@
+"""The libraries and the program, linked so that they ask for nothing newer than glibc 2.14. The linker is the kit's."""
+
+import glob
+import os
+import re
+
+from playing.built import AR, CLANG, KIT, LLD, ROOT, fail, run
+
+HERE = os.path.dirname(os.path.abspath(__file__))
+HEADER = f"{ROOT}/include/nozzlegorse.h"
+OLDEST = (2, 14)
+LIBC = f"{KIT}/toolchain/lib/libc.so.6"
+HARDENED = ["--gc-sections", "-z", "relro", "-z", "now", "-z", "noexecstack", "-s", "--build-id=sha1"]
+
+
+def glibc(path):
+    """The newest version of glibc that a file asks for. One past the bound ends the script."""
+    with open(path, "rb") as it:
+        newest = max(((int(a), int(b)) for a, b in re.findall(rb"GLIBC_(\d+)\.(\d+)", it.read())), default=(2, 2))
+    if newest > OLDEST:
+        fail(f"{os.path.basename(path)} asks for glibc {newest[0]}.{newest[1]}, and not at most {OLDEST[0]}.{OLDEST[1]}")
+    return newest
+
+
+def objects_of(archive, room):
+    os.makedirs(f"{room}/objects")
+    run(AR, "x", archive, cwd=f"{room}/objects")
+    return sorted(glob.glob(f"{room}/objects/*.o"))
+
+
+def libraries(objects, version, out):
+    """libnozzlegorse.a, with the functions for memory as a member of their own, and libnozzlegorse.so with the exports alone."""
+    name, major = f"{out}/libnozzlegorse", version.split(".")[0]
+    run(CLANG, "--no-default-config", "-O2", "-fPIC", "-Wall", "-Wextra", "-Werror", "-I", f"{ROOT}/callers/c/plain", "-I", os.path.dirname(HEADER),
+        "-c", f"{HERE}/memory.c", "-o", f"{out}/memory.o")
+    run(AR, "rcsD", f"{name}.a", *objects, f"{out}/memory.o")
+    with open(f"{out}/exports", "w", encoding="ascii") as it:
+        it.write("{ global: nzg_*; local: *; };\n")
+    run(LLD, "-shared", *HARDENED, "-soname", f"libnozzlegorse.so.{major}", "--version-script", f"{out}/exports", *objects, f"{out}/memory.o", LIBC, "-o", f"{name}.so")
+    for made in ("memory.o", "exports"):
+        os.remove(f"{out}/{made}")
+
+
+def program(made, out):
+    """usbdesc of its object, with a start of its own: that of the kit asks for glibc 2.34."""
+    run(CLANG, "--no-default-config", "-c", f"{HERE}/start.S", "-o", f"{out}/start.o")
+    run(LLD, "-pie", *HARDENED, "-dynamic-linker", "/lib64/ld-linux-x86-64.so.2", f"{out}/start.o", made,
+        f"{KIT}/c/libos_c.a", f"{KIT}/c/liblibc_c.a", LIBC, "-o", f"{out}/usbdesc")
+    os.remove(f"{out}/start.o")
