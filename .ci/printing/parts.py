@@ -4,7 +4,7 @@ import glob
 import os
 import re
 
-from . import definitions, drawing, files, measured, promises, reach, rules, sources
+from . import definitions, drawing, files, measured, promises, reach, rules, sources, variants
 
 PART = re.compile(r"(<!-- printed: (\w+)([^>]*?) -->\n)(.*?)(<!-- end -->)", flags=re.S)
 
@@ -73,6 +73,7 @@ KINDS = {
     "excerpt": of_excerpt,
     "help": of_help,
     "rules": rules.printed,
+    "variants": variants.printed,
     "row": of_row,
     "output": of_output,
     "counts": of_counts,
