@@ -4,7 +4,7 @@ import glob
 import os
 import re
 
-from . import definitions, drawing, files, measured, promises, reach, rules, sources, variants
+from . import definitions, drawing, fields, files, measured, promises, reach, rules, sources, variants
 
 PART = re.compile(r"(<!-- printed: (\w+)([^>]*?) -->\n)(.*?)(<!-- end -->)", flags=re.S)
 
@@ -73,7 +73,9 @@ KINDS = {
     "excerpt": of_excerpt,
     "help": of_help,
     "rules": rules.printed,
+    "fields": fields.printed,
     "variants": variants.printed,
+    "lines": variants.lines,
     "row": of_row,
     "output": of_output,
     "counts": of_counts,
