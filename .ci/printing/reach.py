@@ -79,7 +79,7 @@ def contract(call):
     crate, *owner, name = call.split("::")
     head = rf"^impl(?:<[^{{]*?>)? {owner[-1]}\b.*?" if owner and owner[-1][0].isupper() else ""
     for path in sources.code(crate):
-        found = re.search(rf"{head}(^ *pub fn {name}\b.*?)^ *\{{(?:\}})?$", sources.text_of(path), flags=re.S | re.M)
+        found = re.search(rf'{head}(^ *pub (?:extern "C" )?fn {name}\b.*?)^ *\{{(?:\}})?$', sources.text_of(path), flags=re.S | re.M)
         if found:
             return path, textwrap.dedent(found[1].rstrip())
     raise SystemExit(f"no public function {call}")
@@ -104,8 +104,10 @@ def reached(call):
         if path not in files:
             files[path] = File(path)
         file = files[path]
-        owner = file.owner.get(name)
-        if owner and owner not in found.setdefault(path, set()):
+        if name not in file.owner:
+            raise SystemExit(f"{path} has no definition {name}")
+        owner = file.owner[name]
+        if owner not in found.setdefault(path, set()):
             found[path].add(owner)
             left += file.named("\n".join(file.lines[owner]), path)
-    return {path: files[path].excerpt(names) for path, names in found.items() if names}
+    return {path: files[path].excerpt(names) for path, names in found.items()}
