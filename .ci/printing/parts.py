@@ -4,13 +4,13 @@ import glob
 import os
 import re
 
-from . import definitions, drawing, files, measured, promises, sources
+from . import definitions, drawing, fields, files, measured, promises, reach, rules, sources, variants
 
 PART = re.compile(r"(<!-- printed: (\w+)([^>]*?) -->\n)(.*?)(<!-- end -->)", flags=re.S)
 
 
 def documents():
-    return ["README.md", "CONTRIBUTING.md", *sorted(glob.glob("docs/*.md"))]
+    return ["README.md", "CONTRIBUTING.md", "CHANGELOG.md", *sorted(glob.glob("docs/*.md"))]
 
 
 def fenced(lines, language=""):
@@ -23,13 +23,22 @@ def of_file(path, most=None):
     return fenced(lines[: int(most)] if most else lines, "rs" if path.endswith(".rt") else "")
 
 
-def of_programs(crate, *names):
-    """Programs that a crate of tests has and the gate runs, one file each; nothing where the crate has not all of them."""
-    paths = [f"crates/{crate}/src/{name}.rt" for name in names]
-    if not all(os.path.exists(path) for path in paths):
-        return ""
-    head = f"A driver, a firmware and a test bench, each a file of `crates/{crate}` that the gate proves and runs:"
-    return "\n\n".join([head, *(of_file(path) for path in paths)])
+def of_contract(call):
+    """The signature and the contract of a public function."""
+    return fenced(reach.contract(call)[1].splitlines(), "rs")
+
+
+def of_excerpt(name, *definitions_in_it):
+    """Some definitions of a file of definitions, each with its comment."""
+    lines = reach.File(f"crates/{name.replace('/', '/specs/')}.antt").lines
+    return fenced("\n\n".join("\n".join(lines[it]) for it in definitions_in_it).splitlines())
+
+
+def of_help(command, *names):
+    """Paragraphs of a command's help, by their first words, as the rows of the program want them."""
+    found = re.search(rf"^usbdesc {command} --help -> 0\n((?:>.*\n)+)", sources.text_of("examples/rows/program.txt"), flags=re.M)
+    paragraphs = re.sub("^> ?", "", found[1], flags=re.M).strip().split("\n\n")
+    return fenced("\n\n".join(it for name in names for it in paragraphs if it.startswith(name)).splitlines())
 
 
 def of_row(path, number, most=None):
@@ -57,9 +66,16 @@ def of_counts():
 KINDS = {
     "promises": promises.printed,
     "definitions": definitions.printed,
+    "text": definitions.text,
     "files": files.printed,
     "file": of_file,
-    "programs": of_programs,
+    "contract": of_contract,
+    "excerpt": of_excerpt,
+    "help": of_help,
+    "rules": rules.printed,
+    "fields": fields.printed,
+    "variants": variants.printed,
+    "lines": variants.lines,
     "row": of_row,
     "output": of_output,
     "counts": of_counts,

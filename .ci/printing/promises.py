@@ -92,16 +92,16 @@ def calls_of(crate, names):
                 above = []
 
 
-def printed(*crates):
-    """A table of each of these libraries, or of what users call of any."""
+def printed(*words):
+    """A table of each of these libraries, or of what users call of any. Of a module, as `usb_bus::laws`, a table alone."""
     parts = []
-    for crate in crates or sources.libraries():
-        calls = list(calls_of(crate, exported(crate)[0] if crates else for_users(crate)))
-        if not calls:
-            continue
-        rows = [f"### {crate}", "", "| Call | What is promised | Definitions |", "|---|---|---|"]
-        for name, said, definitions in calls:
-            words = said.replace("|", "\\|")
-            rows.append(f"| `{name}` | {words} | {', '.join(f'`{it}`' for it in definitions)} |")
-        parts.append("\n".join(rows))
+    for word in words or sources.libraries():
+        crate, _, module = word.partition("::")
+        rows = ["| Call | What is promised | Definitions |", "|---|---|---|"]
+        for name, said, definitions in calls_of(crate, exported(crate)[0] if words else for_users(crate)):
+            if name.startswith(module):
+                said = said.replace("|", "\\|")
+                rows.append(f"| `{name.removeprefix(f'{module}::')}` | {said} | {', '.join(f'`{it}`' for it in definitions)} |")
+        if len(rows) > 2:
+            parts.append("\n".join([*([] if module else [f"### {crate}", ""]), *rows]))
     return "\n\n".join(parts)

@@ -49,14 +49,18 @@ def first_sentence(path):
     return re.sub(r" \((?:USB 2\.0|ECN)[^)]*\)", "", sentence)
 
 
-def lines_of(path):
-    """The lines of a file, without blank ones and without imports, which may go over several lines."""
-    text = re.sub(r"^\s*(?:pub )?use [^{\n]*(?:\{[^}]*\}[^\n]*)?$", "", text_of(path), flags=re.M)
-    return sum(1 for line in text.splitlines() if line.strip())
+def without_imports(text):
+    """A text of definitions without its imports, which may go over several lines."""
+    return re.sub(r"^\s*(?:pub )?use [^{\n]*(?:\{[^}]*\}[^\n]*)?$", "", text, flags=re.M)
 
 
-def sections_of(path):
-    """The sections, tables and figures of USB 2.0 that the comments of a file of definitions name."""
-    comments = " ".join(re.findall(r"--.*", text_of(path)))
+def lines_of(text):
+    """How many lines a text has, without blank ones and without imports."""
+    return sum(1 for line in without_imports(text).splitlines() if line.strip())
+
+
+def sections_of(text):
+    """The sections, tables and figures of USB 2.0 that the comments of a text of definitions name."""
+    comments = " ".join(re.findall(r"--.*", text))
     found = set(re.findall(r"(?<![\w.])(?:[5-9]|1[01])\.\d+(?:\.\d+)*(?![\w.]*\d)", comments))
     return sorted(found, key=lambda section: [int(it) for it in section.split(".")])
