@@ -22,14 +22,18 @@ def glibc(path):
     return newest
 
 
-def objects_of(archive, room):
+def objects_of(made, room):
+    """The members of an archive, or the object that it is."""
+    if not made.endswith(".a"):
+        return [made]
     os.makedirs(f"{room}/objects")
-    run(AR, "x", archive, cwd=f"{room}/objects")
+    run(AR, "x", made, cwd=f"{room}/objects")
     return sorted(glob.glob(f"{room}/objects/*.o"))
 
 
-def libraries(objects, version, out):
+def libraries(made, version, out):
     """libnozzlegorse.a, with the functions for memory as a member of their own, and libnozzlegorse.so with the exports alone."""
+    objects = objects_of(made, out)
     name, major = f"{out}/libnozzlegorse", version.split(".")[0]
     run(CLANG, "--no-default-config", "-O2", "-fPIC", "-Wall", "-Wextra", "-Werror", "-I", f"{ROOT}/callers/c/plain", "-I", os.path.dirname(HEADER),
         "-c", f"{HERE}/memory.c", "-o", f"{out}/memory.o")
