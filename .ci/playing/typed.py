@@ -14,7 +14,7 @@ import nozzlegorse as usb
 from nozzlegorse import _library as c
 from nozzlegorse.faults import done
 
-EXAMPLES = os.path.join(os.path.dirname(os.path.abspath(__file__)), "../../examples")
+EXAMPLES = os.path.join(os.path.dirname(os.path.abspath(__file__)), "../../testdata")
 INPUTS = [it for kind in ("sets/*.bin", "files/*.file", "dumps/*.descriptors", "rules/*.file", "explain/*.bin", "explain/*.descriptors")
           for it in sorted(glob.glob(f"{EXAMPLES}/{kind}"))]
 OWNERS = ("configuration", "interface", "endpoint")

@@ -36,7 +36,7 @@ def of_excerpt(name, *definitions_in_it):
 
 def of_help(command, *names):
     """Paragraphs of a command's help, by their first words, as the rows of the program want them."""
-    found = re.search(rf"^usbdesc {command} --help -> 0\n((?:>.*\n)+)", sources.text_of("examples/rows/program.txt"), flags=re.M)
+    found = re.search(rf"^usbdesc {command} --help -> 0\n((?:>.*\n)+)", sources.text_of("testdata/rows/program.txt"), flags=re.M)
     paragraphs = re.sub("^> ?", "", found[1], flags=re.M).strip().split("\n\n")
     return fenced("\n\n".join(it for name in names for it in paragraphs if it.startswith(name)).splitlines())
 
@@ -49,17 +49,17 @@ def of_row(path, number, most=None):
 
 
 def of_output(name):
-    """What the program writes with options, as `examples/list` says it, with the line that is typed for it."""
-    found = re.search(rf"^output {re.escape(name)} 0 (\S+) (.*)$", sources.text_of("examples/list"), flags=re.M)
-    typed = f"$ (cd crates/usbdesc && rt try -- {found[2]} < ../../examples/{found[1]})"
-    return fenced([typed, *sources.text_of(f"examples/{name}").splitlines()], "console")
+    """What the program writes with options, as `testdata/list` says it, with the line that is typed for it."""
+    found = re.search(rf"^output {re.escape(name)} 0 (\S+) (.*)$", sources.text_of("testdata/list"), flags=re.M)
+    typed = f"$ (cd crates/usbdesc && rt try -- {found[2]} < ../../testdata/{found[1]})"
+    return fenced([typed, *sources.text_of(f"testdata/{name}").splitlines()], "console")
 
 
 def of_counts():
-    """How much `examples/list` names, by its kinds."""
+    """How much `testdata/list` names, by its kinds."""
     words = {"rows": "files of rows", "set": "sets", "file": "files", "dump": "dumps", "listing": "listings"}
     words |= {"commented": "listings with comments", "broken": "broken listings"}
-    kinds = re.findall(r"^(\w+) ", sources.text_of("examples/list"), flags=re.M)
+    kinds = re.findall(r"^(\w+) ", sources.text_of("testdata/list"), flags=re.M)
     return ", ".join(f"{kinds.count(kind)} {word}" for kind, word in words.items()) + "."
 
 

@@ -1,4 +1,4 @@
-//! Names of classes, class descriptors and their fields, terminals and bits: the tables below `examples/explain`, read once.
+//! Names of classes, class descriptors and their fields, terminals and bits: the tables below `testdata/explain`, read once.
 
 use std::sync::LazyLock;
 
@@ -40,10 +40,10 @@ struct Names {
 }
 
 static NAMES: LazyLock<Names> = LazyLock::new(|| {
-    let bits = read_bits(include_str!("../../../examples/explain/bits.txt"));
-    let rows = read_rows(include_str!("../../../examples/explain/descriptors.txt"), &bits);
-    let classes = read_classes(include_str!("../../../examples/explain/classes.txt"));
-    let terminals = read_terminals(include_str!("../../../examples/explain/terminals.txt"));
+    let bits = read_bits(include_str!("../../../testdata/explain/bits.txt"));
+    let rows = read_rows(include_str!("../../../testdata/explain/descriptors.txt"), &bits);
+    let classes = read_classes(include_str!("../../../testdata/explain/classes.txt"));
+    let terminals = read_terminals(include_str!("../../../testdata/explain/terminals.txt"));
     Names { classes, rows, terminals, bits }
 });
 

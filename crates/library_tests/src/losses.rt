@@ -9,7 +9,7 @@ use nozzlegorse::files::read_file;
 use nozzlegorse::host::{Transfer, Why};
 use std::alloc::Global;
 
-/// QEMU's hub, with packets of 8 bytes: `examples/files/qemu-usb-hub.file`.
+/// QEMU's hub, with packets of 8 bytes: `testdata/files/qemu-usb-hub.file`.
 const HUB: [u8; 127] = [
     0x12, 1, 0x10, 1, 9, 0, 0, 8, 9, 4, 0xaa, 0x55, 1, 1, 1, 2, 3, 1, 9, 2, 0x19, 0, 1, 1, 0, 0xe0,
     0, 9, 4, 0, 0, 1, 9, 0, 0, 0, 7, 5, 0x81, 3, 2, 0, 0xff, 4, 3, 9, 4, 0x0a, 3, 0x51, 0, 0x45, 0,

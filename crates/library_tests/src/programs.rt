@@ -7,7 +7,7 @@ use nozzlegorse::device::{Description, Device, DeviceStage};
 use nozzlegorse::files::read_file;
 use std::alloc::{AllocError, Global};
 
-/// QEMU's mouse: `examples/files/qemu-usb-mouse.file`.
+/// QEMU's mouse: `testdata/files/qemu-usb-mouse.file`.
 pub(crate) const MOUSE: [u8; 202] = [
     0x12, 1, 0, 2, 0, 0, 0, 0x40, 0x27, 6, 1, 0, 0, 0, 1, 2, 9, 1, 9, 2, 0x22, 0, 1, 1, 6, 0xa0,
     0x32, 9, 4, 0, 0, 1, 3, 1, 2, 0, 9, 0x21, 1, 0, 0, 1, 0x22, 0x34, 0, 7, 5, 0x81, 3, 4, 0, 7,
