@@ -1,5 +1,5 @@
 -- What an enumeration asks: no status of the device, and nothing that the device refuses and that is open to an owner.
-use Rattle.std.proofs.Common.{◌≡◌, ℕ, zero, suc, ◌<◌, Bool, true, false, List, [], ◌∷◌, ◌++◌, ◌⊎◌, inl, inr, Option, Some, None, refl, ap, sym, ◌∙◌, subst, arith}
+use Rattle.std.proofs.Common.{◌≡◌, ℕ, zero, suc, true, false, List, [], ◌∷◌, ◌++◌, inl, inr, Option, Some, None, refl, ap, sym, ◌∙◌, subst, arith}
 use Rattle.usb_fields.specs.declared.packet.Speed.{Speed}
 use Rattle.usb_fields.specs.declared.packet.Toggle.{Toggle}
 use Rattle.usb_fields.specs.declared.setup.Setup.{Setup as SetupPacket}
@@ -9,8 +9,6 @@ use Rattle.usb_fields.specs.Setup.{setup_bytes}
 use Rattle.usb_set.specs.declared.tree.Configuration.{Configuration}
 use Rattle.usb_file_data.specs.declared.file.DescriptorFile.{DescriptorFile}
 use Rattle.usb_file_data.specs.File.{file_bytes}
-use Rattle.usb_set.specs.Descriptors.{type_number}
-use Rattle.usb_set.specs.declared.tree.SetKind.{SetKind}
 use Rattle.usb_host.specs.declared.transfer.TransferStage.{TransferStage}
 use Rattle.usb_host.specs.declared.transfer.TransferStage.TheVariants.{Setup, DataIn, DataOut, StatusOut, StatusIn, Completed, Failed}
 use Rattle.usb_host.specs.declared.reply.Reply.{Reply}
@@ -35,7 +33,7 @@ use Rattle.usb_bus.specs.Attempt.{Attempt, Phase, Running, Succeeded, Broken, re
 use Rattle.usb_bus.specs.Bus.{HostEnd, losses, busies, acks_lost}
 use Rattle.usb_bus.specs.Enumerate.{Pair, configured_state, new_pair, RunsAt}
 use Rattle.usb_bus.specs.Run.{fates_used}
-use Rattle.usb_bus.specs.Series.{Attempts, Series, StandsAfter, attempt_under, fresh, series_run}
+use Rattle.usb_bus.specs.Series.{Attempts, Series, attempt_under, fresh, series_run}
 use Rattle.usb_bus.specs.Together.{Stages}
 use Rattle.usb_bus.specs.inside.Following.{WalksScript}
 use Rattle.usb_bus.specs.inside.Image.{plan_of, IsImage, ReadsSets, StaysImage}

@@ -1,5 +1,5 @@
 -- A table and a responder beside it are a table.
-use Rattle.std.proofs.Common.{◌≡◌, ℕ, ◌<◌, ◌==◌, ◌&&◌, ◌%◌, ◌/◌, not, Bool, true, false, length, take, refl, arith, sym, subst, ◌∙◌, length-take}
+use Rattle.std.proofs.Common.{◌≡◌, ℕ, ◌<◌, ◌==◌, ◌&&◌, ◌%◌, ◌/◌, not, Bool, true, false, take, refl, arith, sym, subst, ◌∙◌, length-take}
 use Rattle.std.proofs.lemmas.Bool.Decides.{nat_tests}
 use Rattle.usb_fields.specs.declared.setup.Setup.{Setup}
 use Rattle.usb_fields.specs.declared.setup.Class.TheVariants as classes

@@ -1,12 +1,12 @@
 -- A run with a device under test, each of whose answers is the one that is due, as a run with a device of the descriptors.
-use Rattle.std.proofs.Common.{◌≡◌, ℕ, zero, suc, ◌+◌, ◌≤◌, ◌==◌, Bool, true, false, if◌then◌else◌, List, [], ◌∷◌, Option, Some, None, ◌⊎◌, inl, inr, refl, ap, sym, ◌∙◌, subst, arith}
+use Rattle.std.proofs.Common.{◌≡◌, ℕ, zero, suc, ◌≤◌, ◌==◌, Bool, true, false, if◌then◌else◌, List, [], ◌∷◌, Some, inl, inr, refl, ap, sym, ◌∙◌, subst, arith}
 use Rattle.std.specs.Prelude.{map, slice_get}
 use Rattle.usb_fields.specs.declared.packet.Speed.{Speed}
 use Rattle.usb_fields.specs.declared.setup.Setup.{Setup}
-use Rattle.usb_fields.specs.Packets.{Sent, Token, SetupToken, InToken, OutToken, Reply, AckReply, NakReply, StallReply, DataReply, NoReply}
+use Rattle.usb_fields.specs.Packets.{Sent, Token, SetupToken, InToken, OutToken, Reply, NakReply, NoReply}
 use Rattle.usb_host.specs.Limits.{LimitView}
 use Rattle.usb_host.specs.Transfer.{TransferView}
-use Rattle.usb_host.specs.Steps.{HostView, Takes, WantsSent, reset, transfer_in, wanted}
+use Rattle.usb_host.specs.Steps.{Takes, WantsSent, reset, transfer_in, wanted}
 use Rattle.usb_device.specs.declared.state.State.{State}
 use Rattle.usb_device.specs.Requests.{Outcome}
 use Rattle.usb_device.specs.Step.{DeviceStage, DeviceView, Served, acked, replies, served, served_here}
@@ -14,7 +14,7 @@ use Rattle.usb_device.specs.Conformance.{IsAllowed, is_ready, is_refusing}
 use Rattle.usb_bus.specs.declared.fate.Fate.{Fate}
 use Rattle.usb_bus.specs.declared.fate.Fate.TheVariants.{Pass, Busy, LostAck, LostDown, LostUp}
 use Rattle.usb_bus.specs.Bus.{acknowledged, acknowledges, brought, carried, lost, losses, readiness}
-use Rattle.usb_bus.specs.Enumerate.{IsReset, IsTransactionAt, Pair, new_pair, RunsAt}
+use Rattle.usb_bus.specs.Enumerate.{IsTransactionAt, Pair, new_pair, RunsAt}
 use Rattle.usb_bus.specs.Run.{fate_at}
 use Rattle.usb_bus.specs.UnderTest.{Compares, IsTested, RunsTested, Tested, bus_fate, fate_by, known_fate, known_fates}
 

@@ -1,4 +1,4 @@
-use Rattle.std.proofs.Common.{◌∙◌, ap, sym}
+use Rattle.std.proofs.Common.{◌∙◌, ap}
 use Rattle.usb_device.specs.Requests.{answer}
 use Rattle.usb_host.specs.Steps.{outcome_of}
 use Rattle.usb_bus.specs.Enumerate.{IsEnumeration}

@@ -7,7 +7,7 @@ use Rattle.usb_bus.specs.Run.{fate_at}
 use Rattle.usb_text.specs.Output.{AppendsLess, Held}
 use Rattle.usb_text.proofs.Pages.{keeps_refl}
 use Rattle.usb_text.specs.declared.output.OutFault.{OutFault}
-use Rattle.usb_text.specs.declared.output.OutFault.TheVariants.{Memory, Write}
+use Rattle.usb_text.specs.declared.output.OutFault.TheVariants.{Memory}
 use Rattle.usb_fields.proofs.Exits.{exit_err}
 use Rattle.usb_bus.specs.Enumerate.{Pair, Moves, both}
 use Rattle.usb_bus.specs.Log.{CutsOff, step_lines}
