@@ -18,13 +18,13 @@ use Rattle.usb_bus.specs.Beside.{IsAnswering, CutsAlike}
 
 -- Transfers one after another, each by a plan of what the replies before it ask for, with no bus reset between them.
 
--- a transfer in work, or the end
+-- a transfer that is under way, or the end
 pub data Phase : Type 0 where
   Running : (host : HostEnd) → Phase
   Succeeded : Phase
   Broken : (why : Why) → Phase
 
--- transfers by a plan: the replies so far, what is in work, and the device
+-- transfers by a plan: the replies so far, what is under way, and the device
 pub record Attempt : Type 0 where
   pub replies : List Reply
   pub phase : Phase
@@ -44,13 +44,13 @@ reply_from h = if h.transfer.request.length == 0 then replied.Done else replied.
 abbrev pub begins : ℕ → ℕ → ℕ → SetupPacket → HostEnd
 begins address packet naks q = record { transfer = begun address packet naks q; got = [] }
 
--- what a plan puts in work
+-- what a plan begins
 abbrev pub phase_of : ℕ → Plan → Phase
 phase_of naks (Begin address packet q) = Running (begins address packet naks q)
 phase_of naks Success = Succeeded
 phase_of naks (GivesUp why) = Broken why
 
--- whether a SET_ADDRESS is what a plan puts in work
+-- whether a plan begins a SET_ADDRESS
 abbrev pub is_moving : Plan → Bool
 is_moving (Begin address packet q) = is_set_address q
 is_moving plan = false
@@ -75,7 +75,7 @@ module _ (plan : List Reply → Plan) (naks : ℕ) where
   advance replies h stage d = record { replies = replies; phase = Running h; device = d }
 
   module _ (answer : State → SetupPacket → Outcome) (cut : ℕ) where
-    -- one transaction of the transfer in work, and what it brings the plan to; after the end nothing moves
+    -- one transaction of the transfer that is under way, and what it brings the plan to; after the end nothing moves
     abbrev pub attempt_step : Fate → List Reply → Phase → DeviceView → Attempt
     attempt_step fate replies (Running h) d =
         let e = step answer cut fate (record { host = h; device = d }) in

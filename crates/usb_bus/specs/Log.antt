@@ -44,7 +44,7 @@ exchange_lines packet number fate t answer after =
     ++ device_part (device_words packet after.device) (data_words answer) ++ codes "\n"
     ++ given_up_part after.host.resets (cause_of t (brought fate answer) after.host.phase)
 
--- The lines of a step: a transaction where a transfer is in work, with this answer, and else a bus reset.
+-- The lines of a step: a transaction where a transfer is under way, with this answer, and else a bus reset.
 abbrev pub lines_with : ℕ → ℕ → Fate → Option Step → Option TransferView → Reply → Pair → List ℕ
 lines_with packet number fate (Some step) (Some t) answer after = transfer_part step t ++ exchange_lines packet number fate t answer after
 lines_with packet number fate step transfer answer after = reset_line after.host.resets
@@ -86,7 +86,7 @@ pub record WritesLog (f : DescriptorFile) (speed : Speed) (limits : LimitView) (
   pub of_run : IsLogOf f speed limits fates run log
   pub written : Appends held holds log
 
--- what was written of lines: a prefix, which lacks at least their last byte, and nothing where memory was wanting for them
+-- what was written of lines: they are cut off before their last byte, and if an allocation failed, nothing
 abbrev pub CutsOff : OutFault → Held → Held → List ℕ → Type 0
 CutsOff outs.Write held holds lines = AppendsLess held holds lines
 CutsOff outs.Memory held holds lines = Keeps held holds

@@ -21,7 +21,7 @@ fates_used fates zero = []
 fates_used [] (suc n) = Pass ∷ fates_used [] n
 fates_used (f ∷ fates) (suc n) = f ∷ fates_used fates n
 
--- the transaction that is due, where a transfer is in work; after the end there is none
+-- the transaction that is due, where a transfer is under way; after the end there is none
 abbrev pub due_in : Phase → Option Sent
 due_in (Running host) = due host.transfer
 due_in phase = None

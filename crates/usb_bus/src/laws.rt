@@ -16,7 +16,7 @@ pub fn both_ends_stay_in_one_transfer()
     ensures { TransfersStayTogether }
 {}
 
-/// Transfers by a plan, with no bus reset between them. The law of one transfer holds of the one in work, or the ACK of a
+/// Transfers by a plan, with no bus reset between them. The law of one transfer holds of the one that is under way, or the ACK of a
 /// SET_ADDRESS's status stage was lost, which is one loss at least, and every later transaction is silent.
 pub fn an_attempt_stays_together_or_falls_silent()
     ensures { AttemptsStayTogether }

@@ -175,9 +175,8 @@ impl<W: Write> Steps<W> for Log {
 /// # Errors
 ///
 /// `Write` where the writer failed, and `Memory` where the lines of a step took more memory than there is. The
-/// enumeration ends then. Its log was written up to that step, and of the step's lines a prefix, which lacks at
-/// least their last byte; of those that memory was wanting for, nothing. Out of memory in the host is no error: it ends
-/// the enumeration.
+/// enumeration ends then. Its log was written up to that step. The lines of that step are cut off before their last byte;
+/// if an allocation failed, none of them is written. Out of memory in the host is no error: it ends the enumeration.
 pub fn enumerate_logged<W: Write>(
     alloc: Global,
     d: &Description,

@@ -1,4 +1,4 @@
--- Where a descriptor stands in an input, and where one stands behind it.
+-- Where a descriptor stands in an input, and which place follows it.
 use Rattle.std.specs.Prelude.{ℕ, ◌+◌, ◌-◌, ◌==◌, List, length, slice_index, true, false, Option, Some, None, if◌then◌else◌}
 use Rattle.usb_fields.specs.Bytes.{little_endian_at}
 use Rattle.usb_file_data.specs.declared.finding.Part.{Part}
@@ -60,7 +60,7 @@ position_at Endpoint ahead p = p
 position_at Raw ahead p = p
 position_at _ ahead p = record p { set = no_set }
 
--- Where one stands behind it.
+-- The place that follows it.
 
 -- one set more of the part
 abbrev pub with_set : Part → Position → Position
@@ -99,6 +99,6 @@ noted Text d p = record p { strings = p.strings + 1 }
 abbrev pub moved : ℕ → Position → Position
 moved n p = record p { at = p.at + n; left = p.left - n }
 
--- behind a descriptor of this role
+-- after a descriptor of this role
 abbrev pub position_after : Role → List ℕ → Position → Position
 position_after role d p = moved (length d) (noted role d p)

@@ -1,4 +1,4 @@
--- What came before a descriptor in an input, and what has come behind it.
+-- What came before a descriptor in an input, and what has come after it.
 use Rattle.std.specs.Prelude.{ℕ, List, slice_index, replicate, Some, None}
 use Rattle.usb_fields.specs.Bytes.{little_endian_at}
 use Rattle.usb_explain.specs.declared.role.Role.{Role}
@@ -26,6 +26,6 @@ kept Device d s =
 kept Qualifier d s = record s { other_packet = Some (slice_index d 7) }
 kept _ d s = s
 
--- behind a descriptor of this role
+-- after a descriptor of this role
 abbrev pub passed : Role → List ℕ → Standing → Standing
 passed role d s = record (kept role d s) { position = position_after role d s.position }

@@ -12,7 +12,7 @@ use usb_file_data::Part;
 use usb_names::ClassCodes;
 
 /// What came before a descriptor, as numbers. A walk over an input goes from one to the next: [`next_role`](Self::next_role) says
-/// what comes, [`enter`](Self::enter) is at it, and [`pass`](Self::pass) behind it.
+/// what comes, [`enter`](Self::enter) is at it, and [`pass`](Self::pass) after it.
 ///
 /// ```rust
 /// let mut position = Position::start();

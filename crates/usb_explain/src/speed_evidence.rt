@@ -1,4 +1,4 @@
-//! What the descriptors of a set say of its speed.
+//! Evidence of the speed of a set, in its descriptors.
 ghost use Rattle.std.specs.Prelude.{◌≡◌, ◌∷◌, ℕ, List, false};
 ghost use Rattle.usb_explain.specs.SetSpeeds.{excludes_low, has_multiple, hints_low_or_full, is_above_low, is_companion, is_full, is_high, is_slow, proves_full, proves_high};
 ghost use Rattle.usb_explain.specs.inside.Walking.{Hears};

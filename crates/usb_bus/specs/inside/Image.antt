@@ -67,7 +67,7 @@ module _ (set_of : List ℕ → Option Configuration) (limits : LimitView) (spee
   IsImage replies (Broken why) (Ended (Stopped trouble)) = why ≡ trouble.why
   IsImage replies phase other = ⊥
 
-  -- whatever is answered, it stays one, or memory was wanting where that is asked for
+  -- whatever is answered, it stays one, or an allocation failed where one is made
   abbrev pub StaysImage : Type 0
   StaysImage =
       (replies : List Reply) (h : HostEnd) (d : DeviceView) (place : Place) (t : TransferView) (k : Kept) (answer : Answer) (new : HostPhase) →
