@@ -1,6 +1,6 @@
 /* nozzlegorse.h: USB 2.0 descriptors, a device's end and a host's end of the control pipe, by a proved library.
  *
- * docs/callers.md tells who owns what, and how a program without a C library links. In short:
+ * docs/callers.md says who owns what, and how a program without a C library links. In short:
  *
  *  - A pointer and its length are lent for the call. The pointer is never NULL, also where the length is 0; the length
  *    is below 2^63; what is written overlaps nothing else that is passed. A pointer to a struct is not NULL.
@@ -28,7 +28,7 @@ extern "C" {
 
 enum nzg_status {
     NZG_DONE = 0,
-    NZG_OPEN = 1,              /* the bytes so far are a front of a set; the host has not ended */
+    NZG_OPEN = 1,              /* the bytes so far are a prefix of a set; the host has not ended */
     NZG_SET_FAULT = 2,         /* number 1..9, at place */
     NZG_FILE_FAULT = 3,        /* number 1..7, at place */
     NZG_LIST_FAULT = 4,        /* number 1..6, in the line place, counted from 1 */
@@ -66,7 +66,7 @@ enum nzg_speed { NZG_LOW = 1, NZG_FULL = 2, NZG_HIGH = 3, NZG_SUPER = 4 }; /* 0:
 struct nzg_answer nzg_show(const uint8_t *bytes, size_t len, bool any, uint8_t *text, size_t room);
 /* a line for each finding in a file, or `no findings`; with `any` in one set or a dump too */
 struct nzg_answer nzg_check(const uint8_t *bytes, size_t len, bool any, uint8_t *text, size_t room);
-/* one set, a file, a dump, and also broken bytes: then the status tells the fault, and the text stands as far as they go */
+/* one set, a file, a dump, and also broken bytes: then the status is the fault, and the text goes as far as they do */
 struct nzg_answer nzg_explain(const uint8_t *bytes, size_t len, uint32_t options, uint8_t speed, uint8_t *text, size_t room);
 /* with `comments` lines that are empty or begin with # are dropped, and so is a carriage return before a line feed */
 struct nzg_answer nzg_build(const uint8_t *text, size_t len, bool comments, uint8_t *bytes, size_t room);
@@ -167,7 +167,7 @@ bool nzg_device_reset(struct nzg_device *device);
 /* False where nothing is held, or where the stage or the toggle of OUT has no meaning: the packet is then as it was. */
 bool nzg_device_serve(struct nzg_device *device, const struct nzg_transaction *transaction, const uint8_t *data, size_t len, bool ready, struct nzg_packet *packet);
 bool nzg_device_acked(struct nzg_device *device);
-/* The request that is refused, before the host is told; an answer to it; and the request that was carried out. */
+/* The request that is refused, before the host is answered; an answer to it; and the request that was carried out. */
 bool nzg_device_refused(struct nzg_device *device, struct nzg_setup *setup);
 struct nzg_answer nzg_device_answer_with(struct nzg_device *device, const uint8_t *bytes, size_t len);
 struct nzg_answer nzg_device_accept(struct nzg_device *device);
