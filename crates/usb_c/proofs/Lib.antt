@@ -6,5 +6,6 @@ mod HandleValues
 mod HostValues
 mod InputFaults
 mod LooseValues
+mod Placed
 mod Reasons
 mod Taking
