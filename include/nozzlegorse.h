@@ -131,17 +131,17 @@ bool nzg_field(const uint8_t *bytes, size_t len, const struct nzg_descriptor *de
 struct nzg_answer nzg_judge(const uint8_t *bytes, size_t len);
 
 struct nzg_finding {
-    size_t place;              /* of the descriptor that breaks the rule */
-    uint16_t setting, endpoint;
-    uint8_t rule, part, set, role;
+    size_t place;                  /* of the descriptor that breaks the rule */
+    size_t set, setting, endpoint; /* the numbers of `usbdesc check`, from 0 */
+    uint8_t rule, part, role;      /* 1 to 13; as in nzg_descriptor */
 };
-/* Each broken rule, in the order of the bytes. Room and length count findings. */
+/* Each broken rule, in the order of the bytes, or the fault of nzg_judge. Room and length count findings. */
 struct nzg_answer nzg_findings(const uint8_t *bytes, size_t len, struct nzg_finding *found, size_t room);
-/* what a rule from 1 to 13 asks, as in docs/formats.md */
+/* what breaks a rule from 1 to 13, in words, as in docs/formats.md; this asks for no memory */
 struct nzg_answer nzg_rule(uint8_t rule, uint8_t *text, size_t room);
-/* a string, as UTF-8 with escapes for what is no character */
+/* A string, as UTF-8 with escapes as by `usbdesc explain --utf8`. Role, place and length say where it stands. */
 struct nzg_answer nzg_text(const uint8_t *bytes, size_t len, const struct nzg_descriptor *string, uint8_t *text, size_t room);
-/* a dump as a descriptor file, with the strings that `usbdesc enumerate --with-strings` puts */
+/* a dump as a descriptor file, with the strings that `usbdesc enumerate --with-strings` puts; a file stays as it is */
 struct nzg_answer nzg_with_strings(const uint8_t *dump, size_t len, uint8_t *file, size_t room);
 
 /* --- transactions ------------------------------------------------------------------------------------------------ */

@@ -1,6 +1,6 @@
-/* refused FILE..: each request for memory refused in turn, for each call on each FILE. A call answers NZG_NO_MEMORY or what
- * it does with all memory; no block is left; and a handle that was open is as it was, or closed, as the header says. Ends in
- * 0 where all of that holds. */
+/* refused FILE..: each request for memory refused in turn, for each call on each FILE. A call answers NZG_NO_MEMORY, and the
+ * buffer is as it was, or what it does with all memory; no block is left; and a handle that was open is as it was, or closed,
+ * as the header says. Ends in 0 where all of that holds. */
 #define POOL (1 << 22)
 #include "pool.h"
 #include "hosted.h"
@@ -9,7 +9,7 @@ static uint8_t bytes[1 << 16], text[1 << 20], again[1 << 20];
 static size_t length;
 static long calls, refusals;
 
-enum { SHOW, CHECK, CHECK_ANY, EXPLAIN, BUILD, BUILD_COMMENTS, ENUMERATE, DEVICE, HOST, DECODER, TRANSFER, KINDS };
+enum { SHOW, CHECK, CHECK_ANY, EXPLAIN, BUILD, BUILD_COMMENTS, ENUMERATE, JUDGE, FINDINGS, TEXT, WITH_STRINGS, DEVICE, HOST, DECODER, TRANSFER, KINDS };
 
 static struct nzg_answer in_pieces(uint8_t *out) {
     struct nzg_decoder decoder = {0};
@@ -73,6 +73,29 @@ static struct nzg_answer transferred_twice(void) {
     return answer;
 }
 
+/* The findings: rule, role and place of each. */
+static struct nzg_answer findings(uint8_t *out) {
+    static struct nzg_finding found[64];
+    memset(found, 0xa5, sizeof found);
+    struct nzg_answer answer = nzg_findings(bytes, length, found, 64);
+    for (size_t i = 0; answer.status == NZG_DONE && i < answer.length; i++) {
+        *out++ = found[i].rule;
+        *out++ = found[i].role;
+        *out++ = (uint8_t)found[i].place;
+    }
+    for (size_t i = 0; answer.status != NZG_DONE && i < sizeof found; i++)
+        if (((uint8_t *)found)[i] != 0xa5) answer.status = 99;
+    return answer;
+}
+
+/* The last string, if there is one. */
+static struct nzg_answer last_string(uint8_t *out) {
+    struct nzg_descriptor string = {0};
+    for (size_t at = 0; at + 1 < length && bytes[at] > 1; at += bytes[at])
+        if (bytes[at + 1] == 3) string.role = NZG_STRING, string.place = at, string.length = bytes[at];
+    return nzg_text(bytes, length, &string, out, sizeof text);
+}
+
 static struct nzg_answer call(int kind, uint8_t *out) {
     struct nzg_outcome outcome;
     switch (kind) {
@@ -83,6 +106,10 @@ static struct nzg_answer call(int kind, uint8_t *out) {
     case BUILD: return nzg_build(bytes, length, false, out, sizeof text);
     case BUILD_COMMENTS: return nzg_build(bytes, length, true, out, sizeof text);
     case ENUMERATE: return nzg_enumerate(bytes, length, NZG_FULL, 16, 3, (const uint8_t *)"....a", 5, &outcome, out, sizeof text);
+    case JUDGE: return nzg_judge(bytes, length);
+    case FINDINGS: return findings(out);
+    case TEXT: return last_string(out);
+    case WITH_STRINGS: return nzg_with_strings(bytes, length, out, sizeof text);
     case DEVICE: return opened_twice();
     case HOST: return by_host(out);
     case TRANSFER: return transferred_twice();
@@ -108,6 +135,8 @@ static int refuse(const char *name, int kind, struct nzg_answer want, long place
     pool_allowed = -1;
     calls++;
     if (pool_live) return printf("%s: call %d leaves %ld blocks at request %ld\n", name, kind, pool_live, place), 1;
+    if (is_refusal(got) && (again[0] != 0xa5 || memcmp(again, again + 1, sizeof again - 1)))
+        return printf("%s: call %d writes though request %ld is refused\n", name, kind, place), 1;
     if (is_refusal(got)) return refusals++, 0;
     if (same(got, want) && !memcmp(text, again, got.length)) return 0;
     return printf("%s: call %d answers otherwise at request %ld: %u %u %zu\n", name, kind, place, got.status, got.number, got.place), 1;

@@ -13,7 +13,7 @@ use Rattle.usb_file_data.specs.declared.fault.FileWhy.TheVariants as files
 use Rattle.usb_file_data.specs.declared.fault.InputFault.{InputFault}
 use Rattle.usb_file_data.specs.declared.fault.InputFault.TheVariants as inputs
 use Rattle.usb_file_data.specs.FileFaults.{FileFaulty, ReadRefused}
-use Rattle.usb_file_data.specs.Inputs.{DeviceRefused, HasFault, InputFaulty, InputRefused, is_one_set}
+use Rattle.usb_file_data.specs.Inputs.{DeviceRefused, HasFault, InputFaulty, InputRefused, IsNoDump, is_one_set}
 use Rattle.usb_listing.specs.declared.fault.ListFault.{ListFault}
 use Rattle.usb_listing.specs.declared.fault.ListWhy.{ListWhy}
 use Rattle.usb_listing.specs.declared.fault.ListWhy.TheVariants as lists
@@ -29,6 +29,7 @@ use Rattle.usb_c.specs.declared.answer.Verdict.TheVariants as verdicts
 use Rattle.usb_explain.specs.declared.manner.Manner.{Manner}
 use Rattle.usb_explain.specs.Explanations.{IsExplanation}
 use Rattle.usb_c.specs.inside.Refusals.{file_by, file_wants, list_by, refused_description, refused_file, refused_input, refused_list, set_wants, wants_memory}
+use Rattle.usb_c.specs.Facts.{CompletionFaulty}
 use Rattle.usb_c.specs.Texts.{Explains, Refuses, RefusesList}
 use Rattle.usb_c.specs.inside.Taking.{BuildRefused}
 
@@ -39,15 +40,21 @@ module _ (IsFault : List ℕ → InputFault → Type 0) (b : List ℕ) (e : SetF
   set_refuses why is (inl h) = (shows h, refl)
   set_refuses why is (inr wants) = let memory = wants.why in cc
 
-file_refuses : (b : List ℕ) (e : FileFault) (why : FileWhy) → e.why ≡ why → is_one_set b ≡ false → DeviceRefused b e.at why → Refuses InputFaulty b (file_by why e)
-file_refuses b e files.Memory is none h = tt
-file_refuses b e why is none h = ((none, subst (FileFaulty b e.at) (sym is) h.0, h.1), refl)
+-- a file's fault, by what says which bytes show it
+module _ (IsFault : List ℕ → InputFault → Type 0) (b : List ℕ) (e : FileFault) (shows : FileFaulty b e.at e.why × IsNoDump b → IsFault b (inputs.File e)) where
+  pub file_refuses : (why : FileWhy) → e.why ≡ why → DeviceRefused b e.at why → Refuses IsFault b (file_by why e)
+  file_refuses files.Memory is h = tt
+  file_refuses why is h = (shows (subst (FileFaulty b e.at) (sym is) h.0, h.1), refl)
+
+-- bytes that are no file and no dump
+pub completion_refuses : (b : List ℕ) (e : FileFault) → DeviceRefused b e.at e.why → Refuses CompletionFaulty b (refused_file e)
+completion_refuses b e h = file_refuses CompletionFaulty b e (λ shown. shown) e.why refl h
 
 -- bytes that are no input are told with the fault that they show, or as out of memory
 pub input_refuses : (b : List ℕ) (e : InputFault) → InputRefused b e → Refuses InputFaulty b (refused_input e)
 input_refuses b (inputs.Set fault) h = set_refuses InputFaulty b fault (λ shown. (h.0, shown)) fault.why refl h.1
 input_refuses b (inputs.Trailing at) h = (h, refl)
-input_refuses b (inputs.File fault) h = file_refuses b fault fault.why refl h.0 h.1
+input_refuses b (inputs.File fault) h = file_refuses InputFaulty b fault (λ shown. (h.0, shown.0, shown.1)) fault.why refl h.1
 
 set_shows : (b : List ℕ) (e : SetFault) (why : SetWhy) → e.why ≡ why → set_wants why ≡ false → HasFault b e ⊎ WantsMemory [] b e → HasFault b e
 set_shows b e sets.Memory is known h = cc

@@ -6,6 +6,7 @@ mod HandleValues
 mod HostValues
 mod InputFaults
 mod LooseValues
+mod Placed
 mod Reasons
 mod Taking
 mod TransferValues

@@ -1,4 +1,4 @@
--- Answers and faults as numbers, and a text in the caller's buffer.
+-- Answers and faults as numbers, and what is put into the caller's buffer.
 use Rattle.std.specs.Prelude.{◌≡◌, ℕ, ◌<◌, ◌⊎◌, List, ◌++◌, length, drop, Some}
 use Rattle.usb_c.specs.declared.answer.Verdict.{Verdict}
 use Rattle.usb_c.specs.declared.answer.Verdict.TheVariants as verdicts
@@ -19,14 +19,14 @@ use Rattle.usb_set.specs.declared.fault.SetFault.{SetFault}
 use Rattle.usb_set.specs.declared.fault.SetWhy.{SetWhy}
 use Rattle.usb_set.specs.declared.fault.SetWhy.TheVariants as sets
 
--- A text in the caller's buffer.
+-- A text or other items in the caller's buffer.
 
--- The text begins the buffer, whose rest is as it was, and this is reported with its length. Or the buffer is as
--- it was: it is shorter than the text, whose length is wanted, or out of memory.
-abbrev pub Fills : (ℕ → Verdict) → List ℕ → List ℕ → List ℕ → Verdict → Type 0
-Fills told text old new verdict =
-    ((verdict ≡ told (length text)) × (new ≡ text ++ drop (length text) old))
-    ⊎ (((verdict ≡ verdicts.NoRoom (length text)) × (length old < length text) × (new ≡ old))
+-- The items begin the buffer, whose rest is as it was, and this is reported with their count. Or the buffer is as
+-- it was: it is shorter than the items, whose count is wanted, or out of memory.
+abbrev pub Fills : {A : Type 0} → (ℕ → Verdict) → List A → List A → List A → Verdict → Type 0
+Fills told items old new verdict =
+    ((verdict ≡ told (length items)) × (new ≡ items ++ drop (length items) old))
+    ⊎ (((verdict ≡ verdicts.NoRoom (length items)) × (length old < length items) × (new ≡ old))
     ⊎ ((verdict ≡ verdicts.NoMemory) × (new ≡ old)))
 
 -- Answers as numbers.
@@ -44,6 +44,7 @@ broken_answer (inputs.Trailing at) length = numbers 6 0 at length
 -- the numbers that C sees
 abbrev pub answer_of : Verdict → Answer
 answer_of (verdicts.Done length) = numbers 0 0 0 length
+answer_of (verdicts.Judged number) = numbers 0 number 0 0
 answer_of (verdicts.Open length) = numbers 1 0 0 length
 answer_of (verdicts.Broken fault length) = broken_answer fault length
 answer_of (verdicts.List fault) = numbers 4 (list_number fault.why) fault.line 0

@@ -3,6 +3,7 @@ pub mod Conformance
 pub mod Decoders
 pub mod Devices
 pub mod Enumerations
+pub mod Facts
 pub mod Hosts
 pub mod Texts
 pub mod Transfers

@@ -66,11 +66,11 @@ Refuses IsFault b (verdicts.Broken fault length) = IsFault b fault × (length �
 Refuses IsFault b verdicts.NoMemory = Unit {0}
 Refuses IsFault b verdict = ⊥
 
--- a text of the input that the bytes are taken for is in the buffer
-pub record TellsInput (IsTaken : Input → List ℕ → Type 0) (text_of : Input → List ℕ) (b old new : List ℕ) (verdict : Verdict) : Type 0 where
+-- what is told of the input that the bytes are taken for is in the buffer
+pub record TellsInput {A : Type 0} (IsTaken : Input → List ℕ → Type 0) (told_of : Input → List A) (b : List ℕ) (old new : List A) (verdict : Verdict) : Type 0 where
   pub input : Input
   pub is : IsTaken input b
-  pub fills : Fills verdicts.Done (text_of input) old new verdict
+  pub fills : Fills verdicts.Done (told_of input) old new verdict
 
 -- the listing of the bytes, or they are refused, and the buffer is as it was
 abbrev pub Shows : Bool → List ℕ → List ℕ → List ℕ → Verdict → Type 0

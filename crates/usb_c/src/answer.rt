@@ -30,6 +30,8 @@ pub struct Answer {
 pub enum Verdict {
     /// All went well, and this many bytes were taken or written.
     Done(usize),
+    /// The bytes are an input: 1 a set, 2 a descriptor file, 3 a dump.
+    Judged(u8),
     /// The bytes so far, this many of them new, are a prefix of a set; or a host has not ended.
     Open(usize),
     /// The bytes are no input. This many bytes of an explanation were written.
@@ -44,7 +46,8 @@ pub enum Verdict {
     NoMemory,
     /// The handle holds nothing.
     Closed,
-    /// A number has no meaning: 1 the address, 2 the attempts, 3 the speed, 4 a fate, 7 a packet size, 8 a reply.
+    /// A number has no meaning: 1 the address, 2 the attempts, 3 the speed, 4 a fate, 5 a rule, 6 no string, 7 a packet size,
+    /// 8 a reply.
     BadArgument(u8),
     /// The enumeration ended without success.
     Trouble(Trouble),
@@ -87,6 +90,7 @@ impl Verdict {
     {
         match self {
             Verdict::Done(length) => numbers(0, 0, 0, length),
+            Verdict::Judged(number) => numbers(0, number, 0, 0),
             Verdict::Open(length) => numbers(1, 0, 0, length),
             Verdict::Broken(fault, length) => broken(fault, length),
             Verdict::List(fault) => numbers(4, fault.why.number(), fault.line, 0),

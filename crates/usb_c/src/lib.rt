@@ -2,10 +2,11 @@
 //!
 //! A slice is a pointer and a length, lent for the call. No export has a `requires`: each takes any bytes, any numbers
 //! and any order of calls. A text or bytes go into the caller's buffer whole, or the buffer is left as it was:
-//! `specs/Texts.antt`, `specs/Enumerations.antt`.
+//! `specs/Texts.antt`, `specs/Enumerations.antt`. What bytes are, what breaks a rule in them and where, and the texts of
+//! strings are `specs/Facts.antt`.
 //!
 //! Each call comes to a `Verdict`, which is given as the numbers of an [`Answer`]. [`NzgTransaction`], [`NzgPacket`],
-//! [`NzgOutcome`] and [`NzgTrouble`] are transactions and outcomes as numbers.
+//! [`NzgOutcome`], [`NzgTrouble`] and [`NzgFinding`] are transactions, outcomes and findings as numbers.
 #![tactic(auto)]
 
 mod answer;
@@ -17,15 +18,19 @@ mod descriptor;
 mod device;
 mod device_handle;
 mod enumeration;
+mod finding;
 mod host;
 mod host_handle;
+mod judging;
 mod loose;
 mod outcome;
 mod step;
+mod string_text;
 mod taken;
 mod text;
 mod transfer;
 mod transfer_handle;
+mod with_strings;
 
 pub use answer::Answer;
 pub use buffer::{nzg_build, nzg_check, nzg_enumerate, nzg_explain, nzg_show};
@@ -40,15 +45,17 @@ pub use device::{
 };
 pub use device_handle::NzgDevice;
 pub use enumeration::NzgOutcome;
+pub use finding::{NzgFinding, nzg_findings, nzg_rule};
 pub use host::{
     nzg_host_attempts, nzg_host_close, nzg_host_next, nzg_host_open, nzg_host_outcome,
     nzg_host_reset_done, nzg_host_step, nzg_host_take,
 };
 pub use host_handle::NzgHost;
+pub use judging::nzg_judge;
 pub use outcome::NzgTrouble;
 pub use step::NzgStep;
-pub use transfer::{
-    nzg_transfer_close, nzg_transfer_next, nzg_transfer_open, nzg_transfer_take,
-};
+pub use string_text::nzg_text;
+pub use transfer::{nzg_transfer_close, nzg_transfer_next, nzg_transfer_open, nzg_transfer_take};
 pub use transfer_handle::NzgTransfer;
 pub use usb_device::{NzgPacket, NzgTransaction};
+pub use with_strings::nzg_with_strings;

@@ -163,7 +163,7 @@ pub(crate) fn build(alloc: Global, text: &[u8], comments: bool, out: &mut [u8]) 
     }
 }
 
-fn build_file(alloc: Global, file: &DescriptorFile, out: &mut [u8]) -> Verdict
+pub(crate) fn build_file(alloc: Global, file: &DescriptorFile, out: &mut [u8]) -> Verdict
     requires { (b : List ℕ) × File file.now b }
     ensures { PutsFile file.now out.old out.new result }
 {

@@ -1,0 +1,19 @@
+use Rattle.std.proofs.Common.{◌≡◌, ◌∷◌, subst, sym}
+use Rattle.usb_explain.specs.Outline.{described}
+use Rattle.usb_c.specs.Facts.{placed_at}
+use Rattle.usb_c.proofs.Placed.{PutSoFar, all_put, none_put, one_put, room_for_one}
+use Rattle.usb_c.proofs.finding.put_all.Goals as goal
+
+pub loop-descriptor-init : goal.loop-descriptor-init
+loop-descriptor-init c = none_put _ _ _ _ c.into_iter-descriptor-iterator.ensures.into_iter_gives
+
+pub loop-descriptor-preserved : goal.loop-descriptor-preserved
+loop-descriptor-preserved c =
+    let steps : c.loop-descriptor.descriptor-iterator ≡ described c.in-Some.descriptor ∷ c.next.new.self = c.in-Some.ensures.steps in
+    one_put _ _ _ _ _ _ _ (subst (λ left. PutSoFar placed_at c.args.outline left c.args.out.now c.loop-descriptor.out c.loop-descriptor.told) steps c.loop-descriptor.invariant)
+    _ _ c.put_at-told.ensures.out c.put_at-told.ensures.told
+
+pub put_at-told-requires : goal.put_at-told-requires
+put_at-told-requires c =
+    let steps : c.loop-descriptor.descriptor-iterator ≡ described c.in-Some.descriptor ∷ c.next.new.self = c.in-Some.ensures.steps in
+    room_for_one _ _ _ _ _ _ _ (subst (λ left. PutSoFar placed_at c.args.outline left c.args.out.now c.loop-descriptor.out c.loop-descriptor.told) steps c.loop-descriptor.invariant) c.requires

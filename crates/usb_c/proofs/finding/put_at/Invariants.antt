@@ -1,0 +1,8 @@
+use Rattle.std.proofs.Common.{◌≡◌, ◌+◌, ◌++◌, drop, map, take}
+use Rattle.usb_explain.specs.Outline.{described}
+use Rattle.usb_c.specs.Facts.{placed}
+use Rattle.usb_c.proofs.finding.put_at.Given as goal
+
+abbrev pub invariant-loop-number : goal.invariant-loop-number
+invariant-loop-number l =
+    l.out ≡ take l.told l.fn.out ++ map (placed (described l.descriptor)) (take l.number l.found-items) ++ drop (l.told + l.number) l.fn.out
