@@ -45,8 +45,6 @@ pub use host::{
 pub use host_handle::NzgHost;
 pub use outcome::NzgTrouble;
 pub use step::NzgStep;
-pub use transfer::{
-    nzg_transfer_close, nzg_transfer_next, nzg_transfer_open, nzg_transfer_take,
-};
+pub use transfer::{nzg_transfer_close, nzg_transfer_next, nzg_transfer_open, nzg_transfer_take};
 pub use transfer_handle::NzgTransfer;
 pub use usb_device::{NzgPacket, NzgTransaction};
