@@ -105,15 +105,21 @@ pub extern "C" fn nzg_transfer_take(
 ) -> Answer
     ensures { AnswersOn (TakesReply transfer.old.held (reply_told reply toggle bytes.now) transfer.new.held) result }
 {
+    take(alloc, transfer, reply, toggle, bytes).answer()
+}
+
+fn take(alloc: Global, transfer: &mut NzgTransfer, reply: u8, toggle: u8, bytes: &[u8]) -> Verdict
+    ensures { TakesReply transfer.old.held (reply_told reply toggle bytes.now) transfer.new.held result }
+{
     let Some(answer) = answer_of(reply, toggle, bytes) else {
-        return Verdict::BadArgument(8).answer();
+        return Verdict::BadArgument(8);
     };
     let Some(mut held) = replace(transfer, NzgTransfer::empty(alloc)).into_box() else {
-        return Verdict::Closed.answer();
+        return Verdict::Closed;
     };
     let heard = held.take(answer);
     *transfer = NzgTransfer::of(held);
-    tell_heard(heard).answer()
+    tell_heard(heard)
 }
 
 fn tell_heard(heard: Heard<'_>) -> Verdict
