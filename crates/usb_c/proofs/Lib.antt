@@ -2,11 +2,14 @@ mod DecoderValues
 mod DeviceValues
 mod Due
 mod Faults
+pub mod Following
 mod HandleValues
 mod HostValues
 mod InputFaults
 mod LooseValues
 mod Placed
 mod Reasons
+pub mod Named
 mod Taking
 mod TransferValues
+pub mod Walking

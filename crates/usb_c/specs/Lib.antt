@@ -1,6 +1,8 @@
 pub mod Answers
 pub mod Conformance
 pub mod Decoders
+pub mod DescriptorFields
+pub mod Descriptors
 pub mod Devices
 pub mod Enumerations
 pub mod Facts

@@ -15,6 +15,7 @@ mod conformance;
 mod decoder;
 mod decoder_handle;
 mod descriptor;
+mod descriptor_field;
 mod device;
 mod device_handle;
 mod enumeration;
@@ -22,14 +23,17 @@ mod finding;
 mod host;
 mod host_handle;
 mod judging;
+pub mod laws;
 mod loose;
 mod outcome;
 mod step;
+mod string_place;
 mod string_text;
 mod taken;
 mod text;
 mod transfer;
 mod transfer_handle;
+mod walk;
 mod with_strings;
 
 pub use answer::Answer;
@@ -38,6 +42,7 @@ pub use conformance::nzg_judge_device;
 pub use decoder::{nzg_decoder_close, nzg_decoder_feed, nzg_decoder_list, nzg_decoder_open};
 pub use decoder_handle::NzgDecoder;
 pub use descriptor::NzgDescriptor;
+pub use descriptor_field::{NzgField, nzg_field};
 pub use device::{
     NzgSetup, NzgState, nzg_device_accept, nzg_device_acked, nzg_device_answer_with,
     nzg_device_carried_out, nzg_device_close, nzg_device_open, nzg_device_refused,
@@ -58,4 +63,5 @@ pub use string_text::nzg_text;
 pub use transfer::{nzg_transfer_close, nzg_transfer_next, nzg_transfer_open, nzg_transfer_take};
 pub use transfer_handle::NzgTransfer;
 pub use usb_device::{NzgPacket, NzgTransaction};
+pub use walk::nzg_next;
 pub use with_strings::nzg_with_strings;
