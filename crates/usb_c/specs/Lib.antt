@@ -1,5 +1,7 @@
 pub mod Answers
 pub mod Decoders
+pub mod DescriptorFields
+pub mod Descriptors
 pub mod Devices
 pub mod Enumerations
 pub mod Hosts

@@ -1,4 +1,12 @@
 //! A descriptor as numbers.
+ghost use Rattle.std.specs.Prelude.{◌≡◌, ◌≤◌, ◌+◌, ◌<◌, ◌^◌};
+ghost use Rattle.usb_explain.specs.Contexts.{codes_of};
+ghost use Rattle.usb_c.specs.Descriptors.{codes_in, owner_in, position_in, set_in, setting_in};
+
+use usb_explain::{
+    ClassCodes, InterfaceSetting, OwnerKind, Position, SetPosition, SettingPosition,
+};
+use usb_file_data::Part;
 
 /// A descriptor where it stands in its input, as numbers: the struct `nzg_descriptor` of nozzlegorse.h. The walk goes on from it.
 /// What doesn't apply is 0.
@@ -63,4 +71,102 @@ pub struct NzgDescriptor {
     pub has_device: bool,
     /// Whether the list of languages came.
     pub has_languages: bool,
+}
+
+impl NzgDescriptor {
+    /// The position behind it, at this place.
+    #[tactic(auto, unfolding(crate::specs::Descriptors::position_in))]
+    pub(crate) fn position(&self, at: usize) -> Position
+        requires { at ≡ self.now.place + self.now.length }
+        ensures position { result ≡ position_in self.now }
+        ensures end { result.at + result.left < 2 ^ 64 }
+    {
+        Position {
+            at,
+            left: self.set_end.saturating_sub(at),
+            has_device: self.has_device,
+            has_languages: self.has_languages,
+            strings: self.strings,
+            main_sets: self.main_sets,
+            other_sets: self.other_sets,
+            set: self.set(),
+        }
+    }
+
+    fn set(&self) -> SetPosition
+        ensures { result ≡ set_in self.now }
+    {
+        if self.role >= 2 && self.role <= 6 {
+            SetPosition {
+                part: if self.part == 2 {
+                    Part::Other
+                } else {
+                    Part::Main
+                },
+                number: self.set,
+                associations: self.associations,
+                settings: self.settings,
+                setting: self.setting(),
+                owner: self.owner(),
+            }
+        } else {
+            Position::start().set
+        }
+    }
+
+    fn setting(&self) -> Option<SettingPosition>
+        ensures { result ≡ setting_in self.now }
+    {
+        if self.settings == 0 {
+            return None;
+        }
+        Some(SettingPosition {
+            number: self.setting,
+            interface: InterfaceSetting {
+                interface: self.interface,
+                alternate: self.alternate,
+            },
+            endpoints: self.endpoints,
+            endpoint: if self.endpoints == 0 {
+                None
+            } else {
+                Some(self.endpoint)
+            },
+            codes: self.codes(),
+        })
+    }
+
+    /// What the interface is that it follows.
+    pub(crate) fn interface(&self) -> Option<ClassCodes>
+        ensures { result ≡ codes_of (setting_in self.now) }
+    {
+        match self.setting() {
+            None => None,
+            Some(setting) => Some(setting.codes),
+        }
+    }
+
+    /// The class codes of its setting.
+    fn codes(&self) -> ClassCodes
+        ensures { result ≡ codes_in self.now }
+    {
+        ClassCodes {
+            class: self.class,
+            subclass: self.subclass,
+            protocol: self.protocol,
+        }
+    }
+
+    /// What came last of what owns others.
+    fn owner(&self) -> OwnerKind
+        ensures { result ≡ owner_in self.now }
+    {
+        if self.role == 3 || self.role == 6 && self.depth == 3 {
+            OwnerKind::Interface
+        } else if self.role == 4 || self.role == 6 && self.depth == 4 {
+            OwnerKind::Endpoint
+        } else {
+            OwnerKind::Configuration
+        }
+    }
 }

@@ -13,21 +13,26 @@ mod buffer;
 mod decoder;
 mod decoder_handle;
 mod descriptor;
+mod descriptor_field;
 mod device;
 mod device_handle;
 mod enumeration;
 mod host;
 mod host_handle;
+pub mod laws;
 mod loose;
 mod outcome;
+mod string_place;
 mod taken;
 mod text;
+mod walk;
 
 pub use answer::Answer;
 pub use buffer::{nzg_build, nzg_check, nzg_enumerate, nzg_explain, nzg_show};
 pub use decoder::{nzg_decoder_close, nzg_decoder_feed, nzg_decoder_list, nzg_decoder_open};
 pub use decoder_handle::NzgDecoder;
 pub use descriptor::NzgDescriptor;
+pub use descriptor_field::{NzgField, nzg_field};
 pub use device::{
     NzgSetup, NzgState, nzg_device_accept, nzg_device_acked, nzg_device_answer_with,
     nzg_device_carried_out, nzg_device_close, nzg_device_open, nzg_device_refused,
@@ -42,3 +47,4 @@ pub use host::{
 pub use host_handle::NzgHost;
 pub use outcome::NzgTrouble;
 pub use usb_device::{NzgPacket, NzgTransaction};
+pub use walk::nzg_next;

@@ -1,0 +1,156 @@
+-- What follows a descriptor as numbers.
+use Rattle.std.proofs.Common.{◌≡◌, ◌≤◌, ◌<◌, ℕ, zero, suc, ◌+◌, ◌-◌, ◌*◌, ◌&&◌, nat_le, if◌then◌else◌, Bool, true, false, List, [], ◌∷◌, ◌++◌, length, map, drop, get_or, slice_index, Option, Some, None, IfSome, unwrap_or, MatchOption, Fits, w8, refl, sym, ap, subst, ◌∙◌, arith, length-append, length-drop}
+use Rattle.std.specs.Iterator.{SkipsThenYields, Yields, YieldsFirstBy}
+use Rattle.std.specs.List.{slice_get}
+use Rattle.std.specs.Option.{option_map}
+use Rattle.std.proofs.lemmas.Bool.{and_parts}
+use Rattle.std.proofs.lemmas.Bool.Decides.{nat_tests}
+use Rattle.std.proofs.lemmas.List.{drop_all, length-map}
+use Rattle.std.proofs.lemmas.Option.{none-some, slice_get_past}
+use Rattle.usb_names.specs.declared.codes.ClassCodes.{ClassCodes}
+use Rattle.usb_explain.specs.declared.field.Field.{Field}
+use Rattle.usb_explain.specs.declared.position.Position.{Position}
+use Rattle.usb_explain.specs.declared.role.Role.{Role}
+use Rattle.usb_explain.specs.declared.role.Role.TheVariants as roles
+use Rattle.usb_explain.specs.FieldLaws.{first_place, has_fields, span_of_field}
+use Rattle.usb_explain.specs.Fields.{PlacedField, fields_of, placed_of}
+use Rattle.usb_explain.specs.Laws.{Follow, Span}
+use Rattle.usb_explain.specs.Positions.{position_at}
+use Rattle.usb_explain.proofs.FieldsCover.{fields_have_all_bytes}
+use Rattle.usb_explain.specs.Roles.{next_role}
+use Rattle.usb_explain.specs.inside.Walking.{Counted, endpoints_of}
+use Rattle.usb_c.specs.declared.descriptor.NzgDescriptor.{NzgDescriptor}
+use Rattle.usb_explain.specs.Numbered.{numbered_next}
+use Rattle.usb_c.specs.Descriptors.{is_counted, next_of, position_in, told, told_next}
+
+-- ---- bounds
+
+-- the tests of a count are those of a record
+le_of : (a b : ℕ) → nat_le a b ≡ true → a ≤ b
+le_of a b e = grind (arith, nat_tests)
+
+pub counted_of : (p : Position) → is_counted p ≡ true → Counted p
+unfolding is_counted
+counted_of p e =
+    let at = p.at in
+    let one = and_parts (nat_le p.strings at) _ e in
+    let two = and_parts (nat_le p.main_sets at) _ one.1 in
+    let three = and_parts (nat_le p.other_sets at) _ two.1 in
+    let four = and_parts (nat_le p.set.associations at) _ three.1 in
+    let five = and_parts (nat_le p.set.settings at) (nat_le (endpoints_of p.set.setting) at) four.1 in
+    record {
+      strings = le_of p.strings at one.0;
+      main_sets = le_of p.main_sets at two.0;
+      other_sets = le_of p.other_sets at three.0;
+      associations = le_of p.set.associations at four.0;
+      settings = le_of p.set.settings at five.0;
+      endpoints = le_of (endpoints_of p.set.setting) at five.1;
+    }
+
+-- a set ends within what a place can say
+pub end_fits : (role : Role) (ahead : List ℕ) (p : Position) → Fits w8 (get_or ahead 2 0) → Fits w8 (get_or ahead 3 0) → p.at < 9223372036854775808
+    → p.at + p.left < 18446744073709551616 → (position_at role ahead p).at + (position_at role ahead p).left < 18446744073709551616
+end_fits roles.Configuration ahead p low high at end = omega (arith, low, high, at)
+end_fits roles.Device ahead p low high at end = end
+end_fits roles.Qualifier ahead p low high at end = end
+end_fits roles.Association ahead p low high at end = end
+end_fits roles.Interface ahead p low high at end = end
+end_fits roles.Endpoint ahead p low high at end = end
+end_fits roles.Raw ahead p low high at end = end
+end_fits roles.Languages ahead p low high at end = end
+end_fits roles.Text ahead p low high at end = end
+
+-- ---- behind the last byte nothing follows
+
+none_either : (b : Bool) → ◌≡◌ {A = Option NzgDescriptor} (if b then None else None) None
+none_either true = refl
+none_either false = refl
+
+nothing_next : (p : Position) → next_role p [] ≡ None
+unfolding next_role
+nothing_next p = refl
+
+pub none_beyond : (b : List ℕ) (d : NzgDescriptor) → length b < d.place → next_of b d ≡ None
+unfolding next_of position_in
+none_beyond b d beyond =
+    let p = position_in d in
+    let none : drop p.at b ≡ [] = drop_all p.at b (omega (arith, beyond)) in
+    ap (λ l. if is_counted p then told_next b d p l else None) none
+    ∙ ap (λ o. if is_counted p then option_map (λ next. told b d (numbered_next p [] next)) o else None) (nothing_next p)
+    ∙ none_either (is_counted p)
+
+-- ---- an item of an iterator by its number
+
+rest_is : {S A B : Type 0} (view : A → B) (rest : S → List B) (xs : List A) (s t : S) → Yields (YieldsFirstBy view rest) s xs t → rest s ≡ map view xs ++ rest t
+rest_is view rest [] s t e = ap rest e
+rest_is view rest (x ∷ xs) s t y = y.1 ∙ ap (λ l. view x ∷ l) (rest_is view rest xs y.0 t y.2)
+
+behind_front : {B : Type 0} (xs ys : List B) (n : ℕ) → length xs ≡ n → slice_get (xs ++ ys) n ≡ slice_get ys 0
+behind_front {B} xs ys n e = ap (λ k. slice_get (xs ++ ys) k) (sym e) ∙ by xs
+  where
+    by : (xs : List B) → slice_get (xs ++ ys) (length xs) ≡ slice_get ys 0
+    by [] = refl
+    by (x ∷ xs) = by xs
+
+pub nth_is : {S A B : Type 0} (view : A → B) (rest : S → List B) (s : S) (n : ℕ) (r : Option A) (u : S) → SkipsThenYields (YieldsFirstBy view rest) s n r u
+    → option_map view r ≡ slice_get (rest s) n
+nth_is view rest s n None u y =
+    let xs = y.0 in
+    let parts = rest_is view rest xs s y.1.0 y.1.1 ∙ ap (λ l. map view xs ++ l) y.1.2.0 in
+    let past : slice_get (map view xs ++ []) n ≡ None = slice_get_past (map view xs ++ []) n (omega (arith, y.2, length-append (map view xs) [], length-map xs view)) in
+    sym past ∙ ap (λ l. slice_get l n) (sym parts)
+nth_is view rest s n (Some x) u y =
+    let xs = y.0 in
+    let parts = rest_is view rest xs s y.1.0 y.1.1 ∙ ap (λ l. map view xs ++ l) y.1.2 in
+    sym (behind_front (map view xs) (view x ∷ rest u) n (length-map xs view ∙ y.2)) ∙ ap (λ l. slice_get l n) (sym parts)
+
+-- ---- a field is in its descriptor
+
+follow_on : (xs : List Span) (from to : ℕ) → Follow from xs to → from ≤ to
+follow_on [] from to e = omega (arith, e)
+follow_on (x ∷ xs) from to f = let more = follow_on xs (from + x.count) to f.2 in omega (arith, more)
+
+some_is : (x f : PlacedField) → ◌≡◌ {A = Option PlacedField} (Some x) (Some f) → x ≡ f
+some_is x f e = ap (λ o. unwrap_or o x) e
+
+span_within : (fs : List PlacedField) (from to n : ℕ) (f : PlacedField) → Follow from (map span_of_field fs) to → slice_get fs n ≡ Some f → f.place + length f.value ≤ to
+span_within [] from to n f follows e = absurd (none-some f e)
+span_within (x ∷ fs) from to zero f follows e =
+    let more = follow_on (map span_of_field fs) (from + length x.value) to follows.2 in
+    subst (λ (f : PlacedField). f.place + length f.value ≤ to) (some_is x f e) (omega (arith, more, follows.0))
+span_within (x ∷ fs) from to (suc n) f follows e = span_within fs (from + length x.value) to n f follows.2 e
+
+near : (role : Role) → first_place role ≤ 2
+near roles.Device = omega arith
+near roles.Qualifier = omega arith
+near roles.Configuration = omega arith
+near roles.Association = omega arith
+near roles.Interface = omega arith
+near roles.Endpoint = omega arith
+near roles.Raw = omega arith
+near roles.Languages = omega arith
+near roles.Text = omega arith
+
+covered : (role : Role) (interface : Option ClassCodes) (b : List ℕ) (n : ℕ) (f : PlacedField) → has_fields role ≡ true → 2 ≤ length b
+    → slice_get (fields_of role interface b) n ≡ Some f → f.place + length f.value ≤ length b
+covered role interface b n f has least e =
+    span_within (fields_of role interface b) (first_place role) (length b) n f
+    ((fields_have_all_bytes role interface b has).places (omega (arith, near role, least))) e
+
+field_within : (role : Role) (interface : Option ClassCodes) (b : List ℕ) (n : ℕ) (f : PlacedField) → 2 ≤ length b
+    → slice_get (fields_of role interface b) n ≡ Some f → f.place + length f.value ≤ length b
+unfolding fields_of
+field_within roles.Device interface b n f least e = covered roles.Device interface b n f refl least e
+field_within roles.Qualifier interface b n f least e = covered roles.Qualifier interface b n f refl least e
+field_within roles.Configuration interface b n f least e = covered roles.Configuration interface b n f refl least e
+field_within roles.Association interface b n f least e = covered roles.Association interface b n f refl least e
+field_within roles.Interface interface b n f least e = covered roles.Interface interface b n f refl least e
+field_within roles.Endpoint interface b n f least e = covered roles.Endpoint interface b n f refl least e
+field_within roles.Raw interface b n f least e = covered roles.Raw interface b n f refl least e
+field_within roles.Languages interface b n f least e = absurd (none-some f e)
+field_within roles.Text interface b n f least e = absurd (none-some f e)
+
+pub answered_within : (role : Role) (interface : Option ClassCodes) (b : List ℕ) (n : ℕ) (r : Option Field) → 2 ≤ length b
+    → option_map placed_of r ≡ slice_get (fields_of role interface b) n → IfSome r (λ f. f.place + length f.value.now ≤ length b)
+answered_within role interface b n None least e = tt
+answered_within role interface b n (Some f) least e = field_within role interface b n (placed_of f) least (sym e)
