@@ -79,11 +79,3 @@ module _ {X A : Type 0} (f : X → List A) (all : List X) (x : X) (rest : List X
         told_is = omega (arith, counts, told_is, long, both);
         put = cc;
       }
-
-pub all_put : {X A : Type 0} (f : X → List A) (all left : List X) (old now : List A) (told : ℕ) → left ≡ [] → PutSoFar f all left old now told
-    → now ≡ flat_map f all ++ drop (length (flat_map f all)) old
-all_put {X = X} f all left old now told none p =
-    let parts : all ≡ p.done = p.parts ∙ ap (λ (l : List X). p.done ++ l) none ∙ append-nil p.done in
-    let told_is = p.told_is in
-    let put = p.put in
-    cc

@@ -12,7 +12,7 @@ use Rattle.usb_file_data.specs.declared.rule.TheConstants.{MESSAGES}
 use Rattle.usb_file_data.specs.FileFaults.{FileFaulty}
 use Rattle.usb_file_data.specs.Findings.{found_in_order}
 use Rattle.usb_file_data.specs.Inputs.{InputFaulty, IsInput, IsNoDump}
-use Rattle.usb_file_data.specs.Numbers.{rule_number, rule_numbered}
+use Rattle.usb_file_data.specs.Numbers.{rule_number}
 use Rattle.usb_file.specs.Completed.{IsCompleted}
 use Rattle.usb_explain.specs.declared.role.Role.{Role}
 use Rattle.usb_explain.specs.declared.role.Role.TheVariants as roles
