@@ -1,22 +1,18 @@
 -- Where one stands at a descriptor, and behind it.
-use Rattle.std.proofs.Common.{◌≡◌, ◌≤◌, ℕ, ◌+◌, List, Option, Some, None, slice_index, refl, arith}
-use Rattle.usb_file_data.specs.declared.finding.Part.{Part}
-use Rattle.usb_file_data.specs.declared.finding.Part.TheVariants as parts
+use Rattle.std.proofs.Common.{◌≡◌, ◌≤◌, ℕ, ◌+◌, Bool, true, false, List, Option, refl, arith}
 use Rattle.usb_explain.specs.declared.role.Role.{Role}
 use Rattle.usb_explain.specs.declared.role.Role.TheVariants.{Device, Qualifier, Configuration, Association, Interface, Endpoint, Raw, Languages, Text}
 use Rattle.usb_explain.specs.declared.position.Position.{Position}
-use Rattle.usb_explain.specs.declared.position.SettingPosition.{SettingPosition}
-use Rattle.usb_explain.specs.Positions.{moved, noted, position_at, with_endpoint, with_set}
+use Rattle.usb_explain.specs.Positions.{moved, noted, position_at, with_set}
 use Rattle.usb_explain.specs.declared.speed.SetSpeed.{SetSpeed}
 use Rattle.usb_explain.specs.declared.standing.Standing.{Standing}
 use Rattle.usb_explain.specs.SetStart.{looked, surveyed}
 use Rattle.usb_explain.specs.Standings.{start}
-use Rattle.usb_explain.specs.inside.Walking.{Counted, endpoints_of}
+use Rattle.usb_explain.specs.inside.Walking.{Counted}
 
-pub with_set_at : (part : Part) (p : Position) → (with_set part p).at ≡ p.at
-with_set_at parts.Device p = refl
-with_set_at parts.Main p = refl
-with_set_at parts.Other p = refl
+with_set_at : (is_other : Bool) (p : Position) → (with_set is_other p).at ≡ p.at
+with_set_at true p = refl
+with_set_at false p = refl
 
 -- the first place is 0
 pub start_at : start.position.at ≡ 0
@@ -28,7 +24,7 @@ pub noted_at : (role : Role) (d : List ℕ) (p : Position) → (noted role d p).
 unfolding noted
 noted_at Device d p = refl
 noted_at Qualifier d p = refl
-noted_at Configuration d p = with_set_at p.set.part p
+noted_at Configuration d p = with_set_at p.is_other p
 noted_at Association d p = refl
 noted_at Interface d p = refl
 noted_at Endpoint d p = refl
@@ -61,24 +57,19 @@ looked_position Raw running ahead s = refl
 looked_position Languages running ahead s = refl
 looked_position Text running ahead s = refl
 
-pub more_endpoints : (address : ℕ) (setting : Option SettingPosition) → endpoints_of (with_endpoint address setting) ≤ endpoints_of setting + 1
-more_endpoints address None = omega arith
-more_endpoints address (Some setting) = omega arith
-
-pub counted_set : (part : Part) (n : ℕ) (p : Position) → 1 ≤ n → Counted p → Counted (moved n (with_set part p))
-counted_set parts.Device n p more c = record { strings = omega arith; main_sets = omega arith; other_sets = omega arith; associations = omega arith; settings = omega arith; endpoints = omega arith }
-counted_set parts.Main n p more c = record { strings = omega arith; main_sets = omega arith; other_sets = omega arith; associations = omega arith; settings = omega arith; endpoints = omega arith }
-counted_set parts.Other n p more c = record { strings = omega arith; main_sets = omega arith; other_sets = omega arith; associations = omega arith; settings = omega arith; endpoints = omega arith }
+counted_set : (is_other : Bool) (n : ℕ) (p : Position) → 1 ≤ n → Counted p → Counted (moved n (with_set is_other p))
+counted_set true n p more c = record { strings = omega arith; main_sets = omega arith; other_sets = omega arith; associations = omega arith; settings = omega arith; endpoints = omega arith }
+counted_set false n p more c = record { strings = omega arith; main_sets = omega arith; other_sets = omega arith; associations = omega arith; settings = omega arith; endpoints = omega arith }
 
 -- there are no more of anything than bytes before, behind a descriptor too
 pub counted_noted : (role : Role) (d : List ℕ) (n : ℕ) (p : Position) → 1 ≤ n → Counted p → Counted (moved n (noted role d p))
 unfolding noted
 counted_noted Device d n p more c = record { strings = omega arith; main_sets = omega arith; other_sets = omega arith; associations = omega arith; settings = omega arith; endpoints = omega arith }
 counted_noted Qualifier d n p more c = record { strings = omega arith; main_sets = omega arith; other_sets = omega arith; associations = omega arith; settings = omega arith; endpoints = omega arith }
-counted_noted Configuration d n p more c = counted_set p.set.part n p more c
+counted_noted Configuration d n p more c = counted_set p.is_other n p more c
 counted_noted Association d n p more c = record { strings = omega arith; main_sets = omega arith; other_sets = omega arith; associations = omega arith; settings = omega arith; endpoints = omega arith }
 counted_noted Interface d n p more c = record { strings = omega arith; main_sets = omega arith; other_sets = omega arith; associations = omega arith; settings = omega arith; endpoints = omega arith }
-counted_noted Endpoint d n p more c = record { strings = omega arith; main_sets = omega arith; other_sets = omega arith; associations = omega arith; settings = omega arith; endpoints = omega (arith, more_endpoints (slice_index d 2) p.set.setting) }
+counted_noted Endpoint d n p more c = record { strings = omega arith; main_sets = omega arith; other_sets = omega arith; associations = omega arith; settings = omega arith; endpoints = omega arith }
 counted_noted Raw d n p more c = record { strings = omega arith; main_sets = omega arith; other_sets = omega arith; associations = omega arith; settings = omega arith; endpoints = omega arith }
 counted_noted Languages d n p more c = record { strings = omega arith; main_sets = omega arith; other_sets = omega arith; associations = omega arith; settings = omega arith; endpoints = omega arith }
 counted_noted Text d n p more c = record { strings = omega arith; main_sets = omega arith; other_sets = omega arith; associations = omega arith; settings = omega arith; endpoints = omega arith }

@@ -1,15 +1,12 @@
 -- What is known of a descriptor at its place beside its bytes.
-use Rattle.std.specs.Prelude.{ℕ, List, length, Bool, true, false, nat_le, ◌-◌, take, Option, Some, None, if◌then◌else◌}
+use Rattle.std.specs.Prelude.{ℕ, List, length, Bool, true, false, nat_le, ◌-◌, ◌==◌, take, Option, Some, None, if◌then◌else◌}
 use Rattle.usb_fields.specs.Bytes.{little_endian_at}
 use Rattle.usb_names.specs.declared.codes.ClassCodes.{ClassCodes}
 use Rattle.usb_explain.specs.declared.speed.SetSpeed.{SetSpeed}
 use Rattle.usb_explain.specs.declared.speed.SetSpeed.TheVariants.{FullOrHigh, Super}
 use Rattle.usb_explain.specs.declared.role.Role.{Role}
 use Rattle.usb_explain.specs.declared.role.Role.TheVariants.{Device, Configuration, Association, Interface, Endpoint, Raw}
-use Rattle.usb_explain.specs.declared.position.OwnerKind.{OwnerKind}
-use Rattle.usb_explain.specs.declared.position.OwnerKind.TheVariants as owners
 use Rattle.usb_explain.specs.declared.position.Position.{Position}
-use Rattle.usb_explain.specs.declared.position.SettingPosition.{SettingPosition}
 use Rattle.usb_explain.specs.declared.standing.Standing.{Standing}
 
 -- a device of SuperSpeed: it ran so, or bcdUSB is 0300 or more
@@ -24,15 +21,8 @@ speed_of running s Device d = if is_super running (little_endian_at d 2) then Su
 speed_of running s _ d = s.speed
 
 -- what the interface is that a descriptor follows
-abbrev pub codes_of : Option SettingPosition → Option ClassCodes
-codes_of None = None
-codes_of (Some setting) = Some setting.codes
-
--- the depth of what belongs to a descriptor
-abbrev pub below : OwnerKind → ℕ
-below owners.Configuration = 2
-below owners.Interface = 3
-below owners.Endpoint = 4
+abbrev pub codes_of : Position → Option ClassCodes
+codes_of p = if p.settings == 0 then None else Some (record { class = p.class; subclass = p.subclass; protocol = p.protocol })
 
 -- the depth of its heading
 unfoldable pub depth_of : Position → Role → ℕ
@@ -40,7 +30,7 @@ depth_of p Configuration = 1
 depth_of p Interface = 2
 depth_of p Endpoint = 3
 depth_of p Association = 2
-depth_of p Raw = below p.set.owner
+depth_of p Raw = p.below
 depth_of p _ = 0
 
 -- the bytes of its set after a descriptor, where they are all there

@@ -1,5 +1,5 @@
 -- What is found at a descriptor that breaks a rule.
-use Rattle.std.specs.Prelude.{ℕ, List, Bool, true, false, ◌==◌, ◌&&◌, Option, Some, None}
+use Rattle.std.specs.Prelude.{ℕ, List, Bool, true, false, ◌==◌, ◌&&◌}
 use Rattle.std.specs.List.{take_while}
 use Rattle.usb_file_data.specs.declared.cause.Cause.{Cause}
 use Rattle.usb_file_data.specs.declared.cause.Cause.TheVariants as causes
@@ -11,9 +11,9 @@ use Rattle.usb_file_data.specs.Causes.{rule_of}
 use Rattle.usb_file_data.specs.Places.{finding}
 use Rattle.usb_explain.specs.declared.role.Role.{Role}
 use Rattle.usb_explain.specs.declared.role.Role.TheVariants.{Device, Qualifier, Configuration, Association, Interface, Endpoint}
-use Rattle.usb_explain.specs.declared.position.SetPosition.{SetPosition}
-use Rattle.usb_explain.specs.declared.position.SettingPosition.{SettingPosition}
+use Rattle.usb_explain.specs.declared.position.Position.{Position}
 use Rattle.usb_explain.specs.declared.standing.Standing.{Standing}
+use Rattle.usb_explain.specs.Owners.{part_in}
 
 -- a device breaks V11, and V10 for the main part, where that has no set
 abbrev pub device_can : Cause → Bool
@@ -73,22 +73,17 @@ device_part causes.NoConfiguration = parts.Main
 device_part _ = parts.Device
 
 -- a finding in a set
-abbrev pub in_set : SetPosition → Cause → ℕ → ℕ → Finding
-in_set set cause setting endpoint = finding (rule_of cause) set.part set.number setting endpoint
-
--- that of the next endpoint of a setting
-abbrev pub in_setting : SetPosition → Cause → Option SettingPosition → Finding
-in_setting set cause None = in_set set cause 0 0
-in_setting set cause (Some setting) = in_set set cause setting.number setting.endpoints
+abbrev pub in_set : Position → Cause → ℕ → ℕ → Finding
+in_set p cause setting endpoint = finding (rule_of cause) (part_in p) p.set setting endpoint
 
 -- the finding that a descriptor of this role has by a cause; an association counts among those of its set
 unfoldable pub finding_at : Standing → Role → Cause → Finding
 finding_at s Device cause = finding (rule_of cause) (device_part cause) 0 0 0
 finding_at s Qualifier cause = finding (rule_of cause) parts.Other 0 0 0
-finding_at s Association cause = in_set s.position.set cause s.position.set.associations 0
-finding_at s Interface cause = in_set s.position.set cause s.position.set.settings 0
-finding_at s Endpoint cause = in_setting s.position.set cause s.position.set.setting
-finding_at s _ cause = in_set s.position.set cause 0 0
+finding_at s Association cause = in_set s.position cause s.position.associations 0
+finding_at s Interface cause = in_set s.position cause s.position.settings 0
+finding_at s Endpoint cause = in_set s.position cause s.position.setting s.position.endpoints
+finding_at s _ cause = in_set s.position cause 0 0
 
 -- the number of a part
 abbrev pub part_number : Part → ℕ

@@ -59,8 +59,8 @@ facts_by_position d = record {
   role = d.role;
   depth = depth_of d.position d.role;
   owner = owner_of d.position d.role d.bytes;
-  associations = d.position.set.associations;
-  interface = codes_of d.position.set.setting;
+  associations = d.position.associations;
+  interface = codes_of d.position;
   string = d.position.strings;
 }
 

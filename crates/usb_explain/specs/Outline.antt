@@ -72,9 +72,9 @@ describe running e = record {
   owner = owner_of e.standing.position e.role e.bytes;
   speed = speed_of running e.standing e.role e.bytes;
   findings = findings_of e;
-  associations = e.standing.position.set.associations;
+  associations = e.standing.position.associations;
   association = bound_at e.standing.bindings (slice_index e.bytes 2);
-  interface = codes_of e.standing.position.set.setting;
+  interface = codes_of e.standing.position;
   string = e.standing.position.strings;
   rest = rest_of_set e.standing.position e.bytes e.after;
 }

@@ -1,5 +1,5 @@
 -- What a descriptor is at its place (USB 2.0, table 9-5 and 9.6).
-use Rattle.std.specs.Prelude.{ℕ, List, length, slice_index, Bool, nat_le, ◌==◌, ◌&&◌, ◌%◌, take, true, false, ◌||◌, Option, Some, None, is_some, option_and_then, if◌then◌else◌}
+use Rattle.std.specs.Prelude.{ℕ, List, length, slice_index, Bool, nat_le, ◌==◌, ◌&&◌, ◌%◌, take, true, false, ◌||◌, Option, Some, None, option_and_then, if◌then◌else◌}
 use Rattle.std.specs.Option.{option_map}
 use Rattle.usb_fields.specs.Bytes.{little_endian_at}
 use Rattle.usb_explain.specs.Trees.{descriptor_length}
@@ -55,7 +55,7 @@ inner_role p d =
     let kind = slice_index d 1 in
     if (kind == 2) || (kind == 7) then None
     else if kind == 4 then Some (typed_role (nat_le 9 (length d)) Interface)
-    else if kind == 5 then Some (typed_role (is_some p.set.setting && nat_le 7 (length d)) Endpoint)
+    else if kind == 5 then Some (typed_role (nat_le 1 p.settings && nat_le 7 (length d)) Endpoint)
     else if kind == 11 then Some (typed_role (nat_le 8 (length d)) Association)
     else Some Raw
 

@@ -1,9 +1,9 @@
 //! What is known of a descriptor at its place beside its bytes.
 ghost use Rattle.std.specs.Prelude.{◌≡◌, ◌-◌, length, take};
 ghost use Rattle.std.specs.Option.{option_copied};
-ghost use Rattle.usb_explain.specs.Contexts.{below, codes_of, depth_of, is_super, rest_of_set, speed_of};
+ghost use Rattle.usb_explain.specs.Contexts.{codes_of, depth_of, is_super, rest_of_set, speed_of};
 
-use crate::position::{OwnerKind, Position, SettingPosition};
+use crate::position::Position;
 use crate::role::Role;
 use crate::speed::SetSpeed;
 use crate::standing::Standing;
@@ -34,8 +34,23 @@ impl Position {
             Role::Interface => 2,
             Role::Endpoint => 3,
             Role::Association => 2,
-            Role::Raw => below(self.set.owner),
+            Role::Raw => self.below,
             _ => 0,
+        }
+    }
+
+    /// The class codes of the interface that a descriptor follows.
+    pub fn codes(&self) -> Option<ClassCodes>
+        ensures { result ≡ codes_of self.now }
+    {
+        if self.settings == 0 {
+            None
+        } else {
+            Some(ClassCodes {
+                class: self.class,
+                subclass: self.subclass,
+                protocol: self.protocol,
+            })
         }
     }
 
@@ -55,27 +70,6 @@ impl Position {
         } else {
             None
         }
-    }
-}
-
-/// The depth of what belongs to a descriptor.
-pub(crate) fn below(owner: OwnerKind) -> u8
-    ensures { result ≡ below owner }
-{
-    match owner {
-        OwnerKind::Configuration => 2,
-        OwnerKind::Interface => 3,
-        OwnerKind::Endpoint => 4,
-    }
-}
-
-/// The class codes of the interface that a descriptor follows.
-pub(crate) fn codes_of(setting: Option<SettingPosition>) -> Option<ClassCodes>
-    ensures { result ≡ codes_of setting }
-{
-    match setting {
-        None => None,
-        Some(setting) => Some(setting.codes),
     }
 }
 

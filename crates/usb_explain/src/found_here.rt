@@ -2,9 +2,9 @@
 ghost use Rattle.std.specs.Prelude.{◌≡◌, drop, length};
 ghost use Rattle.usb_file_data.specs.Places.{finding};
 ghost use Rattle.usb_file_data.specs.Causes.{rule_of};
-ghost use Rattle.usb_explain.specs.Findings.{association_can, can_break, device_can, device_part, endpoint_can, finding_at, found_at, in_set, in_setting, interface_can, is_here, is_same, part_number, qualifier_can, set_can};
+ghost use Rattle.usb_explain.specs.Findings.{association_can, can_break, device_can, device_part, endpoint_can, finding_at, found_at, in_set, interface_can, is_here, is_same, part_number, qualifier_can, set_can};
 
-use crate::position::SetPosition;
+use crate::position::Position;
 use crate::role::Role;
 use crate::standing::Standing;
 use usb_file_data::{Cause, Finding, Found, Part};
@@ -52,38 +52,28 @@ impl Standing {
     fn finding(&self, role: Role, cause: Cause) -> Finding
         ensures { result ≡ finding_at self.now role cause }
     {
-        let set = &self.position.set;
+        let at = &self.position;
         match role {
             Role::Device => part_finding(cause, device_part(cause)),
             Role::Qualifier => part_finding(cause, Part::Other),
-            Role::Association => set.finding(cause, set.associations, 0),
-            Role::Interface => set.finding(cause, set.settings, 0),
-            Role::Endpoint => set.endpoint_finding(cause),
-            _ => set.finding(cause, 0, 0),
+            Role::Association => at.finding(cause, at.associations, 0),
+            Role::Interface => at.finding(cause, at.settings, 0),
+            Role::Endpoint => at.finding(cause, at.setting, at.endpoints),
+            _ => at.finding(cause, 0, 0),
         }
     }
 }
 
-impl SetPosition {
+impl Position {
     fn finding(&self, cause: Cause, setting: usize, endpoint: usize) -> Finding
         ensures { result ≡ in_set self.now cause setting endpoint }
     {
         Finding {
             rule: cause.rule().number(),
-            part: self.part,
-            set: self.number,
+            part: self.part(),
+            set: self.set,
             setting,
             endpoint,
-        }
-    }
-
-    /// That of the next endpoint of the setting.
-    fn endpoint_finding(&self, cause: Cause) -> Finding
-        ensures { result ≡ in_setting self.now cause self.now.setting }
-    {
-        match self.setting {
-            None => self.finding(cause, 0, 0),
-            Some(setting) => self.finding(cause, setting.number, setting.endpoints),
         }
     }
 }

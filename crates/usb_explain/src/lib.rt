@@ -68,7 +68,7 @@ pub use fields::Fields;
 pub use manner::{Look, Manner};
 pub use outline::Outline;
 pub use owner::{DescriptorOwner, InterfaceSetting};
-pub use position::{OwnerKind, Position, SetPosition, SettingPosition};
+pub use position::Position;
 pub use remark::{IntervalRange, PacketSizes, Remark};
 pub use role::Role;
 pub use speed::SetSpeed;

@@ -6,7 +6,6 @@ ghost use Rattle.usb_explain.specs.SetStart.{entered};
 ghost use Rattle.usb_explain.specs.Standings.{passed};
 ghost use Rattle.usb_explain.specs.inside.Walking.{Counted};
 
-use crate::context::codes_of;
 use crate::descriptor::Descriptor;
 use crate::role::Role;
 use crate::speed::SetSpeed;
@@ -131,9 +130,9 @@ impl Standing {
             owner: self.position.owner(role, bytes),
             speed: self.speed(running, role, bytes),
             findings,
-            associations: self.position.set.associations,
+            associations: self.position.associations,
             association: self.bindings.of(byte_at(bytes, 2)),
-            interface: codes_of(self.position.set.setting),
+            interface: self.position.codes(),
             string: self.position.strings,
             rest: self.position.rest_of_set(bytes, behind),
         };

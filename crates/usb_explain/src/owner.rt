@@ -1,8 +1,8 @@
 //! Whose a descriptor is.
 ghost use Rattle.std.specs.Prelude.{◌≡◌};
-ghost use Rattle.usb_explain.specs.Owners.{address_of, interface_of, last_interface, last_owner, owner_of, set_of};
+ghost use Rattle.usb_explain.specs.Owners.{last_owner, owner_of, part_in, set_of, setting_in};
 
-use crate::position::{OwnerKind, Position, SetPosition, SettingPosition};
+use crate::position::Position;
 use crate::role::Role;
 use usb_fields::byte_at;
 use usb_file_data::Part;
@@ -38,74 +38,66 @@ impl Position {
         ensures { result ≡ owner_of self.now role d.now }
     {
         match role {
-            Role::Configuration | Role::Association => Some(self.set.whole()),
+            Role::Configuration | Role::Association => Some(self.whole_set()),
             Role::Interface => Some(DescriptorOwner {
                 setting: Some(InterfaceSetting {
                     interface: byte_at(d, 2),
                     alternate: byte_at(d, 3),
                 }),
-                ..self.set.whole()
+                ..self.whole_set()
             }),
             Role::Endpoint => Some(DescriptorOwner {
+                setting: Some(self.last_setting()),
                 endpoint: Some(byte_at(d, 2)),
-                ..self.set.last_interface()
+                ..self.whole_set()
             }),
-            Role::Raw => Some(self.set.last_owner()),
+            Role::Raw => Some(self.last_owner()),
             _ => None,
         }
     }
-}
 
-impl SetPosition {
-    fn whole(&self) -> DescriptorOwner
+    fn whole_set(&self) -> DescriptorOwner
         ensures { result ≡ set_of self.now }
     {
         DescriptorOwner {
-            part: self.part,
-            set: self.number,
+            part: self.part(),
+            set: self.set,
             setting: None,
             endpoint: None,
         }
     }
 
-    fn last_interface(&self) -> DescriptorOwner
-        ensures { result ≡ last_interface self.now }
+    /// The part that has the set.
+    pub(crate) fn part(&self) -> Part
+        ensures { result ≡ part_in self.now }
     {
-        DescriptorOwner {
-            setting: interface_of(self.setting),
-            ..self.whole()
+        if self.is_other {
+            Part::Other
+        } else {
+            Part::Main
+        }
+    }
+
+    fn last_setting(&self) -> InterfaceSetting
+        ensures { result ≡ setting_in self.now }
+    {
+        InterfaceSetting {
+            interface: self.interface,
+            alternate: self.alternate,
         }
     }
 
     /// The last of what owns other descriptors.
     fn last_owner(&self) -> DescriptorOwner
-        ensures { result ≡ last_owner self.now.owner self.now }
+        ensures { result ≡ last_owner self.now }
     {
-        match self.owner {
-            OwnerKind::Configuration => self.whole(),
-            OwnerKind::Interface => self.last_interface(),
-            OwnerKind::Endpoint => DescriptorOwner {
-                endpoint: address_of(self.setting),
-                ..self.last_interface()
-            },
+        let mut owner = self.whole_set();
+        if self.below == 3 || self.below == 4 {
+            owner.setting = Some(self.last_setting());
         }
-    }
-}
-
-fn interface_of(setting: Option<SettingPosition>) -> Option<InterfaceSetting>
-    ensures { result ≡ interface_of setting }
-{
-    match setting {
-        None => None,
-        Some(setting) => Some(setting.interface),
-    }
-}
-
-fn address_of(setting: Option<SettingPosition>) -> Option<u8>
-    ensures { result ≡ address_of setting }
-{
-    match setting {
-        None => None,
-        Some(setting) => setting.endpoint,
+        if self.below == 4 {
+            owner.endpoint = Some(self.endpoint);
+        }
+        owner
     }
 }

@@ -1,18 +1,15 @@
 //! Where a descriptor stands in an input, as plain numbers: all that decides what it is, how deep and whose.
 ghost use Rattle.std.specs.Prelude.{◌≡◌, ◌≤◌, ◌+◌, ◌<◌, ◌^◌, IfSome, length};
-ghost use Rattle.usb_explain.specs.Positions.{first_position, moved, noted, position_after, position_at, setting_of, sets_of, part_of, with_endpoint, with_set};
+ghost use Rattle.usb_explain.specs.Positions.{begun, first_position, moved, noted, position_after, position_at, sets_of, with_set, with_setting};
 ghost use Rattle.usb_explain.specs.Roles.{next_role};
-ghost use Rattle.usb_explain.specs.inside.Walking.{Counted, endpoints_of};
+ghost use Rattle.usb_explain.specs.inside.Walking.{Counted};
 
-use crate::owner::InterfaceSetting;
 use crate::rest_lines::descriptor_length;
 use crate::role::Role;
 use usb_fields::{byte_at, descriptor_type, prefix, word_at};
-use usb_file_data::Part;
-use usb_names::ClassCodes;
 
 /// What came before a descriptor, as numbers. A walk over an input goes from one to the next: [`next_role`](Self::next_role) says
-/// what comes, [`enter`](Self::enter) is at it, and [`pass`](Self::pass) after it.
+/// what comes, [`enter`](Self::enter) is at it, and [`pass`](Self::pass) behind it. All of the first one is 0.
 ///
 /// ```rust
 /// let mut position = Position::start();
@@ -21,67 +18,49 @@ use usb_names::ClassCodes;
 ///     position.pass(role, &bytes[..length]);
 /// }
 /// ```
+#[repr(C)]
 #[derive(Clone, Copy, Debug, Drop, PartialEq, Eq, Hash)]
 pub struct Position {
     /// Its place in the input.
     pub at: usize,
     /// How many bytes of the set are left from here on; none outside of sets.
     pub left: usize,
-    /// Whether the device came.
-    pub has_device: bool,
-    /// Whether the language list came.
-    pub has_languages: bool,
     /// How many strings came.
     pub strings: usize,
     /// How many sets of the main part came.
     pub main_sets: usize,
     /// How many sets of the other part came.
     pub other_sets: usize,
-    /// The set that it is in.
-    pub set: SetPosition,
-}
-
-/// What came of a set before a descriptor in it.
-#[derive(Clone, Copy, Debug, Drop, PartialEq, Eq, Hash)]
-pub struct SetPosition {
-    /// The part that has the set.
-    pub part: Part,
-    /// The number of the set in its part.
-    pub number: usize,
-    /// How many associations came.
+    /// The number of the set that it is in, in its part.
+    pub set: usize,
+    /// How many associations of the set came.
     pub associations: usize,
-    /// How many settings came.
+    /// How many settings of the set came.
     pub settings: usize,
-    /// The last one of them.
-    pub setting: Option<SettingPosition>,
-    /// What came last of what owns other descriptors.
-    pub owner: OwnerKind,
-}
-
-/// The setting whose interface descriptor a descriptor follows.
-#[derive(Clone, Copy, Debug, Drop, PartialEq, Eq, Hash)]
-pub struct SettingPosition {
-    /// The number of the setting in its set.
-    pub number: usize,
-    /// The interface, and which of its settings it is.
-    pub interface: InterfaceSetting,
-    /// How many endpoints came.
+    /// The number of the last one of them.
+    pub setting: usize,
+    /// How many endpoints of that setting came.
     pub endpoints: usize,
-    /// bEndpointAddress of the last one of them.
-    pub endpoint: Option<u8>,
-    /// What its interface is.
-    pub codes: ClassCodes,
-}
-
-/// What owns a descriptor that owns none itself.
-#[derive(Clone, Copy, Debug, Drop, PartialEq, Eq, Hash)]
-pub enum OwnerKind {
-    /// The configuration: the set as a whole.
-    Configuration,
-    /// An interface.
-    Interface,
-    /// An endpoint.
-    Endpoint,
+    /// bInterfaceNumber of that setting.
+    pub interface: u8,
+    /// bAlternateSetting of it.
+    pub alternate: u8,
+    /// bInterfaceClass of it. Behind a device, bDeviceClass.
+    pub class: u8,
+    /// The subclass.
+    pub subclass: u8,
+    /// The protocol.
+    pub protocol: u8,
+    /// bEndpointAddress of the last endpoint.
+    pub endpoint: u8,
+    /// The depth of a descriptor that extends what came last: 2 of a set, 3 of an interface, 4 of an endpoint.
+    pub below: u8,
+    /// Whether the set is one of the other speed.
+    pub is_other: bool,
+    /// Whether the device came.
+    pub has_device: bool,
+    /// Whether the language list came.
+    pub has_languages: bool,
 }
 
 impl Position {
@@ -93,12 +72,24 @@ impl Position {
         Position {
             at: 0,
             left: 0,
-            has_device: false,
-            has_languages: false,
             strings: 0,
             main_sets: 0,
             other_sets: 0,
-            set: SetPosition::of(Part::Main, 0),
+            set: 0,
+            associations: 0,
+            settings: 0,
+            setting: 0,
+            endpoints: 0,
+            interface: 0,
+            alternate: 0,
+            class: 0,
+            subclass: 0,
+            protocol: 0,
+            endpoint: 0,
+            below: 0,
+            is_other: false,
+            has_device: false,
+            has_languages: false,
         }
     }
 
@@ -125,12 +116,42 @@ impl Position {
     {
         match role {
             Role::Configuration => {
-                let part = part_of(byte_at(ahead, 1));
+                let is_other = byte_at(ahead, 1) == descriptor_type::OTHER_SPEED_CONFIGURATION;
                 self.left = usize::from(word_at(ahead, 2));
-                self.set = SetPosition::of(part, self.sets_of(part));
+                self.begin(is_other, self.sets_of(is_other), 2);
             }
             Role::Association | Role::Interface | Role::Endpoint | Role::Raw => {}
-            _ => self.set = SetPosition::of(Part::Main, 0),
+            _ => self.begin(false, 0, 0),
+        }
+    }
+
+    /// Begins the set of this number, or none.
+    fn begin(&mut self, is_other: bool, number: usize, below: u8)
+        ensures { self.new ≡ begun is_other number below self.old }
+    {
+        self.is_other = is_other;
+        self.set = number;
+        self.associations = 0;
+        self.settings = 0;
+        self.setting = 0;
+        self.endpoints = 0;
+        self.interface = 0;
+        self.alternate = 0;
+        self.class = 0;
+        self.subclass = 0;
+        self.protocol = 0;
+        self.endpoint = 0;
+        self.below = below;
+    }
+
+    /// How many sets of the part came.
+    fn sets_of(&self, is_other: bool) -> usize
+        ensures { result ≡ sets_of self.now is_other }
+    {
+        if is_other {
+            self.other_sets
+        } else {
+            self.main_sets
         }
     }
 
@@ -160,21 +181,23 @@ impl Position {
         ensures { self.new ≡ noted role d.now self.old }
     {
         match role {
-            Role::Device => self.has_device = true,
+            Role::Device => {
+                self.has_device = true;
+                self.class = byte_at(d, 4);
+                self.subclass = byte_at(d, 5);
+                self.protocol = byte_at(d, 6);
+            }
             Role::Qualifier => {}
-            Role::Configuration => self.add_set(self.set.part),
+            Role::Configuration => self.add_set(),
             Role::Association => {
-                self.set.associations += 1;
-                self.set.owner = OwnerKind::Configuration;
+                self.associations += 1;
+                self.below = 2;
             }
-            Role::Interface => {
-                self.set.setting = Some(setting_of(self.set.settings, d));
-                self.set.settings += 1;
-                self.set.owner = OwnerKind::Interface;
-            }
+            Role::Interface => self.add_setting(d),
             Role::Endpoint => {
-                self.set.setting = with_endpoint(self.set.setting, byte_at(d, 2));
-                self.set.owner = OwnerKind::Endpoint;
+                self.endpoints += 1;
+                self.endpoint = byte_at(d, 2);
+                self.below = 4;
             }
             Role::Raw => {}
             Role::Languages => self.has_languages = true,
@@ -182,87 +205,32 @@ impl Position {
         }
     }
 
-    fn add_set(&mut self, part: Part)
+    fn add_set(&mut self)
         requires main { self.old.main_sets + 1 < 2 ^ 64 }
         requires other { self.old.other_sets + 1 < 2 ^ 64 }
-        ensures { self.new ≡ with_set part self.old }
+        ensures { self.new ≡ with_set self.old.is_other self.old }
     {
-        match part {
-            Part::Other => self.other_sets += 1,
-            _ => self.main_sets += 1,
+        if self.is_other {
+            self.other_sets += 1;
+        } else {
+            self.main_sets += 1;
         }
     }
 
-    /// How many sets of the part came.
-    fn sets_of(&self, part: Part) -> usize
-        ensures { result ≡ sets_of self.now part }
+    /// One setting more, which an interface begins.
+    fn add_setting(&mut self, d: &[u8])
+        requires { self.old.settings + 1 < 2 ^ 64 }
+        ensures { self.new ≡ with_setting d.now self.old }
     {
-        match part {
-            Part::Other => self.other_sets,
-            _ => self.main_sets,
-        }
-    }
-}
-
-impl SetPosition {
-    ghost use Rattle.usb_explain.specs.Positions.{set_begun};
-
-    /// At the first descriptor of a set of this number in a part.
-    fn of(part: Part, number: usize) -> SetPosition
-        ensures { result ≡ set_begun part number }
-    {
-        SetPosition {
-            part,
-            number,
-            associations: 0,
-            settings: 0,
-            setting: None,
-            owner: OwnerKind::Configuration,
-        }
-    }
-}
-
-/// The part of a set, by its type.
-fn part_of(kind: u8) -> Part
-    ensures { result ≡ part_of kind }
-{
-    match kind {
-        descriptor_type::OTHER_SPEED_CONFIGURATION => Part::Other,
-        _ => Part::Main,
-    }
-}
-
-/// The setting that an interface begins.
-fn setting_of(number: usize, d: &[u8]) -> SettingPosition
-    ensures { result ≡ setting_of number d.now }
-{
-    SettingPosition {
-        number,
-        interface: InterfaceSetting {
-            interface: byte_at(d, 2),
-            alternate: byte_at(d, 3),
-        },
-        endpoints: 0,
-        endpoint: None,
-        codes: ClassCodes {
-            class: byte_at(d, 5),
-            subclass: byte_at(d, 6),
-            protocol: byte_at(d, 7),
-        },
-    }
-}
-
-/// One endpoint more, of this address.
-fn with_endpoint(setting: Option<SettingPosition>, address: u8) -> Option<SettingPosition>
-    requires { endpoints_of setting + 1 < 2 ^ 64 }
-    ensures { result ≡ with_endpoint address setting }
-{
-    match setting {
-        None => None,
-        Some(setting) => Some(SettingPosition {
-            endpoints: setting.endpoints + 1,
-            endpoint: Some(address),
-            ..setting
-        }),
+        self.setting = self.settings;
+        self.settings += 1;
+        self.endpoints = 0;
+        self.interface = byte_at(d, 2);
+        self.alternate = byte_at(d, 3);
+        self.class = byte_at(d, 5);
+        self.subclass = byte_at(d, 6);
+        self.protocol = byte_at(d, 7);
+        self.endpoint = 0;
+        self.below = 3;
     }
 }

@@ -60,7 +60,7 @@ impl Position {
                 Role::Interface,
             )),
             descriptor_type::ENDPOINT => Some(typed_role(
-                self.set.setting.is_some() && length >= usize::from(descriptor_length::ENDPOINT),
+                self.settings >= 1 && length >= usize::from(descriptor_length::ENDPOINT),
                 Role::Endpoint,
             )),
             descriptor_type::INTERFACE_ASSOCIATION => Some(typed_role(

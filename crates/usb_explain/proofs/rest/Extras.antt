@@ -27,19 +27,17 @@ use Rattle.usb_set.proofs.ExtraLemmas.{untyped}
 use Rattle.usb_explain.specs.Trees.{descriptor_length, extra_depth, extra_descriptors, extra_owner, extra_role, tree_descriptor}
 use Rattle.usb_explain.specs.declared.role.Role.{Role}
 use Rattle.usb_explain.specs.declared.role.Role.TheVariants as roles
-use Rattle.usb_explain.specs.declared.position.OwnerKind.{OwnerKind}
-use Rattle.usb_explain.specs.declared.position.OwnerKind.TheVariants as owners
 use Rattle.usb_explain.specs.declared.standing.Standing.{Standing}
 use Rattle.usb_explain.specs.Findings.{association_can, can_break, finding_at, is_here, is_same, part_number}
-use Rattle.usb_explain.specs.Contexts.{below, depth_of}
-use Rattle.usb_explain.specs.Owners.{owner_of}
+use Rattle.usb_explain.specs.Contexts.{depth_of}
+use Rattle.usb_explain.specs.Owners.{owner_of, part_in}
 use Rattle.usb_explain.specs.declared.owner.DescriptorOwner.{DescriptorOwner}
 use Rattle.usb_explain.specs.Positions.{noted}
 use Rattle.usb_explain.specs.Roles.{inner_role, typed_role}
 use Rattle.usb_explain.specs.declared.speed.SetSpeed.{SetSpeed}
 use Rattle.usb_explain.proofs.Spans.{Aim, adding}
 use Rattle.usb_explain.proofs.rest.Steps.{inner_at, length_is}
-use Rattle.usb_explain.proofs.rest.Seen.{Goes, Seen, Step, goes_as, here_both, here_when, one_goes, seen, whose, whose_is}
+use Rattle.usb_explain.proofs.rest.Seen.{Goes, Seen, Step, goes_as, here_both, here_when, one_goes, seen, whose}
 
 -- ---- a descriptor by what is seen before it
 
@@ -66,11 +64,11 @@ association_breaks : (none : Bool) → association_can (if none then causes.NoIn
 association_breaks true = refl
 association_breaks false = refl
 
-here_association : (s : Standing) (a : Association) → is_here s roles.Association (found (association_cause a) s.position.set.part s.position.set.number s.position.set.associations 0) ≡ true
+here_association : (s : Standing) (a : Association) → is_here s roles.Association (found (association_cause a) (part_in s.position) s.position.set s.position.associations 0) ≡ true
 unfolding finding_at can_break
 here_association s a =
-    here_is s roles.Association (association_cause a) s.position.set.part s.position.set.number s.position.set.associations 0
-    (same_place (rule_of (association_cause a)) s.position.set.part s.position.set.number s.position.set.associations 0) (association_breaks (a.count == 0))
+    here_is s roles.Association (association_cause a) (part_in s.position) s.position.set s.position.associations 0
+    (same_place (rule_of (association_cause a)) (part_in s.position) s.position.set s.position.associations 0) (association_breaks (a.count == 0))
 
 -- ---- what is left
 
@@ -88,18 +86,9 @@ same_taken v left count n c e f =
 
 -- ---- an extra
 
--- what owns the descriptors after it
-abbrev owner_after : Extra → OwnerKind → OwnerKind
-owner_after (extras.Raw r) o = o
-owner_after (extras.Association a) o = owners.Configuration
-
-below_after : (x : Extra) (o : OwnerKind) → below (owner_after x o) ≡ extra_depth (below o) x
-below_after (extras.Raw r) o = refl
-below_after (extras.Association a) o = refl
-
 -- it is taken
 abbrev after_extra : Extra → Seen → Seen
-after_extra x v = record (taken (length (extra_bytes x)) (length (association_in x)) v) { owner = owner_after x v.owner }
+after_extra x v = record (taken (length (extra_bytes x)) (length (association_in x)) v) { below = extra_depth v.below x }
 
 whose_after : (x : Extra) (v : Seen) → whose (after_extra x v) ≡ extra_owner (whose v) x
 whose_after (extras.Raw r) v = refl
@@ -122,21 +111,21 @@ abbrev extra_findings : Part → ℕ → List Setting → ℕ → Extra → List
 extra_findings part i settings n x = at_each (λ k a. when (binds_missing_interface settings a) (found (association_cause a) part i k 0)) n (association_in x)
 
 extra_step : (running : Option SetSpeed) (settings : List Setting) (x : Extra) (behind : List ℕ) (s : Standing) → is_typed_raw x ≡ false → length (extra_bytes x) ≤ s.position.left
-    → Step running s (extra_role x) (extra_bytes x) behind (extra_findings s.position.set.part s.position.set.number settings s.position.set.associations x)
-    (after_extra x (seen s)) (extra_depth (below s.position.set.owner) x) (Some (extra_owner (whose (seen s)) x))
+    → Step running s (extra_role x) (extra_bytes x) behind (extra_findings (part_in s.position) s.position.set settings s.position.associations x)
+    (after_extra x (seen s)) (extra_depth s.position.below x) (Some (extra_owner (whose (seen s)) x))
 unfolding noted depth_of owner_of
 extra_step running settings (extras.Raw r) behind s e room =
-    let same : s.position.set.associations ≡ s.position.set.associations + 0 = omega arith in
+    let same : s.position.associations ≡ s.position.associations + 0 = omega arith in
     record {
       is = inner_at s (extra_bytes (extras.Raw r)) s.position.left refl (omega arith) room ∙ raw_role s r e;
       own = tt;
-      after = same_taken (seen s) (s.position.left - length (extra_bytes (extras.Raw r))) s.position.set.associations (length (extra_bytes (extras.Raw r))) 0 refl same;
+      after = same_taken (seen s) (s.position.left - length (extra_bytes (extras.Raw r))) s.position.associations (length (extra_bytes (extras.Raw r))) 0 refl same;
       deep = refl;
-      belongs = ap Some (whose_is s);
+      belongs = refl;
     }
 extra_step running settings (extras.Association a) behind s e room =
     let d = extra_bytes (extras.Association a) in
-    let f = found (association_cause a) s.position.set.part s.position.set.number s.position.set.associations 0 in
+    let f = found (association_cause a) (part_in s.position) s.position.set s.position.associations 0 in
     let here = is_here s roles.Association in
     record {
       is = inner_at s d s.position.left refl (omega arith) room ∙ association_role s a;
@@ -148,12 +137,12 @@ extra_step running settings (extras.Association a) behind s e room =
 
 extra_goes : (E : Aim) (running : Option SetSpeed) (settings : List Setting) (x : Extra) (v : Seen) (behind : List ℕ) (later : List Found) → is_typed_raw x ≡ false
     → length (extra_bytes x) ≤ v.left
-    → Goes (adding E (tree_descriptor (extra_role x) (extra_depth (below v.owner) x) (Some (extra_owner (whose v) x)) (extra_bytes x) ∷ [])) running (after_extra x v) later behind
+    → Goes (adding E (tree_descriptor (extra_role x) (extra_depth v.below x) (Some (extra_owner (whose v) x)) (extra_bytes x) ∷ [])) running (after_extra x v) later behind
     → Goes E running v (extra_findings v.part v.number settings v.associations x ++ later) (extra_bytes x ++ behind)
 extra_goes E running settings x v behind later e room onward =
     let item = extra_descriptor x in
     seen_goes E running v (λ v. length (extra_bytes x) ≤ v.left) (extra_role x) (extra_bytes x) behind (λ v. extra_findings v.part v.number settings v.associations x)
-    (after_extra x) later (λ v. extra_depth (below v.owner) x) (λ v. Some (extra_owner (whose v) x)) (length_is (2 + length item.body) item.kind item.body behind refl)
+    (after_extra x) later (λ v. extra_depth v.below x) (λ v. Some (extra_owner (whose v) x)) (length_is (2 + length item.body) item.kind item.body behind refl)
     (λ s p. extra_step running settings x behind s e p) room onward
 
 -- ---- extras one after another
@@ -163,10 +152,10 @@ count_append xs ys = ap (λ (l : List Association). length l) (flat_map-append a
 
 pub extras_go : (E : Aim) (running : Option SetSpeed) (settings : List Setting) (xs : List Extra) (v : Seen) (behind : List ℕ) (later : List Found) → list_any is_typed_raw xs ≡ false
     → length (flat_map extra_bytes xs) ≤ v.left
-    → ((o : OwnerKind) → Goes (adding E (extra_descriptors (below v.owner) (whose v) xs)) running (record (taken (length (flat_map extra_bytes xs)) (association_count xs) v) { owner = o }) later behind)
+    → ((o : ℕ) → Goes (adding E (extra_descriptors v.below (whose v) xs)) running (record (taken (length (flat_map extra_bytes xs)) (association_count xs) v) { below = o }) later behind)
     → Goes E running v (at_associations v.part v.number settings v.associations xs ++ later) (flat_map extra_bytes xs ++ behind)
 extras_go E running settings [] v behind later e room onward =
-    subst (λ w. Goes E running w later behind) (sym (same_taken v v.left v.associations 0 0 (omega arith) (omega arith))) (onward v.owner)
+    subst (λ w. Goes E running w later behind) (sym (same_taken v v.left v.associations 0 0 (omega arith) (omega arith))) (onward v.below)
 extras_go E running settings (x ∷ xs) v behind later e room onward =
     let each = or_parts (is_typed_raw x) (list_any is_typed_raw xs) e in
     let d = extra_bytes x in
@@ -176,7 +165,7 @@ extras_go E running settings (x ∷ xs) v behind later e room onward =
     let rest = at_associations v.part v.number settings (v.associations + n) xs in
     let sum : length (d ++ more) ≡ length d + length more = length-append d more in
     let count : association_count (x ∷ xs) ≡ n + association_count xs = length-append (association_in x) (flat_map association_in xs) in
-    let depth = extra_depth (below v.owner) x in
+    let depth = extra_depth v.below x in
     let owner = extra_owner (whose v) x in
     let said : Aim = adding E (tree_descriptor (extra_role x) depth (Some owner) d ∷ []) in
     goes_as E running v (at_associations v.part v.number settings v.associations (x ∷ xs) ++ later) (one ++ (rest ++ later)) ((d ++ more) ++ behind) (d ++ (more ++ behind))
@@ -184,8 +173,6 @@ extras_go E running settings (x ∷ xs) v behind later e room onward =
     ∙ append_assoc one rest later) (append_assoc d more behind)
     (extra_goes E running settings x v (more ++ behind) (rest ++ later) each.0 (omega (arith, room, sum))
     (extras_go said running settings xs (after_extra x v) behind later each.1 (omega (arith, room, sum))
-    (λ o. subst (λ k. Goes (adding said (extra_descriptors k (whose (after_extra x v)) xs)) running (record (taken (length more) (association_count xs) (after_extra x v)) { owner = o }) later behind)
-    (sym (below_after x v.owner))
-    (subst (λ w. Goes (adding said (extra_descriptors depth w xs)) running (record (taken (length more) (association_count xs) (after_extra x v)) { owner = o }) later behind) (sym (whose_after x v))
-    (subst (λ (w : Seen). Goes (adding said (extra_descriptors depth owner xs)) running (record w { owner = o }) later behind)
+    (λ o. (subst (λ w. Goes (adding said (extra_descriptors depth w xs)) running (record (taken (length more) (association_count xs) (after_extra x v)) { below = o }) later behind) (sym (whose_after x v))
+    (subst (λ (w : Seen). Goes (adding said (extra_descriptors depth owner xs)) running (record w { below = o }) later behind)
     (sym (same_taken v ((v.left - length d) - length more) ((v.associations + n) + association_count xs) (length (d ++ more)) (association_count (x ∷ xs)) (omega (arith, sum)) (omega (arith, count)))) (onward o))))))

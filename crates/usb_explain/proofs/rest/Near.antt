@@ -117,7 +117,7 @@ unfolding inner_role
 inner s len kind body e =
     let n = length (len ∷ kind ∷ body) in
     let nine = nat_le 9 n in
-    let seven = is_some s.position.set.setting && nat_le 7 n in
+    let seven = nat_le 1 s.position.settings && nat_le 7 n in
     let eight = nat_le 8 n in
     let one = chosen (kind == 4) (kind == 5) (kind == 11) (typed_role nine Interface) (typed_role seven Endpoint) (typed_role eight Association)
     (typed_stays nine Interface tt) (typed_stays seven Endpoint tt) (typed_stays eight Association tt) in

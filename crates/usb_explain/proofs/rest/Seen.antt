@@ -9,17 +9,13 @@ use Rattle.usb_file_data.specs.declared.finding.Part.{Part}
 use Rattle.usb_file_data.specs.Places.{when}
 use Rattle.usb_explain.specs.Trees.{descriptor_length, TreeDescriptor, tree_descriptor}
 use Rattle.usb_explain.specs.declared.role.Role.{Role}
-use Rattle.usb_explain.specs.declared.position.OwnerKind.{OwnerKind}
-use Rattle.usb_explain.specs.declared.position.SetPosition.{SetPosition}
-use Rattle.usb_explain.specs.declared.position.SettingPosition.{SettingPosition}
 use Rattle.usb_explain.specs.declared.standing.Standing.{Standing}
 use Rattle.usb_explain.specs.Findings.{found_at, is_here}
 use Rattle.usb_explain.specs.Contexts.{depth_of}
 use Rattle.usb_explain.proofs.Outlines.{entry_in_tree}
-use Rattle.usb_explain.specs.Owners.{address_of, interface_of, last_owner, owner_of}
+use Rattle.usb_explain.specs.Owners.{of_interface, of_set, owner_above, owner_of, part_in, setting_in}
 use Rattle.usb_explain.specs.declared.owner.InterfaceSetting.{InterfaceSetting}
 use Rattle.usb_explain.specs.declared.owner.DescriptorOwner.{DescriptorOwner}
-use Rattle.usb_explain.specs.declared.position.OwnerKind.TheVariants as owners
 use Rattle.usb_explain.specs.SetStart.{entered}
 use Rattle.usb_explain.specs.Standings.{passed}
 use Rattle.usb_explain.specs.Roles.{role_of}
@@ -30,7 +26,7 @@ use Rattle.usb_explain.proofs.rest.Steps.{behind_one, goes_on, left_one}
 
 -- how much of a set is left, whether the device and the language list came, how many sets of each part, which set it is, how
 -- many associations and settings of it came, of the last setting its number, how many endpoints, its interface and the address
--- of its last endpoint, and what came last of what owns other descriptors
+-- of its last endpoint, and how deep is what extends what came last
 pub record Seen : Type 0 where
   pub left : ℕ
   pub known : Bool
@@ -41,14 +37,11 @@ pub record Seen : Type 0 where
   pub number : ℕ
   pub associations : ℕ
   pub settings : ℕ
-  pub setting : Option (ℕ × ℕ)
-  pub interface : Option InterfaceSetting
-  pub address : Option ℕ
-  pub owner : OwnerKind
-
-abbrev pub numbers_of : Option SettingPosition → Option (ℕ × ℕ)
-numbers_of None = None
-numbers_of (Some setting) = Some (setting.number, setting.endpoints)
+  pub setting : ℕ
+  pub endpoints : ℕ
+  pub interface : InterfaceSetting
+  pub address : ℕ
+  pub below : ℕ
 
 abbrev pub seen : Standing → Seen
 seen s = record {
@@ -57,43 +50,23 @@ seen s = record {
   spoken = s.position.has_languages;
   mains = s.position.main_sets;
   others = s.position.other_sets;
-  part = s.position.set.part;
-  number = s.position.set.number;
-  associations = s.position.set.associations;
-  settings = s.position.set.settings;
-  setting = numbers_of s.position.set.setting;
-  interface = interface_of s.position.set.setting;
-  address = address_of s.position.set.setting;
-  owner = s.position.set.owner;
+  part = part_in s.position;
+  number = s.position.set;
+  associations = s.position.associations;
+  settings = s.position.settings;
+  setting = s.position.setting;
+  endpoints = s.position.endpoints;
+  interface = setting_in s.position;
+  address = s.position.endpoint;
+  below = s.position.below;
 }
-
--- an interface of what owns others last, and an endpoint
-abbrev pub setting_when : OwnerKind → Option InterfaceSetting → Option InterfaceSetting
-setting_when owners.Configuration interface = None
-setting_when owners.Interface interface = interface
-setting_when owners.Endpoint interface = interface
-
-abbrev pub endpoint_when : OwnerKind → Option ℕ → Option ℕ
-endpoint_when owners.Configuration address = None
-endpoint_when owners.Interface address = None
-endpoint_when owners.Endpoint address = address
 
 -- the last of what owns others, and the last interface
 abbrev pub whose : Seen → DescriptorOwner
-whose v = record { part = v.part; set = v.number; setting = setting_when v.owner v.interface; endpoint = endpoint_when v.owner v.address }
+whose v = owner_above v.below (of_set v.part v.number) v.interface v.address
 
 abbrev pub whose_interface : Seen → DescriptorOwner
-whose_interface v = record { part = v.part; set = v.number; setting = v.interface; endpoint = None }
-
-by_kind : (kind : OwnerKind) (set : SetPosition)
-    → last_owner kind set
-    ≡ record { part = set.part; set = set.number; setting = setting_when kind (interface_of set.setting); endpoint = endpoint_when kind (address_of set.setting) }
-by_kind owners.Configuration set = refl
-by_kind owners.Interface set = refl
-by_kind owners.Endpoint set = refl
-
-pub whose_is : (s : Standing) → last_owner s.position.set.owner s.position.set ≡ whose (seen s)
-whose_is s = by_kind s.position.set.owner s.position.set
+whose_interface v = of_interface (of_set v.part v.number) v.interface.interface v.interface.alternate
 
 -- what is left is a rear of these findings
 abbrev pub Rear : List Found → List Found → Type 0

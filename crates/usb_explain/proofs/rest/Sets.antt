@@ -26,7 +26,6 @@ use Rattle.usb_file_data.proofs.WholeSets.{no_some}
 use Rattle.usb_explain.specs.declared.speed.SetSpeed.{SetSpeed}
 use Rattle.usb_explain.specs.declared.role.Role.{Role}
 use Rattle.usb_explain.specs.declared.role.Role.TheVariants as roles
-use Rattle.usb_explain.specs.declared.position.OwnerKind.TheVariants as owners
 use Rattle.usb_explain.specs.declared.standing.Standing.{Standing}
 use Rattle.usb_explain.specs.Findings.{can_break, finding_at, is_here, set_can}
 use Rattle.usb_explain.specs.Contexts.{depth_of}
@@ -75,10 +74,11 @@ begun kind n v = record {
   number = count_in kind (out v);
   associations = 0;
   settings = 0;
-  setting = None;
-  interface = None;
-  address = None;
-  owner = owners.Configuration;
+  setting = 0;
+  endpoints = 0;
+  interface = record { interface = 0; alternate = 0 };
+  address = 0;
+  below = 2;
 }
 
 begun_out : (kind : SetKind) (k n : ℕ) (v : Seen) → out_at k (begun kind n v) ≡ with_count kind (count_in kind (out v) + 1) (out_at k v)
@@ -206,7 +206,7 @@ set_goes E running c before total v behind later raws all_bytes outside onward =
     (four_parts one two (three n) later ∙ ap (λ k. one ++ (two ++ (three k ++ later))) none) (ap (λ l. l ++ behind) is ∙ four_parts d x y behind)
     (configuration_goes E running before c total v behind (two ++ (three (0 + n) ++ later)) whole outside
     (extras_go said running c.settings c.extras first (y ++ behind) (three (0 + n) ++ later) typed.0 (omega (arith, sum))
-    (λ q. settings_go with_extras running c.settings c.settings (record (taken (length x) n first) { owner = q }) behind later typed.1 left
+    (λ q. settings_go with_extras running c.settings c.settings (record (taken (length x) n first) { below = q }) behind later typed.1 left
     (λ w e. goes_for (adding E (set_descriptors_by owner c total)) (adding with_extras (flat_map (setting_descriptors owner) c.settings)) running w later behind
     (λ r l h. subst (λ k. E r (tree_descriptor roles.Configuration 1 (Some owner) d ∷ k)) (append_assoc (extra_descriptors 2 owner c.extras) (flat_map (setting_descriptors owner) c.settings) l) h)
     (onward w (e ∙ begun_out c.kind 0 (total - length d) v ∙ ap (λ k. with_count c.kind (i + 1) (out_at k v)) (sym outside)))))))

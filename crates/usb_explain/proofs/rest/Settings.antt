@@ -15,11 +15,10 @@ use Rattle.usb_set.specs.Descriptors.{descriptor_bytes, interface_descriptor}
 use Rattle.usb_set.specs.inside.Trees.{endpoint_bytes, extra_bytes, is_setting_typed, setting_bytes}
 use Rattle.usb_set.proofs.Trees.{setting_typed_parts}
 use Rattle.usb_explain.specs.declared.role.Role.TheVariants as roles
-use Rattle.usb_explain.specs.declared.position.OwnerKind.TheVariants as owners
 use Rattle.usb_explain.specs.declared.standing.Standing.{Standing}
 use Rattle.usb_explain.specs.Findings.{can_break, finding_at, interface_can, is_here}
 use Rattle.usb_explain.specs.Contexts.{depth_of}
-use Rattle.usb_explain.specs.Owners.{of_interface, of_set, owner_of}
+use Rattle.usb_explain.specs.Owners.{of_interface, of_set, owner_of, part_in}
 use Rattle.usb_explain.specs.declared.owner.DescriptorOwner.{DescriptorOwner}
 use Rattle.usb_explain.specs.Positions.{noted}
 use Rattle.usb_explain.specs.Roles.{inner_role, typed_role}
@@ -33,9 +32,9 @@ use Rattle.usb_explain.proofs.rest.Endpoints.{endpoints_go}
 
 -- ---- an interface
 
-here_interface : (s : Standing) (cause : Cause) → interface_can cause ≡ true → is_here s roles.Interface (found cause s.position.set.part s.position.set.number s.position.set.settings 0) ≡ true
+here_interface : (s : Standing) (cause : Cause) → interface_can cause ≡ true → is_here s roles.Interface (found cause (part_in s.position) s.position.set s.position.settings 0) ≡ true
 unfolding finding_at can_break
-here_interface s cause h = here_is s roles.Interface cause s.position.set.part s.position.set.number s.position.set.settings 0 (same_place (rule_of cause) s.position.set.part s.position.set.number s.position.set.settings 0) h
+here_interface s cause h = here_is s roles.Interface cause (part_in s.position) s.position.set s.position.settings 0 (same_place (rule_of cause) (part_in s.position) s.position.set s.position.settings 0) h
 
 interface_role : (s : Standing) (t : Setting) → inner_role s.position (descriptor_bytes (interface_descriptor t)) ≡ Some roles.Interface
 unfolding inner_role
@@ -46,10 +45,11 @@ abbrev begun_setting : Setting → ℕ → Seen → Seen
 begun_setting t n v = record v {
   left = v.left - n;
   settings = v.settings + 1;
-  setting = Some (v.settings, 0);
-  interface = Some (record { interface = t.number; alternate = t.alternate });
-  address = None;
-  owner = owners.Interface;
+  setting = v.settings;
+  endpoints = 0;
+  interface = record { interface = t.number; alternate = t.alternate };
+  address = 0;
+  below = 3;
 }
 
 -- an interface of the set that is seen
@@ -79,13 +79,13 @@ setting_sum t ts =
 
 interface_step : (running : Option SetSpeed) (all : List Setting) (t : Setting) (ts : List Setting) (behind : List ℕ) (s : Standing)
     → s.position.left ≡ length (flat_map setting_bytes (t ∷ ts))
-    → Step running s roles.Interface (descriptor_bytes (interface_descriptor t)) (behind_interface t ts behind) (at_interface s.position.set.part s.position.set.number all s.position.set.settings t)
+    → Step running s roles.Interface (descriptor_bytes (interface_descriptor t)) (behind_interface t ts behind) (at_interface (part_in s.position) s.position.set all s.position.settings t)
     (begun_setting t (length (descriptor_bytes (interface_descriptor t))) (seen s)) 2 (Some (interface_in t (seen s)))
 unfolding noted depth_of owner_of
 interface_step running all t ts behind s left =
     let d = descriptor_bytes (interface_descriptor t) in
-    let j = s.position.set.settings in
-    let f = λ (cause : Cause). found cause s.position.set.part s.position.set.number j 0 in
+    let j = s.position.settings in
+    let f = λ (cause : Cause). found cause (part_in s.position) s.position.set j 0 in
     let here = here_interface s in
     let count = causes.EndpointCount t.declared_endpoints (length t.endpoints) in
     let sum = setting_sum t ts in
@@ -178,8 +178,8 @@ settings_go E running all (t ∷ ts) v behind later typed whole onward =
     ((((d ++ x) ++ y) ++ more) ++ behind) (d ++ (x ++ (y ++ (more ++ behind)))) (five_parts one two three rest later) (five_parts d x y more behind)
     (interface_goes E running all t ts v behind (two ++ (three ++ (rest ++ later))) whole
     (extras_go said running all t.extras begun (y ++ (more ++ behind)) (three ++ (rest ++ later)) parts.0 (omega (arith, whole, sum))
-    (λ q. endpoints_go with_extras running all j t t.endpoints 0 (record passed { owner = q }) (more ++ behind) (rest ++ later) parts.1 (omega (arith, whole, sum))
-    (λ o w a. let u : Seen = record (taken (length y) m passed) { setting = o; owner = w; address = a } in
+    (λ q. endpoints_go with_extras running all j t t.endpoints 0 (record passed { below = q }) (more ++ behind) (rest ++ later) parts.1 (omega arith) (omega (arith, whole, sum))
+    (λ o w a. let u : Seen = record (taken (length y) m passed) { setting = j; endpoints = o; below = w; address = a } in
     goes_as with_endpoints running u (rest ++ later) (four ((v.associations + n) + m) ++ later) (more ++ behind) (more ++ behind) (ap (λ k. four k ++ later) count) refl
     (settings_go with_endpoints running all ts u behind later each.1 left
     (λ w e. goes_for (adding E (flat_map (setting_descriptors set) (t ∷ ts))) (adding with_endpoints (flat_map (setting_descriptors set) ts)) running w later behind

@@ -4,7 +4,7 @@ use Rattle.usb_explain.specs.declared.role.Role.{Role}
 use Rattle.usb_explain.specs.declared.standing.Standing.{Standing}
 use Rattle.usb_explain.specs.Outline.{Entry, after_next, end_of, entries, entry_next, findings_of, left_next, outline}
 use Rattle.usb_explain.specs.Laws.{EachFindingOnce, HasItsOwnFindings, as_in_tree}
-use Rattle.usb_explain.specs.Findings.{finding_at, found_at, in_setting, is_here}
+use Rattle.usb_explain.specs.Findings.{finding_at, found_at, is_here}
 use Rattle.std.specs.List.{AllByRecursion, take_while}
 use Rattle.std.proofs.lemmas.List.Sums.{take_while-cons}
 use Rattle.usb_explain.specs.Roles.{next_role}
@@ -19,8 +19,6 @@ use Rattle.usb_file_data.specs.Numbers.{rule_number, rule_numbered}
 use Rattle.usb_file_data.specs.declared.cause.Cause.{Cause}
 use Rattle.usb_file_data.specs.Causes.{rule_of}
 use Rattle.usb_file_data.proofs.RuleNumbers.{numbered_rule}
-use Rattle.usb_explain.specs.declared.position.SetPosition.{SetPosition}
-use Rattle.usb_explain.specs.declared.position.SettingPosition.{SettingPosition}
 use Rattle.usb_explain.specs.declared.role.Role.TheVariants as roles
 use Rattle.std.proofs.lemmas.Bool.{eqb-true}
 use Rattle.std.proofs.lemmas.List.{length-map}
@@ -77,10 +75,6 @@ all_own : (shown : List Entry) → AllByRecursion HasItsOwnFindings shown
 all_own [] = tt
 all_own (d ∷ ds) = (tells_own d, all_own ds)
 
-setting_rule : (set : SetPosition) (cause : Cause) (o : Option SettingPosition) → (in_setting set cause o).rule ≡ rule_number (rule_of cause)
-setting_rule set cause None = refl
-setting_rule set cause (Some setting) = refl
-
 -- the rule of what is of a descriptor is that of its cause
 rule_at : (s : Standing) (role : Role) (cause : Cause) → (finding_at s role cause).rule ≡ rule_number (rule_of cause)
 unfolding finding_at
@@ -89,7 +83,7 @@ rule_at s roles.Qualifier cause = refl
 rule_at s roles.Configuration cause = refl
 rule_at s roles.Association cause = refl
 rule_at s roles.Interface cause = refl
-rule_at s roles.Endpoint cause = setting_rule s.position.set cause s.position.set.setting
+rule_at s roles.Endpoint cause = refl
 rule_at s roles.Raw cause = refl
 rule_at s roles.Languages cause = refl
 rule_at s roles.Text cause = refl

@@ -10,7 +10,6 @@ use Rattle.usb_explain.specs.declared.survey.Binders.{Binders}
 use Rattle.usb_names.specs.Shown.{field_of}
 use Rattle.usb_explain.specs.declared.standard_layouts.DescriptorLayout.{DescriptorLayout}
 use Rattle.usb_explain.specs.Layouts.{Layout}
-use Rattle.usb_explain.specs.declared.position.SettingPosition.{SettingPosition}
 use Rattle.usb_explain.specs.declared.position.Position.{Position}
 
 -- What is heard of the speed of a set, descriptor by descriptor.
@@ -45,16 +44,11 @@ pub record Gathers (all : List (List ℕ)) (g : Gathering) (ds : List (List ℕ)
 abbrev pub layout_of : DescriptorLayout → Layout
 layout_of l = record { fields = map field_of l.fields.now; group = map field_of l.group.now; rest = l.rest.now }
 
--- how many endpoints a setting has
-abbrev pub endpoints_of : Option SettingPosition → ℕ
-endpoints_of None = 0
-endpoints_of (Some setting) = setting.endpoints
-
 -- there are no more of anything than bytes before
 pub record Counted (p : Position) : Type 0 where
   pub strings : p.strings ≤ p.at
   pub main_sets : p.main_sets ≤ p.at
   pub other_sets : p.other_sets ≤ p.at
-  pub associations : p.set.associations ≤ p.at
-  pub settings : p.set.settings ≤ p.at
-  pub endpoints : endpoints_of p.set.setting ≤ p.at
+  pub associations : p.associations ≤ p.at
+  pub settings : p.settings ≤ p.at
+  pub endpoints : p.endpoints ≤ p.at
