@@ -9,7 +9,7 @@ use crate::role::Role;
 use usb_fields::{byte_at, descriptor_type, prefix, word_at};
 
 /// What came before a descriptor, as numbers. A walk over an input goes from one to the next: [`next_role`](Self::next_role) says
-/// what comes, [`enter`](Self::enter) is at it, and [`pass`](Self::pass) behind it. All of the first one is 0.
+/// what comes, [`enter`](Self::enter) is at it, and [`pass`](Self::pass) after it. All of the first one is 0.
 ///
 /// ```rust
 /// let mut position = Position::start();
