@@ -95,6 +95,15 @@ abbrev pub languages_at : Role → ℕ → ℕ → ℕ
 languages_at roles.Languages at was = at
 languages_at role at was = was
 
+-- what belongs to a descriptor of this role alone, where the position is after it
+abbrev pub with_role : Role → List ℕ → NzgDescriptor → NzgDescriptor
+with_role role d it = record it {
+  owner = holder_of_role role it.position;
+  part = part_of_role role it.position.is_other;
+  named = fold with_index it.named (indices_of_role role d);
+  languages_place = languages_at role it.place it.languages_place;
+}
+
 -- a descriptor of these bytes at its position, after another one
 unfoldable pub told : List ℕ → NzgDescriptor → Numbered → NzgDescriptor
 told b was n =

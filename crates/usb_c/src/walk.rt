@@ -2,10 +2,10 @@
 ghost use Rattle.std.specs.Prelude.{◌≡◌, ◌≤◌, ◌+◌, ◌<◌, ◌^◌, is_some, length, unwrap_or};
 ghost use Rattle.usb_explain.specs.Numbered.{numbered_next};
 ghost use Rattle.usb_explain.specs.inside.Walking.{Counted};
-ghost use Rattle.usb_c.specs.Descriptors.{holder_in, holder_of_role, is_counted, languages_at, next_of, part_of_role, role_number, set_part, string_of_role, told, told_next};
+ghost use Rattle.usb_c.specs.Descriptors.{holder_in, is_counted, next_of, role_number, set_part, string_of_role, told, told_next, with_role};
 
 use crate::descriptor::NzgDescriptor;
-use crate::string_place::{NO_STRING, StringPlace, name_strings, string_among};
+use crate::string_place::{NO_STRING, StringPlace, name_string, string_among};
 use usb_explain::{Position, Role};
 use usb_fields::{after, byte_at, prefix};
 
@@ -67,16 +67,43 @@ impl NzgDescriptor {
         self.place = self.position.at;
         self.depth = self.position.depth(role);
         self.position.pass(role, d);
-        self.languages_place = languages_at(role, self.place, self.languages_place);
         self.endpoint_number = self.position.endpoints.saturating_sub(1);
-        name_strings(&mut self.named, role, d);
         self.language = string.language;
         self.length = byte_at(d, 0);
         self.kind = byte_at(d, 1);
         self.role = role_number(role);
-        self.owner = holder_of_role(role, &self.position);
-        self.part = part_of_role(role, self.position.is_other);
         self.index = string.index;
+        self.note(role, d);
+    }
+
+    /// Notes what belongs to a descriptor of this role alone, where the position is behind it.
+    fn note(&mut self, role: Role, d: &[u8])
+        ensures { self.new ≡ with_role role d.now self.old }
+    {
+        self.owner = 0;
+        self.part = set_part(self.position.is_other);
+        match role {
+            Role::Device => {
+                self.part = 0;
+                name_string(&mut self.named, byte_at(d, 14));
+                name_string(&mut self.named, byte_at(d, 15));
+                name_string(&mut self.named, byte_at(d, 16));
+            }
+            Role::Qualifier => self.part = 2,
+            Role::Configuration => name_string(&mut self.named, byte_at(d, 6)),
+            Role::Association => {
+                self.owner = holder_in(&self.position);
+                name_string(&mut self.named, byte_at(d, 7));
+            }
+            Role::Interface => name_string(&mut self.named, byte_at(d, 8)),
+            Role::Endpoint => {}
+            Role::Raw => self.owner = holder_in(&self.position),
+            Role::Languages => {
+                self.part = 0;
+                self.languages_place = self.place;
+            }
+            Role::Text => self.part = 0,
+        }
     }
 }
 
@@ -106,38 +133,10 @@ fn string_of_role(role: Role, bytes: &[u8], was: &NzgDescriptor) -> StringPlace
     }
 }
 
-fn languages_at(role: Role, at: usize, was: usize) -> usize
-    ensures { result ≡ languages_at role at was }
-{
-    match role {
-        Role::Languages => at,
-        _ => was,
-    }
-}
-
-fn part_of_role(role: Role, is_other: bool) -> u8
-    ensures { result ≡ part_of_role role is_other }
-{
-    match role {
-        Role::Device | Role::Languages | Role::Text => 0,
-        Role::Qualifier => 2,
-        _ => set_part(is_other),
-    }
-}
-
 fn set_part(is_other: bool) -> u8
     ensures { result ≡ set_part is_other }
 {
     if is_other { 2 } else { 1 }
-}
-
-fn holder_of_role(role: Role, behind: &Position) -> u8
-    ensures { result ≡ holder_of_role role behind.now }
-{
-    match role {
-        Role::Association | Role::Raw => holder_in(behind),
-        _ => 0,
-    }
 }
 
 fn holder_in(behind: &Position) -> u8

@@ -94,6 +94,7 @@ impl Position {
     }
 
     /// What the descriptor is with which the bytes begin, and how long it is, where one can be here (USB 2.0, 9.5 and 9.6).
+    #[inline(always)]
     #[tactic(auto, unfolding(crate::specs::Roles::next_role))]
     pub fn next_role(&self, ahead: &[u8]) -> Option<(Role, usize)>
         ensures next { result ≡ next_role self.now ahead.now }
@@ -111,6 +112,7 @@ impl Position {
 
     /// Comes to a descriptor of this role, with which the bytes begin: the first one of a set begins it, and one outside of sets
     /// is in none.
+    #[inline(always)]
     pub fn enter(&mut self, role: Role, ahead: &[u8])
         ensures { self.new ≡ position_at role ahead.now self.old }
     {
@@ -156,6 +158,7 @@ impl Position {
     }
 
     /// Moves past a descriptor of this role.
+    #[inline(always)]
     pub fn pass(&mut self, role: Role, d: &[u8])
         requires counted { Counted self.old }
         requires room { self.old.at + length d.now < 2 ^ 63 }

@@ -9,6 +9,7 @@ use usb_fields::{byte_at, descriptor_length, descriptor_type, word_at};
 
 impl Position {
     /// What the descriptor is, where one can be here.
+    #[inline(always)]
     #[tactic(auto, unfolding(crate::specs::Roles::role_of))]
     pub(crate) fn role(&self, d: &[u8]) -> Option<Role>
         ensures { result ≡ role_of self.now d.now }
