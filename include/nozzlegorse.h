@@ -90,24 +90,28 @@ enum nzg_role {
  * own; endpoint is the address of the endpoint that it is or belongs to. */
 struct nzg_descriptor {
     size_t place;             /* of its first byte */
-    size_t set_end;           /* of the set that it is in */
     size_t languages_place;   /* of the list of languages, once it came */
-    size_t strings;           /* strings that came, it included */
-    size_t main_sets, other_sets; /* sets that came, of the device and of the other speed */
-    size_t set;               /* number of the set in its part, from 0 */
-    size_t associations;      /* associations of this set that came, it included */
-    size_t setting, settings; /* number of the setting in its set, from 0: as findings count; and how many came */
-    size_t endpoint_number, endpoints; /* number of the endpoint in its setting, from 0; and how many came */
-    uint64_t named[4];        /* bit i % 64 of word i / 64: a descriptor so far names string i */
+    size_t endpoint_number;   /* number of the endpoint in its setting, from 0: as findings count */
+    uint64_t named[4];        /* bit i % 64 of word i / 64, i from 1 on: a descriptor so far names string i */
     uint16_t language;        /* of a string */
     uint8_t length, type;     /* bLength, bDescriptorType */
     uint8_t role;             /* enum nzg_role; 0 before the first descriptor */
     uint8_t owner;            /* of an association or a raw one: the role of what it belongs to */
     uint8_t depth;            /* 0 device, 1 configuration, 2, 3, 4; a raw one after an association is one of its set */
     uint8_t part;             /* 0 device, 1 its sets, 2 its qualifier and the sets of the other speed */
+    uint8_t index;            /* of a string */
+    size_t next;              /* place of the byte after it */
+    size_t left;              /* bytes of its set after it */
+    size_t strings;           /* strings that came, it included */
+    size_t main_sets, other_sets; /* sets that came, of the device and of the other speed */
+    size_t set;               /* number of the set in its part, from 0 */
+    size_t associations, settings; /* of this set that came, it included */
+    size_t setting;           /* number of the setting in its set, from 0 */
+    size_t endpoints;         /* endpoints of this setting that came, it included */
     uint8_t interface_, alternate, class_, subclass, protocol;
     uint8_t endpoint;         /* bEndpointAddress */
-    uint8_t index;            /* of a string */
+    uint8_t below;            /* depth of a raw one that comes next */
+    bool is_other;            /* its set is one of the other speed */
     bool has_device, has_languages; /* they came */
 };
 

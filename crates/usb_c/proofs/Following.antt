@@ -1,11 +1,11 @@
--- What follows a descriptor as numbers.
-use Rattle.std.proofs.Common.{◌≡◌, ◌≤◌, ◌<◌, ℕ, zero, suc, ◌+◌, ◌-◌, ◌*◌, ◌&&◌, nat_le, if◌then◌else◌, Bool, true, false, List, [], ◌∷◌, ◌++◌, length, map, drop, get_or, slice_index, Option, Some, None, IfSome, unwrap_or, MatchOption, Fits, w8, refl, sym, ap, subst, ◌∙◌, arith, length-append, length-drop}
+-- Counts of a position, and a field by its number.
+use Rattle.std.proofs.Common.{◌≡◌, ◌≤◌, ◌<◌, ℕ, zero, suc, ◌+◌, nat_le, true, List, [], ◌∷◌, ◌++◌, length, map, Option, Some, None, IfSome, unwrap_or, refl, sym, ap, subst, ◌∙◌, arith, length-append}
 use Rattle.std.specs.Iterator.{SkipsThenYields, Yields, YieldsFirstBy}
 use Rattle.std.specs.List.{slice_get}
 use Rattle.std.specs.Option.{option_map}
 use Rattle.std.proofs.lemmas.Bool.{and_parts}
 use Rattle.std.proofs.lemmas.Bool.Decides.{nat_tests}
-use Rattle.std.proofs.lemmas.List.{drop_all, length-map}
+use Rattle.std.proofs.lemmas.List.{length-map}
 use Rattle.std.proofs.lemmas.Option.{none-some, slice_get_past}
 use Rattle.usb_names.specs.declared.codes.ClassCodes.{ClassCodes}
 use Rattle.usb_explain.specs.declared.field.Field.{Field}
@@ -15,13 +15,9 @@ use Rattle.usb_explain.specs.declared.role.Role.TheVariants as roles
 use Rattle.usb_explain.specs.FieldLaws.{first_place, has_fields, span_of_field}
 use Rattle.usb_explain.specs.Fields.{PlacedField, fields_of, placed_of}
 use Rattle.usb_explain.specs.Laws.{Follow, Span}
-use Rattle.usb_explain.specs.Positions.{position_at}
 use Rattle.usb_explain.proofs.FieldsCover.{fields_have_all_bytes}
-use Rattle.usb_explain.specs.Roles.{next_role}
-use Rattle.usb_explain.specs.inside.Walking.{Counted, endpoints_of}
-use Rattle.usb_c.specs.declared.descriptor.NzgDescriptor.{NzgDescriptor}
-use Rattle.usb_explain.specs.Numbered.{numbered_next}
-use Rattle.usb_c.specs.Descriptors.{is_counted, next_of, position_in, told, told_next}
+use Rattle.usb_explain.specs.inside.Walking.{Counted}
+use Rattle.usb_c.specs.Descriptors.{is_counted}
 
 -- ---- bounds
 
@@ -36,48 +32,16 @@ counted_of p e =
     let one = and_parts (nat_le p.strings at) _ e in
     let two = and_parts (nat_le p.main_sets at) _ one.1 in
     let three = and_parts (nat_le p.other_sets at) _ two.1 in
-    let four = and_parts (nat_le p.set.associations at) _ three.1 in
-    let five = and_parts (nat_le p.set.settings at) (nat_le (endpoints_of p.set.setting) at) four.1 in
+    let four = and_parts (nat_le p.associations at) _ three.1 in
+    let five = and_parts (nat_le p.settings at) (nat_le p.endpoints at) four.1 in
     record {
       strings = le_of p.strings at one.0;
       main_sets = le_of p.main_sets at two.0;
       other_sets = le_of p.other_sets at three.0;
-      associations = le_of p.set.associations at four.0;
-      settings = le_of p.set.settings at five.0;
-      endpoints = le_of (endpoints_of p.set.setting) at five.1;
+      associations = le_of p.associations at four.0;
+      settings = le_of p.settings at five.0;
+      endpoints = le_of p.endpoints at five.1;
     }
-
--- a set ends within what a place can say
-pub end_fits : (role : Role) (ahead : List ℕ) (p : Position) → Fits w8 (get_or ahead 2 0) → Fits w8 (get_or ahead 3 0) → p.at < 9223372036854775808
-    → p.at + p.left < 18446744073709551616 → (position_at role ahead p).at + (position_at role ahead p).left < 18446744073709551616
-end_fits roles.Configuration ahead p low high at end = omega (arith, low, high, at)
-end_fits roles.Device ahead p low high at end = end
-end_fits roles.Qualifier ahead p low high at end = end
-end_fits roles.Association ahead p low high at end = end
-end_fits roles.Interface ahead p low high at end = end
-end_fits roles.Endpoint ahead p low high at end = end
-end_fits roles.Raw ahead p low high at end = end
-end_fits roles.Languages ahead p low high at end = end
-end_fits roles.Text ahead p low high at end = end
-
--- ---- behind the last byte nothing follows
-
-none_either : (b : Bool) → ◌≡◌ {A = Option NzgDescriptor} (if b then None else None) None
-none_either true = refl
-none_either false = refl
-
-nothing_next : (p : Position) → next_role p [] ≡ None
-unfolding next_role
-nothing_next p = refl
-
-pub none_beyond : (b : List ℕ) (d : NzgDescriptor) → length b < d.place → next_of b d ≡ None
-unfolding next_of position_in
-none_beyond b d beyond =
-    let p = position_in d in
-    let none : drop p.at b ≡ [] = drop_all p.at b (omega (arith, beyond)) in
-    ap (λ l. if is_counted p then told_next b d p l else None) none
-    ∙ ap (λ o. if is_counted p then option_map (λ next. told b d (numbered_next p [] next)) o else None) (nothing_next p)
-    ∙ none_either (is_counted p)
 
 -- ---- an item of an iterator by its number
 

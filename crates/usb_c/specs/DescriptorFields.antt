@@ -8,7 +8,6 @@ use Rattle.usb_explain.specs.Contexts.{codes_of}
 use Rattle.usb_explain.specs.Fields.{PlacedField, fields_of}
 use Rattle.usb_c.specs.declared.descriptor.NzgDescriptor.{NzgDescriptor}
 use Rattle.usb_c.specs.declared.descriptor_field.NzgField.{NzgField}
-use Rattle.usb_c.specs.Descriptors.{setting_in}
 
 -- the role of a number, if it is one
 abbrev pub role_in : ℕ → Option Role
@@ -54,7 +53,7 @@ field_told place f = record {
 
 -- the field of this number of a descriptor of this role and these bytes
 abbrev pub field_at : NzgDescriptor → ℕ → Role → List ℕ → Option NzgField
-field_at d n role bytes = option_map (field_told d.place) (slice_get (fields_of role (codes_of (setting_in d)) bytes) n)
+field_at d n role bytes = option_map (field_told d.place) (slice_get (fields_of role (codes_of d.position) bytes) n)
 
 -- that of a descriptor that is one of these bytes
 abbrev pub field_of : List ℕ → NzgDescriptor → ℕ → Option NzgField

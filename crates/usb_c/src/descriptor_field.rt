@@ -64,7 +64,7 @@ fn field_at(descriptor: &NzgDescriptor, number: usize, role: Role, d: &[u8]) -> 
     requires room { descriptor.now.place + length d.now < 2 ^ 64 }
     ensures { result ≡ field_at descriptor.now number role d.now }
 {
-    let interface = descriptor.interface();
+    let interface = descriptor.position.codes();
     match nth_field(role, interface, d, number) {
         None => None,
         Some(field) => Some(told(descriptor.place, &field)),

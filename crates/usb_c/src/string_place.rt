@@ -1,9 +1,8 @@
 //! The strings that descriptors name, and which string is of which index and language.
-ghost use Rattle.std.specs.Prelude.{◌≡◌, fold, length, slice_index};
+ghost use Rattle.std.specs.Prelude.{◌≡◌, length, slice_index};
 ghost use Rattle.usb_fields.specs.Marks.{is_marked};
-ghost use Rattle.usb_c.specs.Descriptors.{indices_in, indices_of_role, language_in, list_at, string_among, with_index};
+ghost use Rattle.usb_c.specs.Descriptors.{indices_in, language_in, list_at, string_among, with_index};
 
-use usb_explain::Role;
 use usb_fields::{after, byte_at, prefix, word_at};
 
 /// The index and the language of a string.
@@ -18,24 +17,8 @@ pub(crate) const NO_STRING: StringPlace = StringPlace {
     language: 0,
 };
 
-/// Sets the bits of the indices that a descriptor of this role names.
-pub(crate) fn name_strings(words: &mut [u64; 4], role: Role, d: &[u8])
-    ensures { words.new ≡ fold with_index words.old (indices_of_role role d.now) }
-{
-    match role {
-        Role::Device => {
-            name_string(words, byte_at(d, 14));
-            name_string(words, byte_at(d, 15));
-            name_string(words, byte_at(d, 16));
-        }
-        Role::Configuration => name_string(words, byte_at(d, 6)),
-        Role::Interface => name_string(words, byte_at(d, 8)),
-        Role::Association => name_string(words, byte_at(d, 7)),
-        _ => {}
-    }
-}
-
-fn name_string(words: &mut [u64; 4], index: u8)
+/// Sets the bit of an index.
+pub(crate) fn name_string(words: &mut [u64; 4], index: u8)
     ensures { words.new ≡ with_index words.old index }
 {
     words[usize::from(index) / 64] |= 1 << (index % 64);
@@ -49,21 +32,23 @@ fn is_named(words: &[u64; 4], index: u8) -> bool
 }
 
 /// How many strings are named.
-#[tactic(auto, using(crate::proofs::Named::counted_more, crate::proofs::Named::all_named))]
 fn count_named(words: &[u64; 4]) -> usize
     ensures { result ≡ length (indices_in words.now) }
 {
-    let mut count = 0;
-    for index in 1..256usize {
-        if is_named(words, index as u8) {
-            count += 1;
-        }
+    let [one, two, three, four] = *words;
+    let all = one.count_ones() as usize
+        + two.count_ones() as usize
+        + three.count_ones() as usize
+        + four.count_ones() as usize;
+    if is_named(words, 0) {
+        all.saturating_sub(1)
+    } else {
+        all
     }
-    count
 }
 
 /// The index of this number among those that are named, in ascending order.
-#[tactic(auto, using(crate::proofs::Named::counted_more, crate::proofs::Named::all_named))]
+#[tactic(auto, using(crate::proofs::Named::counted_more))]
 fn named_at(words: &[u64; 4], number: usize) -> u8
     ensures { result ≡ slice_index (indices_in words.now) number }
 {

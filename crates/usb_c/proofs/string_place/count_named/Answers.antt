@@ -1,8 +1,14 @@
-use Rattle.std.proofs.Common.{◌≡◌, ◌∙◌, List, ℕ, ap, arith, length}
-use Rattle.usb_c.proofs.Named.{all_named, marked_before}
+use Rattle.std.proofs.Common.{◌≡◌, ◌∙◌, ℕ, ap, arith, cond, sym}
+use Rattle.usb_fields.specs.Marks.{is_marked}
+use Rattle.usb_c.proofs.Named.{all_counted}
 use Rattle.usb_c.proofs.string_place.count_named.Goals as goal
 
-pub returns : goal.returns
-returns c =
-    let all : c.loop-index.index ≡ 256 = omega (arith, c.loop-index-test.false, c.loop-index.auto.index-end) in
-    c.loop-index.invariant.counted ∙ ap (λ n. length (marked_before n c.args.words.now)) all ∙ ap (λ (l : List ℕ). length l) (all_named c.args.words.now)
+pub returns-then-is_named : goal.returns-then-is_named
+returns-then-is_named c =
+    let one : ◌≡◌ {A = ℕ} (cond (is_marked c.args.words.now 0) 1 0) 1 = ap (λ b. cond b 1 0) (sym c.is_named.ensures ∙ c.if-is_named.true) in
+    omega (arith, all_counted c.args.words.now c.fits-words, one, c.saturating_sub.ensures)
+
+pub returns-else-is_named : goal.returns-else-is_named
+returns-else-is_named c =
+    let none : ◌≡◌ {A = ℕ} (cond (is_marked c.args.words.now 0) 1 0) 0 = ap (λ b. cond b 1 0) (sym c.is_named.ensures ∙ c.if-is_named.false) in
+    omega (arith, all_counted c.args.words.now c.fits-words, none)
