@@ -2,8 +2,8 @@
 //! `.ci/benchmarks`. Out of memory it ends, as plain Rust does.
 //!
 //! The words are the count of rounds, the name of a work, and perhaps of how many copies of a set it is; or one of
-//! `show`, `check`, `build`, `explain`, `enumerate`, `enumerate --speed SPEED`, `decode`, `describe` and `hexadecimal`, which write
-//! what comes of it. The input is standard input.
+//! `show`, `check`, `build`, `explain`, `enumerate`, `enumerate --speed SPEED`, `decode`, `describe`, `hexadecimal` and `walk`,
+//! which write what comes of it. The input is standard input.
 
 mod assembly;
 mod bus;
@@ -19,6 +19,7 @@ mod rules;
 mod set;
 mod speed;
 mod text;
+mod walk;
 mod works;
 
 use std::fmt::Write as _;
@@ -120,6 +121,12 @@ fn hexadecimal(input: &[u8]) -> Written {
     Ok((bytes, 0))
 }
 
+/// Of each descriptor as far as they can be walked over.
+fn walk(input: &[u8]) -> Written {
+    let (count, sum) = walk::sum_of(input);
+    Ok((format!("{count} descriptors, sum {sum:x}\n").into_bytes(), 0))
+}
+
 fn measure(rounds: &str, name: &str, copies: &str, input: &[u8]) -> Written {
     let number = |word: &str| word.parse().map_err(|_| format!("no number {word}"));
     let count = works::run(name, input, number(copies)?, number(rounds)?)?;
@@ -138,6 +145,7 @@ fn write(words: &[&str], input: &[u8]) -> Written {
         ["decode"] => decode(input),
         ["describe"] => describe(input),
         ["hexadecimal"] => hexadecimal(input),
+        ["walk"] => walk(input),
         [rounds, name] => measure(rounds, name, "1", input),
         [rounds, name, copies] => measure(rounds, name, copies, input),
         _ => Err("no such words".into()),

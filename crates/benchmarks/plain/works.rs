@@ -10,6 +10,7 @@ use crate::host::{Action, Heard, Host, Limits, Transfer};
 use crate::listing::{list, list_set};
 use crate::rules::check;
 use crate::set::{CONFIGURATION, Configuration, Decoder, OTHER_SPEED, SetFault, encode, read_set};
+use crate::walk;
 use std::hint::black_box;
 
 type Result<T> = std::result::Result<T, String>;
@@ -75,6 +76,7 @@ pub fn run(name: &str, input: &[u8], copies: u32, rounds: u32) -> Result<usize> 
             })
         }
         "hexadecimal" => again(rounds, || black_box(hexadecimal::read(input)).map_or(0, |_| input.len())),
+        "walk" => again(rounds, || walk_once(input)),
         "enumerate" => enumerate_again(input, rounds),
         "host-setup" => drive_again(input, 1, rounds),
         "host-data" => drive_again(input, 2, rounds),
@@ -102,6 +104,20 @@ pub fn read_input(input: &[u8]) -> Result<Input> {
     }
     let (set, used) = read_set(input).map_err(told)?;
     if used < input.len() { Err("trailing bytes".into()) } else { Ok(Input::Set(set)) }
+}
+
+/// A step of a walk, which is a call as it is in C.
+#[inline(never)]
+fn next(bytes: &[u8], descriptor: &mut walk::Descriptor) -> bool {
+    descriptor.next(bytes)
+}
+
+fn walk_once(bytes: &[u8]) -> usize {
+    let (mut descriptor, mut count) = (walk::Descriptor::default(), 0);
+    while next(bytes, black_box(&mut descriptor)) {
+        count += 1;
+    }
+    count
 }
 
 fn again(rounds: u32, mut work: impl FnMut() -> usize) -> Result<usize> {
