@@ -7,6 +7,8 @@ import subprocess
 import sys
 import tempfile
 
+from playing import built
+
 FOLDER = "crates/benchmarks"
 PROVED, PROGRAM = f"{FOLDER}/out/benchmarks", "crates/usbdesc/out/usbdesc"
 # As the proved program is built: one module for all, and for the same processor.
@@ -20,15 +22,26 @@ def build(room):
     return program
 
 
+def build_walk(room, library):
+    """Builds the walk in C over the library of a folder, or over what `rt ci` built, and answers the program."""
+    archive = f"{library}/libnozzlegorse.a" if library else built.build("usb_c", os.path.join(room, "usb_c.a"))
+    program = os.path.join(room, "walk")
+    headers = [word for folder in ("include", "callers/c", "callers/c/plain") for word in ("-I", folder)]
+    built.run(built.CLANG, "--no-default-config", "-O2", "-fPIC", *headers, "-c", f"{FOLDER}/walk.c", "-o", f"{program}.o")
+    linker = [f"{built.KIT}/bin/rattle-link", "--target", built.TARGET, "--toolchain", f"{built.KIT}/toolchain"]
+    built.run(*linker, "-o", program, f"{program}.o", archive, f"{built.KIT}/c/liblibc_c.a")
+    return program
+
+
 class Missing(Exception):
     """A program lacks a work."""
 
 
 class Counter:
-    """Counts by these two programs; inputs are made once, and so is each count."""
+    """Counts by these programs; inputs are made once, and so is each count."""
 
-    def __init__(self, plain, room):
-        self.programs, self.plain, self.room = [PROVED, plain], plain, room
+    def __init__(self, plain, walk, room):
+        self.plain, self.walk, self.room = plain, walk, room
         self.round_of = functools.cache(self.round_of)
 
     @functools.cache
@@ -61,7 +74,8 @@ class Counter:
 
     def round_of(self, number, count):
         """What the work says, and the instructions of a round: of the proved program (0) or plain Rust (1)."""
-        program, path = self.programs[number], self.made(count.input)
+        proved = self.walk if count.work == "walk" else PROVED
+        program, path = [proved, self.plain][number], self.made(count.input)
         inside = count.inside and count.inside[number]
         _, few = self.count(program, count.few, count.work, path, inside)
         said, many = self.count(program, count.many, count.work, path, inside)

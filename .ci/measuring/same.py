@@ -1,6 +1,8 @@
 """Whether plain Rust gives the same texts and bytes: the runs of `.ci/rows` that it takes, and what it reads and writes."""
 
+import glob
 import os
+import subprocess
 
 from playing import calls, examples
 from playing.row import Fault, rows_of
@@ -44,6 +46,22 @@ def other_runs():
     data = bytes(int(word, 16) for word in keyboard.decode().replace(",", " ").split())
     for form in ("array", "hexdump", "wireshark", "xxd"):
         yield f"hexadecimal/keyboard.{form}", Run(["hexadecimal"], examples.bytes_of("hexadecimal/keyboard", f".{form}"), 0, data)
+
+
+def walked():
+    """The inputs that are walked over, broken ones too."""
+    kinds = ("sets/*.bin", "files/*.file", "dumps/*.descriptors", "rules/*.file", "explain/*.bin", "explain/*.descriptors")
+    return [it for kind in kinds for it in sorted(glob.glob(f"testdata/{kind}"))]
+
+
+def walks_that_differ(walk, plain):
+    """The inputs whose descriptors have other numbers by the library than by plain Rust."""
+    for name in walked():
+        with open(name, "rb") as source:
+            data = source.read()
+        sums = [subprocess.run(words, input=data, capture_output=True, check=True).stdout for words in ([walk], [plain, "walk"])]
+        if sums[0] != sums[1]:
+            yield f"{name}: {sums[0].decode().strip()}, and {sums[1].decode().strip()} by plain Rust"
 
 
 def differences(program, root):

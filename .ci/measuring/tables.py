@@ -145,6 +145,15 @@ def enumerations():
     yield "20 such sets of settings", [a_byte("enumerate", made("settings"), 1, 3)]
 
 
+def walks():
+    yield "mouse", [a_byte("walk", f"{EXAMPLES}/files/qemu-usb-mouse.file", 100, 1100, 1.2)]
+    yield "webcam", [a_byte("walk", f"{CAMERA}.file", 100, 600, 1.2)]
+    yield "webcam, its set", [a_byte("walk", WEBCAM, 100, 1100, 1.2)]
+    yield "with everything", [a_byte("walk", f"{EVERYTHING}.file", 100, 1100, 1.2)]
+    yield "the longest set, of raw descriptors", [a_byte("walk", LONGEST, 20, 120, 1.2)]
+    yield "a set of 7,280 settings", [a_byte("walk", shape("interfaces", 7280), 2, 4, 1.2)]
+
+
 def explanations():
     def explained(path, few=100, many=600, bound=1.3):
         return [a_byte("explain", path, few, many, bound)]
@@ -172,5 +181,6 @@ def tables():
     yield Table("checks", "File", ["`check`"], list(checks()))
     yield Table("transactions", "Transaction", ["Instructions"], list(transactions()))
     yield Table("enumerations", "Whole enumeration", ["Each transaction"], list(enumerations()))
+    yield Table("walk", "Input", ["`nzg_next`"], list(walks()))
     yield Table("explanations", "Input", ["`explain`"], list(explanations()))
     yield Table("hexadecimal", "Text", ["`parse`"], list(hexadecimal()))
