@@ -8,8 +8,8 @@ import re
 
 WIDTHS = {"u8": "uint8_t", "u16": "uint16_t", "u32": "uint32_t", "u64": "uint64_t", "usize": "size_t", "bool": "bool"}
 # The names in C of fields that the source calls otherwise.
-NAMES = {"at": "held", "NzgDescriptor.kind": "type", "NzgDescriptor.interface": "interface_", "NzgDescriptor.class": "class_",
-         "NzgPacket.bytes": "data"}
+NAMES = {"at": "held", "NzgDescriptor.kind": "type", "Position.interface": "interface_", "Position.class": "class_",
+         "NzgPacket.bytes": "data", "Position.at": "next"}
 
 
 def text_of(path):
@@ -66,11 +66,13 @@ def of_rust(text):
 
 
 def of_source():
-    text = "".join(map(text_of, sorted(glob.glob("crates/usb_c/src/*.rt") + glob.glob("crates/usb_device/src/*.rt"))))
+    text = "".join(map(text_of, sorted(glob.glob("crates/usb_c/src/*.rt") + glob.glob("crates/usb_device/src/*.rt")) + ["crates/usb_explain/src/position.rt"]))
     found = dict(of_calls(text, r'#\[unsafe\(no_mangle\)\]\s*(?:#\[.*\]\s*)?pub extern "C" '))
     for name, body in re.findall(r"#\[repr\(C\)\]\s*(?:#\[derive\([^)]*\)\]\s*)?pub struct (\w+) \{(.*?)\n\}", text, re.S):
         fields = re.findall(r"^    (?:pub )?(\w+): ([^,]+),", body.replace("*mut u8", "*mut c_void"), re.M)
         found[struct(name)] = [(NAMES.get(f"{name}.{it}") or NAMES.get(it, it), *type_of(kind)) for it, kind in fields if kind != "Global"]
+    # A descriptor ends in its position.
+    found["struct nzg_descriptor"][-1:] = found.pop("struct nzg_position")
     return found
 
 

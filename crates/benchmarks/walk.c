@@ -10,7 +10,7 @@ static uint64_t add(uint64_t sum, uint64_t number) {
 }
 
 static uint64_t add_all(uint64_t sum, const struct nzg_descriptor *d) {
-    const uint64_t wide[] = {d->place, d->set_end, d->languages_place, d->strings, d->main_sets, d->other_sets, d->set, d->associations,
+    const uint64_t wide[] = {d->place, d->languages_place, d->strings, d->main_sets, d->other_sets, d->set, d->associations,
                              d->setting, d->settings, d->endpoint_number, d->endpoints, d->named[0], d->named[1], d->named[2], d->named[3],
                              d->language};
     const uint8_t narrow[] = {d->length, d->type, d->role, d->owner, d->depth, d->part, d->interface_, d->alternate, d->class_,

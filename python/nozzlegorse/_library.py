@@ -10,9 +10,9 @@ import re
 DECLARATIONS = """
 struct nzg_answer { uint32_t status, number; size_t place, length; };
 struct nzg_outcome { uint64_t transactions; uint8_t attempts, address, selected, step, index; uint16_t language; };
-struct nzg_descriptor { size_t place, set_end, languages_place, strings, main_sets, other_sets, set, associations, setting, settings,
-    endpoint_number, endpoints; uint64_t named[4]; uint16_t language; uint8_t length, type, role, owner, depth, part, interface_,
-    alternate, class_, subclass, protocol, endpoint, index; bool has_device, has_languages; };
+struct nzg_descriptor { size_t place, languages_place, endpoint_number; uint64_t named[4]; uint16_t language; uint8_t length, type,
+    role, owner, depth, part, index; size_t next, left, strings, main_sets, other_sets, set, associations, settings, setting, endpoints;
+    uint8_t interface_, alternate, class_, subclass, protocol, endpoint, below; bool is_other, has_device, has_languages; };
 struct nzg_field { size_t place; uint64_t value; uint8_t width, name_length, name[62]; };
 struct nzg_finding { size_t place, set, setting, endpoint; uint8_t rule, part, role; };
 struct nzg_transaction { uint8_t address, stage, toggle, setup[8]; };

@@ -21,11 +21,13 @@ structs! {
     nzg_answer { u32: status number; usize: place length; }
     nzg_outcome { u64: transactions; u8: attempts address selected step index; u16: language; }
     nzg_descriptor {
-        usize: place set_end languages_place strings main_sets other_sets set associations setting settings endpoint_number endpoints;
+        usize: place languages_place endpoint_number;
         [u64; 4]: named;
         u16: language;
-        u8: length r#type role owner depth part interface_ alternate class_ subclass protocol endpoint index;
-        bool: has_device has_languages;
+        u8: length r#type role owner depth part index;
+        usize: next left strings main_sets other_sets set associations settings setting endpoints;
+        u8: interface_ alternate class_ subclass protocol endpoint below;
+        bool: is_other has_device has_languages;
     }
     nzg_field { usize: place; u64: value; u8: width name_length; [u8; 62]: name; }
     nzg_finding { usize: place set setting endpoint; u8: rule part role; }

@@ -254,7 +254,7 @@ fn add(sum: u64, number: u64) -> u64 {
 
 /// All numbers as one.
 fn add_all(sum: u64, d: &Descriptor) -> u64 {
-    let counts = [d.place, d.set_end, d.languages_place, d.strings, d.main_sets, d.other_sets];
+    let counts = [d.place, d.languages_place, d.strings, d.main_sets, d.other_sets];
     let of_set = [d.set, d.associations, d.setting, d.settings, d.endpoint_number, d.endpoints];
     let [class, subclass, protocol] = d.class;
     let bytes = [d.length, d.kind, d.role, d.owner, d.depth, d.part, d.interface, d.alternate];
