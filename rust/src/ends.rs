@@ -85,6 +85,47 @@ impl Reply {
     }
 }
 
+impl Reply {
+    fn of(it: &nzg_packet) -> Reply {
+        match it.reply {
+            0 => Reply::Ack,
+            1 => Reply::Nak,
+            2 => Reply::Stall,
+            3 => Reply::Data(Toggle::of(it.toggle), it.data[..it.length.into()].to_vec()),
+            _ => Reply::Silence,
+        }
+    }
+}
+
+/// How a device under test differs from one that has its descriptors: docs/bench.md.
+#[derive(Clone, Copy, Debug, PartialEq, Eq, Hash)]
+pub enum Difference {
+    /// No ACK of a SETUP (USB 2.0, 8.4.6.4).
+    Setup,
+    /// An answer at another address, or none at its own (9.4.6).
+    Address,
+    /// The other toggle (8.5.3, 8.6).
+    Toggle,
+    /// No empty packet, after whole ones or as the status (8.5.3.2, 8.5.3.1).
+    NotEmpty,
+    /// Other bytes (8.5.3.2, 9.4).
+    Bytes,
+    /// STALL of a request that the device has (9.4).
+    Stalled,
+    /// No STALL of one that it hasn't, or before the SETUP after one (9.2.7, 8.5.3.4).
+    NotStalled,
+    /// Data for OUT, or an ACK for IN (8.4.6.1, 8.4.6.3).
+    OtherPacket,
+}
+
+impl Difference {
+    fn of(number: u8) -> Option<Difference> {
+        use Difference::*;
+        let all = [Setup, Address, Toggle, NotEmpty, Bytes, Stalled, NotStalled, OtherPacket];
+        all.get(usize::from(number).checked_sub(1)?).copied()
+    }
+}
+
 // Each handle is closed by the library when it is dropped. The raw pointer in it makes it neither `Send` nor `Sync`.
 macro_rules! handles {
     ($($(#[$words:meta])* $name:ident $of:ident $close:ident)*) => {$(
@@ -141,13 +182,20 @@ impl Device {
     pub fn serve(&mut self, transaction: &Transaction<'_>, ready: bool) -> Reply {
         let ((transaction, data), mut it) = (transaction.numbers(), nzg_packet::default());
         unsafe { sys::nzg_device_serve(&mut self.0, &transaction, data.as_ptr(), data.len(), ready, &mut it) };
-        match it.reply {
-            0 => Reply::Ack,
-            1 => Reply::Nak,
-            2 => Reply::Stall,
-            3 => Reply::Data(Toggle::of(it.toggle), it.data[..it.length.into()].to_vec()),
-            _ => Reply::Silence,
-        }
+        Reply::of(&it)
+    }
+    /// Whether a device under test may answer so in the transfer of this request: this one has the same transaction, is ready
+    /// where the other was, and gives its own answer. `None` where the answer has more than 64 bytes.
+    pub fn judge(
+        &mut self, request: [u8; 8], transaction: &Transaction<'_>, came: &Reply,
+    ) -> Option<(Option<Difference>, Reply)> {
+        let ((transaction, data), (reply, toggle, bytes)) = (transaction.numbers(), came.numbers());
+        let mut packet = nzg_packet { reply, toggle, length: u8::try_from(bytes.len()).ok()?, ..nzg_packet::default() };
+        packet.data.get_mut(..bytes.len())?.copy_from_slice(bytes);
+        let (request, mut has) = (nzg_setup { bytes: request }, nzg_packet::default());
+        let (sent, len) = (data.as_ptr(), data.len());
+        let number = unsafe { sys::nzg_judge_device(&mut self.0, &request, &transaction, sent, len, &packet, &mut has) };
+        (number < 9).then(|| (Difference::of(number), Reply::of(&has)))
     }
     /// The host acknowledged the data that was answered right before.
     pub fn acked(&mut self) {

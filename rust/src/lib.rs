@@ -19,7 +19,7 @@ mod sys;
 pub use descriptor::{
     Descriptor, Descriptors, Endpoint, Field, Finding, Input, Part, Role, TransferType, check, descriptors, judge,
 };
-pub use ends::{Action, Decoder, Device, Host, Reply, Stage, State, Toggle, Transaction, Transfer};
+pub use ends::{Action, Decoder, Device, Difference, Host, Reply, Stage, State, Toggle, Transaction, Transfer};
 use fault::done;
 pub use fault::{Fault, Kind, Step};
 use std::fmt;
