@@ -177,6 +177,7 @@ impl Position {
     }
 
     /// Keeps what the descriptors after it depend on.
+    #[inline(always)]
     #[tactic(auto, unfolding(crate::specs::Positions::noted))]
     fn note(&mut self, role: Role, d: &[u8])
         requires counted { Counted self.old }
