@@ -13,7 +13,7 @@ use Rattle.usb_explain.proofs.NumberedLemmas.{numbered_none, numbered_some}
 use Rattle.usb_explain.proofs.Outlines.{next_bounds}
 use Rattle.usb_explain.proofs.Positions.{counted_at, counted_noted, noted_at, same_at}
 use Rattle.usb_c.specs.declared.descriptor.NzgDescriptor.{NzgDescriptor}
-use Rattle.usb_c.specs.Descriptors.{WalkIsNumbered, first_walked, is_counted, next_of, nothing, told, told_all, told_next}
+use Rattle.usb_c.specs.Descriptors.{WalkIsNumbered, first_walked, is_counted, next_of, nothing, as_numbers, all_as_numbers, next_as_numbers}
 
 counted_holds : (p : Position) → Counted p → is_counted p ≡ true
 unfolding is_counted
@@ -22,35 +22,35 @@ counted_holds p c =
 
 -- the next descriptor, where one stands at the position
 next_is : (b : List ℕ) (was : NzgDescriptor) (o : Option (Role × ℕ)) → Counted was.position → next_role was.position (drop was.position.at b) ≡ o
-    → next_of b was ≡ option_map (λ next. told b was (numbered_next was.position (drop was.position.at b) next)) o
+    → next_of b was ≡ option_map (λ next. as_numbers b was (numbered_next was.position (drop was.position.at b) next)) o
 unfolding next_of
 next_is b was o c is =
-    cond-true (is_counted was.position) (told_next b was) None (counted_holds was.position c)
-    ∙ ap (λ o. option_map (λ next. told b was (numbered_next was.position (drop was.position.at b) next)) o) is
+    cond-true (is_counted was.position) (next_as_numbers b was) None (counted_holds was.position c)
+    ∙ ap (λ o. option_map (λ next. as_numbers b was (numbered_next was.position (drop was.position.at b) next)) o) is
 
 walked_by : (n : ℕ) (b : List ℕ) (was : NzgDescriptor) (o : Option NzgDescriptor) → next_of b was ≡ o
     → first_walked (suc n) b was ≡ unwrap_or (option_map (λ d. d ∷ first_walked n b d) o) []
 unfolding first_walked
 walked_by n b was o e = ap (λ o. unwrap_or (option_map (λ d. d ∷ first_walked n b d) o) []) e
 
-walked_zero : (b : List ℕ) (was : NzgDescriptor) (p : Position) (ahead : List ℕ) → first_walked zero b was ≡ told_all b was (first_numbered zero p ahead)
+walked_zero : (b : List ℕ) (was : NzgDescriptor) (p : Position) (ahead : List ℕ) → first_walked zero b was ≡ all_as_numbers b was (first_numbered zero p ahead)
 unfolding first_walked first_numbered
 walked_zero b was p ahead = refl
 
-behind_is : (b : List ℕ) (was : NzgDescriptor) (p : Position) (ahead : List ℕ) (next : Role × ℕ) → (told b was (numbered_next p ahead next)).position ≡ next_position (numbered_next p ahead next)
-unfolding told
+behind_is : (b : List ℕ) (was : NzgDescriptor) (p : Position) (ahead : List ℕ) (next : Role × ℕ) → (as_numbers b was (numbered_next p ahead next)).position ≡ next_position (numbered_next p ahead next)
+unfolding as_numbers
 behind_is b was p ahead next = refl
 
 walk_same : (n : ℕ) (b : List ℕ) (was : NzgDescriptor) (o : Option (Role × ℕ)) → Counted was.position → next_role was.position (drop was.position.at b) ≡ o
-    → first_walked n b was ≡ told_all b was (first_numbered n was.position (drop was.position.at b))
+    → first_walked n b was ≡ all_as_numbers b was (first_numbered n was.position (drop was.position.at b))
 walk_same zero b was o c is = walked_zero b was was.position (drop was.position.at b)
 walk_same (suc n) b was None c is =
-    walked_by n b was None (next_is b was None c is) ∙ ap (λ l. told_all b was l) (sym (numbered_none (suc n) was.position (drop was.position.at b) is))
+    walked_by n b was None (next_is b was None c is) ∙ ap (λ l. all_as_numbers b was l) (sym (numbered_none (suc n) was.position (drop was.position.at b) is))
 walk_same (suc n) b was (Some next) c is =
     let p = was.position in
     let ahead = drop p.at b in
     let m = numbered_next p ahead next in
-    let d = told b was m in
+    let d = as_numbers b was m in
     let q = next_position m in
     let bounds = next_bounds p ahead next is in
     let taken : length m.bytes ≡ next.1 = length-take-le next.1 ahead bounds.1 in
@@ -61,9 +61,9 @@ walk_same (suc n) b was (Some next) c is =
     walked_by n b was (Some d) (next_is b was (Some next) c is)
     ∙ ap (λ l. d ∷ l)
     (walk_same n b d (next_role d.position (drop d.position.at b)) (subst Counted (sym same) counted) refl
-    ∙ ap (λ l. told_all b d (first_numbered n d.position l)) after
-    ∙ ap (λ (q : Position). told_all b d (first_numbered n q (drop next.1 ahead))) same)
-    ∙ ap (λ l. told_all b was l) (sym (numbered_some n p ahead next is))
+    ∙ ap (λ l. all_as_numbers b d (first_numbered n d.position l)) after
+    ∙ ap (λ (q : Position). all_as_numbers b d (first_numbered n q (drop next.1 ahead))) same)
+    ∙ ap (λ l. all_as_numbers b was l) (sym (numbered_some n p ahead next is))
 
 counted_first : Counted first_position
 counted_first = record { strings = omega arith; main_sets = omega arith; other_sets = omega arith; associations = omega arith; settings = omega arith; endpoints = omega arith }

@@ -30,7 +30,7 @@ bytes_in b d =
     if nat_le 2 d.length && (nat_le d.length (length ahead) && ((slice_index ahead 0 == d.length) && (slice_index ahead 1 == d.kind)))
     then Some (take d.length ahead) else None
 
--- a name of at most 62 characters, and zeros behind it
+-- a name of at most 62 characters, and zeros after it
 abbrev pub name_in_place : List ℕ → List ℕ
 name_in_place name = name ++ drop (length name) (replicate 62 0)
 
@@ -42,8 +42,8 @@ number_of v =
     else 0
 
 -- a field of a descriptor at this place
-abbrev pub field_told : ℕ → PlacedField → NzgField
-field_told place f = record {
+abbrev pub field_numbers : ℕ → PlacedField → NzgField
+field_numbers place f = record {
   place = place + f.place;
   value = number_of f.value;
   width = length f.value;
@@ -53,7 +53,7 @@ field_told place f = record {
 
 -- the field of this number of a descriptor of this role and these bytes
 abbrev pub field_at : NzgDescriptor → ℕ → Role → List ℕ → Option NzgField
-field_at d n role bytes = option_map (field_told d.place) (slice_get (fields_of role (codes_of d.position) bytes) n)
+field_at d n role bytes = option_map (field_numbers d.place) (slice_get (fields_of role (codes_of d.position) bytes) n)
 
 -- that of a descriptor that is one of these bytes
 abbrev pub field_of : List ℕ → NzgDescriptor → ℕ → Option NzgField

@@ -105,8 +105,8 @@ with_role role d it = record it {
 }
 
 -- a descriptor of these bytes at its position, after another one
-unfoldable pub told : List ℕ → NzgDescriptor → Numbered → NzgDescriptor
-told b was n =
+unfoldable pub as_numbers : List ℕ → NzgDescriptor → Numbered → NzgDescriptor
+as_numbers b was n =
     let p = n.position in
     let q = next_position n in
     let string = string_of_role n.role b was in
@@ -135,13 +135,13 @@ is_counted p =
     && (nat_le p.associations p.at && (nat_le p.settings p.at && nat_le p.endpoints p.at))))
 
 -- the descriptor with which the bytes at the position of one begin
-abbrev pub told_next : List ℕ → NzgDescriptor → Option NzgDescriptor
-told_next b was =
-    let ahead = drop was.position.at b in option_map (λ next. told b was (numbered_next was.position ahead next)) (next_role was.position ahead)
+abbrev pub next_as_numbers : List ℕ → NzgDescriptor → Option NzgDescriptor
+next_as_numbers b was =
+    let ahead = drop was.position.at b in option_map (λ next. as_numbers b was (numbered_next was.position ahead next)) (next_role was.position ahead)
 
 -- The descriptor after one, where one can be there. After a struct that counts more than the bytes before it have there is none.
 unfoldable pub next_of : List ℕ → NzgDescriptor → Option NzgDescriptor
-next_of b was = if is_counted was.position then told_next b was else None
+next_of b was = if is_counted was.position then next_as_numbers b was else None
 
 -- the struct before the first descriptor: {0}
 abbrev pub nothing : NzgDescriptor
@@ -171,10 +171,10 @@ abbrev pub walked : List ℕ → List NzgDescriptor
 walked b = first_walked (length b) b nothing
 
 -- these descriptors as numbers, after one
-abbrev pub told_all : List ℕ → NzgDescriptor → List Numbered → List NzgDescriptor
-told_all b was [] = []
-told_all b was (n ∷ ns) = told b was n ∷ told_all b (told b was n) ns
+abbrev pub all_as_numbers : List ℕ → NzgDescriptor → List Numbered → List NzgDescriptor
+all_as_numbers b was [] = []
+all_as_numbers b was (n ∷ ns) = as_numbers b was n ∷ all_as_numbers b (as_numbers b was n) ns
 
 -- the walk from the first descriptor on is that over the positions of the bytes, which is their outline
 abbrev pub WalkIsNumbered : Type 0
-WalkIsNumbered = (b : List ℕ) → walked b ≡ told_all b nothing (numbered b)
+WalkIsNumbered = (b : List ℕ) → walked b ≡ all_as_numbers b nothing (numbered b)

@@ -1,4 +1,4 @@
--- What is told of bytes by numbers, and the texts that stand in them.
+-- Facts about bytes as numbers, and the texts that they have.
 use Rattle.std.specs.Prelude.{◌≡◌, ℕ, ◌-◌, ◌%◌, ◌==◌, ◌&&◌, ◌⊎◌, List, [], drop, flat_map, get_or, length, map, slice_index, take, Bool, Option, Some, None, if◌then◌else◌}
 use Rattle.usb_text.specs.Characters.{shown_words, units_in}
 use Rattle.usb_file_data.specs.declared.cause.Found.{Found}
@@ -14,7 +14,6 @@ use Rattle.usb_file_data.specs.Findings.{found_in_order}
 use Rattle.usb_file_data.specs.Inputs.{InputFaulty, IsInput, IsNoDump}
 use Rattle.usb_file_data.specs.Numbers.{rule_number}
 use Rattle.usb_file.specs.Completed.{IsCompleted}
-use Rattle.usb_explain.specs.declared.role.Role.{Role}
 use Rattle.usb_explain.specs.declared.role.Role.TheVariants as roles
 use Rattle.usb_explain.specs.Findings.{part_number}
 use Rattle.usb_explain.specs.Outline.{Described, outline}
@@ -23,6 +22,7 @@ use Rattle.usb_c.specs.declared.answer.Verdict.TheVariants as verdicts
 use Rattle.usb_c.specs.declared.descriptor.NzgDescriptor.{NzgDescriptor}
 use Rattle.usb_c.specs.declared.finding.NzgFinding.{NzgFinding}
 use Rattle.usb_c.specs.Answers.{Fills}
+use Rattle.usb_c.specs.Descriptors.{role_number}
 use Rattle.usb_c.specs.Hosts.{PutsFile}
 use Rattle.usb_c.specs.Texts.{Refuses, TellsInput}
 
@@ -39,18 +39,6 @@ Judges b (verdicts.Judged number) = (input : Input) × IsInput input b × (numbe
 Judges b verdict = Refuses InputFaulty b verdict
 
 -- What breaks a rule in them.
-
--- what a descriptor is, as a number
-abbrev pub role_number : Role → ℕ
-role_number roles.Device = 1
-role_number roles.Configuration = 2
-role_number roles.Interface = 3
-role_number roles.Endpoint = 4
-role_number roles.Association = 5
-role_number roles.Raw = 6
-role_number roles.Qualifier = 7
-role_number roles.Languages = 8
-role_number roles.Text = 9
 
 -- a finding, with the place and the role of the descriptor at which it stands
 abbrev pub placed : Described → Found → NzgFinding

@@ -30,6 +30,6 @@ pub struct NzgDescriptor {
     pub part: u8,
     /// The index of a string.
     pub index: u8,
-    /// The position behind it, with its set and its setting.
+    /// The position after it, with its set and its setting.
     pub position: Position,
 }

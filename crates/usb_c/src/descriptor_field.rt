@@ -2,7 +2,7 @@
 ghost use Rattle.std.specs.Prelude.{◌≡◌, ◌≤◌, ◌<◌, ◌+◌, ◌^◌, IfSome, is_some, length, option_map, slice_get, unwrap_or};
 ghost use Rattle.std.specs.Option.{option_copied};
 ghost use Rattle.usb_explain.specs.Fields.{fields_of, placed_of};
-ghost use Rattle.usb_c.specs.DescriptorFields.{bytes_in, field_at, field_of, field_told, name_in_place, number_of, role_in};
+ghost use Rattle.usb_c.specs.DescriptorFields.{bytes_in, field_at, field_of, field_numbers, name_in_place, number_of, role_in};
 
 use crate::buffer::fill;
 use crate::descriptor::NzgDescriptor;
@@ -21,7 +21,7 @@ pub struct NzgField {
     pub width: u8,
     /// How many characters its name has.
     pub name_length: u8,
-    /// Its name in ASCII, and zeros behind it.
+    /// Its name in ASCII, and zeros after it.
     pub name: [u8; 62],
 }
 
@@ -34,12 +34,12 @@ pub extern "C" fn nzg_field(
     number: usize,
     field: &mut NzgField,
 ) -> bool
-    ensures told { field.new ≡ unwrap_or (field_of bytes.now descriptor.now number) field.old }
+    ensures moved { field.new ≡ unwrap_or (field_of bytes.now descriptor.now number) field.old }
     ensures found { result ≡ is_some (field_of bytes.now descriptor.now number) }
 {
     match field_of(bytes, descriptor, number) {
-        Some(told) => {
-            *field = told;
+        Some(found) => {
+            *field = found;
             true
         }
         None => false,
@@ -67,7 +67,7 @@ fn field_at(descriptor: &NzgDescriptor, number: usize, role: Role, d: &[u8]) -> 
     let interface = descriptor.position.codes();
     match nth_field(role, interface, d, number) {
         None => None,
-        Some(field) => Some(told(descriptor.place, &field)),
+        Some(field) => Some(field_numbers(descriptor.place, &field)),
     }
 }
 
@@ -85,10 +85,10 @@ fn nth_field<'d>(
     Fields::of(role, interface, d).nth(number)
 }
 
-fn told(place: usize, field: &Field<'_>) -> NzgField
+fn field_numbers(place: usize, field: &Field<'_>) -> NzgField
     requires width { length field.now.value.now < 256 }
     requires place { place + field.now.place < 2 ^ 64 }
-    ensures { result ≡ field_told place (placed_of field.now) }
+    ensures { result ≡ field_numbers place (placed_of field.now) }
 {
     NzgField {
         place: place + field.place,

@@ -5,14 +5,15 @@ ghost use Rattle.usb_file_data.specs.Numbers.{rule_numbered};
 ghost use Rattle.usb_explain.specs.Findings.{part_number};
 ghost use Rattle.usb_explain.specs.Outline.{described, outline};
 ghost use Rattle.usb_c.specs.Answers.{AnswersOn, Fills};
-ghost use Rattle.usb_c.specs.Facts.{Finds, TellsRule, placed, placed_at, placed_findings, role_number};
+ghost use Rattle.usb_c.specs.Facts.{Finds, TellsRule, placed, placed_at, placed_findings};
 ghost use Rattle.usb_c.specs.declared.answer.Verdict.TheVariants as verdicts;
 
 use crate::answer::{Answer, Verdict, refused_input};
 use crate::buffer::fill_done;
+use crate::walk::role_number;
 use std::alloc::Global;
 use usb_explain::laws::each_finding_is_reported_once;
-use usb_explain::{Descriptor, Outline, Role};
+use usb_explain::{Descriptor, Outline};
 use usb_file::{Input, read_input};
 use usb_file_data::{Found, Part, Rule, found_in_order};
 
@@ -82,22 +83,22 @@ fn put_all(outline: Outline<'_>, out: &mut [NzgFinding])
     requires { length (flat_map placed_at outline) ≤ length out.old }
     ensures { out.new ≡ flat_map placed_at outline.entry ++ drop (length (flat_map placed_at outline.entry)) out.old }
 {
-    let mut told = 0;
+    let mut filled = 0;
     for descriptor in outline {
-        told = put_at(&descriptor, out, told);
+        filled = put_at(&descriptor, out, filled);
     }
 }
 
 /// Puts the findings of a descriptor after so many. Answers how many there are then.
-fn put_at(descriptor: &Descriptor, out: &mut [NzgFinding], told: usize) -> usize
-    requires { told + length (placed_at (described descriptor.now)) ≤ length out.old }
-    ensures out { out.new ≡ take told out.old ++ placed_at (described descriptor.now) ++ drop (told + length (placed_at (described descriptor.now))) out.old }
-    ensures told { result ≡ told + length (placed_at (described descriptor.now)) }
+fn put_at(descriptor: &Descriptor, out: &mut [NzgFinding], filled: usize) -> usize
+    requires { filled + length (placed_at (described descriptor.now)) ≤ length out.old }
+    ensures out { out.new ≡ take filled out.old ++ placed_at (described descriptor.now) ++ drop (filled + length (placed_at (described descriptor.now))) out.old }
+    ensures filled { result ≡ filled + length (placed_at (described descriptor.now)) }
 {
     for (number, found) in descriptor.findings.iter().enumerate() {
-        out[told + number] = placed(descriptor, found);
+        out[filled + number] = placed(descriptor, found);
     }
-    told + descriptor.findings.len()
+    filled + descriptor.findings.len()
 }
 
 /// A finding, with the place and the role of the descriptor at which it stands.
@@ -123,22 +124,6 @@ fn part_number(part: Part) -> u8
         Part::Device => 0,
         Part::Main => 1,
         Part::Other => 2,
-    }
-}
-
-fn role_number(role: Role) -> u8
-    ensures { result ≡ role_number role }
-{
-    match role {
-        Role::Device => 1,
-        Role::Configuration => 2,
-        Role::Interface => 3,
-        Role::Endpoint => 4,
-        Role::Association => 5,
-        Role::Raw => 6,
-        Role::Qualifier => 7,
-        Role::Languages => 8,
-        Role::Text => 9,
     }
 }
 

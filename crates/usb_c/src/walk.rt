@@ -2,7 +2,7 @@
 ghost use Rattle.std.specs.Prelude.{◌≡◌, ◌≤◌, ◌+◌, ◌<◌, ◌^◌, is_some, length, unwrap_or};
 ghost use Rattle.usb_explain.specs.Numbered.{numbered_next};
 ghost use Rattle.usb_explain.specs.inside.Walking.{Counted};
-ghost use Rattle.usb_c.specs.Descriptors.{holder_in, is_counted, next_of, role_number, set_part, string_of_role, told, told_next, with_role};
+ghost use Rattle.usb_c.specs.Descriptors.{holder_in, is_counted, next_of, role_number, set_part, string_of_role, as_numbers, next_as_numbers, with_role};
 
 use crate::descriptor::NzgDescriptor;
 use crate::string_place::{NO_STRING, StringPlace, name_string, string_among};
@@ -40,26 +40,26 @@ impl NzgDescriptor {
     /// Becomes the descriptor with which the bytes at its position begin.
     fn go_on(&mut self, bytes: &[u8]) -> bool
         requires { Counted self.old.position }
-        ensures moved { self.new ≡ unwrap_or (told_next bytes.now self.old) self.old }
-        ensures found { result ≡ is_some (told_next bytes.now self.old) }
+        ensures moved { self.new ≡ unwrap_or (next_as_numbers bytes.now self.old) self.old }
+        ensures found { result ≡ is_some (next_as_numbers bytes.now self.old) }
     {
         let ahead = after(bytes, self.position.at);
         match self.position.next_role(ahead) {
             None => false,
             Some((role, count)) => {
-                self.tell(bytes, role, ahead, count);
+                self.set_numbers(bytes, role, ahead, count);
                 true
             }
         }
     }
 
     /// Becomes the descriptor of this role and length, with which the bytes at its position begin.
-    #[tactic(auto, unfolding(crate::specs::Descriptors::told))]
-    fn tell(&mut self, bytes: &[u8], role: Role, ahead: &[u8], count: usize)
+    #[tactic(auto, unfolding(crate::specs::Descriptors::as_numbers))]
+    fn set_numbers(&mut self, bytes: &[u8], role: Role, ahead: &[u8], count: usize)
         requires counted { Counted self.old.position }
         requires room { self.old.position.at + length ahead.now < 2 ^ 63 }
         requires most { count ≤ length ahead.now }
-        ensures { self.new ≡ told bytes.now self.old (numbered_next self.old.position ahead.now (role, count)) }
+        ensures { self.new ≡ as_numbers bytes.now self.old (numbered_next self.old.position ahead.now (role, count)) }
     {
         let string = string_of_role(role, bytes, self);
         let d = prefix(ahead, count);
@@ -76,7 +76,7 @@ impl NzgDescriptor {
         self.note(role, d);
     }
 
-    /// Notes what belongs to a descriptor of this role alone, where the position is behind it.
+    /// Notes what belongs to a descriptor of this role alone, where the position is after it.
     fn note(&mut self, role: Role, d: &[u8])
         ensures { self.new ≡ with_role role d.now self.old }
     {
@@ -139,12 +139,12 @@ fn set_part(is_other: bool) -> u8
     if is_other { 2 } else { 1 }
 }
 
-fn holder_in(behind: &Position) -> u8
-    ensures { result ≡ holder_in behind.now }
+fn holder_in(position: &Position) -> u8
+    ensures { result ≡ holder_in position.now }
 {
-    if behind.settings == 0 {
+    if position.settings == 0 {
         2
-    } else if behind.endpoints == 0 {
+    } else if position.endpoints == 0 {
         3
     } else {
         4

@@ -10,10 +10,10 @@ loop-descriptor-init c = none_put _ _ _ _ c.into_iter-descriptor-iterator.ensure
 pub loop-descriptor-preserved : goal.loop-descriptor-preserved
 loop-descriptor-preserved c =
     let steps : c.loop-descriptor.descriptor-iterator ≡ described c.in-Some.descriptor ∷ c.next.new.self = c.in-Some.ensures.steps in
-    one_put _ _ _ _ _ _ _ (subst (λ left. PutSoFar placed_at c.args.outline left c.args.out.now c.loop-descriptor.out c.loop-descriptor.told) steps c.loop-descriptor.invariant)
-    _ _ c.put_at-told.ensures.out c.put_at-told.ensures.told
+    one_put _ _ _ _ _ _ _ (subst (λ left. PutSoFar placed_at c.args.outline left c.args.out.now c.loop-descriptor.out c.loop-descriptor.filled) steps c.loop-descriptor.invariant)
+    _ _ c.put_at-filled.ensures.out c.put_at-filled.ensures.filled
 
-pub put_at-told-requires : goal.put_at-told-requires
-put_at-told-requires c =
+pub put_at-filled-requires : goal.put_at-filled-requires
+put_at-filled-requires c =
     let steps : c.loop-descriptor.descriptor-iterator ≡ described c.in-Some.descriptor ∷ c.next.new.self = c.in-Some.ensures.steps in
-    room_for_one _ _ _ _ _ _ _ (subst (λ left. PutSoFar placed_at c.args.outline left c.args.out.now c.loop-descriptor.out c.loop-descriptor.told) steps c.loop-descriptor.invariant) c.requires
+    room_for_one _ _ _ _ _ _ _ (subst (λ left. PutSoFar placed_at c.args.outline left c.args.out.now c.loop-descriptor.out c.loop-descriptor.filled) steps c.loop-descriptor.invariant) c.requires

@@ -5,4 +5,4 @@ use Rattle.usb_c.proofs.finding.put_at.Given as goal
 
 abbrev pub invariant-loop-number : goal.invariant-loop-number
 invariant-loop-number l =
-    l.out ≡ take l.told l.fn.out ++ map (placed (described l.descriptor)) (take l.number l.found-items) ++ drop (l.told + l.number) l.fn.out
+    l.out ≡ take l.filled l.fn.out ++ map (placed (described l.descriptor)) (take l.number l.found-items) ++ drop (l.filled + l.number) l.fn.out
