@@ -1,5 +1,5 @@
 -- Descriptors as numbers, and the walk from one to the next.
-use Rattle.std.specs.Prelude.{◌≡◌, ℕ, zero, suc, ◌+◌, ◌-◌, ◌*◌, ◌/◌, ◌%◌, ◌^◌, ◌==◌, ◌&&◌, ◌||◌, nat_le, nat_lt, List, [], ◌∷◌, length, fold, filter, take, drop, slice_index, slice_set, Bool, true, false, Option, Some, None, unwrap_or, if◌then◌else◌}
+use Rattle.std.specs.Prelude.{◌≡◌, ◌≤◌, ℕ, zero, suc, ◌+◌, ◌-◌, ◌*◌, ◌/◌, ◌%◌, ◌^◌, ◌==◌, ◌&&◌, ◌||◌, nat_le, nat_lt, List, [], ◌∷◌, length, fold, filter, take, drop, slice_index, slice_set, Bool, true, false, Option, Some, None, unwrap_or, if◌then◌else◌}
 use Rattle.std.specs.Int.RustNames.{bit_or}
 use Rattle.std.specs.List.{range_with_len}
 use Rattle.std.specs.Option.{option_map}
@@ -142,6 +142,17 @@ next_as_numbers b was =
 -- The descriptor after one, where one can be there. After a struct that counts more than the bytes before it have there is none.
 unfoldable pub next_of : List ℕ → NzgDescriptor → Option NzgDescriptor
 next_of b was = if is_counted was.position then next_as_numbers b was else None
+
+-- It is that at the position, of two bytes at least and within the bytes, and the walk goes on where it ends.
+pub record GoesOn (b : List ℕ) (was d : NzgDescriptor) : Type 0 where
+  pub place : d.place ≡ was.position.at
+  pub least : 2 ≤ d.length
+  pub most : d.place + d.length ≤ length b
+  pub next : d.position.at ≡ d.place + d.length
+
+-- so it is of each struct, whatever its numbers
+abbrev pub AllGoOn : Type 0
+AllGoOn = (b : List ℕ) (was d : NzgDescriptor) → next_of b was ≡ Some d → GoesOn b was d
 
 -- the struct before the first descriptor: {0}
 abbrev pub nothing : NzgDescriptor

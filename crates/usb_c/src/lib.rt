@@ -5,6 +5,9 @@
 //! `specs/Texts.antt`, `specs/Enumerations.antt`. What bytes are, what breaks a rule in them and where, and the texts of
 //! strings are `specs/Facts.antt`.
 //!
+//! `nzg_next` goes from a descriptor to the next one, and `nzg_field` gives its fields, as numbers in the caller's structs and without
+//! memory: `specs/Descriptors.antt`, `specs/DescriptorFields.antt`. [`laws`] says which descriptors those are.
+//!
 //! Each call comes to a `Verdict`, which is given as the numbers of an [`Answer`]. [`NzgTransaction`], [`NzgPacket`],
 //! [`NzgOutcome`], [`NzgTrouble`] and [`NzgFinding`] are transactions, outcomes and findings as numbers.
 #![tactic(auto)]
