@@ -43,8 +43,8 @@ def names_of(it):
 class Player:
     """Calls of one thread. What is held is shared."""
 
-    def __init__(self, seed, held):
-        self.rng, self.held = random.Random(seed), held
+    def __init__(self, start, held):
+        self.rng, self.held = random.Random(start), held
 
     def words(self):
         return [self.rng.choice(SOME) for _ in range(self.rng.choice((0, 1, 1, 2, 3, 4)))]
@@ -80,7 +80,7 @@ def main(count):
     Player(0, held).play(count)
     wrong = []
     threading.excepthook = wrong.append
-    threads = [threading.Thread(target=Player(seed, held).play, args=(count // 4,)) for seed in range(1, 5)]
+    threads = [threading.Thread(target=Player(start, held).play, args=(count // 4,)) for start in range(1, 5)]
     for it in threads:
         it.start()
     for it in threads:
