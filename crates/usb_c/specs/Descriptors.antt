@@ -17,6 +17,7 @@ use Rattle.usb_c.specs.declared.string_place.StringPlace.{StringPlace}
 
 -- What a descriptor is, as numbers.
 
+-- the number of a role: `enum nzg_role` of nozzlegorse.h
 abbrev pub role_number : Role → ℕ
 role_number roles.Device = 1
 role_number roles.Configuration = 2
@@ -28,10 +29,11 @@ role_number roles.Qualifier = 7
 role_number roles.Languages = 8
 role_number roles.Text = 9
 
--- the part of a set, and of another descriptor: the qualifier is of the sets after it
+-- the part of a set: 1 those of the device, 2 those of the other speed
 abbrev pub set_part : Bool → ℕ
 set_part is_other = if is_other then 2 else 1
 
+-- the part of a descriptor of this role: the qualifier's is that of the sets after it, and of what is in no set 0
 abbrev pub part_of_role : Role → Bool → ℕ
 part_of_role roles.Device is_other = 0
 part_of_role roles.Qualifier is_other = 2
@@ -39,10 +41,11 @@ part_of_role roles.Languages is_other = 0
 part_of_role roles.Text is_other = 0
 part_of_role role is_other = set_part is_other
 
--- what an extra belongs to: the endpoint, interface or configuration that came last; of an association and a raw descriptor
+-- the role of what an extra belongs to: the endpoint, interface or configuration that came last
 abbrev pub holder_in : Position → ℕ
 holder_in p = if p.settings == 0 then 2 else if p.endpoints == 0 then 3 else 4
 
+-- that of an association and a raw descriptor; others are no extras
 abbrev pub holder_of_role : Role → Position → ℕ
 holder_of_role roles.Association p = holder_in p
 holder_of_role roles.Raw p = holder_in p
@@ -84,6 +87,7 @@ string_among indices list number =
     let count = length indices in
     if count == 0 then no_string else record { index = slice_index indices (number % count); language = language_in list (number / count) }
 
+-- those of a descriptor of this role, after another one
 abbrev pub string_of_role : Role → List ℕ → NzgDescriptor → StringPlace
 string_of_role roles.Text b was = string_among (indices_in was.named) (list_at b was.languages_place) was.position.strings
 string_of_role role b was = no_string
@@ -143,7 +147,8 @@ next_as_numbers b was =
 unfoldable pub next_of : List ℕ → NzgDescriptor → Option NzgDescriptor
 next_of b was = if is_counted was.position then next_as_numbers b was else None
 
--- It is that at the position, of two bytes at least and within the bytes, and the walk goes on where it ends.
+-- The descriptor after a struct begins at the position of the struct, has two bytes at least and ends within the bytes; the walk
+-- goes on where it ends.
 pub record GoesOn (b : List ℕ) (was d : NzgDescriptor) : Type 0 where
   pub place : d.place ≡ was.position.at
   pub least : 2 ≤ d.length

@@ -28,6 +28,7 @@ use Rattle.usb_c.specs.Texts.{Refuses, TellsInput}
 
 -- What bytes are.
 
+-- the number of an input: 1 a set, 2 a file, 3 a dump
 abbrev pub input_number : Input → ℕ
 input_number (inputs.Set set) = 1
 input_number (inputs.File file) = 2
@@ -104,5 +105,6 @@ abbrev pub CompletionFaulty : List ℕ → InputFault → Type 0
 CompletionFaulty b (faults.File fault) = FileFaulty b fault.at fault.why × IsNoDump b
 CompletionFaulty b fault = ⊥
 
+-- a file is in the buffer, or the bytes are refused, and the buffer is as it was
 abbrev pub Completes : List ℕ → List ℕ → List ℕ → Verdict → Type 0
 Completes b old new verdict = TellsCompleted b old new verdict ⊎ (Refuses CompletionFaulty b verdict × (new ≡ old))
