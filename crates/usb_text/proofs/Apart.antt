@@ -4,10 +4,10 @@ use Rattle.std.proofs.lemmas.Bool.{eqb-true, leb-true}
 use Rattle.hex.specs.Hex.{hex_digit_value}
 use Rattle.usb_text.specs.declared.hex_text.Form.{Form}
 use Rattle.usb_text.specs.declared.hex_text.Form.TheVariants.{Plain}
-use Rattle.usb_text.specs.HexText.{Item, Reads, after_all, ends, form_by, form_of, goes_on, in_line, is_gap, is_offset, is_zero, item, joined, plain_item, IsApart, IsNoDescriptor}
+use Rattle.usb_text.specs.HexText.{Item, Reads, after_all, begins_byte, bytes_of, ends, form_by, form_of, goes_on, in_line, is_gap, is_offset, is_zero, item, joined, plain_item, IsApart, IsNoDescriptor}
 
 -- nothing is read where no item begins
-stuck : {form : Form} {text bytes left : List ℕ} → Reads form text bytes left → item form text ≡ None → left ≡ text
+stuck : {form : Form} {count : ℕ} {text bytes left : List ℕ} → Reads form count text bytes left → item form count text ≡ None → left ≡ text
 stuck (ends is) none = refl
 stuck (goes_on is read) none = cc
 
@@ -16,28 +16,28 @@ left_of None = []
 left_of (Some p) = p.1
 
 -- what is left after an item is read
-moved : {form : Form} {text bytes left : List ℕ} (byte : Option ℕ) (rest : List ℕ) → Reads form text bytes left
-    → item form text ≡ Some (byte, rest) → (more : List ℕ) × Reads form rest more left
-moved byte rest (ends is) e = cc
-moved {form = form} {left = left} byte rest (goes_on {rest = tail} {bytes = more} is read) e =
+moved : {form : Form} {count : ℕ} {text bytes left : List ℕ} (rest : List ℕ) → Reads form count text bytes left
+    → item form count text ≡ Some (None, rest) → (later : ℕ) × (more : List ℕ) × Reads form later rest more left
+moved rest (ends is) e = cc
+moved {form = form} {count = count} {left = left} rest (goes_on {rest = tail} {bytes = more} {byte = byte} is read) e =
     let same : tail ≡ rest = ap left_of (sym is ∙ e) in
-    (more, subst (λ (t : List ℕ). Reads form t more left) same read)
+    (count + length (bytes_of byte), more, subst (λ (t : List ℕ). Reads form (count + length (bytes_of byte)) t more left) same read)
 
 -- the characters that begin no item
-eighteen : (rest : List ℕ) → item Plain (18 ∷ rest) ≡ None
+eighteen : (count : ℕ) (rest : List ℕ) → item Plain count (18 ∷ rest) ≡ None
 unfolding item plain_item
-eighteen [] = refl
-eighteen (d ∷ rest) = refl
+eighteen count [] = refl
+eighteen count (d ∷ rest) = refl
 
-two : (rest : List ℕ) → item Plain (2 ∷ rest) ≡ None
+two : (count : ℕ) (rest : List ℕ) → item Plain count (2 ∷ rest) ≡ None
 unfolding item plain_item
-two [] = refl
-two (d ∷ rest) = refl
+two count [] = refl
+two count (d ∷ rest) = refl
 
-seven : (rest : List ℕ) → item Plain (7 ∷ rest) ≡ None
+seven : (count : ℕ) (rest : List ℕ) → item Plain count (7 ∷ rest) ≡ None
 unfolding item plain_item
-seven [] = refl
-seven (d ∷ rest) = refl
+seven count [] = refl
+seven count (d ∷ rest) = refl
 
 abbrev paired : List ℕ → ℕ → Option ℕ × List ℕ
 paired rest byte = (Some byte, rest)
@@ -47,47 +47,49 @@ no_digits : (v : Option ℕ) (rest : List ℕ) → option_map (paired rest) (joi
 no_digits (Some high) rest = refl
 no_digits None rest = refl
 
-no_mark : (m : Bool) (taken : Item) (v : Option ℕ) (rest : List ℕ)
-    → cond (m && false) taken (option_map (paired rest) (joined v None)) ≡ None
-no_mark true taken v rest = no_digits v rest
-no_mark false taken v rest = no_digits v rest
+no_mark : (m b : Bool) (taken : Item) (v : Option ℕ) (rest : List ℕ)
+    → cond ((m && false) && b) taken (option_map (paired rest) (joined v None)) ≡ None
+no_mark true b taken v rest = no_digits v rest
+no_mark false b taken v rest = no_digits v rest
 
 gap_or_none : (a b : Bool) (taken other : Item) → other ≡ None → (cond a taken (cond b taken other) ≡ taken) ⊎ (cond a taken (cond b taken other) ≡ None)
 gap_or_none true b taken other none = inl refl
 gap_or_none false true taken other none = inl refl
 gap_or_none false false taken other none = inr none
 
-before_two : (c : ℕ) (rest : List ℕ) → (item Plain (c ∷ 2 ∷ rest) ≡ Some (None, 2 ∷ rest)) ⊎ (item Plain (c ∷ 2 ∷ rest) ≡ None)
+before_two : (count c : ℕ) (rest : List ℕ) → (item Plain count (c ∷ 2 ∷ rest) ≡ Some (None, 2 ∷ rest)) ⊎ (item Plain count (c ∷ 2 ∷ rest) ≡ None)
 unfolding item plain_item
-before_two c rest = gap_or_none (c == 10) (is_gap c) _ _ (no_mark ((c == 48) || (c == 92)) (Some (None, rest)) (hex_digit_value c) rest)
+before_two count c rest = gap_or_none (c == 10) (is_gap c) _ _ (no_mark ((c == 48) || (c == 92)) (begins_byte rest) (Some (None, rest)) (hex_digit_value c) rest)
 
-before_seven : (c : ℕ) (rest : List ℕ) → (item Plain (c ∷ 7 ∷ rest) ≡ Some (None, 7 ∷ rest)) ⊎ (item Plain (c ∷ 7 ∷ rest) ≡ None)
+before_seven : (count c : ℕ) (rest : List ℕ) → (item Plain count (c ∷ 7 ∷ rest) ≡ Some (None, 7 ∷ rest)) ⊎ (item Plain count (c ∷ 7 ∷ rest) ≡ None)
 unfolding item plain_item
-before_seven c rest = gap_or_none (c == 10) (is_gap c) _ _ (no_mark ((c == 48) || (c == 92)) (Some (None, rest)) (hex_digit_value c) rest)
+before_seven count c rest = gap_or_none (c == 10) (is_gap c) _ _ (no_mark ((c == 48) || (c == 92)) (begins_byte rest) (Some (None, rest)) (hex_digit_value c) rest)
 
 not_whole : (c : ℕ) (rest : List ℕ) → [] ≡ c ∷ rest → ⊥
 not_whole c rest e = cc
 
-second : (c d : ℕ) (rest bytes : List ℕ) → Reads Plain (c ∷ d ∷ rest) bytes [] → item Plain (d ∷ rest) ≡ None
-    → (item Plain (c ∷ d ∷ rest) ≡ Some (None, d ∷ rest)) ⊎ (item Plain (c ∷ d ∷ rest) ≡ None) → ⊥
-second c d rest bytes read none (inl gap) = not_whole d rest (stuck (moved None (d ∷ rest) read gap).1 none)
+second : (c d : ℕ) (rest bytes : List ℕ) → Reads Plain 0 (c ∷ d ∷ rest) bytes [] → ((count : ℕ) → item Plain count (d ∷ rest) ≡ None)
+    → (item Plain 0 (c ∷ d ∷ rest) ≡ Some (None, d ∷ rest)) ⊎ (item Plain 0 (c ∷ d ∷ rest) ≡ None) → ⊥
+second c d rest bytes read none (inl gap) =
+    let later = moved (d ∷ rest) read gap in
+    not_whole d rest (stuck later.2 (none later.0))
 second c d rest bytes read none (inr stops) = not_whole c (d ∷ rest) (stuck read stops)
 
-plain_apart : (text bytes : List ℕ) → Reads Plain text bytes [] → IsApart text
+plain_apart : (text bytes : List ℕ) → Reads Plain 0 text bytes [] → IsApart text
 plain_apart [] bytes read = record {
   device = λ e. (let no : 0 ≡ 18 = e in omega arith);
   configuration = λ e. (let no : 0 ≡ 2 = e in omega arith);
   other_speed = λ e. (let no : 0 ≡ 7 = e in omega arith);
 }
 plain_apart (c ∷ []) bytes read = record {
-  device = λ e. not_whole c [] (stuck read (subst (λ (x : ℕ). item Plain (x ∷ []) ≡ None) (sym e) (eighteen [])));
+  device = λ e. not_whole c [] (stuck read (subst (λ (x : ℕ). item Plain 0 (x ∷ []) ≡ None) (sym e) (eighteen 0 [])));
   configuration = λ e. (let no : 0 ≡ 2 = e in omega arith);
   other_speed = λ e. (let no : 0 ≡ 7 = e in omega arith);
 }
 plain_apart (c ∷ d ∷ rest) bytes read = record {
-  device = λ e. not_whole c (d ∷ rest) (stuck read (subst (λ (x : ℕ). item Plain (x ∷ d ∷ rest) ≡ None) (sym e) (eighteen (d ∷ rest))));
-  configuration = λ e. second c 2 rest bytes (subst (λ (x : ℕ). Reads Plain (c ∷ x ∷ rest) bytes []) e read) (two rest) (before_two c rest);
-  other_speed = λ e. second c 7 rest bytes (subst (λ (x : ℕ). Reads Plain (c ∷ x ∷ rest) bytes []) e read) (seven rest) (before_seven c rest);
+  device = λ e. not_whole c (d ∷ rest) (stuck read (subst (λ (x : ℕ). item Plain 0 (x ∷ d ∷ rest) ≡ None) (sym e) (eighteen 0 (d ∷ rest))));
+  configuration = λ e. second c 2 rest bytes (subst (λ (x : ℕ). Reads Plain 0 (c ∷ x ∷ rest) bytes []) e read) (λ count. two count rest) (before_two 0 c rest);
+  other_speed = λ e. second c 7 rest bytes (subst (λ (x : ℕ). Reads Plain 0 (c ∷ x ∷ rest) bytes []) e read) (λ count. seven count rest) (before_seven 0 c rest);
 }
 
 -- an offset of zeros begins with two
@@ -128,6 +130,6 @@ unfolding form_of
 apart text bytes hex = by (is_offset text (after_all is_zero text)) refl hex.read
   where
     by : (b : Bool) → is_offset text (after_all is_zero text) ≡ b
-        → (let form = cond b (form_by (after_all is_zero text)) Plain in Reads form (in_line form text) bytes []) → IsApart text
+        → (let form = cond b (form_by (after_all is_zero text)) Plain in Reads form 0 (in_line form text) bytes []) → IsApart text
     by true is read = offset_apart text is
     by false is read = plain_apart text bytes read

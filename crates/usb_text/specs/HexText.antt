@@ -3,7 +3,7 @@
 -- A text is a run of items: white space or a comma, a mark `0x` or `\x`, and two digits, which are a byte. Where it begins
 -- with an offset of zeros, as `xxd`, `hexdump -C` and Wireshark write it, each line has columns: an offset, the bytes and
 -- their characters. Then only the bytes are read.
-use Rattle.std.specs.Prelude.{◌≡◌, ℕ, ◌+◌, ◌-◌, ◌*◌, ◌<◌, ◌==◌, ◌||◌, ◌&&◌, ◌⊎◌, Bool, false, not, nat_le, if◌then◌else◌, List, [], ◌∷◌, ◌++◌, length, take, slice_index, Option, Some, None, option_map, count_by}
+use Rattle.std.specs.Prelude.{◌≡◌, ℕ, ◌+◌, ◌-◌, ◌*◌, ◌<◌, ◌==◌, ◌||◌, ◌&&◌, ◌⊎◌, Bool, false, not, nat_le, nat_lt, true, if◌then◌else◌, List, [], ◌∷◌, ◌++◌, length, take, slice_index, Option, Some, None, option_map, count_by}
 use Rattle.hex.specs.Hex.{hex_digit_value, is_hex_digit}
 use Rattle.usb_text.specs.declared.hex_text.Form.{Form}
 use Rattle.usb_text.specs.declared.hex_text.Form.TheVariants.{Plain, Colons, Spaces}
@@ -26,6 +26,10 @@ is_gap c = (c == 9) || (c == 10) || (c == 13) || (c == 32) || (c == 44)
 -- `0x` or `\x`
 abbrev pub is_mark : ℕ → ℕ → Bool
 is_mark a b = ((a == 48) || (a == 92)) && (b == 120)
+
+-- two digits are at the start of a text
+abbrev pub begins_byte : List ℕ → Bool
+begins_byte text = is_hex_digit (slice_index text 0) && is_hex_digit (slice_index text 1)
 
 -- a byte of its high and its low four bits
 abbrev pub joined : Option ℕ → Option ℕ → Option ℕ
@@ -65,6 +69,19 @@ form_of text =
     let rest = after_all is_zero text in
     if is_offset text rest then form_by rest else Plain
 
+-- the value of an offset's digits so far, which grows no more from 2^32 on, as no text of so many bytes is read
+abbrev pub grown : ℕ → ℕ → ℕ
+grown value digit = if nat_lt value 4294967296 then value * 16 + digit else value
+
+abbrev pub with_digit : ℕ → (ℕ → ℕ) → Option ℕ → ℕ
+with_digit value later None = value
+with_digit value later (Some digit) = later (grown value digit)
+
+-- the value of the digits at the start of a text, after those that have a value already
+unfoldable pub offset_value : ℕ → List ℕ → ℕ
+offset_value value [] = value
+offset_value value (c ∷ rest) = with_digit value (λ v. offset_value v rest) (hex_digit_value c)
+
 abbrev pub after_colon : List ℕ → List ℕ
 after_colon [] = []
 after_colon (c ∷ rest) = if c == 58 then rest else c ∷ rest
@@ -75,11 +92,33 @@ after_offset text =
     let rest = after_all is_hex_digit text in
     if is_offset text rest then after_all is_space (after_colon rest) else text
 
--- what is left after the start of a line
+-- what is left after the start of the first line
 abbrev pub in_line : Form → List ℕ → List ℕ
 in_line Plain text = text
 in_line Colons text = after_offset text
 in_line Spaces text = after_offset text
+
+-- nothing is in the line
+abbrev pub is_empty_line : List ℕ → Bool
+is_empty_line [] = true
+is_empty_line (c ∷ rest) = (c == 10) || (c == 13)
+
+-- the offset of a line is the count of the bytes before it
+abbrev pub has_offset : ℕ → List ℕ → Bool
+has_offset count text = is_offset text (after_all is_hex_digit text) && (offset_value 0 text == count)
+
+-- what is left after the offset of a line before which are so many bytes; none where it has another offset or none
+abbrev pub at_offset : ℕ → List ℕ → Option (List ℕ)
+at_offset count text =
+    if has_offset count text then Some (after_offset text)
+    else if is_empty_line text then Some text
+    else None
+
+-- what is left after the start of a later line
+abbrev pub at_line : Form → ℕ → List ℕ → Option (List ℕ)
+at_line Plain count text = Some text
+at_line Colons count text = at_offset count text
+at_line Spaces count text = at_offset count text
 
 -- the characters of a line's bytes begin here: after two spaces for `xxd`, after three or a bar for the others
 abbrev pub has_characters : Form → List ℕ → Bool
@@ -91,42 +130,45 @@ has_characters Spaces text = (slice_index text 0 == 124) || has_three_spaces tex
 abbrev pub Item : Type 0
 Item = Option (Option ℕ × List ℕ)
 
-abbrev pub gap_or : Form → ℕ → List ℕ → Item → Item
-gap_or form c rest other =
-    if c == 10 then Some (None, in_line form rest)
+abbrev pub no_byte : List ℕ → Option ℕ × List ℕ
+no_byte rest = (None, rest)
+
+abbrev pub gap_or : Form → ℕ → ℕ → List ℕ → Item → Item
+gap_or form count c rest other =
+    if c == 10 then option_map no_byte (at_line form count rest)
     else if is_gap c then Some (None, rest)
     else other
 
 abbrev pub mark_or : ℕ → ℕ → List ℕ → Item → Item
-mark_or c d rest other = if is_mark c d then Some (None, rest) else other
+mark_or c d rest other = if is_mark c d && begins_byte rest then Some (None, rest) else other
 
 abbrev pub digits : ℕ → ℕ → List ℕ → Item
 digits c d rest = option_map (λ byte. (Some byte, rest)) (byte_of c d)
 
-unfoldable pub plain_item : Form → List ℕ → Item
-plain_item form [] = None
-plain_item form (c ∷ []) = gap_or form c [] None
-plain_item form (c ∷ d ∷ rest) = gap_or form c (d ∷ rest) (mark_or c d rest (digits c d rest))
+unfoldable pub plain_item : Form → ℕ → List ℕ → Item
+plain_item form count [] = None
+plain_item form count (c ∷ []) = gap_or form count c [] None
+plain_item form count (c ∷ d ∷ rest) = gap_or form count c (d ∷ rest) (mark_or c d rest (digits c d rest))
 
--- the characters of a line are one item, up to its line feed
-unfoldable pub item : Form → List ℕ → Item
-item form [] = None
-item form (c ∷ rest) =
-    if has_characters form (c ∷ rest) then Some (None, after_all is_in_line rest) else plain_item form (c ∷ rest)
+-- the item after so many bytes; the characters of a line are one item, up to its line feed
+unfoldable pub item : Form → ℕ → List ℕ → Item
+item form count [] = None
+item form count (c ∷ rest) =
+    if has_characters form (c ∷ rest) then Some (None, after_all is_in_line rest) else plain_item form count (c ∷ rest)
 
 abbrev pub bytes_of : Option ℕ → List ℕ
 bytes_of None = []
 bytes_of (Some byte) = byte ∷ []
 
--- the items at the start of a text, as many as there are, have these bytes, and this is left
-pub data Reads (form : Form) : List ℕ → List ℕ → List ℕ → Type 0 where
-  ends : {text : List ℕ} → item form text ≡ None → Reads form text [] text
-  goes_on : {text rest bytes left : List ℕ} {byte : Option ℕ} → item form text ≡ Some (byte, rest)
-      → Reads form rest bytes left → Reads form text (bytes_of byte ++ bytes) left
+-- the items at the start of a text after so many bytes, as many as there are, have these bytes, and this is left
+pub data Reads (form : Form) : ℕ → List ℕ → List ℕ → List ℕ → Type 0 where
+  ends : {count : ℕ} {text : List ℕ} → item form count text ≡ None → Reads form count text [] text
+  goes_on : {count : ℕ} {text rest bytes left : List ℕ} {byte : Option ℕ} → item form count text ≡ Some (byte, rest)
+      → Reads form (count + length (bytes_of byte)) rest bytes left → Reads form count text (bytes_of byte ++ bytes) left
 
 -- so it is of a whole text
 abbrev pub ReadsText : List ℕ → List ℕ → List ℕ → Type 0
-ReadsText text bytes left = Reads (form_of text) (in_line (form_of text) text) bytes left
+ReadsText text bytes left = Reads (form_of text) 0 (in_line (form_of text) text) bytes left
 
 -- the text is hexadecimal, and has these bytes, one at least
 pub record HexText (text bytes : List ℕ) : Type 0 where

@@ -1,7 +1,9 @@
 //! The columns of a line.
 ghost use Rattle.std.specs.Prelude.{◌≡◌, ◌≤◌, length};
 ghost use Rattle.hex.specs.Hex.{is_hex_digit};
-ghost use Rattle.usb_text.specs.HexText.{after_all, after_colon, after_offset, has_characters, in_line, is_in_line, is_offset, is_space, is_zero};
+ghost use Rattle.usb_text.specs.HexText.{after_all, after_colon, after_offset, grown, has_characters, has_offset, in_line, is_empty_line, is_in_line, is_offset, is_space, is_zero, offset_value};
+ghost use Rattle.std.specs.Prelude.{MatchOption, IfSome, None, Some};
+ghost use Rattle.usb_text.specs.HexText.{at_line, at_offset};
 
 use crate::hex_text::Form;
 use crate::numbers::digit;
@@ -96,7 +98,74 @@ fn after_offset(text: &[u8]) -> &[u8]
     }
 }
 
-/// What is left after the start of a line.
+/// The value of an offset's digits so far and one more; no text of 2^32 bytes or more is read.
+fn grown(value: u64, digit: u8) -> u64
+    ensures { result ≡ grown value digit }
+{
+    if value < 1 << 32 {
+        value * 16 + u64::from(digit)
+    } else {
+        value
+    }
+}
+
+/// The value of the digits at the start of a text.
+#[tactic(auto, unfolding(crate::specs::HexText::offset_value))]
+fn offset_value(text: &[u8]) -> u64
+    ensures { result ≡ offset_value 0 text.now }
+{
+    let mut value = 0;
+    let mut rest = text;
+    while let [c, tail @ ..] = rest {
+        let Some(digit) = digit(*c) else {
+            break;
+        };
+        value = grown(value, digit);
+        rest = tail;
+    }
+    value
+}
+
+/// Whether a line begins with the offset of what is after so many bytes.
+fn has_offset(count: usize, text: &[u8]) -> bool
+    ensures { result ≡ has_offset count text.now }
+{
+    is_offset(text, after_digits(text)) && offset_value(text) == count as u64
+}
+
+/// Whether nothing is in the line.
+fn is_empty_line(text: &[u8]) -> bool
+    ensures { result ≡ is_empty_line text.now }
+{
+    matches!(text, [] | [b'\n' | b'\r', ..])
+}
+
+/// What is left after the offset of a line, where it is the one after so many bytes.
+fn at_offset(count: usize, text: &[u8]) -> Option<&[u8]>
+    ensures is { MatchOption result (at_offset count text.now ≡ None) (λ rest. at_offset count text.now ≡ Some rest.now) }
+    ensures within { IfSome result (λ rest. length rest.now ≤ length text.now) }
+{
+    if has_offset(count, text) {
+        Some(after_offset(text))
+    } else if is_empty_line(text) {
+        Some(text)
+    } else {
+        None
+    }
+}
+
+/// What is left after the start of a line that isn't the first, after so many bytes.
+pub(crate) fn at_line(form: Form, count: usize, text: &[u8]) -> Option<&[u8]>
+    ensures is { MatchOption result (at_line form count text.now ≡ None) (λ rest. at_line form count text.now ≡ Some rest.now) }
+    ensures within { IfSome result (λ rest. length rest.now ≤ length text.now) }
+{
+    match form {
+        Form::Plain => Some(text),
+        Form::Colons | Form::Spaces => at_offset(count, text),
+    }
+}
+
+/// What is left after the start of the first line.
 pub(crate) fn in_line(form: Form, text: &[u8]) -> &[u8]
     ensures is { result.now ≡ in_line form text.now }
     ensures within { length result.now ≤ length text.now }

@@ -4,12 +4,12 @@ ghost use Rattle.usb_text.specs.HexText.{column_after, fault_at, is_line_feed};
 ghost use Rattle.std.specs.Prelude.{◌≡◌};
 ghost use Rattle.usb_text.specs.HexText.{form_by, form_of};
 ghost use Rattle.std.specs.Prelude.{◌≡◌, ◌<◌, IfSome, MatchOption, None, Some, length};
-ghost use Rattle.usb_text.specs.HexText.{is_gap, is_mark, item, plain_item};
+ghost use Rattle.usb_text.specs.HexText.{begins_byte, is_gap, is_mark, item, plain_item};
 ghost use Rattle.std.specs.Prelude.{◌≡◌, ◌≤◌, ◌++◌, IfErr, IfOk, OnOk, length};
 ghost use Rattle.usb_text.specs.HexText.{HexFaulty, HexRefused, HexText, ReadsText, bytes_of};
 
-use crate::column::{after_line, after_zeros, has_characters, in_line, is_offset};
-use crate::numbers::byte_of;
+use crate::column::{after_line, after_zeros, at_line, has_characters, in_line, is_offset};
+use crate::numbers::{byte_of, digit};
 use std::alloc::Global;
 
 /// Why a text has no bytes.
@@ -96,26 +96,26 @@ fn form_by(rest: &[u8]) -> Form
 
 /// The item at the start of a text: the byte that it is, if it is one, and what is left.
 #[tactic(auto, unfolding(crate::specs::HexText::item, crate::specs::HexText::plain_item))]
-pub(crate) fn item(form: Form, text: &[u8]) -> Option<(Option<u8>, &[u8])>
-    ensures is { MatchOption result (item form text.now ≡ None) (λ p. item form text.now ≡ Some (p.0, p.1.now)) }
+pub(crate) fn item(form: Form, count: usize, text: &[u8]) -> Option<(Option<u8>, &[u8])>
+    ensures is { MatchOption result (item form count text.now ≡ None) (λ p. item form count text.now ≡ Some (p.0, p.1.now)) }
     ensures less { IfSome result (λ p. length p.1.now < length text.now) }
 {
     match text {
         [_, rest @ ..] if has_characters(form, text) => Some((None, after_line(rest))),
-        _ => plain_item(form, text),
+        _ => plain_item(form, count, text),
     }
 }
 
 /// The item at the start of a text that is in no column of characters.
 #[tactic(auto, unfolding(crate::specs::HexText::plain_item))]
-fn plain_item(form: Form, text: &[u8]) -> Option<(Option<u8>, &[u8])>
-    ensures is { MatchOption result (plain_item form text.now ≡ None) (λ p. plain_item form text.now ≡ Some (p.0, p.1.now)) }
+fn plain_item(form: Form, count: usize, text: &[u8]) -> Option<(Option<u8>, &[u8])>
+    ensures is { MatchOption result (plain_item form count text.now ≡ None) (λ p. plain_item form count text.now ≡ Some (p.0, p.1.now)) }
     ensures less { IfSome result (λ p. length p.1.now < length text.now) }
 {
     match text {
-        [b'\n', rest @ ..] => Some((None, in_line(form, rest))),
+        [b'\n', rest @ ..] => Some((None, at_line(form, count, rest)?)),
         [c, rest @ ..] if is_gap(*c) => Some((None, rest)),
-        [c, d, rest @ ..] if is_mark(*c, *d) => Some((None, rest)),
+        [c, d, rest @ ..] if is_mark(*c, *d) && begins_byte(rest) => Some((None, rest)),
         [c, d, rest @ ..] => Some((Some(byte_of(*c, *d)?), rest)),
         _ => None,
     }
@@ -133,6 +133,16 @@ fn is_mark(c: u8, d: u8) -> bool
     ensures { result ≡ is_mark c d }
 {
     (c == b'0' || c == b'\\') && d == b'x'
+}
+
+/// Whether two digits are at the start of a text.
+fn begins_byte(text: &[u8]) -> bool
+    ensures { result ≡ begins_byte text.now }
+{
+    match text {
+        [c, d, ..] => digit(*c).is_some() && digit(*d).is_some(),
+        _ => false,
+    }
 }
 
 /// The bytes of a hexadecimal text, one at least. Digits have either case. White space and commas may be between two
@@ -157,7 +167,7 @@ pub fn parse(alloc: Global, text: &[u8]) -> Result<Vec<u8>, HexFault>
     let mut bytes = Vec::new(alloc);
     let mut rest = in_line(form, text);
     'items: loop {
-        match item(form, rest) {
+        match item(form, bytes.len(), rest) {
             Some((byte, tail)) => {
                 keep(&mut bytes, byte)?;
                 rest = tail;
