@@ -5,7 +5,7 @@ use Rattle.hex.specs.Hex.{lower_digits}
 use Rattle.usb_text.proofs.Printables.{all_below, all_below-at}
 use Rattle.usb_listing.specs.declared.fields.TheConstants.{VALUES}
 use Rattle.usb_listing.specs.inside.Fields.{digit_value, pair_value, value_or}
-use Rattle.usb_text.specs.HexText.{joined}
+use Rattle.usb_text.specs.HexDigits.{joined}
 
 -- what a character and its value have to do with one another
 abbrev digit_test : ℕ → Option ℕ → Bool

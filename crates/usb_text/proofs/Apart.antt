@@ -1,10 +1,13 @@
 -- A hexadecimal text is apart from descriptors in its first two bytes.
 use Rattle.std.proofs.Common.{◌≡◌, ℕ, suc, ◌+◌, ◌&&◌, ◌||◌, ◌==◌, ◌⊎◌, Bool, true, false, cond, eqb, nat_le, List, [], ◌∷◌, length, slice_index, Option, Some, None, option_map, refl, sym, ap, subst, ◌∙◌, inl, inr, arith}
-use Rattle.std.proofs.lemmas.Bool.{eqb-true, leb-true}
+use Rattle.std.specs.List.{list_all}
+use Rattle.std.proofs.lemmas.Bool.{and_parts, eqb-true, leb-true}
 use Rattle.hex.specs.Hex.{hex_digit_value}
 use Rattle.usb_text.specs.declared.hex_text.Form.{Form}
 use Rattle.usb_text.specs.declared.hex_text.Form.TheVariants.{Plain}
-use Rattle.usb_text.specs.HexText.{Item, Reads, after_all, begins_byte, bytes_of, ends, form_by, form_of, goes_on, in_line, is_gap, is_offset, is_zero, item, joined, plain_item, IsApart, IsNoDescriptor}
+use Rattle.usb_text.specs.HexDigits.{Item, is_gap, joined}
+use Rattle.usb_text.specs.HexText.{Reads, after_all, begins_byte, bytes_of, ends, form_by, form_of, goes_on, in_line, is_offset, is_zero, item, line_item, plain_item}
+use Rattle.usb_text.specs.Hexadecimal.{HexAsIs, IsApart, IsNoDescriptor, is_of_source}
 
 -- nothing is read where no item begins
 stuck : {form : Form} {count : ℕ} {text bytes left : List ℕ} → Reads form count text bytes left → item form count text ≡ None → left ≡ text
@@ -25,17 +28,17 @@ moved {form = form} {count = count} {left = left} rest (goes_on {rest = tail} {b
 
 -- the characters that begin no item
 eighteen : (count : ℕ) (rest : List ℕ) → item Plain count (18 ∷ rest) ≡ None
-unfolding item plain_item
+unfolding line_item plain_item
 eighteen count [] = refl
 eighteen count (d ∷ rest) = refl
 
 two : (count : ℕ) (rest : List ℕ) → item Plain count (2 ∷ rest) ≡ None
-unfolding item plain_item
+unfolding line_item plain_item
 two count [] = refl
 two count (d ∷ rest) = refl
 
 seven : (count : ℕ) (rest : List ℕ) → item Plain count (7 ∷ rest) ≡ None
-unfolding item plain_item
+unfolding line_item plain_item
 seven count [] = refl
 seven count (d ∷ rest) = refl
 
@@ -58,11 +61,11 @@ gap_or_none false true taken other none = inl refl
 gap_or_none false false taken other none = inr none
 
 before_two : (count c : ℕ) (rest : List ℕ) → (item Plain count (c ∷ 2 ∷ rest) ≡ Some (None, 2 ∷ rest)) ⊎ (item Plain count (c ∷ 2 ∷ rest) ≡ None)
-unfolding item plain_item
+unfolding line_item plain_item
 before_two count c rest = gap_or_none (c == 10) (is_gap c) _ _ (no_mark ((c == 48) || (c == 92)) (begins_byte rest) (Some (None, rest)) (hex_digit_value c) rest)
 
 before_seven : (count c : ℕ) (rest : List ℕ) → (item Plain count (c ∷ 7 ∷ rest) ≡ Some (None, 7 ∷ rest)) ⊎ (item Plain count (c ∷ 7 ∷ rest) ≡ None)
-unfolding item plain_item
+unfolding line_item plain_item
 before_seven count c rest = gap_or_none (c == 10) (is_gap c) _ _ (no_mark ((c == 48) || (c == 92)) (begins_byte rest) (Some (None, rest)) (hex_digit_value c) rest)
 
 not_whole : (c : ℕ) (rest : List ℕ) → [] ≡ c ∷ rest → ⊥
@@ -125,11 +128,39 @@ offset_apart text e =
       other_speed = λ is. (let no : 48 ≡ 7 = sym at.1 ∙ is in omega arith);
     }
 
-pub apart : IsNoDescriptor
+as_is_apart : (text bytes : List ℕ) → HexAsIs text bytes → IsApart text
 unfolding form_of
-apart text bytes hex = by (is_offset text (after_all is_zero text)) refl hex.read
+as_is_apart text bytes hex = by (is_offset text (after_all is_zero text)) refl hex.read
   where
     by : (b : Bool) → is_offset text (after_all is_zero text) ≡ b
         → (let form = cond b (form_by (after_all is_zero text)) Plain in Reads form 0 (in_line form text) bytes []) → IsApart text
     by true is read = offset_apart text is
     by false is read = plain_apart text bytes read
+
+-- a source has none of these characters
+no_character : (c other : ℕ) → is_of_source c ≡ true → is_of_source other ≡ false → c ≡ other → ⊥
+no_character c other is none e = (let bad : true ≡ false = sym is ∙ ap is_of_source e ∙ none in cc)
+
+source_apart : (text : List ℕ) → list_all is_of_source text ≡ true → IsApart text
+source_apart [] h = record {
+  device = λ e. (let no : 0 ≡ 18 = e in omega arith);
+  configuration = λ e. (let no : 0 ≡ 2 = e in omega arith);
+  other_speed = λ e. (let no : 0 ≡ 7 = e in omega arith);
+}
+source_apart (c ∷ []) h = record {
+  device = λ e. no_character c 18 (and_parts (is_of_source c) true h).0 refl e;
+  configuration = λ e. (let no : 0 ≡ 2 = e in omega arith);
+  other_speed = λ e. (let no : 0 ≡ 7 = e in omega arith);
+}
+source_apart (c ∷ d ∷ rest) h =
+    let parts = and_parts (is_of_source c) (list_all is_of_source (d ∷ rest)) h in
+    let second = and_parts (is_of_source d) (list_all is_of_source rest) parts.1 in
+    record {
+      device = λ e. no_character c 18 parts.0 refl e;
+      configuration = λ e. no_character d 2 second.0 refl e;
+      other_speed = λ e. no_character d 7 second.0 refl e;
+    }
+
+pub apart : IsNoDescriptor
+apart text bytes (inl hex) = as_is_apart text bytes hex
+apart text bytes (inr source) = source_apart text source.characters

@@ -8,3 +8,4 @@ pub mod WrittenLines
 pub mod ShownLines
 pub mod Items
 pub mod Apart
+pub mod OneReading

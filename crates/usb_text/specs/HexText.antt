@@ -3,12 +3,12 @@
 -- A text is a run of items: white space or a comma, a mark `0x` or `\x`, and two digits, which are a byte. Where it begins
 -- with an offset of zeros, as `xxd`, `hexdump -C` and Wireshark write it, each line has columns: an offset, the bytes and
 -- their characters. Then only the bytes are read.
-use Rattle.std.specs.Prelude.{◌≡◌, ℕ, ◌+◌, ◌-◌, ◌*◌, ◌<◌, ◌==◌, ◌||◌, ◌&&◌, ◌⊎◌, Bool, false, not, nat_le, nat_lt, true, if◌then◌else◌, List, [], ◌∷◌, ◌++◌, length, take, slice_index, Option, Some, None, option_map, count_by}
+use Rattle.std.specs.Prelude.{◌≡◌, ℕ, ◌+◌, ◌*◌, ◌==◌, ◌||◌, ◌&&◌, Bool, false, not, nat_le, nat_lt, true, if◌then◌else◌, List, [], ◌∷◌, ◌++◌, length, slice_index, Option, Some, None, option_map}
 use Rattle.hex.specs.Hex.{hex_digit_value, is_hex_digit}
+use Rattle.usb_text.specs.HexDigits.{Item, digits, is_gap, no_byte}
+use Rattle.usb_text.specs.SourceItems.{source_item}
 use Rattle.usb_text.specs.declared.hex_text.Form.{Form}
-use Rattle.usb_text.specs.declared.hex_text.Form.TheVariants.{Plain, Colons, Spaces}
-use Rattle.usb_text.specs.declared.hex_text.HexFault.{HexFault}
-use Rattle.usb_text.specs.declared.hex_text.HexFault.TheVariants as faults
+use Rattle.usb_text.specs.declared.hex_text.Form.TheVariants.{Plain, Colons, Spaces, Source}
 
 abbrev pub is_zero : ℕ → Bool
 is_zero c = c == 48
@@ -19,10 +19,6 @@ is_space c = c == 32
 abbrev pub is_in_line : ℕ → Bool
 is_in_line c = not (c == 10)
 
--- tab, line feed, carriage return, space or comma
-abbrev pub is_gap : ℕ → Bool
-is_gap c = (c == 9) || (c == 10) || (c == 13) || (c == 32) || (c == 44)
-
 -- `0x` or `\x`
 abbrev pub is_mark : ℕ → ℕ → Bool
 is_mark a b = ((a == 48) || (a == 92)) && (b == 120)
@@ -30,16 +26,6 @@ is_mark a b = ((a == 48) || (a == 92)) && (b == 120)
 -- two digits are at the start of a text
 abbrev pub begins_byte : List ℕ → Bool
 begins_byte text = is_hex_digit (slice_index text 0) && is_hex_digit (slice_index text 1)
-
--- a byte of its high and its low four bits
-abbrev pub joined : Option ℕ → Option ℕ → Option ℕ
-joined (Some high) (Some low) = Some (high * 16 + low)
-joined (Some high) None = None
-joined None low = None
-
--- the byte of two digits of either case
-abbrev pub byte_of : ℕ → ℕ → Option ℕ
-byte_of high low = joined (hex_digit_value high) (hex_digit_value low)
 
 -- what is left after all leading characters of a kind
 unfoldable pub after_all : (ℕ → Bool) → List ℕ → List ℕ
@@ -59,9 +45,23 @@ has_three_spaces text = has_two_spaces text && (slice_index text 2 == 32)
 abbrev pub has_colon : List ℕ → Bool
 has_colon text = slice_index text 0 == 58
 
--- the form that the end of an offset says: `xxd` has a colon there, the others spaces
+abbrev pub after_line_feed : List ℕ → List ℕ
+after_line_feed [] = []
+after_line_feed (c ∷ rest) = rest
+
+-- the line after this one begins with four zeros too
+abbrev pub has_next_offset : List ℕ → Bool
+has_next_offset text =
+    let next = after_line_feed (after_all is_in_line text) in
+    is_offset next (after_all is_zero next)
+
+-- the form that the end of an offset says: `xxd` has a colon there, `od` a space, the others more of them
 abbrev pub form_by : List ℕ → Form
-form_by rest = if has_colon rest then Colons else if has_two_spaces rest then Spaces else Plain
+form_by rest =
+    if has_colon rest then Colons
+    else if has_two_spaces rest then Spaces
+    else if (slice_index rest 0 == 32) && has_next_offset rest then Colons
+    else Plain
 
 -- the form of a text
 unfoldable pub form_of : List ℕ → Form
@@ -97,6 +97,7 @@ abbrev pub in_line : Form → List ℕ → List ℕ
 in_line Plain text = text
 in_line Colons text = after_offset text
 in_line Spaces text = after_offset text
+in_line (Source style) text = text
 
 -- nothing is in the line
 abbrev pub is_empty_line : List ℕ → Bool
@@ -119,19 +120,14 @@ abbrev pub at_line : Form → ℕ → List ℕ → Option (List ℕ)
 at_line Plain count text = Some text
 at_line Colons count text = at_offset count text
 at_line Spaces count text = at_offset count text
+at_line (Source style) count text = Some text
 
 -- the characters of a line's bytes begin here: after two spaces for `xxd`, after three or a bar for the others
 abbrev pub has_characters : Form → List ℕ → Bool
 has_characters Plain text = false
 has_characters Colons text = has_two_spaces text
 has_characters Spaces text = (slice_index text 0 == 124) || has_three_spaces text
-
--- an item at the start of a text: the byte that it is, if it is one, and what is left
-abbrev pub Item : Type 0
-Item = Option (Option ℕ × List ℕ)
-
-abbrev pub no_byte : List ℕ → Option ℕ × List ℕ
-no_byte rest = (None, rest)
+has_characters (Source style) text = false
 
 abbrev pub gap_or : Form → ℕ → ℕ → List ℕ → Item → Item
 gap_or form count c rest other =
@@ -142,19 +138,23 @@ gap_or form count c rest other =
 abbrev pub mark_or : ℕ → ℕ → List ℕ → Item → Item
 mark_or c d rest other = if is_mark c d && begins_byte rest then Some (None, rest) else other
 
-abbrev pub digits : ℕ → ℕ → List ℕ → Item
-digits c d rest = option_map (λ byte. (Some byte, rest)) (byte_of c d)
-
 unfoldable pub plain_item : Form → ℕ → List ℕ → Item
 plain_item form count [] = None
 plain_item form count (c ∷ []) = gap_or form count c [] None
 plain_item form count (c ∷ d ∷ rest) = gap_or form count c (d ∷ rest) (mark_or c d rest (digits c d rest))
 
--- the item after so many bytes; the characters of a line are one item, up to its line feed
-unfoldable pub item : Form → ℕ → List ℕ → Item
-item form count [] = None
-item form count (c ∷ rest) =
+-- the characters of a line are one item, up to its line feed
+unfoldable pub line_item : Form → ℕ → List ℕ → Item
+line_item form count [] = None
+line_item form count (c ∷ rest) =
     if has_characters form (c ∷ rest) then Some (None, after_all is_in_line rest) else plain_item form count (c ∷ rest)
+
+-- the item at the start of a text, after so many bytes
+abbrev pub item : Form → ℕ → List ℕ → Item
+item Plain count text = line_item Plain count text
+item Colons count text = line_item Colons count text
+item Spaces count text = line_item Spaces count text
+item (Source style) count text = source_item style text
 
 abbrev pub bytes_of : Option ℕ → List ℕ
 bytes_of None = []
@@ -166,15 +166,6 @@ pub data Reads (form : Form) : ℕ → List ℕ → List ℕ → List ℕ → Ty
   goes_on : {count : ℕ} {text rest bytes left : List ℕ} {byte : Option ℕ} → item form count text ≡ Some (byte, rest)
       → Reads form (count + length (bytes_of byte)) rest bytes left → Reads form count text (bytes_of byte ++ bytes) left
 
--- so it is of a whole text
-abbrev pub ReadsText : List ℕ → List ℕ → List ℕ → Type 0
-ReadsText text bytes left = Reads (form_of text) 0 (in_line (form_of text) text) bytes left
-
--- the text is hexadecimal, and has these bytes, one at least
-pub record HexText (text bytes : List ℕ) : Type 0 where
-  pub read : ReadsText text bytes []
-  pub some : 0 < length bytes
-
 abbrev pub is_line_feed : ℕ → Bool
 is_line_feed c = c == 10
 
@@ -182,33 +173,3 @@ is_line_feed c = c == 10
 unfoldable pub column_after : ℕ → List ℕ → ℕ
 column_after column [] = column
 column_after column (c ∷ rest) = column_after (if c == 10 then 1 else column + 1) rest
-
--- the fault at what is left of a text; lines and columns are counted from 1
-abbrev pub fault_at : List ℕ → List ℕ → HexFault
-fault_at text left =
-    let before = take (length text - length left) text in
-    faults.Text (1 + count_by is_line_feed before) (column_after 1 before)
-
--- The text is not hexadecimal: it goes on where no item begins, or it has no byte. The fault is there, or at its end.
-pub record HexFaulty (text : List ℕ) (fault : HexFault) : Type 0 where
-  pub bytes : List ℕ
-  pub left : List ℕ
-  pub read : ReadsText text bytes left
-  pub wrong : (0 < length left) ⊎ (bytes ≡ [])
-  pub place : fault ≡ fault_at text left
-
--- why a text is not read: so it is, or out of memory
-abbrev pub HexRefused : List ℕ → HexFault → Type 0
-HexRefused text fault = (fault ≡ faults.Memory) ⊎ HexFaulty text fault
-
--- What holds of every hexadecimal text.
-
--- its first byte is not 18, and its second one neither 2 nor 7
-pub record IsApart (text : List ℕ) : Type 0 where
-  pub device : slice_index text 0 ≡ 18 → ⊥
-  pub configuration : slice_index text 1 ≡ 2 → ⊥
-  pub other_speed : slice_index text 1 ≡ 7 → ⊥
-
--- so it is of every hexadecimal text
-abbrev pub IsNoDescriptor : Type 0
-IsNoDescriptor = (text bytes : List ℕ) → HexText text bytes → IsApart text

@@ -2,7 +2,13 @@ pub mod Numbers
 pub mod Lines
 pub mod Output
 pub mod Characters
+pub mod HexDigits
+pub mod SourceItems
 pub mod HexText
+pub mod Hexadecimal
+pub mod Stops
+pub mod Comments
+pub mod Brackets
 pub mod Written
 pub mod Shown
 pub mod inside

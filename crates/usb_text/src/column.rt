@@ -160,7 +160,7 @@ pub(crate) fn at_line(form: Form, count: usize, text: &[u8]) -> Option<&[u8]>
     ensures within { IfSome result (λ rest. length rest.now ≤ length text.now) }
 {
     match form {
-        Form::Plain => Some(text),
+        Form::Plain | Form::Source(_) => Some(text),
         Form::Colons | Form::Spaces => at_offset(count, text),
     }
 }
@@ -171,7 +171,7 @@ pub(crate) fn in_line(form: Form, text: &[u8]) -> &[u8]
     ensures within { length result.now ≤ length text.now }
 {
     match form {
-        Form::Plain => text,
+        Form::Plain | Form::Source(_) => text,
         Form::Colons | Form::Spaces => after_offset(text),
     }
 }
@@ -181,7 +181,7 @@ pub(crate) fn has_characters(form: Form, text: &[u8]) -> bool
     ensures { result ≡ has_characters form text.now }
 {
     match form {
-        Form::Plain => false,
+        Form::Plain | Form::Source(_) => false,
         Form::Colons => matches!(text, [b' ', b' ', ..]),
         Form::Spaces => matches!(text, [b'|', ..] | [b' ', b' ', b' ', ..]),
     }

@@ -1,23 +1,32 @@
 //! Hexadecimal texts, read: their forms and items, and why a text is none.
 ghost use Rattle.std.specs.Prelude.{◌≡◌, ◌+◌, ◌≤◌, count_by, length};
-ghost use Rattle.usb_text.specs.HexText.{column_after, fault_at, is_line_feed};
+ghost use Rattle.usb_text.specs.HexText.{column_after, is_line_feed};
+ghost use Rattle.usb_text.specs.Hexadecimal.{fault_at, first_of};
 ghost use Rattle.std.specs.Prelude.{◌≡◌};
-ghost use Rattle.usb_text.specs.HexText.{form_by, form_of};
+ghost use Rattle.usb_text.specs.HexText.{after_line_feed, form_by, form_of, has_next_offset};
 ghost use Rattle.std.specs.Prelude.{◌≡◌, ◌<◌, IfSome, MatchOption, None, Some, length};
-ghost use Rattle.usb_text.specs.HexText.{begins_byte, is_gap, is_mark, item, plain_item};
-ghost use Rattle.std.specs.Prelude.{◌≡◌, ◌≤◌, ◌++◌, IfErr, IfOk, OnOk, length};
-ghost use Rattle.usb_text.specs.HexText.{HexFaulty, HexRefused, HexText, ReadsText, bytes_of};
+ghost use Rattle.usb_text.specs.HexDigits.{is_gap};
+ghost use Rattle.usb_text.specs.HexText.{begins_byte, is_mark, item, line_item, plain_item};
+ghost use Rattle.std.specs.Prelude.{◌≡◌, ◌≤◌, ◌++◌, ◌⊎◌, IfErr, IfOk, OnOk, length};
+ghost use Rattle.usb_text.specs.HexText.{bytes_of};
+ghost use Rattle.usb_text.specs.Hexadecimal.{FaultyIn, HexIn, ReadsText};
 
 use crate::column::{after_line, after_zeros, at_line, has_characters, in_line, is_offset};
 use crate::numbers::{byte_of, digit};
+use crate::source_item::{Style, source_item};
 use std::alloc::Global;
 
 /// Why a text has no bytes.
 #[derive(Clone, Copy, Debug, PartialEq, Eq, Hash)]
 pub enum HexFault {
-    /// It is not hexadecimal: the line and the column, from 1, of the first character that begins nothing, or of its
-    /// end where it has no byte.
-    Text { line: usize, column: usize },
+    /// It is not hexadecimal: the line and the column, from 1, of the first character that begins nothing, and the
+    /// character, or of its end where it has no byte. A line feed begins nothing where the offset of the line after it
+    /// is not the count of the bytes before.
+    Text {
+        line: usize,
+        column: usize,
+        found: Option<u8>,
+    },
     /// Out of memory.
     Memory,
 }
@@ -31,6 +40,17 @@ pub(crate) fn fault_at(text: &[u8], left: &[u8]) -> HexFault
     HexFault::Text {
         line: line_after(before),
         column: column_after(before),
+        found: first_of(left),
+    }
+}
+
+/// The first character of a text, if it has one.
+fn first_of(text: &[u8]) -> Option<u8>
+    ensures { result ≡ first_of text.now }
+{
+    match text {
+        [c, ..] => Some(*c),
+        [] => None,
     }
 }
 
@@ -64,10 +84,12 @@ fn column_after(text: &[u8]) -> usize
 pub(crate) enum Form {
     /// Without columns.
     Plain,
-    /// In columns with a colon after each offset, as `xxd` writes them.
+    /// In columns with a colon after each offset, as `xxd` writes them, or with one space, as `od` does.
     Colons,
     /// In columns with spaces after each offset, as `hexdump -C` and Wireshark write them.
     Spaces,
+    /// As the source of a program or another text has bytes.
+    Source(Style),
 }
 
 /// The form of a text.
@@ -90,14 +112,44 @@ fn form_by(rest: &[u8]) -> Form
     match rest {
         [b':', ..] => Form::Colons,
         [b' ', b' ', ..] => Form::Spaces,
+        [b' ', ..] if has_next_offset(rest) => Form::Colons,
         _ => Form::Plain,
     }
 }
 
-/// The item at the start of a text: the byte that it is, if it is one, and what is left.
-#[tactic(auto, unfolding(crate::specs::HexText::item, crate::specs::HexText::plain_item))]
+/// Whether the line after this one begins with four zeros too.
+fn has_next_offset(text: &[u8]) -> bool
+    ensures { result ≡ has_next_offset text.now }
+{
+    let next = after_line_feed(after_line(text));
+    is_offset(next, after_zeros(next))
+}
+
+/// What is left after the first character of a text.
+fn after_line_feed(text: &[u8]) -> &[u8]
+    ensures { result.now ≡ after_line_feed text.now }
+{
+    match text {
+        [_, rest @ ..] => rest,
+        [] => text,
+    }
+}
+
+/// The item at the start of a text, after so many bytes: the byte that it is, if it is one, and what is left.
 pub(crate) fn item(form: Form, count: usize, text: &[u8]) -> Option<(Option<u8>, &[u8])>
     ensures is { MatchOption result (item form count text.now ≡ None) (λ p. item form count text.now ≡ Some (p.0, p.1.now)) }
+    ensures less { IfSome result (λ p. length p.1.now < length text.now) }
+{
+    match form {
+        Form::Source(style) => source_item(style, text),
+        Form::Plain | Form::Colons | Form::Spaces => line_item(form, count, text),
+    }
+}
+
+/// The same in a text with or without columns.
+#[tactic(auto, unfolding(crate::specs::HexText::line_item, crate::specs::HexText::plain_item))]
+fn line_item(form: Form, count: usize, text: &[u8]) -> Option<(Option<u8>, &[u8])>
+    ensures is { MatchOption result (line_item form count text.now ≡ None) (λ p. line_item form count text.now ≡ Some (p.0, p.1.now)) }
     ensures less { IfSome result (λ p. length p.1.now < length text.now) }
 {
     match text {
@@ -122,7 +174,7 @@ fn plain_item(form: Form, count: usize, text: &[u8]) -> Option<(Option<u8>, &[u8
 }
 
 /// Whether the character is white space or a comma.
-fn is_gap(c: u8) -> bool
+pub(crate) fn is_gap(c: u8) -> bool
     ensures { result ≡ is_gap c }
 {
     matches!(c, b'\t' | b'\n' | b'\r' | b' ' | b',')
@@ -145,25 +197,12 @@ fn begins_byte(text: &[u8]) -> bool
     }
 }
 
-/// The bytes of a hexadecimal text, one at least. Digits have either case. White space and commas may be between two
-/// bytes, and `0x` or `\x` before one. Offsets and characters in the columns of `xxd`, `hexdump -C` and Wireshark are
-/// left out.
-///
-/// ```rust
-/// assert_eq!(rt; parse(alloc, b"0x09, 0x02\n2200")?.as_slice(), [9, 2, 0x22, 0]);
-/// assert_eq!(rt; parse(alloc, b"00000000: 0902 2200  ..\".\n")?.as_slice(), [9, 2, 0x22, 0]);
-/// ```
-///
-/// # Errors
-///
-/// `Text` with the line and the column of the first character that begins no byte and is nothing between bytes, as an odd
-/// digit, or of the text's end where it has no byte. `Memory` when out of memory.
+/// The bytes of a text in a form, one at least.
 #[tactic(auto, using(crate::proofs::Items::leads_from, crate::proofs::Items::leads_on, crate::proofs::Items::leads_to))]
-pub fn parse(alloc: Global, text: &[u8]) -> Result<Vec<u8>, HexFault>
-    ensures ok { IfOk result (λ bytes. HexText text.now bytes.items) }
-    ensures err { IfErr result (HexRefused text.now) }
+pub(crate) fn read_in(alloc: Global, form: Form, text: &[u8]) -> Result<Vec<u8>, HexFault>
+    ensures ok { IfOk result (λ bytes. HexIn form text.now bytes.items) }
+    ensures err { IfErr result (λ fault. (fault ≡ HexFault.Memory) ⊎ FaultyIn form text.now fault) }
 {
-    let form = form_of(text);
     let mut bytes = Vec::new(alloc);
     let mut rest = in_line(form, text);
     'items: loop {
@@ -172,13 +211,13 @@ pub fn parse(alloc: Global, text: &[u8]) -> Result<Vec<u8>, HexFault>
                 keep(&mut bytes, byte)?;
                 rest = tail;
             }
-            None => return ended(text, rest, bytes),
+            None => return ended(form, text, rest, bytes),
         }
     }
 }
 
 /// Adds the byte of an item, if it is one.
-fn keep(bytes: &mut Vec<u8>, byte: Option<u8>) -> Result<(), HexFault>
+pub(crate) fn keep(bytes: &mut Vec<u8>, byte: Option<u8>) -> Result<(), HexFault>
     ensures ok { OnOk result (bytes.new.items ≡ bytes.old.items ++ bytes_of byte) }
     ensures err { IfErr result (λ fault. fault ≡ HexFault.Memory) }
 {
@@ -192,11 +231,11 @@ fn keep(bytes: &mut Vec<u8>, byte: Option<u8>) -> Result<(), HexFault>
 }
 
 /// What is answered where no item is left: the bytes, if nothing else is left and there are some.
-fn ended(text: &[u8], rest: &[u8], bytes: Vec<u8>) -> Result<Vec<u8>, HexFault>
-    requires read { ReadsText text.now bytes.items rest.now }
+fn ended(form: Form, text: &[u8], rest: &[u8], bytes: Vec<u8>) -> Result<Vec<u8>, HexFault>
+    requires read { ReadsText form text.now bytes.items rest.now }
     requires within { length rest.now ≤ length text.now }
-    ensures ok { IfOk result (λ bytes. HexText text.now bytes.items) }
-    ensures err { IfErr result (HexFaulty text.now) }
+    ensures ok { IfOk result (λ bytes. HexIn form text.now bytes.items) }
+    ensures err { IfErr result (FaultyIn form text.now) }
 {
     if bytes.is_empty() {
         return Err(fault_at(text, rest));

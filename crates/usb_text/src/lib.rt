@@ -12,26 +12,36 @@
 //!   (`specs/HexText.antt`).
 #![tactic(auto)]
 
+mod bracket;
 mod characters;
 mod column;
+mod comment;
 mod hex_text;
+mod hexadecimal;
 mod laws;
 mod lines;
 mod numbers;
 mod output;
 mod page;
 mod shown;
+mod source_item;
+mod stop;
 #[cfg(test)]
 mod tests;
 mod text;
 
 pub use characters::{is_plain, put_units, put_units_in};
-pub use hex_text::{HexFault, parse};
-pub use laws::hexadecimal_text_is_no_descriptor;
+pub use hex_text::HexFault;
+pub use hexadecimal::parse;
+pub use laws::{
+    hexadecimal_text_has_one_reading, hexadecimal_text_is_no_descriptor,
+    hexadecimal_text_is_read_as_it_is,
+};
 pub use lines::Lines;
 pub use numbers::{
     begin_byte_meaning, begin_word_meaning, put_byte_code, put_count, put_release, put_word_code,
 };
 pub use output::{OutFault, write_all};
 pub use page::Page;
+pub use stop::put_stop;
 pub use text::Text;

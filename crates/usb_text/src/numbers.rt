@@ -1,7 +1,7 @@
 //! Numbers in words, and hexadecimal digits of either case.
 ghost use Rattle.std.specs.Prelude.{◌≡◌};
 ghost use Rattle.hex.specs.Hex.{hex_digit_value};
-ghost use Rattle.usb_text.specs.HexText.{byte_of};
+ghost use Rattle.usb_text.specs.HexDigits.{byte_of};
 ghost use Rattle.std.specs.Prelude.{◌≡◌, ◌++◌, codes, OnOk};
 ghost use Rattle.usb_text.specs.Numbers.{byte_code, count, release, short_byte, word_code};
 

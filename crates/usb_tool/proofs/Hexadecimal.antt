@@ -1,12 +1,13 @@
 -- On bytes that are explained as what their hexadecimal text says, or as they are.
-use Rattle.std.proofs.Common.{◌≡◌, ℕ, Bool, true, false, List, [], length, Result, Ok, Err, refl, inl, inr}
+use Rattle.std.proofs.Common.{◌≡◌, ℕ, Bool, true, false, List, [], length, Option, Result, Ok, Err, refl, inl, inr}
 use Rattle.std.specs.Prelude.{IfErr, IfOk}
 use Rattle.std.specs.Io.KnownBytes.{Appends}
-use Rattle.usb_text.specs.HexText.{HexFaulty, HexRefused, HexText}
+use Rattle.usb_text.specs.Hexadecimal.{HexFaulty, HexRefused, HexText}
 use Rattle.usb_text.specs.declared.hex_text.HexFault.{HexFault}
 use Rattle.usb_text.specs.declared.hex_text.HexFault.TheVariants as hexes
 use Rattle.usb_explain.specs.declared.manner.Manner.{Manner}
 use Rattle.usb_text.specs.Output.{Held}
+use Rattle.usb_text.specs.Stops.{stop_line}
 use Rattle.usb_text.proofs.Pages.{keeps_refl}
 use Rattle.usb_tool.specs.Endings.{Writes}
 use Rattle.usb_tool.specs.Explains.{RefusesText, RefusesToExplain, ReportsExplanation, ReportsText, hexadecimal_words}
@@ -14,9 +15,10 @@ use Rattle.usb_tool.specs.declared.fault.ToolFault.{ToolFault}
 use Rattle.usb_tool.specs.declared.fault.ToolFault.TheVariants as faults
 
 -- a fault at a place is no want of memory
-pub no_text : (b : List ℕ) (line column : ℕ) → HexRefused b (hexes.Text line column) → HexFaulty b (hexes.Text line column)
-no_text b line column (inl memory) = cc
-no_text b line column (inr faulty) = faulty
+pub no_text : (b : List ℕ) (line column : ℕ) (found : Option ℕ) → HexRefused b (hexes.Text line column found)
+    → HexFaulty b (hexes.Text line column found)
+no_text b line column found (inl memory) = cc
+no_text b line column found (inr faulty) = faulty
 
 module _ (hex : Bool) (m : Manner) (b : List ℕ) (held holds : Held) where
   -- hexadecimal text is explained as its bytes
@@ -38,24 +40,24 @@ module _ (hex : Bool) (m : Manner) (b : List ℕ) (held holds : Held) where
 
   -- and other bytes as they are
   pub told_as_is : (fault : HexFault) (r : Result ℕ ToolFault) → hex ≡ false → HexFaulty b fault
-      → IfOk r (Writes Appends (ReportsExplanation m []) b held holds) → IfOk r (Writes Appends (ReportsText hex m) b held holds)
+      → IfOk r (Writes Appends (ReportsExplanation m (stop_line b fault)) b held holds) → IfOk r (Writes Appends (ReportsText hex m) b held holds)
   told_as_is fault (Ok status) free faulty written = record {
     text = written.text;
-    told = record { bytes = b; heading = []; is = inr (free, (fault, faulty), refl, refl); done = written.told };
+    told = record { bytes = b; heading = stop_line b fault; is = inr (free, (fault, faulty, refl), refl); done = written.told };
     written = written.written;
   }
   told_as_is fault (Err e) free faulty written = tt
 
   pub refused_as_is : (fault : HexFault) (r : Result ℕ ToolFault) → hex ≡ false → HexFaulty b fault
-      → IfErr r (RefusesToExplain m [] b held holds) → IfErr r (RefusesText hex m b held holds)
+      → IfErr r (RefusesToExplain m (stop_line b fault) b held holds) → IfErr r (RefusesText hex m b held holds)
   refused_as_is fault (Ok status) free faulty refused = tt
   refused_as_is fault (Err e) free faulty refused =
-      inl (record { bytes = b; heading = []; is = inr (free, (fault, faulty), refl, refl); done = refused })
+      inl (record { bytes = b; heading = stop_line b fault; is = inr (free, (fault, faulty, refl), refl); done = refused })
 
 -- where hexadecimal text has to be, other bytes are refused
-pub text_refused : (hex : Bool) (m : Manner) (b : List ℕ) (held : Held) (line column : ℕ) → hex ≡ true → HexFaulty b (hexes.Text line column)
-    → RefusesText hex m b held held (faults.Hex line column)
-text_refused hex m b held line column demanded faulty = inr ((demanded, faulty), keeps_refl held)
+pub text_refused : (hex : Bool) (m : Manner) (b : List ℕ) (held : Held) (line column : ℕ) (found : Option ℕ) → hex ≡ true
+    → HexFaulty b (hexes.Text line column found) → RefusesText hex m b held held (faults.Hex line column)
+text_refused hex m b held line column found demanded faulty = inr ((demanded, (found, faulty)), keeps_refl held)
 
 pub text_unread : (hex : Bool) (m : Manner) (b : List ℕ) (held : Held) → RefusesText hex m b held held faults.Memory
 text_unread hex m b held = inr (tt, keeps_refl held)

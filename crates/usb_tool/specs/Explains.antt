@@ -13,10 +13,11 @@ use Rattle.usb_file_data.specs.Inputs.{InputFaulty, IsInput}
 use Rattle.usb_file_data.specs.declared.file.Input.{Input}
 use Rattle.usb_file_data.specs.declared.fault.InputFault.{InputFault}
 use Rattle.usb_file_data.specs.declared.laws.TheConstants.{FILE_LIMIT}
-use Rattle.usb_text.specs.HexText.{HexFaulty, HexText}
+use Rattle.usb_text.specs.Hexadecimal.{HexFaulty, HexText}
 use Rattle.usb_text.specs.declared.hex_text.HexFault.{HexFault}
 use Rattle.usb_text.specs.declared.hex_text.HexFault.TheVariants as hexes
 use Rattle.usb_text.specs.Output.{AppendsLess, Held}
+use Rattle.usb_text.specs.Stops.{stop_line}
 use Rattle.usb_tool.specs.Endings.{Extent, Fails, Refusal, Refuses, Telling, Told, Left}
 use Rattle.usb_tool.specs.Inputs.{OfInput}
 use Rattle.usb_tool.specs.declared.fault.ToolFault.{ToolFault}
@@ -96,12 +97,12 @@ ExplainsFault m heading b held holds =
 abbrev pub RefusesToExplain : Manner → List ℕ → Refusal
 RefusesToExplain m heading = Refuses AppendsLess (Explains m heading) (ExplainsFault m heading)
 
--- the bytes that are explained, and their heading: those of a hexadecimal text, and unless it has to be one the bytes
--- themselves where they are none
+-- The bytes that are explained, and their heading: those of a hexadecimal text, and unless it has to be one the bytes
+-- themselves where they are none, with the line that says why.
 abbrev pub IsReadAs : Bool → List ℕ → List ℕ → List ℕ → Type 0
 IsReadAs hex b bytes heading =
     (HexText b bytes × (heading ≡ hexadecimal_words (length bytes)))
-    ⊎ ((hex ≡ false) × ((fault : HexFault) × HexFaulty b fault) × (bytes ≡ b) × (heading ≡ []))
+    ⊎ ((hex ≡ false) × ((fault : HexFault) × HexFaulty b fault × (heading ≡ stop_line b fault)) × (bytes ≡ b))
 
 -- this is done with them
 pub record DoesWithText (hex : Bool) (b : List ℕ) (does : List ℕ → List ℕ → Type 0) : Type 0 where
@@ -116,7 +117,7 @@ ReportsText hex m b text status = DoesWithText hex b (λ heading bytes. ReportsE
 
 -- hexadecimal text has to be, and the bytes are none, or out of memory as it is read
 abbrev pub RefusesHex : Bool → List ℕ → ToolFault → Type 0
-RefusesHex hex b (tools.Hex line column) = (hex ≡ true) × HexFaulty b (hexes.Text line column)
+RefusesHex hex b (tools.Hex line column) = (hex ≡ true) × ((found : Option ℕ) × HexFaulty b (hexes.Text line column found))
 RefusesHex hex b tools.Memory = Unit {0}
 RefusesHex hex b fault = ⊥
 

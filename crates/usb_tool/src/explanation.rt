@@ -3,6 +3,7 @@ ghost use Rattle.std.specs.Prelude.{◌≡◌, ◌++◌, IfErr, IfOk, OnErr, OnO
 ghost use Rattle.std.specs.Io.KnownBytes.{Appends};
 ghost use Rattle.usb_file_data.specs.Inputs.{InputRefused, IsInput};
 ghost use Rattle.usb_text.specs.Output.{AppendsLess};
+ghost use Rattle.usb_text.specs.Stops.{stop_line};
 ghost use Rattle.usb_tool.specs.Endings.{Writes};
 ghost use Rattle.usb_tool.specs.Explains.{ExplainFails, Explained, NoInputIsHexadecimal, RefusesText, RefusesToExplain, ReportsExplanation, ReportsText, WritesExplained, hexadecimal_words};
 ghost use Rattle.usb_tool.specs.inside.Telling.{CutsExplained};
@@ -15,11 +16,11 @@ use std::io::{Read, Write};
 use usb_explain::{Manner, explain};
 use usb_file::{FILE_LIMIT, Input, read_input};
 use usb_file_data::InputFault;
-use usb_text::{HexFault, OutFault, Text, parse, put_count, write_all};
+use usb_text::{HexFault, OutFault, Text, parse, put_count, put_stop, write_all};
 
 /// Reads the input to its end, and writes what its descriptors mean, in words. The input is one configuration set, a
 /// descriptor file or a dump, as that of [`run_show`](crate::run_show) is, or the hexadecimal text of one, which the first
-/// line then says; `hex` demands that. The number in `Ok` is 0, whatever is found.
+/// line then says; `hex` demands that. Of a text that is none the first line says what stopped it. The number in `Ok` is 0, whatever is found.
 ///
 /// ```rust
 /// let mut input: &[u8] = &[9, 2, 9, 0, 0, 1, 0, 0x80, 0x32];
@@ -69,13 +70,38 @@ fn explain_text<W: Write>(
     match parse(alloc, bytes) {
         Ok(found) => explain_found(alloc, &found, w, manner),
         Err(HexFault::Memory) => Err(ToolFault::Memory),
-        Err(HexFault::Text { line, column }) => {
+        Err(HexFault::Text {
+            line,
+            column,
+            found,
+        }) => {
             if hex {
                 return Err(ToolFault::Hex { line, column });
             }
-            explain_bytes(alloc, &[], bytes, w, manner)
+            let fault = HexFault::Text {
+                line,
+                column,
+                found,
+            };
+            explain_stopped(alloc, bytes, fault, w, manner)
         }
     }
+}
+
+/// Writes the explanation of bytes that are no hexadecimal text, and before it why they are none.
+fn explain_stopped<W: Write>(
+    alloc: Global,
+    bytes: &[u8],
+    fault: HexFault,
+    w: &mut W,
+    manner: Manner,
+) -> Result<u8, ToolFault>
+    ensures explained { IfOk result (Writes Appends (ReportsExplanation manner (stop_line bytes.now fault)) bytes.now (W.contents w.old) (W.contents w.new)) }
+    ensures err { IfErr result (RefusesToExplain manner (stop_line bytes.now fault) bytes.now (W.contents w.old) (W.contents w.new)) }
+{
+    let mut heading = Text::new(alloc);
+    put_stop(&mut heading, bytes, fault)?;
+    explain_bytes(alloc, heading.as_bytes(), bytes, w, manner)
 }
 
 /// Writes the explanation of bytes that were hexadecimal text.

@@ -7,7 +7,7 @@ use Rattle.usb_fields.specs.Fields.{size_of}
 use Rattle.usb_text.specs.Characters.{is_plain}
 use Rattle.usb_listing.specs.declared.row.Written.{Written}
 use Rattle.usb_listing.specs.declared.row.Written.TheVariants as forms
-use Rattle.usb_text.specs.HexText.{joined}
+use Rattle.usb_text.specs.HexDigits.{joined}
 
 -- Lower-case hexadecimal digits, read.
 

@@ -1,0 +1,190 @@
+//! Hexadecimal texts in the forms in which people have bytes.
+ghost use Rattle.std.specs.Prelude.{◌≡◌, slice_index};
+ghost use Rattle.usb_text.specs.SourceItems.{is_decimal};
+ghost use Rattle.std.specs.List.{list_all};
+ghost use Rattle.usb_text.specs.Hexadecimal.{array_style, bare_style, has_long_number, has_prefix, is_of_decimals, is_of_source, is_source, line_style, style_of, with_style};
+ghost use Rattle.std.specs.Prelude.{IfErr, IfOk, ◌⊎◌};
+ghost use Rattle.usb_text.specs.Hexadecimal.{FaultyIn, HexIn, HexRefused, HexText, inner_of, source_form, source_of};
+
+use crate::bracket::{Bracket, bracket_of, has, within};
+use crate::comment::uncommented;
+use crate::hex_text::{Form, HexFault, form_of, read_in};
+use crate::source_item::{Style, is_decimal, is_parting};
+use std::alloc::Global;
+
+/// The bytes of a hexadecimal text, one at least. Digits have either case. White space and commas may be between two
+/// bytes, and `0x` or `\x` before one. Offsets and characters in the columns of `xxd`, `hexdump -C` and Wireshark are
+/// left out, and each offset is the count of the bytes before it.
+///
+/// Another text is read without comments, and between its first bracket and the partner where it has brackets. Its bytes
+/// are in strings (`"\x12\x01"`), have prefixes (`0x1`, `0X12`, `$12`), suffixes (`12h`, `0x12u`) or separators
+/// (`12:01`, `12-01`), or are decimal numbers in brackets.
+///
+/// ```rust
+/// assert_eq!(rt; parse(alloc, b"0x09, 0x02\n2200")?.as_slice(), [9, 2, 0x22, 0]);
+/// assert_eq!(rt; parse(alloc, b"00000000: 0902 2200  ..\".\n")?.as_slice(), [9, 2, 0x22, 0]);
+/// assert_eq!(rt; parse(alloc, b"x[] = { 0x9, /* 1 */ 0x02u };")?.as_slice(), [9, 2]);
+/// assert_eq!(rt; parse(alloc, b"[9, 2, 34, 0]")?.as_slice(), [9, 2, 34, 0]);
+/// ```
+///
+/// # Errors
+///
+/// `Text` with the line and the column of the first character that begins no byte and is nothing between bytes, as an odd
+/// digit, or of the text's end where it has no byte; of a text that is read as a source, those of the source. `Memory`
+/// when out of memory.
+pub fn parse(alloc: Global, text: &[u8]) -> Result<Vec<u8>, HexFault>
+    ensures ok { IfOk result (λ bytes. HexText text.now bytes.items) }
+    ensures err { IfErr result (HexRefused text.now) }
+{
+    match read_in(alloc, form_of(text), text) {
+        Ok(bytes) => Ok(bytes),
+        Err(HexFault::Memory) => Err(HexFault::Memory),
+        Err(fault) => {
+            if is_source(text) {
+                read_source(alloc, text)
+            } else {
+                Err(fault)
+            }
+        }
+    }
+}
+
+/// The bytes of a source.
+fn read_source(alloc: Global, text: &[u8]) -> Result<Vec<u8>, HexFault>
+    ensures ok { IfOk result (λ bytes. HexIn (source_form text.now) (source_of text.now) bytes.items) }
+    ensures err { IfErr result (λ fault. (fault ≡ HexFault.Memory) ⊎ FaultyIn (source_form text.now) (source_of text.now) fault) }
+{
+    let code = uncommented(alloc, text)?;
+    let bracket = bracket_of(&code);
+    let inner = inner_of(alloc, bracket, code)?;
+    let form = with_style(style_of(bracket, &inner), form_of(&inner));
+    read_in(alloc, form, &inner)
+}
+
+/// What is between the brackets of a text without comments, or all of it.
+fn inner_of(alloc: Global, bracket: Option<Bracket>, code: Vec<u8>) -> Result<Vec<u8>, HexFault>
+    ensures ok { IfOk result (λ inner. inner.items ≡ inner_of bracket code.items) }
+    ensures err { IfErr result (λ fault. fault ≡ HexFault.Memory) }
+{
+    match bracket {
+        None => Ok(code),
+        Some(bracket) => within(alloc, bracket, &code),
+    }
+}
+
+/// Whether the characters are those of a source.
+pub(crate) fn is_source(text: &[u8]) -> bool
+    ensures { result ≡ is_source text.now }
+{
+    text.iter().all(|c| is_of_source(*c))
+}
+
+/// Whether the character is printable, one beyond ASCII, a tab or the end of a line.
+fn is_of_source(c: u8) -> bool
+    ensures { result ≡ is_of_source c }
+{
+    (c >= 32 && c != 127) || c == b'\t' || c == b'\n' || c == b'\r'
+}
+
+/// A form with columns as it is, and else a style.
+fn with_style(style: Style, form: Form) -> Form
+    ensures { result ≡ with_style style form }
+{
+    match form {
+        Form::Colons | Form::Spaces => form,
+        Form::Plain | Form::Source(_) => Form::Source(style),
+    }
+}
+
+/// How a text has its bytes.
+fn style_of(bracket: Option<Bracket>, inner: &[u8]) -> Style
+    ensures { result ≡ style_of bracket inner.now }
+{
+    if has(b'\\', inner) {
+        Style::Escaped
+    } else if has_prefix(inner) {
+        Style::Prefixed
+    } else {
+        bare_style(bracket, inner)
+    }
+}
+
+/// Whether a text has a character of a prefix.
+fn has_prefix(inner: &[u8]) -> bool
+    ensures { result ≡ has_prefix inner.now }
+{
+    has(b'x', inner) || has(b'X', inner) || has(b'$', inner)
+}
+
+/// How a text has bytes without a prefix.
+fn bare_style(bracket: Option<Bracket>, inner: &[u8]) -> Style
+    ensures { result ≡ bare_style bracket inner.now }
+{
+    match bracket {
+        None => line_style(inner),
+        Some(_) => array_style(inner),
+    }
+}
+
+/// The same of one without brackets.
+fn line_style(inner: &[u8]) -> Style
+    ensures { result ≡ line_style inner.now }
+{
+    if has(b':', inner) || has(b'-', inner) {
+        Style::Separated
+    } else {
+        Style::Pairs
+    }
+}
+
+/// The same of one with brackets.
+fn array_style(inner: &[u8]) -> Style
+    ensures { result ≡ array_style inner.now }
+{
+    if !has_only_decimals(inner) {
+        Style::Loose
+    } else if has_long_number(inner) {
+        Style::Decimals
+    } else {
+        Style::Pairs
+    }
+}
+
+/// Whether a text has only decimal numbers.
+fn has_only_decimals(text: &[u8]) -> bool
+    ensures { result ≡ list_all is_of_decimals text.now }
+{
+    text.iter().all(|c| is_of_decimals(*c))
+}
+
+/// Whether the character may be in or between decimal numbers.
+fn is_of_decimals(c: u8) -> bool
+    ensures { result ≡ is_of_decimals c }
+{
+    is_decimal(c) || is_parting(c)
+}
+
+/// Whether two decimal digits are next to each other.
+#[tactic(auto, unfolding(crate::specs::Hexadecimal::has_long_number))]
+fn has_long_number(text: &[u8]) -> bool
+    ensures { result ≡ has_long_number text.now }
+{
+    let mut rest = text;
+    while let [c, tail @ ..] = rest {
+        if is_decimal(*c) && begins_decimal(tail) {
+            return true;
+        }
+        rest = tail;
+    }
+    false
+}
+
+/// Whether a decimal digit is at the start of a text.
+fn begins_decimal(text: &[u8]) -> bool
+    ensures { result ≡ is_decimal (slice_index text.now 0) }
+{
+    match text {
+        [c, ..] => is_decimal(*c),
+        [] => false,
+    }
+}
