@@ -28,7 +28,8 @@ CAUSES = [
     "an answer that cannot follow",
     "not what was asked for",
 ]
-WIDTHS = [6, 2, 13, 15, 12, 23, 22, 9, 0]
+WIDTHS = [6, 2, 15, 17, 20, 19]
+HEADINGS = ["no.", "f", "packets (lost)", "data", "host", "device"]
 NAMES = """let HID = 09022200010100a032+090400000103010200+092110010001223400+0705810304000a
 let MOUSE = 120110010000004034127856000100000001+HID
 let STEP = d+64*n+.
@@ -86,11 +87,12 @@ class Log:
             if host.due == "reset":
                 device.reset()
                 host.reset_done()
+                self.lines += [self.row(HEADINGS)] * (host.resets == 1)
                 self.lines.append(f"attempt {host.resets}: bus reset")
             transfer, fate = host.transfer, next(fates, ".")
             if (transfer.stage, transfer.strikes, transfer.naks) == ("setup", 0, 0):
                 words = request_words(transfer.setup)
-                self.lines.append(f"{host.step}: {words}, to address {transfer.address}, {transfer.setup.hex()}")
+                self.lines.append(f"{host.step}: {words}, to {transfer.address}")
             self.step(device, host, transfer, fate)
 
     def step(self, device, host, transfer, fate):
@@ -101,26 +103,32 @@ class Log:
         heard, ends = "silence" if fate == "u" else reply, []
         transfer.take = lambda answer: ends.append(type(transfer).take(transfer, answer)) or ends[0]
         host.take(heard)
-        sent = f"> {token[0].upper()}" + " lost" * (fate == "d")
+        sent, data = self.name(token[0].upper(), fate == "d"), self.data(token, reply)
         has = self.host(transfer, before, heard, ends[0])
-        columns = [str(host.transactions), fate, sent, *self.answer(reply, fate), has, self.device(device), *self.data(reply)]
-        self.lines.append("  " + "".join(f"{it:<{width}}" for it, width in zip(columns, WIDTHS)).rstrip())
+        short, long = (data.hex(), b"") if 0 < len(data or b"") < 9 else ("" if data is None else f"{len(data)} bytes", data or b"")
+        columns = [str(host.transactions), fate, sent + self.answer(reply, fate), short, has, self.device(device)]
+        self.lines.append(self.row(columns))
+        self.lines += [" " * 23 + line for line in re.findall(".{1,32}", long.hex())]
         number = ends[0] if host.due == "reset" else host.outcome
         if number:
             self.lines.append(f"attempt {host.resets} given up: {CAUSES[number - 1]}")
 
+    def row(self, columns):
+        return "".join(f"{it:<{width}}" for it, width in zip(columns, WIDTHS)).rstrip()
+
+    def name(self, packet, is_lost):
+        return f"({packet})" if is_lost else packet
+
     def answer(self, reply, fate):
         if reply == "silence":
-            return "", ""
+            return ""
         if not isinstance(reply, tuple):
-            return f"< {reply.upper()}" + " lost" * (fate == "u"), ""
-        ack = "" if fate == "u" else "> ACK" + " lost" * (fate == "a")
-        return f"< DATA{int(reply[0])}" + " lost" * (fate == "u"), ack
+            return " " + self.name(reply.upper(), fate == "u")
+        ack = "" if fate == "u" else " " + self.name("ACK", fate == "a")
+        return " " + self.name(f"DATA{int(reply[0])}", fate == "u") + ack
 
-    def data(self, reply):
-        if not isinstance(reply, tuple):
-            return "", ""
-        return f"{len(reply[1])} byte{'s' * (len(reply[1]) != 1)}", reply[1].hex() or "-"
+    def data(self, token, reply):
+        return token[1] if token[0] == "setup" else reply[1] if isinstance(reply, tuple) else None
 
     def host(self, transfer, before, heard, end):
         got, strikes, naks = before

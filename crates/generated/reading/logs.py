@@ -9,7 +9,8 @@ sys.path.insert(0, os.path.join(os.path.dirname(os.path.abspath(__file__)), "../
 from enumerating import BUSY, MALFORMED, NO_ANSWER, STALLED, TOO_LONG, UNEXPECTED, word  # noqa: E402
 
 KINDS = {1: "device", 2: "configuration", 3: "string", 6: "qualifier", 7: "other-speed configuration"}
-WIDTHS = [6, 2, 13, 15, 12, 23, 22]
+WIDTHS = [6, 2, 15, 17, 20]
+NAMES = ["no.", "f", "packets (lost)", "data", "host"]
 MESSAGES = {
     NO_ANSWER: "no answer, three times in a row",
     BUSY: "busy for longer than the limit",
@@ -32,8 +33,7 @@ def request(setup):
 
 
 def transfer_line(step, transfer):
-    address = transfer.address
-    return f"{step}: {request(transfer.setup)}, to address {address}, {transfer.setup.hex()}\n"
+    return f"{step}: {request(transfer.setup)}, to {transfer.address}\n"
 
 
 def has_data(answer):
@@ -42,12 +42,12 @@ def has_data(answer):
 
 def answer_words(answer):
     if has_data(answer):
-        return f"< DATA{int(answer[0])}"
-    return "" if answer == "silence" else f"< {answer.upper()}"
+        return f"DATA{int(answer[0])}"
+    return "" if answer == "silence" else answer.upper()
 
 
 def marked(words, is_lost):
-    return f"{words} lost" if words and is_lost else words
+    return f"({words})" if words and is_lost else words
 
 
 def going_words(before, after, came):
@@ -79,9 +79,22 @@ def device_words(device):
 
 
 def data_words(packet):
-    """How many bytes a data packet has, and the bytes."""
-    count = "1 byte" if len(packet) == 1 else f"{len(packet)} bytes"
-    return f"{count.ljust(8)} {packet.hex() or '-'}"
+    """The bytes of a data packet, 1 to 8, or how many it has."""
+    if packet is None:
+        return ""
+    return packet.hex() if 1 <= len(packet) <= 8 else f"{len(packet)} bytes"
+
+
+def data_lines(packet):
+    """More than 8 bytes, 16 a line, below the column of data."""
+    if packet is None or len(packet) <= 8:
+        return ""
+    margin = " " * sum(WIDTHS[:3])
+    return "".join(f"{margin}{packet[k : k + 16].hex()}\n" for k in range(0, len(packet), 16))
+
+
+def filled(columns):
+    return "".join(words.ljust(width - 1) + " " for words, width in zip(columns, WIDTHS))
 
 
 def transaction_lines(device, host, number, fate):
@@ -92,18 +105,17 @@ def transaction_lines(device, host, number, fate):
     came = "silence" if fate == "u" else answer
     if has_data(came) and fate != "a":
         device.acked()
-    acknowledged = marked("> ACK" if has_data(came) else "", fate == "a")
-    sent = marked(f"> {token[0].upper()}", fate == "d")
-    columns = [str(number), fate, sent, marked(answer_words(answer), fate == "u"), acknowledged]
+    acknowledged = marked("ACK" if has_data(came) else "", fate == "a")
+    packets = [marked(token[0].upper(), fate == "d"), marked(answer_words(answer), fate == "u"), acknowledged]
+    packet = before.setup if token[0] == "setup" else answer[1] if has_data(answer) else None
+    columns = [str(number), fate, " ".join(name for name in packets if name), data_words(packet)]
     after = copy.copy(before)
     why = after.take(came)
     host.take(came)
-    columns += [host_words(before, after, came, why, host.outcome), device_words(device)]
-    data = data_words(answer[1]) if has_data(answer) else ""
-    filled = "".join(words.ljust(width - 1) + " " for words, width in zip(columns, WIDTHS))
+    columns.append(host_words(before, after, came, why, host.outcome))
     cause = why if host.due == "reset" else host.outcome
     given_up = f"attempt {host.resets} given up: {MESSAGES[cause]}\n" if cause else ""
-    return ("  " + filled + data).rstrip() + "\n" + given_up
+    return filled(columns) + device_words(device) + "\n" + data_lines(packet) + given_up
 
 
 def steps(device, host, fates):
@@ -113,7 +125,8 @@ def steps(device, host, fates):
         if host.due == "reset":
             device.reset()
             host.reset_done()
-            yield f"attempt {host.resets}: bus reset\n"
+            headings = filled(NAMES) + "device\n" if host.resets == 1 else ""
+            yield f"{headings}attempt {host.resets}: bus reset\n"
             continue
         line = "" if host.transfer is begun else transfer_line(host.step, host.transfer)
         begun = host.transfer

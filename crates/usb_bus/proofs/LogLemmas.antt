@@ -6,7 +6,7 @@ use Rattle.usb_file_data.specs.declared.file.DescriptorFile.{DescriptorFile}
 use Rattle.usb_text.specs.Output.{Held}
 use Rattle.usb_text.proofs.Pages.{appends_more, appends_nothing, keeps_refl}
 use Rattle.std.specs.Option.{is_some}
-use Rattle.std.specs.Prelude.{◌⊎◌, Bool, true, codes, IfErr, IfOk, Result, Ok, Err}
+use Rattle.std.specs.Prelude.{◌⊎◌, Bool, true, IfErr, IfOk, Result, Ok, Err}
 use Rattle.usb_fields.specs.Packets.{Reply, Sent}
 use Rattle.usb_host.specs.Transfer.{TransferView, due}
 use Rattle.usb_host.specs.declared.step.Step.{Step}
@@ -19,7 +19,7 @@ use Rattle.usb_bus.specs.declared.fate.Fate.{Fate}
 use Rattle.usb_host.specs.Steps.{Ended, HostPhase, Reading, ResetDue, WantsReset, WantsSent, sends, step_in, transfer_in, wanted}
 use Rattle.usb_bus.specs.Enumerate.{Pair, new_pair, Moves, answered}
 use Rattle.usb_bus.specs.Exchanges.{answered_in, cause_of}
-use Rattle.usb_bus.specs.Lines.{data_words, device_part, device_words, given_up_part}
+use Rattle.usb_bus.specs.Lines.{data_below, data_of, device_words, given_up_part}
 use Rattle.usb_bus.specs.Bus.{brought}
 use Rattle.usb_bus.specs.inside.Seeing.{HasSeen, done_lines}
 use Rattle.usb_bus.specs.Log.{CutsOff, WritesLog, WritesLogLess, answered_part, count_before, exchange_lines, lines_with, log_text, step_lines, transfer_part}
@@ -41,12 +41,13 @@ unfolding exchange_lines
 seen_lines size number fate step t answer y lines packet why (put, held, cause) =
     let before = transfer_part step t in
     let part = answered_part number fate t answer y.host.phase in
-    let device = device_part (device_words size y.device) (data_words answer) in
+    let device = device_words size y.device in
+    let below = data_below (data_of (due t) answer) in
     let last = given_up_part y.host.resets (cause_of t (brought fate answer) y.host.phase) in
     rw (put, held, cause)
-    (ap (λ l. l ++ codes "\n" ++ last) (append_assoc before part device)
-    ∙ ap (λ l. l ++ last) (append_assoc before (part ++ device) (codes "\n"))
-    ∙ append_assoc before (part ++ device ++ codes "\n") last)
+    (ap (λ l. l ++ below ++ last) (append_assoc before part device)
+    ∙ ap (λ l. l ++ last) (append_assoc before (part ++ device) below)
+    ∙ append_assoc before (part ++ device ++ below) last)
 
 -- The lines of a step are those with the answer that was seen.
 lines_at : (f : DescriptorFile) (fates : List Fate) (d : DeviceView) (y : Pair) (phase : HostPhase) (n now : ℕ) (lines packet : List ℕ) (why : Option Why)

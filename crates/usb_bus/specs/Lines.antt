@@ -1,11 +1,10 @@
 -- The lines of a log.
-use Rattle.std.specs.Prelude.{ℕ, List, [], ◌++◌, ◌/◌, ◌%◌, ◌==◌, ◌&&◌, nat_lt, codes, if◌then◌else◌, suc, ◌∷◌, length, Bool, true, false, Option, Some, None}
+use Rattle.std.specs.Prelude.{ℕ, List, [], ◌++◌, ◌-◌, ◌/◌, ◌%◌, ◌==◌, ◌&&◌, nat_lt, codes, if◌then◌else◌, suc, ◌∷◌, length, Bool, true, false, Option, Some, None}
 use Rattle.std.specs.Fmt.{decimal}
 use Rattle.usb_fields.specs.declared.setup.Setup.{Setup as SetupPacket}
 use Rattle.usb_text.specs.Numbers.{byte_code, count, word_code}
 use Rattle.hex.specs.Hex.{encode_lower}
 use Rattle.usb_fields.specs.Packets.{Token, SetupToken, InToken, OutToken, Sent, Reply, AckReply, NakReply, StallReply, DataReply, NoReply}
-use Rattle.usb_fields.specs.Setup.{setup_bytes}
 use Rattle.usb_fields.specs.declared.packet.Toggle.{Toggle}
 use Rattle.usb_fields.specs.declared.packet.Toggle.TheVariants.{Data0, Data1}
 use Rattle.usb_text.specs.Lines.{column}
@@ -63,20 +62,24 @@ request_words q =
     else if q.request == 9 then numbered (codes "SET_CONFIGURATION ") q.value
     else codes "request " ++ byte_code q.request
 
+-- the headings of the columns that a transaction's line has, above the first attempt
+abbrev pub heading_part : ℕ → List ℕ
+heading_part attempt =
+    if attempt == 1 then codes "no.   f packets (lost) data             host                device\n" else []
+
 -- a bus reset begins an attempt
 unfoldable pub reset_line : ℕ → List ℕ
-reset_line attempt = numbered (codes "attempt ") attempt ++ codes ": bus reset\n"
+reset_line attempt = heading_part attempt ++ numbered (codes "attempt ") attempt ++ codes ": bus reset\n"
 
 -- the address that a transaction goes to
 abbrev pub address_words : Option Sent → List ℕ
 address_words None = []
-address_words (Some sent) = numbered (codes ", to address ") sent.address
+address_words (Some sent) = numbered (codes ", to ") sent.address
 
--- a transfer begins: its step, its request, the address that its first transaction goes to, and its setup packet
+-- a transfer begins: its step, its request, and the address that its first transaction goes to
 unfoldable pub transfer_line : Step → TransferView → List ℕ
 transfer_line step t =
-    step_text step ++ codes ": " ++ request_words t.request ++ address_words (due t)
-    ++ codes ", " ++ encode_lower (setup_bytes t.request) ++ codes "\n"
+    step_text step ++ codes ": " ++ request_words t.request ++ address_words (due t) ++ codes "\n"
 
 -- the letter of a fate, as `--fates` has it
 abbrev pub fate_letter : Fate → List ℕ
@@ -86,16 +89,16 @@ fate_letter fates.LostDown = codes "d"
 fate_letter fates.LostUp = codes "u"
 fate_letter fates.LostAck = codes "a"
 
--- words, and that what they tell of was lost
+-- a packet's name, in brackets where it was lost
 abbrev pub marked : List ℕ → Bool → List ℕ
-marked words true = words ++ codes " lost"
+marked words true = codes "(" ++ words ++ codes ")"
 marked words false = words
 
 -- what the host sends
 abbrev pub token_words : Token → List ℕ
-token_words (SetupToken bytes) = codes "> SETUP"
-token_words InToken = codes "> IN"
-token_words (OutToken toggle bytes) = codes "> OUT"
+token_words (SetupToken bytes) = codes "SETUP"
+token_words InToken = codes "IN"
+token_words (OutToken toggle bytes) = codes "OUT"
 
 abbrev pub sent_words : Option Sent → Bool → List ℕ
 sent_words None lost = []
@@ -103,26 +106,53 @@ sent_words (Some sent) lost = marked (token_words sent.token) lost
 
 -- what the device answers
 abbrev pub toggle_words : Toggle → List ℕ
-toggle_words Data0 = codes "< DATA0"
-toggle_words Data1 = codes "< DATA1"
+toggle_words Data0 = codes "DATA0"
+toggle_words Data1 = codes "DATA1"
 
 abbrev pub answer_words : Reply → Bool → List ℕ
-answer_words AckReply lost = marked (codes "< ACK") lost
-answer_words NakReply lost = marked (codes "< NAK") lost
-answer_words StallReply lost = marked (codes "< STALL") lost
-answer_words (DataReply toggle bytes) lost = marked (toggle_words toggle) lost
+answer_words AckReply lost = codes " " ++ marked (codes "ACK") lost
+answer_words NakReply lost = codes " " ++ marked (codes "NAK") lost
+answer_words StallReply lost = codes " " ++ marked (codes "STALL") lost
+answer_words (DataReply toggle bytes) lost = codes " " ++ marked (toggle_words toggle) lost
 answer_words NoReply lost = []
 
 -- the host's ACK of a data packet that has reached it
 abbrev pub ack_words : Reply → Bool → List ℕ
-ack_words (DataReply toggle bytes) lost = marked (codes "> ACK") lost
+ack_words (DataReply toggle bytes) lost = codes " " ++ marked (codes "ACK") lost
 ack_words reply lost = []
 
--- The packets of a transaction: its number, its fate, what is sent, what the device answers, and the host's ACK.
+-- the packets of a transaction, in their order: what is sent, what the device answers, and the host's ACK
+abbrev pub packets_words : Fate → Option Sent → Reply → List ℕ
+packets_words fate sent answer =
+    sent_words sent (is_lost_down fate) ++ answer_words answer (is_lost_up fate) ++ ack_words (brought fate answer) (is_lost_ack fate)
+
+-- the bytes of a transaction's data packet, where it shows one: the setup packet, or what the device has answered
+abbrev pub answered_data : Reply → Option (List ℕ)
+answered_data (DataReply toggle bytes) = Some bytes
+answered_data reply = None
+
+abbrev pub token_data : Token → Reply → Option (List ℕ)
+token_data (SetupToken bytes) answer = Some bytes
+token_data token answer = answered_data answer
+
+abbrev pub data_of : Option Sent → Reply → Option (List ℕ)
+data_of None answer = answered_data answer
+data_of (Some sent) answer = token_data sent.token answer
+
+-- so many bytes are shown in the line itself, and not in lines below it
+abbrev pub fit_in_line : ℕ → Bool
+fit_in_line n = nat_lt 0 n && nat_lt n 9
+
+-- the data in the line: 1 to 8 bytes themselves, and of others how many they are
+abbrev pub data_words : Option (List ℕ) → List ℕ
+data_words None = []
+data_words (Some bytes) = if fit_in_line (length bytes) then encode_lower bytes else count (length bytes) (codes "byte")
+
+-- A transaction until the host has taken what came of it: its number, its fate, its packets, and its data.
 unfoldable pub packets_part : ℕ → Fate → Option Sent → Reply → List ℕ
 packets_part number fate sent answer =
-    codes "  " ++ column 6 (decimal number) ++ column 2 (fate_letter fate) ++ column 13 (sent_words sent (is_lost_down fate))
-    ++ column 15 (answer_words answer (is_lost_up fate)) ++ column 12 (ack_words (brought fate answer) (is_lost_ack fate))
+    column 6 (decimal number) ++ column 2 (fate_letter fate) ++ column 15 (packets_words fate sent answer)
+    ++ column 17 (data_words (data_of sent answer))
 
 -- a strike: nothing came, or a data packet that came before
 abbrev pub strike_words : ℕ → List ℕ
@@ -175,22 +205,18 @@ device_words packet d =
     decimal d.state.address ++ codes "/" ++ decimal d.state.selected ++ codes " "
     ++ stage_words (stage_kind d.stage) (acknowledged packet d.stage)
 
--- a data packet: how many bytes it has, and the bytes
-abbrev pub bytes_words : List ℕ → List ℕ
-bytes_words [] = codes "-"
-bytes_words (byte ∷ bytes) = encode_lower (byte ∷ bytes)
+-- The end of a line, and these bytes in lines below it, 16 a line, under the column of data. The line has room for so many
+-- of them.
+unfoldable pub rows_below : ℕ → List ℕ → List ℕ
+rows_below room [] = codes "\n"
+rows_below room (byte ∷ bytes) =
+    if room == 0 then codes "\n                       " ++ encode_lower (byte ∷ []) ++ rows_below 15 bytes
+    else encode_lower (byte ∷ []) ++ rows_below (room - 1) bytes
 
-abbrev pub packet_words : List ℕ → List ℕ
-packet_words bytes = column 9 (count (length bytes) (codes "byte")) ++ bytes_words bytes
-
--- the data packet that the device has answered, if it has
-abbrev pub data_words : Reply → List ℕ
-data_words (DataReply toggle bytes) = packet_words bytes
-data_words reply = []
-
--- what the device has, and after it the data packet, if there is one
-abbrev pub device_part : List ℕ → List ℕ → List ℕ
-device_part words packet = if length packet == 0 then words else column 22 words ++ packet
+-- the end of a transaction's line, and below it the data of more than 8 bytes
+abbrev pub data_below : Option (List ℕ) → List ℕ
+data_below None = codes "\n"
+data_below (Some bytes) = if nat_lt 8 (length bytes) then rows_below 0 bytes else codes "\n"
 
 -- an attempt is given up, for this reason
 unfoldable pub given_up_line : ℕ → Why → List ℕ

@@ -1,5 +1,5 @@
 -- The log of a run: the lines of its steps, and of no others.
-use Rattle.std.specs.Prelude.{◌≡◌, ℕ, ◌-◌, List, [], ◌∷◌, ◌++◌, Option, Some, codes, if◌then◌else◌}
+use Rattle.std.specs.Prelude.{◌≡◌, ℕ, ◌-◌, List, [], ◌∷◌, ◌++◌, Option, Some, if◌then◌else◌}
 use Rattle.std.specs.Io.KnownBytes.{Appends, Keeps}
 use Rattle.usb_fields.specs.declared.packet.Speed.{Speed}
 use Rattle.usb_file_data.specs.declared.file.DescriptorFile.{DescriptorFile}
@@ -19,7 +19,7 @@ use Rattle.usb_bus.specs.declared.enumeration.Run.{Run}
 use Rattle.usb_bus.specs.Enumerate.{Pair, Runs, new_pair, Moves}
 use Rattle.usb_bus.specs.Bus.{brought}
 use Rattle.usb_bus.specs.Exchanges.{answered_in, cause_of, trouble_why}
-use Rattle.usb_bus.specs.Lines.{data_words, device_part, device_words, given_up_part, host_words, packets_part, reset_line, transfer_line}
+use Rattle.usb_bus.specs.Lines.{data_below, data_of, device_words, given_up_part, host_words, packets_part, reset_line, transfer_line}
 
 -- the line of a transfer, before its first transaction
 abbrev pub transfer_part : Step → TransferView → List ℕ
@@ -28,20 +28,20 @@ transfer_part step t = if is_untried t.stage t.strikes then transfer_line step t
 -- What the host has after a transaction, where this was its transfer, this came of what the device answered, and the host
 -- has ended for this reason, if it has.
 abbrev pub host_part : TransferView → Reply → Option Why → List ℕ
-host_part t reply why = column 23 (host_words (taken t reply).transfer reply (taken t reply).heard why)
+host_part t reply why = column 20 (host_words (taken t reply).transfer reply (taken t reply).heard why)
 
--- what of a transaction's line is known once the host is so: its packets, and what the host has then
+-- what of a transaction's line is known once the host is so: its packets, its data, and what the host has then
 abbrev pub answered_part : ℕ → Fate → TransferView → Reply → HostPhase → List ℕ
 answered_part number fate t answer phase =
     packets_part number fate (due t) answer ++ host_part t (brought fate answer) (trouble_why (outcome_of phase))
 
--- The line of a transaction: its packets, what the host has then, what the device has, and its data packet; and another line
--- where the attempt is given up. This was the host's transfer before it, this the device's answer, and so both ends are after
--- it; the device's packets have this size.
+-- The line of a transaction: its packets, its data, what the host has then, and what the device has. Below it are data of
+-- more than 8 bytes, and a line where the attempt is given up. This was the host's transfer before it, this the device's
+-- answer, and so both ends are after it; the device's packets have this size.
 unfoldable pub exchange_lines : ℕ → ℕ → Fate → TransferView → Reply → Pair → List ℕ
 exchange_lines packet number fate t answer after =
     answered_part number fate t answer after.host.phase
-    ++ device_part (device_words packet after.device) (data_words answer) ++ codes "\n"
+    ++ device_words packet after.device ++ data_below (data_of (due t) answer)
     ++ given_up_part after.host.resets (cause_of t (brought fate answer) after.host.phase)
 
 -- The lines of a step: a transaction where a transfer is under way, with this answer, and else a bus reset.
@@ -62,8 +62,8 @@ count_before WantsReset n = n
 count_before (WantsSent sent) n = n - 1
 count_before WantsNothing n = n
 
--- The log of a run of n transactions over these pairs, the newest first, up to the last one: a line for each reset and each
--- transaction, in their order, before the first transaction of a transfer a line of that, and after the last one of an attempt
+-- The log of a run of n transactions over these pairs, the newest first, up to the last one: a line of headings, a line for each
+-- reset and each transaction, in their order, before the first transaction of a transfer a line of that, and after the last one of an attempt
 -- that is given up a line of that.
 unfoldable pub log_text : DescriptorFile → List Fate → List Pair → ℕ → Pair → List ℕ
 log_text f fates [] n last = []

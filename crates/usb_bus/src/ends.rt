@@ -5,13 +5,13 @@ ghost use Rattle.usb_text.specs.Lines.{column};
 ghost use Rattle.usb_host.specs.Heard.{heard_of};
 ghost use Rattle.usb_host.specs.Steps.{outcome_of, wanted};
 ghost use Rattle.usb_bus.specs.Exchanges.{given_up, trouble_why};
-ghost use Rattle.usb_bus.specs.Lines.{bytes_words, data_words, device_part, device_words, failure_words, going_words, heard_words, host_words, packet_words, stage_words, strike_words};
+ghost use Rattle.usb_bus.specs.Lines.{device_words, failure_words, going_words, heard_words, host_words, stage_words, strike_words};
 
 use std::alloc::AllocError;
 use usb_device::{Device, DeviceStage};
 use usb_fields::Answer;
 use usb_host::{Action, Heard, Host, Transfer, Why};
-use usb_text::{Text, put_count};
+use usb_text::Text;
 
 /// Why a host has ended without success, if it has.
 pub(crate) fn trouble_of(host: &Host) -> Option<Why>
@@ -31,11 +31,11 @@ pub(crate) fn put_host(
     heard: Heard<'_>,
     why: Option<Why>,
 ) -> Result<(), AllocError>
-    ensures { OnOk result (text.new ≡ text.old ++ column 23 (host_words transfer.now (reply_of came.entry) (heard_of heard.entry) why)) }
+    ensures { OnOk result (text.new ≡ text.old ++ column 20 (host_words transfer.now (reply_of came.entry) (heard_of heard.entry) why)) }
 {
     let start = text.len();
     put_host_words(text, transfer, came, heard, why)?;
-    text.fill(start, 23)
+    text.fill(start, 20)
 }
 
 fn put_host_words(
@@ -142,25 +142,9 @@ pub(crate) fn cause(heard: Heard<'_>, host: &Host, trouble: Option<Why>) -> Opti
     }
 }
 
-/// Puts what the device has, and after it this packet, if there is one.
-pub(crate) fn put_device(
-    text: &mut Text,
-    device: &Device<'_>,
-    packet: &Text,
-) -> Result<(), AllocError>
-    ensures { OnOk result (text.new ≡ text.old ++ device_part (device_words device.now.description.file.device.packet device.now.device) packet.now) }
-{
-    let start = text.len();
-    put_device_words(text, device)?;
-    if packet.is_empty() {
-        return Ok(());
-    }
-    text.fill(start, 22)?;
-    text.put_bytes(packet.as_bytes())
-}
-
+/// Puts what the device has.
 #[tactic(auto, unfolding(crate::specs::Lines::device_words))]
-fn put_device_words(text: &mut Text, device: &Device<'_>) -> Result<(), AllocError>
+pub(crate) fn put_device(text: &mut Text, device: &Device<'_>) -> Result<(), AllocError>
     ensures { OnOk result (text.new ≡ text.old ++ device_words device.now.description.file.device.packet device.now.device) }
 {
     let state = device.state();
@@ -184,34 +168,5 @@ fn put_stage(text: &mut Text, stage: DeviceStage, sent: usize) -> Result<(), All
         DeviceStage::StatusOut => text.put("status out"),
         DeviceStage::Over => text.put("over"),
         DeviceStage::StatusIn => text.put("status in"),
-    }
-}
-
-/// Puts the data packet that was answered, if one was.
-pub(crate) fn put_data(text: &mut Text, answer: Answer<'_>) -> Result<(), AllocError>
-    ensures { OnOk result (text.new ≡ text.old ++ data_words (reply_of answer.entry)) }
-{
-    match answer {
-        Answer::Data(_, bytes) => put_packet(text, bytes),
-        _ => Ok(()),
-    }
-}
-
-fn put_packet(text: &mut Text, bytes: &[u8]) -> Result<(), AllocError>
-    ensures { OnOk result (text.new ≡ text.old ++ packet_words bytes.now) }
-{
-    let start = text.len();
-    put_count(text, bytes.len() as u64, "byte")?;
-    text.fill(start, 9)?;
-    put_bytes(text, bytes)
-}
-
-fn put_bytes(text: &mut Text, bytes: &[u8]) -> Result<(), AllocError>
-    ensures { OnOk result (text.new ≡ text.old ++ bytes_words bytes.now) }
-{
-    if bytes.is_empty() {
-        text.put("-")
-    } else {
-        text.put_digits(bytes)
     }
 }

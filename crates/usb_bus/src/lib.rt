@@ -26,6 +26,7 @@
 #![tactic(auto)]
 
 mod conversation;
+mod data;
 mod ends;
 mod enumeration;
 mod exchange;

@@ -5,7 +5,7 @@ ghost use Rattle.usb_bus.specs.Enumerate.{EndsWell};
 ghost use Rattle.usb_bus.specs.Log.{WritesLog, WritesLogLess};
 ghost use Rattle.usb_bus.specs.inside.Seeing.{HasSeen, done_lines};
 
-use crate::ends::put_data;
+use crate::data::{data_of, put_below};
 use crate::enumeration::{Run, step_seen};
 use crate::fate::Fate;
 use crate::step_lines::{Before, Turn, put_answered, put_done, put_reset};
@@ -24,8 +24,8 @@ struct Log {
     before: Before,
     turn: Turn,
     lines: Text,
-    /// The data packet that was answered: it goes after what the device has then.
-    packet: Text,
+    /// The end of a transaction's line, and the data below it: they go after what the device has then.
+    below: Text,
     /// Why the attempt is given up, if it is.
     cause: Option<Why>,
     /// Whether there was memory for them.
@@ -46,7 +46,7 @@ impl Log {
                 fate: Fate::Pass,
             },
             lines: Text::new(alloc),
-            packet: Text::new(alloc),
+            below: Text::new(alloc),
             cause: None,
             is_whole: true,
         }
@@ -65,13 +65,14 @@ impl Log {
 
     /// Puts what is known of a transaction once the host has taken what came of this answer.
     fn put_answered(&mut self, answer: Answer<'_>, host: &Host) -> Result<(), AllocError>
-        ensures { OnOk result (HasSeen self.old.turn.number self.old.turn.fate self.old.before.step self.old.before.transfer (reply_of answer.entry) host.now.phase self.old.lines self.new.lines self.new.packet self.new.cause) }
+        ensures { OnOk result (HasSeen self.old.turn.number self.old.turn.fate self.old.before.step self.old.before.transfer (reply_of answer.entry) host.now.phase self.old.lines self.new.lines self.new.below self.new.cause) }
     {
         let (Some(step), Some(transfer)) = (self.before.step, self.before.transfer) else {
             return Ok(());
         };
-        self.packet.clear();
-        put_data(&mut self.packet, answer)?;
+        self.below.clear();
+        let sent = transfer.next();
+        put_below(&mut self.below, data_of(&sent, answer))?;
         self.cause = put_answered(
             self.alloc,
             &mut self.lines,
@@ -91,13 +92,13 @@ impl Log {
         host: &Host,
         device: &Device<'_>,
     ) -> Result<(), AllocError>
-        ensures { OnOk result (self.new.lines ≡ done_lines device.now.description.file.device.packet is_transaction self.old.lines self.old.packet self.old.cause host.now device.now.device) }
+        ensures { OnOk result (self.new.lines ≡ done_lines device.now.description.file.device.packet is_transaction self.old.lines self.old.below self.old.cause host.now device.now.device) }
     {
         if is_transaction {
             return put_done(
                 self.alloc,
                 &mut self.lines,
-                &self.packet,
+                &self.below,
                 self.cause,
                 host,
                 device,
@@ -112,7 +113,7 @@ impl Observer for Log {
     ghost use Rattle.std.specs.Prelude.{◌≡◌, true};
     ghost use Rattle.usb_bus.specs.inside.Seeing.{HasSeen};
 
-    ghost sees = { λ old reply host new. new.is_whole ≡ true → HasSeen old.turn.number old.turn.fate old.before.step old.before.transfer reply host.phase old.lines new.lines new.packet new.cause };
+    ghost sees = { λ old reply host new. new.is_whole ≡ true → HasSeen old.turn.number old.turn.fate old.before.step old.before.transfer reply host.phase old.lines new.lines new.below new.cause };
 
     fn answered(&mut self, answer: Answer<'_>, host: &Host) {
         self.is_whole = self.put_answered(answer, host).is_ok();
@@ -157,8 +158,8 @@ impl<W: Write> Steps<W> for Log {
     }
 }
 
-/// Enumerates a device with this description as [`enumerate`](crate::enumerate) does, and writes a log of it: a line for
-/// each bus reset and each transaction, in their order, one for each transfer before its first transaction, and one for each
+/// Enumerates a device with this description as [`enumerate`](crate::enumerate) does, and writes a log of it: a line of
+/// headings, a line for each bus reset and each transaction, in their order, one for each transfer before its first transaction, and one for each
 /// attempt that is given up.
 ///
 /// The lines of a step are written as soon as it is done, and none are kept. What the other promises say of the
@@ -169,7 +170,7 @@ impl<W: Write> Steps<W> for Log {
 /// let fates = [Fate::LostDown; 9];
 /// let run = enumerate_logged(alloc, &description, Limits::new(1, 16, 3)?, &fates, &mut log)?;
 /// assert_eq!(rt; run.transactions, 9);
-/// assert!(rt; log.starts_with(b"attempt 1: bus reset\n"));
+/// assert!(rt; log.starts_with(b"no.   f packets (lost) data             host                device\nattempt 1: bus reset\n"));
 /// ```
 ///
 /// # Errors

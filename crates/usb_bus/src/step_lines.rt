@@ -7,7 +7,7 @@ ghost use Rattle.usb_host.specs.Transfer.{sent_by};
 ghost use Rattle.usb_host.specs.Steps.{step_in, transfer_in};
 ghost use Rattle.usb_bus.specs.Bus.{brought};
 ghost use Rattle.usb_bus.specs.Exchanges.{cause_of};
-ghost use Rattle.usb_bus.specs.Lines.{address_words, device_part, device_words, given_up_line, given_up_part, reset_line, transfer_line};
+ghost use Rattle.usb_bus.specs.Lines.{address_words, device_words, given_up_line, given_up_part, heading_part, reset_line, transfer_line};
 ghost use Rattle.usb_bus.specs.Log.{answered_part, transfer_part};
 
 use crate::ends::{cause, put_device, put_host, trouble_of};
@@ -127,8 +127,20 @@ impl Before {
 pub(crate) fn put_reset(text: &mut Text, attempt: u64) -> Result<(), AllocError>
     ensures { OnOk result (text.new ≡ text.old ++ reset_line attempt) }
 {
+    put_heading(text, attempt)?;
     put_numbered(text, "attempt ", attempt)?;
     text.put(": bus reset\n")
+}
+
+/// Puts the headings of the columns above the first attempt.
+fn put_heading(text: &mut Text, attempt: u64) -> Result<(), AllocError>
+    ensures { OnOk result (text.new ≡ text.old ++ heading_part attempt) }
+{
+    if attempt == 1 {
+        text.put("no.   f packets (lost) data             host                device\n")
+    } else {
+        Ok(())
+    }
 }
 
 /// Puts the line of a transfer, before its first transaction.
@@ -162,8 +174,6 @@ fn put_transfer_line(
     text.put(": ")?;
     put_request(text, &setup)?;
     put_address(text, transfer.next())?;
-    text.put(", ")?;
-    text.put_digits(&setup.to_bytes())?;
     text.put("\n")
 }
 
@@ -172,12 +182,12 @@ fn put_address(text: &mut Text, sent: Option<Transaction<'static>>) -> Result<()
 {
     match sent {
         None => Ok(()),
-        Some(transaction) => { put_numbered(text, ", to address ", u64::from(transaction.address)) }
+        Some(transaction) => { put_numbered(text, ", to ", u64::from(transaction.address)) }
     }
 }
 
 /// Puts what is known of a transaction once the host has taken what came of this answer: the line of its transfer before the
-/// first one, its packets, and what the host has. Answers why the attempt is given up, if it is.
+/// first one, its packets, its data, and what the host has. Answers why the attempt is given up, if it is.
 pub(crate) fn put_answered(
     alloc: Global,
     text: &mut Text,
@@ -200,20 +210,20 @@ pub(crate) fn put_answered(
     Ok(cause(heard, host, trouble))
 }
 
-/// Puts the rest of the lines of a transaction: what the device has, this packet, if there is one, and for which reason the
-/// attempt is given up, if it is.
+/// Puts the rest of the lines of a transaction: what the device has, this end of the line with the data below it, and for
+/// which reason the attempt is given up, if it is.
 pub(crate) fn put_done(
     alloc: Global,
     text: &mut Text,
-    packet: &Text,
+    below: &Text,
     why: Option<Why>,
     host: &Host,
     device: &Device<'_>,
 ) -> Result<(), AllocError>
-    ensures { OnOk result (text.new ≡ text.old ++ device_part (device_words device.now.description.file.device.packet device.now.device) packet.now ++ codes "\n" ++ given_up_part host.now.resets why) }
+    ensures { OnOk result (text.new ≡ text.old ++ device_words device.now.description.file.device.packet device.now.device ++ below.now ++ given_up_part host.now.resets why) }
 {
-    put_device(text, device, packet)?;
-    text.put("\n")?;
+    put_device(text, device)?;
+    text.put_bytes(below.as_bytes())?;
     match why {
         None => Ok(()),
         Some(why) => put_given_up(alloc, text, u64::from(host.attempts()), why),

@@ -178,8 +178,9 @@ Input:
 
 Log:
   With --log a line for each transaction is written before the result: its number, its fate,
-  what the host sends, what the device answers, the host's ACK, what the host and what the
-  device have then, and the data. A line begins each bus reset and each transfer.
+  its packets, in brackets where one was lost, its data, and what the host and what the device
+  have then. Data of more than 8 bytes are below it. A line begins each bus reset and each
+  transfer.
 
 Fates:
   A letter for each transaction of the bus, in order. After the last one all packets arrive.

@@ -5,4 +5,6 @@ use Rattle.usb_bus.proofs.step_lines.put_reset.Goals as goal
 
 pub returns : goal.returns
 unfolding reset_line
-returns c = on_ok_weaker c.put.result (joined _ _ _ _ _ c.in_ok-put_numbered.ensures) c.put.ensures
+returns c =
+    let begun = joined _ _ _ _ _ c.in_ok-put_heading.ensures c.in_ok-put_numbered.ensures in
+    on_ok_weaker c.put.result (joined _ _ _ _ _ begun) c.put.ensures
