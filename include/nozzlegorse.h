@@ -96,8 +96,10 @@ struct nzg_descriptor {
     uint16_t language;        /* of a string */
     uint8_t length, type;     /* bLength, bDescriptorType */
     uint8_t role;             /* enum nzg_role; 0 before the first descriptor */
-    uint8_t owner;            /* of an association or a raw one: the role of what it belongs to */
-    uint8_t depth;            /* 0 device, 1 configuration, 2, 3, 4; a raw one after an association is one of its set */
+    uint8_t owner;            /* of an association or a raw one: the role of what it belongs to, which is the nearest
+                               * configuration, interface or endpoint before it */
+    uint8_t depth;            /* 1 configuration, 2 interface and association, 3 endpoint; a raw one is one deeper than its
+                               * owner, and what is in no set has 0 */
     uint8_t part;             /* 0 device, 1 its sets, 2 its qualifier and the sets of the other speed */
     uint8_t index;            /* of a string */
     size_t next;              /* place of the byte after it */
@@ -110,7 +112,7 @@ struct nzg_descriptor {
     size_t endpoints;         /* endpoints of this setting that came, it included */
     uint8_t interface_, alternate, class_, subclass, protocol;
     uint8_t endpoint;         /* bEndpointAddress */
-    uint8_t below;            /* depth of a raw one that comes next */
+    uint8_t below;            /* depth of a raw one that comes next, and the role of its owner */
     bool is_other;            /* its set is one of the other speed */
     bool has_device, has_languages; /* they came */
 };

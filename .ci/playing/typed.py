@@ -1,6 +1,7 @@
 """Compares descriptors, their fields and findings as values, by the Python package, with the texts of the library: `show`,
 `check` and `explain`, of each example and of mutations of them. Faults are the same; of broken bytes the walk goes at least as
-far as the explanation does. The owner of what has one is the nearest configuration, interface or endpoint before it.
+far as the explanation does. The owner of what has one is the nearest configuration, interface or endpoint before it, and a
+raw descriptor is one deeper than that.
 
     .ci/playing/typed.py MUTATIONS    with NOZZLEGORSE_LIBRARY and PYTHONPATH=python
 """
@@ -83,6 +84,8 @@ def walk_differs(walked, told, fault):
             return f"{it} against {words}"
         if it.owner != (owner if it.role in ("association", "raw") else None) or it.place != place:
             return f"owner of {it}: {it.owner}, not {owner}; or a gap at {place}"
+        if it.role == "raw" and it.depth != OWNERS.index(owner) + 2:
+            return f"depth of {it}: {it.depth}, in a {owner}"
         owner, place = it.role if it.role in OWNERS else owner, place + len(it.data)
     return None
 

@@ -553,7 +553,7 @@ class Explanation:
                 endpoint += 1
             elif d[1] == 11:
                 self.of_association(d, p, place + (association,))
-                owner, association = 1, association + 1
+                association += 1
             else:
                 later = [x for _, x in descriptors[i + 1 :]] if end_of_set <= limit else None
                 self.of_raw(d, p, owner + 1, codes, later)

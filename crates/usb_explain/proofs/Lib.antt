@@ -4,6 +4,7 @@ pub mod NumberedLemmas
 pub mod Explaining
 pub mod Telling
 pub mod Spans
+pub mod EndpointsShown
 pub mod Brief
 pub mod rest
 pub mod Cuts

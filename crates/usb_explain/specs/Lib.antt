@@ -14,6 +14,7 @@ pub mod Lines
 pub mod Uncovered
 pub mod Trees
 pub mod Laws
+pub mod OwnedEndpoints
 pub mod Names
 pub mod Endpoints
 pub mod Speeds

@@ -39,7 +39,7 @@ owner_above depth set setting address = record set {
   endpoint = if depth == 4 then Some address else None;
 }
 
--- the last of what owns others before it
+-- the nearest configuration, interface or endpoint before it
 abbrev pub last_owner : Position → DescriptorOwner
 last_owner p = owner_above p.below (set_of p) (setting_in p) p.endpoint
 

@@ -92,7 +92,7 @@ unfoldable pub noted : Role → List ℕ → Position → Position
 noted Device d p = record p { has_device = true; class = slice_index d 4; subclass = slice_index d 5; protocol = slice_index d 6 }
 noted Qualifier d p = p
 noted Configuration d p = with_set p.is_other p
-noted Association d p = record p { associations = p.associations + 1; below = 2 }
+noted Association d p = record p { associations = p.associations + 1 }
 noted Interface d p = with_setting d p
 noted Endpoint d p = record p { endpoints = p.endpoints + 1; endpoint = slice_index d 2; below = 4 }
 noted Raw d p = p

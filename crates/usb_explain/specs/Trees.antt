@@ -68,12 +68,14 @@ abbrev pub extra_owner : DescriptorOwner → Extra → DescriptorOwner
 extra_owner owner (extras.Raw raw) = owner
 extra_owner owner (extras.Association association) = of_set owner.part owner.set
 
--- extras that are one deeper than what they belong to; those after an association belong to the configuration too
-abbrev pub extra_descriptors : ℕ → DescriptorOwner → List Extra → List TreeDescriptor
-extra_descriptors depth owner [] = []
-extra_descriptors depth owner (x ∷ xs) =
+-- an extra of this depth, of this owner
+abbrev pub extra_in_tree : ℕ → DescriptorOwner → Extra → TreeDescriptor
+extra_in_tree depth owner x =
     tree_descriptor (extra_role x) (extra_depth depth x) (Some (extra_owner owner x)) (descriptor_bytes (extra_descriptor x))
-    ∷ extra_descriptors (extra_depth depth x) (extra_owner owner x) xs
+
+-- the extras of a configuration, an interface or an endpoint, one deeper than it
+abbrev pub extra_descriptors : ℕ → DescriptorOwner → List Extra → List TreeDescriptor
+extra_descriptors depth owner xs = map (extra_in_tree depth owner) xs
 
 -- an endpoint of an interface, and its extras
 abbrev pub endpoint_descriptors : DescriptorOwner → Endpoint → List TreeDescriptor

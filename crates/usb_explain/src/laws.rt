@@ -3,6 +3,7 @@
 ghost use Rattle.usb_explain.specs.FieldLaws.{AllFieldsHaveAllBytes};
 ghost use Rattle.usb_explain.specs.Laws.{AllEachByteOnce, BriefLeavesOutFields, BrokenCoversUpToFault, WholeHasNoRest, WholeShowsTree, WholeReportsFindings};
 ghost use Rattle.usb_explain.specs.Numbered.{NumbersAreOutline};
+ghost use Rattle.usb_explain.specs.OwnedEndpoints.{WholeShowsEndpoints};
 ghost use Rattle.usb_explain.specs.Remarks.{FullOrHighIsOpen, LowOrFullIsOpen};
 
 /// Each byte once: the descriptors of any bytes follow each other from the first byte on, each at its place and as long as its
@@ -31,6 +32,12 @@ pub fn each_finding_is_reported_once()
 /// its setting, and the address of the endpoint.
 pub fn each_descriptor_has_its_owner()
     ensures { WholeShowsTree }
+{}
+
+/// Each endpoint has its setting: the endpoints among the descriptors of an input are those of its sets, set after set and in their
+/// order, each with the number of its set, its interface and alternate setting, its address and its bytes.
+pub fn each_endpoint_has_its_setting()
+    ensures { WholeShowsEndpoints }
 {}
 
 /// A walk that goes from one [`Position`](crate::Position) to the next has the descriptors of the outline: with the same places,

@@ -17,8 +17,7 @@ pub struct InterfaceSetting {
 }
 
 /// Whose a descriptor of a set is. That of an interface or an endpoint is its own. One that extends another, as a class
-/// defines, is of the last interface or endpoint before it; before the first one and after an association, it is of the set
-/// (USB 2.0, 9.5).
+/// defines, is of the nearest configuration, interface or endpoint before it (USB 2.0, 9.5). An association is of its set.
 #[derive(Clone, Copy, Debug, PartialEq, Eq, Hash)]
 pub struct DescriptorOwner {
     /// The part that has the set.

@@ -53,7 +53,7 @@ pub struct Position {
     pub protocol: u8,
     /// bEndpointAddress of the last endpoint.
     pub endpoint: u8,
-    /// The depth of a descriptor that extends what came last: 2 of a set, 3 of an interface, 4 of an endpoint.
+    /// The depth of a descriptor that extends what is nearest before it: 2 of a configuration, 3 of an interface, 4 of an endpoint.
     pub below: u8,
     /// Whether the set is one of the other speed.
     pub is_other: bool,
@@ -193,10 +193,7 @@ impl Position {
             }
             Role::Qualifier => {}
             Role::Configuration => self.add_set(),
-            Role::Association => {
-                self.associations += 1;
-                self.below = 2;
-            }
+            Role::Association => self.associations += 1,
             Role::Interface => self.add_setting(d),
             Role::Endpoint => {
                 self.endpoints += 1;

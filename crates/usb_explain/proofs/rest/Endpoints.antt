@@ -1,14 +1,13 @@
 -- A walk goes through the endpoints of a setting, and tells their findings.
-use Rattle.std.proofs.Common.{◌≡◌, ◌≤◌, ◌<◌, ℕ, ◌+◌, ◌-◌, ◌&&◌, Bool, true, false, List, [], ◌∷◌, ◌++◌, flat_map, length, nat_le, take, Option, Some, None, is_some, unwrap_or, refl, sym, ap, subst, ◌∙◌, arith, length-append}
+use Rattle.std.proofs.Common.{◌≡◌, ◌≤◌, ◌<◌, ℕ, ◌+◌, ◌-◌, ◌&&◌, Bool, true, false, List, [], ◌∷◌, ◌++◌, flat_map, length, nat_le, take, Option, Some, refl, sym, ap, subst, ◌∙◌, arith, length-append}
 use Rattle.std.specs.List.{list_any}
 use Rattle.std.proofs.lemmas.Bool.{le-leb, or_parts}
-use Rattle.std.proofs.lemmas.Option.{none-some}
 use Rattle.usb_file_data.specs.declared.cause.Found.{Found}
 use Rattle.usb_file_data.specs.declared.cause.Cause.{Cause}
 use Rattle.usb_file_data.specs.declared.cause.Cause.TheVariants as causes
 use Rattle.usb_file_data.specs.Causes.{address_cause, found, rule_of}
 use Rattle.usb_file_data.specs.Findings.{association_count, at_associations, at_endpoint, endpoint_associations, endpoint_in_order}
-use Rattle.usb_file_data.specs.Places.{at_each_counted, finding, when}
+use Rattle.usb_file_data.specs.Places.{at_each_counted, when}
 use Rattle.usb_file_data.specs.Rules.{repeats_address, shares_address, wrong_address, wrong_packet_size}
 use Rattle.usb_set.specs.declared.tree.Endpoint.{Endpoint}
 use Rattle.usb_set.specs.declared.tree.Setting.{Setting}
@@ -125,7 +124,7 @@ endpoints_go E running settings j t (e ∷ es) k v behind later typed some room 
     (four_parts one two rest later) (four_parts d x more behind)
     (endpoint_goes E running (take j settings) j t k e v (x ++ (more ++ behind)) (two ++ (rest ++ later)) some (omega (arith, room, sum))
     (extras_go said running settings e.extras (at_setting j (k + 1) u) (more ++ behind) (rest ++ later) each.0 (omega (arith, room, sum))
-    (λ q. endpoints_go all running settings j t es (k + 1) (record (taken (length x) n u) { below = q }) behind later each.1 some (omega (arith, room, sum))
+    (endpoints_go all running settings j t es (k + 1) (taken (length x) n u) behind later each.1 some (omega (arith, room, sum))
     (λ o w a. subst (λ v. Goes (adding all (flat_map mine es)) running (record v { setting = j; endpoints = o; below = w; address = a }) later behind)
     (sym (same_taken v (((v.left - length d) - length x) - length more) ((v.associations + n) + m) (length ((d ++ x) ++ more)) (association_count (e.extras ++ flat_map (λ (e : Endpoint). e.extras) es))
     (omega (arith, sum)) (omega (arith, count))))

@@ -24,7 +24,7 @@ use Rattle.usb_set.specs.Layout.{is_typed, is_typed_raw}
 use Rattle.usb_set.specs.Owners.{association_in}
 use Rattle.usb_set.specs.inside.Trees.{extra_bytes}
 use Rattle.usb_set.proofs.ExtraLemmas.{untyped}
-use Rattle.usb_explain.specs.Trees.{descriptor_length, extra_depth, extra_descriptors, extra_owner, extra_role, tree_descriptor}
+use Rattle.usb_explain.specs.Trees.{descriptor_length, extra_depth, extra_descriptors, extra_in_tree, extra_owner, extra_role, tree_descriptor}
 use Rattle.usb_explain.specs.declared.role.Role.{Role}
 use Rattle.usb_explain.specs.declared.role.Role.TheVariants as roles
 use Rattle.usb_explain.specs.declared.standing.Standing.{Standing}
@@ -88,11 +88,7 @@ same_taken v left count n c e f =
 
 -- it is taken
 abbrev after_extra : Extra → Seen → Seen
-after_extra x v = record (taken (length (extra_bytes x)) (length (association_in x)) v) { below = extra_depth v.below x }
-
-whose_after : (x : Extra) (v : Seen) → whose (after_extra x v) ≡ extra_owner (whose v) x
-whose_after (extras.Raw r) v = refl
-whose_after (extras.Association a) v = refl
+after_extra x v = taken (length (extra_bytes x)) (length (association_in x)) v
 
 not_eleven : (kind : ℕ) → is_typed kind ≡ false → kind ≡ 11 → ⊥
 not_eleven kind e is = let no : true ≡ false = ap is_typed (sym is) ∙ e in cc
@@ -152,10 +148,10 @@ count_append xs ys = ap (λ (l : List Association). length l) (flat_map-append a
 
 pub extras_go : (E : Aim) (running : Option SetSpeed) (settings : List Setting) (xs : List Extra) (v : Seen) (behind : List ℕ) (later : List Found) → list_any is_typed_raw xs ≡ false
     → length (flat_map extra_bytes xs) ≤ v.left
-    → ((o : ℕ) → Goes (adding E (extra_descriptors v.below (whose v) xs)) running (record (taken (length (flat_map extra_bytes xs)) (association_count xs) v) { below = o }) later behind)
+    → Goes (adding E (extra_descriptors v.below (whose v) xs)) running (taken (length (flat_map extra_bytes xs)) (association_count xs) v) later behind
     → Goes E running v (at_associations v.part v.number settings v.associations xs ++ later) (flat_map extra_bytes xs ++ behind)
 extras_go E running settings [] v behind later e room onward =
-    subst (λ w. Goes E running w later behind) (sym (same_taken v v.left v.associations 0 0 (omega arith) (omega arith))) (onward v.below)
+    subst (λ w. Goes E running w later behind) (sym (same_taken v v.left v.associations 0 0 (omega arith) (omega arith))) onward
 extras_go E running settings (x ∷ xs) v behind later e room onward =
     let each = or_parts (is_typed_raw x) (list_any is_typed_raw xs) e in
     let d = extra_bytes x in
@@ -165,14 +161,11 @@ extras_go E running settings (x ∷ xs) v behind later e room onward =
     let rest = at_associations v.part v.number settings (v.associations + n) xs in
     let sum : length (d ++ more) ≡ length d + length more = length-append d more in
     let count : association_count (x ∷ xs) ≡ n + association_count xs = length-append (association_in x) (flat_map association_in xs) in
-    let depth = extra_depth v.below x in
-    let owner = extra_owner (whose v) x in
-    let said : Aim = adding E (tree_descriptor (extra_role x) depth (Some owner) d ∷ []) in
+    let said : Aim = adding E (extra_in_tree v.below (whose v) x ∷ []) in
     goes_as E running v (at_associations v.part v.number settings v.associations (x ∷ xs) ++ later) (one ++ (rest ++ later)) ((d ++ more) ++ behind) (d ++ (more ++ behind))
     (ap (λ l. l ++ later) (each_append (λ k a. when (binds_missing_interface settings a) (found (association_cause a) v.part v.number k 0)) v.associations (association_in x) (flat_map association_in xs))
     ∙ append_assoc one rest later) (append_assoc d more behind)
     (extra_goes E running settings x v (more ++ behind) (rest ++ later) each.0 (omega (arith, room, sum))
     (extras_go said running settings xs (after_extra x v) behind later each.1 (omega (arith, room, sum))
-    (λ o. (subst (λ w. Goes (adding said (extra_descriptors depth w xs)) running (record (taken (length more) (association_count xs) (after_extra x v)) { below = o }) later behind) (sym (whose_after x v))
-    (subst (λ (w : Seen). Goes (adding said (extra_descriptors depth owner xs)) running (record w { below = o }) later behind)
-    (sym (same_taken v ((v.left - length d) - length more) ((v.associations + n) + association_count xs) (length (d ++ more)) (association_count (x ∷ xs)) (omega (arith, sum)) (omega (arith, count)))) (onward o))))))
+    (subst (λ (w : Seen). Goes (adding said (extra_descriptors v.below (whose v) xs)) running w later behind)
+    (sym (same_taken v ((v.left - length d) - length more) ((v.associations + n) + association_count xs) (length (d ++ more)) (association_count (x ∷ xs)) (omega (arith, sum)) (omega (arith, count)))) onward)))

@@ -1,5 +1,5 @@
 -- A walk goes through whole sets, and tells their findings.
-use Rattle.std.proofs.Common.{◌≡◌, ◌≤◌, ℕ, ◌+◌, ◌-◌, ◌==◌, ◌&&◌, Bool, true, false, if◌then◌else◌, List, [], ◌∷◌, ◌++◌, flat_map, length, take, not, Option, Some, None, refl, sym, ap, subst, ◌∙◌, arith, append_assoc, length-append}
+use Rattle.std.proofs.Common.{◌≡◌, ◌≤◌, ℕ, ◌+◌, ◌-◌, ◌==◌, ◌&&◌, Bool, true, false, if◌then◌else◌, List, [], ◌∷◌, ◌++◌, flat_map, length, take, not, Option, Some, refl, sym, ap, subst, ◌∙◌, arith, append_assoc, length-append}
 use Rattle.std.specs.List.{list_any}
 use Rattle.std.proofs.lemmas.Bool.{cond-true, le-leb, eq-eqb, or_parts}
 use Rattle.usb_fields.specs.Bytes.{little_endian_at}
@@ -206,7 +206,7 @@ set_goes E running c before total v behind later raws all_bytes outside onward =
     (four_parts one two (three n) later ∙ ap (λ k. one ++ (two ++ (three k ++ later))) none) (ap (λ l. l ++ behind) is ∙ four_parts d x y behind)
     (configuration_goes E running before c total v behind (two ++ (three (0 + n) ++ later)) whole outside
     (extras_go said running c.settings c.extras first (y ++ behind) (three (0 + n) ++ later) typed.0 (omega (arith, sum))
-    (λ q. settings_go with_extras running c.settings c.settings (record (taken (length x) n first) { below = q }) behind later typed.1 left
+    (settings_go with_extras running c.settings c.settings (taken (length x) n first) behind later typed.1 left
     (λ w e. goes_for (adding E (set_descriptors_by owner c total)) (adding with_extras (flat_map (setting_descriptors owner) c.settings)) running w later behind
     (λ r l h. subst (λ k. E r (tree_descriptor roles.Configuration 1 (Some owner) d ∷ k)) (append_assoc (extra_descriptors 2 owner c.extras) (flat_map (setting_descriptors owner) c.settings) l) h)
     (onward w (e ∙ begun_out c.kind 0 (total - length d) v ∙ ap (λ k. with_count c.kind (i + 1) (out_at k v)) (sym outside)))))))

@@ -1,5 +1,5 @@
 -- A walk goes through the settings of a set, and tells their findings.
-use Rattle.std.proofs.Common.{◌≡◌, ℕ, ◌+◌, ◌-◌, Bool, true, false, List, [], ◌∷◌, ◌++◌, flat_map, length, take, Option, Some, None, refl, ap, subst, ◌∙◌, arith, append_assoc, length-append}
+use Rattle.std.proofs.Common.{◌≡◌, ℕ, ◌+◌, ◌-◌, Bool, true, false, List, [], ◌∷◌, ◌++◌, flat_map, length, take, Option, Some, refl, ap, subst, ◌∙◌, arith, append_assoc, length-append}
 use Rattle.std.specs.List.{list_any}
 use Rattle.std.proofs.lemmas.Bool.{le-leb, or_parts}
 use Rattle.usb_file_data.specs.declared.cause.Found.{Found}
@@ -178,7 +178,7 @@ settings_go E running all (t ∷ ts) v behind later typed whole onward =
     ((((d ++ x) ++ y) ++ more) ++ behind) (d ++ (x ++ (y ++ (more ++ behind)))) (five_parts one two three rest later) (five_parts d x y more behind)
     (interface_goes E running all t ts v behind (two ++ (three ++ (rest ++ later))) whole
     (extras_go said running all t.extras begun (y ++ (more ++ behind)) (three ++ (rest ++ later)) parts.0 (omega (arith, whole, sum))
-    (λ q. endpoints_go with_extras running all j t t.endpoints 0 (record passed { below = q }) (more ++ behind) (rest ++ later) parts.1 (omega arith) (omega (arith, whole, sum))
+    (endpoints_go with_extras running all j t t.endpoints 0 passed (more ++ behind) (rest ++ later) parts.1 (omega arith) (omega (arith, whole, sum))
     (λ o w a. let u : Seen = record (taken (length y) m passed) { setting = j; endpoints = o; below = w; address = a } in
     goes_as with_endpoints running u (rest ++ later) (four ((v.associations + n) + m) ++ later) (more ++ behind) (more ++ behind) (ap (λ k. four k ++ later) count) refl
     (settings_go with_endpoints running all ts u behind later each.1 left
