@@ -13,3 +13,8 @@ pub mod Named
 mod Taking
 mod TransferValues
 pub mod Walking
+mod InputStrings
+mod NamedIndices
+mod StringItems
+mod StringTexts
+mod StringTrees
