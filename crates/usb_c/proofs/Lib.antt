@@ -18,3 +18,4 @@ mod NamedIndices
 mod StringItems
 mod StringTexts
 mod StringTrees
+mod StringsShown

@@ -87,7 +87,7 @@ among_is indices languages k some below few =
 
 -- ---- string by string
 
-zip_none : {A B : Type 0} (xs : List A) → ◌≡◌ {A = List (A × B)} (zip xs []) []
+pub zip_none : {A B : Type 0} (xs : List A) → ◌≡◌ {A = List (A × B)} (zip xs []) []
 zip_none [] = refl
 zip_none (x ∷ xs) = refl
 

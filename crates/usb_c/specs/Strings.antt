@@ -1,12 +1,16 @@
 -- The strings of a walk and those of an input, each with its index and its language (USB 2.0, 9.6.7).
-use Rattle.std.specs.Prelude.{◌≡◌, ℕ, ◌==◌, List, [], map, filter, take, drop, flat_map, zip, Bool, Option, Some, None}
+use Rattle.std.specs.Prelude.{◌≡◌, ℕ, ◌==◌, List, [], map, filter, take, drop, flat_map, zip, length, Bool, Option, Some, None, Ok}
+use Rattle.std.specs.List.{range_with_len}
+use Rattle.std.specs.Option.{option_map}
 use Rattle.usb_fields.specs.Units.{units_bytes}
 use Rattle.usb_file_data.specs.declared.file.Input.{Input}
 use Rattle.usb_file_data.specs.declared.file.Input.TheVariants as inputs
 use Rattle.usb_file_data.specs.declared.file.Strings.{Strings}
 use Rattle.usb_file_data.specs.File.{named_indices}
 use Rattle.usb_file_data.specs.Inputs.{IsInput}
+use Rattle.usb_explain.specs.declared.manner.Manner.{Manner}
 use Rattle.usb_explain.specs.declared.role.Role.TheVariants as roles
+use Rattle.usb_explain.specs.Subjects.{Subject, place_of, subject_of}
 use Rattle.usb_c.specs.declared.descriptor.NzgDescriptor.{NzgDescriptor}
 use Rattle.usb_c.specs.declared.string_place.StringPlace.{StringPlace}
 use Rattle.usb_c.specs.Descriptors.{role_number, walked}
@@ -59,3 +63,18 @@ strings_of (inputs.Dump file) = []
 -- the strings of a walk over an input are the strings of the input, each with its index, its language and its bytes
 abbrev pub WalkHasStrings : Type 0
 WalkHasStrings = (input : Input) (b : List ℕ) → IsInput input b → strings_walked b ≡ strings_of input
+
+-- the index and the language of the string of this number, where the explanation shows them
+abbrev pub shown_place : Subject → ℕ → Option (ℕ × ℕ)
+shown_place subject number = option_map (λ place. (place.index, place.language)) (place_of subject number)
+
+-- those that a walk gives of a string
+abbrev pub walked_place : IndexedString → Option (ℕ × ℕ)
+walked_place s = Some (s.index, s.language)
+
+-- by their numbers, the strings of a walk over an input have the indices and the languages that its explanation shows
+abbrev pub WalkIsAsExplained : Type 0
+WalkIsAsExplained =
+    (manner : Manner) (input : Input) (b : List ℕ) → IsInput input b →
+    let strings = strings_walked b in
+    map walked_place strings ≡ map (shown_place (subject_of manner (Ok input))) (range_with_len 0 (length strings))
