@@ -13,3 +13,9 @@ pub mod Named
 mod Taking
 mod TransferValues
 pub mod Walking
+mod InputStrings
+mod NamedIndices
+mod StringItems
+mod StringTexts
+mod StringTrees
+mod StringsShown

@@ -1,5 +1,6 @@
 //! What holds of the descriptors as numbers. The functions of these laws do nothing: their contracts are the laws.
 ghost use Rattle.usb_c.specs.Descriptors.{AllGoOn, WalkIsNumbered};
+ghost use Rattle.usb_c.specs.Strings.{WalkHasStrings, WalkIsAsExplained};
 
 /// From `{0}` on `nzg_next` gives the descriptors of the outline of the bytes, each as the numbers of its position: by
 /// `usb_explain::laws` that is each byte once and in order, of a set, a file or a dump to its end, of other bytes up to their
@@ -12,4 +13,16 @@ pub fn a_walk_is_the_outline()
 /// on where that ends: it never stays where it is, and never passes the end.
 pub fn each_step_goes_on()
     ensures { AllGoOn }
+{}
+
+/// Of an input the strings of the walk are its strings, each with its index, its language and its bytes. Those of a file come
+/// language by language in the order of its list of languages, and in each language one for each index that the file names,
+/// ascending. A set and a dump have none (USB 2.0, 9.6.7).
+pub fn a_walk_has_the_strings_of_a_file()
+    ensures { WalkHasStrings }
+{}
+
+/// By their numbers, the strings of the walk over an input have the indices and the languages that its explanation shows.
+pub fn strings_are_placed_as_explained()
+    ensures { WalkIsAsExplained }
 {}

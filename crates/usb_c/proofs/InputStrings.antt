@@ -1,0 +1,113 @@
+-- The strings of a walk over an input are those of the input.
+use Rattle.std.proofs.Common.{◌≡◌, ◌≤◌, ◌<◌, ℕ, ◌*◌, ◌/◌, List, [], ◌∷◌, ◌++◌, false, length, map, Option, Some, None, refl, sym, ap, ◌∙◌, arith}
+use Rattle.std.specs.Prelude.{fold, zip}
+use Rattle.std.specs.List.{flat_map}
+use Rattle.std.proofs.lemmas.Nat.{div_below}
+use Rattle.std.proofs.lemmas.List.{append-nil, map-append}
+use Rattle.std.proofs.lemmas.Bool.{or_parts}
+use Rattle.std.proofs.lemmas.Bool.Decides.{nat_tests}
+use Rattle.usb_fields.specs.Units.{units_bytes}
+use Rattle.usb_file_data.specs.declared.file.DescriptorFile.{DescriptorFile}
+use Rattle.usb_file_data.specs.declared.file.Input.{Input}
+use Rattle.usb_file_data.specs.declared.file.Input.TheVariants as inputs
+use Rattle.usb_file_data.specs.declared.file.Strings.{Strings}
+use Rattle.usb_file_data.specs.declared.finding.Part.TheVariants as parts
+use Rattle.usb_file_data.specs.File.{are_wrong_strings, device_string_indices, is_long_string, named_indices, string_indices}
+use Rattle.usb_file_data.specs.Findings.{found_in_order, part_of_kind}
+use Rattle.usb_file_data.specs.Inputs.{IsInput}
+use Rattle.usb_file_data.specs.Places.{at_each}
+use Rattle.usb_file_data.proofs.Counts.{AllStrings, all_strings}
+use Rattle.usb_explain.specs.Laws.{as_in_tree}
+use Rattle.usb_explain.specs.Numbered.{FactsByPosition, Numbered, facts_by_position, facts_of, numbered}
+use Rattle.usb_explain.specs.Owners.{of_set as owner_of_set}
+use Rattle.usb_explain.specs.Outline.{Described, outline}
+use Rattle.usb_explain.specs.Positions.{first_position}
+use Rattle.usb_explain.specs.Roles.{next_role}
+use Rattle.usb_set.specs.Layout.{set_length}
+use Rattle.usb_explain.specs.Trees.{TreeDescriptor, other_descriptors, set_descriptors, string_descriptors, text_descriptor, tree_descriptors}
+use Rattle.usb_explain.proofs.NumberedLemmas.{numbers_are_outline}
+use Rattle.usb_explain.proofs.rest.Inputs.{whole_shows}
+use Rattle.usb_c.specs.Descriptors.{indices_in, list_at, nothing, string_among, with_index}
+use Rattle.usb_c.specs.Strings.{WalkHasStrings, indexed, indexed_strings, strings_among, strings_of, string_places}
+use Rattle.usb_c.proofs.NamedIndices.{indices_named}
+use Rattle.usb_c.proofs.StringItems.{Item, item_of, strings_from, strings_same}
+use Rattle.usb_c.proofs.StringTexts.{among_is, count_places, places_are, texts_by}
+use Rattle.usb_c.proofs.StringTrees.{Names, file_names, file_names_same, of_both_parts, of_set, of_sets, set_names, tree_item}
+use Rattle.usb_c.proofs.Walking.{walk_is_numbered}
+
+-- ---- the descriptors of a walk are those of the tree
+
+item_of_facts : FactsByPosition → Item
+item_of_facts f = record { role = f.role; bytes = f.bytes }
+
+of_numbered : (ns : List Numbered) → map item_of ns ≡ map item_of_facts (map facts_by_position ns)
+unfolding item_of_facts
+of_numbered [] = refl
+of_numbered (n ∷ ns) = ap (λ l. item_of n ∷ l) (of_numbered ns)
+
+of_described : (ds : List Described) → map item_of_facts (map facts_of ds) ≡ map tree_item (map as_in_tree ds)
+unfolding item_of_facts
+of_described [] = refl
+of_described (d ∷ ds) = ap (λ l. tree_item (as_in_tree d) ∷ l) (of_described ds)
+
+items_are : (input : Input) (b : List ℕ) → IsInput input b → map item_of (numbered b) ≡ map tree_item (tree_descriptors input)
+items_are input b is =
+    of_numbered (numbered b)
+    ∙ ap (λ l. map item_of_facts l) (numbers_are_outline None (found_in_order input) b)
+    ∙ of_described (outline None (found_in_order input) b)
+    ∙ ap (λ l. map tree_item l) (whole_shows None input b is)
+
+-- ---- the strings of a file
+
+texts_are : (words : List ℕ) (s : Strings) (indices : List ℕ) → indices_in words ≡ indices → AllStrings (length indices) s
+    → strings_from words (units_bytes s.languages) 0 (map tree_item (map text_descriptor s.texts)) ≡ map indexed (zip (string_places indices s.languages) s.texts)
+texts_are words s indices e all =
+    let many = count_places indices s.languages in
+    let few : length s.languages ≤ 126 = few_languages s.languages (or_parts (is_long_string s.languages) _ all.follow.short).0 in
+    texts_by words (units_bytes s.languages) (string_places indices s.languages) 0 s.texts
+    (λ j below.
+    ap (λ indices. string_among indices (units_bytes s.languages) j) e
+    ∙ among_is indices s.languages j all.follow.named (row_below j indices s.languages all.follow.named (omega (arith, below, many))) few
+    ∙ sym (places_are indices s.languages j all.follow.named (omega (arith, below, many))))
+    (omega (arith, many, all.whole))
+  where
+    few_languages : (l : List ℕ) → is_long_string l ≡ false → length l ≤ 126
+    few_languages l e = grind (arith, nat_tests)
+
+    row_below : (j : ℕ) (indices languages : List ℕ) → 0 < length indices → j < length languages * length indices → j / length indices < length languages
+    row_below j indices languages some below = div_below j (length indices) (length languages) some below
+
+-- behind all descriptors that name strings
+rest_are : (words list : List ℕ) (indices : List ℕ) (s : Option Strings) → indices_in words ≡ indices → are_wrong_strings (length indices) s ≡ false
+    → strings_from words list 0 (map tree_item (string_descriptors s)) ≡ indexed_strings indices s
+rest_are words list indices None e right = refl
+rest_are words list indices (Some s) e right = texts_are words s indices e (all_strings (length indices) s right)
+
+in_file : (f : DescriptorFile) (list : List ℕ) → are_wrong_strings (length (named_indices f)) f.strings ≡ false
+    → strings_from nothing.named list 0 (map tree_item (tree_descriptors (inputs.File f))) ≡ indexed_strings (named_indices f) f.strings
+in_file f list right =
+    let sets = at_each (set_descriptors parts.Main) 0 f.sets in
+    let strings = string_descriptors f.strings in
+    let first = fold with_index nothing.named (device_string_indices f.device) in
+    ap (strings_from first list 0) (map-append tree_item (sets ++ other_descriptors f.other) strings)
+    ∙ of_both_parts f first list 0 (map tree_item strings)
+    ∙ rest_are (fold with_index nothing.named (file_names f)) list (named_indices f) f.strings
+    (indices_named (file_names f) (string_indices f) (file_names_same f)) right
+
+none_in_sets : (ts : List TreeDescriptor) (names list : List ℕ) → Names ts names → (words : List ℕ) → strings_from words list 0 (map tree_item ts) ≡ []
+none_in_sets ts names list has words =
+    ap (λ l. strings_from words list 0 l) (sym (append-nil (map tree_item ts))) ∙ has words list 0 []
+
+in_input : (input : Input) (b list : List ℕ) → IsInput input b → strings_from nothing.named list 0 (map tree_item (tree_descriptors input)) ≡ strings_of input
+in_input (inputs.Set set) b list is = none_in_sets (set_descriptors (part_of_kind set.kind) 0 set) (set_names set) list (of_set (owner_of_set (part_of_kind set.kind) 0) set (set_length set)) nothing.named
+in_input (inputs.File f) b list is = in_file f list is.texts
+in_input (inputs.Dump f) b list is =
+    none_in_sets (at_each (set_descriptors parts.Main) 0 f.sets) (flat_map set_names f.sets) list (of_sets parts.Main 0 f.sets)
+    (fold with_index nothing.named (device_string_indices f.device))
+
+pub walk_has_strings : WalkHasStrings
+walk_has_strings input b is =
+    ap (strings_among b) (walk_is_numbered b)
+    ∙ strings_same (length b) b nothing (next_role first_position b) refl
+    ∙ ap (strings_from nothing.named (list_at b 0) 0) (items_are input b is)
+    ∙ in_input input b (list_at b 0) is

@@ -1,0 +1,179 @@
+-- The strings of a walk, by what each of its descriptors is and by its bytes.
+use Rattle.std.proofs.Common.{◌≡◌, ◌≤◌, ℕ, ◌+◌, List, [], ◌∷◌, ◌++◌, Bool, true, false, length, map, take, drop, slice_index, Option, Some, None, refl, sym, ap, subst, ◌∙◌, arith, zero, suc}
+use Rattle.std.specs.Prelude.{fold}
+use Rattle.std.proofs.lemmas.List.{drop-drop, length-take-le}
+use Rattle.usb_explain.specs.declared.position.Position.{Position}
+use Rattle.usb_explain.specs.declared.role.Role.{Role}
+use Rattle.usb_explain.specs.declared.role.Role.TheVariants as roles
+use Rattle.usb_explain.specs.Numbered.{Numbered, first_numbered, numbered_next, next_position}
+use Rattle.usb_explain.specs.Positions.{noted, position_at, with_set}
+use Rattle.usb_explain.specs.Roles.{next_role}
+use Rattle.usb_explain.proofs.NumberedLemmas.{numbered_none, numbered_some}
+use Rattle.usb_explain.proofs.Outlines.{next_bounds}
+use Rattle.usb_explain.proofs.Spans.{next_first}
+use Rattle.usb_explain.proofs.Positions.{noted_at, same_at}
+use Rattle.usb_c.specs.declared.descriptor.NzgDescriptor.{NzgDescriptor}
+use Rattle.usb_c.specs.declared.string_place.StringPlace.{StringPlace}
+use Rattle.usb_c.specs.Descriptors.{all_as_numbers, as_numbers, indices_in, indices_of_role, list_at, string_among, with_index}
+use Rattle.usb_c.specs.Strings.{IndexedString, strings_among}
+
+-- what a descriptor is, and its bytes
+pub record Item : Type 0 where
+  pub role : Role
+  pub bytes : List ℕ
+
+abbrev pub item_of : Numbered → Item
+item_of n = record { role = n.role; bytes = n.bytes }
+
+-- a string of this place with these bytes
+abbrev pub string_with : List ℕ → StringPlace → IndexedString
+string_with bytes place = record { index = place.index; language = place.language; bytes = bytes }
+
+-- the string that a descriptor is, if it is one
+abbrev pub string_here : Role → List ℕ → List ℕ → ℕ → List ℕ → List IndexedString
+string_here roles.Text words list number bytes = string_with bytes (string_among (indices_in words) list number) ∷ []
+string_here role words list number bytes = []
+
+-- the list of languages behind a descriptor
+abbrev pub list_after : Role → List ℕ → List ℕ → List ℕ
+list_after roles.Languages bytes list = bytes
+list_after role bytes list = list
+
+-- how many strings came with it
+abbrev pub number_after : Role → ℕ → ℕ
+number_after roles.Text number = number + 1
+number_after role number = number
+
+-- the strings among descriptors, behind those that named these indices, the list of languages and so many strings
+abbrev pub strings_from : List ℕ → List ℕ → ℕ → List Item → List IndexedString
+strings_from words list number [] = []
+strings_from words list number (t ∷ ts) =
+    string_here t.role words list number t.bytes
+    ++ strings_from (fold with_index words (indices_of_role t.role t.bytes)) (list_after t.role t.bytes list) (number_after t.role number) ts
+
+-- ---- one descriptor
+
+-- the numbers of a descriptor of this role at a position
+abbrev numbers : List ℕ → NzgDescriptor → Role → Position → List ℕ → NzgDescriptor
+numbers b was role p d = as_numbers b was (record { position = p; role = role; bytes = d })
+
+here_is : (role : Role) (b : List ℕ) (was : NzgDescriptor) (p : Position) (d : List ℕ) (rest : List NzgDescriptor) → take (slice_index d 0) (drop p.at b) ≡ d
+    → strings_among b (numbers b was role p d ∷ rest)
+    ≡ string_here role was.named (list_at b was.languages_place) was.position.strings d ++ strings_among b rest
+unfolding as_numbers
+here_is roles.Device b was p d rest e = refl
+here_is roles.Configuration b was p d rest e = refl
+here_is roles.Interface b was p d rest e = refl
+here_is roles.Endpoint b was p d rest e = refl
+here_is roles.Association b was p d rest e = refl
+here_is roles.Raw b was p d rest e = refl
+here_is roles.Qualifier b was p d rest e = refl
+here_is roles.Languages b was p d rest e = refl
+here_is roles.Text b was p d rest e =
+    ap (λ bytes. string_with bytes (string_among (indices_in was.named) (list_at b was.languages_place) was.position.strings) ∷ strings_among b rest) e
+
+list_is : (role : Role) (b : List ℕ) (was : NzgDescriptor) (p : Position) (d : List ℕ) → list_at b p.at ≡ d
+    → list_at b (numbers b was role p d).languages_place ≡ list_after role d (list_at b was.languages_place)
+unfolding as_numbers
+list_is roles.Device b was p d e = refl
+list_is roles.Configuration b was p d e = refl
+list_is roles.Interface b was p d e = refl
+list_is roles.Endpoint b was p d e = refl
+list_is roles.Association b was p d e = refl
+list_is roles.Raw b was p d e = refl
+list_is roles.Qualifier b was p d e = refl
+list_is roles.Languages b was p d e = e
+list_is roles.Text b was p d e = refl
+
+set_strings : (is_other : Bool) (p : Position) → (with_set is_other p).strings ≡ p.strings
+set_strings true p = refl
+set_strings false p = refl
+
+noted_strings : (role : Role) (d : List ℕ) (p : Position) → (noted role d p).strings ≡ number_after role p.strings
+unfolding noted
+noted_strings roles.Device d p = refl
+noted_strings roles.Qualifier d p = refl
+noted_strings roles.Configuration d p = set_strings p.is_other p
+noted_strings roles.Association d p = refl
+noted_strings roles.Interface d p = refl
+noted_strings roles.Endpoint d p = refl
+noted_strings roles.Raw d p = refl
+noted_strings roles.Languages d p = refl
+noted_strings roles.Text d p = refl
+
+same_strings : (role : Role) (ahead : List ℕ) (p : Position) → (position_at role ahead p).strings ≡ p.strings
+same_strings roles.Device ahead p = refl
+same_strings roles.Configuration ahead p = refl
+same_strings roles.Association ahead p = refl
+same_strings roles.Interface ahead p = refl
+same_strings roles.Endpoint ahead p = refl
+same_strings roles.Raw ahead p = refl
+same_strings roles.Qualifier ahead p = refl
+same_strings roles.Languages ahead p = refl
+same_strings roles.Text ahead p = refl
+
+number_is : (b : List ℕ) (was : NzgDescriptor) (n : Numbered) → (as_numbers b was n).position.strings ≡ number_after n.role n.position.strings
+unfolding as_numbers
+number_is b was n = noted_strings n.role n.bytes n.position
+
+named_is : (b : List ℕ) (was : NzgDescriptor) (n : Numbered) → (as_numbers b was n).named ≡ fold with_index was.named (indices_of_role n.role n.bytes)
+unfolding as_numbers
+named_is b was n = refl
+
+behind_is : (b : List ℕ) (was : NzgDescriptor) (n : Numbered) → (as_numbers b was n).position ≡ next_position n
+unfolding as_numbers
+behind_is b was n = refl
+
+-- ---- all of them
+
+strings_zero : (b : List ℕ) (was : NzgDescriptor) (p : Position) (ahead : List ℕ) (words list : List ℕ) (number : ℕ)
+    → strings_among b (all_as_numbers b was (first_numbered zero p ahead)) ≡ strings_from words list number (map item_of (first_numbered zero p ahead))
+unfolding first_numbered
+strings_zero b was p ahead words list number = refl
+
+-- the strings behind a descriptor
+abbrev strings_behind : List ℕ → NzgDescriptor → List Numbered → List IndexedString
+strings_behind b was ns = strings_from was.named (list_at b was.languages_place) was.position.strings (map item_of ns)
+
+pub strings_same : (n : ℕ) (b : List ℕ) (was : NzgDescriptor) (o : Option (Role × ℕ)) → next_role was.position (drop was.position.at b) ≡ o
+    → let ns = first_numbered n was.position (drop was.position.at b) in strings_among b (all_as_numbers b was ns) ≡ strings_behind b was ns
+strings_same zero b was o is = strings_zero b was was.position (drop was.position.at b) was.named (list_at b was.languages_place) was.position.strings
+strings_same (suc n) b was None is =
+    let none = numbered_none (suc n) was.position (drop was.position.at b) is in
+    ap (λ ns. strings_among b (all_as_numbers b was ns)) none ∙ ap (strings_behind b was) (sym none)
+strings_same (suc n) b was (Some next) is =
+    let p = was.position in
+    let ahead = drop p.at b in
+    let m = numbered_next p ahead next in
+    let d = as_numbers b was m in
+    let q = next_position m in
+    let ns = first_numbered n q (drop next.1 ahead) in
+    let bounds = next_bounds p ahead next is in
+    let taken : length m.bytes ≡ next.1 = length-take-le next.1 ahead bounds.1 in
+    let first : slice_index m.bytes 0 ≡ next.1 = next_first p ahead next is in
+    let place : m.position.at ≡ p.at = same_at next.0 ahead p in
+    let at : q.at ≡ p.at + next.1 = omega (arith, noted_at next.0 m.bytes m.position, place, taken) in
+    let same : d.position ≡ q = behind_is b was m in
+    let after : drop d.position.at b ≡ drop next.1 ahead = ap (λ (q : Position). drop q.at b) same ∙ ap (λ k. drop k b) at ∙ sym (drop-drop next.1 p.at b) in
+    let later : first_numbered n d.position (drop d.position.at b) ≡ ns =
+    ap (λ l. first_numbered n d.position l) after ∙ ap (λ (q : Position). first_numbered n q (drop next.1 ahead)) same in
+    let bytes : take (slice_index m.bytes 0) (drop m.position.at b) ≡ m.bytes = ap (λ k. take k (drop m.position.at b)) first ∙ ap (λ k. take next.1 (drop k b)) place in
+    let head : slice_index ahead 0 ≡ slice_index m.bytes 0 = head_same next.1 ahead bounds.0 in
+    let list : list_at b m.position.at ≡ m.bytes = ap (λ k. list_at b k) place ∙ ap (λ k. take k ahead) (head ∙ first) in
+    let number : d.position.strings ≡ number_after next.0 p.strings = number_is b was m ∙ ap (number_after next.0) (same_strings next.0 ahead p) in
+    let rest : strings_among b (all_as_numbers b d ns) ≡ strings_behind b d ns =
+    subst (λ ns. strings_among b (all_as_numbers b d ns) ≡ strings_behind b d ns) later (strings_same n b d (next_role d.position (drop d.position.at b)) refl) in
+    let one = numbered_some n p ahead next is in
+    ap (λ ns. strings_among b (all_as_numbers b was ns)) one
+    ∙ here_is next.0 b was m.position m.bytes (all_as_numbers b d ns) bytes
+    ∙ ap (λ l. string_here next.0 was.named (list_at b was.languages_place) p.strings m.bytes ++ l)
+    (rest
+    ∙ ap (λ words. strings_from words (list_at b d.languages_place) d.position.strings (map item_of ns)) (named_is b was m)
+    ∙ ap (λ list. strings_from (fold with_index was.named (indices_of_role next.0 m.bytes)) list d.position.strings (map item_of ns)) (list_is next.0 b was m.position m.bytes list)
+    ∙ ap (λ number. strings_from (fold with_index was.named (indices_of_role next.0 m.bytes)) (list_after next.0 m.bytes (list_at b was.languages_place)) number (map item_of ns)) number)
+    ∙ ap (strings_behind b was) (sym one)
+  where
+    head_same : (n : ℕ) (l : List ℕ) → 2 ≤ n → slice_index l 0 ≡ slice_index (take n l) 0
+    head_same zero l some = absurd (omega (arith, some))
+    head_same (suc n) [] some = refl
+    head_same (suc n) (x ∷ l) some = refl
