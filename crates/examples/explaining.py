@@ -150,13 +150,16 @@ def quoted(units, utf8):
 
 
 def is_shown(c, utf8):
-    """Whether a character is written as it is. Beyond ASCII that is what Unicode calls no control, format, surrogate,
-    private use or separator, nor reserves among them, nor says to be no character."""
+    """Whether a character is written as it is. Beyond ASCII that is what Unicode 15.0 calls no control, format, surrogate,
+    private use or separator, nor leaves unassigned as ignorable by default, nor says to be no character."""
     if " " <= c <= "~":
         return c not in '"\\'
-    reserved = c == "\u2065" or "\ufff0" <= c <= "\ufff8" or "\U000e0000" <= c
+    ignorable = c == "\u2065" or "\ufff0" <= c <= "\ufff8" or "\U000e0000" <= c
+    # Format characters since 15.0, which Python may not know as such.
+    hieroglyphs = "\U00013430" <= c <= "\U0001343f"
     none = "\ufdd0" <= c <= "\ufdef" or ord(c) % 0x10000 >= 0xFFFE
-    return utf8 and unicodedata.category(c) not in ("Cc", "Cf", "Cs", "Co", "Zs", "Zl", "Zp") and not reserved and not none
+    hidden = unicodedata.category(c) in ("Cc", "Cf", "Cs", "Co", "Zs", "Zl", "Zp") or hieroglyphs
+    return utf8 and not hidden and not ignorable and not none
 
 
 def escaped(c):

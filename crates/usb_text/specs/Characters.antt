@@ -21,8 +21,8 @@ is_plain u = nat_le 32 u && nat_le u 126 && not ((u == 34) || (u == 92))
 unfoldable pub written_unit : ℕ → List ℕ
 written_unit u = if is_plain u then u ∷ [] else 92 ∷ encode_lower (two_bytes u)
 
--- The characters beyond ASCII that are shown as they are: none that steers a text, or leaves no mark in it (Unicode, the general
--- categories of chapter 4.5 and the noncharacters of chapter 23.7).
+-- The characters beyond ASCII that are shown as they are: none that steers a text, or leaves no mark in it (Unicode 15.0, the general
+-- categories of chapter 4.5, the noncharacters of chapter 23.7, and Default_Ignorable_Code_Point of what is unassigned).
 
 -- the code points from the first to the last
 abbrev pub range : ℕ → ℕ → CodeRange
@@ -32,8 +32,8 @@ range first last = record { first = first; last = last }
 abbrev pub has_code : ℕ → CodeRange → Bool
 has_code code codes = nat_le codes.first code && nat_le code codes.last
 
--- Format characters (Cf), spaces (Zs), ends of lines and paragraphs (Zl, Zp), surrogates (Cs), private use (Co) and noncharacters,
--- with what is reserved among them
+-- Format characters (Cf), spaces (Zs), ends of lines and paragraphs (Zl, Zp), surrogates (Cs), private use (Co), noncharacters, and
+-- code points that are unassigned (Cn) and default ignorable
 abbrev pub hidden : List CodeRange
 hidden =
     range 0x00AD 0x00AD  -- soft hyphen (Cf)
@@ -47,13 +47,13 @@ hidden =
     ∷ range 0x180E 0x180E  -- Mongolian vowel separator (Cf)
     ∷ range 0x2000 0x200F  -- spaces (Zs), and marks of no width and of direction (Cf)
     ∷ range 0x2028 0x202F  -- ends (Zl, Zp), embeddings of direction (Cf), and a space (Zs)
-    ∷ range 0x205F 0x206F  -- a space (Zs), invisible operators and isolates of direction (Cf)
+    ∷ range 0x205F 0x206F  -- a space (Zs), invisible operators and isolates of direction (Cf), and 2065 (Cn, default ignorable)
     ∷ range 0x3000 0x3000  -- ideographic space (Zs)
     ∷ range 0xD800 0xDFFF  -- surrogates (Cs)
     ∷ range 0xE000 0xF8FF  -- private use (Co)
     ∷ range 0xFDD0 0xFDEF  -- noncharacters
     ∷ range 0xFEFF 0xFEFF  -- byte order mark (Cf)
-    ∷ range 0xFFF0 0xFFFB  -- reserved, and marks of annotations (Cf)
+    ∷ range 0xFFF0 0xFFFB  -- up to FFF8 unassigned and default ignorable (Cn), and marks of annotations (Cf)
     ∷ range 0x1_10BD 0x1_10BD  -- Kaithi number sign (Cf)
     ∷ range 0x1_10CD 0x1_10CD  -- Kaithi number sign above (Cf)
     ∷ range 0x1_3430 0x1_343F  -- joiners of hieroglyphs (Cf)

@@ -21,7 +21,8 @@ pub fn is_plain(unit: u16) -> bool
     (0x20..=0x7e).contains(&unit) && unit != 0x22 && unit != 0x5c
 }
 
-/// Puts the units of a string, with `utf8` those beyond ASCII as characters, but for what could steer a terminal.
+/// Puts the units of a string, with `utf8` those beyond ASCII as characters, but for what could steer a terminal or leaves no
+/// mark (Unicode 15.0).
 ///
 /// ```rust
 /// put_units(&mut text, true, &[0x43, 0x61, 0x66, 0xe9, 0x202e])?;

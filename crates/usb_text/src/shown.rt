@@ -24,7 +24,7 @@ const fn range(first: u32, last: u32) -> CodeRange
     CodeRange { first, last }
 }
 
-/// Code points of the Basic Multilingual Plane and the next that steer a text or leave no mark in it.
+/// Code points of the Basic Multilingual Plane and the next that steer a text or leave no mark in it, by Unicode 15.0.
 fn is_hidden(code: u32) -> bool
     ensures { result ≡ list_any (has_code code) hidden }
 {

@@ -153,7 +153,7 @@ pub(crate) const NO_PLACES_HELP: &str = "Leaves the places out";
 
 /// What `--utf8` says.
 pub(crate) const UTF8_HELP: &str =
-    "Writes characters beyond ASCII as they are, but for those that steer a terminal";
+    "Writes characters beyond ASCII as they are (Unicode 15.0), but for those that steer a terminal";
 
 /// What `--hex` says.
 pub(crate) const HEX_HELP: &str = "Takes nothing but hexadecimal text";
