@@ -276,20 +276,32 @@ def class_remarks(class_):
 
 
 def proves_high(kind, size):
-    most = {1: 1023, 3: 64}.get(kind)
-    return (kind == 2 and size % 2048 == 512) or (most is not None and (size % 2048 > most or size & 0x1800 != 0))
+    """By the size and bits 12 to 11 of wMaxPacketSize, as far as table 9-14 has them together."""
+    size, more = size & 0x7FF, size >> 11 & 3
+    counts = (more == 1 and 513 <= size <= 1024) or (more == 2 and 683 <= size <= 1024)
+    return {1: size > 1023 or counts, 2: size == 512, 3: size > 64}.get(kind, False)
 
 
-def speed_by(descriptors, known, packet, other):
-    """The speed of descriptors of a set: what is known of it, bMaxPacketSize0, and the device's other speed if it has
-    one, a speed or None."""
+def is_super_device(d):
+    return little(d[2:4]) >= 0x0300 and d[7] == 9
+
+
+def is_high_hub(d):
+    """Of a device or a qualifier."""
+    return d[4] == 9 and d[6] in (1, 2)
+
+
+def speed_by(descriptors, known, facts, other):
+    """The speed of descriptors of a set: what is known of it, the device or the qualifier before it, and the device's
+    other speed if it has one, a speed or None."""
+    packet = facts and facts[7]
     ends = [(d[3] % 4, little(d[4:6]), d[6]) for d in descriptors if d[1] == 5 and len(d) >= 7]
     has_other, other = other
     if known:
         speed = known
     elif packet not in (None, 64):
         speed = LOW_OR_FULL
-    elif any(d[1] == 0x30 for d in descriptors):
+    elif facts is None and any(d[1] == 0x30 for d in descriptors):
         speed = SUPER
     elif any(proves_high(kind, size) for kind, size, _ in ends):
         speed = HIGH
@@ -297,11 +309,14 @@ def speed_by(descriptors, known, packet, other):
         speed = FULL
     elif other in OTHER_SPEED:
         speed = OTHER_SPEED[other]
+    elif facts and facts[1] == 1 and little(facts[2:4]) >= 0x0300:
+        speed = HIGH
     elif any(kind == 3 and interval > 16 for kind, _, interval in ends):
         speed = LOW_OR_FULL
     else:
         speed = FULL_OR_HIGH
-    above_low = has_other or (packet or 0) > 8 or any(kind in (1, 2) or size % 2048 > 8 for kind, size, _ in ends)
+    is_hub = (facts and facts[4] == 9) or any(d[1] == 4 and len(d) >= 9 and d[5] == 9 for d in descriptors)
+    above_low = has_other or is_hub or (packet or 0) > 8 or any(kind in (1, 2) or size % 2048 > 8 for kind, size, _ in ends)
     return FULL if speed == LOW_OR_FULL and above_low else speed
 
 
@@ -392,7 +407,7 @@ class Explanation:
             self.found = {tuple(line.split()) for line in lines if line != "no findings"}
             if kind == "file":
                 self.find_names()
-        self.device, self.qualifier, self.languages, self.other = None, None, None, (False, None)
+        self.device, self.qualifier, self.languages, self.own, self.other = None, None, None, None, (False, None)
         self.sets = {"main": 0, "other": 0}
         self.strings = 0
 
@@ -461,7 +476,7 @@ class Explanation:
     # Descriptors
 
     def is_super(self):
-        return self.asked == "super" or (self.asked is None and little(self.device[2:4]) >= 0x0300)
+        return self.asked == "super" or (self.asked is None and is_super_device(self.device))
 
     def device_packet(self, n):
         if not self.is_super():
@@ -480,7 +495,7 @@ class Explanation:
 
     def of_device(self, d, at):
         self.device = d
-        self.other = self.find_other(self.limit)
+        self.find_speeds(self.limit)
         usb, codes = little(d[2:4]), d[4:7]
         text = f"device {little(d[8:10]):04x}:{little(d[10:12]):04x}, USB {bcd(usb)}, {class_words(codes)}"
         self.heading(0, text, at, len(d))
@@ -506,29 +521,37 @@ class Explanation:
         self.fields(0, [*fields, ("bMaxPacketSize0", d[7]), ("bNumConfigurations", d[8]), ("bReserved", byte(d[9]))])
 
     def speed_of(self, descriptors):
-        given = AT.get(self.asked)
         if self.device is None:
-            return speed_by(descriptors, given, None, (False, None))
+            return speed_by(descriptors, AT.get(self.asked), None, (False, None))
         if self.qualifier is not None:
-            return speed_by(descriptors, OTHER_SPEED.get(given), self.qualifier[7], (True, None))
-        usb, class_, protocol, packet = little(self.device[2:4]), self.device[4], self.device[6], self.device[7]
-        if not given and usb >= 0x0300:
+            return self.speed_after(self.qualifier, descriptors, OTHER_SPEED.get(AT.get(self.asked)), self.own)
+        return self.speed_before(descriptors, self.other)
+
+    def speed_before(self, descriptors, other):
+        """Of descriptors before the qualifier, where there is one."""
+        given, usb = AT.get(self.asked), little(self.device[2:4])
+        if not given and is_super_device(self.device):
             given = SUPER
         elif not given and usb < 0x0200:
             given = LOW_OR_FULL
-        elif not given and class_ == 9 and protocol in (1, 2):
+        elif not given and is_high_hub(self.device):
             given = HIGH
-        return speed_by(descriptors, given, packet, self.other)
+        return speed_by(descriptors, given, self.device, other)
 
-    def find_other(self, limit):
-        """Whether a qualifier comes after as many sets as the device has, and the speed that its sets have by their own."""
+    def speed_after(self, qualifier, descriptors, given, own):
+        return speed_by(descriptors, given or (HIGH if is_high_hub(qualifier) else None), qualifier, (True, own))
+
+    def find_speeds(self, limit):
+        """The speed of the device's own sets, and whether a qualifier comes after as many sets as it has, with the speed of
+        the sets after that; each by what comes on its side alone."""
         at = 18
         for _ in range(self.device[17]):
             at += little(self.data[at + 2 : min(at + 4, limit)])
-        if at + 10 > limit or self.data[at : at + 2] != b"\x0a\x06":
-            return False, None
-        sets = [d for _, d in cut(self.data, at + 10, limit)]
-        return True, speed_by(sets, None, self.data[at + 7], (True, None))
+        self.own = self.speed_before([d for _, d in cut(self.data, 18, min(at, limit))], (True, None))
+        self.other = False, None
+        if at + 10 <= limit and self.data[at : at + 2] == b"\x0a\x06":
+            sets = [d for _, d in cut(self.data, at + 10, limit)]
+            self.other = True, self.speed_after(self.data[at : at + 10], sets, None, None)
 
     def of_set(self, at, limit):
         """The set at this place, as far as it goes; answers where what is left of the input begins."""

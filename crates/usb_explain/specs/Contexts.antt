@@ -1,5 +1,5 @@
 -- What is known of a descriptor at its place beside its bytes.
-use Rattle.std.specs.Prelude.{ℕ, List, length, Bool, true, false, nat_le, ◌-◌, ◌==◌, take, Option, Some, None, if◌then◌else◌}
+use Rattle.std.specs.Prelude.{ℕ, List, length, slice_index, Bool, true, false, nat_le, ◌-◌, ◌==◌, take, Option, Some, None, if◌then◌else◌}
 use Rattle.usb_fields.specs.Bytes.{little_endian_at}
 use Rattle.usb_names.specs.declared.codes.ClassCodes.{ClassCodes}
 use Rattle.usb_explain.specs.declared.speed.SetSpeed.{SetSpeed}
@@ -8,16 +8,17 @@ use Rattle.usb_explain.specs.declared.role.Role.{Role}
 use Rattle.usb_explain.specs.declared.role.Role.TheVariants.{Device, Configuration, Association, Interface, Endpoint, Raw}
 use Rattle.usb_explain.specs.declared.position.Position.{Position}
 use Rattle.usb_explain.specs.declared.standing.Standing.{Standing}
+use Rattle.usb_explain.specs.SetSpeeds.{is_super_device}
 
--- a device of SuperSpeed: it ran so, or bcdUSB is 0300 or more
-abbrev pub is_super : Option SetSpeed → ℕ → Bool
-is_super None usb = nat_le 0x0300 usb
-is_super (Some Super) usb = true
-is_super (Some running) usb = false
+-- a device of SuperSpeed: it ran so, or its descriptor is one of SuperSpeed
+abbrev pub is_super : Option SetSpeed → ℕ → ℕ → Bool
+is_super None usb packet = is_super_device usb packet
+is_super (Some Super) usb packet = true
+is_super (Some running) usb packet = false
 
 -- its speed: that of the device, or of its set
 abbrev pub speed_of : Option SetSpeed → Standing → Role → List ℕ → SetSpeed
-speed_of running s Device d = if is_super running (little_endian_at d 2) then Super else FullOrHigh
+speed_of running s Device d = if is_super running (little_endian_at d 2) (slice_index d 7) then Super else FullOrHigh
 speed_of running s _ d = s.speed
 
 -- what the interface is that a descriptor follows

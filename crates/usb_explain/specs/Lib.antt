@@ -21,6 +21,7 @@ pub mod Speeds
 pub mod Bindings
 pub mod Headers
 pub mod SetSpeeds
+pub mod DeviceFacts
 pub mod StringNames
 pub mod Forms
 pub mod Layouts

@@ -1,29 +1,28 @@
 -- What came before a descriptor in an input, and what has come after it.
-use Rattle.std.specs.Prelude.{ℕ, List, slice_index, replicate, Some, None}
-use Rattle.usb_fields.specs.Bytes.{little_endian_at}
+use Rattle.std.specs.Prelude.{ℕ, List, replicate, Some, None}
 use Rattle.usb_explain.specs.declared.role.Role.{Role}
 use Rattle.usb_explain.specs.declared.role.Role.TheVariants.{Device, Qualifier}
 use Rattle.usb_explain.specs.declared.speed.SetSpeed.TheVariants.{FullOrHigh}
 use Rattle.usb_explain.specs.declared.standing.Standing.{Standing}
 use Rattle.usb_explain.specs.Positions.{first_position, position_after}
-use Rattle.usb_explain.specs.SetSpeeds.{speed_of_device}
+use Rattle.usb_explain.specs.DeviceFacts.{facts_of_device, facts_of_qualifier}
 
 -- at the first byte of an input
 unfoldable pub start : Standing
 start = record {
   position = first_position;
   device = None;
+  own_speed = FullOrHigh;
   other_speed = None;
-  other_packet = None;
+  qualifier = None;
   speed = FullOrHigh;
   bindings = replicate 256 None;
 }
 
 -- what a device and its qualifier say of the speeds of their sets
 abbrev pub kept : Role → List ℕ → Standing → Standing
-kept Device d s =
-    record s { device = Some (record { speed = speed_of_device (little_endian_at d 2) (slice_index d 4) (slice_index d 6); packet = slice_index d 7 }) }
-kept Qualifier d s = record s { other_packet = Some (slice_index d 7) }
+kept Device d s = record s { device = Some (facts_of_device d) }
+kept Qualifier d s = record s { qualifier = Some (facts_of_qualifier d) }
 kept _ d s = s
 
 -- after a descriptor of this role

@@ -5,9 +5,10 @@ ghost use Rattle.usb_explain.specs.Contexts.{codes_of, depth_of, is_super, rest_
 
 use crate::position::Position;
 use crate::role::Role;
+use crate::set_speed::is_super_device;
 use crate::speed::SetSpeed;
 use crate::standing::Standing;
-use usb_fields::{prefix, word_at};
+use usb_fields::{byte_at, prefix, word_at};
 use usb_names::ClassCodes;
 
 impl Standing {
@@ -16,7 +17,7 @@ impl Standing {
         ensures { result ≡ speed_of running self.now role d.now }
     {
         match role {
-            Role::Device if is_super(running, word_at(d, 2)) => SetSpeed::Super,
+            Role::Device if is_super(running, word_at(d, 2), byte_at(d, 7)) => SetSpeed::Super,
             Role::Device => SetSpeed::FullOrHigh,
             _ => self.speed,
         }
@@ -73,12 +74,12 @@ impl Position {
     }
 }
 
-/// Whether a device of this bcdUSB is one of SuperSpeed.
-fn is_super(running: Option<SetSpeed>, usb: u16) -> bool
-    ensures { result ≡ is_super running usb }
+/// Whether a device of this bcdUSB and bMaxPacketSize0 is one of SuperSpeed.
+fn is_super(running: Option<SetSpeed>, usb: u16, packet: u8) -> bool
+    ensures { result ≡ is_super running usb packet }
 {
     match running {
-        None => usb >= 0x0300,
+        None => is_super_device(usb, packet),
         Some(SetSpeed::Super) => true,
         Some(_) => false,
     }

@@ -22,6 +22,7 @@ mod bits;
 mod context;
 mod descriptor;
 mod descriptor_lines;
+mod device_facts;
 mod endpoint;
 mod explanation;
 mod fault_line;

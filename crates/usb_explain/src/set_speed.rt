@@ -1,6 +1,6 @@
 //! The speed of a set.
 ghost use Rattle.std.specs.Prelude.{◌≡◌, option_and_then};
-ghost use Rattle.usb_explain.specs.SetSpeeds.{decided_speed, hinted_speed, low_is_excluded, is_high_hub, packet_excludes_low, other_speed, proved_speed, speed_by, speed_of_device, speed_of_packet, without_low};
+ghost use Rattle.usb_explain.specs.SetSpeeds.{decided_speed, hinted_speed, low_is_excluded, is_high_hub, is_super_device, packet_excludes_low, other_speed, proved_speed, release_hint, speed_by, speed_of_device, speed_of_hub, speed_of_packet, without_low};
 
 use crate::speed::SetSpeed;
 use crate::speed_evidence::Evidence;
@@ -14,6 +14,10 @@ pub(crate) struct Background {
     pub(crate) packet: Option<u8>,
     /// The other speed of the device, as far as it is known, where it has one.
     pub(crate) other: Option<SetSpeed>,
+    /// Whether the device is a hub, which is never of low speed.
+    pub(crate) is_hub: bool,
+    /// The speed at which bcdUSB hints.
+    pub(crate) hinted: Option<SetSpeed>,
 }
 
 /// The other speed of a device of full and high speed, which runs at one of the two.
@@ -27,16 +31,43 @@ pub(crate) fn other_speed(speed: SetSpeed) -> Option<SetSpeed>
     }
 }
 
-/// The speed of a device's own sets by bcdUSB, bDeviceClass and bDeviceProtocol, where these leave no choice (9.6.1, 11.23.1;
-/// USB 3.2, 9.6.1).
-pub(crate) fn speed_of_device(usb: u16, class: u8, protocol: u8) -> Option<SetSpeed>
-    ensures { result ≡ speed_of_device usb class protocol }
+/// The speed of a device's own sets by bcdUSB, bDeviceClass, bDeviceProtocol and bMaxPacketSize0, where these leave no choice
+/// (9.6.1, 11.23.1; USB 3.2, 9.6.1).
+pub(crate) fn speed_of_device(usb: u16, class: u8, protocol: u8, packet: u8) -> Option<SetSpeed>
+    ensures { result ≡ speed_of_device usb class protocol packet }
 {
-    if usb >= 0x0300 {
+    if is_super_device(usb, packet) {
         Some(SetSpeed::Super)
     } else if usb < 0x0200 {
         Some(SetSpeed::LowOrFull)
-    } else if is_high_hub(class, protocol) {
+    } else {
+        speed_of_hub(class, protocol)
+    }
+}
+
+/// A device that runs at SuperSpeed has bMaxPacketSize0 9 and no other (USB 3.2, 9.6.1).
+pub(crate) fn is_super_device(usb: u16, packet: u8) -> bool
+    ensures { result ≡ is_super_device usb packet }
+{
+    usb >= 0x0300 && packet == 9
+}
+
+/// The speed of a hub by its class and protocol, where it is high speed (11.23.1).
+pub(crate) fn speed_of_hub(class: u8, protocol: u8) -> Option<SetSpeed>
+    ensures { result ≡ speed_of_hub class protocol }
+{
+    if is_high_hub(class, protocol) {
+        Some(SetSpeed::High)
+    } else {
+        None
+    }
+}
+
+/// The speed at which bcdUSB hints: a device of SuperSpeed that runs at another speed runs at high speed.
+pub(crate) fn release_hint(usb: u16) -> Option<SetSpeed>
+    ensures { result ≡ release_hint usb }
+{
+    if usb >= 0x0300 {
         Some(SetSpeed::High)
     } else {
         None
@@ -51,7 +82,7 @@ fn is_high_hub(class: u8, protocol: u8) -> bool
 }
 
 /// The speed of a set. The first of these decides: the speed that is known; bMaxPacketSize0, which is 64 at high speed; what
-/// its descriptors prove; the device's other speed; an interval. Low or full speed is full speed where low speed is
+/// its descriptors prove; the device's other speed; bcdUSB; an interval. Low or full speed is full speed where low speed is
 /// excluded (5.5.3).
 pub(crate) fn speed_by(background: Background, evidence: Evidence) -> SetSpeed
     ensures { result ≡ speed_by background evidence }
@@ -67,10 +98,10 @@ fn decided_speed(background: Background, evidence: Evidence) -> SetSpeed
 {
     let known = background.known.or(speed_of_packet(background.packet));
     let decided = known
-        .or(proved_speed(evidence))
+        .or(proved_speed(background.packet, evidence))
         .or(speed_beside(background.other));
     match decided {
-        None => hinted_speed(evidence),
+        None => hinted_speed(background.hinted, evidence),
         Some(speed) => speed,
     }
 }
@@ -88,7 +119,10 @@ fn speed_beside(other: Option<SetSpeed>) -> Option<SetSpeed>
 fn low_is_excluded(background: Background, evidence: Evidence) -> bool
     ensures { result ≡ low_is_excluded background evidence }
 {
-    background.other.is_some() || packet_excludes_low(background.packet) || evidence.above_low
+    background.other.is_some()
+        || background.is_hub
+        || packet_excludes_low(background.packet)
+        || evidence.above_low
 }
 
 fn packet_excludes_low(packet: Option<u8>) -> bool
@@ -124,10 +158,11 @@ fn speed_of_packet(packet: Option<u8>) -> Option<SetSpeed>
     }
 }
 
-fn proved_speed(evidence: Evidence) -> Option<SetSpeed>
-    ensures { result ≡ proved_speed evidence }
+/// The speed that descriptors prove. A companion proves nothing of a set whose device isn't of SuperSpeed.
+fn proved_speed(packet: Option<u8>, evidence: Evidence) -> Option<SetSpeed>
+    ensures { result ≡ proved_speed packet evidence }
 {
-    if evidence.companion {
+    if evidence.companion && packet.is_none() {
         Some(SetSpeed::Super)
     } else if evidence.high {
         Some(SetSpeed::High)
@@ -138,12 +173,17 @@ fn proved_speed(evidence: Evidence) -> Option<SetSpeed>
     }
 }
 
-fn hinted_speed(evidence: Evidence) -> SetSpeed
-    ensures { result ≡ hinted_speed evidence }
+fn hinted_speed(hinted: Option<SetSpeed>, evidence: Evidence) -> SetSpeed
+    ensures { result ≡ hinted_speed hinted evidence }
 {
-    if evidence.slow {
-        SetSpeed::LowOrFull
-    } else {
-        SetSpeed::FullOrHigh
+    match hinted {
+        Some(speed) => speed,
+        None => {
+            if evidence.slow {
+                SetSpeed::LowOrFull
+            } else {
+                SetSpeed::FullOrHigh
+            }
+        }
     }
 }

@@ -1,9 +1,9 @@
 //! Evidence of the speed of a set, in its descriptors.
 ghost use Rattle.std.specs.Prelude.{◌≡◌, ◌∷◌, ℕ, List, false};
-ghost use Rattle.usb_explain.specs.SetSpeeds.{excludes_low, has_multiple, hints_low_or_full, is_above_low, is_companion, is_full, is_high, is_slow, proves_full, proves_high};
+ghost use Rattle.usb_explain.specs.SetSpeeds.{excludes_low, has_multiple, hints_low_or_full, is_above_low, is_companion, is_full, is_high, is_hub_interface, is_slow, is_within, proves_full, proves_high};
 ghost use Rattle.usb_explain.specs.inside.Walking.{Hears};
 
-use crate::role::is_endpoint;
+use crate::role::{is_endpoint, is_interface};
 use usb_fields::{byte_at, word_at};
 use usb_set::TransferType;
 
@@ -16,7 +16,7 @@ pub(crate) struct Evidence {
     pub(crate) high: bool,
     /// An endpoint that only full speed has.
     pub(crate) full: bool,
-    /// An endpoint that low speed can't have.
+    /// An endpoint or an interface that low speed can't have.
     pub(crate) above_low: bool,
     /// An interval that hints at low or full speed.
     pub(crate) slow: bool,
@@ -70,7 +70,15 @@ fn proves_full(d: &[u8]) -> bool
 fn excludes_low(d: &[u8]) -> bool
     ensures { result ≡ excludes_low d.now }
 {
-    is_endpoint(d) && is_above_low(TransferType::of(byte_at(d, 3)), word_at(d, 4))
+    is_hub_interface(d)
+        || is_endpoint(d) && is_above_low(TransferType::of(byte_at(d, 3)), word_at(d, 4))
+}
+
+/// An interface of a hub, which is never of low speed (USB 2.0, chapter 11).
+fn is_hub_interface(d: &[u8]) -> bool
+    ensures { result ≡ is_hub_interface d.now }
+{
+    is_interface(d) && byte_at(d, 5) == 9
 }
 
 fn hints_low_or_full(d: &[u8]) -> bool
@@ -86,15 +94,27 @@ fn is_high(transfer: TransferType, max_packet: u16) -> bool
     match transfer {
         TransferType::Control => false,
         TransferType::Bulk => size == 512,
-        TransferType::Interrupt => size > 64 || has_multiple(max_packet),
+        TransferType::Interrupt => size > 64,
         TransferType::Isochronous => size > 1023 || has_multiple(max_packet),
     }
 }
 
+/// Whether a microframe has more than one packet of this size (9.6.6, table 9-14).
 fn has_multiple(max_packet: u16) -> bool
     ensures { result ≡ has_multiple max_packet }
 {
-    max_packet / 2048 % 4 != 0
+    let size = max_packet % 2048;
+    match max_packet / 2048 % 4 {
+        1 => is_within(513, 1024, size),
+        2 => is_within(683, 1024, size),
+        _ => false,
+    }
+}
+
+fn is_within(least: u16, most: u16, size: u16) -> bool
+    ensures { result ≡ is_within least most size }
+{
+    least <= size && size <= most
 }
 
 fn is_full(transfer: TransferType, max_packet: u16) -> bool

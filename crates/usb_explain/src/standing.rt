@@ -4,20 +4,10 @@ ghost use Rattle.usb_explain.specs.Standings.{kept, passed, start};
 ghost use Rattle.usb_explain.specs.inside.Walking.{Counted};
 
 use crate::bindings::Bindings;
+use crate::device_facts::DeviceFacts;
 use crate::position::Position;
 use crate::role::Role;
-use crate::set_speed::speed_of_device;
 use crate::speed::SetSpeed;
-use usb_fields::{byte_at, word_at};
-
-/// What of a device descriptor the rest of the input depends on.
-#[derive(Clone, Copy)]
-pub(crate) struct DeviceFacts {
-    /// The speed of its own sets, where its descriptor leaves no choice.
-    pub(crate) speed: Option<SetSpeed>,
-    /// bMaxPacketSize0.
-    pub(crate) packet: u8,
-}
 
 /// What came before a descriptor, as far as its explanation depends on it.
 #[derive(Drop)]
@@ -26,10 +16,12 @@ pub(crate) struct Standing {
     pub(crate) position: Position,
     /// The device.
     pub(crate) device: Option<DeviceFacts>,
+    /// The speed of the device's own sets, as far as they and the device descriptor say.
+    pub(crate) own_speed: SetSpeed,
     /// The device's other speed, where a qualifier comes.
     pub(crate) other_speed: Option<SetSpeed>,
-    /// bMaxPacketSize0 of the qualifier.
-    pub(crate) other_packet: Option<u8>,
+    /// The qualifier.
+    pub(crate) qualifier: Option<DeviceFacts>,
     /// The speed of the set, or of the last one before it.
     pub(crate) speed: SetSpeed,
     /// Which association of the whole set binds each interface.
@@ -46,8 +38,9 @@ impl Standing {
         Standing {
             position: Position::start(),
             device: None,
+            own_speed: SetSpeed::FullOrHigh,
             other_speed: None,
-            other_packet: None,
+            qualifier: None,
             speed: SetSpeed::FullOrHigh,
             bindings: Bindings::new(),
         }
@@ -68,13 +61,8 @@ impl Standing {
         ensures { self.new ≡ kept role d.now self.old }
     {
         match role {
-            Role::Device => {
-                self.device = Some(DeviceFacts {
-                    speed: speed_of_device(word_at(d, 2), byte_at(d, 4), byte_at(d, 6)),
-                    packet: byte_at(d, 7),
-                });
-            }
-            Role::Qualifier => self.other_packet = Some(byte_at(d, 7)),
+            Role::Device => self.device = Some(DeviceFacts::of_device(d)),
+            Role::Qualifier => self.qualifier = Some(DeviceFacts::of_qualifier(d)),
             _ => {}
         }
     }
