@@ -17,3 +17,4 @@ pub mod FieldSteps
 pub mod FieldsCover
 pub mod TableWords
 pub mod RemarksShown
+pub mod SettingSteps

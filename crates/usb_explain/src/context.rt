@@ -17,7 +17,7 @@ impl Standing {
     {
         match role {
             Role::Device if is_super(running, word_at(d, 2)) => SetSpeed::Super,
-            Role::Device => SetSpeed::FullOrHigh,
+            Role::Device => running.unwrap_or(SetSpeed::FullOrHigh),
             _ => self.speed,
         }
     }

@@ -1,6 +1,6 @@
 //! What came before a descriptor in an input.
 ghost use Rattle.std.specs.Prelude.{◌≡◌, ◌+◌, ◌<◌, ◌^◌, length};
-ghost use Rattle.usb_explain.specs.Standings.{kept, passed, start};
+ghost use Rattle.usb_explain.specs.Standings.{device_codes, kept, passed, start};
 ghost use Rattle.usb_explain.specs.inside.Walking.{Counted};
 
 use crate::bindings::Bindings;
@@ -9,6 +9,7 @@ use crate::role::Role;
 use crate::set_speed::speed_of_device;
 use crate::speed::SetSpeed;
 use usb_fields::{byte_at, word_at};
+use usb_names::ClassCodes;
 
 /// What of a device descriptor the rest of the input depends on.
 #[derive(Clone, Copy)]
@@ -30,6 +31,8 @@ pub(crate) struct Standing {
     pub(crate) other_speed: Option<SetSpeed>,
     /// bMaxPacketSize0 of the qualifier.
     pub(crate) other_packet: Option<u8>,
+    /// Class, subclass and protocol of the device, or of the qualifier once it came.
+    pub(crate) codes: Option<ClassCodes>,
     /// The speed of the set, or of the last one before it.
     pub(crate) speed: SetSpeed,
     /// Which association of the whole set binds each interface.
@@ -48,6 +51,7 @@ impl Standing {
             device: None,
             other_speed: None,
             other_packet: None,
+            codes: None,
             speed: SetSpeed::FullOrHigh,
             bindings: Bindings::new(),
         }
@@ -63,7 +67,7 @@ impl Standing {
         self.position.pass(role, d);
     }
 
-    /// Keeps what a device and its qualifier say of the speeds of their sets.
+    /// Keeps what a device and its qualifier are, and what they say of the speeds of their sets.
     fn keep(&mut self, role: Role, d: &[u8])
         ensures { self.new ≡ kept role d.now self.old }
     {
@@ -73,9 +77,24 @@ impl Standing {
                     speed: speed_of_device(word_at(d, 2), byte_at(d, 4), byte_at(d, 6)),
                     packet: byte_at(d, 7),
                 });
+                self.codes = Some(device_codes(d));
             }
-            Role::Qualifier => self.other_packet = Some(byte_at(d, 7)),
+            Role::Qualifier => {
+                self.other_packet = Some(byte_at(d, 7));
+                self.codes = Some(device_codes(d));
+            }
             _ => {}
         }
+    }
+}
+
+/// Class, subclass and protocol of a device or of a qualifier.
+fn device_codes(d: &[u8]) -> ClassCodes
+    ensures { result ≡ device_codes d.now }
+{
+    ClassCodes {
+        class: byte_at(d, 4),
+        subclass: byte_at(d, 5),
+        protocol: byte_at(d, 6),
     }
 }
