@@ -28,13 +28,13 @@ def printed(path, name):
 
 
 # What is put in a line beside words, and how a table shows it.
-PUT = {"put_decimal": "N", "put_a_type": "a TYPE", "speed.words": "SPEED"}
+PUT = {"put_decimal": "N", "put_a_type": "a TYPE", "put_sizes": "SIZES", "speed.words": "SPEED"}
 
 
 def texts_of(arm):
     """The texts that an arm puts: one of its words and numbers, and one of each that it names."""
     texts, arm = [""], re.sub(r'if [^{]*\{ "[^"]*" \} else', "", arm)
-    for named, count, unit, word, value in re.findall(r'(let \w+ = )|(put_count)\([^"]*"(\w+)"|"([^"]*)"|(put_decimal|put_a_type|speed\.words)\(', arm):
+    for named, count, unit, word, value in re.findall(r'(let \w+ = )|(put_count)\([^"]*"(\w+)"|"([^"]*)"|(put_decimal|put_a_type|put_sizes|speed\.words)\(', arm):
         if named:
             texts.append("")
         texts[-1] += f"N {unit}s" if count else word or PUT.get(value, "")
@@ -42,10 +42,14 @@ def texts_of(arm):
 
 
 def lines(path, name, code):
-    """What each variant says in an explanation: the arms of the file that puts the lines."""
-    rows = ["| What | Text |", "|---|---|"]
+    """What each variant says in an explanation, with its number if it has one: the arms of the file that puts the lines."""
+    rows = []
     arms = dict(re.findall(rf"^        {name}::(\w+)(.*?)(?=^        \w+::|^    \}})", sources.text_of(f"crates/{code}.rt"), flags=re.S | re.M))
-    for _, variant, said in variants_of(sources.text_of(f"crates/{path}.rt"), name):
-        if texts_of(arms[variant]):
-            rows.append(f"| {said} | {', '.join(f'`{text}`' for text in texts_of(arms[variant]))} |")
-    return "\n".join(rows)
+    for number, variant, said in variants_of(sources.text_of(f"crates/{path}.rt"), name):
+        texts = ", ".join(f"`{text}`" for text in texts_of(arms.get(variant, "")))
+        if number is not None:
+            rows.append(f"| R{number} | {said} | {texts or 'below'} |")
+        elif texts:
+            rows.append(f"| {said} | {texts} |")
+    head = ["| No. | What | Text |", "|---|---|---|"] if rows[0].startswith("| R") else ["| What | Text |", "|---|---|"]
+    return "\n".join(head + rows)

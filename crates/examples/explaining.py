@@ -275,6 +275,76 @@ def class_remarks(class_):
     return ["class 0x00 is reserved for future use"] if class_ == 0 else []
 
 
+# The releases of USB: 2.01 and 2.1 have a BOS, and 2.5 is Wireless USB.
+RELEASES = ("1.00", "1.10", "2.00", "2.01", "2.10", "2.50", "3.00", "3.10", "3.20")
+# bMaxPacketSize0 by speed: at SuperSpeed it is an exponent.
+FIRST_PACKETS = {LOW: "8", FULL: "8, 16, 32 or 64", HIGH: "64", SUPER: "9"}
+
+
+def device_remarks(usb, packet, sets, speed):
+    """Of a device; of a qualifier nothing is known of the packet, and of an input that has findings nothing of the sets."""
+    if bcd(usb) not in RELEASES:
+        yield "bcdUSB is no release of USB"
+    right = FIRST_PACKETS.get(speed)
+    if packet is not None and right and str(packet) not in right.replace(",", "").split():
+        yield f"bMaxPacketSize0 is {right} at {speed}"
+    if sets == 0:
+        yield "bNumConfigurations is 0"
+
+
+def power_remarks(milliamperes, speed):
+    most = 1500 if speed == SUPER else 500
+    if milliamperes > most:
+        yield f"bMaxPower is {milliamperes} mA, and a device draws at most {most} mA"
+
+
+def association_remarks(device):
+    """Of an association, with the device descriptor or the qualifier before it."""
+    if device and tuple(device[4:7]) != (0xEF, 2, 1):
+        yield "a device with associations is of class 0xef, subclass 0x02, protocol 0x01"
+
+
+def interface_remarks(d, own):
+    """Of an interface, with the descriptors up to the next one, or None where the set isn't all there."""
+    class_, subclass, protocol = d[5:8]
+    if own is None:
+        return
+    if class_ == 3 and all(x[1] != 0x21 for x in own):
+        yield "a HID interface has a HID descriptor"
+    if class_ == 8 and protocol == 0x50:
+        ways = {x[2] >> 7 for x in own if x[1] == 5 and len(x) >= 7 and x[3] % 4 == 2}
+        if len(ways) < 2:
+            yield "a bulk-only interface has a bulk endpoint of each direction"
+    if class_ == 2 and subclass in range(1, 15) and subclass != 12 and all(x[1:3] != b"\x24\0" for x in own):
+        yield "a communications interface has a header functional descriptor"
+
+
+def setting_remarks(d, speed, interface, later):
+    """Of an endpoint, with its interface and the descriptors of its set after it, or None where they aren't all there."""
+    size = little(d[4:6]) & 0x7FF
+    if d[3] % 4 == 1 and size and interface[3] == 0 and speed != SUPER:
+        yield "an isochronous packet is 0 bytes in alternate setting 0"
+    follows = later is None or any(x[1] == 4 and x[2] == interface[2] for x in later)
+    if size == 0 and interface[3] == 0 and not follows:
+        yield "packets of 0 bytes hold no data, and no other setting follows"
+
+
+def raw_remarks(d, codes, depth):
+    """Of a descriptor of a class by its own bytes, after an interface of these codes."""
+    if codes and codes[0] == 3 and d[1] == 0x21:
+        right = 6 + 3 * (d[5] if len(d) > 5 else 0)
+        if len(d) != right:
+            yield f"by bNumDescriptors it has {count(right, 'byte')}, and bLength is {len(d)}"
+        if len(d) >= 9 and d[6:9] == b"\x22\0\0":
+            yield "the report descriptor has 0 bytes"
+        if depth == 4:
+            yield "a HID descriptor stands before the endpoints"
+    if codes and codes[0] == 2 and d[1] == 0x24 and len(d) >= 3:
+        least = {0: 5, 1: 5, 2: 4, 6: 5}.get(d[2], 0)
+        if len(d) < least:
+            yield f"this functional descriptor has at least {least} bytes, and bLength is {len(d)}"
+
+
 def proves_high(kind, size):
     """By the size and bits 12 to 11 of wMaxPacketSize, as far as table 9-14 has them together."""
     size, more = size & 0x7FF, size >> 11 & 3
@@ -502,6 +572,8 @@ class Explanation:
         if d[17] == 0:
             self.findings(0, [(10, "there is no configuration")], "main")
         self.findings(0, [(11, causes(self.packet_fault(d[7], usb >= 0x0300), self.subclass_fault(codes)))], "device")
+        speed = SUPER if self.is_super() else AT.get(self.asked)
+        self.remarks(0, device_remarks(usb, d[7], d[17] or not self.fault, speed))
         fields = [("bcdUSB", f"{word(usb)} ({bcd(usb)})"), *class_fields("bDevice", codes)]
         fields.append(("bMaxPacketSize0", self.device_packet(d[7])))
         fields += [("idVendor", word(little(d[8:10]))), ("idProduct", word(little(d[10:12])))]
@@ -517,6 +589,7 @@ class Explanation:
             self.findings(0, [(10, "there is no configuration")], "other")
         wrong = causes(self.packet_fault(d[7], False), self.subclass_fault(codes), (d[9] != 0, "bReserved isn't 0"))
         self.findings(0, [(11, wrong)], "other")
+        self.remarks(0, device_remarks(usb, None, d[8] or not self.fault, None))
         fields = [("bcdUSB", f"{word(usb)} ({bcd(usb)})"), *class_fields("bDevice", codes)]
         self.fields(0, [*fields, ("bMaxPacketSize0", d[7]), ("bNumConfigurations", d[8]), ("bReserved", byte(d[9]))])
 
@@ -567,21 +640,24 @@ class Explanation:
         numbers = {d[2] for _, d in descriptors[1:] if d[1] == 4}
         self.of_configuration(header, at, main, place, speed, len(numbers))
         codes, owner, setting, endpoint, association = None, 1, -1, 0, 0
+        interface = None
         for i, (p, d) in enumerate(descriptors[1:], 1):
+            later = [x for _, x in descriptors[i + 1 :]] if end_of_set <= limit else None
             if d[1] == 4:
                 owner, setting, endpoint, codes = 2, setting + 1, 0, tuple(d[5:8])
+                interface = d
                 behind = [x[1] for _, x in descriptors[i + 1 :]]
                 has = behind[: behind.index(4)].count(5) if 4 in behind else behind.count(5)
-                self.of_interface(d, p, place + (setting,), associations, has)
+                own = None if later is None else list(itertools.takewhile(lambda x: x[1] != 4, later))
+                self.of_interface(d, p, place + (setting,), associations, has, own)
             elif d[1] == 5:
                 owner = 3
-                self.of_endpoint(d, p, place + (setting, endpoint), speed, codes)
+                self.of_endpoint(d, p, place + (setting, endpoint), speed, codes, setting_remarks(d, speed, interface, later))
                 endpoint += 1
             elif d[1] == 11:
                 self.of_association(d, p, place + (association,))
                 association += 1
             else:
-                later = [x for _, x in descriptors[i + 1 :]] if end_of_set <= limit else None
                 self.of_raw(d, p, owner + 1, codes, later)
         return descriptors[-1][0] + len(descriptors[-1][1])
 
@@ -599,6 +675,7 @@ class Explanation:
             (10, "an earlier set has this bConfigurationValue" if d[5] else "bConfigurationValue is 0"),
         ]
         self.findings(1, texts, *place)
+        self.remarks(1, power_remarks(d[8] * (8 if speed == SUPER else 2), speed))
         wakeup = ", remote wakeup" if d[7] & 0x20 else ""
         fields = [
             ("wTotalLength", little(d[2:4])),
@@ -616,11 +693,11 @@ class Explanation:
         self.heading(2, f"association {place[2]} of {bound}, {function_class_words(d[4:7])}", at, len(d))
         wrong = "it binds an interface that the set hasn't" if n else "it binds no interface"
         self.findings(2, [(13, wrong)], *place)
-        self.remarks(2, class_remarks(d[4]))
+        self.remarks(2, [*class_remarks(d[4]), *association_remarks(self.qualifier or self.device)])
         fields = [("bFirstInterface", first), ("bInterfaceCount", n), *class_fields("bFunction", d[4:7])]
         self.fields(2, [*fields, ("iFunction", self.index(d[7])), *tail(d[8:])])
 
-    def of_interface(self, d, at, place, associations, endpoints):
+    def of_interface(self, d, at, place, associations, endpoints, own):
         bound = [k for k, a in enumerate(associations) if a[2] <= d[2] < a[2] + a[3]]
         of = f" of association {bound[0]}" if bound else ""
         text = f"interface {d[2]} alternate {d[3]}{of}, {function_class_words(d[5:8])}, {count(d[4], 'endpoint')}"
@@ -631,11 +708,11 @@ class Explanation:
             (5, f"bNumEndpoints is {d[4]}, and the setting has {count(endpoints, 'endpoint')}"),
         ]
         self.findings(2, texts, *place)
-        self.remarks(2, class_remarks(d[5]))
+        self.remarks(2, [*class_remarks(d[5]), *interface_remarks(d, own)])
         fields = [("bInterfaceNumber", d[2]), ("bAlternateSetting", d[3]), ("bNumEndpoints", d[4])]
         self.fields(2, [*fields, *class_fields("bInterface", d[5:8]), ("iInterface", self.index(d[8])), *tail(d[9:])])
 
-    def of_endpoint(self, d, at, place, speed, codes):
+    def of_endpoint(self, d, at, place, speed, codes, more):
         size, interval = size_words(d[3], little(d[4:6]), speed), interval_words(d[3], d[6], speed)
         text = f"endpoint {byte(d[2])} ({end(d[2], d[3])}), {attribute_words(d[3])}, {size}"
         self.heading(3, text + (f", {interval}" if interval else ""), at, len(d))
@@ -648,7 +725,7 @@ class Explanation:
             (12, "bits 15 to 13 of wMaxPacketSize aren't zero"),
         ]
         self.findings(3, texts, *place)
-        self.remarks(3, endpoint_remarks(d, speed))
+        self.remarks(3, [*endpoint_remarks(d, speed), *more])
         fields = [
             ("bEndpointAddress", f"{byte(d[2])} ({end(d[2], d[3])})"),
             ("bmAttributes", f"{byte(d[3])} ({attribute_words(d[3])})"),
@@ -666,6 +743,7 @@ class Explanation:
         self.heading(depth, row[0] if row else f"descriptor of type {byte(d[1])}", at, len(d))
         if later is not None:
             self.remarks(depth, header_remarks(d, codes, later))
+        self.remarks(depth, raw_remarks(d, codes, depth))
         self.fields(depth, raw_fields(d, row, self.index))
 
     def of_string(self, d, at):

@@ -18,3 +18,4 @@ pub mod FieldSteps
 pub mod FieldsCover
 pub mod TableWords
 pub mod RemarksShown
+pub mod SettingSteps

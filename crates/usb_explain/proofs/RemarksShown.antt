@@ -2,20 +2,27 @@
 use Rattle.std.proofs.Common.{◌≡◌, ◌∙◌, List, [], ◌∷◌, ◌++◌, Option, ap, refl, sym}
 use Rattle.std.proofs.lemmas.Grind.{flat_map-append}
 use Rattle.std.specs.List.{flat_map}
-use Rattle.usb_text.specs.Shown.{Shown}
 use Rattle.usb_explain.specs.declared.remark.Remark.{Remark}
 use Rattle.usb_explain.specs.Outline.{Described}
+use Rattle.usb_explain.specs.PlacedRemarks.{maybe_lines, placed_line_end, remark_lines_of}
 use Rattle.usb_explain.specs.RemarkLines.{remark_line, remark_lines}
-use Rattle.usb_explain.specs.Remarks.{remarks_on, there}
+use Rattle.usb_explain.specs.RemarkValues.{there}
+use Rattle.usb_explain.specs.Remarks.{remarks_on}
 
-lines_there : (line : Remark → List Shown) (remarks : List (Option Remark))
+lines_there : {T : Type 0} (line : Remark → List T) (remarks : List (Option Remark))
     → flat_map (λ (r : Option Remark). flat_map line (there r)) remarks ≡ flat_map line (flat_map there remarks)
 lines_there line [] = refl
 lines_there line (r ∷ rest) =
-    ap (λ (l : List Shown). flat_map line (there r) ++ l) (lines_there line rest) ∙ sym (flat_map-append line (there r) (flat_map there rest))
+    ap (λ l. flat_map line (there r) ++ l) (lines_there line rest) ∙ sym (flat_map-append line (there r) (flat_map there rest))
 
 -- those of a descriptor
 pub all_lines : (d : Described) (remarks : List (Option Remark)) → flat_map there remarks ≡ remarks_on d.role d
     → flat_map (λ (r : Option Remark). flat_map (remark_line d.depth) (there r)) remarks ≡ remark_lines d
 unfolding remark_lines
 all_lines d remarks e = lines_there (remark_line d.depth) remarks ∙ ap (flat_map (remark_line d.depth)) e
+
+-- and those that `check` has of it
+pub all_placed : (d : Described) (remarks : List (Option Remark)) → flat_map there remarks ≡ remarks_on d.role d
+    → flat_map (λ (r : Option Remark). maybe_lines d.place r) remarks ≡ remark_lines_of d
+unfolding remark_lines_of
+all_placed d remarks e = lines_there (placed_line_end d.place) remarks ∙ ap (flat_map (placed_line_end d.place)) e

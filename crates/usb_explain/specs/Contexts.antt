@@ -1,5 +1,5 @@
 -- What is known of a descriptor at its place beside its bytes.
-use Rattle.std.specs.Prelude.{ℕ, List, length, slice_index, Bool, true, false, nat_le, ◌-◌, ◌==◌, take, Option, Some, None, if◌then◌else◌}
+use Rattle.std.specs.Prelude.{ℕ, List, length, slice_index, Bool, true, false, nat_le, ◌-◌, ◌==◌, take, Option, Some, None, if◌then◌else◌, unwrap_or}
 use Rattle.usb_fields.specs.Bytes.{little_endian_at}
 use Rattle.usb_names.specs.declared.codes.ClassCodes.{ClassCodes}
 use Rattle.usb_explain.specs.declared.speed.SetSpeed.{SetSpeed}
@@ -16,9 +16,9 @@ is_super None usb packet = is_super_device usb packet
 is_super (Some Super) usb packet = true
 is_super (Some running) usb packet = false
 
--- its speed: that of the device, or of its set
+-- its speed: that of the device, as far as it is known, or of its set
 abbrev pub speed_of : Option SetSpeed → Standing → Role → List ℕ → SetSpeed
-speed_of running s Device d = if is_super running (little_endian_at d 2) (slice_index d 7) then Super else FullOrHigh
+speed_of running s Device d = if is_super running (little_endian_at d 2) (slice_index d 7) then Super else unwrap_or running FullOrHigh
 speed_of running s _ d = s.speed
 
 -- what the interface is that a descriptor follows

@@ -30,6 +30,13 @@ pub mod Descriptors
 pub mod Fields
 pub mod FieldLaws
 pub mod FindingLines
+pub mod RemarkNumbers
+pub mod RemarkPlaces
+pub mod PlacedRemarks
+pub mod RemarkValues
+pub mod DeviceRemarks
+pub mod SettingRemarks
+pub mod ClassRemarks
 pub mod Remarks
 pub mod RemarkLines
 pub mod inside

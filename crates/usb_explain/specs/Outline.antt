@@ -6,21 +6,25 @@ use Rattle.usb_names.specs.declared.codes.ClassCodes.{ClassCodes}
 use Rattle.usb_explain.specs.declared.descriptor.Descriptor.{Descriptor}
 use Rattle.usb_explain.specs.declared.owner.DescriptorOwner.{DescriptorOwner}
 use Rattle.usb_explain.specs.declared.standing.Standing.{Standing}
+use Rattle.usb_explain.specs.declared.place.Place.{Place}
 use Rattle.usb_explain.specs.declared.role.Role.{Role}
 use Rattle.usb_explain.specs.declared.speed.SetSpeed.{SetSpeed}
 use Rattle.usb_explain.specs.Bindings.{bound_at}
 use Rattle.usb_explain.specs.Contexts.{codes_of, depth_of, rest_of_set, speed_of}
 use Rattle.usb_explain.specs.Findings.{found_at}
 use Rattle.usb_explain.specs.Owners.{owner_of}
+use Rattle.usb_explain.specs.RemarkPlaces.{place_in}
 use Rattle.usb_explain.specs.Roles.{next_role}
 use Rattle.usb_explain.specs.SetStart.{entered}
 use Rattle.usb_explain.specs.Standings.{passed, start}
 
--- A descriptor of an input: its place and its bytes, what it is, how deep and whose, its speed, and what is found there. Then
+-- A descriptor of an input: its place in bytes and among sets, settings and endpoints, its bytes, what it is, how deep and whose, its speed, and what is found there. Then
 -- how many associations of its set come before it; the first one of its set that binds an interface of its number; what the
--- interface is that it follows; how many strings come before it; and the bytes of its set after it, where they are all there.
+-- interface is that it follows; what the device is, or the qualifier for the sets after it; how many strings come before it; and
+-- the bytes of its set after it, where they are all there.
 pub record Described : Type 0 where
   pub at : ℕ
+  pub place : Place
   pub bytes : List ℕ
   pub role : Role
   pub depth : ℕ
@@ -30,6 +34,7 @@ pub record Described : Type 0 where
   pub associations : ℕ
   pub association : Option ℕ
   pub interface : Option ClassCodes
+  pub device : Option ClassCodes
   pub string : ℕ
   pub rest : Option (List ℕ)
 
@@ -37,6 +42,7 @@ pub record Described : Type 0 where
 abbrev pub described : Descriptor → Described
 described d = record {
   at = d.at;
+  place = d.place;
   bytes = d.bytes.now;
   role = d.role;
   depth = d.depth;
@@ -46,6 +52,7 @@ described d = record {
   associations = d.associations;
   association = d.association;
   interface = d.interface;
+  device = d.device;
   string = d.string;
   rest = option_copied d.rest;
 }
@@ -66,6 +73,7 @@ findings_of e = found_at e.standing e.role e.found
 unfoldable pub describe : Option SetSpeed → Entry → Described
 describe running e = record {
   at = e.standing.position.at;
+  place = place_in e.standing.position e.role;
   bytes = e.bytes;
   role = e.role;
   depth = depth_of e.standing.position e.role;
@@ -75,6 +83,7 @@ describe running e = record {
   associations = e.standing.position.associations;
   association = bound_at e.standing.bindings (slice_index e.bytes 2);
   interface = codes_of e.standing.position;
+  device = e.standing.codes;
   string = e.standing.position.strings;
   rest = rest_of_set e.standing.position e.bytes e.after;
 }

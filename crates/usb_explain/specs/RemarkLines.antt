@@ -16,11 +16,16 @@ sizes_shown (Only size) = Number size ∷ []
 sizes_shown (UpTo most) = Number most ∷ []
 sizes_shown _ = []
 
--- the numbers of a remark: the values that bInterval has, the sizes, or the length that is said and the one that there is
+-- the numbers of a remark: the values that bInterval has, the sizes, the length that is said and the one that there is, the
+-- current that is needed and the greatest one, or the length that is due and the one that there is
 abbrev pub remark_shown : Remark → List Shown
 remark_shown (remarks.Interval transfer speed range) = Number range.least ∷ Number range.most ∷ []
 remark_shown (remarks.Packet transfer speed sizes) = sizes_shown sizes
 remark_shown (remarks.TotalLength declared found) = Number declared ∷ Number found ∷ []
+remark_shown (remarks.FirstPacket speed sizes) = sizes_shown sizes
+remark_shown (remarks.Current needed most) = Number needed ∷ Number most ∷ []
+remark_shown (remarks.HidLength due found) = Number due ∷ Number found ∷ []
+remark_shown (remarks.ShortFunctional least found) = Number least ∷ Number found ∷ []
 remark_shown _ = []
 
 -- its line, below a heading of this depth

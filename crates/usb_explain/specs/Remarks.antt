@@ -1,6 +1,7 @@
 -- What is remarked of a descriptor: what can't be at the speed of its set, values that the standard reserves (USB 2.0,
--- 5.5.3, 5.6.3, 5.7.3, 5.8.3, 9.6.5 and 9.6.6; the association's ECN), and the length that a class header has.
-use Rattle.std.specs.Prelude.{ℕ, List, [], ◌∷◌, ◌++◌, slice_index, Bool, true, false, nat_le, not, ◌==◌, ◌&&◌, ◌||◌, ◌/◌, ◌%◌, Option, Some, None, option_and_then, if◌then◌else◌, ◌≡◌, is_some}
+-- 5.5.3, 5.6.3, 5.7.3, 5.8.3, 9.6.5 and 9.6.6; the association's ECN), the length that a class header has, and what the standards
+-- of devices, settings and classes ask for.
+use Rattle.std.specs.Prelude.{ℕ, List, [], ◌++◌, slice_index, Bool, true, false, nat_le, not, ◌==◌, ◌&&◌, ◌||◌, ◌/◌, ◌%◌, Option, Some, None, option_and_then, if◌then◌else◌, ◌≡◌, is_some}
 use Rattle.std.specs.Option.{option_or}
 use Rattle.usb_fields.specs.Bytes.{little_endian_at}
 use Rattle.usb_set.specs.declared.endpoint.TransferType.{TransferType}
@@ -17,10 +18,10 @@ use Rattle.usb_explain.specs.declared.remark.PacketSizes.TheVariants.{NoEndpoint
 use Rattle.usb_explain.specs.declared.remark.Remark.{Remark}
 use Rattle.usb_explain.specs.declared.remark.Remark.TheVariants as remarks
 use Rattle.usb_explain.specs.Headers.{header_remark}
-
--- a remark that is made where something holds
-abbrev pub remark_if : Bool → Remark → Option Remark
-remark_if holds remark = if holds then Some remark else None
+use Rattle.usb_explain.specs.RemarkValues.{is_size, remark_if, there}
+use Rattle.usb_explain.specs.DeviceRemarks.{association_remark, count_remark, packet_remark, power_remark, release_remark}
+use Rattle.usb_explain.specs.SettingRemarks.{default_remark, empty_remark, setting_remark}
+use Rattle.usb_explain.specs.ClassRemarks.{functional_remark, hid_length_remark, hid_place_remark, hid_report_remark}
 
 -- ---- bInterval
 
@@ -79,18 +80,6 @@ sizes_at FullOrHigh Bulk = Some EightTo64Or512
 sizes_at FullOrHigh Interrupt = Some (UpTo 1024)
 sizes_at Super _ = None
 
--- 8, 16, 32 or 64
-abbrev pub is_eight_to_64 : ℕ → Bool
-is_eight_to_64 n = (n == 8) || (n == 16) || (n == 32) || (n == 64)
-
--- a size is one of these
-abbrev pub is_size : PacketSizes → ℕ → Bool
-is_size NoEndpoint n = false
-is_size (Only size) n = n == size
-is_size (UpTo most) n = nat_le n most
-is_size EightTo64 n = is_eight_to_64 n
-is_size EightTo64Or512 n = is_eight_to_64 n || (n == 512)
-
 -- packets of another size
 abbrev pub of_another_size : SetSpeed → TransferType → ℕ → PacketSizes → Option Remark
 of_another_size speed transfer n sizes = remark_if (not (is_size sizes n)) (remarks.Packet transfer speed sizes)
@@ -136,25 +125,39 @@ attributes_remark speed transfer attributes =
 abbrev pub class_remark : ℕ → Option Remark
 class_remark class = remark_if (class == 0) remarks.ReservedClass
 
--- a remark that there may be
-abbrev pub there : Option Remark → List Remark
-there None = []
-there (Some remark) = remark ∷ []
+-- the remarks on an endpoint: by its speed and transfer type, and by its setting
+unfoldable pub endpoint_remarks : Described → List Remark
+endpoint_remarks d =
+    let transfer = transfer_type_of (slice_index d.bytes 3) in
+    let size = packet_size_of (little_endian_at d.bytes 4) in
+    there (interval_remark d.speed transfer (slice_index d.bytes 6))
+    ++ there (size_remark d.speed transfer size)
+    ++ there (multiple_remark d.speed transfer (little_endian_at d.bytes 4))
+    ++ there (attributes_remark d.speed transfer (slice_index d.bytes 3))
+    ++ there (default_remark d.speed transfer d.owner size)
+    ++ there (empty_remark d.owner size d.rest)
 
--- the remarks on an endpoint of this transfer type
-unfoldable pub typed_remarks : SetSpeed → TransferType → List ℕ → List Remark
-typed_remarks speed transfer b =
-    there (interval_remark speed transfer (slice_index b 6))
-    ++ there (size_remark speed transfer (packet_size_of (little_endian_at b 4)))
-    ++ there (multiple_remark speed transfer (little_endian_at b 4))
-    ++ there (attributes_remark speed transfer (slice_index b 3))
+-- the remarks on a descriptor that has no type of its own
+unfoldable pub raw_remarks : Described → List Remark
+raw_remarks d =
+    there (header_remark d.interface d.bytes d.rest)
+    ++ there (hid_length_remark d.interface d.bytes)
+    ++ there (hid_report_remark d.interface d.bytes)
+    ++ there (hid_place_remark d.interface d.owner d.bytes)
+    ++ there (functional_remark d.interface d.bytes)
 
 -- the remarks on a descriptor of this role
 unfoldable pub remarks_on : Role → Described → List Remark
-remarks_on roles.Association d = there (class_remark (slice_index d.bytes 4))
-remarks_on roles.Interface d = there (class_remark (slice_index d.bytes 5))
-remarks_on roles.Endpoint d = typed_remarks d.speed (transfer_type_of (slice_index d.bytes 3)) d.bytes
-remarks_on roles.Raw d = there (header_remark d.interface d.bytes d.rest)
+remarks_on roles.Device d =
+    there (release_remark (little_endian_at d.bytes 2))
+    ++ there (packet_remark d.speed (slice_index d.bytes 7))
+    ++ there (count_remark (slice_index d.bytes 17) d.findings)
+remarks_on roles.Qualifier d = there (release_remark (little_endian_at d.bytes 2)) ++ there (count_remark (slice_index d.bytes 8) d.findings)
+remarks_on roles.Configuration d = there (power_remark d.speed (slice_index d.bytes 8))
+remarks_on roles.Association d = there (class_remark (slice_index d.bytes 4)) ++ there (association_remark d.device)
+remarks_on roles.Interface d = there (class_remark (slice_index d.bytes 5)) ++ there (setting_remark d.bytes d.rest)
+remarks_on roles.Endpoint d = endpoint_remarks d
+remarks_on roles.Raw d = raw_remarks d
 remarks_on _ d = []
 
 -- What holds of remarks: one that speaks of two speeds holds at both.

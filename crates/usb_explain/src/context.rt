@@ -18,7 +18,7 @@ impl Standing {
     {
         match role {
             Role::Device if is_super(running, word_at(d, 2), byte_at(d, 7)) => SetSpeed::Super,
-            Role::Device => SetSpeed::FullOrHigh,
+            Role::Device => running.unwrap_or(SetSpeed::FullOrHigh),
             _ => self.speed,
         }
     }

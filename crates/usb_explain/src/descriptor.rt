@@ -1,5 +1,6 @@
 //! A descriptor of an input, at its place.
 use crate::owner::DescriptorOwner;
+use crate::place::Place;
 use crate::role::Role;
 use crate::speed::SetSpeed;
 use usb_file_data::Found;
@@ -10,6 +11,8 @@ use usb_names::ClassCodes;
 pub struct Descriptor<'b> {
     /// Its place in the input.
     pub at: usize,
+    /// Where it is among the parts, sets, settings and endpoints.
+    pub place: Place,
     /// Its bytes, as many as its bLength says.
     pub bytes: &'b [u8],
     /// What it is.
@@ -28,6 +31,8 @@ pub struct Descriptor<'b> {
     pub association: Option<u64>,
     /// The codes of the interface that it follows.
     pub interface: Option<ClassCodes>,
+    /// The codes of the device, or of the qualifier in the sets after it.
+    pub device: Option<ClassCodes>,
     /// How many strings come before it, which is a string's number among those of a file.
     pub string: usize,
     /// The bytes of its set after it, where they are all there.

@@ -124,6 +124,7 @@ impl Standing {
         let (findings, left) = self.split_found(role, found);
         let here = Descriptor {
             at: self.position.at,
+            place: self.position.place(role),
             bytes,
             role,
             depth: self.position.depth(role),
@@ -133,6 +134,7 @@ impl Standing {
             associations: self.position.associations,
             association: self.bindings.of(byte_at(bytes, 2)),
             interface: self.position.codes(),
+            device: self.codes,
             string: self.position.strings,
             rest: self.position.rest_of_set(bytes, behind),
         };

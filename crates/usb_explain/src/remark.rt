@@ -1,7 +1,8 @@
 //! What is remarked of a descriptor: values that its bytes may have by no rule, but not in its set.
 ghost use Rattle.std.specs.Prelude.{◌≡◌};
-ghost use Rattle.usb_explain.specs.Remarks.{is_eight_to_64, is_size, size_remark, sizes_at};
-ghost use Rattle.usb_explain.specs.Remarks.{attributes_remark, class_remark, counts_transactions, multiple_remark, remark_if, type_bits_remark};
+ghost use Rattle.usb_explain.specs.RemarkNumbers.{remark_number};
+ghost use Rattle.usb_explain.specs.RemarkValues.{is_eight_to_64, is_size, remark_if};
+ghost use Rattle.usb_explain.specs.Remarks.{attributes_remark, class_remark, counts_transactions, multiple_remark, size_remark, sizes_at, type_bits_remark};
 
 use crate::speed::SetSpeed;
 use usb_set::TransferType;
@@ -64,6 +65,89 @@ pub enum Remark {
         /// How many bytes they have.
         found: usize,
     },
+    /// A set needs more current than a device may draw.
+    Current {
+        /// bMaxPower in milliamperes.
+        needed: u16,
+        /// The greatest current in milliamperes.
+        most: u16,
+    },
+    /// bMaxPacketSize0 is none of the values that it has at this speed.
+    FirstPacket {
+        speed: SetSpeed,
+        sizes: PacketSizes,
+    },
+    /// bcdUSB is no release of USB: 1.0, 1.1, 2.0, 2.01, 2.1, 2.5, 3.0, 3.1 or 3.2.
+    Release,
+    /// bNumConfigurations is 0, and the input is broken.
+    NoSets,
+    /// The device or the qualifier of an association isn't of class EF, subclass 02, protocol 01.
+    UntoldAssociation,
+    /// An isochronous endpoint of alternate setting 0 has packets of more than 0 bytes.
+    DefaultIsochronous,
+    /// An endpoint of alternate setting 0 has packets of 0 bytes, and no setting of its interface follows.
+    EmptyPackets,
+    /// A HID interface has no HID descriptor.
+    NoHidDescriptor,
+    /// A HID descriptor stands after an endpoint of its interface.
+    LateHidDescriptor,
+    /// The length of a HID descriptor isn't that by its bNumDescriptors.
+    HidLength {
+        /// 6, and 3 for each descriptor that it names.
+        due: usize,
+        /// bLength.
+        found: usize,
+    },
+    /// A HID descriptor says that the report descriptor has no bytes.
+    EmptyReport,
+    /// A communications interface has no header functional descriptor.
+    NoFunctionalHeader,
+    /// A functional descriptor is too short for its fields.
+    ShortFunctional {
+        /// The least length of its subtype.
+        least: usize,
+        /// bLength.
+        found: usize,
+    },
+    /// A mass storage interface of bulk transfers lacks a bulk endpoint of one direction.
+    OneDirection,
+}
+
+impl Remark {
+    /// The number of the remark, from 1.
+    ///
+    /// ```rust
+    /// assert_eq!(rt; Remark::ReservedClass.number(), 8);
+    /// ```
+    pub fn number(self) -> u8
+        ensures { result ≡ remark_number self }
+    {
+        match self {
+            Remark::Interval { .. } => 1,
+            Remark::Packet { .. } => 2,
+            Remark::ReservedMultiple => 3,
+            Remark::PacketBits => 4,
+            Remark::ReservedUsage => 5,
+            Remark::TypeBits => 6,
+            Remark::HighBits => 7,
+            Remark::ReservedClass => 8,
+            Remark::TotalLength { .. } => 9,
+            Remark::Current { .. } => 10,
+            Remark::FirstPacket { .. } => 11,
+            Remark::Release => 12,
+            Remark::NoSets => 13,
+            Remark::UntoldAssociation => 14,
+            Remark::DefaultIsochronous => 15,
+            Remark::EmptyPackets => 16,
+            Remark::NoHidDescriptor => 17,
+            Remark::LateHidDescriptor => 18,
+            Remark::HidLength { .. } => 19,
+            Remark::EmptyReport => 20,
+            Remark::NoFunctionalHeader => 21,
+            Remark::ShortFunctional { .. } => 22,
+            Remark::OneDirection => 23,
+        }
+    }
 }
 
 /// The sizes that packets have at a speed: control (USB 2.0, 5.5.3), isochronous (5.6.3), interrupt (5.7.3) and bulk (5.8.3).
@@ -101,7 +185,7 @@ fn is_eight_to_64(size: u16) -> bool
     size == 8 || size == 16 || size == 32 || size == 64
 }
 
-fn is_size(sizes: PacketSizes, size: u16) -> bool
+pub(crate) fn is_size(sizes: PacketSizes, size: u16) -> bool
     ensures { result ≡ is_size sizes size }
 {
     match sizes {
@@ -129,7 +213,7 @@ pub(crate) fn size_remark(speed: SetSpeed, transfer: TransferType, size: u16) ->
     }
 }
 
-fn remark_if(holds: bool, remark: Remark) -> Option<Remark>
+pub(crate) fn remark_if(holds: bool, remark: Remark) -> Option<Remark>
     ensures { result ≡ remark_if holds remark }
 {
     if holds { Some(remark) } else { None }

@@ -5,7 +5,7 @@ ghost use Rattle.usb_text.specs.Shown.{showing_all};
 ghost use Rattle.usb_text.specs.Written.{is_words};
 ghost use Rattle.usb_explain.specs.Outline.{described};
 ghost use Rattle.usb_explain.specs.RemarkLines.{remark_line, remark_lines, remark_shown, sizes_shown};
-ghost use Rattle.usb_explain.specs.Remarks.{there};
+ghost use Rattle.usb_explain.specs.RemarkValues.{there};
 
 use crate::descriptor::Descriptor;
 use crate::remark::{PacketSizes, Remark};
@@ -78,18 +78,67 @@ fn put_words<P: Page>(page: &mut P, remark: Remark) -> Result<(), AllocError>
             speed,
             sizes,
         } => put_packet(page, transfer, speed, sizes),
-        Remark::ReservedMultiple => page.put("3 in bits 12 to 11 of wMaxPacketSize is reserved"),
-        Remark::PacketBits => page.put("bits 12 to 11 of wMaxPacketSize are reserved here"),
-        Remark::ReservedUsage => page.put("usage 3 is reserved"),
-        Remark::TypeBits => page.put("bits 5 to 2 of bmAttributes are reserved here"),
-        Remark::HighBits => page.put("bits 7 to 6 of bmAttributes are reserved"),
-        Remark::ReservedClass => page.put("class 0x00 is reserved for future use"),
+        Remark::FirstPacket { speed, sizes } => {
+            page.put("bMaxPacketSize0 is ")?;
+            put_sizes(page, sizes)?;
+            page.put(" at ")?;
+            page.put(speed.words())
+        }
         Remark::TotalLength { declared, found } => {
             page.put("wTotalLength is ")?;
             page.put_decimal(u64::from(declared))?;
             page.put(", and the class descriptors have ")?;
             page.put_count(found as u64, "byte")
         }
+        Remark::Current { needed, most } => {
+            page.put("bMaxPower is ")?;
+            page.put_decimal(u64::from(needed))?;
+            page.put(" mA, and a device draws at most ")?;
+            page.put_decimal(u64::from(most))?;
+            page.put(" mA")
+        }
+        Remark::HidLength { due, found } => {
+            page.put("by bNumDescriptors it has ")?;
+            page.put_count(due as u64, "byte")?;
+            page.put(", and bLength is ")?;
+            page.put_decimal(found as u64)
+        }
+        Remark::ShortFunctional { least, found } => {
+            page.put("this functional descriptor has at least ")?;
+            page.put_decimal(least as u64)?;
+            page.put(" bytes, and bLength is ")?;
+            page.put_decimal(found as u64)
+        }
+        _ => page.put(plain_words(remark)),
+    }
+}
+
+/// The words of a remark that has no numbers.
+fn plain_words(remark: Remark) -> &'static str
+    ensures { IsTrue (is_words result.now) }
+{
+    match remark {
+        Remark::ReservedMultiple => "3 in bits 12 to 11 of wMaxPacketSize is reserved",
+        Remark::PacketBits => "bits 12 to 11 of wMaxPacketSize are reserved here",
+        Remark::ReservedUsage => "usage 3 is reserved",
+        Remark::TypeBits => "bits 5 to 2 of bmAttributes are reserved here",
+        Remark::HighBits => "bits 7 to 6 of bmAttributes are reserved",
+        Remark::ReservedClass => "class 0x00 is reserved for future use",
+        Remark::Release => "bcdUSB is no release of USB",
+        Remark::NoSets => "bNumConfigurations is 0",
+        Remark::UntoldAssociation => {
+            "a device with associations is of class 0xef, subclass 0x02, protocol 0x01"
+        }
+        Remark::DefaultIsochronous => "an isochronous packet is 0 bytes in alternate setting 0",
+        Remark::EmptyPackets => "packets of 0 bytes hold no data, and no other setting follows",
+        Remark::NoHidDescriptor => "a HID interface has a HID descriptor",
+        Remark::LateHidDescriptor => "a HID descriptor stands before the endpoints",
+        Remark::EmptyReport => "the report descriptor has 0 bytes",
+        Remark::NoFunctionalHeader => {
+            "a communications interface has a header functional descriptor"
+        }
+        Remark::OneDirection => "a bulk-only interface has a bulk endpoint of each direction",
+        _ => "",
     }
 }
 

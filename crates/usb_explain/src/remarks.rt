@@ -1,21 +1,28 @@
 //! The remarks on a descriptor.
-ghost use Rattle.std.specs.Prelude.{◌≡◌};
+ghost use Rattle.std.specs.Prelude.{◌≡◌, ◌++◌};
 ghost use Rattle.std.specs.List.{flat_map};
 ghost use Rattle.usb_explain.specs.Outline.{described};
-ghost use Rattle.usb_explain.specs.Remarks.{remarks_on, there, typed_remarks};
+ghost use Rattle.usb_explain.specs.RemarkValues.{there};
+ghost use Rattle.usb_explain.specs.Remarks.{endpoint_remarks, raw_remarks, remarks_on};
 
+use crate::class_remark::{
+    functional_remark, hid_length_remark, hid_place_remark, hid_report_remark,
+};
 use crate::descriptor::Descriptor;
+use crate::device_remark::{
+    association_remark, count_remark, packet_remark, power_remark, release_remark,
+};
 use crate::header::header_remark;
 use crate::interval::interval_remark;
 use crate::remark::{Remark, attributes_remark, class_remark, multiple_remark, size_remark};
 use crate::role::Role;
-use crate::speed::SetSpeed;
+use crate::setting_remark::{default_remark, empty_remark, setting_remark};
 use usb_fields::{byte_at, word_at};
 use usb_set::TransferType;
 
 impl Descriptor<'_> {
-    /// What is remarked of it, which is no finding: reserved classes and bits, and values of an endpoint that the speed of its
-    /// set doesn't have. There are four at most, in the order in which an explanation has them.
+    /// What is remarked of it, which is no finding: reserved classes and bits, values that the speed of its set doesn't have, and
+    /// what the standards of classes ask for. There are six at most, in the order in which an explanation has them.
     ///
     /// ```rust
     /// for remark in descriptor.remarks().into_iter().flatten() {
@@ -23,39 +30,74 @@ impl Descriptor<'_> {
     /// }
     /// ```
     #[tactic(auto, unfolding(crate::specs::Remarks::remarks_on))]
-    pub fn remarks(&self) -> [Option<Remark>; 4]
+    pub fn remarks(&self) -> [Option<Remark>; 6]
         ensures { flat_map there result ≡ remarks_on self.now.role (described self.now) }
     {
+        let b = self.bytes;
         match self.role {
-            Role::Association => alone(class_remark(byte_at(self.bytes, 4))),
-            Role::Interface => alone(class_remark(byte_at(self.bytes, 5))),
-            Role::Endpoint => {
-                let transfer = TransferType::of(byte_at(self.bytes, 3));
-                endpoint_remarks(self.speed, transfer, self.bytes)
-            }
-            Role::Raw => alone(header_remark(self.interface, self.bytes, self.rest)),
-            _ => alone(None),
+            Role::Device => three(
+                release_remark(word_at(b, 2)),
+                packet_remark(self.speed, byte_at(b, 7)),
+                count_remark(byte_at(b, 17), self.findings),
+            ),
+            Role::Qualifier => two(
+                release_remark(word_at(b, 2)),
+                count_remark(byte_at(b, 8), self.findings),
+            ),
+            Role::Configuration => two(power_remark(self.speed, byte_at(b, 8)), None),
+            Role::Association => two(class_remark(byte_at(b, 4)), association_remark(self.device)),
+            Role::Interface => two(class_remark(byte_at(b, 5)), setting_remark(b, self.rest)),
+            Role::Endpoint => self.endpoint_remarks(),
+            Role::Raw => self.raw_remarks(),
+            Role::Languages | Role::Text => two(None, None),
         }
+    }
+
+    /// Those on an endpoint.
+    #[tactic(auto, unfolding(crate::specs::Remarks::endpoint_remarks))]
+    fn endpoint_remarks(&self) -> [Option<Remark>; 6]
+        ensures { flat_map there result ≡ endpoint_remarks (described self.now) }
+    {
+        let (b, speed) = (self.bytes, self.speed);
+        let transfer = TransferType::of(byte_at(b, 3));
+        let max_packet = word_at(b, 4);
+        [
+            interval_remark(speed, transfer, byte_at(b, 6)),
+            size_remark(speed, transfer, max_packet % 2048),
+            multiple_remark(speed, transfer, max_packet),
+            attributes_remark(speed, transfer, byte_at(b, 3)),
+            default_remark(speed, transfer, self.owner, max_packet % 2048),
+            empty_remark(self.owner, max_packet % 2048, self.rest),
+        ]
+    }
+
+    /// Those on a descriptor that has no type of its own.
+    #[tactic(auto, unfolding(crate::specs::Remarks::raw_remarks))]
+    fn raw_remarks(&self) -> [Option<Remark>; 6]
+        ensures { flat_map there result ≡ raw_remarks (described self.now) }
+    {
+        let (interface, b) = (self.interface, self.bytes);
+        [
+            header_remark(interface, b, self.rest),
+            hid_length_remark(interface, b),
+            hid_report_remark(interface, b),
+            hid_place_remark(interface, self.owner, b),
+            functional_remark(interface, b),
+            None,
+        ]
     }
 }
 
-/// One remark, if there is one.
-fn alone(remark: Option<Remark>) -> [Option<Remark>; 4]
-    ensures { flat_map there result ≡ there remark }
+/// Two remarks, if there are any.
+fn two(one: Option<Remark>, other: Option<Remark>) -> [Option<Remark>; 6]
+    ensures { flat_map there result ≡ there one ++ there other }
 {
-    [remark, None, None, None]
+    three(one, other, None)
 }
 
-/// Those on an endpoint of this transfer type.
-#[tactic(auto, unfolding(crate::specs::Remarks::typed_remarks))]
-fn endpoint_remarks(speed: SetSpeed, transfer: TransferType, b: &[u8]) -> [Option<Remark>; 4]
-    ensures { flat_map there result ≡ typed_remarks speed transfer b.now }
+/// Three remarks, if there are any.
+fn three(one: Option<Remark>, other: Option<Remark>, last: Option<Remark>) -> [Option<Remark>; 6]
+    ensures { flat_map there result ≡ there one ++ (there other ++ there last) }
 {
-    let max_packet = word_at(b, 4);
-    [
-        interval_remark(speed, transfer, byte_at(b, 6)),
-        size_remark(speed, transfer, max_packet % 2048),
-        multiple_remark(speed, transfer, max_packet),
-        attributes_remark(speed, transfer, byte_at(b, 3)),
-    ]
+    [one, other, last, None, None, None]
 }

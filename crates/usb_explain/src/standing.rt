@@ -1,6 +1,6 @@
 //! What came before a descriptor in an input.
 ghost use Rattle.std.specs.Prelude.{◌≡◌, ◌+◌, ◌<◌, ◌^◌, length};
-ghost use Rattle.usb_explain.specs.Standings.{kept, passed, start};
+ghost use Rattle.usb_explain.specs.Standings.{device_codes, kept, passed, start};
 ghost use Rattle.usb_explain.specs.inside.Walking.{Counted};
 
 use crate::bindings::Bindings;
@@ -8,6 +8,8 @@ use crate::device_facts::DeviceFacts;
 use crate::position::Position;
 use crate::role::Role;
 use crate::speed::SetSpeed;
+use usb_fields::byte_at;
+use usb_names::ClassCodes;
 
 /// What came before a descriptor, as far as its explanation depends on it.
 #[derive(Drop)]
@@ -22,6 +24,8 @@ pub(crate) struct Standing {
     pub(crate) other_speed: Option<SetSpeed>,
     /// The qualifier.
     pub(crate) qualifier: Option<DeviceFacts>,
+    /// Class, subclass and protocol of the device, or of the qualifier once it came.
+    pub(crate) codes: Option<ClassCodes>,
     /// The speed of the set, or of the last one before it.
     pub(crate) speed: SetSpeed,
     /// Which association of the whole set binds each interface.
@@ -41,6 +45,7 @@ impl Standing {
             own_speed: SetSpeed::FullOrHigh,
             other_speed: None,
             qualifier: None,
+            codes: None,
             speed: SetSpeed::FullOrHigh,
             bindings: Bindings::new(),
         }
@@ -56,14 +61,31 @@ impl Standing {
         self.position.pass(role, d);
     }
 
-    /// Keeps what a device and its qualifier say of the speeds of their sets.
+    /// Keeps what a device and its qualifier are, and what they say of the speeds of their sets.
     fn keep(&mut self, role: Role, d: &[u8])
         ensures { self.new ≡ kept role d.now self.old }
     {
         match role {
-            Role::Device => self.device = Some(DeviceFacts::of_device(d)),
-            Role::Qualifier => self.qualifier = Some(DeviceFacts::of_qualifier(d)),
+            Role::Device => {
+                self.device = Some(DeviceFacts::of_device(d));
+                self.codes = Some(device_codes(d));
+            }
+            Role::Qualifier => {
+                self.qualifier = Some(DeviceFacts::of_qualifier(d));
+                self.codes = Some(device_codes(d));
+            }
             _ => {}
         }
+    }
+}
+
+/// Class, subclass and protocol of a device or of a qualifier.
+fn device_codes(d: &[u8]) -> ClassCodes
+    ensures { result ≡ device_codes d.now }
+{
+    ClassCodes {
+        class: byte_at(d, 4),
+        subclass: byte_at(d, 5),
+        protocol: byte_at(d, 6),
     }
 }

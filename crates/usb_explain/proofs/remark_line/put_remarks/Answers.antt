@@ -4,7 +4,7 @@ use Rattle.usb_text.specs.Shown.{Shown, showing_all}
 use Rattle.usb_explain.specs.declared.remark.Remark.{Remark}
 use Rattle.usb_explain.specs.Outline.{described}
 use Rattle.usb_explain.specs.RemarkLines.{remark_line}
-use Rattle.usb_explain.specs.Remarks.{there}
+use Rattle.usb_explain.specs.RemarkValues.{there}
 use Rattle.usb_explain.proofs.RemarksShown.{all_lines}
 use Rattle.usb_explain.proofs.ShownInTurn.{shown_next}
 use Rattle.usb_explain.proofs.remark_line.put_remarks.Goals as goal

@@ -1,0 +1,100 @@
+//! What is remarked of a device, of its qualifier, and of a set.
+ghost use Rattle.std.specs.Prelude.{◌≡◌};
+ghost use Rattle.std.specs.Option.{option_copied};
+ghost use Rattle.usb_explain.specs.DeviceRemarks.{association_remark, count_remark, finds_nothing, first_packets, is_release, most_current, packet_remark, power_remark, release_remark, tells_associations};
+
+use crate::remark::{PacketSizes, Remark, is_size, remark_if};
+use crate::speed::SetSpeed;
+use usb_file_data::Found;
+use usb_names::ClassCodes;
+
+fn is_release(usb: u16) -> bool
+    ensures { result ≡ is_release usb }
+{
+    matches!(
+        usb,
+        0x0100 | 0x0110 | 0x0200 | 0x0201 | 0x0210 | 0x0250 | 0x0300 | 0x0310 | 0x0320
+    )
+}
+
+/// A remark on bcdUSB that is no release of USB.
+pub(crate) fn release_remark(usb: u16) -> Option<Remark>
+    ensures { result ≡ release_remark usb }
+{
+    remark_if(!is_release(usb), Remark::Release)
+}
+
+/// The values of bMaxPacketSize0 at a speed that is known (USB 2.0, 5.5.3; USB 3.2, 9.6.1).
+fn first_packets(speed: SetSpeed) -> Option<PacketSizes>
+    ensures { result ≡ first_packets speed }
+{
+    match speed {
+        SetSpeed::Low => Some(PacketSizes::Only(8)),
+        SetSpeed::Full => Some(PacketSizes::EightTo64),
+        SetSpeed::High => Some(PacketSizes::Only(64)),
+        SetSpeed::Super => Some(PacketSizes::Only(9)),
+        SetSpeed::LowOrFull | SetSpeed::FullOrHigh => None,
+    }
+}
+
+/// A remark on bMaxPacketSize0 that the speed doesn't have.
+pub(crate) fn packet_remark(speed: SetSpeed, packet: u8) -> Option<Remark>
+    ensures { result ≡ packet_remark speed packet }
+{
+    let sizes = first_packets(speed)?;
+    remark_if(
+        !is_size(sizes, u16::from(packet)),
+        Remark::FirstPacket { speed, sizes },
+    )
+}
+
+fn finds_nothing(found: &[Found]) -> bool
+    ensures { result ≡ finds_nothing found.now }
+{
+    match found {
+        [] => true,
+        [_, ..] => false,
+    }
+}
+
+/// A remark on bNumConfigurations 0 where no rule finds it: of an input V10 does.
+pub(crate) fn count_remark(sets: u8, found: &[Found]) -> Option<Remark>
+    ensures { result ≡ count_remark sets found.now }
+{
+    remark_if(sets == 0 && finds_nothing(found), Remark::NoSets)
+}
+
+/// The greatest current in milliamperes (USB 2.0, 7.2.1 and 9.6.3). At SuperSpeed a device of two lanes may draw the most.
+fn most_current(speed: SetSpeed) -> u16
+    ensures { result ≡ most_current speed }
+{
+    match speed {
+        SetSpeed::Super => 1500,
+        _ => 500,
+    }
+}
+
+/// A remark on bMaxPower of too much current.
+pub(crate) fn power_remark(speed: SetSpeed, power: u8) -> Option<Remark>
+    ensures { result ≡ power_remark speed power }
+{
+    let needed = speed.milliamperes(power);
+    let most = most_current(speed);
+    remark_if(needed > most, Remark::Current { needed, most })
+}
+
+fn tells_associations(codes: ClassCodes) -> bool
+    ensures { result ≡ tells_associations codes }
+{
+    codes.class == 0xef && codes.subclass == 2 && codes.protocol == 1
+}
+
+/// A remark on an association of a device that doesn't say that it has some.
+pub(crate) fn association_remark(device: Option<ClassCodes>) -> Option<Remark>
+    ensures { result ≡ association_remark device }
+{
+    match device {
+        None => None,
+        Some(codes) => remark_if(!tells_associations(codes), Remark::UntoldAssociation),
+    }
+}

@@ -1,0 +1,180 @@
+//! What is remarked of an interface by the descriptors of its setting, and of an endpoint by its setting.
+ghost use Rattle.std.specs.Prelude.{◌≡◌};
+ghost use Rattle.std.specs.Option.{option_copied};
+ghost use Rattle.usb_explain.specs.SettingRemarks.{default_remark, empty_remark, has_functions, has_setting, has_wanted, in_default_setting, is_bulk_endpoint, is_default, is_last_default, is_numbered, is_wanted, lack_remark, setting_remark};
+ghost use Rattle.usb_explain.specs.Trees.{descriptors};
+
+use crate::owner::{DescriptorOwner, InterfaceSetting};
+use crate::remark::{Remark, remark_if};
+use crate::rest_lines::descriptor_length;
+use crate::role::{is_endpoint, is_interface};
+use crate::speed::SetSpeed;
+use usb_fields::{after, byte_at, prefix};
+use usb_set::TransferType;
+
+/// What the setting of an interface of some classes has to have.
+#[derive(Clone, Copy, Debug, PartialEq, Eq, Hash)]
+pub(crate) enum Wanted {
+    /// A HID descriptor.
+    HidDescriptor,
+    /// A bulk endpoint to the host.
+    BulkIn,
+    /// A bulk endpoint from the host.
+    BulkOut,
+    /// The header of functional descriptors.
+    FunctionalHeader,
+}
+
+fn is_bulk_endpoint(d: &[u8]) -> bool
+    ensures { result ≡ is_bulk_endpoint d.now }
+{
+    is_endpoint(d) && matches!(TransferType::of(byte_at(d, 3)), TransferType::Bulk)
+}
+
+fn is_wanted(wanted: Wanted, d: &[u8]) -> bool
+    ensures { result ≡ is_wanted wanted d.now }
+{
+    match wanted {
+        Wanted::HidDescriptor => byte_at(d, 1) == 0x21,
+        Wanted::BulkIn => is_bulk_endpoint(d) && byte_at(d, 2) >= 0x80,
+        Wanted::BulkOut => is_bulk_endpoint(d) && byte_at(d, 2) < 0x80,
+        Wanted::FunctionalHeader => byte_at(d, 1) == 0x24 && byte_at(d, 2) == 0,
+    }
+}
+
+/// Whether one of the descriptors up to the next interface is what is wanted.
+fn has_wanted(wanted: Wanted, set: &[u8]) -> bool
+    ensures { result ≡ has_wanted wanted (descriptors set.now) }
+{
+    let mut rest = set;
+    while let Some(length) = descriptor_length(rest) {
+        let d = prefix(rest, length);
+        if is_interface(d) {
+            return false;
+        }
+        if is_wanted(wanted, d) {
+            return true;
+        }
+        rest = after(rest, length);
+    }
+    false
+}
+
+/// Whether a communications interface of this subclass has functional descriptors.
+fn has_functions(subclass: u8) -> bool
+    ensures { result ≡ has_functions subclass }
+{
+    0 < subclass && subclass <= 0x0e && subclass != 0x0c
+}
+
+/// A remark on what an interface lacks before the next one.
+fn lack_remark(class: u8, subclass: u8, protocol: u8, rest: &[u8]) -> Option<Remark>
+    ensures { result ≡ lack_remark class subclass protocol (descriptors rest.now) }
+{
+    if class == 0x03 {
+        let has_hid = has_wanted(Wanted::HidDescriptor, rest);
+        remark_if(!has_hid, Remark::NoHidDescriptor)
+    } else if class == 0x08 && protocol == 0x50 {
+        let has_in = has_wanted(Wanted::BulkIn, rest);
+        let has_out = has_wanted(Wanted::BulkOut, rest);
+        remark_if(!(has_in && has_out), Remark::OneDirection)
+    } else if class == 0x02 && has_functions(subclass) {
+        let has_header = has_wanted(Wanted::FunctionalHeader, rest);
+        remark_if(!has_header, Remark::NoFunctionalHeader)
+    } else {
+        None
+    }
+}
+
+/// A remark on what the setting that an interface descriptor begins lacks. Nothing is said where its set isn't all there.
+pub(crate) fn setting_remark(d: &[u8], rest: Option<&[u8]>) -> Option<Remark>
+    ensures { result ≡ setting_remark d.now (option_copied rest.entry) }
+{
+    match rest {
+        None => None,
+        Some(rest) => lack_remark(byte_at(d, 5), byte_at(d, 6), byte_at(d, 7), rest),
+    }
+}
+
+fn is_default(setting: Option<InterfaceSetting>) -> bool
+    ensures { result ≡ is_default setting }
+{
+    match setting {
+        None => false,
+        Some(setting) => setting.alternate == 0,
+    }
+}
+
+fn in_default_setting(owner: Option<DescriptorOwner>) -> bool
+    ensures { result ≡ in_default_setting owner }
+{
+    match owner {
+        None => false,
+        Some(owner) => is_default(owner.setting),
+    }
+}
+
+/// A remark on an isochronous endpoint of alternate setting 0 that has packets (USB 2.0, 5.6.3).
+pub(crate) fn default_remark(
+    speed: SetSpeed,
+    transfer: TransferType,
+    owner: Option<DescriptorOwner>,
+    size: u16,
+) -> Option<Remark>
+    ensures { result ≡ default_remark speed transfer owner size }
+{
+    match (speed, transfer) {
+        (SetSpeed::Super, _) => None,
+        (_, TransferType::Isochronous) => remark_if(
+            in_default_setting(owner) && size != 0,
+            Remark::DefaultIsochronous,
+        ),
+        _ => None,
+    }
+}
+
+fn is_numbered(number: u8, d: &[u8]) -> bool
+    ensures { result ≡ is_numbered number d.now }
+{
+    is_interface(d) && byte_at(d, 2) == number
+}
+
+/// Whether one of the descriptors is an interface of this number.
+fn has_setting(number: u8, set: &[u8]) -> bool
+    ensures { result ≡ has_setting number (descriptors set.now) }
+{
+    let mut rest = set;
+    while let Some(length) = descriptor_length(rest) {
+        if is_numbered(number, prefix(rest, length)) {
+            return true;
+        }
+        rest = after(rest, length);
+    }
+    false
+}
+
+/// Whether a setting is alternate setting 0, and none of its interface follows.
+fn is_last_default(setting: Option<InterfaceSetting>, rest: &[u8]) -> bool
+    ensures { result ≡ is_last_default setting (descriptors rest.now) }
+{
+    match setting {
+        None => false,
+        Some(setting) => setting.alternate == 0 && !has_setting(setting.interface, rest),
+    }
+}
+
+/// A remark on packets of 0 bytes where no further setting has greater ones.
+pub(crate) fn empty_remark(
+    owner: Option<DescriptorOwner>,
+    size: u16,
+    rest: Option<&[u8]>,
+) -> Option<Remark>
+    ensures { result ≡ empty_remark owner size (option_copied rest.entry) }
+{
+    let owner = owner?;
+    let rest = rest?;
+    if size != 0 {
+        return None;
+    }
+    remark_if(is_last_default(owner.setting, rest), Remark::EmptyPackets)
+}
