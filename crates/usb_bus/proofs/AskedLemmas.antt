@@ -96,28 +96,28 @@ module _ (set_of : List ℕ → Option Configuration) (speed : Speed) (address :
 
 -- ---- where a transaction of a transfer is due after its SETUP
 
-no_setup : (request : SetupPacket) (stage : TransferStage) (token : Token) (has : Answer) → stage ≡ Setup → token_due request stage ≡ Some token →
+no_setup : (t : TransferView) (stage : TransferStage) (token : Token) (has : Answer) → stage ≡ Setup → token_due t [] stage ≡ Some token →
     is_in_transfer token has ≡ true → ⊥
-no_setup request stage token has at is inside =
-    let same : token ≡ SetupToken (setup_bytes request) = (let begun = ap (λ s. token_due request s) at in cc) in
-    absurd (let never : is_in_transfer (SetupToken (setup_bytes request)) has ≡ true = subst (λ t. is_in_transfer t has ≡ true) same inside in cc)
+no_setup t stage token has at is inside =
+    let same : token ≡ SetupToken (setup_bytes t.request) = (let begun = ap (λ s. token_due t [] s) at in cc) in
+    absurd (let never : is_in_transfer (SetupToken (setup_bytes t.request)) has ≡ true = subst (λ x. is_in_transfer x has ≡ true) same inside in cc)
 
 module _ (table : State → SetupPacket → Outcome) (cut : ℕ) (s : State) (q : SetupPacket) (size naks l b a : ℕ) where
   -- a device that refuses in the transfer does so by its table
-  refuses_by_table : (request : SetupPacket) (token : Token) (has : Answer) (stage : TransferStage) (at : DeviceStage) (awaited : Toggle) (got : List ℕ) (strikes : ℕ) (d : State) →
-      token_due request stage ≡ Some token → is_in_transfer token has ≡ true → is_refusing at ≡ true →
+  refuses_by_table : (t : TransferView) (token : Token) (has : Answer) (stage : TransferStage) (at : DeviceStage) (awaited : Toggle) (got : List ℕ) (strikes : ℕ) (d : State) →
+      token_due t [] stage ≡ Some token → is_in_transfer token has ≡ true → is_refusing at ≡ true →
       Stages table cut s q size naks l b a stage at awaited got strikes d → table s q ≡ Refused
-  refuses_by_table request token has Setup at awaited got strikes d is inside refusing stages = absurd (no_setup request Setup token has refl is inside)
-  refuses_by_table request token has DataIn (device.Halted refused) awaited got strikes d is inside refusing stages = stages.answered
-  refuses_by_table request token has DataIn at awaited got strikes d is inside refusing stages = absurd (cc)
-  refuses_by_table request token has DataOut (device.Halted refused) awaited got strikes d is inside refusing stages = stages.answered
-  refuses_by_table request token has DataOut at awaited got strikes d is inside refusing stages = absurd (cc)
-  refuses_by_table request token has StatusIn (device.Halted refused) awaited got strikes d is inside refusing stages = stages.answered
-  refuses_by_table request token has StatusIn at awaited got strikes d is inside refusing stages = absurd (cc)
-  refuses_by_table request token has StatusOut (device.Halted refused) awaited got strikes d is inside refusing stages = absurd (stages)
-  refuses_by_table request token has StatusOut at awaited got strikes d is inside refusing stages = absurd (cc)
-  refuses_by_table request token has Completed at awaited got strikes d is inside refusing stages = absurd (cc)
-  refuses_by_table request token has (Failed why) at awaited got strikes d is inside refusing stages = absurd (cc)
+  refuses_by_table t token has Setup at awaited got strikes d is inside refusing stages = absurd (no_setup t Setup token has refl is inside)
+  refuses_by_table t token has DataIn (device.Halted refused) awaited got strikes d is inside refusing stages = stages.answered
+  refuses_by_table t token has DataIn at awaited got strikes d is inside refusing stages = absurd (cc)
+  refuses_by_table t token has DataOut (device.Halted refused) awaited got strikes d is inside refusing stages = stages.answered
+  refuses_by_table t token has DataOut at awaited got strikes d is inside refusing stages = absurd (cc)
+  refuses_by_table t token has StatusIn (device.Halted refused) awaited got strikes d is inside refusing stages = stages.answered
+  refuses_by_table t token has StatusIn at awaited got strikes d is inside refusing stages = absurd (cc)
+  refuses_by_table t token has StatusOut (device.Halted refused) awaited got strikes d is inside refusing stages = absurd (stages)
+  refuses_by_table t token has StatusOut at awaited got strikes d is inside refusing stages = absurd (cc)
+  refuses_by_table t token has Completed at awaited got strikes d is inside refusing stages = absurd (cc)
+  refuses_by_table t token has (Failed why) at awaited got strikes d is inside refusing stages = absurd (cc)
 
 to_token : (address : ℕ) (o : Option Token) (sent : Sent) → addressed address o ≡ Some sent → o ≡ Some sent.token
 to_token address None sent e = absurd (cc)
@@ -173,10 +173,10 @@ module _ (set_of : List ℕ → Option Configuration) (exact : ReadsSets set_of)
   module _ (l b a : ℕ) (replies : List Reply) (h : HostEnd) (d : DeviceView) (token : Token) (came has : Answer) where
     -- what is allowed in it is the same
     same_together : TogetherOn plan limits.naks (answer f) size false (replies_in xs) last l b a replies h d →
-        token_due h.transfer.request h.transfer.stage ≡ Some token → IsAllowed h.transfer.request (is_refusing d.stage) token came has → came ≡ has
+        token_due h.transfer [] h.transfer.stage ≡ Some token → IsAllowed h.transfer.request (is_refusing d.stage) token came has → came ≡ has
     same_together t is (inl same) = same
     same_together t is (inr (inside, inl (refusing, open_))) =
-        let refused = refuses_by_table (answer f) size t.s t.q t.packet limits.naks l b a h.transfer.request token has h.transfer.stage d.stage h.transfer.awaited h.got h.transfer.strikes d.state
+        let refused = refuses_by_table (answer f) size t.s t.q t.packet limits.naks l b a h.transfer token has h.transfer.stage d.stage h.transfer.awaited h.got h.transfer.strikes d.state
         is inside refusing t.in_one.stages in
         let closed = refused_closed set_of speed limits.address (Reported f) First xs replies t.todo t.r t.s.address t.packet t.q walks
         (script_closed limits.address size speed f) t.front t.planned.begins (sym t.planned.reply ∙ ap reply_to refused) in
@@ -186,10 +186,10 @@ module _ (set_of : List ℕ → Option Configuration) (exact : ReadsSets set_of)
         absurd (let wrong = sym status ∙ ap is_device_status t.in_one.request ∙ never in cc)
 
     same_sound : Sound plan limits.naks (answer f) size false (replies_in xs) last l b a replies (Running h) d →
-        token_due h.transfer.request h.transfer.stage ≡ Some token → IsAllowed h.transfer.request (is_refusing d.stage) token came has → came ≡ has
+        token_due h.transfer [] h.transfer.stage ≡ Some token → IsAllowed h.transfer.request (is_refusing d.stage) token came has → came ≡ has
     same_sound (inl t) is allowed = same_together t is allowed
     same_sound (inr t) is (inl same) = same
-    same_sound (inr t) is (inr (inside, more)) = absurd (no_setup h.transfer.request h.transfer.stage token has t.asks is inside)
+    same_sound (inr t) is (inr (inside, more)) = absurd (no_setup h.transfer h.transfer.stage token has t.asks is inside)
 
   -- by the phase of the attempt and that of the host
   same_image : (used : List Fate) (replies : List Reply) (phase : Phase) (d : DeviceView) (place : Place) (t : TransferView) (k : Kept) (sent : Sent) (came has : Answer) →
@@ -199,7 +199,7 @@ module _ (set_of : List ℕ → Option Configuration) (exact : ReadsSets set_of)
   same_image used replies (Running h) d place t k sent came has sounds image is allowed =
       let there : h.transfer ≡ t = image.3.is_transfer in
       same_sound (losses used) (busies used) (acks_lost used) replies h d sent.token came has sounds
-      (subst (λ z. token_due z.request z.stage ≡ Some sent.token) (sym there) (to_token t.address (token_due t.request t.stage) sent is))
+      (subst (λ z. token_due z [] z.stage ≡ Some sent.token) (sym there) (to_token t.address (token_due t [] t.stage) sent is))
       (subst (λ z. IsAllowed z.request (is_refusing d.stage) sent.token came has) (sym there) allowed)
   same_image used replies Succeeded d place t k sent came has sounds image is allowed = absurd (image)
   same_image used replies (Broken why) d place t k sent came has sounds image is allowed = absurd (image)

@@ -216,7 +216,7 @@ module _ (plan : List Reply → Plan) (naks : ℕ) (answer : State → SetupPack
   silent_now : (phase : Phase) (d : DeviceView) → IsAway phase d → (sent : Sent) (fate : Fate) → due_in phase ≡ Some sent →
       (carried answer cut d sent fate).reply ≡ NoReply
   silent_now (Running h) d (is, ne) sent fate e =
-      let there = goes_to h.transfer.address (token_due h.transfer.request h.transfer.stage) sent e in
+      let there = goes_to h.transfer.address (token_due h.transfer [] h.transfer.stage) sent e in
       hears_nothing d sent fate (rw there ne)
   silent_now Succeeded d away sent fate e = absurd away
   silent_now (Broken why) d away sent fate e = absurd (cc)

@@ -9,7 +9,7 @@ use Rattle.usb_host.specs.declared.why.Why.{Why}
 use Rattle.usb_host.specs.declared.why.Why.TheVariants.{NoAnswer, Busy, Stalled, TooLong, Unexpected, Malformed, Memory}
 use Rattle.usb_host.specs.declared.transfer.TransferStage.{TransferStage}
 use Rattle.usb_host.specs.declared.transfer.TransferStage.TheVariants.{Setup, DataIn, DataOut, StatusOut, StatusIn, Completed, Failed}
-use Rattle.usb_host.specs.Transfer.{due, addressed, token_due}
+use Rattle.usb_host.specs.Transfer.{TransferView, due, addressed, token_due}
 use Rattle.usb_device.specs.Requests.{answer}
 use Rattle.usb_device.specs.States.{zero as zero_state}
 use Rattle.usb_device.specs.declared.state.State.{State}
@@ -33,21 +33,21 @@ settles plan naks replies d (Ok reply) = proceed plan naks (replies ++ reply ∷
 settles plan naks replies d (Err why) = record { replies = replies; phase = Broken why; device = d }
 
 advance-settled : (plan : List Reply → Plan) (naks : ℕ) (replies : List Reply) (h : HostEnd) (stage : TransferStage) (d : DeviceView) (address : ℕ)
-    (q : SetupPacket) → addressed address (token_due q stage) ≡ None →
+    (t : TransferView) → addressed address (token_due t [] stage) ≡ None →
     advance plan naks replies h stage d ≡ settles plan naks replies d (settled h.transfer.request.length h.got (failure_of stage))
-advance-settled plan naks replies h Setup d address q e = absurd (cc)
-advance-settled plan naks replies h DataIn d address q e = absurd (cc)
-advance-settled plan naks replies h DataOut d address q e = absurd (cc)
-advance-settled plan naks replies h StatusOut d address q e = absurd (cc)
-advance-settled plan naks replies h StatusIn d address q e = absurd (cc)
-advance-settled plan naks replies h Completed d address q e = refl
-advance-settled plan naks replies h (Failed NoAnswer) d address q e = refl
-advance-settled plan naks replies h (Failed Busy) d address q e = refl
-advance-settled plan naks replies h (Failed Stalled) d address q e = refl
-advance-settled plan naks replies h (Failed TooLong) d address q e = refl
-advance-settled plan naks replies h (Failed Unexpected) d address q e = refl
-advance-settled plan naks replies h (Failed Malformed) d address q e = refl
-advance-settled plan naks replies h (Failed Memory) d address q e = refl
+advance-settled plan naks replies h Setup d address t e = absurd (cc)
+advance-settled plan naks replies h DataIn d address t e = absurd (cc)
+advance-settled plan naks replies h DataOut d address t e = absurd (cc)
+advance-settled plan naks replies h StatusOut d address t e = absurd (cc)
+advance-settled plan naks replies h StatusIn d address t e = absurd (cc)
+advance-settled plan naks replies h Completed d address t e = refl
+advance-settled plan naks replies h (Failed NoAnswer) d address t e = refl
+advance-settled plan naks replies h (Failed Busy) d address t e = refl
+advance-settled plan naks replies h (Failed Stalled) d address t e = refl
+advance-settled plan naks replies h (Failed TooLong) d address t e = refl
+advance-settled plan naks replies h (Failed Unexpected) d address t e = refl
+advance-settled plan naks replies h (Failed Malformed) d address t e = refl
+advance-settled plan naks replies h (Failed Memory) d address t e = refl
 
 module _ (f : DescriptorFile) (naks : ℕ) (qs : List SetupPacket) (fates : List Fate) where
   abbrev plan : List Reply → Plan
@@ -71,7 +71,7 @@ module _ (f : DescriptorFile) (naks : ℕ) (qs : List SetupPacket) (fates : List
       let comes : point plan naks (answer f) f.device.packet fates before n begin ≡ end =
       ap (λ x. point plan naks (answer f) f.device.packet fates before x begin) none
       ∙ led.1 0
-      ∙ advance-settled plan naks replies h h.transfer.stage here h.transfer.address h.transfer.request over in
+      ∙ advance-settled plan naks replies h h.transfer.stage here h.transfer.address h.transfer over in
       let more = points plan naks (answer f) f.device.packet fates before n begin in
       let on = subst (λ x. Steps plan naks (answer f) f.device.packet fates before begin more x) comes (Steps-points plan naks (answer f) f.device.packet fates before n begin led.0) in
       let first : before ≡ 0 + length ps = omega arith in

@@ -9,7 +9,7 @@ use Rattle.usb_set.specs.declared.fault.SetFault.{SetFault}
 use Rattle.usb_set.specs.declared.decoder.Progress.{Progress}
 use Rattle.usb_host.specs.declared.transfer.TransferStage.{TransferStage}
 use Rattle.usb_host.specs.declared.transfer.TransferStage.TheVariants.{Setup, DataIn, DataOut, StatusOut, StatusIn, Completed, Failed}
-use Rattle.usb_host.specs.Transfer.{TransferView, Hearing, Taken, addressed, delayed, due, struck, taken, taken_at, token_due}
+use Rattle.usb_host.specs.Transfer.{TransferView, Hearing, Taken, addressed, delayed, due, struck, taken, taken_at, token_due, packet_due}
 use Rattle.usb_device.specs.declared.state.State.{State}
 use Rattle.usb_device.specs.Requests.{Outcome}
 use Rattle.usb_device.specs.Step.{DeviceView, Served, replies, served}
@@ -42,7 +42,7 @@ module _ (place : Place) (k : Kept) (result : Result Progress SetFault) where
   delayed_none t = if_none (nat_lt t.nak_count t.naks) _ _ neither neither
 
   -- a transaction that brought nothing
-  silent : (t : TransferView) (stage : TransferStage) (sent : Sent) → addressed t.address (token_due t.request stage) ≡ Some sent →
+  silent : (t : TransferView) (stage : TransferStage) (sent : Sent) → addressed t.address (token_due t [] stage) ≡ Some sent →
       Asks (taken_at t stage NoReply).heard → ⊥
   silent t Setup sent asks = struck_none t
   silent t DataIn sent asks = struck_none t
@@ -65,7 +65,7 @@ module _ (place : Place) (k : Kept) (result : Result Progress SetFault) where
     here_or true stage r p q = p
     here_or false stage r p q = q
 
-    unready_none : (stage : TransferStage) (sent : Sent) → addressed t.address (token_due t.request stage) ≡ Some sent → None stage (unready sent).reply
+    unready_none : (stage : TransferStage) (sent : Sent) → addressed t.address (token_due t [] stage) ≡ Some sent → None stage (unready sent).reply
     unready_none Setup sent e =
         let same : record { address = t.address; token = SetupToken (setup_bytes t.request) } ≡ sent = cc in
         subst (λ s. None Setup (unready s).reply) same (here_or (t.address == d.state.address) Setup _ neither (struck_none t))
@@ -73,7 +73,7 @@ module _ (place : Place) (k : Kept) (result : Result Progress SetFault) where
         let same : record { address = t.address; token = InToken } ≡ sent = cc in
         subst (λ s. None DataIn (unready s).reply) same (here_or (t.address == d.state.address) DataIn _ (delayed_none t) (struck_none t))
     unready_none DataOut sent e =
-        let same : record { address = t.address; token = OutToken Data1 [] } ≡ sent = cc in
+        let same : record { address = t.address; token = OutToken t.awaited (packet_due t []) } ≡ sent = cc in
         subst (λ s. None DataOut (unready s).reply) same (here_or (t.address == d.state.address) DataOut _ (delayed_none t) (struck_none t))
     unready_none StatusOut sent e =
         let same : record { address = t.address; token = OutToken Data1 [] } ≡ sent = cc in

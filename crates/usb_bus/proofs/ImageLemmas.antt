@@ -1,16 +1,18 @@
 -- A host that keeps a cursor and a decoder goes as one that keeps all replies and all bytes.
-use Rattle.std.proofs.Common.{◌≡◌, ℕ, ◌+◌, ◌==◌, Bool, true, false, nat_lt, if◌then◌else◌, List, [], ◌∷◌, ◌++◌, length, ◌⊎◌, inl, inr, refl, ap, sym, ◌∙◌, subst, length-append}
+use Rattle.std.proofs.Common.{◌≡◌, ℕ, ◌+◌, ◌==◌, ◌||◌, Bool, true, false, nat_lt, if◌then◌else◌, List, [], ◌∷◌, ◌++◌, length, ◌⊎◌, inl, inr, refl, ap, sym, ◌∙◌, subst, length-append}
 use Rattle.std.specs.Prelude.{Result, Option}
 use Rattle.usb_fields.specs.declared.packet.Speed.{Speed}
 use Rattle.usb_fields.specs.declared.packet.Toggle.{Toggle}
 use Rattle.usb_fields.specs.declared.packet.Toggle.TheVariants.{Data0, Data1}
-use Rattle.usb_fields.specs.Packets.{is_same_toggle, Reply as Packet, NakReply, DataReply, NoReply}
+use Rattle.usb_fields.specs.declared.setup.Direction.TheVariants as directions
+use Rattle.usb_fields.specs.Packets.{is_same_toggle, Reply as Packet, AckReply, NakReply, StallReply, DataReply, NoReply}
 use Rattle.usb_set.specs.declared.fault.SetFault.{SetFault}
 use Rattle.usb_set.specs.declared.decoder.Progress.{Progress}
+use Rattle.usb_host.specs.declared.why.Why.{Why}
 use Rattle.usb_host.specs.declared.why.Why.TheVariants.{NoAnswer, Busy, Stalled, TooLong, Unexpected, Malformed, Memory}
 use Rattle.usb_host.specs.declared.transfer.TransferStage.{TransferStage}
 use Rattle.usb_host.specs.declared.transfer.TransferStage.TheVariants.{Setup, DataIn, DataOut, StatusOut, StatusIn, Completed, Failed as TheFailed}
-use Rattle.usb_host.specs.Transfer.{TransferView, Hearing, Goes, Brings, Completes, Fails, Taken, taken, taken_at, taken_data, taken_status, kept_packet, struck, delayed}
+use Rattle.usb_host.specs.Transfer.{TransferView, Hearing, Goes, Brings, Completes, Fails, Taken, taken, taken_at, taken_data, taken_status, kept_packet, struck, delayed, failed, completed, data_stage}
 use Rattle.usb_device.specs.Step.{DeviceView}
 use Rattle.usb_host.specs.declared.reply.Reply.{Reply}
 use Rattle.usb_host.specs.declared.reply.Reply.TheVariants as replied
@@ -26,7 +28,7 @@ use Rattle.usb_host.specs.Keeping.{Kept, nothing_kept, set_kept}
 use Rattle.usb_host.specs.Gathered.{reached}
 use Rattle.usb_host.specs.Steps.{HostPhase, Reading, Ended, Grows, KeepsHeard, LacksMemory, TakesHeard, enter, read_leads, completed_leads, goes_on}
 use Rattle.usb_host.specs.inside.Sound.{FitsPlace}
-use Rattle.usb_bus.specs.inside.Image.{KeptFrom, IsInWork, IsTransfer, IsImage, plan_of, ReadsSets}
+use Rattle.usb_bus.specs.inside.Image.{KeptFrom, IsInWork, IsRead, IsTransfer, IsImage, plan_of, ReadsSets}
 use Rattle.usb_bus.proofs.FollowLemmas.{walk_append}
 use Rattle.usb_bus.proofs.KeepLemmas.{SetLaws, feeds, same_set}
 use Rattle.usb_bus.proofs.OpenLemmas.{nothing_is_open}
@@ -36,47 +38,79 @@ nothing_from : (place : Place) → KeptFrom [] (nothing_kept place)
 nothing_from (Set kind f total) = (refl, nothing_is_open, refl)
 nothing_from place = refl
 
--- the count of bytes stays that of the bytes
+-- a request for so many bytes from the device sends it none
+in_reads : (z : Bool) → (if z then StatusIn else data_stage directions.In) ≡ DataOut → ⊥
+in_reads true e = cc
+in_reads false e = cc
+
+begun_reads : (n : ℕ) → (Setup ≡ DataOut → ⊥) × ((if n == 0 then StatusIn else data_stage directions.In) ≡ DataOut → ⊥)
+begun_reads n = (λ e. cc, λ e. in_reads (n == 0) e)
+
+-- the count of bytes stays that of the bytes, and no data go to the device
 abbrev Counts : List ℕ → Taken → Type 0
-Counts got x = x.transfer.kept ≡ length (with_heard got x.heard)
+Counts got x = (x.transfer.kept ≡ length (with_heard got x.heard)) × IsRead x.transfer
 
 if_counts : (got : List ℕ) (b : Bool) (x y : Taken) → Counts got x → Counts got y → Counts got (if b then x else y)
 if_counts got true x y p q = p
 if_counts got false x y p q = q
 
-struck_counts : (got : List ℕ) (t : TransferView) → t.kept ≡ length got → Counts got (struck t)
-struck_counts got t e = if_counts got (nat_lt t.strikes 2) _ _ e e
+failed_counts : (got : List ℕ) (t : TransferView) (why : Why) → t.kept ≡ length got → IsRead t → Counts got (failed t why)
+failed_counts got t why e r = (e, (λ x. cc, r.1))
 
-delayed_counts : (got : List ℕ) (t : TransferView) → t.kept ≡ length got → Counts got (delayed t)
-delayed_counts got t e = if_counts got (nat_lt t.nak_count t.naks) _ _ e e
+struck_counts : (got : List ℕ) (t : TransferView) → t.kept ≡ length got → IsRead t → Counts got (struck t)
+struck_counts got t e r = if_counts got (nat_lt t.strikes 2) _ _ (e, r) (failed_counts got t NoAnswer e r)
 
-kept_counts : (got : List ℕ) (t : TransferView) (bytes : List ℕ) → t.kept ≡ length got → Counts got (kept_packet t bytes)
-kept_counts got t bytes e = ap (λ n. n + length bytes) e ∙ sym (length-append got bytes)
+delayed_counts : (got : List ℕ) (t : TransferView) → t.kept ≡ length got → IsRead t → Counts got (delayed t)
+delayed_counts got t e r = if_counts got (nat_lt t.nak_count t.naks) _ _ (e, r) (failed_counts got t Busy e r)
 
-data_counts : (got : List ℕ) (t : TransferView) (toggle : Toggle) (bytes : List ℕ) → t.kept ≡ length got → Counts got (taken_data t toggle bytes)
-data_counts got t toggle bytes e =
-    if_counts got (nat_lt t.packet (length bytes)) _ _ e
+completed_counts : (got : List ℕ) (t : TransferView) → t.kept ≡ length got → IsRead t → Counts got (completed t)
+completed_counts got t e r = (e, (λ x. cc, r.1))
+
+data_goes_in : (b : Bool) → (if b then StatusOut else DataIn) ≡ DataOut → ⊥
+data_goes_in true e = cc
+data_goes_in false e = cc
+
+kept_counts : (got : List ℕ) (t : TransferView) (bytes : List ℕ) → t.kept ≡ length got → IsRead t → Counts got (kept_packet t bytes)
+kept_counts got t bytes e r = (
+  ap (λ n. n + length bytes) e ∙ sym (length-append got bytes),
+  (λ x. data_goes_in (nat_lt (length bytes) t.packet || (t.kept + length bytes == t.request.length)) x, r.1),
+)
+
+data_counts : (got : List ℕ) (t : TransferView) (toggle : Toggle) (bytes : List ℕ) → t.kept ≡ length got → IsRead t → Counts got (taken_data t toggle bytes)
+data_counts got t toggle bytes e r =
+    if_counts got (nat_lt t.packet (length bytes)) _ _ (failed_counts got t TooLong e r)
     (if_counts got (is_same_toggle toggle t.awaited) _ _
-    (if_counts got (nat_lt t.request.length (t.kept + length bytes)) _ _ e (kept_counts got t bytes e)) (struck_counts got t e))
+    (if_counts got (nat_lt t.request.length (t.kept + length bytes)) _ _ (failed_counts got t TooLong e r) (kept_counts got t bytes e r)) (struck_counts got t e r))
 
-status_counts : (got : List ℕ) (t : TransferView) (toggle : Toggle) (bytes : List ℕ) → t.kept ≡ length got → Counts got (taken_status t toggle bytes)
-status_counts got t toggle (byte ∷ bytes) e = e
-status_counts got t Data0 [] e = struck_counts got t e
-status_counts got t Data1 [] e = e
+status_counts : (got : List ℕ) (t : TransferView) (toggle : Toggle) (bytes : List ℕ) → t.kept ≡ length got → IsRead t → Counts got (taken_status t toggle bytes)
+status_counts got t toggle (byte ∷ bytes) e r = failed_counts got t TooLong e r
+status_counts got t Data0 [] e r = struck_counts got t e r
+status_counts got t Data1 [] e r = completed_counts got t e r
 
-counts : (got : List ℕ) (t : TransferView) (stage : TransferStage) (packet : Packet) → t.kept ≡ length got → Counts got (taken_at t stage packet)
-counts got t Setup NoReply e = struck_counts got t e
-counts got t DataIn NakReply e = delayed_counts got t e
-counts got t DataIn (DataReply toggle bytes) e = data_counts got t toggle bytes e
-counts got t DataIn NoReply e = struck_counts got t e
-counts got t DataOut NakReply e = delayed_counts got t e
-counts got t DataOut NoReply e = struck_counts got t e
-counts got t StatusOut NakReply e = delayed_counts got t e
-counts got t StatusOut NoReply e = struck_counts got t e
-counts got t StatusIn NakReply e = delayed_counts got t e
-counts got t StatusIn (DataReply toggle bytes) e = status_counts got t toggle bytes e
-counts got t StatusIn NoReply e = struck_counts got t e
-counts got t _ _ e = e
+counts : (got : List ℕ) (t : TransferView) (stage : TransferStage) (packet : Packet) → t.stage ≡ stage → t.kept ≡ length got → IsRead t → Counts got (taken_at t stage packet)
+counts got t Setup AckReply at e r = (e, (r.1, r.1))
+counts got t Setup NakReply at e r = failed_counts got t Unexpected e r
+counts got t Setup StallReply at e r = failed_counts got t Unexpected e r
+counts got t Setup (DataReply toggle bytes) at e r = failed_counts got t Unexpected e r
+counts got t Setup NoReply at e r = struck_counts got t e r
+counts got t DataIn AckReply at e r = failed_counts got t Unexpected e r
+counts got t DataIn NakReply at e r = delayed_counts got t e r
+counts got t DataIn StallReply at e r = failed_counts got t Stalled e r
+counts got t DataIn (DataReply toggle bytes) at e r = data_counts got t toggle bytes e r
+counts got t DataIn NoReply at e r = struck_counts got t e r
+counts got t DataOut packet at e r = absurd (r.0 at)
+counts got t StatusOut AckReply at e r = completed_counts got t e r
+counts got t StatusOut NakReply at e r = delayed_counts got t e r
+counts got t StatusOut StallReply at e r = failed_counts got t Stalled e r
+counts got t StatusOut (DataReply toggle bytes) at e r = failed_counts got t Unexpected e r
+counts got t StatusOut NoReply at e r = struck_counts got t e r
+counts got t StatusIn AckReply at e r = failed_counts got t Unexpected e r
+counts got t StatusIn NakReply at e r = delayed_counts got t e r
+counts got t StatusIn StallReply at e r = failed_counts got t Stalled e r
+counts got t StatusIn (DataReply toggle bytes) at e r = status_counts got t toggle bytes e r
+counts got t StatusIn NoReply at e r = struck_counts got t e r
+counts got t Completed packet at e r = (e, r)
+counts got t (TheFailed why) packet at e r = (e, r)
 
 module _ (laws : SetLaws) (set_of : List ℕ → Option Configuration) (limits : LimitView) (speed : Speed) (exact : ReadsSets set_of) where
   abbrev at : List Reply → Place
@@ -90,15 +124,15 @@ module _ (laws : SetLaws) (set_of : List ℕ → Option Configuration) (limits :
 
   -- the next read begins
   entered_by : (replies : List Reply) (place : Place) → at replies ≡ place → Image replies (phase_of limits.naks (asks limits.address place)) (enter limits place)
-  entered_by replies First e = (e, tt, fits_nothing First, record { is_transfer = refl; is_count = refl; is_kept = nothing_from First })
-  entered_by replies (Address first) e = (e, tt, fits_nothing (Address first), record { is_transfer = refl; is_count = refl; is_kept = nothing_from (Address first) })
-  entered_by replies (Device first) e = (e, tt, fits_nothing (Device first), record { is_transfer = refl; is_count = refl; is_kept = nothing_from (Device first) })
-  entered_by replies (Header kind f) e = (e, tt, fits_nothing (Header kind f), record { is_transfer = refl; is_count = refl; is_kept = nothing_from (Header kind f) })
-  entered_by replies (Set kind f total) e = (e, tt, fits_nothing (Set kind f total), record { is_transfer = refl; is_count = refl; is_kept = nothing_from (Set kind f total) })
-  entered_by replies (Qualifier f) e = (e, tt, fits_nothing (Qualifier f), record { is_transfer = refl; is_count = refl; is_kept = nothing_from (Qualifier f) })
-  entered_by replies (Languages f named) e = (e, tt, fits_nothing (Languages f named), record { is_transfer = refl; is_count = refl; is_kept = nothing_from (Languages f named) })
-  entered_by replies (Text f s named) e = (e, tt, fits_nothing (Text f s named), record { is_transfer = refl; is_count = refl; is_kept = nothing_from (Text f s named) })
-  entered_by replies (Configure f) e = (e, tt, fits_nothing (Configure f), record { is_transfer = refl; is_count = refl; is_kept = nothing_from (Configure f) })
+  entered_by replies First e = (e, tt, fits_nothing First, record { is_transfer = refl; is_read = begun_reads 8; is_count = refl; is_kept = nothing_from First })
+  entered_by replies (Address first) e = (e, tt, fits_nothing (Address first), record { is_transfer = refl; is_read = (λ e. cc, λ e. cc); is_count = refl; is_kept = nothing_from (Address first) })
+  entered_by replies (Device first) e = (e, tt, fits_nothing (Device first), record { is_transfer = refl; is_read = begun_reads 18; is_count = refl; is_kept = nothing_from (Device first) })
+  entered_by replies (Header kind f) e = (e, tt, fits_nothing (Header kind f), record { is_transfer = refl; is_read = begun_reads 9; is_count = refl; is_kept = nothing_from (Header kind f) })
+  entered_by replies (Set kind f total) e = (e, tt, fits_nothing (Set kind f total), record { is_transfer = refl; is_read = begun_reads total; is_count = refl; is_kept = nothing_from (Set kind f total) })
+  entered_by replies (Qualifier f) e = (e, tt, fits_nothing (Qualifier f), record { is_transfer = refl; is_read = begun_reads 10; is_count = refl; is_kept = nothing_from (Qualifier f) })
+  entered_by replies (Languages f named) e = (e, tt, fits_nothing (Languages f named), record { is_transfer = refl; is_read = begun_reads 255; is_count = refl; is_kept = nothing_from (Languages f named) })
+  entered_by replies (Text f s named) e = (e, tt, fits_nothing (Text f s named), record { is_transfer = refl; is_read = begun_reads 255; is_count = refl; is_kept = nothing_from (Text f s named) })
+  entered_by replies (Configure f) e = (e, tt, fits_nothing (Configure f), record { is_transfer = refl; is_read = (λ e. cc, λ e. cc); is_count = refl; is_kept = nothing_from (Configure f) })
   entered_by replies (Reported f) e = e
   entered_by replies (Stopped trouble) e = refl
 
@@ -189,9 +223,10 @@ module _ (laws : SetLaws) (set_of : List ℕ → Option Configuration) (limits :
   stays replies h d place t k packet new (here, open_, fits, is) (result, after, works, inr (fine, e)) =
       let by = taken t packet in
       let end : HostEnd = host_after h.got by in
+      let c = counts h.got t t.stage packet refl is.is_count is.is_read in
       let w = keeps place h.got k after by.heard result fits is.is_kept works fine in
       let image = advanced replies end by.transfer.stage d place by.transfer after here open_ w.0
-      (record { is_transfer = refl; is_count = counts h.got t t.stage packet is.is_count; is_kept = w.1 }) in
+      (record { is_transfer = refl; is_read = c.1; is_count = c.0; is_kept = w.1 }) in
       let same : hears h packet ≡ end = ap (λ x. host_after h.got (taken x packet)) is.is_transfer in
       inr (subst (λ s. (let z = hears h packet in let x = advance plan limits.naks replies z z.transfer.stage d in Image x.replies x.phase s)) (sym e)
       (subst (λ z. (let x = advance plan limits.naks replies z z.transfer.stage d in Image x.replies x.phase (goes_on limits speed place by.transfer after by.transfer.stage))) (sym same) image))

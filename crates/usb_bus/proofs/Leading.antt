@@ -1,5 +1,5 @@
 -- The transactions of one transfer, as a part of a talk.
-use Rattle.std.proofs.Common.{◌≡◌, ℕ, suc, ◌+◌, List, Option, Some, None, refl, ap, ◌∙◌, arith}
+use Rattle.std.proofs.Common.{◌≡◌, ℕ, suc, ◌+◌, List, [], Option, Some, None, refl, ap, ◌∙◌, arith}
 use Rattle.std.proofs.lemmas.Bool.Decides.{nat_tests}
 use Rattle.usb_fields.specs.Packets.{Sent, Reply as PacketReply}
 use Rattle.usb_fields.specs.declared.setup.Setup.{Setup as SetupPacket}
@@ -39,15 +39,15 @@ failure_in-taken t (Failed why) r e = grind (arith, nat_tests)
 
 -- a transfer that has something due goes on
 advance-due : (plan : List Reply → Plan) (naks : ℕ) (replies : List Reply) (h : HostEnd) (stage : TransferStage) (d : DeviceView) (address : ℕ)
-    (q : SetupPacket) (sent : Sent) → addressed address (token_due q stage) ≡ Some sent →
+    (t : TransferView) (sent : Sent) → addressed address (token_due t [] stage) ≡ Some sent →
     advance plan naks replies h stage d ≡ record { replies = replies; phase = Running h; device = d }
-advance-due plan naks replies h Setup d address q sent e = refl
-advance-due plan naks replies h DataIn d address q sent e = refl
-advance-due plan naks replies h DataOut d address q sent e = refl
-advance-due plan naks replies h StatusOut d address q sent e = refl
-advance-due plan naks replies h StatusIn d address q sent e = refl
-advance-due plan naks replies h Completed d address q sent e = absurd (cc)
-advance-due plan naks replies h (Failed why) d address q sent e = absurd (cc)
+advance-due plan naks replies h Setup d address t sent e = refl
+advance-due plan naks replies h DataIn d address t sent e = refl
+advance-due plan naks replies h DataOut d address t sent e = refl
+advance-due plan naks replies h StatusOut d address t sent e = refl
+advance-due plan naks replies h StatusIn d address t sent e = refl
+advance-due plan naks replies h Completed d address t sent e = absurd (cc)
+advance-due plan naks replies h (Failed why) d address t sent e = absurd (cc)
 
 -- one transaction more
 pub Leads-more : (answer : State → SetupPacket → Outcome) (cut : ℕ) (fates : List Fate) (before : ℕ) (h : HostEnd) (d : DeviceView) (now : ℕ)
@@ -60,7 +60,7 @@ Leads-more answer cut fates before h d now middle there sent last here asks goes
       suc n,
       omega arith,
       λ plan naks replies.
-          (let running = advance-due plan naks replies middle middle.transfer.stage there middle.transfer.address middle.transfer.request sent asks in
+          (let running = advance-due plan naks replies middle middle.transfer.stage there middle.transfer.address middle.transfer sent asks in
           let start : Attempt = record { replies = replies; phase = Running h; device = d } in
           let led = leads plan naks replies in
           let none : n ≡ n + 0 = omega arith in

@@ -1,9 +1,10 @@
 -- A transfer reads one answer of a responder that changes.
 use Rattle.std.proofs.Common.{◌≡◌, ℕ, ◌+◌, ◌<◌, Bool, true, false, if◌then◌else◌, ◌⊎◌, inl, inr, List, [], ◌∷◌, Option, Some, refl, ap, sym, ◌∙◌, subst, arith, add-zero, add_assoc, zero-add}
+use Rattle.usb_fields.specs.declared.packet.Toggle.{Toggle}
 use Rattle.usb_fields.specs.declared.packet.Toggle.TheVariants.{Data1}
 use Rattle.usb_fields.specs.declared.setup.Setup.{Setup as SetupPacket}
 use Rattle.usb_fields.specs.Packets.{InToken, OutToken, Sent, NoReply}
-use Rattle.usb_host.specs.Transfer.{due, token_due, addressed}
+use Rattle.usb_host.specs.Transfer.{due, packet_due, token_due, addressed}
 use Rattle.usb_host.specs.declared.transfer.TransferStage.{TransferStage}
 use Rattle.usb_host.specs.declared.transfer.TransferStage.TheVariants.{Setup, DataIn, DataOut, StatusOut, StatusIn, Completed, Failed}
 use Rattle.usb_device.specs.declared.state.State.{State}
@@ -49,11 +50,11 @@ module _ (room : ℕ) (table : State → SetupPacket → Outcome) (packet : ℕ)
       sym ((one_device room table r' packet).serves d (record { address = address; token = InToken }) ready)
       ∙ (one_device room table r packet).serves d (record { address = address; token = InToken }) ready
 
-  out_alike : (r r' : Responds) (address : ℕ) (d : DeviceView) (ready : Bool) →
-      served (both r') packet d (record { address = address; token = OutToken Data1 [] }) ready ≡ served (both r) packet d (record { address = address; token = OutToken Data1 [] }) ready
-  out_alike r r' address d ready =
-      sym ((one_device room table r' packet).serves d (record { address = address; token = OutToken Data1 [] }) ready)
-      ∙ (one_device room table r packet).serves d (record { address = address; token = OutToken Data1 [] }) ready
+  out_alike : (r r' : Responds) (toggle : Toggle) (bytes : List ℕ) (address : ℕ) (d : DeviceView) (ready : Bool) →
+      served (both r') packet d (record { address = address; token = OutToken toggle bytes }) ready ≡ served (both r) packet d (record { address = address; token = OutToken toggle bytes }) ready
+  out_alike r r' toggle bytes address d ready =
+      sym ((one_device room table r' packet).serves d (record { address = address; token = OutToken toggle bytes }) ready)
+      ∙ (one_device room table r packet).serves d (record { address = address; token = OutToken toggle bytes }) ready
 
   exchanged_alike : (r r' : Responds) (h : HostEnd) (d : DeviceView) (sent : Sent) (fate : Fate) →
       ((ready : Bool) → served (both r') packet d sent ready ≡ served (both r) packet d sent ready) →
@@ -90,19 +91,19 @@ module _ (room : ℕ) (table : State → SetupPacket → Outcome) (packet : ℕ)
     Alike r r' fate e o = exchanged (both r') packet e.host e.device o fate ≡ exchanged (both r) packet e.host e.device o fate
 
     abbrev due_at : Ends → TransferStage → Option Sent
-    due_at e x = addressed e.host.transfer.address (token_due e.host.transfer.request x)
+    due_at e x = addressed e.host.transfer.address (token_due e.host.transfer [] x)
 
     in_stage : (r r' : Responds) (fate : Fate) (e : Ends) → Alike r r' fate e (Some (record { address = e.host.transfer.address; token = InToken }))
     in_stage r r' fate e = exchanged_alike r r' e.host e.device (record { address = e.host.transfer.address; token = InToken }) fate (λ ready. in_alike r r' e.host.transfer.address e.device ready)
 
-    out_stage : (r r' : Responds) (fate : Fate) (e : Ends) → Alike r r' fate e (Some (record { address = e.host.transfer.address; token = OutToken Data1 [] }))
-    out_stage r r' fate e = exchanged_alike r r' e.host e.device (record { address = e.host.transfer.address; token = OutToken Data1 [] }) fate (λ ready. out_alike r r' e.host.transfer.address e.device ready)
+    out_stage : (r r' : Responds) (fate : Fate) (e : Ends) (toggle : Toggle) (bytes : List ℕ) → Alike r r' fate e (Some (record { address = e.host.transfer.address; token = OutToken toggle bytes }))
+    out_stage r r' fate e toggle bytes = exchanged_alike r r' e.host e.device (record { address = e.host.transfer.address; token = OutToken toggle bytes }) fate (λ ready. out_alike r r' toggle bytes e.host.transfer.address e.device ready)
 
     at_stage : (r r' : Responds) (fate : Fate) (e : Ends) (x : TransferStage) → (x ≡ Setup → ⊥) → e.host.transfer.stage ≡ x → Alike r r' fate e (due e.host.transfer)
     at_stage r r' fate e Setup other i = absurd (other refl)
     at_stage r r' fate e DataIn other i = subst (λ x. Alike r r' fate e (due_at e x)) (sym i) (in_stage r r' fate e)
-    at_stage r r' fate e DataOut other i = subst (λ x. Alike r r' fate e (due_at e x)) (sym i) (out_stage r r' fate e)
-    at_stage r r' fate e StatusOut other i = subst (λ x. Alike r r' fate e (due_at e x)) (sym i) (out_stage r r' fate e)
+    at_stage r r' fate e DataOut other i = subst (λ x. Alike r r' fate e (due_at e x)) (sym i) (out_stage r r' fate e e.host.transfer.awaited (packet_due e.host.transfer []))
+    at_stage r r' fate e StatusOut other i = subst (λ x. Alike r r' fate e (due_at e x)) (sym i) (out_stage r r' fate e Data1 [])
     at_stage r r' fate e StatusIn other i = subst (λ x. Alike r r' fate e (due_at e x)) (sym i) (in_stage r r' fate e)
     at_stage r r' fate e Completed other i = subst (λ x. Alike r r' fate e (due_at e x)) (sym i) refl
     at_stage r r' fate e (Failed why) other i = subst (λ x. Alike r r' fate e (due_at e x)) (sym i) refl

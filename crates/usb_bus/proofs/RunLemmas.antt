@@ -138,7 +138,7 @@ module _ (set_of : List ℕ → Option Configuration) (limits : LimitView) (spee
         (let below = before.0 in omega arith),
         ap (λ z. z.attempts) before.1,
         subst (λ z. Image z.replies z.phase (enter limits First)) (sym attempt_is)
-            (refl, tt, tt, record { is_transfer = refl; is_count = refl; is_kept = refl }),
+            (refl, tt, tt, record { is_transfer = refl; is_read = (λ e. cc, λ e. cc); is_count = refl; is_kept = refl }),
         ap (λ z. z.device) attempt_is ∙ sym r.device,
       ) in
       record {

@@ -1,8 +1,10 @@
 -- What a host wants sent has no bytes but those of a SETUP: its numbers are all of it.
 use Rattle.std.proofs.Common.{◌≡◌, ℕ, [], Option, Some, None, refl, sym, subst}
 use Rattle.std.specs.Option.{option_and_then, option_map, unwrap_or}
-use Rattle.usb_fields.specs.Packets.{Sent}
-use Rattle.usb_fields.specs.declared.setup.Setup.{Setup as SetupPacket}
+use Rattle.std.proofs.Math.Seq.{drop-nil, take-nil}
+use Rattle.usb_fields.specs.Packets.{Sent, OutToken}
+use Rattle.usb_fields.specs.declared.packet.Toggle.{Toggle}
+use Rattle.usb_fields.specs.declared.packet.Toggle.TheVariants.{Data0, Data1}
 use Rattle.usb_host.specs.declared.transfer.TransferStage.{TransferStage}
 use Rattle.usb_host.specs.declared.transfer.TransferStage.TheVariants as stages
 use Rattle.usb_host.specs.Transfer.{TransferView, addressed, due, token_due}
@@ -17,19 +19,25 @@ IsWhole (Some WantsReset) = Unit {0}
 IsWhole (Some WantsNothing) = Unit {0}
 IsWhole (Some (WantsSent sent)) = sent_told (transaction_of sent) [] ≡ Some sent
 
-token_whole : (address : ℕ) (q : SetupPacket) (stage : TransferStage)
-    → IsWhole (Some (sends (addressed address (token_due q stage))))
-token_whole address q stages.Setup = refl
-token_whole address q stages.DataIn = refl
-token_whole address q stages.DataOut = refl
-token_whole address q stages.StatusOut = refl
-token_whole address q stages.StatusIn = refl
-token_whole address q stages.Completed = tt
-token_whole address q (stages.Failed why) = tt
+-- an empty OUT
+out_whole : (address : ℕ) (toggle : Toggle) → IsWhole (Some (WantsSent (record { address = address; token = OutToken toggle [] })))
+out_whole address Data0 = refl
+out_whole address Data1 = refl
+
+token_whole : (address : ℕ) (t : TransferView) (stage : TransferStage)
+    → IsWhole (Some (sends (addressed address (token_due t [] stage))))
+token_whole address t stages.Setup = refl
+token_whole address t stages.DataIn = refl
+token_whole address t stages.DataOut =
+    rw (drop-nil t.kept, take-nil t.packet) (out_whole address t.awaited)
+token_whole address t stages.StatusOut = refl
+token_whole address t stages.StatusIn = refl
+token_whole address t stages.Completed = tt
+token_whole address t (stages.Failed why) = tt
 
 phase_whole : (phase : HostPhase) → IsWhole (Some (wanted phase))
 phase_whole ResetDue = tt
-phase_whole (Reading place t kept) = token_whole t.address t.request t.stage
+phase_whole (Reading place t kept) = token_whole t.address t t.stage
 phase_whole (Ended place) = tt
 
 held_whole : (held : Option HostView) → IsWhole (option_map (λ v. wanted v.phase) held)
@@ -45,7 +53,7 @@ told_whole held old new sent told is =
 
 transfer_whole : (held : Option TransferView) → IsWhole (Some (sends (option_and_then due held)))
 transfer_whole None = tt
-transfer_whole (Some t) = token_whole t.address t.request t.stage
+transfer_whole (Some t) = token_whole t.address t t.stage
 
 -- the same of a transfer
 pub due_whole : (held : Option TransferView) (old new : NzgTransaction) (sent : Sent)

@@ -1,7 +1,7 @@
 -- Each reply leaves fewer transactions.
-use Rattle.std.proofs.Common.{◌≡◌, ℕ, zero, suc, ◌+◌, ◌-◌, ◌*◌, ◌/◌, ◌<◌, ◌≤◌, ◌==◌, ◌||◌, nat_lt, Bool, true, false, if◌then◌else◌, IsSome, List, [], ◌∷◌, length, refl, sym, arith, inl, inr}
+use Rattle.std.proofs.Common.{◌≡◌, ℕ, zero, suc, ◌+◌, ◌-◌, ◌*◌, ◌/◌, ◌<◌, ◌≤◌, ◌==◌, ◌||◌, nat_lt, min, Bool, true, false, if◌then◌else◌, IsSome, List, [], ◌∷◌, length, refl, sym, arith, inl, inr}
 use Rattle.std.proofs.lemmas.Bool.Decides.{nat_tests, leb_tells, eqb_tells}
-use Rattle.std.proofs.Math.Nat.{mul-le-mul_right, add-div_right, div-le_self}
+use Rattle.std.proofs.Math.Nat.{mul-le-mul_right, add-div_right, div-le_self, min-le_right}
 use Rattle.usb_fields.specs.Packets.{Reply, AckReply, NakReply, StallReply, DataReply, NoReply, is_same_toggle}
 use Rattle.usb_fields.specs.Setup.{direction_of}
 use Rattle.usb_fields.specs.declared.packet.Toggle.{Toggle}
@@ -13,7 +13,7 @@ use Rattle.usb_host.specs.declared.why.Why.{Why}
 use Rattle.usb_host.specs.declared.why.Why.TheVariants.{NoAnswer, Busy, Stalled, TooLong, Unexpected}
 use Rattle.usb_host.specs.declared.transfer.TransferStage.{TransferStage}
 use Rattle.usb_host.specs.declared.transfer.TransferStage.TheVariants.{Setup, DataIn, DataOut, StatusOut, StatusIn, Completed, Failed}
-use Rattle.usb_host.specs.Transfer.{TransferView, begun, addressed, token_due, due, taken, taken_at, taken_data, taken_status, moved, completed, failed, struck, delayed, kept_packet, stage_after_setup, data_stage, left, steps, steps_left, most_transactions}
+use Rattle.usb_host.specs.Transfer.{acknowledged, packet_length, TransferView, begun, addressed, token_due, due, taken, taken_at, taken_data, taken_status, moved, completed, failed, struck, delayed, kept_packet, stage_after_setup, data_stage, left, steps, steps_left, most_transactions}
 use Rattle.usb_host.specs.inside.Transfers.{IsTransfer}
 
 -- while steps of progress are left, transactions are
@@ -119,6 +119,24 @@ left-taken_status t toggle (byte ∷ bytes) is some = left-failed t TooLong is s
 left-taken_status t Data0 [] is some = left-struck t is some
 left-taken_status t Data1 [] is some = left-progress t (completed t).transfer is refl refl refl some
 
+-- a whole packet to the device takes a step, and the last one the rest
+steps-sent_by : (l c p n : ℕ) (ends : Bool) → (c + n == l) ≡ ends → 0 < p → n ≡ min p (l - c) → c ≤ l →
+    steps_left (l - (c + n)) p (if ends then StatusIn else DataOut) < (l - c) / p + 2
+steps-sent_by l c p n true e some is within = omega arith
+steps-sent_by l c p n false e some is within =
+    let most : n ≤ l - c = rw is (min-le_right p (l - c)) in
+    let fewer : c + n < l = grind (arith, nat_tests) in
+    let same : n ≡ p = omega (arith, is, fewer) in
+    let step : (l - (c + p)) / p + 1 ≡ (l - c) / p = div-packet l c p some (omega (arith, same, fewer)) in
+    rw same (omega (arith, step))
+
+left-sent : (t : TransferView) → IsTransfer t → t.stage ≡ DataOut → left (acknowledged t).transfer < left t
+left-sent t is at =
+    let fewer : steps (acknowledged t).transfer < steps t =
+    rw at (steps-sent_by t.request.length t.kept t.packet (packet_length t) (t.kept + packet_length t == t.request.length) refl is.packet refl is.kept)
+    in
+    left-progress t (acknowledged t).transfer is refl refl refl fewer
+
 left-taken_at : (t : TransferView) (stage : TransferStage) (r : Reply) → t.stage ≡ stage → IsTransfer t → 0 < steps_left (t.request.length - t.kept) t.packet stage → left (taken_at t stage r).transfer < left t
 left-taken_at t Setup AckReply at is some =
     left-progress t (moved t (stage_after_setup t.request)).transfer is refl refl refl (rw at (steps-setup (t.request.length - t.kept) t.packet t.request))
@@ -131,7 +149,7 @@ left-taken_at t DataIn NakReply at is some = left-delayed t is (rw at some)
 left-taken_at t DataIn StallReply at is some = left-failed t Stalled is (rw at some)
 left-taken_at t DataIn (DataReply toggle bytes) at is some = left-taken_data t toggle bytes is at (rw at some)
 left-taken_at t DataIn NoReply at is some = left-struck t is (rw at some)
-left-taken_at t DataOut AckReply at is some = left-failed t Unexpected is (rw at some)
+left-taken_at t DataOut AckReply at is some = left-sent t is at
 left-taken_at t DataOut NakReply at is some = left-delayed t is (rw at some)
 left-taken_at t DataOut StallReply at is some = left-failed t Stalled is (rw at some)
 left-taken_at t DataOut (DataReply toggle bytes) at is some = left-failed t Unexpected is (rw at some)
@@ -150,18 +168,18 @@ left-taken_at t Completed r at is some = absurd (omega arith)
 left-taken_at t (Failed why) r at is some = absurd (omega arith)
 
 -- a transfer that asks has steps left
-steps_left-due : (bytes packet address : ℕ) (q : SetupPacket) (stage : TransferStage) → IsSome (addressed address (token_due q stage)) → 0 < steps_left bytes packet stage
-steps_left-due bytes packet address q Setup asks = omega arith
-steps_left-due bytes packet address q DataIn asks = omega arith
-steps_left-due bytes packet address q DataOut asks = omega arith
-steps_left-due bytes packet address q StatusOut asks = omega arith
-steps_left-due bytes packet address q StatusIn asks = omega arith
-steps_left-due bytes packet address q Completed asks = cc
-steps_left-due bytes packet address q (Failed why) asks = cc
+steps_left-due : (bytes packet address : ℕ) (t : TransferView) (stage : TransferStage) → IsSome (addressed address (token_due t [] stage)) → 0 < steps_left bytes packet stage
+steps_left-due bytes packet address t Setup asks = omega arith
+steps_left-due bytes packet address t DataIn asks = omega arith
+steps_left-due bytes packet address t DataOut asks = omega arith
+steps_left-due bytes packet address t StatusOut asks = omega arith
+steps_left-due bytes packet address t StatusIn asks = omega arith
+steps_left-due bytes packet address t Completed asks = cc
+steps_left-due bytes packet address t (Failed why) asks = cc
 
 pub left-taken : (t : TransferView) (r : Reply) → IsTransfer t → IsSome (due t) → left (taken t r).transfer < left t
 left-taken t r is asks =
-    left-taken_at t t.stage r refl is (steps_left-due (t.request.length - t.kept) t.packet t.address t.request t.stage asks)
+    left-taken_at t t.stage r refl is (steps_left-due (t.request.length - t.kept) t.packet t.address t t.stage asks)
 
 pub left-begun : (address packet naks : ℕ) (q : SetupPacket) → left (begun address packet naks q) ≤ most_transactions packet naks q
 unfolding left

@@ -194,7 +194,7 @@ module _ (limits : LimitView) (speed : Speed) (place : Place) where
       (goes_agreeing (taken t answer).heard (taken t answer).transfer k after result came (heeds t answer going).stage keeps agrees)
 
 -- a transfer that sends something goes on
-going_by : (t : TransferView) (sent : Sent) (stage : TransferStage) → sends (addressed t.address (token_due t.request stage)) ≡ WantsSent sent → IsGoing stage
+going_by : (t : TransferView) (sent : Sent) (stage : TransferStage) → sends (addressed t.address (token_due t [] stage)) ≡ WantsSent sent → IsGoing stage
 going_by t sent Setup e = tt
 going_by t sent DataIn e = tt
 going_by t sent DataOut e = tt

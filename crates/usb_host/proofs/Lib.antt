@@ -1,4 +1,5 @@
 pub mod ReadLemmas
+pub mod RequestLemmas
 pub mod PartLemmas
 pub mod CostLemmas
 pub mod LowerLemmas

@@ -1,5 +1,5 @@
 -- What holds of a read in work still holds of the one that an answer leads to.
-use Rattle.std.proofs.Common.{◌≡◌, ℕ, ◌+◌, ◌<◌, ◌≤◌, ◌&&◌, Bool, false, if◌then◌else◌, nat_lt, length, refl, ap, sym, ◌∙◌, arith, subst, length-append}
+use Rattle.std.proofs.Common.{◌≡◌, ℕ, ◌+◌, ◌<◌, ◌≤◌, ◌&&◌, Bool, false, if◌then◌else◌, nat_lt, List, [], ◌++◌, length, refl, ap, sym, ◌∙◌, arith, subst, length-append}
 use Rattle.std.specs.Prelude.{Some, None, IsSome, Result}
 use Rattle.usb_fields.specs.Packets.{Reply as Answer}
 use Rattle.usb_fields.specs.declared.packet.Speed.{Speed}
@@ -23,17 +23,22 @@ use Rattle.usb_host.proofs.TakeLemmas.{StageOf, CountOf, heeds, hears_steady, he
 
 -- ---- a read that goes on
 
--- the count stays that of what is kept
-counted_still : (t u : TransferView) (k : Kept) → IsCounted t k → u.kept ≡ t.kept → u.request ≡ t.request → IsCounted u k
-counted_still t u (kept.Bytes b) (count, most) same request = (same ∙ count, subst (λ q. q.length ≤ 255) (sym request) most)
-counted_still t u (kept.Set d over) counted same request = tt
+-- the count stays at least that of what is kept
+counted_still : (t u : TransferView) (k : Kept) → IsCounted t k → t.kept ≤ u.kept → u.request ≡ t.request → IsCounted u k
+counted_still t u (kept.Bytes b) (count, most) more request = (omega arith, subst (λ q. q.length ≤ 255) (sym request) most)
+counted_still t u (kept.Set d over) counted more request = tt
+
+grow : (b new bytes : List ℕ) (count after : ℕ) → length b ≤ count → after ≡ count + length bytes → new ≡ b ++ bytes → length new ≤ after
+grow b new bytes count after within is keeps =
+    let long : length new ≡ length b + length bytes = ap length keeps ∙ length-append b bytes in
+    omega arith
 
 counted_on : (t u : TransferView) (old k : Kept) (heard : Hearing) (result : Result Progress SetFault) → IsCounted t old → CountOf t heard u →
     u.request ≡ t.request → KeepsHeard old heard result k → EndsBy old heard result None → IsCounted u k
 counted_on t u old k Goes result counted count request keeps ends =
     subst (λ x. IsCounted u x) (sym keeps) (counted_still t u old counted count request)
 counted_on t u (kept.Bytes b) (kept.Bytes new) (Brings bytes) result (counted, most) count request keeps ends =
-    (count.0 ∙ ap (λ x. x + length bytes) counted ∙ sym (length-append b bytes) ∙ ap length (sym keeps), subst (λ q. q.length ≤ 255) (sym request) most)
+    (grow b new bytes t.kept u.kept counted count.0 keeps, subst (λ q. q.length ≤ 255) (sym request) most)
 counted_on t u (kept.Bytes b) (kept.Set d over) (Brings bytes) result counted count request keeps ends = absurd (keeps)
 counted_on t u (kept.Set d over) (kept.Bytes new) (Brings bytes) result counted count request keeps ends = absurd (keeps)
 counted_on t u (kept.Set d over) (kept.Set e again) (Brings bytes) result counted count request keeps ends = tt
@@ -67,7 +72,7 @@ still_reading place t u old k answer is bytes (same, (result, keeps, ends)) =
 pub going_due : (t : TransferView) → IsGoing t.stage → IsSome (due t)
 going_due t going = by_stage t.stage going
   where
-    by_stage : (stage : TransferStage) → IsGoing stage → IsSome (addressed t.address (token_due t.request stage))
+    by_stage : (stage : TransferStage) → IsGoing stage → IsSome (addressed t.address (token_due t [] stage))
     by_stage Setup going = refl
     by_stage DataIn going = refl
     by_stage DataOut going = refl
@@ -79,15 +84,15 @@ going_due t going = by_stage t.stage going
 -- ---- a read that begins
 
 pub enters_standing : (limits : LimitView) (place : Place) → IsGood place → IsStanding (enter limits place)
-enters_standing limits First good = record { good = good; is_read = refl; fits = tt; bytes = tt; going = tt; counted = (refl, omega arith) }
-enters_standing limits (Address first) good = record { good = good; is_read = refl; fits = tt; bytes = tt; going = tt; counted = (refl, omega arith) }
-enters_standing limits (Device first) good = record { good = good; is_read = refl; fits = tt; bytes = tt; going = tt; counted = (refl, omega arith) }
-enters_standing limits (Header kind f) good = record { good = good; is_read = refl; fits = tt; bytes = tt; going = tt; counted = (refl, omega arith) }
+enters_standing limits First good = record { good = good; is_read = refl; fits = tt; bytes = tt; going = tt; counted = (omega arith, omega arith) }
+enters_standing limits (Address first) good = record { good = good; is_read = refl; fits = tt; bytes = tt; going = tt; counted = (omega arith, omega arith) }
+enters_standing limits (Device first) good = record { good = good; is_read = refl; fits = tt; bytes = tt; going = tt; counted = (omega arith, omega arith) }
+enters_standing limits (Header kind f) good = record { good = good; is_read = refl; fits = tt; bytes = tt; going = tt; counted = (omega arith, omega arith) }
 enters_standing limits (Set kind f total) good = record { good = good; is_read = refl; fits = tt; bytes = tt; going = tt; counted = tt }
-enters_standing limits (Qualifier f) good = record { good = good; is_read = refl; fits = tt; bytes = tt; going = tt; counted = (refl, omega arith) }
-enters_standing limits (Languages f named) good = record { good = good; is_read = refl; fits = tt; bytes = tt; going = tt; counted = (refl, omega arith) }
-enters_standing limits (Text f s named) good = record { good = good; is_read = refl; fits = tt; bytes = tt; going = tt; counted = (refl, omega arith) }
-enters_standing limits (Configure f) good = record { good = good; is_read = refl; fits = tt; bytes = tt; going = tt; counted = (refl, omega arith) }
+enters_standing limits (Qualifier f) good = record { good = good; is_read = refl; fits = tt; bytes = tt; going = tt; counted = (omega arith, omega arith) }
+enters_standing limits (Languages f named) good = record { good = good; is_read = refl; fits = tt; bytes = tt; going = tt; counted = (omega arith, omega arith) }
+enters_standing limits (Text f s named) good = record { good = good; is_read = refl; fits = tt; bytes = tt; going = tt; counted = (omega arith, omega arith) }
+enters_standing limits (Configure f) good = record { good = good; is_read = refl; fits = tt; bytes = tt; going = tt; counted = (omega arith, omega arith) }
 enters_standing limits (Reported f) good = tt
 enters_standing limits (Stopped trouble) good = tt
 

@@ -16,7 +16,7 @@ use Rattle.usb_host.specs.declared.why.Why.TheVariants.{NoAnswer, Busy, Stalled,
 use Rattle.usb_host.specs.declared.transfer.TransferStage.{TransferStage}
 use Rattle.usb_host.specs.declared.transfer.TransferStage.TheVariants.{Setup, DataIn, DataOut, StatusOut, StatusIn, Completed, Failed}
 use Rattle.usb_host.specs.Limits.{LimitView}
-use Rattle.usb_host.specs.Transfer.{TransferView, Hearing, Goes, Brings, Completes, Fails, Taken, taken, taken_at, struck, delayed, completed, failed, kept_packet, data_stage}
+use Rattle.usb_host.specs.Transfer.{TransferView, Hearing, Goes, Brings, Completes, Fails, Taken, taken, taken_at, struck, delayed, completed, failed, kept_packet, data_stage, packet_length}
 use Rattle.usb_host.specs.Place.{Place}
 use Rattle.usb_host.specs.Keeping.{Kept}
 use Rattle.usb_host.specs.Keeping as kept
@@ -39,9 +39,9 @@ StageOf (Brings bytes) s = IsGoing s
 StageOf Completes s = s ≡ Completed
 StageOf (Fails why) s = s ≡ Failed why
 
--- the bytes that are kept, by what was heard: no more than were asked for
+-- the count of bytes, by what was heard: it never falls, and no more are kept than were asked for
 abbrev pub CountOf : TransferView → Hearing → TransferView → Type 0
-CountOf t Goes u = u.kept ≡ t.kept
+CountOf t Goes u = t.kept ≤ u.kept
 CountOf t (Brings bytes) u = (u.kept ≡ t.kept + length bytes) × (t.kept + length bytes ≤ t.request.length)
 CountOf t Completes u = Unit {0}
 CountOf t (Fails why) u = Unit {0}
@@ -60,10 +60,10 @@ heeds_failed : (t : TransferView) (why : Why) → Heeds t (failed t why)
 heeds_failed t why = record { stage = refl; count = tt; request = refl }
 
 heeds_struck : (t : TransferView) → IsGoing t.stage → Heeds t (struck t)
-heeds_struck t going = if_heeds t (nat_lt t.strikes 2) _ _ (λ e. record { stage = going; count = refl; request = refl }) (λ e. heeds_failed t NoAnswer)
+heeds_struck t going = if_heeds t (nat_lt t.strikes 2) _ _ (λ e. record { stage = going; count = omega arith; request = refl }) (λ e. heeds_failed t NoAnswer)
 
 heeds_delayed : (t : TransferView) → IsGoing t.stage → Heeds t (delayed t)
-heeds_delayed t going = if_heeds t (nat_lt t.nak_count t.naks) _ _ (λ e. record { stage = going; count = refl; request = refl }) (λ e. heeds_failed t Busy)
+heeds_delayed t going = if_heeds t (nat_lt t.nak_count t.naks) _ _ (λ e. record { stage = going; count = omega arith; request = refl }) (λ e. heeds_failed t Busy)
 
 heeds_completed : (t : TransferView) → Heeds t (completed t)
 heeds_completed t = record { stage = refl; count = tt; request = refl }
@@ -86,7 +86,7 @@ heeds_data t bytes within = record {
 heeds_at : (t : TransferView) (stage : TransferStage) (answer : Answer) → t.stage ≡ stage → IsGoing t.stage → Heeds t (taken_at t stage answer)
 heeds_at t Setup AckReply e going = record {
   stage = if_going (t.request.length == 0) StatusIn (data_stage (direction_of t.request.request_type)) tt (data_going (direction_of t.request.request_type));
-  count = refl;
+  count = omega arith;
   request = refl;
 }
 heeds_at t Setup NakReply e going = heeds_failed t Unexpected
@@ -102,7 +102,11 @@ heeds_at t DataIn (DataReply toggle bytes) e going =
     (λ new. if_heeds t (nat_lt t.request.length (t.kept + length bytes)) _ _ (λ past. heeds_failed t TooLong) (λ within. heeds_data t bytes within))
     (λ again. heeds_struck t going))
 heeds_at t DataIn NoReply e going = heeds_struck t going
-heeds_at t DataOut AckReply e going = heeds_failed t Unexpected
+heeds_at t DataOut AckReply e going = record {
+  stage = if_going (t.kept + packet_length t == t.request.length) StatusIn DataOut tt tt;
+  count = omega arith;
+  request = refl;
+}
 heeds_at t DataOut NakReply e going = heeds_delayed t going
 heeds_at t DataOut StallReply e going = heeds_failed t Stalled
 heeds_at t DataOut (DataReply toggle bytes) e going = heeds_failed t Unexpected

@@ -1,5 +1,5 @@
 -- The host's end of one control transfer, and how many transactions it asks for (USB 2.0, 8.5.3 and 8.6).
-use Rattle.std.specs.Prelude.{ℕ, suc, ◌+◌, ◌==◌, ◌||◌, nat_lt, Bool, false, if◌then◌else◌, List, [], ◌∷◌, length, Option, Some, None, ◌-◌, ◌*◌, ◌/◌}
+use Rattle.std.specs.Prelude.{◌≡◌, min, take, drop, ℕ, suc, ◌+◌, ◌==◌, ◌||◌, nat_lt, Bool, false, if◌then◌else◌, List, [], ◌∷◌, length, Option, Some, None, ◌-◌, ◌*◌, ◌/◌}
 use Rattle.usb_fields.specs.Packets.{flipped, Token, SetupToken, InToken, OutToken, Sent, sent_of, Reply, AckReply, NakReply, StallReply, DataReply, NoReply, is_same_toggle}
 use Rattle.usb_fields.specs.Setup.{direction_of, setup_bytes}
 use Rattle.usb_fields.specs.declared.packet.Toggle.{Toggle}
@@ -22,7 +22,8 @@ pub record TransferView : Type 0 where
   pub packet : ℕ
   pub naks : ℕ
   pub request : SetupPacket
-  -- the stage, the toggle that the next data packet carries, and how many bytes were kept
+  -- the stage, the toggle that the next data packet carries, and how many bytes of the data stage were kept, or were
+  -- acknowledged by the device
   pub stage : TransferStage
   pub awaited : Toggle
   pub kept : ℕ
@@ -50,24 +51,40 @@ abbrev pub is_untried : TransferStage → ℕ → Bool
 is_untried Setup strikes = strikes == 0
 is_untried stage strikes = false
 
--- what is due at a stage: data out and a status out are empty DATA1 packets
-abbrev pub token_due : SetupPacket → TransferStage → Option Token
-token_due q Setup = Some (SetupToken (setup_bytes q))
-token_due q DataIn = Some InToken
-token_due q DataOut = Some (OutToken Data1 [])
-token_due q StatusOut = Some (OutToken Data1 [])
-token_due q StatusIn = Some InToken
-token_due q Completed = None
-token_due q (Failed why) = None
+-- these are all the data of a request, where it has a data stage to the device (9.3.5)
+abbrev pub HasData : SetupPacket → List ℕ → Type 0
+HasData q bytes = direction_of q.request_type ≡ directions.Out → length bytes ≡ q.length
+
+-- how many bytes the next data packet to the device has: a whole packet, or all that is left (8.5.3)
+abbrev pub packet_length : TransferView → ℕ
+packet_length t = min t.packet (t.request.length - t.kept)
+
+-- that packet, of these data: it begins with the first byte that was not acknowledged
+abbrev pub packet_due : TransferView → List ℕ → List ℕ
+packet_due t bytes = take t.packet (drop t.kept bytes)
+
+-- what is due at a stage, where these are the data to the device: a status out is an empty DATA1 packet
+abbrev pub token_due : TransferView → List ℕ → TransferStage → Option Token
+token_due t bytes Setup = Some (SetupToken (setup_bytes t.request))
+token_due t bytes DataIn = Some InToken
+token_due t bytes DataOut = Some (OutToken t.awaited (packet_due t bytes))
+token_due t bytes StatusOut = Some (OutToken Data1 [])
+token_due t bytes StatusIn = Some InToken
+token_due t bytes Completed = None
+token_due t bytes (Failed why) = None
 
 -- a token at an address
 abbrev pub addressed : ℕ → Option Token → Option Sent
 addressed address None = None
 addressed address (Some token) = Some (record { address = address; token = token })
 
--- the transaction that is due, if the transfer has not ended
+-- the transaction that is due, if the transfer has not ended, where these are the data to the device
+abbrev pub due_of : TransferView → List ℕ → Option Sent
+due_of t bytes = addressed t.address (token_due t bytes t.stage)
+
+-- and where no data go to the device
 abbrev pub due : TransferView → Option Sent
-due t = addressed t.address (token_due t.request t.stage)
+due t = due_of t []
 
 -- what a transaction sends, if there is one
 abbrev pub sent_by : Option Transaction → Option Sent
@@ -142,6 +159,26 @@ with_packet t n =
       nak_count = 0;
     }
 
+-- the stage after the device has acknowledged n bytes of data: the last byte of wLength ends the data stage, and no empty
+-- packet follows it (8.5.3)
+abbrev pub stage_after_sent : TransferView → ℕ → TransferStage
+stage_after_sent t n = if t.kept + n == t.request.length then StatusIn else DataOut
+
+-- progress by a data packet of n bytes to the device, which it has acknowledged
+abbrev pub with_sent : TransferView → ℕ → TransferView
+with_sent t n =
+    record t {
+      stage = stage_after_sent t n;
+      awaited = flipped t.awaited;
+      kept = t.kept + n;
+      strikes = 0;
+      nak_count = 0;
+    }
+
+-- the ACK of the data packet that was due
+abbrev pub acknowledged : TransferView → Taken
+acknowledged t = record { heard = Goes; transfer = with_sent t (packet_length t) }
+
 -- a data packet with the awaited toggle: its bytes are new
 abbrev pub kept_packet : TransferView → List ℕ → Taken
 kept_packet t bytes = record { heard = Brings bytes; transfer = with_packet t (length bytes) }
@@ -172,7 +209,7 @@ taken_at t DataIn NakReply = delayed t
 taken_at t DataIn StallReply = failed t Stalled
 taken_at t DataIn (DataReply toggle bytes) = taken_data t toggle bytes
 taken_at t DataIn NoReply = struck t
-taken_at t DataOut AckReply = failed t Unexpected
+taken_at t DataOut AckReply = acknowledged t
 taken_at t DataOut NakReply = delayed t
 taken_at t DataOut StallReply = failed t Stalled
 taken_at t DataOut (DataReply toggle bytes) = failed t Unexpected
@@ -205,7 +242,7 @@ most_transactions packet naks request = (naks + 3) * (request.length / packet + 
 abbrev pub steps_left : ℕ → ℕ → TransferStage → ℕ
 steps_left bytes packet Setup = bytes / packet + 3
 steps_left bytes packet DataIn = bytes / packet + 2
-steps_left bytes packet DataOut = 1
+steps_left bytes packet DataOut = bytes / packet + 2
 steps_left bytes packet StatusOut = 1
 steps_left bytes packet StatusIn = 1
 steps_left bytes packet Completed = 0

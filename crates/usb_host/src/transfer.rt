@@ -1,5 +1,5 @@
 //! One control transfer, driven reply by reply (USB 2.0, 8.5.3).
-ghost use Rattle.std.specs.Prelude.{IsSome, ◌≡◌, ◌<◌, ◌≤◌, ◌+◌, ◌^◌};
+ghost use Rattle.std.specs.Prelude.{IsSome, length, ◌≡◌, ◌<◌, ◌≤◌, ◌+◌, ◌^◌};
 ghost use Rattle.usb_fields.specs.Packets.{reply_of};
 ghost use Rattle.usb_host.specs.Transfer.{stage_after_setup};
 
@@ -27,11 +27,11 @@ pub enum TransferStage {
     Setup,
     /// Data packets come from the device.
     DataIn,
-    /// A data packet goes to the device.
+    /// Data packets go to the device.
     DataOut,
     /// After data from the device: an empty packet goes to it.
     StatusOut,
-    /// With no data stage: an empty packet comes from the device.
+    /// After data to the device, or with no data stage: an empty packet comes from the device.
     StatusIn,
     /// All stages are done.
     Completed,
@@ -46,7 +46,7 @@ const STRIKES: u8 = 2;
 ///
 /// The caller sends what [`Transfer::next`] says, hands what came back to [`Transfer::take`], and goes on until
 /// `next` says `None`. Data packets are kept by their toggle (USB 2.0, 8.6): one that comes again is acknowledged and
-/// discarded.
+/// discarded. Where data go to the device, its caller keeps them, and calls [`Transfer::next_of`] in place of `next`.
 ///
 /// ```rust
 /// let mut transfer = Transfer::new(0, 64, 16, Setup::from_bytes(&[0x80, 6, 0, 1, 0, 0, 2, 0]));
@@ -85,7 +85,9 @@ impl Model for Transfer {
 
 impl Transfer {
     ghost use Rattle.usb_host.specs.Heard.{heard_of};
-    ghost use Rattle.usb_host.specs.Transfer.{begun, due, sent_by, taken, taken_data, taken_status, moved, completed, failed, struck, delayed, with_packet, is_untried, left, most_transactions};
+    ghost use Rattle.usb_fields.specs.Setup.{direction_of};
+    ghost use Rattle.usb_fields.specs.declared.setup.Direction.TheVariants.{Out};
+    ghost use Rattle.usb_host.specs.Transfer.{acknowledged, begun, due, due_of, packet_due, packet_length, sent_by, HasData, taken, taken_data, taken_status, moved, completed, failed, struck, delayed, with_packet, is_untried, left, most_transactions};
 
     /// A transfer that begins with this setup packet, with no byte, no strike and no NAK.
     ///
@@ -120,6 +122,9 @@ impl Transfer {
 
     /// The transaction that is due, by the stage, the address and the request; `None` once the transfer has ended.
     ///
+    /// It has no data for the device: the data packets of a request with such data are empty, which no device takes that
+    /// waits for bytes. [`Transfer::next_of`] is given them.
+    ///
     /// ```rust
     /// while let Some(transaction) = transfer.next() {
     ///     transfer.take(send(&transaction));
@@ -129,16 +134,59 @@ impl Transfer {
     pub fn next(&self) -> Option<Transaction<'static>>
         ensures { sent_by result ≡ due self.now }
     {
+        self.with_data(&[])
+    }
+
+    /// The transaction that is due, where these are the data to the device, from the first byte on. A data packet has the
+    /// bytes from the first on that was not acknowledged: a whole packet, or all that is left (USB 2.0, 8.5.3).
+    ///
+    /// ```rust
+    /// // SET_LINE_CODING: 7 bytes to the interface.
+    /// let coding = [0x80, 0x25, 0, 0, 0, 0, 8];
+    /// let mut transfer = Transfer::new(5, 64, 16, Setup::from_bytes(&[0x21, 0x20, 0, 0, 0, 0, 7, 0]));
+    /// while let Some(transaction) = transfer.next_of(&coding) {
+    ///     transfer.take(send(&transaction));
+    /// }
+    /// ```
+    ///
+    /// # Requires
+    ///
+    /// Where data go to the device, they are wLength bytes.
+    #[inline(always)]
+    pub fn next_of<'a>(&self, bytes: &'a [u8]) -> Option<Transaction<'a>>
+        requires { HasData self.now.request bytes.now }
+        ensures due { sent_by result ≡ due_of self.now bytes.now }
+        ensures whole { direction_of self.now.request.request_type ≡ Out → length (packet_due self.now bytes.now) ≡ packet_length self.now }
+    {
+        self.with_data(bytes)
+    }
+
+    /// The same, whatever data there are.
+    #[inline(always)]
+    fn with_data<'a>(&self, bytes: &'a [u8]) -> Option<Transaction<'a>>
+        ensures { sent_by result ≡ due_of self.now bytes.now }
+    {
         let stage = match self.stage {
             TransferStage::Setup => Stage::Setup(self.request.to_bytes()),
             TransferStage::DataIn | TransferStage::StatusIn => Stage::In,
-            TransferStage::DataOut | TransferStage::StatusOut => Stage::Out(Toggle::Data1, &[]),
+            TransferStage::DataOut => Stage::Out(self.awaited, self.packet_of(bytes)),
+            TransferStage::StatusOut => Stage::Out(Toggle::Data1, &[]),
             TransferStage::Completed | TransferStage::Failed(_) => return None,
         };
         Some(Transaction {
             address: self.address,
             stage,
         })
+    }
+
+    /// The data packet that is due, of these data.
+    #[inline(always)]
+    fn packet_of<'a>(&self, bytes: &'a [u8]) -> &'a [u8]
+        ensures { result.now ≡ packet_due self.now bytes.now }
+    {
+        let start = usize::from(self.kept).min(bytes.len());
+        let left = &bytes[start..];
+        &left[..left.len().min(usize::from(self.packet))]
     }
 
     /// The setup packet with which it began.
@@ -153,7 +201,7 @@ impl Transfer {
         self.request
     }
 
-    /// How many bytes of the data stage were kept so far, at most wLength.
+    /// How many bytes of the data stage were kept so far, or were acknowledged by the device, at most wLength.
     ///
     /// ```rust
     /// assert_eq!(rt; transfer.kept(), 18);
@@ -204,7 +252,7 @@ impl Transfer {
 
     /// Takes the reply to the transaction that was due, which moves the transfer as the table of stages says. A transfer
     /// that has ended answers the same `Complete` or `Failed` from then on, and does not change. Whatever is replied, at
-    /// most `(naks + 3) * (wLength / packet size + 3)` transactions are due.
+    /// most `(naks + 3) * (wLength / packet size + 3)` transactions are due. The request stays.
     ///
     /// ```rust
     /// match transfer.take(answer) {
@@ -218,6 +266,7 @@ impl Transfer {
     pub fn take<'a>(&mut self, a: Answer<'a>) -> Heard<'a>
         ensures heard { heard_of result ≡ (taken self.old (reply_of a.entry)).heard }
         ensures after { self.new ≡ (taken self.old (reply_of a.entry)).transfer }
+        ensures request { self.new.request ≡ self.old.request }
         ensures fewer { IsSome (due self.old) → left self.new < left self.old }
     {
         // For the proof alone: a field that is read brings in what holds of a transfer.
@@ -248,10 +297,11 @@ impl Transfer {
                 Answer::Ack => self.fail(Why::Unexpected),
             },
             TransferStage::DataOut => match a {
+                Answer::Ack => self.count_sent(),
                 Answer::Nak => self.delay(),
                 Answer::Silence => self.strike(),
                 Answer::Stall => self.fail(Why::Stalled),
-                Answer::Ack | Answer::Data(_, _) => self.fail(Why::Unexpected),
+                Answer::Data(_, _) => self.fail(Why::Unexpected),
             },
             TransferStage::StatusOut => match a {
                 Answer::Ack => self.complete(),
@@ -347,6 +397,25 @@ impl Transfer {
         self.awaited = self.awaited.flip();
         self.strikes = 0;
         self.nak_count = 0;
+    }
+
+    /// Progress by the data packet to the device that was due.
+    #[inline(always)]
+    fn count_sent(&mut self) -> Heard<'static>
+        ensures heard { heard_of result ≡ (acknowledged self.old).heard }
+        ensures after { self.new ≡ (acknowledged self.old).transfer }
+    {
+        let count = u16::from(self.packet).min(self.request.length - self.kept);
+        self.kept += count;
+        self.stage = if self.kept == self.request.length {
+            TransferStage::StatusIn
+        } else {
+            TransferStage::DataOut
+        };
+        self.awaited = self.awaited.flip();
+        self.strikes = 0;
+        self.nak_count = 0;
+        Heard::Again
     }
 
     /// The end, for this reason.

@@ -12,7 +12,8 @@ use Rattle.usb_host.specs.declared.why.Why.TheVariants.{Memory}
 use Rattle.usb_host.specs.declared.reply.Reply.{Reply}
 use Rattle.usb_host.specs.Limits.{LimitView}
 use Rattle.usb_host.specs.Plan.{Plan}
-use Rattle.usb_host.specs.Transfer.{TransferView, taken}
+use Rattle.usb_host.specs.declared.transfer.TransferStage.TheVariants.{DataOut}
+use Rattle.usb_host.specs.Transfer.{TransferView, stage_after_setup, taken}
 use Rattle.usb_device.specs.Step.{DeviceView}
 use Rattle.usb_bus.specs.Bus.{HostEnd, hears}
 use Rattle.usb_bus.specs.Attempt.{Phase, Running, Succeeded, Broken, advance}
@@ -48,9 +49,14 @@ IsInWork (Reported f) = ⊥
 IsInWork (Stopped trouble) = ⊥
 IsInWork place = Unit {0}
 
--- one transfer, and what is kept says the same as all bytes
+-- no data go to the device in this transfer
+abbrev pub IsRead : TransferView → Type 0
+IsRead t = (t.stage ≡ DataOut → ⊥) × (stage_after_setup t.request ≡ DataOut → ⊥)
+
+-- one transfer without data to the device, and what is kept says the same as all bytes
 pub record IsTransfer (h : HostEnd) (t : TransferView) (k : Kept) : Type 0 where
   pub is_transfer : h.transfer ≡ t
+  pub is_read : IsRead t
   pub is_count : t.kept ≡ length h.got
   pub is_kept : KeptFrom h.got k
 

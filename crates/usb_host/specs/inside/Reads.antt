@@ -34,9 +34,9 @@ IsGoing stages.Completed = ⊥
 IsGoing (stages.Failed why) = ⊥
 IsGoing stage = Unit {0}
 
--- what is kept has the count that the transfer has, and room for what is left
+-- what is kept has at most as many bytes as the transfer counts, so there is room for what is left
 abbrev pub IsCounted : TransferView → Kept → Type 0
-IsCounted t (kept.Bytes bytes) = (t.kept ≡ length bytes) × (t.request.length ≤ 255)
+IsCounted t (kept.Bytes bytes) = (length bytes ≤ t.kept) × (t.request.length ≤ 255)
 IsCounted t (kept.Set d over) = Unit {0}
 
 -- what holds of a read in work
