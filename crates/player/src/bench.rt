@@ -5,12 +5,11 @@ use crate::host::{HostInWork, read_host};
 use crate::outcome::Outcome;
 use crate::steps::STEPS;
 use crate::talk::Bus;
-use crate::transfer::{due, read_transfer, take};
+use crate::transfer::TransferInWork;
 use anyhow::Result;
 use std::alloc::Global;
 use usb_bus::Conversation;
 use usb_device::Description;
-use usb_host::Transfer;
 
 /// What steps are played with, but for a device.
 #[derive(Drop)]
@@ -25,7 +24,7 @@ pub struct Bench {
 #[derive(Drop)]
 pub(crate) enum Work {
     Nothing,
-    Transfer(Transfer),
+    Transfer(TransferInWork),
     Host(HostInWork),
 }
 
@@ -84,7 +83,7 @@ impl Bench {
                 Work::Nothing => Ok(None),
                 Work::Host(host) => host.act(alloc, words),
                 Work::Transfer(transfer) => match Said::read(alloc, words) {
-                    Some(said) => Ok(Some(take(alloc, transfer, &said)?)),
+                    Some(said) => Ok(Some(transfer.take(alloc, &said)?)),
                     None => Ok(None),
                 },
             },
@@ -93,10 +92,10 @@ impl Bench {
 
     /// A new transfer in place of what was in work, if the words say one.
     fn begin_transfer(&mut self, alloc: Global, words: &[&str]) -> Result<Option<Outcome>> {
-        let Some(transfer) = read_transfer(words) else {
+        let Some(transfer) = TransferInWork::read(alloc, words) else {
             return Ok(None);
         };
-        let due = due(alloc, &transfer)?;
+        let due = transfer.due(alloc)?;
         self.work = Work::Transfer(transfer);
         Ok(Some(Outcome::Text(due)))
     }

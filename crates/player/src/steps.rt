@@ -24,7 +24,7 @@ pub const STEPS: [(&str, &str); 31] = [
     ("end", "end"),
     (
         "transfer",
-        "transfer ADDRESS PACKET NAKS HEX, a packet of 1 to 255 bytes",
+        "transfer ADDRESS PACKET NAKS HEX, or HEX DATA; a packet of 1 to 255 bytes",
     ),
     ("host", "host SPEED address N naks N attempts N"),
     ("reset_done", "reset_done, to a host"),
