@@ -14,29 +14,51 @@ import sys
 
 import explaining
 
-ITEM = re.compile(rb"[\t\r ,]|0x|\\x|([0-9A-Fa-f]{2})")
-OFFSET = re.compile(rb"[0-9A-Fa-f]{4,}:? *")
+ITEM = re.compile(rb"[\t\r ,]|(?:0x|\\x)(?=[0-9A-Fa-f]{2})|([0-9A-Fa-f]{2})")
+COLUMNS = re.compile(rb"0{4,}(?:(:| (?! )(?=[^\n]*\n0{4}))|  )")
+OFFSET = re.compile(rb"([0-9A-Fa-f]{4,}):? *")
+COMMENT = re.compile(rb"/\*.*?(?:\*/|\Z)|//[^\n]*|# [^\n]*|^[\t >]*```[^\n]*", re.M | re.S)
+GAP = rb"[\t\n\r ,;]"
+DIGIT = rb"[0-9A-Fa-f]"
+# Of each style what is between bytes, and how a byte is written.
+STYLES = {
+    "escaped": (rb"[\"']|\\(?=[\n\r])|" + GAP + rb"(?!\\x)", rb"\\x(" + DIGIT + rb"{2})(?=[\\\"'])"),
+    "prefixed": (GAP + rb'|"', rb"(?:0[xX]|\$)(" + DIGIT + rb"{1,2})[uU]?(?!\w)|([0-9])(?!\w)"),
+    "pairs": (GAP + rb"|[\"']", rb"(" + DIGIT + rb"{2})[hH]?"),
+    "separated": (GAP, rb"(" + DIGIT + rb"{2})(?:[:-](?=" + DIGIT + rb")|(?=[\n\r])|\Z)"),
+    "loose": (GAP, rb"(" + DIGIT + rb"{1,2})[uU]?(?!\w)"),
+    "decimals": (GAP, rb"(0|[1-9][0-9]{0,2})(?!\w)"),
+}
 
 
 class Fault(Exception):
     """The line and the column of what is no hexadecimal text."""
 
 
-def column(line, end_mark):
+def place(text, at):
+    """The line and the column of a place in a text."""
+    return text.count(b"\n", 0, at) + 1, at - text.rfind(b"\n", 0, at)
+
+
+def column(line, end_mark, offset):
     """Where the bytes of a line begin and end, in a text with columns."""
-    offset = OFFSET.match(line)
     start = offset.end() if offset else 0
     mark = end_mark.search(line, start)
     return start, mark.start() if mark else len(line)
 
 
-def read(text):
-    """The bytes of a text."""
-    columns = re.match(rb"0{4,}(?:(:)|  )", text)
+def as_it_is(text):
+    """The bytes of a text that is hexadecimal as it is."""
+    columns = COLUMNS.match(text)
     end_mark = re.compile(rb"  " if columns and columns[1] else rb"\||   ")
     found, lines = bytearray(), text.split(b"\n")
     for number, line in enumerate(lines, 1):
-        at, end = column(line, end_mark) if columns else (0, len(line))
+        at, end = 0, len(line)
+        if columns:
+            offset = OFFSET.match(line)
+            if not (offset and int(offset[1], 16) == len(found)) and line not in (b"", b"\r"):
+                raise Fault(number - 1, len(lines[number - 2]) + 1)
+            at, end = column(line, end_mark, offset)
         while at < end:
             item = ITEM.match(line, at)
             if not item:
@@ -46,6 +68,75 @@ def read(text):
     if not found:
         raise Fault(len(lines), len(lines[-1]) + 1)
     return bytes(found)
+
+
+def spaces(text):
+    """Spaces in place of each character but line feeds."""
+    return re.sub(rb"[^\n]", b" ", text)
+
+
+def between(code):
+    """The kind of brackets of a text, and what is between the first one and its partner."""
+    opening, closing = (b"{", b"}") if b"{" in code else (b"[", b"]")
+    if opening not in code:
+        return False, code
+    start = code.index(b"=") + 1 if opening == b"[" and b"=" in code else 0
+    at = code.find(opening, start)
+    if at < 0:
+        return True, spaces(code)
+    end = code.find(closing, at)
+    end = len(code) if end < 0 else end
+    again = code.find(opening, end)
+    again = len(code) if again < 0 else again
+    rest = code[again : again + 1] + spaces(code[again + 1 :])
+    return True, spaces(code[: at + 1]) + code[at + 1 : end] + spaces(code[end:again]) + rest
+
+
+def style_of(is_array, inner):
+    """How a text has its bytes."""
+    if b"\\" in inner:
+        return "escaped"
+    if re.search(rb"[xX$]", inner):
+        return "prefixed"
+    if not is_array:
+        return "separated" if re.search(rb"[:-]", inner) else "pairs"
+    if re.search(rb"[^0-9\t\n\r ,;]", inner):
+        return "loose"
+    return "decimals" if re.search(rb"[0-9]{2}", inner) else "pairs"
+
+
+def source(text):
+    """The bytes of the source of a program, or of another text."""
+    code = COMMENT.sub(lambda it: spaces(it[0]), text)
+    code = re.sub(rb"\xef\xbb\xbf", b"   ", code)
+    code = re.sub(rb"^[\t >]+", lambda it: it[0].replace(b">", b" "), code, flags=re.M)
+    is_array, inner = between(code)
+    if COLUMNS.match(inner):
+        return as_it_is(inner)
+    style = style_of(is_array, inner)
+    gap, number = (re.compile(it) for it in STYLES[style])
+    found, at = bytearray(), 0
+    while at < len(inner):
+        item, byte = gap.match(inner, at), number.match(inner, at)
+        if not item:
+            value = int(byte[byte.lastindex], 10 if style == "decimals" else 16) if byte else 256
+            if value > 255:
+                raise Fault(*place(inner, at))
+            found.append(value)
+        at = (item or byte).end()
+    if not found:
+        raise Fault(*place(inner, at))
+    return bytes(found)
+
+
+def read(text):
+    """The bytes of a text: as it is, or as a source."""
+    try:
+        return as_it_is(text)
+    except Fault:
+        if re.search(rb"[\x00-\x08\x0b\x0c\x0e-\x1f\x7f]", text):
+            raise
+        return source(text)
 
 
 def main(words):

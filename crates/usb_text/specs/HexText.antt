@@ -1,4 +1,4 @@
--- Which texts are hexadecimal, and which bytes they have.
+-- The items of hexadecimal texts, without columns and with them.
 --
 -- A text is a run of items: white space or a comma, a mark `0x` or `\x`, and two digits, which are a byte. Where it begins
 -- with an offset of zeros, as `xxd`, `hexdump -C` and Wireshark write it, each line has columns: an offset, the bytes and

@@ -7,9 +7,10 @@
 //!   who put them see a [`Page`], of which is promised what its lines show, and in which order (`specs/Shown.antt`).
 //! - [`write_all`] writes bytes to a writer that may take a part of them at a time; [`OutFault`] is why it failed
 //!   (`specs/Output.antt`).
-//! - [`parse`] gives the bytes of a hexadecimal text as people copy it, digits alone or with marks and commas, or in
-//!   the columns of `xxd`, `hexdump -C` and Wireshark; or the line and the column at which it is none
-//!   (`specs/HexText.antt`).
+//! - [`parse`] gives the bytes of a hexadecimal text as people copy it: digits alone or with marks and commas, the
+//!   columns of `xxd`, `hexdump -C` and Wireshark (`specs/HexText.antt`), or the source of a program
+//!   (`specs/Comments.antt`, `specs/Brackets.antt`, `specs/SourceItems.antt`); or the line and the column at which it
+//!   is none (`specs/Hexadecimal.antt`). [`put_stop`] says that in words (`specs/Stops.antt`).
 #![tactic(auto)]
 
 mod bracket;
