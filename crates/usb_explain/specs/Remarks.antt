@@ -132,9 +132,13 @@ attributes_remark speed transfer attributes =
 
 -- ---- descriptors
 
--- class 00 of an interface or of a function
+-- class 00 of an interface, which is reserved for future use (9.6.5)
 abbrev pub class_remark : ℕ → Option Remark
 class_remark class = remark_if (class == 0) remarks.ReservedClass
+
+-- class 00 of an association, which isn't allowed (its ECN, 9.X.Y)
+abbrev pub association_remark : ℕ → Option Remark
+association_remark class = remark_if (class == 0) remarks.ForbiddenClass
 
 -- a remark that there may be
 abbrev pub there : Option Remark → List Remark
@@ -151,7 +155,7 @@ typed_remarks speed transfer b =
 
 -- the remarks on a descriptor of this role
 unfoldable pub remarks_on : Role → Described → List Remark
-remarks_on roles.Association d = there (class_remark (slice_index d.bytes 4))
+remarks_on roles.Association d = there (association_remark (slice_index d.bytes 4))
 remarks_on roles.Interface d = there (class_remark (slice_index d.bytes 5))
 remarks_on roles.Endpoint d = typed_remarks d.speed (transfer_type_of (slice_index d.bytes 3)) d.bytes
 remarks_on roles.Raw d = there (header_remark d.interface d.bytes d.rest)

@@ -1,7 +1,7 @@
 //! What is remarked of a descriptor: values that its bytes may have by no rule, but not in its set.
 ghost use Rattle.std.specs.Prelude.{◌≡◌};
 ghost use Rattle.usb_explain.specs.Remarks.{is_eight_to_64, is_size, size_remark, sizes_at};
-ghost use Rattle.usb_explain.specs.Remarks.{attributes_remark, class_remark, counts_transactions, multiple_remark, remark_if, type_bits_remark};
+ghost use Rattle.usb_explain.specs.Remarks.{association_remark, attributes_remark, class_remark, counts_transactions, multiple_remark, remark_if, type_bits_remark};
 
 use crate::speed::SetSpeed;
 use usb_set::TransferType;
@@ -55,8 +55,10 @@ pub enum Remark {
     TypeBits,
     /// Bits 7 to 6 of bmAttributes are not zero.
     HighBits,
-    /// The class of an interface or of a function is 00.
+    /// The class of an interface is 00.
     ReservedClass,
+    /// The class of an association is 00.
+    ForbiddenClass,
     /// wTotalLength of a class header isn't the length of the class descriptors that it begins.
     TotalLength {
         /// wTotalLength.
@@ -194,9 +196,16 @@ pub(crate) fn attributes_remark(
     }
 }
 
-/// A remark on the class of an interface or of a function (USB 2.0, 9.6.5, and the association's ECN).
+/// A remark on the class of an interface (USB 2.0, 9.6.5).
 pub(crate) fn class_remark(class: u8) -> Option<Remark>
     ensures { result ≡ class_remark class }
 {
     remark_if(class == 0, Remark::ReservedClass)
+}
+
+/// A remark on the class of an association (its ECN, 9.X.Y).
+pub(crate) fn association_remark(class: u8) -> Option<Remark>
+    ensures { result ≡ association_remark class }
+{
+    remark_if(class == 0, Remark::ForbiddenClass)
 }

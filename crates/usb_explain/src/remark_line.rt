@@ -84,6 +84,7 @@ fn put_words<P: Page>(page: &mut P, remark: Remark) -> Result<(), AllocError>
         Remark::TypeBits => page.put("bits 5 to 2 of bmAttributes are reserved here"),
         Remark::HighBits => page.put("bits 7 to 6 of bmAttributes are reserved"),
         Remark::ReservedClass => page.put("class 0x00 is reserved for future use"),
+        Remark::ForbiddenClass => page.put("class 0x00 is not allowed"),
         Remark::TotalLength { declared, found } => {
             page.put("wTotalLength is ")?;
             page.put_decimal(u64::from(declared))?;

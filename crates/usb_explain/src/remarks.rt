@@ -7,7 +7,9 @@ ghost use Rattle.usb_explain.specs.Remarks.{remarks_on, there, typed_remarks};
 use crate::descriptor::Descriptor;
 use crate::header::header_remark;
 use crate::interval::interval_remark;
-use crate::remark::{Remark, attributes_remark, class_remark, multiple_remark, size_remark};
+use crate::remark::{
+    Remark, association_remark, attributes_remark, class_remark, multiple_remark, size_remark,
+};
 use crate::role::Role;
 use crate::speed::SetSpeed;
 use usb_fields::{byte_at, word_at};
@@ -27,7 +29,7 @@ impl Descriptor<'_> {
         ensures { flat_map there result ≡ remarks_on self.now.role (described self.now) }
     {
         match self.role {
-            Role::Association => alone(class_remark(byte_at(self.bytes, 4))),
+            Role::Association => alone(association_remark(byte_at(self.bytes, 4))),
             Role::Interface => alone(class_remark(byte_at(self.bytes, 5))),
             Role::Endpoint => {
                 let transfer = TransferType::of(byte_at(self.bytes, 3));
